@@ -1,0 +1,7 @@
+mod Made
+pub mod BitLemmas
+pub mod WalkLemmas
+pub mod StepLemmas
+pub mod UnwindLemmas
+pub mod ScanLemmas
+pub mod EngineLemmas

@@ -1,0 +1,54 @@
+use Rattle.std.proofs.Common.{◌≡◌, ◌∙◌, ◌+◌, ◌-◌, ◌<◌, ◌≤◌, length, replicate, map, arith, sym, ap}
+use Rattle.std.specs.Prelude.{None}
+use Rattle.regex_search_core.specs.Search.{search_of}
+use Rattle.nfa_search_base.specs.Paths.{pairs_from, span_len}
+use Rattle.nfa_search_base.specs.Exploring.Item.{Explore}
+use Rattle.nfa_search_base.proofs.AnswerLemmas.{pairs_from-step, pairs_from-end}
+use Rattle.nfa_engines.proofs.WalkLemmas.{Follows-then, Follows-ends, Ends-none, EndsAt-along}
+use Rattle.nfa_engines.proofs.ScanLemmas.{Scans-none, Scans-some, turns-all, turns-bound}
+use Rattle.nfa_engines.proofs.backtrack.search.try_starts.Goals as goal
+
+pub returns-in_err-half-clause-turns : goal.returns-in_err-half-clause-turns
+returns-in_err-half-clause-turns c =
+    turns-bound c.args.nfa.now (search_of c.args.input.now) (c.loop-at.at - (search_of c.args.input.now).start) c.loop-at.visited.turns _ _ c.loop-at.visited.bits
+    (omega arith) c.loop-at.invariant.tried c.walk.ensures.bounded
+
+pub returns-in-Some-2-clause-turns : goal.returns-in-Some-2-clause-turns
+returns-in-Some-2-clause-turns c =
+    turns-bound c.args.nfa.now (search_of c.args.input.now) (c.loop-at.at - (search_of c.args.input.now).start) c.loop-at.visited.turns _ _ c.loop-at.visited.bits
+    (omega arith) c.loop-at.invariant.tried c.walk.ensures.bounded
+
+pub returns-in-Some-2-clause-answer : goal.returns-in-Some-2-clause-answer
+returns-in-Some-2-clause-answer c =
+    let here : c.loop-at.at < c.start_limit-limit.result = c.loop-at-test.true in
+    let follows = rw (pairs_from-step c.in-Some.sid here) at c.loop-at.invariant.follows in
+    let walks = rw c.in-Some-2.is at c.in_ok-half.ensures.walks in
+    let rest = map Explore (pairs_from c.in-Some.sid (c.loop-at.at + 1) (c.start_limit-limit.result - (c.loop-at.at + 1))) in
+    let size : length c.walk.new.slots ≡ length c.args.slots.now = c.walk.auto.slots ∙ c.loop-at.auto.slots in
+    let unset : c.args.slots.now ≡ replicate (length c.walk.new.slots) None = c.requires.unset ∙ ap (λ n. replicate n None) (sym size) in
+    Scans-some c.args.nfa.now (search_of c.args.input.now) c.args.visited.now c.requires.clear c.args.slots.now _ c.in-Some-2.half c.walk.new.slots unset
+    (EndsAt-along c.args.nfa.now (search_of c.args.input.now) follows (walks rest))
+
+pub loop-at-preserved : goal.loop-at-preserved
+loop-at-preserved c =
+    let here : c.loop-at.at < c.start_limit-limit.result = c.loop-at-test.true in
+    let follows = rw (pairs_from-step c.in-Some.sid here) at c.loop-at.invariant.follows in
+    let fails = rw c.in_default-2.is at c.in_ok-half.ensures.walks in
+    let rest = map Explore (pairs_from c.in-Some.sid (c.loop-at.at + 1) (c.start_limit-limit.result - (c.loop-at.at + 1))) in
+    record {
+      follows = Follows-then c.args.nfa.now (search_of c.args.input.now) follows (fails.follows rest);
+      size = c.walk.ensures.size ∙ c.loop-at.invariant.size;
+      empty = fails.empty;
+      tried = omega (arith, c.loop-at.invariant.tried, fails.spent);
+    }
+
+pub returns-clause-turns : goal.returns-clause-turns
+returns-clause-turns c =
+    turns-all c.args.nfa.now (search_of c.args.input.now) (c.loop-at.at - (search_of c.args.input.now).start) _ _ c.loop-at.visited.bits (omega arith) c.loop-at.invariant.tried
+
+pub returns-clause-answer : goal.returns-clause-answer
+returns-clause-answer c =
+    let over : c.start_limit-limit.result ≤ c.loop-at.at = c.loop-at-test.false in
+    let follows = rw (pairs_from-end c.in-Some.sid over) at c.loop-at.invariant.follows in
+    Scans-none c.args.nfa.now (search_of c.args.input.now) c.args.visited.now c.requires.clear c.args.slots.now c.loop-at.visited.turns
+    (Follows-ends c.args.nfa.now (search_of c.args.input.now) follows (Ends-none c.args.nfa.now (search_of c.args.input.now) c.loop-at.visited c.loop-at.slots))

@@ -1,0 +1,16 @@
+use Rattle.std.proofs.Common.{◌≡◌, ◌+◌, ◌-◌, ◌≤◌, [], length, map}
+use Rattle.regex_search_core.specs.Search.{search_of}
+use Rattle.nfa_search_base.specs.Paths.{starts, pairs_from}
+use Rattle.nfa_search_base.specs.Exploring.Item.{Explore}
+use Rattle.nfa_search_base.specs.Turns.{marked_sum}
+use Rattle.nfa_engines.specs.Walk.{Follows, weights}
+use Rattle.nfa_engines.proofs.backtrack.search.try_starts.Given as goal
+
+abbrev pub invariant-loop-at : goal.invariant-loop-at
+invariant-loop-at l = record {
+  follows : Follows l.nfa (search_of l.input) l.fn.visited (map Explore (starts l.nfa (search_of l.input))) l.fn.slots
+      l.visited (map Explore (pairs_from l.sid l.at (l.limit - l.at))) l.slots;
+  size : length l.visited.bits ≡ length l.fn.visited.bits;
+  empty : l.stack.items ≡ [];
+  tried : l.visited.turns ≤ l.fn.visited.turns + (l.at - (search_of l.input).start) + marked_sum (weights l.nfa (search_of l.input)) l.visited.bits;
+}

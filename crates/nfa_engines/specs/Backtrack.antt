@@ -1,0 +1,43 @@
+-- A backtracker as a value, and how much it may try.
+use Rattle.std.specs.Prelude.{◌≡◌, ℕ, ◌+◌, ◌*◌, ◌/◌, ◌^◌, ◌-◌, ◌<◌, min, length, Option, unwrap_or}
+use Rattle.regex_search_core.specs.Search.{Search}
+use Rattle.thompson_nfa.specs.Automaton.{Automaton}
+use Rattle.nfa_search_base.specs.Paths.{span_len}
+
+-- an NFA, and how many bytes of marks were asked for, if any were
+pub record Backtracker : Type 0 where
+  pub nfa : Automaton
+  pub visited_capacity : Option ℕ
+
+-- what a cache shows: how many scans its last search made, and how many turns
+pub record Work : Type 0 where
+  pub scans : ℕ
+  pub turns : ℕ
+
+-- a product that stops at the greatest `usize`
+abbrev pub saturated : ℕ → ℕ
+saturated n = min n (2 ^ 64 - 1)
+
+-- the capacity in bytes that holds where none is set
+abbrev pub default_capacity : ℕ
+default_capacity = 262144
+
+-- the bits of so many bytes, rounded up to whole blocks of 64
+abbrev pub rounded_bits : ℕ → ℕ
+rounded_bits bytes = saturated (64 * ((saturated (8 * bytes) + 63) / 64))
+
+-- how many pairs a search may mark
+abbrev pub capacity_of : Backtracker → ℕ
+capacity_of e = rounded_bits (unwrap_or e.visited_capacity default_capacity)
+
+-- the length of the longest span that every search may have
+abbrev pub max_haystack_len_of : Backtracker → ℕ
+max_haystack_len_of e = capacity_of e / length e.nfa.states - 1
+
+-- the search has more pairs than may be marked
+abbrev pub IsTooLong : Backtracker → Search → Type 0
+IsTooLong e x = capacity_of e < length e.nfa.states * (span_len x + 1)
+
+-- the least capacity in bytes that has a bit for each pair
+abbrev pub min_capacity_of : Automaton → Search → ℕ
+min_capacity_of nfa x = (length nfa.states * (span_len x + 1) + 7) / 8

@@ -1,0 +1,12 @@
+pub mod Backtrack
+pub mod Bits
+pub mod Walk
+pub use Rattle.nfa_search_base.specs.Graphs
+pub use Rattle.nfa_search_base.specs.Paths
+pub use Rattle.regex_search_core.specs.Boundary
+pub use Rattle.regex_search_core.specs.Found
+pub use Rattle.regex_search_core.specs.Groups
+pub use Rattle.regex_search_core.specs.Patterns
+pub use Rattle.regex_search_core.specs.Search
+pub use Rattle.regex_search_core.specs.Slots
+pub use Rattle.thompson_nfa.specs.Automaton

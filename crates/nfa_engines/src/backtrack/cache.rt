@@ -1,0 +1,59 @@
+ghost use Rattle.std.specs.Prelude.{◌≡◌};
+
+use crate::backtrack::engine::BoundedBacktracker;
+use crate::backtrack::frame::Frame;
+use crate::backtrack::visited::Visited;
+use crate::counter::Counter;
+use regex_search_core::NonMaxUsize;
+use std::alloc::Global;
+use std::marker::Model;
+
+/// What a backtracker writes while it searches: its marks, its stack, and slots of its own. Any cache serves any
+/// backtracker, whatever it was used for before.
+///
+/// A contract sees how many scans its last search made, and how many turns they took.
+#[derive(Debug, Drop)]
+pub struct Cache {
+    pub(super) stack: Vec<Frame>,
+    pub(super) visited: Visited,
+    pub(super) slots: Vec<Option<NonMaxUsize>>,
+    pub(super) scans: Counter,
+}
+
+impl Model for Cache {
+    ghost use Rattle.nfa_engines.specs.Backtrack.{Work};
+
+    ghost Value = { Work };
+
+    ghost view = { λ c. record { scans = c.scans; turns = c.visited.turns } };
+}
+
+impl Cache {
+    /// A cache that holds no memory yet.
+    pub fn new(alloc: Global, _: &BoundedBacktracker) -> Cache
+        ensures { result ≡ record { scans = 0; turns = 0 } }
+    {
+        Cache {
+            stack: Vec::new(alloc),
+            visited: Visited::new(alloc),
+            slots: Vec::new(alloc),
+            scans: Counter::new(),
+        }
+    }
+
+    /// Drops all marks. A search needs no reset before it.
+    pub fn reset(&mut self, _: &BoundedBacktracker)
+        ensures { self.new ≡ self.old }
+    {
+        self.visited.reset();
+    }
+
+    /// The bytes that the cache's collections hold: 24 for a frame of the stack, 8 for a block of marks, 8 for a slot.
+    /// The sum stops at the greatest `usize`.
+    pub fn memory_usage(&self) -> usize {
+        let frames = self.stack.len().saturating_mul(24);
+        let blocks = self.visited.block_len().saturating_mul(8);
+        let slots = self.slots.len().saturating_mul(8);
+        frames.saturating_add(blocks).saturating_add(slots)
+    }
+}

@@ -1,0 +1,260 @@
+ghost use Rattle.std.specs.Prelude.{◌≡◌, ◌↔◌, ◌⊎◌, ◌+◌, ◌*◌, ◌<◌, ◌≤◌, ◌^◌, None, Ok, length, vec_len, replicate, option_map, IfOk, OnOk, IfErr, OnErr, IsErrOf, IsTrue, false};
+ghost use Rattle.regex_search_core.specs.Search.{search_of};
+ghost use Rattle.regex_search_core.specs.Patterns.{number_of};
+ghost use Rattle.regex_search_core.specs.Found.{found_of};
+ghost use Rattle.regex_search_core.specs.declared.search.MatchKind.TheVariants.{LeftmostFirst};
+ghost use Rattle.nfa_search_base.specs.Paths.{span_len, turn_weight, scan_limit, IsAnswer, IsMatchAnswer, IsFoundAnswer, IsWork, IsWithinScans};
+ghost use Rattle.nfa_engines.specs.Backtrack.{IsTooLong, capacity_of, rounded_bits, max_haystack_len_of, min_capacity_of};
+
+use crate::backtrack::cache::Cache;
+use crate::backtrack::config::{Builder, Config};
+use crate::backtrack::search::{search, unset};
+use crate::error::SearchError;
+use regex_search_core::{Input, Match, NonMaxUsize, PatternID, Refused};
+use std::alloc::Global;
+use std::marker::Model;
+use thompson_nfa::{BuildError, NFA};
+
+/// A search of one NFA, depth first, with a table of marks that bounds its work.
+///
+/// Its answers are those of leftmost first search: the match with the least start and, of those, the one that the
+/// earlier alternatives lead to. `earliest` is ignored. A contract sees the NFA and the capacity that was set.
+#[derive(Debug, Drop)]
+pub struct BoundedBacktracker {
+    config: Config,
+    nfa: NFA,
+}
+
+impl Model for BoundedBacktracker {
+    ghost use Rattle.nfa_engines.specs.Backtrack.{Backtracker};
+
+    ghost Value = { Backtracker };
+
+    ghost view = { λ e. record { nfa = e.nfa; visited_capacity = e.config } };
+}
+
+/// The least visited capacity, in bytes, that has a bit for each pair of the search. With it no search of the input is
+/// refused for its length.
+pub fn min_visited_capacity(nfa: &NFA, input: &Input<'_>) -> usize
+    requires { length nfa.now.states * (span_len (search_of input.now) + 1) < 2 ^ 64 }
+    ensures { result ≡ min_capacity_of nfa.now (search_of input.now) }
+{
+    (nfa.states().len() * (input.get_span().len() + 1)).div_ceil(8)
+}
+
+/// The bits of so many bytes, rounded up to whole blocks.
+fn rounded_bits(bytes: usize) -> usize
+    ensures { result ≡ rounded_bits bytes }
+{
+    bytes.saturating_mul(8).div_ceil(64).saturating_mul(64)
+}
+
+/// Makes room for so many slots.
+fn grow(slots: &mut Vec<Option<NonMaxUsize>>, len: usize) -> Result<(), Refused>
+    ensures { OnOk result (len ≤ vec_len slots.new) }
+{
+    if slots.len() < len {
+        slots.resize(len, None)?;
+    }
+    Ok(())
+}
+
+impl BoundedBacktracker {
+    pub(super) fn from_parts(config: Config, nfa: NFA) -> BoundedBacktracker
+        ensures { result ≡ record { nfa = nfa; visited_capacity = config } }
+    {
+        BoundedBacktracker { config, nfa }
+    }
+
+    /// A backtracker of the NFA with the default configuration. This is always `Ok`.
+    pub fn new_from_nfa(nfa: NFA) -> Result<BoundedBacktracker, BuildError>
+        ensures { result ≡ Ok (record { nfa = nfa; visited_capacity = None }) }
+    {
+        Builder::new().build_from_nfa(nfa)
+    }
+
+    /// A configuration with nothing set.
+    pub fn config() -> Config
+        ensures { result ≡ None }
+    {
+        Config::new()
+    }
+
+    /// A builder with nothing set.
+    pub fn builder() -> Builder
+        ensures { result ≡ None }
+    {
+        Builder::new()
+    }
+
+    /// A cache for this backtracker, which holds no memory yet.
+    pub fn create_cache(&self, alloc: Global) -> Cache
+        ensures { result ≡ record { scans = 0; turns = 0 } }
+    {
+        Cache::new(alloc, self)
+    }
+
+    /// Drops all marks of the cache. A search needs no reset before it.
+    pub fn reset_cache(&self, cache: &mut Cache)
+        ensures { cache.new ≡ cache.old }
+    {
+        cache.reset(self);
+    }
+
+    /// How many patterns the NFA has.
+    pub fn pattern_len(&self) -> usize
+        ensures { result ≡ length self.now.nfa.patterns }
+    {
+        self.nfa.pattern_len()
+    }
+
+    /// The configuration that this was made with.
+    pub fn get_config(&self) -> &Config
+        ensures { result.now ≡ self.now.visited_capacity }
+    {
+        &self.config
+    }
+
+    /// The NFA that this searches for.
+    pub fn get_nfa(&self) -> &NFA
+        ensures { result.now ≡ self.now.nfa }
+    {
+        &self.nfa
+    }
+
+    /// How many pairs of a state and a position a search may mark.
+    fn capacity(&self) -> usize
+        ensures { result ≡ capacity_of self.now }
+    {
+        rounded_bits(self.config.get_visited_capacity())
+    }
+
+    /// A length in bytes up to which no span is refused for its length, where the capacity has a bit for each state.
+    ///
+    /// It is the number of pairs that may be marked, divided by the number of states, less one and not below 0.
+    pub fn max_haystack_len(&self) -> usize
+        ensures { result ≡ max_haystack_len_of self.now }
+    {
+        (self.capacity() / self.nfa.states().len()).saturating_sub(1)
+    }
+
+    /// Whether the search has more pairs than may be marked.
+    fn is_too_long(&self, input: &Input<'_>) -> bool
+        ensures { IsTrue result ↔ IsTooLong self.now (search_of input.now) }
+    {
+        let positions = input.get_span().len() + 1;
+        match self.nfa.states().len().checked_mul(positions) {
+            Some(pairs) => pairs > self.capacity(),
+            None => true,
+        }
+    }
+
+    /// Searches, and fills the slots with byte offsets: slots `2p` and `2p + 1` have the start and end of a match of
+    /// pattern `p`, those of the explicit groups follow. Any number of slots may be handed in; those past the NFA's are
+    /// none, and so is every slot after no match and after an error.
+    ///
+    /// The span's length alone decides whether a search is too long; that is tested before all else. `Memory` is
+    /// answered where a growth of the cache was refused. After an error the cache serves the next search.
+    pub fn try_search_slots(
+        &self,
+        cache: &mut Cache,
+        input: &Input<'_>,
+        slots: &mut [Option<NonMaxUsize>],
+    ) -> Result<Option<PatternID>, SearchError>
+        ensures answer { IfOk result (λ pattern. IsAnswer self.now.nfa LeftmostFirst false (search_of input.now) (option_map number_of pattern) slots.new) }
+        ensures cleared { OnErr result (slots.new ≡ replicate (length slots.old) None) }
+
+        ensures too_long { IsErrOf result (SearchError.HaystackTooLong (span_len (search_of input.now))) ↔ IsTooLong self.now (search_of input.now) }
+        ensures errors { IfErr result (λ e. (e ≡ SearchError.Memory) ⊎ (e ≡ SearchError.HaystackTooLong (span_len (search_of input.now)))) }
+
+        // What was done for it: exactly one scan more than restarts, within stated bounds.
+        ensures work { OnOk result (IsWork self.now.nfa LeftmostFirst false (search_of input.now) cache.new.scans cache.new.turns) }
+        ensures within { OnErr result (IsWithinScans self.now.nfa LeftmostFirst false (search_of input.now) cache.new.scans) }
+        ensures scans { cache.new.scans ≤ scan_limit self.now.nfa (search_of input.now) }
+        ensures turns { cache.new.turns ≤ cache.new.scans * ((1 + turn_weight self.now.nfa) * (span_len (search_of input.now) + 1)) }
+    {
+        let Cache {
+            stack,
+            visited,
+            scans,
+            ..
+        } = cache;
+        scans.restart();
+        visited.restart_turns();
+        if self.is_too_long(input) {
+            unset(slots);
+            return Err(SearchError::HaystackTooLong {
+                len: input.get_span().len(),
+            });
+        }
+        let Some(half) = search(&self.nfa, input, stack, visited, scans, slots)? else {
+            return Ok(None);
+        };
+        Ok(Some(half.pattern()))
+    }
+
+    /// The match that a search answers: the span between the two slots of its pattern. It is none where there is no
+    /// match, where the NFA writes one of the two slots nowhere on the way, or where the start lies behind the end.
+    ///
+    /// Errors are those of [`BoundedBacktracker::try_search_slots`].
+    pub fn try_find<'h>(
+        &self,
+        cache: &mut Cache,
+        input: Input<'h>,
+    ) -> Result<Option<Match>, SearchError>
+        ensures answer { IfOk result (λ found. IsMatchAnswer self.now.nfa LeftmostFirst false (search_of input.entry) (option_map found_of found)) }
+
+        ensures too_long { IsErrOf result (SearchError.HaystackTooLong (span_len (search_of input.entry))) ↔ IsTooLong self.now (search_of input.entry) }
+        ensures errors { IfErr result (λ e. (e ≡ SearchError.Memory) ⊎ (e ≡ SearchError.HaystackTooLong (span_len (search_of input.entry)))) }
+
+        ensures work { OnOk result (IsWork self.now.nfa LeftmostFirst false (search_of input.entry) cache.new.scans cache.new.turns) }
+        ensures within { OnErr result (IsWithinScans self.now.nfa LeftmostFirst false (search_of input.entry) cache.new.scans) }
+        ensures scans { cache.new.scans ≤ scan_limit self.now.nfa (search_of input.entry) }
+        ensures turns { cache.new.turns ≤ cache.new.scans * ((1 + turn_weight self.now.nfa) * (span_len (search_of input.entry) + 1)) }
+    {
+        let Cache {
+            stack,
+            visited,
+            slots,
+            scans,
+        } = cache;
+        scans.restart();
+        visited.restart_turns();
+        if self.is_too_long(&input) {
+            return Err(SearchError::HaystackTooLong {
+                len: input.get_span().len(),
+            });
+        }
+        let slot_len = self.nfa.group_info().implicit_slot_len();
+        grow(slots, slot_len)?;
+        let slots = &mut slots.as_mut_slice()[..slot_len];
+        let Some(half) = search(&self.nfa, &input, stack, visited, scans, slots)? else {
+            return Ok(None);
+        };
+        Ok(Match::from_slots(half.pattern(), slots))
+    }
+
+    /// Whether a search finds a match.
+    ///
+    /// Errors are those of [`BoundedBacktracker::try_search_slots`].
+    pub fn try_is_match<'h>(
+        &self,
+        cache: &mut Cache,
+        input: Input<'h>,
+    ) -> Result<bool, SearchError>
+        ensures answer { IfOk result (λ found. IsFoundAnswer self.now.nfa LeftmostFirst false (search_of input.entry) found) }
+
+        ensures too_long { IsErrOf result (SearchError.HaystackTooLong (span_len (search_of input.entry))) ↔ IsTooLong self.now (search_of input.entry) }
+        ensures errors { IfErr result (λ e. (e ≡ SearchError.Memory) ⊎ (e ≡ SearchError.HaystackTooLong (span_len (search_of input.entry)))) }
+
+        ensures work { OnOk result (IsWork self.now.nfa LeftmostFirst false (search_of input.entry) cache.new.scans cache.new.turns) }
+        ensures within { OnErr result (IsWithinScans self.now.nfa LeftmostFirst false (search_of input.entry) cache.new.scans) }
+        ensures scans { cache.new.scans ≤ scan_limit self.now.nfa (search_of input.entry) }
+        ensures turns { cache.new.turns ≤ cache.new.scans * ((1 + turn_weight self.now.nfa) * (span_len (search_of input.entry) + 1)) }
+    {
+        match self.try_search_slots(cache, &input, &mut [])? {
+            Some(_) => Ok(true),
+            None => Ok(false),
+        }
+    }
+}

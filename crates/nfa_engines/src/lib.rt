@@ -1,0 +1,9 @@
+//! Searches of a Thompson NFA.
+//!
+//! [`backtrack`] searches depth first and marks what it has tried.
+#![tactic(auto)]
+
+pub mod backtrack;
+mod counter;
+
+pub use nfa_search_base::error;

@@ -1,0 +1,10 @@
+pub mod AnswerLemmas
+pub mod KindsLemmas
+pub mod PathLemmas
+pub mod PathToLemmas
+pub mod ScanAnswerLemmas
+pub mod ScanLemmas
+pub mod ScanningLemmas
+pub mod SearchLemmas
+pub mod SearchingLemmas
+pub mod TurnLemmas

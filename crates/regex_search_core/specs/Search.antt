@@ -1,0 +1,33 @@
+-- what a search is asked
+use Rattle.std.specs.Prelude.{ℕ, Bool, false, List, length}
+use Rattle.regex_search_core.specs.declared.search.Anchored.{Anchored}
+use Rattle.regex_search_core.specs.declared.search.Anchored.TheVariants.{No, Yes, Pattern}
+use Rattle.regex_search_core.specs.declared.search.Input.{Input}
+
+-- matches are bound to the span's start
+abbrev pub IsAnchored : Anchored → Type 0
+IsAnchored No = ⊥
+IsAnchored Yes = Unit {0}
+IsAnchored (Pattern pattern) = Unit {0}
+
+-- what a search is asked: the haystack, the span from start to end, and how it is searched
+pub record Search : Type 0 where
+  pub haystack : List ℕ
+  pub start : ℕ
+  pub end : ℕ
+  pub anchored : Anchored
+  pub earliest : Bool
+
+-- what the input asks
+abbrev pub search_of : Input → Search
+search_of input = record {
+  haystack = input.haystack.now;
+  start = input.span.start;
+  end = input.span.end;
+  anchored = input.anchored;
+  earliest = input.earliest;
+}
+
+-- a search of the whole haystack, not anchored and not earliest
+abbrev pub whole : List ℕ → Search
+whole haystack = record { haystack = haystack; start = 0; end = length haystack; anchored = No; earliest = false }

@@ -1,0 +1,27 @@
+-- slots, and the match that two of them give
+use Rattle.std.specs.Prelude.{ℕ, ◌+◌, ◌*◌, List, Option, Some, None, option_map, option_and_then, if◌then◌else◌, nat_le, slice_get}
+use Rattle.regex_search_core.specs.Found.{Found}
+use Rattle.regex_search_core.specs.declared.search.Span.{Span}
+
+-- what a search found: the groups, the pattern if one matched, and the slots
+pub record Captured : Type 0 where
+  pub groups : List (List (Option (List ℕ)))
+  pub pattern : Option ℕ
+  pub slots : List (Option ℕ)
+
+-- the offset in the slot, where there is one
+abbrev pub offset_at : List (Option ℕ) → ℕ → Option ℕ
+offset_at slots slot = option_and_then (λ offset. offset) (slice_get slots slot)
+
+-- the span from one slot to the next, where neither is empty and they are in order
+abbrev pub span_at : List (Option ℕ) → ℕ → Option Span
+span_at slots slot =
+    option_and_then (λ start. option_and_then
+    (λ end. if nat_le start end then Some (record { start = start; end = end }) else None)
+    (offset_at slots (slot + 1))) (offset_at slots slot)
+
+-- the match of the pattern: the span at its two slots, where there is one
+abbrev pub match_of : Option ℕ → List (Option ℕ) → Option Found
+match_of pattern slots =
+    option_and_then (λ p. option_map (λ (s : Span). record { pattern = p; start = s.start; end = s.end })
+    (span_at slots (2 * p))) pattern

@@ -1,0 +1,105 @@
+ghost use Rattle.std.specs.Prelude.{◌≡◌, ◌↔◌, Option, Some, None, List, length, replicate, IfOk, IsTrue, IsSome, option_map};
+ghost use Rattle.std.specs.Borrow.{sem};
+ghost use Rattle.regex_search_core.specs.Groups.{slot_count};
+ghost use Rattle.regex_search_core.specs.Slots.{match_of};
+ghost use Rattle.regex_search_core.specs.Patterns.{number_of};
+
+use crate::group_info::GroupInfo;
+use crate::primitives::{NonMaxUsize, PatternID};
+use crate::refused::Refused;
+use crate::search::Match;
+use std::alloc::Global;
+use std::marker::Model;
+
+/// What a search found: the pattern that matched, if any, and the slots of the groups.
+///
+/// A slot holds the byte offset of an edge of a group, or nothing where the group took no part. A
+/// contract sees the groups, the pattern's number and the slots.
+#[derive(Debug, Drop)]
+pub struct Captures {
+    group_info: GroupInfo,
+    pattern: Option<PatternID>,
+    slots: Vec<Option<NonMaxUsize>>,
+}
+
+impl Model for Captures {
+    ghost use Rattle.std.specs.Prelude.{option_map};
+    ghost use Rattle.regex_search_core.specs.Patterns.{number_of};
+    ghost use Rattle.regex_search_core.specs.Slots.{Captured};
+
+    ghost Value = { Captured };
+
+    ghost view = { λ c. record { groups = c.group_info; pattern = option_map number_of c.pattern; slots = c.slots.items } };
+}
+
+impl Captures {
+    ghost use Rattle.regex_search_core.specs.CapturesLends.{LendsSlots};
+    ghost use Rattle.regex_search_core.specs.Found.{found_of};
+
+    /// Captures with a slot for each edge of each group, all unset, and no pattern.
+    pub fn all(alloc: Global, group_info: GroupInfo) -> Result<Captures, Refused>
+        ensures { IfOk result (λ made. made ≡ record {
+          groups = group_info;
+          pattern = None;
+          slots = replicate (slot_count group_info) None;
+        }) }
+    {
+        let slots = vec![in alloc; None; group_info.slot_len()]?;
+        Ok(Captures {
+            group_info,
+            pattern: None,
+            slots,
+        })
+    }
+
+    /// The groups of each pattern.
+    pub fn group_info(&self) -> &GroupInfo
+        ensures { result.now ≡ self.now.groups }
+    {
+        &self.group_info
+    }
+
+    /// The pattern that matched.
+    pub fn pattern(&self) -> Option<PatternID>
+        ensures { option_map number_of result ≡ self.now.pattern }
+    {
+        self.pattern
+    }
+
+    /// Sets the pattern that matched. Nothing else changes.
+    pub fn set_pattern(&mut self, pattern: Option<PatternID>)
+        ensures { self.new ≡ record self.old { pattern = option_map number_of pattern } }
+    {
+        self.pattern = pattern;
+    }
+
+    /// The slots. Pattern `p` itself has the slots `2 * p` and `2 * p + 1`; `GroupInfo::slot` says
+    /// where the other groups lie.
+    pub fn slots(&self) -> &[Option<NonMaxUsize>]
+        ensures { result.now ≡ self.now.slots }
+    {
+        &self.slots
+    }
+
+    /// The slots, to be written. Their number stays, and so does the rest of the captures.
+    pub fn slots_mut(&mut self) -> &mut [Option<NonMaxUsize>]
+        ensures* writes_back { sem 𝓛 (LendsSlots self.entry result) }
+        ensures value { result.now ≡ self.old.slots }
+    {
+        &mut self.slots
+    }
+
+    /// Whether there is a match: a pattern is set.
+    pub fn is_match(&self) -> bool
+        ensures { IsTrue result ↔ IsSome self.now.pattern }
+    {
+        self.pattern.is_some()
+    }
+
+    /// The match of the pattern that is set, as [`Match::from_slots`] reads it off the slots.
+    pub fn get_match(&self) -> Option<Match>
+        ensures { option_map found_of result ≡ match_of self.now.pattern self.now.slots }
+    {
+        Match::from_slots(self.pattern?, &self.slots)
+    }
+}

@@ -1,0 +1,131 @@
+ghost use Rattle.std.specs.Prelude.{◌≡◌, ◌+◌, ◌*◌, ◌<◌, ◌≤◌, length, take, sum_by, IfOk, IfSome};
+ghost use Rattle.std.specs.Option.{SomeIff};
+ghost use Rattle.regex_search_core.specs.Groups.{names_of, slot_count, slot_at, groups_at};
+ghost use Rattle.regex_search_core.specs.Patterns.{number_of};
+
+use crate::primitives::PatternID;
+use crate::refused::Refused;
+use std::marker::Model;
+
+/// The greatest number of slots, as in regex-automata.
+const MAX_SLOTS: usize = 2147483646;
+
+/// The groups of each pattern, and where their slots lie.
+///
+/// Each pattern has group 0, the match itself, and its explicit groups 1, 2, .., some with a name.
+/// A group has two slots, one for the byte offset where it starts and one for where it ends. The
+/// slots of the groups 0 come first, pattern by pattern; then those of the explicit groups, pattern
+/// by pattern and in order. There are at most 2147483646 slots.
+///
+/// A contract sees, for each pattern, the names of its explicit groups as bytes.
+#[derive(Debug, Drop)]
+pub struct GroupInfo {
+    names: Vec<Vec<Option<String>>>,
+    slot_len: usize,
+}
+
+impl Model for GroupInfo {
+    ghost use Rattle.std.specs.Prelude.{ℕ, List, Option, ◌≡◌, ◌≤◌};
+    ghost use Rattle.regex_search_core.specs.Groups.{names_of, slot_count};
+
+    ghost Value = { List (List (Option (List ℕ))) };
+
+    ghost view = { λ g. names_of g.names.items };
+
+    ghost invariant = { λ g. (g.slot_len ≡ slot_count (names_of g.names.items)) × (g.slot_len ≤ 2147483646) };
+}
+
+impl GroupInfo {
+    /// Groups of these names: for each pattern its explicit groups, each with its name if it has one.
+    /// `None` if they have more than 2147483646 slots.
+    pub fn new(names: Vec<Vec<Option<String>>>) -> Option<GroupInfo>
+        ensures { SomeIff result (slot_count (names_of names.items) ≤ 2147483646) (names_of names.items) }
+    {
+        let slot_len = count_slots(&names)?;
+        Some(GroupInfo { names, slot_len })
+    }
+
+    /// How many patterns there are.
+    pub fn pattern_len(&self) -> usize
+        ensures { result ≡ length self.now }
+    {
+        self.names.len()
+    }
+
+    /// How many slots the groups 0 have: two for each pattern.
+    pub fn implicit_slot_len(&self) -> usize
+        ensures { result ≡ 2 * length self.now }
+    {
+        let _ = &self.slot_len;
+        self.names.len() * 2
+    }
+
+    /// How many slots all groups have: two for each.
+    pub fn slot_len(&self) -> usize
+        ensures value { result ≡ slot_count self.now }
+        ensures within { result ≤ 2147483646 }
+    {
+        self.slot_len
+    }
+
+    /// The slot of where the pattern's group starts; the slot after it is of where the group ends.
+    /// `None` for an unknown pattern or group.
+    pub fn slot(&self, pattern: PatternID, group: usize) -> Option<usize>
+        ensures value { result ≡ slot_at self.now (number_of pattern) group }
+        ensures within { IfSome result (λ slot. slot + 1 < slot_count self.now) }
+    {
+        let index = pattern.as_usize();
+        if index >= self.names.len() {
+            return None;
+        }
+        if group == 0 {
+            return Some(index * 2);
+        }
+        if group - 1 >= self.names[index].len() {
+            return None;
+        }
+        Some(explicit_start(&self.names, index) + (group - 1) * 2)
+    }
+
+    /// Equal groups.
+    pub fn clone(&self) -> Result<GroupInfo, Refused>
+        ensures { IfOk result (λ copy. copy ≡ self.now) }
+    {
+        Ok(GroupInfo {
+            names: self.names.clone()?,
+            slot_len: self.slot_len,
+        })
+    }
+}
+
+/// Where the slots of the pattern's explicit groups begin.
+#[tactic(auto, using(crate::proofs::GroupLemmas::group_len, crate::proofs::GroupLemmas::group_room, crate::proofs::GroupLemmas::sum_more))]
+fn explicit_start(names: &[Vec<Option<String>>], index: usize) -> usize
+    requires inside { index < length names.now }
+    requires small { slot_count (names_of names.now) ≤ 2147483646 }
+    ensures value { result ≡ 2 * length names.now + 2 * sum_by length (take index (names_of names.now)) }
+    ensures room { result + 2 * length (groups_at (names_of names.now) index) ≤ 2147483646 }
+{
+    let mut slot = names.len() * 2;
+    for i in 0..index {
+        slot += names[i].len() * 2;
+    }
+    slot
+}
+
+/// How many slots the groups of these names have. `None` above 2147483646.
+fn count_slots(names: &[Vec<Option<String>>]) -> Option<usize>
+    ensures { SomeIff result (slot_count (names_of names.now) ≤ 2147483646) (slot_count (names_of names.now)) }
+{
+    if names.len() > MAX_SLOTS / 2 {
+        return None;
+    }
+    let mut slot_len = names.len() * 2;
+    for groups in names {
+        if groups.len() > (MAX_SLOTS - slot_len) / 2 {
+            return None;
+        }
+        slot_len += groups.len() * 2;
+    }
+    Some(slot_len)
+}

@@ -1,0 +1,22 @@
+//! The values that every regex engine speaks of: what a search is asked ([`Input`]), what it
+//! answers ([`Match`], [`Captures`], [`PatternSet`]), and the numbers in both.
+//!
+//! Names and behaviour follow the public documentation of the crate regex-automata. All positions
+//! are byte offsets. What allocates takes the allocator and answers [`Refused`] where a growth was
+//! refused.
+#![tactic(auto)]
+
+mod captures;
+mod group_info;
+mod pattern_set;
+mod primitives;
+mod refused;
+mod search;
+mod slots;
+
+pub use captures::Captures;
+pub use group_info::GroupInfo;
+pub use pattern_set::PatternSet;
+pub use primitives::{NonMaxUsize, PatternID, StateID};
+pub use refused::Refused;
+pub use search::{Anchored, HalfMatch, Input, Match, MatchError, MatchKind, Span};

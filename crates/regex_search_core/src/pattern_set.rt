@@ -1,0 +1,93 @@
+ghost use Rattle.std.specs.Prelude.{◌≡◌, ◌+◌, ◌<◌, ◌↔◌, List, Bool, Some, None, true, false, not, length, replicate, count_by, if◌then◌else◌, nat_lt, slice_set, slice_index_or, IfOk, IsTrue};
+ghost use Rattle.regex_search_core.specs.PatternSets.{with_pattern, size_of_set};
+ghost use Rattle.regex_search_core.specs.Patterns.{number_of};
+
+use crate::primitives::PatternID;
+use crate::refused::Refused;
+use std::alloc::Global;
+use std::marker::Model;
+
+/// A set of patterns, each of a number below the set's capacity, which is fixed when it is made.
+///
+/// A contract sees, for each number below the capacity, whether that pattern is in the set.
+#[derive(Debug, Drop)]
+pub struct PatternSet {
+    which: Vec<bool>,
+    len: usize,
+}
+
+impl Model for PatternSet {
+    ghost use Rattle.std.specs.Prelude.{◌≡◌, List, Bool};
+    ghost use Rattle.regex_search_core.specs.PatternSets.{size_of_set};
+
+    ghost Value = { List Bool };
+
+    ghost view = { λ s. s.which.items };
+
+    ghost invariant = { λ s. s.len ≡ size_of_set s.which.items };
+}
+
+impl PatternSet {
+    /// The empty set of this capacity.
+    pub fn new(alloc: Global, capacity: usize) -> Result<PatternSet, Refused>
+        ensures { IfOk result (λ made. made ≡ replicate capacity false) }
+    {
+        let which = vec![in alloc; false; capacity]?;
+        Ok(PatternSet { which, len: 0 })
+    }
+
+    /// Adds the pattern, and answers whether it is new. `None`, and nothing is added, where the
+    /// pattern is not below the capacity.
+    pub fn try_insert(&mut self, pattern: PatternID) -> Option<bool>
+        ensures answer { result ≡ (if nat_lt (number_of pattern) (length self.old)
+            then Some (not (slice_index_or self.old (number_of pattern) false)) else None) }
+        ensures after { self.new ≡ with_pattern self.old (number_of pattern) }
+    {
+        let index = pattern.as_usize();
+        if index >= self.which.len() {
+            return None;
+        }
+        if self.which[index] {
+            return Some(false);
+        }
+        self.which[index] = true;
+        self.len += 1;
+        Some(true)
+    }
+
+    /// Whether the pattern is in the set.
+    pub fn contains(&self, pattern: PatternID) -> bool
+        ensures { result ≡ slice_index_or self.now (number_of pattern) false }
+    {
+        let index = pattern.as_usize();
+        index < self.which.len() && self.which[index]
+    }
+
+    /// How many patterns are in the set.
+    pub fn len(&self) -> usize
+        ensures { result ≡ size_of_set self.now }
+    {
+        self.len
+    }
+
+    /// How many patterns there may be: each is below this number.
+    pub fn capacity(&self) -> usize
+        ensures { result ≡ length self.now }
+    {
+        self.which.len()
+    }
+
+    /// Whether no pattern is in the set.
+    pub fn is_empty(&self) -> bool
+        ensures { IsTrue result ↔ (size_of_set self.now ≡ 0) }
+    {
+        self.len == 0
+    }
+
+    /// Whether each pattern below the capacity is in the set.
+    pub fn is_full(&self) -> bool
+        ensures { IsTrue result ↔ (size_of_set self.now ≡ length self.now) }
+    {
+        self.len == self.which.len()
+    }
+}

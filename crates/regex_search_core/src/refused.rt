@@ -1,0 +1,17 @@
+use std::alloc::{AllocError, AllocFailed};
+
+/// A growth was refused: the allocator had no memory for it.
+#[derive(Clone, Copy, Debug, PartialEq, Eq, Hash)]
+pub struct Refused;
+
+impl From<AllocError> for Refused {
+    fn from(_: AllocError) -> Refused {
+        Refused
+    }
+}
+
+impl<T: Drop> From<AllocFailed<T>> for Refused {
+    fn from(_: AllocFailed<T>) -> Refused {
+        Refused
+    }
+}

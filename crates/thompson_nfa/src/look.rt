@@ -1,0 +1,51 @@
+ghost use Rattle.std.specs.Prelude.{◌≡◌, ◌≤◌, length};
+ghost use Rattle.thompson_nfa.specs.Looks.{look_holds, is_word_before, is_word_after, is_word_byte};
+
+/// An assertion about a position of a haystack: an offset from 0 to the haystack's length.
+#[derive(Clone, Copy, Debug, PartialEq, Eq, Hash)]
+pub enum Look {
+    /// The position is 0.
+    Start,
+    /// The position is the haystack's length.
+    End,
+    /// Just one of the bytes before and after the position is a word byte: 0-9, A-Z, `_` or a-z.
+    WordAscii,
+    /// Both of the bytes before and after the position are word bytes, or neither is.
+    WordAsciiNegate,
+}
+
+/// Whether the assertion holds at the position `at`, over the whole haystack. The caller owes that
+/// `at` is at most the haystack's length.
+pub fn look_matches(look: Look, haystack: &[u8], at: usize) -> bool
+    requires { at ≤ length haystack.now }
+    ensures { result ≡ look_holds look haystack.now at }
+{
+    match look {
+        Look::Start => at == 0,
+        Look::End => at == haystack.len(),
+        Look::WordAscii => word_before(haystack, at) != word_after(haystack, at),
+        Look::WordAsciiNegate => word_before(haystack, at) == word_after(haystack, at),
+    }
+}
+
+/// Whether a word byte stands just before the position.
+fn word_before(haystack: &[u8], at: usize) -> bool
+    requires { at ≤ length haystack.now }
+    ensures { result ≡ is_word_before haystack.now at }
+{
+    at > 0 && is_word_byte(haystack[at - 1])
+}
+
+/// Whether a word byte stands at the position.
+fn word_after(haystack: &[u8], at: usize) -> bool
+    ensures { result ≡ is_word_after haystack.now at }
+{
+    at < haystack.len() && is_word_byte(haystack[at])
+}
+
+/// Whether the byte is 0-9, A-Z, `_` or a-z.
+fn is_word_byte(byte: u8) -> bool
+    ensures { result ≡ is_word_byte byte }
+{
+    byte.is_ascii_alphanumeric() || byte == b'_'
+}

@@ -1,0 +1,261 @@
+ghost use Rattle.std.specs.Prelude.{◌≡◌, ◌<◌, ◌↔◌, length, map, Some, IsTrue, IfSome, IfOk, IsOkUnless, slice_get};
+ghost use Rattle.regex_search_core.specs.Groups.{slot_count};
+ghost use Rattle.regex_search_core.specs.Patterns.{number_of};
+ghost use Rattle.thompson_nfa.specs.Automaton.{Automaton, IsAutomaton, LeadsBelow, SlotBelow, PatternBelow, node_of};
+
+use crate::bounds::{all_pattern_below, all_slot_below, are_numbered};
+use crate::state::State;
+use regex_search_core::{GroupInfo, PatternID, Refused, StateID};
+use std::alloc::{AllocError, AllocFailed, Global};
+use std::marker::Model;
+
+/// Why an NFA was not made.
+#[derive(Clone, Copy, Debug, PartialEq, Eq, Hash)]
+pub enum BuildError {
+    /// A growth was refused.
+    Memory,
+    /// There is no state.
+    Empty,
+    /// A state number is out of range, in a state or among the starts.
+    State,
+    /// A `Capture` writes a slot that no group has.
+    Slot,
+    /// A `Match` is of a pattern that has no start.
+    Pattern,
+    /// The groups are of another number of patterns than have a start, and not of none.
+    Groups,
+}
+
+impl From<Refused> for BuildError {
+    ghost use Rattle.std.specs.Prelude.{◌≡◌};
+    ghost use Rattle.thompson_nfa.specs.declared.nfa.BuildError.TheVariants as error;
+
+    ghost from_gives = { λ _ e. e ≡ error.Memory };
+
+    fn from(_: Refused) -> BuildError {
+        BuildError::Memory
+    }
+}
+
+impl From<AllocError> for BuildError {
+    ghost use Rattle.std.specs.Prelude.{◌≡◌};
+    ghost use Rattle.thompson_nfa.specs.declared.nfa.BuildError.TheVariants as error;
+
+    ghost from_gives = { λ _ e. e ≡ error.Memory };
+
+    fn from(_: AllocError) -> BuildError {
+        BuildError::Memory
+    }
+}
+
+impl<T: Drop> From<AllocFailed<T>> for BuildError {
+    ghost use Rattle.std.specs.Prelude.{◌≡◌};
+    ghost use Rattle.thompson_nfa.specs.declared.nfa.BuildError.TheVariants as error;
+
+    ghost from_gives = { λ _ e. e ≡ error.Memory };
+
+    fn from(_: AllocFailed<T>) -> BuildError {
+        BuildError::Memory
+    }
+}
+
+/// A nondeterministic finite automaton over bytes, in the form of Thompson's construction: its
+/// states, where searches start, the groups of its patterns, and two flags.
+///
+/// Each state number in it names one of its states, each `Capture` writes a slot of its groups, each
+/// `Match` is of one of its patterns, and its groups are those of as many patterns, or of none.
+///
+/// A contract sees the NFA as an `Automaton`.
+#[derive(Debug, Drop)]
+pub struct NFA {
+    states: Vec<State>,
+    anchored: StateID,
+    unanchored: StateID,
+    patterns: Vec<StateID>,
+    groups: GroupInfo,
+    has_empty: bool,
+    utf8: bool,
+}
+
+impl Model for NFA {
+    ghost use Rattle.std.specs.Prelude.{map};
+    ghost use Rattle.thompson_nfa.specs.Automaton.{Automaton, IsAutomaton, node_of};
+
+    ghost Value = { Automaton };
+
+    ghost use Rattle.thompson_nfa.specs.NFA.{automaton_of};
+
+    ghost view = { automaton_of };
+
+    ghost invariant = { λ a. IsAutomaton (automaton_of a) };
+}
+
+impl NFA {
+    ghost use Rattle.thompson_nfa.specs.Built.{IsBuilt};
+
+    /// The NFA of these states; a state's number is its place. `anchored` is where a search starts
+    /// that is bound to its start, and `unanchored` where any other does; `patterns` has the start of
+    /// each pattern.
+    ///
+    /// It is refused by the first of these that applies, in this order: `Empty`, where there is no
+    /// state; `State`, where a state number is out of range, in a state or among the starts; `Slot`,
+    /// where a `Capture`'s slot is not below the number of slots; `Pattern`, where a `Match`'s pattern
+    /// is not below the number of patterns; `Groups`, where the groups are of another number of
+    /// patterns, and not of none.
+    pub fn from_states(
+        states: Vec<State>,
+        anchored: StateID,
+        unanchored: StateID,
+        patterns: Vec<StateID>,
+        groups: GroupInfo,
+        has_empty: bool,
+        utf8: bool,
+    ) -> Result<NFA, BuildError>
+        ensures { let made : Automaton = record {
+          states = map node_of states.items;
+          anchored = anchored;
+          unanchored = unanchored;
+          patterns = patterns.items;
+          groups = groups;
+          has_empty = has_empty;
+          utf8 = utf8;
+        } in IsBuilt made result }
+    {
+        if states.is_empty() {
+            return Err(BuildError::Empty);
+        }
+        if !are_numbered(&states, anchored, unanchored, &patterns) {
+            return Err(BuildError::State);
+        }
+        if !all_slot_below(&states, groups.slot_len()) {
+            return Err(BuildError::Slot);
+        }
+        if !all_pattern_below(&states, patterns.len()) {
+            return Err(BuildError::Pattern);
+        }
+        if groups.pattern_len() != patterns.len() && groups.pattern_len() != 0 {
+            return Err(BuildError::Groups);
+        }
+        Ok(NFA {
+            states,
+            anchored,
+            unanchored,
+            patterns,
+            groups,
+            has_empty,
+            utf8,
+        })
+    }
+
+    /// The states, each at the place of its number.
+    pub fn states(&self) -> &[State]
+        ensures nodes { map node_of result.now ≡ self.now.states }
+        ensures valid { IsAutomaton self.now }
+    {
+        &self.states
+    }
+
+    /// The state of this number. The caller owes that it is below the number of states.
+    pub fn state(&self, id: StateID) -> &State
+        requires { id < length self.now.states }
+        ensures node { slice_get self.now.states id ≡ Some (node_of result.now) }
+        ensures leads { LeadsBelow (length self.now.states) (node_of result.now) }
+        ensures slot { SlotBelow (slot_count self.now.groups) (node_of result.now) }
+        ensures pattern { PatternBelow (length self.now.patterns) (node_of result.now) }
+        ensures valid { IsAutomaton self.now }
+    {
+        &self.states[id.as_usize()]
+    }
+
+    /// Where a search starts that is bound to its start.
+    pub fn start_anchored(&self) -> StateID
+        ensures value { result ≡ self.now.anchored }
+        ensures within { result < length self.now.states }
+        ensures valid { IsAutomaton self.now }
+    {
+        self.anchored
+    }
+
+    /// Where a search starts that may find a match anywhere.
+    pub fn start_unanchored(&self) -> StateID
+        ensures value { result ≡ self.now.unanchored }
+        ensures within { result < length self.now.states }
+        ensures valid { IsAutomaton self.now }
+    {
+        self.unanchored
+    }
+
+    /// Where a search for this pattern alone starts. `None` for an unknown pattern.
+    pub fn start_pattern(&self, pattern: PatternID) -> Option<StateID>
+        ensures value { result ≡ slice_get self.now.patterns (number_of pattern) }
+        ensures within { IfSome result (λ s. s < length self.now.states) }
+        ensures valid { IsAutomaton self.now }
+    {
+        self.patterns.get(pattern.as_usize()).copied()
+    }
+
+    /// Whether each search is bound to its start: the two starts are one state.
+    pub fn is_always_start_anchored(&self) -> bool
+        ensures { IsTrue result ↔ (self.now.anchored ≡ self.now.unanchored) }
+    {
+        self.anchored == self.unanchored
+    }
+
+    /// Whether the NFA may match without a byte, as its maker said.
+    pub fn has_empty(&self) -> bool
+        ensures { result ≡ self.now.has_empty }
+    {
+        self.has_empty
+    }
+
+    /// Whether empty matches that split a character of UTF-8 are left out, as its maker said.
+    pub fn is_utf8(&self) -> bool
+        ensures { result ≡ self.now.utf8 }
+    {
+        self.utf8
+    }
+
+    /// How many patterns there are.
+    pub fn pattern_len(&self) -> usize
+        ensures value { result ≡ length self.now.patterns }
+        ensures valid { IsAutomaton self.now }
+    {
+        self.patterns.len()
+    }
+
+    /// An equal NFA. The error is `Memory` alone.
+    pub fn clone(&self) -> Result<NFA, BuildError>
+        ensures copy { IfOk result (λ copy. copy ≡ self.now) }
+        ensures memory { IsOkUnless result BuildError.Memory }
+    {
+        Ok(NFA {
+            states: clone_states(*self.states.allocator(), &self.states)?,
+            anchored: self.anchored,
+            unanchored: self.unanchored,
+            patterns: self.patterns.clone()?,
+            groups: self.groups.clone()?,
+            has_empty: self.has_empty,
+            utf8: self.utf8,
+        })
+    }
+
+    /// The groups of its patterns, or those of no pattern.
+    pub fn group_info(&self) -> &GroupInfo
+        ensures value { result.now ≡ self.now.groups }
+        ensures valid { IsAutomaton self.now }
+    {
+        &self.groups
+    }
+}
+
+/// Equal states.
+fn clone_states(alloc: Global, states: &[State]) -> Result<Vec<State>, BuildError>
+    ensures copy { IfOk result (λ copy. map node_of copy.items ≡ map node_of states.now) }
+    ensures memory { IsOkUnless result BuildError.Memory }
+{
+    let mut copy = Vec::with_capacity(alloc, states.len())?;
+    for state in states {
+        copy.push(state.clone()?)?;
+    }
+    Ok(copy)
+}
