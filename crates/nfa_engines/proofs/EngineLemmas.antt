@@ -8,14 +8,14 @@ use Rattle.std.proofs.lemmas.Option.{slice_get-get_or}
 use Rattle.std.proofs.lemmas.List.{get_or_past}
 use Rattle.regex_search_core.specs.Found.{Found, half_found_of}
 use Rattle.regex_search_core.specs.Groups.{slot_count}
-use Rattle.regex_search_core.specs.Search.{Search}
+use Rattle.regex_search_core.specs.Search.{Search, is_anchored}
 use Rattle.regex_search_core.specs.Slots.{offset_at, match_of}
 use Rattle.regex_search_core.specs.declared.search.HalfMatch.{HalfMatch}
 use Rattle.regex_search_core.specs.declared.search.MatchKind.TheVariants.{LeftmostFirst}
 use Rattle.thompson_nfa.specs.Automaton.{Automaton, Node, IsAutomaton, PatternBelow}
 use Rattle.thompson_nfa.specs.Automaton.Node.{ByteRange, Sparse, Dense, Look, Union, BinaryUnion, Capture, Fail, Match}
 use Rattle.nfa_search_base.specs.Graphs.{Pair}
-use Rattle.nfa_search_base.specs.Paths.{raised, pattern_of, node_at, is_anchored, is_utf8_empty, path_pattern, last_of, slot_among, slot_row, IsScanAnswer, IsKeptAnswer, IsRestartedAnswer, IsSearchAnswer, IsAnswer, IsFoundAnswer, IsMatchAnswer, IsWork}
+use Rattle.nfa_search_base.specs.Paths.{raised, pattern_of, node_at, is_utf8_empty, path_pattern, last_of, slot_among, slot_row, IsScanAnswer, IsKeptAnswer, IsRestartedAnswer, IsSearchAnswer, IsAnswer, IsFoundAnswer, IsMatchAnswer, IsWork}
 use Rattle.nfa_search_base.specs.Exploring.{Slots}
 use Rattle.nfa_search_base.proofs.AnswerLemmas.{scan_answer-leads}
 use Rattle.nfa_search_base.proofs.PathToLemmas.{EndsWith-last}
@@ -59,11 +59,11 @@ module _ (nfa : Automaton) where
       → (k : ℕ) × (path_pattern nfa p ≡ Some k)
   search-pattern x restarts p =
       elim (is_utf8_empty nfa) as (λ m. MatchBool m
-          (MatchBool (is_anchored x.anchored) ((restarts ≡ 0) × IsKeptAnswer nfa LeftmostFirst false x (Some p)) (IsRestartedAnswer nfa LeftmostFirst false x restarts (Some p)))
-          ((restarts ≡ 0) × IsScanAnswer nfa x LeftmostFirst false (Some p)) → (k : ℕ) × (path_pattern nfa p ≡ Some k)) [
+      (MatchBool (is_anchored x.anchored) ((restarts ≡ 0) × IsKeptAnswer nfa LeftmostFirst false x (Some p)) (IsRestartedAnswer nfa LeftmostFirst false x restarts (Some p)))
+      ((restarts ≡ 0) × IsScanAnswer nfa x LeftmostFirst false (Some p)) → (k : ℕ) × (path_pattern nfa p ≡ Some k)) [
         | true ↦
             elim (is_anchored x.anchored) as (λ a. MatchBool a ((restarts ≡ 0) × IsKeptAnswer nfa LeftmostFirst false x (Some p)) (IsRestartedAnswer nfa LeftmostFirst false x restarts (Some p))
-                → (k : ℕ) × (path_pattern nfa p ≡ Some k)) [
+            → (k : ℕ) × (path_pattern nfa p ≡ Some k)) [
               | true ↦ λ h. scan-pattern x p h.1.0
               | false ↦ λ h. scan-pattern (raised x restarts) p h.answers
             ]

@@ -5,15 +5,13 @@ use Rattle.std.specs.Option.{option_map_or}
 use Rattle.std.proofs.Math.Nat.{mul-le-mul_left}
 use Rattle.regex_search_core.specs.Boundary.{IsBoundary}
 use Rattle.regex_search_core.specs.Found.{half_found_of}
-use Rattle.regex_search_core.specs.Search.{Search, IsAnchored}
+use Rattle.regex_search_core.specs.Search.{Search, is_anchored}
 use Rattle.regex_search_core.specs.declared.refused.Refused.{Refused}
-use Rattle.regex_search_core.specs.declared.search.Anchored.{Anchored}
-use Rattle.regex_search_core.specs.declared.search.Anchored.TheVariants.{No, Yes, Pattern}
 use Rattle.regex_search_core.specs.declared.search.HalfMatch.{HalfMatch}
 use Rattle.regex_search_core.specs.declared.search.MatchKind.TheVariants.{LeftmostFirst}
 use Rattle.thompson_nfa.specs.Automaton.{Automaton}
 use Rattle.nfa_search_base.specs.Graphs.{Pair, In}
-use Rattle.nfa_search_base.specs.Paths.{span_len, raised, starts, is_anchored, is_utf8_empty, pattern_of, node_at, path_pattern, last_of, slot_row, turn_weight, EndsOnBoundary, SplitsCharacter, IsKeptAnswer, IsRestartedAnswer, IsScanAnswer, IsSearchAnswer}
+use Rattle.nfa_search_base.specs.Paths.{span_len, raised, starts, is_utf8_empty, pattern_of, node_at, path_pattern, last_of, slot_row, turn_weight, EndsOnBoundary, SplitsCharacter, IsKeptAnswer, IsRestartedAnswer, IsScanAnswer, IsSearchAnswer}
 use Rattle.nfa_search_base.specs.Exploring.{Slots, Found}
 use Rattle.nfa_search_base.specs.Exploring.Item.{Explore}
 use Rattle.nfa_search_base.specs.Turns.{marked_sum}
@@ -22,17 +20,6 @@ use Rattle.nfa_search_base.proofs.TurnLemmas.{marked_sum-le}
 use Rattle.nfa_engines.specs.Bits.{Marks}
 use Rattle.nfa_engines.specs.Walk.{HasRoom, Agrees, WalkAnswer, Ends, EndsAt, Finds, Scans, Searched, weights, scan_turns}
 use Rattle.nfa_engines.proofs.WalkLemmas.{IsMarked-clear, sum-weights}
-
--- the two words for an anchored search
-pub is_anchored-true : (a : Anchored) → IsAnchored a → is_anchored a ≡ true
-is_anchored-true No h = absurd h
-is_anchored-true Yes h = refl
-is_anchored-true (Pattern pattern) h = refl
-
-pub is_anchored-false : (a : Anchored) → ¬ IsAnchored a → is_anchored a ≡ false
-is_anchored-false No h = refl
-is_anchored-false Yes h = absurd (h tt)
-is_anchored-false (Pattern pattern) h = absurd (h tt)
 
 module _ (nfa : Automaton) (x : Search) where
   -- nothing is marked

@@ -1,5 +1,6 @@
 pub mod Backtrack
 pub mod Bits
+pub mod Laws
 pub mod Walk
 pub use Rattle.nfa_search_base.specs.Graphs
 pub use Rattle.nfa_search_base.specs.Paths

@@ -5,5 +5,6 @@
 
 pub mod backtrack;
 mod counter;
+pub mod laws;
 
-pub use nfa_search_base::error;
+pub use nfa_search_base::{empty, error};

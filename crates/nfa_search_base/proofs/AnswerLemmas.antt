@@ -8,7 +8,7 @@ use Rattle.std.proofs.lemmas.Bool.Decides.{eqb_tells}
 use Rattle.std.proofs.lemmas.List.{ext_get_or, get_or-replicate, length-replicate}
 use Rattle.std.proofs.lemmas.List.FromFn.{length-map-range_with_len, get_or-map-range_with_len}
 use Rattle.regex_search_core.specs.Boundary.{IsBoundary}
-use Rattle.regex_search_core.specs.Search.{Search}
+use Rattle.regex_search_core.specs.Search.{Search, is_anchored}
 use Rattle.regex_search_core.specs.declared.search.MatchKind.{MatchKind}
 use Rattle.regex_search_core.specs.declared.search.MatchKind.TheVariants.{All, LeftmostFirst}
 use Rattle.thompson_nfa.specs.Automaton.{Automaton, Node}
@@ -17,7 +17,7 @@ use Rattle.nfa_search_base.specs.Graphs.{Pair, In, ComesBefore, PathTo}
 use Rattle.nfa_search_base.specs.FirstPaths.{Increasing}
 use Rattle.nfa_search_base.specs.Exploring.{Slots, write, apply, Answer}
 use Rattle.nfa_search_base.specs.Exploring.Item.{Explore}
-use Rattle.nfa_search_base.specs.Paths.{pattern_of, slot_of, is_anchored, pairs_from, raised, span_len, node_at, is_match, IsMatch, capture, is_utf8_empty, start_state, edges_of, edges, start_count, starts, IsScanAnswer, last_of, slot_among, slot_row, EndsOnBoundary, IsWhole, SplitsCharacter, IsKeptAnswer, IsRestartedAnswer, IsSearchAnswer, IsWithinScans, scan_limit}
+use Rattle.nfa_search_base.specs.Paths.{pattern_of, slot_of, pairs_from, raised, span_len, node_at, is_match, IsMatch, capture, is_utf8_empty, start_state, edges_of, edges, start_count, starts, IsScanAnswer, last_of, slot_among, slot_row, EndsOnBoundary, IsWhole, SplitsCharacter, IsKeptAnswer, IsRestartedAnswer, IsSearchAnswer, IsWithinScans, scan_limit}
 use Rattle.nfa_search_base.proofs.PathLemmas.{IsLeast-from_first}
 use Rattle.nfa_search_base.proofs.SearchLemmas.{Answer-starts, found-Some}
 use Rattle.nfa_search_base.proofs.PathToLemmas.{EndsWith-last, PathTo-along, found-end, ComesBefore-asymmetric, PathTo-order, IsLeast-none, IsLeast-first, IsFirstPath-unique, IsEarliestPath-unique, IsLastPath-unique, IsEarliestLastPath-unique}

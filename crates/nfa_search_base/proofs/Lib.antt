@@ -1,4 +1,5 @@
 pub mod AnswerLemmas
+pub mod AskingLemmas
 pub mod KindsLemmas
 pub mod PathLemmas
 pub mod PathToLemmas
@@ -7,4 +8,5 @@ pub mod ScanLemmas
 pub mod ScanningLemmas
 pub mod SearchLemmas
 pub mod SearchingLemmas
+pub mod SkipLemmas
 pub mod TurnLemmas

@@ -4,6 +4,8 @@ pub mod FirstPaths
 pub mod Exploring
 pub mod Kinds
 pub mod Turns
+pub mod Asking
+pub mod Skipping
 pub use Rattle.regex_search_core.specs.Boundary
 pub use Rattle.regex_search_core.specs.Found
 pub use Rattle.regex_search_core.specs.Groups

@@ -5,7 +5,7 @@ use Rattle.std.specs.Option.{option_or, option_map_or}
 use Rattle.regex_search_core.specs.Boundary.{IsBoundary}
 use Rattle.regex_search_core.specs.Found.{Found}
 use Rattle.regex_search_core.specs.Groups.{slot_count}
-use Rattle.regex_search_core.specs.Search.{Search}
+use Rattle.regex_search_core.specs.Search.{Search, is_anchored}
 use Rattle.regex_search_core.specs.Slots.{match_of}
 use Rattle.regex_search_core.specs.Patterns.{number_of}
 use Rattle.regex_search_core.specs.declared.search.Anchored.{Anchored}
@@ -43,12 +43,6 @@ slot_of _ = None
 abbrev pub pattern_of : Node → Option ℕ
 pattern_of (Match pattern) = Some pattern
 pattern_of _ = None
-
--- the anchoring binds a search to the start of its span
-abbrev pub is_anchored : Anchored → Bool
-is_anchored No = false
-is_anchored Yes = true
-is_anchored (Pattern pattern) = true
 
 -- the state at each of `count` positions from this one on
 abbrev pub pairs_from : ℕ → ℕ → ℕ → List Pair

@@ -1,14 +1,14 @@
 -- what a search is asked
-use Rattle.std.specs.Prelude.{ℕ, Bool, false, List, length}
+use Rattle.std.specs.Prelude.{ℕ, Bool, true, false, List, length}
 use Rattle.regex_search_core.specs.declared.search.Anchored.{Anchored}
 use Rattle.regex_search_core.specs.declared.search.Anchored.TheVariants.{No, Yes, Pattern}
 use Rattle.regex_search_core.specs.declared.search.Input.{Input}
 
 -- matches are bound to the span's start
-abbrev pub IsAnchored : Anchored → Type 0
-IsAnchored No = ⊥
-IsAnchored Yes = Unit {0}
-IsAnchored (Pattern pattern) = Unit {0}
+abbrev pub is_anchored : Anchored → Bool
+is_anchored No = false
+is_anchored Yes = true
+is_anchored (Pattern pattern) = true
 
 -- what a search is asked: the haystack, the span from start to end, and how it is searched
 pub record Search : Type 0 where

@@ -1,6 +1,7 @@
 -- slots, and the match that two of them give
 use Rattle.std.specs.Prelude.{ℕ, ◌+◌, ◌*◌, List, Option, Some, None, option_map, option_and_then, if◌then◌else◌, nat_le, slice_get}
 use Rattle.regex_search_core.specs.Found.{Found}
+use Rattle.regex_search_core.specs.Groups.{slot_at, group_named}
 use Rattle.regex_search_core.specs.declared.search.Span.{Span}
 
 -- what a search found: the groups, the pattern if one matched, and the slots
@@ -25,3 +26,15 @@ abbrev pub match_of : Option ℕ → List (Option ℕ) → Option Found
 match_of pattern slots =
     option_and_then (λ p. option_map (λ (s : Span). record { pattern = p; start = s.start; end = s.end })
     (span_at slots (2 * p))) pattern
+
+-- the span at the two slots of the group of the pattern that is set, where there is one
+abbrev pub group_span : Captured → ℕ → Option Span
+group_span captures group =
+    option_and_then (λ pattern. option_and_then (λ slot. span_at captures.slots slot)
+    (slot_at captures.groups pattern group)) captures.pattern
+
+-- the same of its first group of this name
+abbrev pub named_span : Captured → List ℕ → Option Span
+named_span captures name =
+    option_and_then (λ pattern. option_and_then (λ group. group_span captures group)
+    (group_named captures.groups pattern name)) captures.pattern

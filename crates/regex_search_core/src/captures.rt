@@ -1,13 +1,14 @@
-ghost use Rattle.std.specs.Prelude.{◌≡◌, ◌↔◌, Option, Some, None, List, length, replicate, IfOk, IsTrue, IsSome, option_map};
+ghost use Rattle.std.specs.Prelude.{◌≡◌, ◌↔◌, ◌*◌, None, [], length, replicate, IfOk, IsTrue, IsSome, option_map};
 ghost use Rattle.std.specs.Borrow.{sem};
 ghost use Rattle.regex_search_core.specs.Groups.{slot_count};
-ghost use Rattle.regex_search_core.specs.Slots.{match_of};
+ghost use Rattle.regex_search_core.specs.Slots.{match_of, group_span, named_span};
 ghost use Rattle.regex_search_core.specs.Patterns.{number_of};
 
 use crate::group_info::GroupInfo;
 use crate::primitives::{NonMaxUsize, PatternID};
 use crate::refused::Refused;
-use crate::search::Match;
+use crate::search::{Match, Span};
+use crate::slots::span_in;
 use std::alloc::Global;
 use std::marker::Model;
 
@@ -49,6 +50,33 @@ impl Captures {
             group_info,
             pattern: None,
             slots,
+        })
+    }
+
+    /// Captures with a slot for each edge of each pattern's group 0 alone, all unset, and no pattern.
+    pub fn matches(alloc: Global, group_info: GroupInfo) -> Result<Captures, Refused>
+        ensures { IfOk result (λ made. made ≡ record {
+          groups = group_info;
+          pattern = None;
+          slots = replicate (2 * length group_info) None;
+        }) }
+    {
+        let slots = vec![in alloc; None; group_info.implicit_slot_len()]?;
+        Ok(Captures {
+            group_info,
+            pattern: None,
+            slots,
+        })
+    }
+
+    /// Captures with no slot, and no pattern.
+    pub fn empty(alloc: Global, group_info: GroupInfo) -> Result<Captures, Refused>
+        ensures { IfOk result (λ made. made ≡ record { groups = group_info; pattern = None; slots = [] }) }
+    {
+        Ok(Captures {
+            group_info,
+            pattern: None,
+            slots: Vec::new(alloc),
         })
     }
 
@@ -101,5 +129,33 @@ impl Captures {
         ensures { option_map found_of result ≡ match_of self.now.pattern self.now.slots }
     {
         Match::from_slots(self.pattern?, &self.slots)
+    }
+
+    /// Where the group of the pattern that is set took part, by the rule of [`Match::from_slots`] at the
+    /// group's two slots. `None` also where no pattern is set or it has no such group.
+    pub fn get_group(&self, index: usize) -> Option<Span>
+        ensures { result ≡ group_span self.now index }
+    {
+        let slot = self.group_info.slot(self.pattern?, index)?;
+        span_in(&self.slots, slot)
+    }
+
+    /// Where the first group of this name took part, as [`Captures::get_group`] says.
+    pub fn get_group_by_name(&self, name: &str) -> Option<Span>
+        ensures { result ≡ named_span self.now name.now }
+    {
+        let index = self.group_info.to_index(self.pattern?, name)?;
+        self.get_group(index)
+    }
+
+    /// Equal captures.
+    pub fn clone(&self) -> Result<Captures, Refused>
+        ensures { IfOk result (λ copy. copy ≡ self.now) }
+    {
+        Ok(Captures {
+            group_info: self.group_info.clone()?,
+            pattern: self.pattern,
+            slots: self.slots.clone()?,
+        })
     }
 }

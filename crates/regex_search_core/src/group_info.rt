@@ -1,6 +1,6 @@
-ghost use Rattle.std.specs.Prelude.{◌≡◌, ◌+◌, ◌*◌, ◌<◌, ◌≤◌, length, take, sum_by, IfOk, IfSome};
+ghost use Rattle.std.specs.Prelude.{◌≡◌, ◌+◌, ◌*◌, ◌<◌, ◌≤◌, length, map, take, sum_by, position, option_map, string_bytes, IfOk, IfSome};
 ghost use Rattle.std.specs.Option.{SomeIff};
-ghost use Rattle.regex_search_core.specs.Groups.{names_of, slot_count, slot_at, groups_at};
+ghost use Rattle.regex_search_core.specs.Groups.{names_of, slot_count, slot_at, groups_at, group_named, is_named};
 ghost use Rattle.regex_search_core.specs.Patterns.{number_of};
 
 use crate::primitives::PatternID;
@@ -87,6 +87,15 @@ impl GroupInfo {
         Some(explicit_start(&self.names, index) + (group - 1) * 2)
     }
 
+    /// The pattern's first group of this name. `None` for an unknown pattern, or where no group has the
+    /// name. Explicit groups count from 1, since group 0 has no name here.
+    pub fn to_index(&self, pattern: PatternID, name: &str) -> Option<usize>
+        ensures { result ≡ group_named self.now (number_of pattern) name.now }
+    {
+        let place = place_named(self.names.get(pattern.as_usize())?, name)?;
+        Some(place + 1)
+    }
+
     /// Equal groups.
     pub fn clone(&self) -> Result<GroupInfo, Refused>
         ensures { IfOk result (λ copy. copy ≡ self.now) }
@@ -95,6 +104,23 @@ impl GroupInfo {
             names: self.names.clone()?,
             slot_len: self.slot_len,
         })
+    }
+}
+
+/// The first place of a group of this name.
+fn place_named(groups: &[Option<String>], name: &str) -> Option<usize>
+    ensures { result ≡ position (is_named name.now) (map (option_map string_bytes) groups.now) }
+{
+    groups.iter().position(|group| is_named(group, name))
+}
+
+/// Whether the group has this name.
+fn is_named(group: &Option<String>, name: &str) -> bool
+    ensures { result ≡ is_named name.now (option_map string_bytes group.now) }
+{
+    match group {
+        Some(own) => own.as_str() == name,
+        None => false,
     }
 }
 

@@ -13,10 +13,12 @@ mod primitives;
 mod refused;
 mod search;
 mod slots;
+#[cfg(test)]
+mod tests;
 
 pub use captures::Captures;
 pub use group_info::GroupInfo;
-pub use pattern_set::PatternSet;
+pub use pattern_set::{PatternSet, PatternSetIter};
 pub use primitives::{NonMaxUsize, PatternID, StateID};
 pub use refused::Refused;
 pub use search::{Anchored, HalfMatch, Input, Match, MatchError, MatchKind, Span};

@@ -1,5 +1,5 @@
 ghost use Rattle.std.specs.Prelude.{◌≡◌, ◌+◌, ◌<◌, ◌↔◌, List, Bool, Some, None, true, false, not, length, replicate, count_by, if◌then◌else◌, nat_lt, slice_set, slice_index_or, IfOk, IsTrue};
-ghost use Rattle.regex_search_core.specs.PatternSets.{with_pattern, size_of_set};
+ghost use Rattle.regex_search_core.specs.PatternSets.{with_pattern, size_of_set, AreNumbers};
 ghost use Rattle.regex_search_core.specs.Patterns.{number_of};
 
 use crate::primitives::PatternID;
@@ -17,17 +17,22 @@ pub struct PatternSet {
 }
 
 impl Model for PatternSet {
-    ghost use Rattle.std.specs.Prelude.{◌≡◌, List, Bool};
-    ghost use Rattle.regex_search_core.specs.PatternSets.{size_of_set};
+    ghost use Rattle.std.specs.Prelude.{List, Bool};
+    ghost use Rattle.regex_search_core.specs.PatternSets.{IsPatternSet};
 
     ghost Value = { List Bool };
 
     ghost view = { λ s. s.which.items };
 
-    ghost invariant = { λ s. s.len ≡ size_of_set s.which.items };
+    ghost invariant = { λ s. IsPatternSet s.len s.which.items };
 }
 
 impl PatternSet {
+    ghost use Rattle.std.specs.Prelude.{ℕ, Contains};
+    ghost use Rattle.std.specs.List.Sorted.{IsStrictlyIncreasing};
+    ghost use Rattle.regex_search_core.specs.PatternSets.{patterns_of};
+    ghost use Rattle.regex_search_core.specs.PatternSetIters.{patterns_left};
+
     /// The empty set of this capacity.
     pub fn new(alloc: Global, capacity: usize) -> Result<PatternSet, Refused>
         ensures { IfOk result (λ made. made ≡ replicate capacity false) }
@@ -89,5 +94,50 @@ impl PatternSet {
         ensures { IsTrue result ↔ (size_of_set self.now ≡ length self.now) }
     {
         self.len == self.which.len()
+    }
+
+    /// The patterns in the set, from the least number on.
+    #[tactic(auto, using(crate::proofs::PatternSetLemmas::patterns_of_rise, crate::proofs::PatternSetLemmas::patterns_of_contain))]
+    pub fn iter(&self) -> PatternSetIter<'_>
+        ensures all { patterns_left result ≡ patterns_of self.now }
+        ensures ascending { IsStrictlyIncreasing (patterns_of self.now) }
+        ensures members { (p : ℕ) → Contains (patterns_of self.now) p ↔ (slice_index_or self.now p false ≡ true) }
+    {
+        PatternSetIter {
+            which: &self.which,
+            next: 0,
+        }
+    }
+}
+
+/// The patterns of a set that are still to come, from the least number on.
+///
+/// A contract sees their numbers as `patterns_left`.
+#[derive(Debug, Drop)]
+pub struct PatternSetIter<'a> {
+    which: &'a [bool],
+    next: usize,
+    ghost numbered: { AreNumbers which.now },
+}
+
+impl<'a> Iterator for PatternSetIter<'a> {
+    ghost use Rattle.std.specs.Iterator.{YieldsFirstBy, item_count};
+    ghost use Rattle.regex_search_core.specs.PatternSetIters.{patterns_left};
+
+    type Item = PatternID;
+
+    ghost next_gives = { YieldsFirstBy number_of patterns_left };
+
+    ghost remaining = { item_count patterns_left };
+
+    fn next(&mut self) -> Option<PatternID> {
+        'patterns: while self.next < self.which.len() {
+            let index = self.next;
+            self.next += 1;
+            if self.which[index] {
+                return PatternID::new(index);
+            }
+        }
+        None
     }
 }

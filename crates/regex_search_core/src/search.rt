@@ -33,11 +33,11 @@ pub enum Anchored {
 }
 
 impl Anchored {
-    ghost use Rattle.regex_search_core.specs.Search.{IsAnchored};
+    ghost use Rattle.regex_search_core.specs.Search.{is_anchored};
 
     /// Whether matches are bound to the span's start: not for `No` alone.
     pub fn is_anchored(&self) -> bool
-        ensures { IsTrue result ↔ IsAnchored self.now }
+        ensures { result ≡ is_anchored self.now }
     {
         !matches!(self, Anchored::No)
     }

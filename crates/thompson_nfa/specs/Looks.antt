@@ -1,7 +1,8 @@
 -- where each assertion holds
 use Rattle.std.specs.Prelude.{ℕ, ◌-◌, Bool, not, ◌&&◌, ◌||◌, ◌==◌, nat_lt, nat_le, List, length, slice_index, if◌then◌else◌}
+use Rattle.thompson_nfa.specs.Characters.{char_before, char_after, is_some_word}
 use Rattle.thompson_nfa.specs.declared.look.Look.{Look}
-use Rattle.thompson_nfa.specs.declared.look.Look.TheVariants.{Start, End, WordAscii, WordAsciiNegate}
+use Rattle.thompson_nfa.specs.declared.look.Look.TheVariants.{Start, End, WordAscii, WordAsciiNegate, WordUnicode}
 
 -- a byte of 0-9, A-Z, `_`, a-z
 abbrev pub is_word_byte : ℕ → Bool
@@ -26,3 +27,4 @@ look_holds Start haystack at = at == 0
 look_holds End haystack at = at == length haystack
 look_holds WordAscii haystack at = differ (is_word_before haystack at) (is_word_after haystack at)
 look_holds WordAsciiNegate haystack at = not (differ (is_word_before haystack at) (is_word_after haystack at))
+look_holds WordUnicode haystack at = differ (is_some_word (char_before haystack at)) (is_some_word (char_after haystack at))

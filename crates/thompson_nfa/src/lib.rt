@@ -6,9 +6,12 @@
 #![tactic(auto)]
 
 mod bounds;
+mod characters;
 mod look;
 mod nfa;
 mod state;
+#[cfg(test)]
+mod tests;
 
 pub use look::{Look, look_matches};
 pub use nfa::{BuildError, NFA};

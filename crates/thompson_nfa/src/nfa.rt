@@ -1,5 +1,5 @@
-ghost use Rattle.std.specs.Prelude.{◌≡◌, ◌<◌, ◌↔◌, length, map, Some, IsTrue, IfSome, IfOk, IsOkUnless, slice_get};
-ghost use Rattle.regex_search_core.specs.Groups.{slot_count};
+ghost use Rattle.std.specs.Prelude.{◌≡◌, ◌<◌, ◌≤◌, ◌↔◌, length, map, Some, IsTrue, IfSome, IfOk, IsOkUnless, slice_get};
+ghost use Rattle.regex_search_core.specs.Groups.{names_of, slot_count};
 ghost use Rattle.regex_search_core.specs.Patterns.{number_of};
 ghost use Rattle.thompson_nfa.specs.Automaton.{Automaton, IsAutomaton, LeadsBelow, SlotBelow, PatternBelow, node_of};
 
@@ -92,6 +92,7 @@ impl Model for NFA {
 
 impl NFA {
     ghost use Rattle.thompson_nfa.specs.Built.{IsBuilt};
+    ghost use Rattle.thompson_nfa.specs.Simple.{always, never};
 
     /// The NFA of these states; a state's number is its place. `anchored` is where a search starts
     /// that is bound to its start, and `unanchored` where any other does; `patterns` has the start of
@@ -145,6 +146,43 @@ impl NFA {
             has_empty,
             utf8,
         })
+    }
+
+    /// The NFA of one pattern, the empty one: it matches at each position, and its match has no bytes.
+    /// It has no explicit groups, `has_empty` is true, and it is not in UTF-8 mode. The error is
+    /// `Memory` alone.
+    pub fn always_match(alloc: Global) -> Result<NFA, BuildError>
+        ensures made { IfOk result (λ made. made ≡ always) }
+        ensures memory { IsOkUnless result BuildError.Memory }
+    {
+        let start = numbered(0);
+        let states = vec![in alloc;
+            State::Capture {
+                next: numbered(1),
+                slot: 0
+            },
+            State::Capture {
+                next: numbered(2),
+                slot: 1
+            },
+            State::Match {
+                pattern_id: first_pattern()
+            },
+        ]?;
+        let patterns = vec![in alloc; start]?;
+        let groups = groups_named(vec![in alloc; Vec::new(alloc)]?);
+        NFA::from_states(states, start, start, patterns, groups, true, false)
+    }
+
+    /// The NFA of no pattern, which matches nothing. Both flags are false. The error is `Memory` alone.
+    pub fn never_match(alloc: Global) -> Result<NFA, BuildError>
+        ensures made { IfOk result (λ made. made ≡ never) }
+        ensures memory { IsOkUnless result BuildError.Memory }
+    {
+        let start = numbered(0);
+        let states = vec![in alloc; State::Fail]?;
+        let groups = groups_named(Vec::new(alloc));
+        NFA::from_states(states, start, start, Vec::new(alloc), groups, false, false)
     }
 
     /// The states, each at the place of its number.
@@ -246,6 +284,29 @@ impl NFA {
     {
         &self.groups
     }
+}
+
+/// The number of a state.
+fn numbered(number: usize) -> StateID
+    requires { number ≤ 2147483646 }
+    ensures { result ≡ number }
+{
+    StateID::new(number).unwrap()
+}
+
+/// The pattern 0.
+fn first_pattern() -> PatternID
+    ensures { number_of result ≡ 0 }
+{
+    PatternID::new(0).unwrap()
+}
+
+/// The groups of these names.
+fn groups_named(names: Vec<Vec<Option<String>>>) -> GroupInfo
+    requires { slot_count (names_of names.items) ≤ 2147483646 }
+    ensures { result ≡ names_of names.items }
+{
+    GroupInfo::new(names).unwrap()
 }
 
 /// Equal states.

@@ -1,10 +1,11 @@
-ghost use Rattle.std.specs.Prelude.{◌≡◌};
+ghost use Rattle.std.specs.Prelude.{◌≡◌, IfOk, IsOkUnless};
 
 use crate::backtrack::engine::BoundedBacktracker;
 use crate::backtrack::frame::Frame;
 use crate::backtrack::visited::Visited;
 use crate::counter::Counter;
-use regex_search_core::NonMaxUsize;
+use crate::error::SearchError;
+use regex_search_core::{NonMaxUsize, Refused};
 use std::alloc::Global;
 use std::marker::Model;
 
@@ -46,6 +47,25 @@ impl Cache {
         ensures { self.new ≡ self.old }
     {
         self.visited.reset();
+    }
+
+    /// A cache with the same marks and counts. The error is `Memory` alone.
+    pub fn clone(&self) -> Result<Cache, SearchError>
+        ensures copy { IfOk result (λ copy. copy ≡ self.now) }
+        ensures memory { IsOkUnless result SearchError.Memory }
+    {
+        Ok(self.copied()?)
+    }
+
+    fn copied(&self) -> Result<Cache, Refused>
+        ensures { IfOk result (λ copy. copy ≡ self.now) }
+    {
+        Ok(Cache {
+            stack: self.stack.clone()?,
+            visited: self.visited.clone()?,
+            slots: self.slots.clone()?,
+            scans: self.scans.copy(),
+        })
     }
 
     /// The bytes that the cache's collections hold: 24 for a frame of the stack, 8 for a block of marks, 8 for a slot.

@@ -1,8 +1,10 @@
-ghost use Rattle.std.specs.Prelude.{◌≡◌, ◌↔◌, ◌⊎◌, ◌+◌, ◌*◌, ◌<◌, ◌≤◌, ◌^◌, None, Ok, length, vec_len, replicate, option_map, IfOk, OnOk, IfErr, OnErr, IsErrOf, IsTrue, false};
+ghost use Rattle.std.specs.Prelude.{◌≡◌, ◌↔◌, ◌⊎◌, ◌+◌, ◌*◌, ◌<◌, ◌≤◌, ◌^◌, None, Ok, length, vec_len, replicate, option_map, IfOk, OnOk, IfErr, OnErr, IsErrOf, IsOkUnless, IsTrue, false};
 ghost use Rattle.regex_search_core.specs.Search.{search_of};
+ghost use Rattle.regex_search_core.specs.Groups.{slot_count};
 ghost use Rattle.regex_search_core.specs.Patterns.{number_of};
 ghost use Rattle.regex_search_core.specs.Found.{found_of};
 ghost use Rattle.regex_search_core.specs.declared.search.MatchKind.TheVariants.{LeftmostFirst};
+ghost use Rattle.thompson_nfa.specs.Simple.{always, never};
 ghost use Rattle.nfa_search_base.specs.Paths.{span_len, turn_weight, scan_limit, IsAnswer, IsMatchAnswer, IsFoundAnswer, IsWork, IsWithinScans};
 ghost use Rattle.nfa_engines.specs.Backtrack.{IsTooLong, capacity_of, rounded_bits, max_haystack_len_of, min_capacity_of};
 
@@ -10,7 +12,7 @@ use crate::backtrack::cache::Cache;
 use crate::backtrack::config::{Builder, Config};
 use crate::backtrack::search::{search, unset};
 use crate::error::SearchError;
-use regex_search_core::{Input, Match, NonMaxUsize, PatternID, Refused};
+use regex_search_core::{Captures, Input, Match, NonMaxUsize, PatternID, Refused};
 use std::alloc::Global;
 use std::marker::Model;
 use thompson_nfa::{BuildError, NFA};
@@ -73,6 +75,23 @@ impl BoundedBacktracker {
         Builder::new().build_from_nfa(nfa)
     }
 
+    /// A backtracker of the NFA that matches the empty text at each position, with the default configuration. The error
+    /// is `Memory` alone.
+    pub fn always_match(alloc: Global) -> Result<BoundedBacktracker, BuildError>
+        ensures made { IfOk result (λ made. made ≡ record { nfa = always; visited_capacity = None }) }
+        ensures memory { IsOkUnless result BuildError.Memory }
+    {
+        BoundedBacktracker::new_from_nfa(NFA::always_match(alloc)?)
+    }
+
+    /// A backtracker of the NFA that matches nothing, with the default configuration. The error is `Memory` alone.
+    pub fn never_match(alloc: Global) -> Result<BoundedBacktracker, BuildError>
+        ensures made { IfOk result (λ made. made ≡ record { nfa = never; visited_capacity = None }) }
+        ensures memory { IsOkUnless result BuildError.Memory }
+    {
+        BoundedBacktracker::new_from_nfa(NFA::never_match(alloc)?)
+    }
+
     /// A configuration with nothing set.
     pub fn config() -> Config
         ensures { result ≡ None }
@@ -92,6 +111,19 @@ impl BoundedBacktracker {
         ensures { result ≡ record { scans = 0; turns = 0 } }
     {
         Cache::new(alloc, self)
+    }
+
+    /// Captures of all groups of the NFA, with no pattern and no slot set. The error is `Memory` alone.
+    pub fn create_captures(&self, alloc: Global) -> Result<Captures, SearchError>
+        ensures made { IfOk result (λ made. made ≡ record {
+          groups = self.now.nfa.groups;
+          pattern = None;
+          slots = replicate (slot_count self.now.nfa.groups) None;
+        }) }
+        ensures memory { IsOkUnless result SearchError.Memory }
+    {
+        let groups = self.nfa.group_info().clone()?;
+        Ok(Captures::all(alloc, groups)?)
     }
 
     /// Drops all marks of the cache. A search needs no reset before it.
@@ -120,6 +152,20 @@ impl BoundedBacktracker {
         ensures { result.now ≡ self.now.nfa }
     {
         &self.nfa
+    }
+
+    /// An equal backtracker. The error is `Memory` alone.
+    pub fn clone(&self) -> Result<BoundedBacktracker, SearchError>
+        ensures copy { IfOk result (λ copy. copy ≡ self.now) }
+        ensures memory { IsOkUnless result SearchError.Memory }
+    {
+        let Ok(nfa) = self.nfa.clone() else {
+            return Err(SearchError::Memory);
+        };
+        Ok(BoundedBacktracker {
+            config: self.config,
+            nfa,
+        })
     }
 
     /// How many pairs of a state and a position a search may mark.
@@ -237,11 +283,7 @@ impl BoundedBacktracker {
     /// Whether a search finds a match.
     ///
     /// Errors are those of [`BoundedBacktracker::try_search_slots`].
-    pub fn try_is_match<'h>(
-        &self,
-        cache: &mut Cache,
-        input: Input<'h>,
-    ) -> Result<bool, SearchError>
+    pub fn try_is_match<'h>(&self, cache: &mut Cache, input: Input<'h>) -> Result<bool, SearchError>
         ensures answer { IfOk result (λ found. IsFoundAnswer self.now.nfa LeftmostFirst false (search_of input.entry) found) }
 
         ensures too_long { IsErrOf result (SearchError.HaystackTooLong (span_len (search_of input.entry))) ↔ IsTooLong self.now (search_of input.entry) }

@@ -1,7 +1,7 @@
 ghost use Rattle.std.specs.Prelude.{◌≡◌, ℕ, ◌+◌, ◌-◌, ◌*◌, ◌^◌, ◌<◌, ◌≤◌, [], None, Some, true, false, length, replicate, IfOk, IfSome, IfNone, OnErr};
-ghost use Rattle.regex_search_core.specs.Search.{search_of};
+ghost use Rattle.regex_search_core.specs.Search.{search_of, is_anchored};
 ghost use Rattle.regex_search_core.specs.declared.search.MatchKind.TheVariants.{LeftmostFirst};
-ghost use Rattle.nfa_search_base.specs.Paths.{span_len, start_state, starts, pairs_from, is_anchored, is_utf8_empty, scan_limit, IsWithinScans};
+ghost use Rattle.nfa_search_base.specs.Paths.{span_len, start_state, starts, pairs_from, is_utf8_empty, scan_limit, IsWithinScans};
 ghost use Rattle.nfa_engines.specs.Walk.{HasRoom, Scans, Searched, scan_turns};
 
 use crate::backtrack::frame::{Frame, Place};

@@ -1,4 +1,4 @@
-ghost use Rattle.std.specs.Prelude.{◌≡◌, ℕ, ◌+◌, ◌<◌, ◌≤◌, [], true, false, length, replicate, slice_index, slice_index_or, slice_set, OnOk};
+ghost use Rattle.std.specs.Prelude.{◌≡◌, ℕ, ◌+◌, ◌<◌, ◌≤◌, [], true, false, length, replicate, slice_index, slice_index_or, slice_set, IfOk, OnOk};
 
 use crate::counter::Counter;
 use regex_search_core::Refused;
@@ -40,6 +40,17 @@ impl Visited {
             used: 0,
             turns: Counter::new(),
         }
+    }
+
+    /// The same marks and count.
+    pub fn clone(&self) -> Result<Visited, Refused>
+        ensures { IfOk result (λ copy. copy ≡ self.now) }
+    {
+        Ok(Visited {
+            blocks: self.blocks.clone()?,
+            used: self.used,
+            turns: self.turns.copy(),
+        })
     }
 
     /// How many blocks there are.

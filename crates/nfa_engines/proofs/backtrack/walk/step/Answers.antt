@@ -136,9 +136,10 @@ returns-in_ok-put_off-in-Union-clause-goes c =
     let below = rw c.in-Union.is at c.state.ensures.leads in
     let first = sym (rw c.deref-in-Union.ensures.value at c.in-Some.ensures.value) in
     let split = first-drop c.in-Union.alternates.items c.in-Some.first.now first in
-    let state : c.in-Some.first.now < length c.args.nfa.now.states = (rw split at below) 0 0 (omega arith) in
-    (record { state = state; from = c.requires.place.from; to = c.requires.place.to },
-     λ work. rw (c.in_ok-put_off-in-Union.ensures, c.deref-in-Union-2.ensures.value) (Goes-union t c.in-Union.alternates.items is c.args.slots.now _ first c.args.stack.now.items work))
+    let state : c.in-Some.first.now < length c.args.nfa.now.states = (rw split at below) 0 0 (omega arith) in (
+      record { state = state; from = c.requires.place.from; to = c.requires.place.to },
+      λ work. rw (c.in_ok-put_off-in-Union.ensures, c.deref-in-Union-2.ensures.value) (Goes-union t c.in-Union.alternates.items is c.args.slots.now _ first c.args.stack.now.items work),
+    )
 
 pub returns-in_ok-push-in-BinaryUnion-clause-paid : goal.returns-in_ok-push-in-BinaryUnion-clause-paid
 returns-in_ok-push-in-BinaryUnion-clause-paid c =
@@ -155,9 +156,10 @@ returns-in_ok-push-in-BinaryUnion-clause-goes c =
     let same = bit_of-place c.args.nfa.now (search_of c.args.input.now) c.args.place c.start.result c.states.result.now c.as_usize.result c.start.ensures c.states.ensures.nodes c.as_usize.ensures.value in
     let t = Taken-place c.args.nfa.now (search_of c.args.input.now) c.args.place c.args.visited.now c.insert.new.self _ same c.requires.place c.requires.room c.insert.ensures.turns (c.insert.ensures.fresh c.if-not-insert.false) in
     let is = rw c.in-BinaryUnion.is at c.state.ensures.node in
-    let below = rw c.in-BinaryUnion.is at c.state.ensures.leads in
-    (record { state = below.0; from = c.requires.place.from; to = c.requires.place.to },
-     λ work. rw c.in_ok-push-in-BinaryUnion.ensures.items (Goes-both t c.in-BinaryUnion.alt1 c.in-BinaryUnion.alt2 is c.args.slots.now c.args.stack.now.items work))
+    let below = rw c.in-BinaryUnion.is at c.state.ensures.leads in (
+      record { state = below.0; from = c.requires.place.from; to = c.requires.place.to },
+      λ work. rw c.in_ok-push-in-BinaryUnion.ensures.items (Goes-both t c.in-BinaryUnion.alt1 c.in-BinaryUnion.alt2 is c.args.slots.now c.args.stack.now.items work),
+    )
 
 pub returns-after-slot-slots-clause-paid : goal.returns-after-slot-slots-clause-paid
 returns-after-slot-slots-clause-paid c =
@@ -178,15 +180,17 @@ returns-after-slot-slots-clause-goes c =
     let same = bit_of-place c.args.nfa.now (search_of c.args.input.now) c.args.place c.start.result c.states.result.now c.as_usize.result c.start.ensures c.states.ensures.nodes c.as_usize.ensures.value in
     let t = Taken-place c.args.nfa.now (search_of c.args.input.now) c.args.place c.args.visited.now c.insert.new.self _ same c.requires.place c.requires.room c.insert.ensures.turns (c.insert.ensures.fresh c.if-not-insert.false) in
     let is = rw c.in-Capture.is at c.state.ensures.node in
-    let below = rw c.in-Capture.is at c.state.ensures.leads in
-    (record { state = below; from = c.requires.place.from; to = c.requires.place.to }, λ work.
-    elim c.if-slot-slots.branch [
-      | then-slot-slots+in_ok-save-in-Capture w ↦
-          rw (w.stack-is, w.slots-is, w.in_ok-save-in-Capture.ensures.stack, w.in_ok-save-in-Capture.ensures.slots)
-          (Goes-write t c.in-Capture.next c.in-Capture.slot is c.args.slots.now c.args.stack.now.items work)
-      | else-slot-slots w ↦
-          rw (w.stack-is, w.slots-is) (Goes-unkept t c.in-Capture.next c.in-Capture.slot is c.args.slots.now c.args.stack.now.items work w.if-slot-slots.false)
-    ])
+    let below = rw c.in-Capture.is at c.state.ensures.leads in (
+      record { state = below; from = c.requires.place.from; to = c.requires.place.to },
+      λ work.
+          elim c.if-slot-slots.branch [
+            | then-slot-slots+in_ok-save-in-Capture w ↦
+                rw (w.stack-is, w.slots-is, w.in_ok-save-in-Capture.ensures.stack, w.in_ok-save-in-Capture.ensures.slots)
+                (Goes-write t c.in-Capture.next c.in-Capture.slot is c.args.slots.now c.args.stack.now.items work)
+            | else-slot-slots w ↦
+                rw (w.stack-is, w.slots-is) (Goes-unkept t c.in-Capture.next c.in-Capture.slot is c.args.slots.now c.args.stack.now.items work w.if-slot-slots.false)
+          ],
+    )
 
 pub returns-in-Fail-clause-paid : goal.returns-in-Fail-clause-paid
 returns-in-Fail-clause-paid c =

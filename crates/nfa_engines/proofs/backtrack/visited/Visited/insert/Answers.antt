@@ -29,13 +29,15 @@ invariant_of-self-then-self-index c =
 pub returns-then-self-index-clause-fresh : goal.returns-then-self-index-clause-fresh
 returns-then-self-index-clause-fresh c = λ _.
     let same = ap (λ (m : Marks). m.bits) c.self.view_is in
-    let inside : c.args.bit < length (bits_of c.self.inside.blocks.items) = rw same c.requires in
-    (rw (← same) (bit-clear c.self.inside.blocks.items c.args.bit inside _ c.index-block.ensures c.if-block-place-ne0.false true),
-     rw (← same) (bits_of-mark c.self.inside.blocks.items c.args.bit inside _ c.index-block.ensures))
+    let inside : c.args.bit < length (bits_of c.self.inside.blocks.items) = rw same c.requires in (
+      rw (← same) (bit-clear c.self.inside.blocks.items c.args.bit inside _ c.index-block.ensures c.if-block-place-ne0.false true),
+      rw (← same) (bits_of-mark c.self.inside.blocks.items c.args.bit inside _ c.index-block.ensures),
+    )
 
 pub returns-else-self-index-clause-fresh : goal.returns-else-self-index-clause-fresh
 returns-else-self-index-clause-fresh c = λ _.
     let same = ap (λ (m : Marks). m.bits) c.self.view_is in
-    let inside : c.args.bit < length (bits_of c.self.inside.blocks.items) = rw same c.requires in
-    (rw (← same) (bit-clear c.self.inside.blocks.items c.args.bit inside _ c.index-block.ensures c.if-block-place-ne0.false true),
-     rw (← same) (bits_of-mark c.self.inside.blocks.items c.args.bit inside _ c.index-block.ensures))
+    let inside : c.args.bit < length (bits_of c.self.inside.blocks.items) = rw same c.requires in (
+      rw (← same) (bit-clear c.self.inside.blocks.items c.args.bit inside _ c.index-block.ensures c.if-block-place-ne0.false true),
+      rw (← same) (bits_of-mark c.self.inside.blocks.items c.args.bit inside _ c.index-block.ensures),
+    )

@@ -1,0 +1,19 @@
+//! Searches a text with a sample NFA and prints the match.
+#![tactic(auto)]
+
+mod run;
+#[cfg(test)]
+mod tests;
+
+use std::process::ExitCode;
+use std::{env, io};
+
+fn main(rt: HostRuntime) -> io::Result<ExitCode> {
+    let arguments: Vec<String> = env::args(&rt)?.skip(1).collect(rt.alloc())?;
+    let words: Vec<&str> = arguments
+        .iter()
+        .map(|word| word.as_str())
+        .collect(rt.alloc())?;
+    let status = run::run(rt.alloc(), &words, &mut io::writer(&rt));
+    Ok(ExitCode::from(status))
+}

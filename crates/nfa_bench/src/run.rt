@@ -1,0 +1,144 @@
+ghost use Rattle.std.specs.Prelude.{◌≤◌, IfOk};
+
+use nfa_engines::backtrack::BoundedBacktracker;
+use nfa_engines::error::SearchError;
+use nfa_samples::sample;
+use regex_search_core::{Input, Match};
+use std::alloc::Global;
+use std::io::Write;
+use std::{fmt, io};
+use thompson_nfa::{BuildError, NFA};
+
+/// The search failed, was refused, or its answer was not written.
+const FAILED: u8 = 1;
+
+/// The words ask for nothing that the program has.
+const MISUSED: u8 = 2;
+
+/// Searches as the words after the program's name ask, prints the match, if any, and then `end`.
+/// Where that is not done, prints one line that says why.
+///
+/// Answers the status to end with: 0; 1 for a search that was refused or a write that failed, after
+/// which nothing more is written; 2 for words that ask for nothing that the program has.
+pub fn run<W: Write>(alloc: Global, words: &[&str], out: &mut W) -> u8
+    ensures { result ≤ 2 }
+{
+    print(alloc, words, out).unwrap_or(FAILED)
+}
+
+fn print<W: Write>(alloc: Global, words: &[&str], out: &mut W) -> io::Result<u8>
+    ensures { IfOk result (λ status. status ≤ 2) }
+{
+    match print_matches(alloc, words, out) {
+        Ok(()) => {
+            out.write_all(b"end\n")?;
+            Ok(0)
+        }
+        Err(Stop::Write(error)) => Err(error),
+        Err(stop) => {
+            writeln!(out, "{stop}")?;
+            Ok(stop.status())
+        }
+    }
+}
+
+fn print_matches<W: Write>(alloc: Global, words: &[&str], out: &mut W) -> Result<(), Stop> {
+    let [engine, name, haystack] = words else {
+        return Err(Stop::Usage);
+    };
+    let engine = Engine::from_word(engine).ok_or(Stop::Usage)?;
+    let nfa = sample(alloc, name)?.ok_or(Stop::UnknownName)?;
+    let input = Input::new(haystack.as_bytes());
+    match engine {
+        Engine::Backtracker => print_backtracked(alloc, nfa, input, out),
+    }
+}
+
+fn print_backtracked<W: Write>(
+    alloc: Global,
+    nfa: NFA,
+    input: Input<'_>,
+    out: &mut W,
+) -> Result<(), Stop> {
+    let engine = BoundedBacktracker::new_from_nfa(nfa)?;
+    let mut cache = engine.create_cache(alloc);
+    if let Some(found) = engine.try_find(&mut cache, input)? {
+        print_match(out, found)?;
+    }
+    Ok(())
+}
+
+fn print_match<W: Write>(out: &mut W, found: Match) -> io::Result<()> {
+    let pattern = found.pattern().as_usize();
+    writeln!(out, "{pattern} {}..{}", found.start(), found.end())
+}
+
+/// What searches.
+#[derive(Clone, Copy, Debug)]
+enum Engine {
+    Backtracker,
+}
+
+impl Engine {
+    fn from_word(word: &str) -> Option<Engine> {
+        match word {
+            "back" => Some(Engine::Backtracker),
+            _ => None,
+        }
+    }
+}
+
+/// Why the program stops before it is done.
+#[derive(Debug, Drop)]
+enum Stop {
+    Usage,
+    UnknownName,
+    TooLong { len: usize },
+    Memory,
+    Write(io::Error),
+}
+
+impl Stop {
+    fn status(&self) -> u8
+        ensures { result ≤ 2 }
+    {
+        match self {
+            Stop::Usage | Stop::UnknownName => MISUSED,
+            Stop::TooLong { .. } | Stop::Memory | Stop::Write(_) => FAILED,
+        }
+    }
+}
+
+impl fmt::Display for Stop {
+    fn fmt<W: fmt::Write>(&self, f: &mut fmt::Formatter<W>) -> fmt::Result {
+        match self {
+            Stop::Usage => f.write_str("usage: nfa-bench back|pike NAME HAYSTACK"),
+            Stop::UnknownName => f.write_str("unknown name"),
+            Stop::TooLong { len } => write!(f, "haystack too long: {len}"),
+            Stop::Memory => f.write_str("out of memory"),
+            Stop::Write(error) => write!(f, "{error}"),
+        }
+    }
+}
+
+impl From<BuildError> for Stop {
+    fn from(_: BuildError) -> Stop {
+        Stop::Memory
+    }
+}
+
+impl From<SearchError> for Stop {
+    fn from(error: SearchError) -> Stop {
+        match error {
+            SearchError::HaystackTooLong { len } => Stop::TooLong { len },
+            // A search calls no finder but the engine, so no finder fails.
+            SearchError::Memory | SearchError::Finder(_) => Stop::Memory,
+        }
+    }
+}
+
+impl From<io::Error> for Stop {
+    fn from(error: io::Error) -> Stop {
+        Stop::Write(error)
+    }
+}

@@ -1,0 +1,53 @@
+use super::{backtracker, found_text};
+use nfa_engines::backtrack::{BoundedBacktracker, Builder, Cache, Config};
+use nfa_samples::sample;
+use regex_search_core::Input;
+use std::test::Fail;
+
+#[test]
+fn makes_what_it_says(rt: HostRuntime) -> Result<(), Fail> {
+    let alloc = rt.alloc();
+    let nfa = sample(alloc, "ab_b")?.ok_or("unknown name")?;
+    let engine = BoundedBacktracker::new_from_nfa(nfa)?;
+    assert_eq!(rt; engine.pattern_len(), 2);
+    assert_eq!(rt; engine.get_nfa().states().len(), 12);
+    assert_eq!(rt; engine.get_config().get_visited_capacity(), 262144);
+    assert_eq!(rt; engine.max_haystack_len(), 174761);
+    let nfa = sample(alloc, "ab_b")?.ok_or("unknown name")?;
+    let engine = BoundedBacktracker::builder().clone()?.build_from_nfa(nfa)?;
+    assert_eq!(rt; engine.pattern_len(), 2);
+    Ok(())
+}
+
+#[test]
+fn a_cache_holds_memory_from_a_search_to_a_reset(rt: HostRuntime) -> Result<(), Fail> {
+    let alloc = rt.alloc();
+    let engine = backtracker(alloc, "abc_a")?;
+    let mut cache = Cache::new(alloc, &engine);
+    assert_eq!(rt; cache.memory_usage(), 0);
+    for _ in 0..2 {
+        let text = found_text(alloc, &engine, &mut cache, Input::new(b"abc"))?;
+        assert_eq!(rt; text.as_str(), "0 0..3");
+        assert!(rt; cache.memory_usage() > 0);
+        cache.reset(&engine);
+        engine.reset_cache(&mut cache);
+    }
+    Ok(())
+}
+
+#[test]
+fn configurations_are_shown(rt: HostRuntime) -> Result<(), Fail> {
+    let alloc = rt.alloc();
+    let config = BoundedBacktracker::config().visited_capacity(10);
+    for (config, want) in [
+        (config.clone()?, "Config { visited_capacity: Some(10) }"),
+        (Config::default(), "Config { visited_capacity: None }"),
+    ] {
+        assert_eq!(rt; format!(in alloc; "{config:?}")?.as_str(), want);
+    }
+    let mut builder = Builder::new();
+    builder.configure(config);
+    let want = "Builder { config: Config { visited_capacity: Some(10) } }";
+    assert_eq!(rt; format!(in alloc; "{builder:?}")?.as_str(), want);
+    Ok(())
+}

@@ -1,0 +1,125 @@
+use crate::run::run;
+use std::io;
+use std::io::Write;
+use std::test::Fail;
+
+const USAGE: &str = "usage: nfa-bench back|pike NAME HAYSTACK\n";
+
+#[test]
+fn prints_the_match_and_the_end(rt: HostRuntime) -> Result<(), Fail> {
+    let alloc = rt.alloc();
+    for (name, haystack, want) in [
+        ("abc_a", "abc", "0 0..3\nend\n"),
+        ("abc_a", "abcab", "0 0..3\nend\n"),
+        ("abc_a", "xyz", "end\n"),
+        ("a_or_empty", "", "0 0..0\nend\n"),
+        ("a_pair", "a", "end\n"),
+        ("snowman", "a☃b", "0 1..4\nend\n"),
+        ("ab_b", "xb", "1 1..2\nend\n"),
+    ] {
+        let mut out = Vec::new(alloc);
+        let status = run(alloc, &["back", name, haystack], &mut out);
+        assert_eq!(rt; out.as_slice(), want.as_bytes(), "{name} on {haystack}");
+        assert_eq!(rt; status, 0, "{name} on {haystack}");
+    }
+    Ok(())
+}
+
+#[test]
+fn says_why_it_does_not_search(rt: HostRuntime) -> Result<(), Fail> {
+    let alloc = rt.alloc();
+    let words = ["back", "abc_a", "abc", "abc"];
+    for count in [0, 1, 2, 4] {
+        let mut out = Vec::new(alloc);
+        assert_eq!(rt; run(alloc, &words[..count], &mut out), 2, "{count} words");
+        assert_eq!(rt; out.as_slice(), USAGE.as_bytes(), "{count} words");
+    }
+    for (engine, name, want) in [
+        ("both", "abc_a", USAGE),
+        ("both", "nothing", USAGE),
+        ("back", "nothing", "unknown name\n"),
+        ("back", "", "unknown name\n"),
+    ] {
+        let mut out = Vec::new(alloc);
+        assert_eq!(rt;
+            run(alloc, &[engine, name, "x"], &mut out),
+            2,
+            "{engine} {name}"
+        );
+        assert_eq!(rt; out.as_slice(), want.as_bytes(), "{engine} {name}");
+    }
+    Ok(())
+}
+
+#[test]
+fn says_which_length_is_too_long(rt: HostRuntime) -> Result<(), Fail> {
+    let alloc = rt.alloc();
+    for (len, want, status) in [
+        (19971, "end\n", 0),
+        (19972, "haystack too long: 19972\n", 1),
+    ] {
+        let dots = ".".repeat(alloc, len)?;
+        let mut out = Vec::new(alloc);
+        assert_eq!(rt;
+            run(alloc, &["back", "alnum100", dots.as_str()], &mut out),
+            status
+        );
+        assert_eq!(rt; out.as_slice(), want.as_bytes());
+    }
+    Ok(())
+}
+
+// Takes so many writes, and refuses each one after them.
+#[derive(Drop)]
+struct Refusing {
+    written: Vec<u8>,
+    left: usize,
+    refused: usize,
+}
+
+impl Write for Refusing {
+    fn write(&mut self, buf: &[u8]) -> io::Result<usize> {
+        if self.left == 0 {
+            self.refused = self.refused.saturating_add(1);
+            return Err(io::Error::from(io::ErrorKind::BrokenPipe));
+        }
+        self.left -= 1;
+        self.written.extend_from_slice(buf)?;
+        Ok(buf.len())
+    }
+
+    fn flush(&mut self) -> io::Result<()> {
+        Ok(())
+    }
+}
+
+#[test]
+fn writes_nothing_after_a_write_that_failed(rt: HostRuntime) -> Result<(), Fail> {
+    let alloc = rt.alloc();
+    for (name, whole, status) in [
+        ("abc_a", "0 0..3\nend\n", 0),
+        ("nothing", "unknown name\n", 2),
+    ] {
+        let mut taken_all = false;
+        for left in 0..20 {
+            let mut out = Refusing {
+                written: Vec::new(alloc),
+                left,
+                refused: 0,
+            };
+            let ended = run(alloc, &["back", name, "abc"], &mut out);
+            if out.refused == 0 {
+                assert_eq!(rt; out.written.as_slice(), whole.as_bytes());
+                assert_eq!(rt; ended, status);
+                taken_all = true;
+            } else {
+                assert!(rt; out.written.len() < whole.len());
+                assert!(rt; whole.as_bytes().starts_with(&out.written));
+                assert_eq!(rt; out.refused, 1);
+                assert_eq!(rt; ended, 1);
+            }
+        }
+        assert!(rt; taken_all);
+    }
+    Ok(())
+}

@@ -1,0 +1,5 @@
+use Rattle.nfa_search_base.proofs.AnswerLemmas.{scan_answer-unique}
+use Rattle.nfa_engines.proofs.laws.one_scan_answer.Goals as goal
+
+pub returns : goal.returns
+returns c = scan_answer-unique

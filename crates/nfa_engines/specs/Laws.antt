@@ -1,0 +1,31 @@
+-- Laws that users of the searches rely on, over the definitions alone.
+use Rattle.std.specs.Prelude.{◌≡◌, ℕ, ◌⊎◌, Bool, List, Option}
+use Rattle.regex_search_core.specs.Search.{Search}
+use Rattle.regex_search_core.specs.declared.search.MatchKind.{MatchKind}
+use Rattle.thompson_nfa.specs.Automaton.{Automaton}
+use Rattle.nfa_search_base.specs.Graphs.{Pair, PathTo, ComesBefore}
+use Rattle.nfa_search_base.specs.Paths.{edges, starts, IsMatch, IsScanAnswer, IsSearchAnswer}
+
+-- two answers of one scan are one
+abbrev pub OneScanAnswer : Type 0
+OneScanAnswer =
+    (nfa : Automaton) (x : Search) (kind : MatchKind) (earliest : Bool) (r s : Option (List Pair))
+    → IsScanAnswer nfa x kind earliest r → IsScanAnswer nfa x kind earliest s → r ≡ s
+
+-- two answers of one search are one, and so are their restarts
+abbrev pub OneSearchAnswer : Type 0
+OneSearchAnswer =
+    (nfa : Automaton) (x : Search) (kind : MatchKind) (earliest : Bool) (i j : ℕ) (r s : Option (List Pair))
+    → IsSearchAnswer nfa kind earliest x i r → IsSearchAnswer nfa kind earliest x j s → (i ≡ j) × (r ≡ s)
+
+-- of two accepting paths, one comes before the other, or they are one
+abbrev pub PathsAreOrdered : Type 0
+PathsAreOrdered =
+    (nfa : Automaton) (x : Search) (m n : Pair) (p q : List Pair)
+    → PathTo (edges nfa x) (starts nfa x) m p → IsMatch nfa m → PathTo (edges nfa x) (starts nfa x) n q → IsMatch nfa n
+    → (p ≡ q) ⊎ (ComesBefore (edges nfa x) p q ⊎ ComesBefore (edges nfa x) q p)
+
+-- and not both before each other
+abbrev pub PathsAreOrderedOnce : Type 0
+PathsAreOrderedOnce =
+    (nfa : Automaton) (x : Search) (p q : List Pair) → ComesBefore (edges nfa x) p q → ComesBefore (edges nfa x) q p → ⊥

@@ -1,0 +1,69 @@
+-- the skipping of answers that split a character
+use Rattle.std.specs.Prelude.{◌≡◌, ℕ, ◌+◌, ◌-◌, ◌≤◌, nat_le, if◌then◌else◌, List, [], ◌∷◌, Option, None, Some, Result, Ok, Err}
+use Rattle.std.specs.Fn.{Mut}
+use Rattle.std.specs.Borrow.{Bor}
+use Rattle.regex_search_core.specs.Boundary.{IsBoundary}
+use Rattle.regex_search_core.specs.Search.{Search}
+use Rattle.regex_search_core.specs.declared.search.Input.{Input}
+use Rattle.nfa_search_base.specs.Asking.{Asks}
+use Rattle.nfa_search_base.specs.declared.error.SearchError.{SearchError}
+
+-- what the finder answers: a value with its offset, none, or an error
+abbrev pub Placed : Type 0 → Type 0
+Placed T = Result (Option (T × ℕ)) SearchError
+
+-- the answer without the offset
+abbrev pub value_of : {T : Type 0} → Placed T → Result (Option T) SearchError
+value_of (Ok (Some x)) = Ok (Some x.0)
+value_of (Ok None) = Ok None
+value_of (Err e) = Err e
+
+-- the offset lies in the span
+abbrev pub IsInSpan : Search → ℕ → Type 0
+IsInSpan s offset = (s.start ≤ offset) × (offset ≤ s.end)
+
+-- the answer's offset, if there is one, lies in the span
+abbrev pub IsPlacedIn : {T : Type 0} → Search → Placed T → Type 0
+IsPlacedIn s (Ok (Some x)) = IsInSpan s x.1
+IsPlacedIn s (Ok None) = Unit {0}
+IsPlacedIn s (Err e) = Unit {0}
+
+-- the answer is a value whose offset is no edge of a character
+abbrev pub IsSplit : {T : Type 0} → List ℕ → Placed T → Type 0
+IsSplit haystack (Ok (Some x)) = ¬ (IsBoundary haystack x.1)
+IsSplit haystack (Ok None) = ⊥
+IsSplit haystack (Err e) = ⊥
+
+-- the answer is an error, is none, or has its offset on an edge of a character
+abbrev pub IsWhole : {T : Type 0} → List ℕ → Placed T → Type 0
+IsWhole haystack (Ok (Some x)) = IsBoundary haystack x.1
+IsWhole haystack (Ok None) = Unit {0}
+IsWhole haystack (Err e) = Unit {0}
+
+-- the search with its start raised by n
+abbrev pub raised : Search → ℕ → Option Search
+raised s n = Some (record s { start = s.start + n })
+
+-- the search with its end lowered by n, if its end is that much
+abbrev pub lowered : Search → ℕ → Option Search
+lowered s n = if nat_le n s.end then Some (record s { end = s.end - n }) else None
+
+module _ {T F : Type 0} (g : Mut F (Bor Input × Unit {0}) (Placed T)) where
+  -- the finder's answer on this search; where there is no search, none without a call
+  abbrev pub Answers : F → Option Search → Placed T → F → Type 0
+  Answers f (Some s) a f' = Asks g f s a f'
+  Answers f None a f' = (a ≡ Ok None) × (f' ≡ f)
+
+  module _ (haystack : List ℕ) (moved : ℕ → Option Search) where
+    -- `answers` follow r, the one of the search moved by n: each but the last splits a character, and the last does not
+    abbrev pub LeadsTo : ℕ → Placed T → F → List (Placed T) → Placed T → F → Type 0
+    LeadsTo n r f [] last left = IsWhole haystack r × (last ≡ r) × (left ≡ f)
+    LeadsTo n r f (a ∷ answers) last left =
+        IsSplit haystack r × ((f' : F) × Answers f (moved (n + 1)) a f' × LeadsTo (n + 1) a f' answers last left)
+
+    -- from the finder f and the first answer r, the result is the first answer that splits no character
+    pub record SkipsTo (r : Placed T) (f : F) (result : Result (Option T) SearchError) (left : F) : Type 0 where
+      pub answers : List (Placed T)
+      pub last : Placed T
+      pub leads : LeadsTo 0 r f answers last left
+      pub gives : result ≡ value_of last

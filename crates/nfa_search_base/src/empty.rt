@@ -1,0 +1,212 @@
+//! The skipping of empty matches that split a character.
+//!
+//! Where matches are to be UTF-8, a match without bytes that lies inside a character does not
+//! count. A search that found one goes on from one byte further, as often as it takes. The rule is
+//! that of regex-automata's `util::empty`.
+
+ghost use Rattle.std.specs.Prelude.{◌≡◌, Some, None, Ok, true, false};
+ghost use Rattle.regex_search_core.specs.Boundary.{IsBoundary};
+ghost use Rattle.regex_search_core.specs.Search.{search_of, is_anchored};
+ghost use Rattle.nfa_search_base.specs.Asking.{SameButStart, SameButEnd, ServesAlong};
+ghost use Rattle.nfa_search_base.specs.Skipping.{IsInSpan, IsPlacedIn, SkipsTo, raised, lowered};
+
+use crate::asking::ask;
+use crate::error::SearchError;
+use regex_search_core::Input;
+
+/// The first answer whose offset is the edge of a character, as the search moves on.
+///
+/// `init` and `offset` are what a search of `input` found: a value, and the byte offset where the
+/// match lies. If the offset is an edge of a character, the value is the answer. If it is not, the
+/// finder is called on the input with its start raised by 1, then by 2, and so on, until it answers
+/// none, an error, or an offset that is an edge: that answer is handed on. An anchored search is
+/// not moved: the finder is not called, and the answer is the value or none.
+///
+/// The caller owes that `offset` lies in the input's span, and that the finder may be called on the
+/// inputs that differ from this one in their start alone, and answers offsets in their spans.
+pub fn skip_splits_fwd<T: Drop, F>(
+    input: &Input<'_>,
+    init: T,
+    offset: usize,
+    mut find: F,
+) -> Result<Option<T>, SearchError>
+where
+    F: FnMut(&Input<'_>) -> Result<Option<(T, usize)>, SearchError>,
+    requires offset { IsInSpan (search_of input.now) offset }
+    requires finder { is_anchored (search_of input.now).anchored ≡ false → ServesAlong F.FnMut SameButStart IsPlacedIn find (search_of input.now) }
+    ensures anchored_whole { is_anchored (search_of input.now).anchored ≡ true → IsBoundary (search_of input.now).haystack offset → result ≡ Ok (Some init) }
+    ensures anchored_split { is_anchored (search_of input.now).anchored ≡ true → ¬ (IsBoundary (search_of input.now).haystack offset) → result ≡ Ok None }
+    ensures skips { is_anchored (search_of input.now).anchored ≡ false → (left : F) × SkipsTo F.FnMut (search_of input.now).haystack (raised (search_of input.now)) (Ok (Some (init, offset))) find result left }
+{
+    if input.get_anchored().is_anchored() {
+        return Ok(keep_whole(input, init, offset));
+    }
+    skip_forward(*input, init, offset, &mut find)
+}
+
+/// The first answer whose offset is the edge of a character, as the search moves back.
+///
+/// The same as [`skip_splits_fwd`] for a search that goes from right to left: the finder is called
+/// on the input with its end lowered by 1, then by 2, and so on. Where the end is 0 the answer is
+/// none, without a call. An anchored search is not moved.
+///
+/// The caller owes that `offset` lies in the input's span, and that the finder may be called on the
+/// inputs that differ from this one in their end alone, and answers offsets in their spans.
+pub fn skip_splits_rev<T: Drop, F>(
+    input: &Input<'_>,
+    init: T,
+    offset: usize,
+    mut find: F,
+) -> Result<Option<T>, SearchError>
+where
+    F: FnMut(&Input<'_>) -> Result<Option<(T, usize)>, SearchError>,
+    requires offset { IsInSpan (search_of input.now) offset }
+    requires finder { is_anchored (search_of input.now).anchored ≡ false → ServesAlong F.FnMut SameButEnd IsPlacedIn find (search_of input.now) }
+    ensures anchored_whole { is_anchored (search_of input.now).anchored ≡ true → IsBoundary (search_of input.now).haystack offset → result ≡ Ok (Some init) }
+    ensures anchored_split { is_anchored (search_of input.now).anchored ≡ true → ¬ (IsBoundary (search_of input.now).haystack offset) → result ≡ Ok None }
+    ensures skips { is_anchored (search_of input.now).anchored ≡ false → (left : F) × SkipsTo F.FnMut (search_of input.now).haystack (lowered (search_of input.now)) (Ok (Some (init, offset))) find result left }
+{
+    if input.get_anchored().is_anchored() {
+        return Ok(keep_whole(input, init, offset));
+    }
+    skip_backward(*input, init, offset, &mut find)
+}
+
+// The value, if its offset is an edge of a character.
+fn keep_whole<T: Drop>(input: &Input<'_>, value: T, offset: usize) -> Option<T>
+    ensures whole { IsBoundary (search_of input.now).haystack offset → result ≡ Some value }
+    ensures split { ¬ (IsBoundary (search_of input.now).haystack offset) → result ≡ None }
+{
+    if input.is_char_boundary(offset) {
+        Some(value)
+    } else {
+        None
+    }
+}
+
+// The search that is not anchored, with its start going up.
+fn skip_forward<T: Drop, F>(
+    mut input: Input<'_>,
+    init: T,
+    offset: usize,
+    find: &mut F,
+) -> Result<Option<T>, SearchError>
+where
+    F: FnMut(&Input<'_>) -> Result<Option<(T, usize)>, SearchError>,
+    requires offset { IsInSpan (search_of input) offset }
+    requires finder { ServesAlong F.FnMut SameButStart IsPlacedIn find.old (search_of input) }
+    ensures { SkipsTo F.FnMut (search_of input.entry).haystack (raised (search_of input.entry)) (Ok (Some (init, offset))) find.old result find.new }
+{
+    let mut value = init;
+    let mut place = offset;
+    while !input.is_char_boundary(place) {
+        let start = input.start() + 1;
+        input.set_start(start);
+        match ask(find, &input) {
+            Ok(Some((next, at))) => {
+                value = next;
+                place = at;
+            }
+            Ok(None) => return Ok(None),
+            Err(error) => return Err(error),
+        }
+    }
+    Ok(Some(value))
+}
+
+// The search that is not anchored, with its end going down.
+fn skip_backward<T: Drop, F>(
+    mut input: Input<'_>,
+    init: T,
+    offset: usize,
+    find: &mut F,
+) -> Result<Option<T>, SearchError>
+where
+    F: FnMut(&Input<'_>) -> Result<Option<(T, usize)>, SearchError>,
+    requires offset { IsInSpan (search_of input) offset }
+    requires finder { ServesAlong F.FnMut SameButEnd IsPlacedIn find.old (search_of input) }
+    ensures { SkipsTo F.FnMut (search_of input.entry).haystack (lowered (search_of input.entry)) (Ok (Some (init, offset))) find.old result find.new }
+{
+    let mut value = init;
+    let mut place = offset;
+    while !input.is_char_boundary(place) {
+        let end = input.end();
+        if end == 0 {
+            return Ok(None);
+        }
+        input.set_end(end - 1);
+        match ask(find, &input) {
+            Ok(Some((next, at))) => {
+                value = next;
+                place = at;
+            }
+            Ok(None) => return Ok(None),
+            Err(error) => return Err(error),
+        }
+    }
+    Ok(Some(value))
+}
+
+#[cfg(test)]
+mod tests {
+    use super::*;
+    use regex_search_core::{Anchored, MatchError, Span};
+
+    const SNOWMAN: &[u8] = b"\xE2\x98\x83";
+
+    const ERROR: SearchError = SearchError::Finder(MatchError::GaveUp { offset: 7 });
+
+    // The offset of the input's span that is nearest to `place`, with 40 more as its value.
+    fn nearest(input: &Input<'_>, place: usize) -> Result<Option<(usize, usize)>, SearchError>
+        ensures { IsPlacedIn (search_of input.now) result }
+    {
+        if input.is_done() {
+            return Ok(None);
+        }
+        let at = place.max(input.start()).min(input.end());
+        Ok(Some((at.wrapping_add(40), at)))
+    }
+
+    #[test]
+    fn forward(rt: HostRuntime) {
+        for (anchored, fails, want, starts) in [
+            (Anchored::Yes, 9, Ok(None), 0),
+            (Anchored::No, 9, Ok(Some(43)), 123),
+            (Anchored::No, 1, Err(ERROR), 1),
+        ] {
+            let input = Input::new(SNOWMAN).anchored(anchored);
+            let mut seen = 0usize;
+            let found = skip_splits_fwd(&input, 41, 1, |input: &Input<'_>| {
+                seen = seen.wrapping_mul(10).wrapping_add(input.start());
+                if input.start() == fails {
+                    return Err(ERROR);
+                }
+                nearest(input, 0)
+            });
+            assert_eq!(rt; found, want, "starts {starts}");
+            assert_eq!(rt; seen, starts);
+        }
+    }
+
+    #[test]
+    fn backward(rt: HostRuntime) {
+        for (haystack, end, offset, place, fails, want, ends) in [
+            (SNOWMAN, 3, 2, 9, 9, Ok(Some(40)), 210),
+            (SNOWMAN, 3, 2, 1, 1, Err(ERROR), 21),
+            (b"\x80", 0, 0, 9, 9, Ok(None), 0),
+        ] {
+            assert!(rt; offset <= end && end <= haystack.len());
+            let input = Input::new(haystack).span(Span { start: 0, end });
+            let mut seen = 0usize;
+            let found = skip_splits_rev(&input, 42, offset, |input: &Input<'_>| {
+                seen = seen.wrapping_mul(10).wrapping_add(input.end());
+                if input.end() == fails {
+                    return Err(ERROR);
+                }
+                nearest(input, place)
+            });
+            assert_eq!(rt; found, want, "ends {ends}");
+            assert_eq!(rt; seen, ends);
+        }
+    }
+}

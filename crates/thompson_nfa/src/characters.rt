@@ -1,0 +1,120 @@
+ghost use Rattle.std.specs.Prelude.{◌≡◌, ◌≤◌, length, chars};
+ghost use Rattle.thompson_nfa.specs.Characters.{char_of, char_of_len_before, char_of_len_after, char_before, char_after, is_word_char, is_some_word, only};
+
+use unicode::perl::is_word_code;
+
+/// Whether a word character of Unicode ends just before the position.
+pub(crate) fn is_word_char_before(haystack: &[u8], at: usize) -> bool
+    requires { at ≤ length haystack.now }
+    ensures { result ≡ is_some_word (char_before haystack.now at) }
+{
+    match char_before(haystack, at) {
+        Some(c) => is_word_char(c),
+        None => false,
+    }
+}
+
+/// Whether a word character of Unicode begins at the position.
+pub(crate) fn is_word_char_after(haystack: &[u8], at: usize) -> bool
+    requires { at ≤ length haystack.now }
+    ensures { result ≡ is_some_word (char_after haystack.now at) }
+{
+    match char_after(haystack, at) {
+        Some(c) => is_word_char(c),
+        None => false,
+    }
+}
+
+/// Whether the character is of words, by Unicode Technical Standard 18, Annex C.
+#[tactic(auto, using(crate::proofs::WordLemmas::is_word_char_as_classed))]
+fn is_word_char(c: char) -> bool
+    ensures { result ≡ is_word_char c }
+{
+    is_word_code(c as u32)
+}
+
+/// The character whose UTF-8 ends at the position.
+#[tactic(auto, unfolding(crate::specs::Characters::char_before))]
+fn char_before(haystack: &[u8], at: usize) -> Option<char>
+    requires { at ≤ length haystack.now }
+    ensures { result ≡ char_before haystack.now at }
+{
+    if let Some(one) = char_of_len_before(haystack, at, 1) {
+        return Some(one);
+    }
+    if let Some(two) = char_of_len_before(haystack, at, 2) {
+        return Some(two);
+    }
+    if let Some(three) = char_of_len_before(haystack, at, 3) {
+        return Some(three);
+    }
+    char_of_len_before(haystack, at, 4)
+}
+
+/// The character whose UTF-8 begins at the position.
+#[tactic(auto, unfolding(crate::specs::Characters::char_after))]
+fn char_after(haystack: &[u8], at: usize) -> Option<char>
+    requires { at ≤ length haystack.now }
+    ensures { result ≡ char_after haystack.now at }
+{
+    if let Some(one) = char_of_len_after(haystack, at, 1) {
+        return Some(one);
+    }
+    if let Some(two) = char_of_len_after(haystack, at, 2) {
+        return Some(two);
+    }
+    if let Some(three) = char_of_len_after(haystack, at, 3) {
+        return Some(three);
+    }
+    char_of_len_after(haystack, at, 4)
+}
+
+/// The character whose UTF-8 is the `len` bytes just before the position.
+fn char_of_len_before(haystack: &[u8], at: usize, len: usize) -> Option<char>
+    requires { at ≤ length haystack.now }
+    ensures { result ≡ char_of_len_before haystack.now at len }
+{
+    if len > at {
+        return None;
+    }
+    char_of(&haystack[at - len..at])
+}
+
+/// The character whose UTF-8 is the `len` bytes from the position on.
+fn char_of_len_after(haystack: &[u8], at: usize, len: usize) -> Option<char>
+    requires { at ≤ length haystack.now }
+    ensures { result ≡ char_of_len_after haystack.now at len }
+{
+    if len > haystack.len() - at {
+        return None;
+    }
+    char_of(&haystack[at..at + len])
+}
+
+/// The character whose UTF-8 these bytes are.
+#[tactic(auto, using(crate::proofs::CharacterLemmas::char_of_ascii, crate::proofs::CharacterLemmas::char_of_text, crate::proofs::CharacterLemmas::char_of_ill_formed))]
+fn char_of(bytes: &[u8]) -> Option<char>
+    ensures { result ≡ char_of bytes.now }
+{
+    // Spares the usual case a call.
+    if bytes.len() == 1 && bytes[0] < 0x80 {
+        return Some(bytes[0] as char);
+    }
+    match str::from_utf8(bytes) {
+        Ok(text) => only_char(text),
+        Err(_) => None,
+    }
+}
+
+/// The character of a text of one character.
+#[tactic(auto, using(crate::proofs::CharacterLemmas::only_none, crate::proofs::CharacterLemmas::only_one, crate::proofs::CharacterLemmas::only_more))]
+fn only_char(text: &str) -> Option<char>
+    ensures { result ≡ only (chars text.now) }
+{
+    let mut chars = text.chars();
+    let first = chars.next()?;
+    match chars.next() {
+        None => Some(first),
+        Some(_) => None,
+    }
+}

@@ -1,0 +1,314 @@
+ghost use Rattle.std.specs.Prelude.{◌≡◌};
+ghost use Rattle.regex_search_core.specs.Patterns.{number_of};
+
+use crate::{BuildError, Look, NFA, State, Transition, look_matches};
+use regex_search_core::{GroupInfo, PatternID, StateID};
+use std::alloc::Global;
+use std::process::Abort;
+use std::test::Fail;
+
+fn id(rt: &impl Abort, number: usize) -> StateID
+    ensures { result ≡ number }
+{
+    StateID::new(number).expect(rt, "a state's number")
+}
+
+fn pattern(rt: &impl Abort, number: usize) -> PatternID
+    ensures { number_of result ≡ number }
+{
+    PatternID::new(number).expect(rt, "a pattern's number")
+}
+
+/// Groups of this many patterns, with no explicit groups.
+fn plain_groups(alloc: Global, patterns: usize) -> Result<GroupInfo, Fail> {
+    let mut names = Vec::new(alloc);
+    for _ in 0..patterns {
+        names.push(Vec::new(alloc))?;
+    }
+    Ok(GroupInfo::new(names).ok_or("too many slots")?)
+}
+
+/// An NFA with a state of each kind, of two patterns that start at 1 and 2 and have no explicit
+/// groups; searches start at 0 and 8.
+fn one_of_each(rt: &impl Abort, alloc: Global) -> Result<NFA, Fail> {
+    let to_nine = Transition {
+        start: 0x61,
+        end: 0x7A,
+        next: id(rt, 9),
+    };
+    let states = vec![in alloc;
+        State::Union {
+            alternates: vec![in alloc; id(rt, 1), id(rt, 2)]?
+        },
+        State::ByteRange { trans: to_nine },
+        State::Sparse(vec![in alloc; to_nine]?),
+        State::Dense(vec![in alloc; None, Some(id(rt, 9))]?),
+        State::Look {
+            look: Look::Start,
+            next: id(rt, 9)
+        },
+        State::BinaryUnion {
+            alt1: id(rt, 3),
+            alt2: id(rt, 4)
+        },
+        State::Capture {
+            next: id(rt, 9),
+            slot: 3
+        },
+        State::Fail,
+        State::BinaryUnion {
+            alt1: id(rt, 0),
+            alt2: id(rt, 5)
+        },
+        State::Match {
+            pattern_id: pattern(rt, 1)
+        },
+    ]?;
+    let patterns = vec![in alloc; id(rt, 1), id(rt, 2)]?;
+    let groups = plain_groups(alloc, 2)?;
+    Ok(NFA::from_states(states, id(rt, 0), id(rt, 8), patterns, groups, true, false)?)
+}
+
+#[test]
+fn assertions(rt: HostRuntime) {
+    let e_acute = "é123".as_bytes();
+    for (look, haystack, places) in [
+        (Look::Start, b"ab".as_slice(), [true, false, false]),
+        (Look::End, b"ab", [false, false, true]),
+        (Look::WordAscii, b"a ", [true, true, false]),
+        (Look::WordAscii, b"9_", [true, false, true]),
+        (Look::WordAscii, b"@[", [false, false, false]),
+        (Look::WordAscii, b"`{", [false, false, false]),
+        (Look::WordAscii, b"/:", [false, false, false]),
+        (Look::WordAscii, "é".as_bytes(), [false, false, false]),
+        (Look::WordAsciiNegate, b"a ", [false, false, true]),
+        (Look::WordAsciiNegate, "é".as_bytes(), [true, true, true]),
+        (Look::WordUnicode, b"a ", [true, true, false]),
+        (Look::WordUnicode, b"9_", [true, false, true]),
+        (Look::WordUnicode, "é".as_bytes(), [true, false, true]),
+        // "é" cut short, and two continuation bytes
+        (Look::WordUnicode, b"a\xC3", [true, true, false]),
+        (Look::WordUnicode, b"\xA9a", [false, true, true]),
+        (Look::WordUnicode, b"\x80\x80", [false, false, false]),
+        // the letter a in two bytes, which is not UTF-8
+        (Look::WordUnicode, b"\xC1\xA1", [false, false, false]),
+    ] {
+        for at in 0..3 {
+            assert_eq!(rt; haystack.len(), 2);
+            assert_eq!(rt;
+                look_matches(look, haystack, at),
+                places[at],
+                "{look:?} in {haystack:?} at {at}"
+            );
+        }
+    }
+    for (at, want) in [
+        (0, true),
+        (1, false),
+        (2, false),
+        (3, false),
+        (4, false),
+        (5, true),
+    ] {
+        assert_eq!(rt; e_acute.len(), 5);
+        assert_eq!(rt;
+            look_matches(Look::WordUnicode, e_acute, at),
+            want,
+            "at {at}"
+        );
+    }
+    assert!(rt; look_matches(Look::Start, b"", 0) && look_matches(Look::End, b"", 0));
+}
+
+#[test]
+fn word_characters(rt: HostRuntime) {
+    for (text, is_word) in [
+        // a letter of four bytes, a mark, a decimal number, connector punctuation, the joiners
+        ("𐐷", true),
+        ("\u{0301}", true),
+        ("\u{20DD}", true),
+        ("٣", true),
+        ("‿", true),
+        ("\u{200C}", true),
+        ("\u{200D}", true),
+        // their neighbors, a number that is no decimal one, a symbol, a dash
+        ("\u{200B}", false),
+        ("\u{200E}", false),
+        ("½", false),
+        ("☃", false),
+        ("😀", false),
+        ("-", false),
+    ] {
+        let bytes = text.as_bytes();
+        assert_eq!(rt;
+            look_matches(Look::WordUnicode, bytes, 0),
+            is_word,
+            "before {text}"
+        );
+        assert_eq!(rt;
+            look_matches(Look::WordUnicode, bytes, bytes.len()),
+            is_word,
+            "after {text}"
+        );
+    }
+    // A surrogate's three bytes, and four bytes past the last character, are no characters.
+    for bytes in [
+        b"\xED\xA0\x80".as_slice(),
+        b"\xF4\x90\x80\x80",
+        b"\xE2\x98",
+        b"",
+    ] {
+        for at in 0..=bytes.len() {
+            assert!(rt;
+                !look_matches(Look::WordUnicode, bytes, at),
+                "{bytes:?} at {at}"
+            );
+        }
+    }
+}
+
+#[test]
+fn refusals(rt: HostRuntime) -> Result<(), Fail> {
+    let alloc = rt.alloc();
+    let start = id(&rt, 0);
+    let on_a = Transition {
+        start: 0x61,
+        end: 0x61,
+        next: id(&rt, 1),
+    };
+    for (states, groups, want) in [
+        (Vec::new(alloc), 0, BuildError::Empty),
+        (
+            vec![in alloc; State::ByteRange { trans: on_a }]?,
+            0,
+            BuildError::State,
+        ),
+        (
+            vec![in alloc;
+                State::Capture {
+                    next: start,
+                    slot: 0
+                },
+            ]?,
+            0,
+            BuildError::Slot,
+        ),
+        (
+            vec![in alloc;
+                State::Match {
+                    pattern_id: pattern(&rt, 1)
+                },
+            ]?,
+            0,
+            BuildError::Pattern,
+        ),
+        (
+            vec![in alloc;
+                State::Match {
+                    pattern_id: pattern(&rt, 0)
+                },
+            ]?,
+            2,
+            BuildError::Groups,
+        ),
+    ] {
+        let patterns = vec![in alloc; start]?;
+        let groups = plain_groups(alloc, groups)?;
+        let made = NFA::from_states(states, start, start, patterns, groups, false, false);
+        assert_eq!(rt; made.err(), Some(want));
+    }
+    Ok(())
+}
+
+#[test]
+fn reads(rt: HostRuntime) -> Result<(), Fail> {
+    let alloc = rt.alloc();
+    let made = one_of_each(&rt, alloc)?;
+    for nfa in [made.clone()?, made] {
+        assert_eq!(rt; nfa.states().len(), 10);
+        assert_eq!(rt;
+            (nfa.start_anchored(), nfa.start_unanchored()),
+            (id(&rt, 0), id(&rt, 8))
+        );
+        assert!(rt; !nfa.is_always_start_anchored());
+        assert!(rt; nfa.has_empty() && !nfa.is_utf8());
+        assert_eq!(rt; nfa.pattern_len(), 2);
+        assert_eq!(rt; nfa.start_pattern(pattern(&rt, 1)), Some(id(&rt, 2)));
+        assert_eq!(rt; nfa.start_pattern(pattern(&rt, 2)), None);
+        assert_eq!(rt; nfa.group_info().slot_len(), 4);
+        let last = format!(in alloc; "{:?}", nfa.state(nfa.start_unanchored()))?;
+        assert_eq!(rt;
+            last.as_str(),
+            "BinaryUnion { alt1: StateID(0), alt2: StateID(5) }"
+        );
+    }
+    Ok(())
+}
+
+#[test]
+fn simple_nfas(rt: HostRuntime) -> Result<(), Fail> {
+    let alloc = rt.alloc();
+    let always = NFA::always_match(alloc)?;
+    let want =
+        "[Capture { next: StateID(1), slot: 0 }, Capture { next: StateID(2), slot: 1 }, Match { pattern_id: PatternID { index: 0 } }]";
+    assert_eq!(rt; format!(in alloc; "{:?}", always.states())?.as_str(), want);
+    assert!(rt; always.is_always_start_anchored() && always.has_empty() && !always.is_utf8());
+    assert_eq!(rt;
+        (always.pattern_len(), always.group_info().slot_len()),
+        (1, 2)
+    );
+    assert_eq!(rt; always.start_pattern(pattern(&rt, 0)), Some(id(&rt, 0)));
+
+    let never = NFA::never_match(alloc)?;
+    assert_eq!(rt;
+        format!(in alloc; "{:?}", never.states())?.as_str(),
+        "[Fail]"
+    );
+    assert!(rt; never.is_always_start_anchored() && !never.has_empty() && !never.is_utf8());
+    assert_eq!(rt;
+        (never.pattern_len(), never.group_info().pattern_len()),
+        (0, 0)
+    );
+    Ok(())
+}
+
+#[test]
+fn debug_texts(rt: HostRuntime) -> Result<(), Fail> {
+    let alloc = rt.alloc();
+    for (look, want) in [
+        (Look::Start, "Start"),
+        (Look::End, "End"),
+        (Look::WordAscii, "WordAscii"),
+        (Look::WordAsciiNegate, "WordAsciiNegate"),
+        (Look::WordUnicode, "WordUnicode"),
+    ] {
+        assert_eq!(rt; format!(in alloc; "{look:?}")?.as_str(), want);
+    }
+    assert_eq!(rt;
+        format!(in alloc; "{:?}", BuildError::Groups)?.as_str(),
+        "Groups"
+    );
+    let nfa = one_of_each(&rt, alloc)?;
+    let states = [
+        "Union { alternates: [StateID(1), StateID(2)] }",
+        "ByteRange { trans: Transition { start: 97, end: 122, next: StateID(9) } }",
+        "Sparse([Transition { start: 97, end: 122, next: StateID(9) }])",
+        "Dense([None, Some(StateID(9))])",
+        "Look { look: Start, next: StateID(9) }",
+        "BinaryUnion { alt1: StateID(3), alt2: StateID(4) }",
+        "Capture { next: StateID(9), slot: 3 }",
+        "Fail",
+        "BinaryUnion { alt1: StateID(0), alt2: StateID(5) }",
+        "Match { pattern_id: PatternID { index: 1 } }",
+    ];
+    for (state, want) in nfa.states().iter().zip(states) {
+        assert_eq!(rt; format!(in alloc; "{state:?}")?.as_str(), want);
+        assert_eq!(rt; format!(in alloc; "{:?}", state.clone()?)?.as_str(), want);
+    }
+    let never = NFA::never_match(alloc)?;
+    assert_eq!(rt;
+        format!(in alloc; "{never:?}")?.as_str(),
+        "NFA { states: [Fail], anchored: StateID(0), unanchored: StateID(0), patterns: [], groups: GroupInfo { names: [], slot_len: 0 }, has_empty: false, utf8: false }"
+    );
+    Ok(())
+}
