@@ -1,4 +1,4 @@
-//! Searches a text with a sample NFA and prints the match.
+//! Searches a text with a sample NFA and prints the matches.
 #![tactic(auto)]
 
 mod run;

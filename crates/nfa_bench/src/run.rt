@@ -15,7 +15,7 @@ const FAILED: u8 = 1;
 /// The words ask for nothing that the program has.
 const MISUSED: u8 = 2;
 
-/// Searches as the words after the program's name ask, prints the match, if any, and then `end`.
+/// Searches as the words after the program's name ask, prints each match in a line, and then `end`.
 /// Where that is not done, prints one line that says why.
 ///
 /// Answers the status to end with: 0; 1 for a search that was refused or a write that failed, after
@@ -62,8 +62,8 @@ fn print_backtracked<W: Write>(
 ) -> Result<(), Stop> {
     let engine = BoundedBacktracker::new_from_nfa(nfa)?;
     let mut cache = engine.create_cache(alloc);
-    if let Some(found) = engine.try_find(&mut cache, input)? {
-        print_match(out, found)?;
+    for found in engine.try_find_iter(&mut cache, input) {
+        print_match(out, found?)?;
     }
     Ok(())
 }

@@ -1,5 +1,6 @@
 mod calls;
 mod engines;
+mod iteration;
 mod lengths;
 mod program;
 mod refusals;

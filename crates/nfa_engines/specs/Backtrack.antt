@@ -4,19 +4,31 @@ use Rattle.regex_search_core.specs.Search.{Search}
 use Rattle.thompson_nfa.specs.Automaton.{Automaton}
 use Rattle.nfa_search_base.specs.Paths.{span_len}
 
+-- a number that stops at the greatest `usize`
+abbrev pub saturated : ℕ → ℕ
+saturated n = min n (2 ^ 64 - 1)
+
 -- an NFA, and how many bytes of marks were asked for, if any were
 pub record Backtracker : Type 0 where
   pub nfa : Automaton
   pub visited_capacity : Option ℕ
 
--- what a cache shows: how many scans its last search made, and how many turns
+-- what a cache shows: how many scans its last search made, and how many turns; and how many frames, blocks of marks and
+-- slots it holds
 pub record Work : Type 0 where
   pub scans : ℕ
   pub turns : ℕ
+  pub frames : ℕ
+  pub blocks : ℕ
+  pub slots : ℕ
 
--- a product that stops at the greatest `usize`
-abbrev pub saturated : ℕ → ℕ
-saturated n = min n (2 ^ 64 - 1)
+-- a cache that has made no search and holds nothing
+abbrev pub unused : Work
+unused = record { scans = 0; turns = 0; frames = 0; blocks = 0; slots = 0 }
+
+-- the bytes that a cache holds: 24 for a frame, 8 for a block, 8 for a slot
+abbrev pub memory_of : Work → ℕ
+memory_of w = saturated (saturated (saturated (24 * w.frames) + saturated (8 * w.blocks)) + saturated (8 * w.slots))
 
 -- the capacity in bytes that holds where none is set
 abbrev pub default_capacity : ℕ

@@ -8,6 +8,7 @@
 mod cache;
 mod config;
 mod engine;
+mod find_iter;
 mod frame;
 mod search;
 mod visited;
@@ -16,3 +17,4 @@ mod walk;
 pub use cache::Cache;
 pub use config::{Builder, Config};
 pub use engine::{BoundedBacktracker, min_visited_capacity};
+pub use find_iter::TryFindMatches;

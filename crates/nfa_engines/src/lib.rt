@@ -5,6 +5,7 @@
 
 pub mod backtrack;
 mod counter;
+mod first_bytes;
 pub mod laws;
 
-pub use nfa_search_base::{empty, error};
+pub use nfa_search_base::{empty, error, iter};

@@ -1,5 +1,9 @@
+pub mod AgreementLemmas
 pub mod AnswerLemmas
 pub mod AskingLemmas
+pub mod EmptyFinderLemmas
+pub mod GreedyLemmas
+pub mod InsideLemmas
 pub mod KindsLemmas
 pub mod PathLemmas
 pub mod PathToLemmas
@@ -9,4 +13,8 @@ pub mod ScanningLemmas
 pub mod SearchLemmas
 pub mod SearchingLemmas
 pub mod SkipLemmas
+pub mod StepLemmas
+pub mod StoredLemmas
 pub mod TurnLemmas
+pub mod UpToLemmas
+pub mod WalkLemmas

@@ -4,8 +4,17 @@ pub mod FirstPaths
 pub mod Exploring
 pub mod Kinds
 pub mod Turns
+pub mod Agreement
 pub mod Asking
+pub mod Behind
+pub mod EmptyFinder
+pub mod Finders
+pub mod HalfStored
+pub mod Items
+pub mod Searchers
 pub mod Skipping
+pub mod Stored
+pub mod Walks
 pub use Rattle.regex_search_core.specs.Boundary
 pub use Rattle.regex_search_core.specs.Found
 pub use Rattle.regex_search_core.specs.Groups

@@ -4,3 +4,4 @@
 mod asking;
 pub mod empty;
 pub mod error;
+pub mod iter;

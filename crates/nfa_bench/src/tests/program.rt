@@ -10,10 +10,11 @@ fn prints_the_match_and_the_end(rt: HostRuntime) -> Result<(), Fail> {
     let alloc = rt.alloc();
     for (name, haystack, want) in [
         ("abc_a", "abc", "0 0..3\nend\n"),
-        ("abc_a", "abcab", "0 0..3\nend\n"),
+        ("abc_a", "abcab", "0 0..3\n0 3..4\nend\n"),
         ("abc_a", "xyz", "end\n"),
         ("a_or_empty", "", "0 0..0\nend\n"),
         ("a_pair", "a", "end\n"),
+        ("empty", "a☃z", "0 0..0\n0 1..1\n0 4..4\n0 5..5\nend\n"),
         ("snowman", "a☃b", "0 1..4\nend\n"),
         ("ab_b", "xb", "1 1..2\nend\n"),
     ] {

@@ -1,4 +1,5 @@
 ghost use Rattle.std.specs.Prelude.{◌≡◌, IfOk, IsOkUnless};
+ghost use Rattle.nfa_engines.specs.Backtrack.{unused, memory_of};
 
 use crate::backtrack::engine::BoundedBacktracker;
 use crate::backtrack::frame::Frame;
@@ -22,17 +23,18 @@ pub struct Cache {
 }
 
 impl Model for Cache {
+    ghost use Rattle.std.specs.Prelude.{◌/◌, length};
     ghost use Rattle.nfa_engines.specs.Backtrack.{Work};
 
     ghost Value = { Work };
 
-    ghost view = { λ c. record { scans = c.scans; turns = c.visited.turns } };
+    ghost view = { λ c. record { scans = c.scans; turns = c.visited.turns; frames = length c.stack.items; blocks = length c.visited.bits / 64; slots = length c.slots.items } };
 }
 
 impl Cache {
     /// A cache that holds no memory yet.
     pub fn new(alloc: Global, _: &BoundedBacktracker) -> Cache
-        ensures { result ≡ record { scans = 0; turns = 0 } }
+        ensures { result ≡ unused }
     {
         Cache {
             stack: Vec::new(alloc),
@@ -42,9 +44,9 @@ impl Cache {
         }
     }
 
-    /// Drops all marks. A search needs no reset before it.
+    /// Drops all marks and the blocks that held them. A search needs no reset before it.
     pub fn reset(&mut self, _: &BoundedBacktracker)
-        ensures { self.new ≡ self.old }
+        ensures { self.new ≡ record self.old { blocks = 0 } }
     {
         self.visited.reset();
     }
@@ -70,7 +72,9 @@ impl Cache {
 
     /// The bytes that the cache's collections hold: 24 for a frame of the stack, 8 for a block of marks, 8 for a slot.
     /// The sum stops at the greatest `usize`.
-    pub fn memory_usage(&self) -> usize {
+    pub fn memory_usage(&self) -> usize
+        ensures { result ≡ memory_of self.now }
+    {
         let frames = self.stack.len().saturating_mul(24);
         let blocks = self.visited.block_len().saturating_mul(8);
         let slots = self.slots.len().saturating_mul(8);

@@ -6,12 +6,13 @@ ghost use Rattle.regex_search_core.specs.Found.{found_of};
 ghost use Rattle.regex_search_core.specs.declared.search.MatchKind.TheVariants.{LeftmostFirst};
 ghost use Rattle.thompson_nfa.specs.Simple.{always, never};
 ghost use Rattle.nfa_search_base.specs.Paths.{span_len, turn_weight, scan_limit, IsAnswer, IsMatchAnswer, IsFoundAnswer, IsWork, IsWithinScans};
-ghost use Rattle.nfa_engines.specs.Backtrack.{IsTooLong, capacity_of, rounded_bits, max_haystack_len_of, min_capacity_of};
+ghost use Rattle.nfa_engines.specs.Backtrack.{IsTooLong, unused, capacity_of, rounded_bits, max_haystack_len_of, min_capacity_of};
 
 use crate::backtrack::cache::Cache;
 use crate::backtrack::config::{Builder, Config};
 use crate::backtrack::search::{search, unset};
 use crate::error::SearchError;
+use crate::first_bytes::FirstBytes;
 use regex_search_core::{Captures, Input, Match, NonMaxUsize, PatternID, Refused};
 use std::alloc::Global;
 use std::marker::Model;
@@ -24,15 +25,19 @@ use thompson_nfa::{BuildError, NFA};
 #[derive(Debug, Drop)]
 pub struct BoundedBacktracker {
     config: Config,
+    first: FirstBytes,
     nfa: NFA,
 }
 
 impl Model for BoundedBacktracker {
     ghost use Rattle.nfa_engines.specs.Backtrack.{Backtracker};
+    ghost use Rattle.nfa_engines.specs.FirstBytes.{IsFirstBytes};
 
     ghost Value = { Backtracker };
 
     ghost view = { λ e. record { nfa = e.nfa; visited_capacity = e.config } };
+
+    ghost invariant = { λ e. IsFirstBytes e.nfa e.first.may_begin };
 }
 
 /// The least visited capacity, in bytes, that has a bit for each pair of the search. With it no search of the input is
@@ -65,7 +70,8 @@ impl BoundedBacktracker {
     pub(super) fn from_parts(config: Config, nfa: NFA) -> BoundedBacktracker
         ensures { result ≡ record { nfa = nfa; visited_capacity = config } }
     {
-        BoundedBacktracker { config, nfa }
+        let first = FirstBytes::new(&nfa);
+        BoundedBacktracker { config, first, nfa }
     }
 
     /// A backtracker of the NFA with the default configuration. This is always `Ok`.
@@ -108,7 +114,7 @@ impl BoundedBacktracker {
 
     /// A cache for this backtracker, which holds no memory yet.
     pub fn create_cache(&self, alloc: Global) -> Cache
-        ensures { result ≡ record { scans = 0; turns = 0 } }
+        ensures { result ≡ unused }
     {
         Cache::new(alloc, self)
     }
@@ -126,9 +132,9 @@ impl BoundedBacktracker {
         Ok(Captures::all(alloc, groups)?)
     }
 
-    /// Drops all marks of the cache. A search needs no reset before it.
+    /// Drops all marks of the cache and the blocks that held them. A search needs no reset before it.
     pub fn reset_cache(&self, cache: &mut Cache)
-        ensures { cache.new ≡ cache.old }
+        ensures { cache.new ≡ record cache.old { blocks = 0 } }
     {
         cache.reset(self);
     }
@@ -162,10 +168,7 @@ impl BoundedBacktracker {
         let Ok(nfa) = self.nfa.clone() else {
             return Err(SearchError::Memory);
         };
-        Ok(BoundedBacktracker {
-            config: self.config,
-            nfa,
-        })
+        Ok(BoundedBacktracker::from_parts(self.config, nfa))
     }
 
     /// How many pairs of a state and a position a search may mark.
@@ -233,7 +236,7 @@ impl BoundedBacktracker {
                 len: input.get_span().len(),
             });
         }
-        let Some(half) = search(&self.nfa, input, stack, visited, scans, slots)? else {
+        let Some(half) = search(&self.nfa, &self.first, input, stack, visited, scans, slots)? else {
             return Ok(None);
         };
         Ok(Some(half.pattern()))
@@ -274,7 +277,8 @@ impl BoundedBacktracker {
         let slot_len = self.nfa.group_info().implicit_slot_len();
         grow(slots, slot_len)?;
         let slots = &mut slots.as_mut_slice()[..slot_len];
-        let Some(half) = search(&self.nfa, &input, stack, visited, scans, slots)? else {
+        let Some(half) = search(&self.nfa, &self.first, &input, stack, visited, scans, slots)?
+        else {
             return Ok(None);
         };
         Ok(Match::from_slots(half.pattern(), slots))

@@ -2,12 +2,14 @@ ghost use Rattle.std.specs.Prelude.{◌≡◌, ℕ, ◌+◌, ◌-◌, ◌*◌, �
 ghost use Rattle.regex_search_core.specs.Search.{search_of, is_anchored};
 ghost use Rattle.regex_search_core.specs.declared.search.MatchKind.TheVariants.{LeftmostFirst};
 ghost use Rattle.nfa_search_base.specs.Paths.{span_len, start_state, starts, pairs_from, is_utf8_empty, scan_limit, IsWithinScans};
+ghost use Rattle.nfa_engines.specs.FirstBytes.{IsRefused, IsFirstBytes};
 ghost use Rattle.nfa_engines.specs.Walk.{HasRoom, Scans, Searched, scan_turns};
 
 use crate::backtrack::frame::{Frame, Place};
 use crate::backtrack::visited::Visited;
 use crate::backtrack::walk::walk;
 use crate::counter::Counter;
+use crate::first_bytes::FirstBytes;
 use regex_search_core::{Anchored, HalfMatch, Input, NonMaxUsize, Refused, StateID};
 use thompson_nfa::NFA;
 
@@ -37,6 +39,38 @@ fn start_limit(nfa: &NFA, input: &Input<'_>) -> usize
     }
 }
 
+/// The position behind the last one that may be passed over for its byte: none where a path may start at one alone.
+fn skip_limit(nfa: &NFA, input: &Input<'_>) -> usize
+    requires { (search_of input.now).start ≤ (search_of input.now).end }
+    ensures within { result ≤ (search_of input.now).end }
+    ensures anchored { (search_of input.now).start < result → start_state nfa.now (search_of input.now).anchored ≡ Some nfa.now.anchored }
+{
+    if input.get_anchored().is_anchored() || nfa.is_always_start_anchored() {
+        input.start()
+    } else {
+        input.end()
+    }
+}
+
+/// The first position, from this one on, that is not passed over for its byte. It is a call of its own, so that its
+/// values take no registers from the walk.
+#[inline(never)]
+fn next_start(first: &FirstBytes, input: &Input<'_>, from: usize, stop: usize) -> usize
+    requires from { from ≤ (search_of input.now).end + 1 }
+    requires stop { stop ≤ (search_of input.now).end }
+    ensures low { from ≤ result }
+    ensures high { result ≤ (search_of input.now).end + 1 }
+    ensures stays { stop ≤ from → result ≡ from }
+    ensures passed { (k : ℕ) → from ≤ k → k < result → IsRefused first.now.may_begin (search_of input.now) k }
+{
+    let haystack = input.haystack();
+    let mut at = from;
+    while at < stop && first.refuses(haystack[at]) {
+        at += 1;
+    }
+    at
+}
+
 /// Takes the offset of every slot away.
 pub fn unset(slots: &mut [Option<NonMaxUsize>])
     ensures { slots.new ≡ replicate (length slots.old) None }
@@ -44,14 +78,16 @@ pub fn unset(slots: &mut [Option<NonMaxUsize>])
     slots.fill(None);
 }
 
-/// Searches from each start in turn, with the marks kept.
+/// Searches from each start in turn that is not passed over for its byte, with the marks kept.
 fn try_starts(
     nfa: &NFA,
+    first: &FirstBytes,
     input: &Input<'_>,
     stack: &mut Vec<Frame>,
     visited: &mut Visited,
     slots: &mut [Option<NonMaxUsize>],
 ) -> Result<Option<HalfMatch>, Refused>
+    requires first { IsFirstBytes nfa.now first.now.may_begin }
     requires room { HasRoom nfa.now (search_of input.now) visited.old.bits }
     requires clear { visited.old.bits ≡ replicate (length visited.old.bits) false }
     requires empty { stack.old.items ≡ [] }
@@ -67,10 +103,13 @@ fn try_starts(
         return Ok(None);
     };
     let limit = start_limit(nfa, input);
-    for at in input.start()..limit {
+    let stop = skip_limit(nfa, input);
+    let mut at = next_start(first, input, input.start(), stop);
+    while at < limit {
         if let Some(half) = walk(nfa, input, Place { sid, at }, stack, visited, slots)? {
             return Ok(Some(half));
         }
+        at = next_start(first, input, at + 1, stop);
     }
     Ok(None)
 }
@@ -78,13 +117,15 @@ fn try_starts(
 /// One scan, from a clean slate: the first accepting path, its slots, or no slot set.
 fn scan(
     nfa: &NFA,
+    first: &FirstBytes,
     input: &Input<'_>,
     stack: &mut Vec<Frame>,
     visited: &mut Visited,
     scans: &mut Counter,
     slots: &mut [Option<NonMaxUsize>],
 ) -> Result<Option<HalfMatch>, Refused>
-    requires { HasRoom nfa.now (search_of input.now) visited.old.bits }
+    requires first { IsFirstBytes nfa.now first.now.may_begin }
+    requires room { HasRoom nfa.now (search_of input.now) visited.old.bits }
     ensures scans { scans.new ≡ scans.old + 1 }
     ensures size { length visited.new.bits ≡ length visited.old.bits }
     ensures turns { visited.new.turns ≤ visited.old.turns + scan_turns nfa.now (search_of input.now) }
@@ -96,7 +137,7 @@ fn scan(
     unset(slots);
     stack.clear();
     visited.clear();
-    match try_starts(nfa, input, stack, visited, slots) {
+    match try_starts(nfa, first, input, stack, visited, slots) {
         Ok(Some(half)) => Ok(Some(half)),
         Ok(None) => {
             unset(slots);
@@ -112,12 +153,14 @@ fn scan(
 /// A search whose scan is its answer.
 fn search_once(
     nfa: &NFA,
+    first: &FirstBytes,
     input: &Input<'_>,
     stack: &mut Vec<Frame>,
     visited: &mut Visited,
     scans: &mut Counter,
     slots: &mut [Option<NonMaxUsize>],
 ) -> Result<Option<HalfMatch>, Refused>
+    requires first { IsFirstBytes nfa.now first.now.may_begin }
     requires room { HasRoom nfa.now (search_of input.now) visited.old.bits }
     requires counted { scans.old ≡ 0 }
     requires turned { visited.old.turns ≡ 0 }
@@ -127,18 +170,20 @@ fn search_once(
     ensures scans { scans.new ≡ 1 }
     ensures turns { visited.new.turns ≤ scan_turns nfa.now (search_of input.now) }
 {
-    scan(nfa, input, stack, visited, scans, slots)
+    scan(nfa, first, input, stack, visited, scans, slots)
 }
 
 /// An anchored search whose answer counts only if it ends on a boundary.
 fn search_kept(
     nfa: &NFA,
+    first: &FirstBytes,
     input: &Input<'_>,
     stack: &mut Vec<Frame>,
     visited: &mut Visited,
     scans: &mut Counter,
     slots: &mut [Option<NonMaxUsize>],
 ) -> Result<Option<HalfMatch>, Refused>
+    requires first { IsFirstBytes nfa.now first.now.may_begin }
     requires room { HasRoom nfa.now (search_of input.now) visited.old.bits }
     requires counted { scans.old ≡ 0 }
     requires turned { visited.old.turns ≡ 0 }
@@ -149,7 +194,7 @@ fn search_kept(
     ensures scans { scans.new ≡ 1 }
     ensures turns { visited.new.turns ≤ scan_turns nfa.now (search_of input.now) }
 {
-    let Some(half) = scan(nfa, input, stack, visited, scans, slots)? else {
+    let Some(half) = scan(nfa, first, input, stack, visited, scans, slots)? else {
         return Ok(None);
     };
     if input.is_char_boundary(half.offset()) {
@@ -162,12 +207,14 @@ fn search_kept(
 /// Scans again, each time from one byte further on, while the answer ends inside a character.
 fn search_whole(
     nfa: &NFA,
+    first: &FirstBytes,
     input: &Input<'_>,
     stack: &mut Vec<Frame>,
     visited: &mut Visited,
     scans: &mut Counter,
     slots: &mut [Option<NonMaxUsize>],
 ) -> Result<Option<HalfMatch>, Refused>
+    requires first { IsFirstBytes nfa.now first.now.may_begin }
     requires room { HasRoom nfa.now (search_of input.now) visited.old.bits }
     requires counted { scans.old ≡ 0 }
     requires turned { visited.old.turns ≡ 0 }
@@ -181,7 +228,7 @@ fn search_whole(
 {
     let mut search = *input;
     loop {
-        let Some(half) = scan(nfa, &search, stack, visited, scans, slots)? else {
+        let Some(half) = scan(nfa, first, &search, stack, visited, scans, slots)? else {
             return Ok(None);
         };
         if input.is_char_boundary(half.offset()) {
@@ -195,12 +242,14 @@ fn search_whole(
 /// The answer of a search that is not too long.
 pub fn search(
     nfa: &NFA,
+    first: &FirstBytes,
     input: &Input<'_>,
     stack: &mut Vec<Frame>,
     visited: &mut Visited,
     scans: &mut Counter,
     slots: &mut [Option<NonMaxUsize>],
 ) -> Result<Option<HalfMatch>, Refused>
+    requires first { IsFirstBytes nfa.now first.now.may_begin }
     requires fits { length nfa.now.states * (span_len (search_of input.now) + 1) < 2 ^ 64 }
     requires counted { scans.old ≡ 0 }
     requires turned { visited.old.turns ≡ 0 }
@@ -216,10 +265,10 @@ pub fn search(
         return Err(refused);
     }
     if !(nfa.has_empty() && nfa.is_utf8()) {
-        search_once(nfa, input, stack, visited, scans, slots)
+        search_once(nfa, first, input, stack, visited, scans, slots)
     } else if input.get_anchored().is_anchored() {
-        search_kept(nfa, input, stack, visited, scans, slots)
+        search_kept(nfa, first, input, stack, visited, scans, slots)
     } else {
-        search_whole(nfa, input, stack, visited, scans, slots)
+        search_whole(nfa, first, input, stack, visited, scans, slots)
     }
 }

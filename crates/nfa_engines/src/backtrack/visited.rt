@@ -1,4 +1,4 @@
-ghost use Rattle.std.specs.Prelude.{◌≡◌, ℕ, ◌+◌, ◌<◌, ◌≤◌, [], true, false, length, replicate, slice_index, slice_index_or, slice_set, IfOk, OnOk};
+ghost use Rattle.std.specs.Prelude.{◌≡◌, ℕ, ◌+◌, ◌/◌, ◌<◌, ◌≤◌, [], true, false, length, replicate, slice_index, slice_index_or, slice_set, IfOk, OnOk};
 
 use crate::counter::Counter;
 use regex_search_core::Refused;
@@ -54,7 +54,9 @@ impl Visited {
     }
 
     /// How many blocks there are.
-    pub fn block_len(&self) -> usize {
+    pub fn block_len(&self) -> usize
+        ensures { result ≡ length self.now.bits / 64 }
+    {
         self.blocks.len()
     }
 

@@ -1,9 +1,10 @@
-use Rattle.std.proofs.Common.{◌≡◌, ◌∙◌, ◌+◌, ◌-◌, ◌<◌, ◌≤◌, length, replicate, map, arith, sym, ap}
+use Rattle.std.proofs.Common.{◌≡◌, ◌∙◌, ◌+◌, ◌-◌, ◌<◌, ◌≤◌, length, replicate, map, arith, sym, ap, refl}
 use Rattle.std.specs.Prelude.{None}
 use Rattle.regex_search_core.specs.Search.{search_of}
-use Rattle.nfa_search_base.specs.Paths.{pairs_from, span_len}
+use Rattle.nfa_search_base.specs.Paths.{pairs_from}
 use Rattle.nfa_search_base.specs.Exploring.Item.{Explore}
 use Rattle.nfa_search_base.proofs.AnswerLemmas.{pairs_from-step, pairs_from-end}
+use Rattle.nfa_engines.proofs.FirstLemmas.{Follows-first, Follows-pass}
 use Rattle.nfa_engines.proofs.WalkLemmas.{Follows-then, Follows-ends, Ends-none, EndsAt-along}
 use Rattle.nfa_engines.proofs.ScanLemmas.{Scans-none, Scans-some, turns-all, turns-bound}
 use Rattle.nfa_engines.proofs.backtrack.search.try_starts.Goals as goal
@@ -29,17 +30,41 @@ returns-in-Some-2-clause-answer c =
     Scans-some c.args.nfa.now (search_of c.args.input.now) c.args.visited.now c.requires.clear c.args.slots.now _ c.in-Some-2.half c.walk.new.slots unset
     (EndsAt-along c.args.nfa.now (search_of c.args.input.now) follows (walks rest))
 
+pub loop-at-init : goal.loop-at-init
+loop-at-init c =
+    let known = sym c.in-Some.ensures.value in
+    let start : c.start.result ≡ (search_of c.args.input.now).start = c.start.ensures in
+    let low : (search_of c.args.input.now).start ≤ c.next_start-at.result = omega (arith, c.next_start-at.ensures.low) in
+    record {
+      follows = Follows-first c.args.nfa.now (search_of c.args.input.now) c.args.first.now.may_begin c.requires.first c.args.visited.now c.args.slots.now
+          c.in-Some.sid c.skip_limit-stop.result c.next_start-at.result c.start_limit-limit.result low
+          (λ past. c.next_start-at.ensures.stays (omega arith) ∙ start) c.skip_limit-stop.ensures.anchored known
+          (λ k l h. c.next_start-at.ensures.passed k (omega arith) h) (c.start_limit-limit.ensures.starts c.in-Some.sid known);
+      low = low;
+      high = c.next_start-at.ensures.high;
+      size = refl;
+      empty = c.requires.empty;
+      tried = omega arith;
+    }
+
 pub loop-at-preserved : goal.loop-at-preserved
 loop-at-preserved c =
     let here : c.loop-at.at < c.start_limit-limit.result = c.loop-at-test.true in
     let follows = rw (pairs_from-step c.in-Some.sid here) at c.loop-at.invariant.follows in
     let fails = rw c.in_default-2.is at c.in_ok-half.ensures.walks in
     let rest = map Explore (pairs_from c.in-Some.sid (c.loop-at.at + 1) (c.start_limit-limit.result - (c.loop-at.at + 1))) in
+    let walked = Follows-then c.args.nfa.now (search_of c.args.input.now) follows (fails.follows rest) in
+    let next = c.next_start-at-in-loop-at.ensures in
     record {
-      follows = Follows-then c.args.nfa.now (search_of c.args.input.now) follows (fails.follows rest);
+      follows = Follows-then c.args.nfa.now (search_of c.args.input.now) walked
+          (Follows-pass c.args.nfa.now (search_of c.args.input.now) c.args.first.now.may_begin c.requires.first c.walk.new.visited c.walk.new.slots
+          c.in-Some.sid (c.loop-at.at + 1) c.skip_limit-stop.result c.next_start-at-in-loop-at.result c.start_limit-limit.result
+          (omega (arith, c.loop-at.invariant.low)) next.low next.stays c.skip_limit-stop.ensures.anchored (sym c.in-Some.ensures.value) next.passed);
+      low = omega (arith, c.loop-at.invariant.low, c.next_start-at-in-loop-at.ensures.low);
+      high = next.high;
       size = c.walk.ensures.size ∙ c.loop-at.invariant.size;
       empty = fails.empty;
-      tried = omega (arith, c.loop-at.invariant.tried, fails.spent);
+      tried = omega (arith, c.loop-at.invariant.tried, fails.spent, c.next_start-at-in-loop-at.ensures.low);
     }
 
 pub returns-clause-turns : goal.returns-clause-turns

@@ -1,0 +1,131 @@
+use super::{backtracker, with_capacity};
+use nfa_engines::backtrack::{BoundedBacktracker, Cache, TryFindMatches};
+use nfa_engines::error::SearchError;
+use nfa_samples::sample;
+use regex_search_core::{Input, Match};
+use std::alloc::Global;
+use std::process::Abort;
+use std::test::Fail;
+
+// A name, a haystack, and all matches.
+const ALL: [(&str, &[u8], &str); 12] = [
+    ("a_or_empty", b"abba", "0 0..1, 0 2..2, 0 3..4, "),
+    ("a_or_empty", b"\x80a", "0 1..2, "),
+    ("a_or_empty", b"a\x80", "0 2..2, "),
+    (
+        "empty",
+        b"a\xE2\x98\x83z",
+        "0 0..0, 0 1..1, 0 4..4, 0 5..5, ",
+    ),
+    ("empty", b"\x80\x80", "0 2..2, "),
+    (
+        "empty_bytes",
+        b"a\xE2\x98\x83z",
+        "0 0..0, 0 1..1, 0 2..2, 0 3..3, 0 4..4, 0 5..5, ",
+    ),
+    ("empty_or_a", b"a", "0 0..0, 0 1..1, "),
+    ("loop", b"aa", "0 0..0, 0 1..1, 0 2..2, "),
+    (
+        "words_numbers",
+        b"abc 1 foo 4567 0 quux",
+        "0 0..3, 1 4..5, 0 6..9, 1 10..14, 1 15..16, 0 17..21, ",
+    ),
+    (
+        "foo_num",
+        b"foo1 foo12 foo123",
+        "0 0..4, 0 5..10, 0 11..17, ",
+    ),
+    ("a_bare", b"a", ""),
+    ("backwards", b"a", ""),
+];
+
+// The items, each with a comma behind it: the pattern and the span, or the error.
+fn items_text(
+    alloc: Global,
+    engine: &BoundedBacktracker,
+    cache: &mut Cache,
+    haystack: &[u8],
+) -> Result<String, Fail> {
+    let mut text = String::new(alloc);
+    for item in engine.try_find_iter(cache, Input::new(haystack)) {
+        match item {
+            Ok(found) => {
+                let pattern = found.pattern().as_usize();
+                write!(text, "{pattern} {}..{}, ", found.start(), found.end())?;
+            }
+            Err(error) => write!(text, "{error:?}, ")?,
+        }
+    }
+    Ok(text)
+}
+
+#[test]
+fn gives_all_matches(rt: HostRuntime) -> Result<(), Fail> {
+    let alloc = rt.alloc();
+    for (name, haystack, want) in ALL {
+        let engine = backtracker(alloc, name)?;
+        let mut cache = engine.create_cache(alloc);
+        let text = items_text(alloc, &engine, &mut cache, haystack)?;
+        assert_eq!(rt; text.as_str(), want, "{name} on {haystack:?}");
+    }
+    Ok(())
+}
+
+// Nothing more comes, however often it is asked for.
+fn expect_end(rt: &impl Abort, matches: &mut TryFindMatches<'_, '_, '_>) {
+    for _ in 0..2 {
+        assert!(rt; matches.next().is_none());
+    }
+}
+
+#[test]
+fn gives_the_refusal_once(rt: HostRuntime) -> Result<(), Fail> {
+    let alloc = rt.alloc();
+    let engine = with_capacity(alloc, "alnum100", 10)?;
+    let mut cache = engine.create_cache(alloc);
+    let mut matches = engine.try_find_iter(&mut cache, Input::new(b"abc"));
+    let refusal = SearchError::HaystackTooLong { len: 3 };
+    assert_eq!(rt; matches.next(), Some(Err(refusal)));
+    expect_end(&rt, &mut matches);
+    Ok(())
+}
+
+const WORDS_AND_NUMBERS: [(usize, usize, usize); 6] = [
+    (0, 0, 3),
+    (1, 4, 5),
+    (0, 6, 9),
+    (1, 10, 14),
+    (1, 15, 16),
+    (0, 17, 21),
+];
+
+fn parts(found: Match) -> (usize, usize, usize) {
+    (found.pattern().as_usize(), found.start(), found.end())
+}
+
+// Meant for runs in which one allocation, whichever, is refused: the items up to there come, then
+// the refusal once.
+#[test]
+fn gives_a_beginning_and_the_refusal(rt: HostRuntime) -> Result<(), Fail> {
+    let alloc = rt.alloc();
+    let nfa = match sample(alloc, "words_numbers") {
+        Ok(nfa) => nfa,
+        Err(_) => sample(alloc, "words_numbers")?,
+    };
+    let engine = BoundedBacktracker::new_from_nfa(nfa.ok_or("unknown name")?)?;
+    let mut cache = engine.create_cache(alloc);
+    let input = Input::new(b"abc 1 foo 4567 0 quux");
+    let mut matches = engine.try_find_iter(&mut cache, input);
+    for want in WORDS_AND_NUMBERS {
+        match matches.next() {
+            Some(Ok(found)) => assert_eq!(rt; parts(found), want),
+            Some(Err(error)) => {
+                assert_eq!(rt; error, SearchError::Memory);
+                break;
+            }
+            None => return Err(Fail::from("too few matches")),
+        }
+    }
+    expect_end(&rt, &mut matches);
+    Ok(())
+}

@@ -1,0 +1,5 @@
+use Rattle.nfa_search_base.proofs.AgreementLemmas.{half-and-full-agree}
+use Rattle.nfa_search_base.proofs.iter.laws.half_and_full_agree.Goals as goal
+
+pub returns : goal.returns
+returns c = half-and-full-agree

@@ -1,0 +1,41 @@
+use Rattle.std.proofs.Common.{sym, ◌∙◌}
+use Rattle.regex_search_core.specs.Found.{found_of}
+use Rattle.nfa_search_base.specs.Walks.{span_of}
+use Rattle.nfa_search_base.specs.Searchers.{walk_of}
+use Rattle.nfa_search_base.proofs.StepLemmas.{first-lies, first-taken, done-first, second-callable, second-lies, done-second}
+use Rattle.nfa_search_base.proofs.iter.searcher.Searcher.advance_by.Goals as goal
+
+pub moves_on-requires : goal.moves_on-requires
+moves_on-requires g c =
+    first-lies found_of g.F.FnMut span_of (λ m. m.ordered) c.args.finder.now (walk_of c.args.self.now) c.requires c.ask-first.result c.ask-first.new.finder c.ask-first.ensures
+    _ c.match_span.ensures.place
+
+pub take-requires-clause-inside : goal.take-requires-clause-inside
+take-requires-clause-inside g c =
+    first-taken found_of g.F.FnMut span_of (λ m. m.ordered) c.args.finder.now (walk_of c.args.self.now) c.requires c.ask-first.result c.ask-first.new.finder c.ask-first.ensures
+    (walk_of c.moves_on.new.self) _ (c.moves_on.ensures.stays c.if-not-moves_on.true) c.match_span-then-not-moves_on.ensures.place
+
+pub returns-then-not-moves_on : goal.returns-then-not-moves_on
+returns-then-not-moves_on g c =
+    let done = done-first found_of g.F.FnMut span_of (λ m. m.ordered) c.args.finder.now (walk_of c.args.self.now) c.requires c.ask-first.result c.ask-first.new.finder c.ask-first.ensures
+    (walk_of c.moves_on.new.self) (walk_of c.take.new.self) _ _ c.args.self.now.behind c.match_span.ensures.place c.match_span-then-not-moves_on.ensures.place
+    (sym c.moves_on.ensures.test ∙ c.if-not-moves_on.true) (c.moves_on.ensures.stays c.if-not-moves_on.true) c.take.ensures in
+    record { step = done.step; rises = done.rises; fewer = done.fewer; same = done.same }
+
+pub ask-second-requires : goal.ask-second-requires
+ask-second-requires g c =
+    second-callable found_of g.F.FnMut span_of (λ m. m.ordered) c.args.finder.now (walk_of c.args.self.now) c.requires c.ask-first.result c.ask-first.new.finder c.ask-first.ensures
+    _ (walk_of c.moves_on.new.self) c.match_span.ensures.place (sym c.moves_on.ensures.test ∙ c.if-not-moves_on.false) (c.moves_on.ensures.moved c.if-not-moves_on.false).0
+
+pub take-requires-2-clause-inside : goal.take-requires-2-clause-inside
+take-requires-2-clause-inside g c =
+    second-lies found_of g.F.FnMut span_of (λ m. m.ordered) c.args.finder.now (walk_of c.args.self.now) c.requires c.ask-first.result c.ask-first.new.finder c.ask-first.ensures
+    _ (walk_of c.moves_on.new.self) c.match_span.ensures.place (sym c.moves_on.ensures.test ∙ c.if-not-moves_on.false) (c.moves_on.ensures.moved c.if-not-moves_on.false).0
+    c.ask-second.result c.ask-second.new.finder c.ask-second.ensures _ c.match_span-2.ensures.place
+
+pub returns : goal.returns
+returns g c =
+    let done = done-second found_of g.F.FnMut span_of (λ m. m.ordered) c.args.finder.now (walk_of c.args.self.now) c.requires c.ask-first.result c.ask-first.new.finder c.ask-first.ensures
+    _ (walk_of c.moves_on.new.self) c.match_span.ensures.place (sym c.moves_on.ensures.test ∙ c.if-not-moves_on.false) (c.moves_on.ensures.moved c.if-not-moves_on.false).0
+    c.ask-second.result c.ask-second.new.finder c.ask-second.ensures (walk_of c.take-2.new.self) _ c.args.self.now.behind c.match_span-2.ensures.place c.take-2.ensures in
+    record { step = done.step; rises = done.rises; fewer = done.fewer; same = done.same }

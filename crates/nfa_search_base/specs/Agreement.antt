@@ -1,0 +1,44 @@
+-- half matches as the ends of matches
+use Rattle.std.specs.Prelude.{◌≡◌, ◌+◌, ◌≤◌, map, None, Some, Ok, Err}
+use Rattle.regex_search_core.specs.Found.{Found, HalfFound}
+use Rattle.regex_search_core.specs.Search.{Search}
+use Rattle.nfa_search_base.specs.Asking.{SameButStart}
+use Rattle.nfa_search_base.specs.Behind.{IsBehind}
+use Rattle.nfa_search_base.specs.Items.{Item, greedy}
+use Rattle.nfa_search_base.specs.Walks.{Answer, Walk, span_of, half_span_of}
+
+-- the end of a match
+abbrev pub end_of : Found → HalfFound
+end_of m = record { pattern = m.pattern; offset = m.end }
+
+-- the answer with the end of its match
+abbrev pub end_answer : Answer Found → Answer HalfFound
+end_answer (Ok (Some m)) = Ok (Some (end_of m))
+end_answer (Ok None) = Ok None
+end_answer (Err e) = Err e
+
+-- the item with the end of its match
+abbrev pub end_item : Item Found → Item HalfFound
+end_item (Ok m) = Ok (end_of m)
+end_item (Err e) = Err e
+
+-- the answer's match, if there is one, lies in the span of the search, and does not end before it starts
+abbrev pub IsFoundIn : Search → Answer Found → Type 0
+IsFoundIn s (Ok (Some m)) = (s.start ≤ m.start) × (m.start ≤ m.end) × (m.end ≤ s.end)
+IsFoundIn s (Ok None) = Unit {0}
+IsFoundIn s (Err e) = Unit {0}
+
+-- the iteration is one that a searcher may come to
+pub record IsWalk (w : Walk) : Type 0 where
+  pub behind : IsBehind w.last w.at.start
+  pub ordered : w.at.start ≤ w.at.end + 1
+
+-- on each search like s, h finds a match in the span, and k finds its end
+pub record FindsEnds (h : Search → Answer Found) (k : Search → Answer HalfFound) (s : Search) : Type 0 where
+  pub inside : (t : Search) → SameButStart s t → t.start ≤ t.end + 1 → IsFoundIn t (h t)
+  pub ends : (t : Search) → SameButStart s t → t.start ≤ t.end + 1 → k t ≡ end_answer (h t)
+
+-- half iteration gives the ends of full iteration
+abbrev pub HalfAndFullAgree : Type 0
+HalfAndFullAgree = (h : Search → Answer Found) (k : Search → Answer HalfFound) (w : Walk) → IsWalk w → FindsEnds h k w.at
+    → greedy half_span_of k w ≡ map end_item (greedy span_of h w)

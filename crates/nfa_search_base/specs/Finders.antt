@@ -1,0 +1,77 @@
+-- finders of matches, as what an iteration asks
+use Rattle.std.specs.Prelude.{◌≡◌, true, Option, None, Some, Result, Ok, Err}
+use Rattle.std.specs.Fn.{Mut}
+use Rattle.std.specs.Borrow.{Bor}
+use Rattle.regex_search_core.specs.Found.{found_of, half_found_of}
+use Rattle.regex_search_core.specs.Search.{Search}
+use Rattle.regex_search_core.specs.declared.search.HalfMatch.{HalfMatch}
+use Rattle.regex_search_core.specs.declared.search.Input.{Input}
+use Rattle.regex_search_core.specs.declared.search.Match.{Match}
+use Rattle.regex_search_core.specs.declared.search.Span.{Span}
+use Rattle.nfa_search_base.specs.Asking.{Asks, ServesAs, ServesAlong, SameButStart}
+use Rattle.nfa_search_base.specs.Walks.{Answer, Walk, place_of, IsInside, IsSurelyInside, repeats, shifted, span_of, half_span_of, Advances}
+use Rattle.nfa_search_base.specs.declared.error.SearchError.{SearchError}
+
+-- the reply as values
+abbrev pub answer_by : {A X : Type 0} → (A → X) → Result (Option A) SearchError → Answer X
+answer_by view (Ok (Some m)) = Ok (Some (view m))
+answer_by view (Ok None) = Ok None
+answer_by view (Err e) = Err e
+
+-- A finder replies with an A, of which `view` is the value.
+module _ {A X F : Type 0} (view : A → X) (g : Mut F (Bor Input × Unit {0}) (Result (Option A) SearchError)) where
+  -- a call of the finder f on the search gave this answer, and left the finder as f'
+  pub record Finds (f : F) (s : Search) (a : Answer X) (f' : F) : Type 0 where
+    pub reply : Result (Option A) SearchError
+    pub asked : Asks g f s reply f'
+    pub shows : a ≡ answer_by view reply
+
+  -- P holds of the answers of f for a step of the iteration w, for which it may be called once, and again one on where the first answer is an empty match at the last end
+  pub record ServesStep (span : X → Span) (P : Search → Answer X → Type 0) (f : F) (w : Walk) : Type 0 where
+    pub first : ServesAs g (λ s reply. P s (answer_by view reply)) f w.at
+    pub second : (reply : Result (Option A) SearchError) (f' : F) → Asks g f w.at reply f' → repeats w (place_of span (answer_by view reply)) ≡ true
+        → ServesAs g (λ s reply'. P s (answer_by view reply')) f' (shifted w).at
+
+  -- wherever calls on searches that differ from s in their start alone lead from f, the next may be made, and P holds of its answer
+  abbrev pub AnswersAlong : (Search → Answer X → Type 0) → F → Search → Type 0
+  AnswersAlong P f s = ServesAlong g SameButStart (λ t reply. P t (answer_by view reply)) f s
+
+  -- f answers each search like s as h does, for as long as it is called
+  abbrev pub Computes : (Search → Answer X) → F → Search → Type 0
+  Computes h f s = AnswersAlong (λ t a. a ≡ h t) f s
+
+-- where the match that was replied lies
+abbrev pub match_place : Result (Option Match) SearchError → Option Span
+match_place reply = place_of span_of (answer_by found_of reply)
+
+-- where the half match that was replied is taken to lie
+abbrev pub half_place : Result (Option HalfMatch) SearchError → Option Span
+half_place reply = place_of half_span_of (answer_by half_found_of reply)
+
+-- Finders of matches.
+module _ {F : Type 0} (g : Mut F (Bor Input × Unit {0}) (Result (Option Match) SearchError)) where
+  -- the finder may be asked for a step, and answers matches in the span
+  abbrev pub FindsStep : F → Walk → Type 0
+  FindsStep f w = ServesStep found_of g span_of (IsInside span_of) f w
+
+  -- and never errs
+  abbrev pub FindsStepSurely : F → Walk → Type 0
+  FindsStepSurely f w = ServesStep found_of g span_of (IsSurelyInside span_of) f w
+
+  -- a step by the finder
+  abbrev pub StepsBy : F → Walk → Result (Option Match) SearchError → F → Walk → Type 0
+  StepsBy f w r f' w' = Advances span_of (Finds found_of g) f w (answer_by found_of r) f' w'
+
+-- Finders of half matches.
+module _ {F : Type 0} (g : Mut F (Bor Input × Unit {0}) (Result (Option HalfMatch) SearchError)) where
+  -- the finder may be asked for a step, and answers offsets in the span
+  abbrev pub FindsHalfStep : F → Walk → Type 0
+  FindsHalfStep f w = ServesStep half_found_of g half_span_of (IsInside half_span_of) f w
+
+  -- and never errs
+  abbrev pub FindsHalfStepSurely : F → Walk → Type 0
+  FindsHalfStepSurely f w = ServesStep half_found_of g half_span_of (IsSurelyInside half_span_of) f w
+
+  -- a step by the finder
+  abbrev pub HalfStepsBy : F → Walk → Result (Option HalfMatch) SearchError → F → Walk → Type 0
+  HalfStepsBy f w r f' w' = Advances half_span_of (Finds half_found_of g) f w (answer_by half_found_of r) f' w'

@@ -1,0 +1,91 @@
+-- what an iterator over the matches of a haystack gives
+use Rattle.std.specs.Prelude.{◌≡◌, ℕ, zero, suc, ◌+◌, ◌<◌, Bool, true, false, if◌then◌else◌, List, [], ◌∷◌, Option, None, Some, Result, Ok, Err, OnSome, ◌⊎◌}
+use Rattle.regex_search_core.specs.Search.{Search}
+use Rattle.regex_search_core.specs.declared.search.Span.{Span}
+use Rattle.nfa_search_base.specs.Asking.{SameButStart}
+use Rattle.nfa_search_base.specs.Walks.{Answer, Walk, place_of, repeats, after, shifted, ends_left, ComesAfter, Advances}
+use Rattle.nfa_search_base.specs.declared.error.SearchError.{SearchError}
+
+-- a match, or the error that ends the iterator
+abbrev pub Item : Type 0 → Type 0
+Item X = Result X SearchError
+
+-- the item as a value
+abbrev pub item_by : {A X : Type 0} → (A → X) → Result A SearchError → Item X
+item_by view (Ok m) = Ok (view m)
+item_by view (Err e) = Err e
+
+-- the item that an answer makes
+abbrev pub item_of : {X : Type 0} → Answer X → Option (Item X)
+item_of (Ok (Some x)) = Some (Ok x)
+item_of (Ok None) = None
+item_of (Err e) = Some (Err e)
+
+-- the iterator ends with this answer: with none and with an error
+abbrev pub ends_with : {X : Type 0} → Answer X → Bool
+ends_with (Ok (Some x)) = false
+ends_with (Ok None) = true
+ends_with (Err e) = true
+
+-- the matches among the items
+abbrev pub matches_in : {X : Type 0} → List (Item X) → List X
+matches_in [] = []
+matches_in (Ok x ∷ items) = x ∷ matches_in items
+matches_in (Err e ∷ items) = matches_in items
+
+-- the items are the list, or a beginning of it and then this error
+abbrev pub UpTo : {X : Type 0} → SearchError → List (Item X) → List (Item X) → Type 0
+UpTo e [] [] = Unit {0}
+UpTo e (y ∷ ys) [] = ⊥
+UpTo e [] (x ∷ xs) = (x ≡ Err e) × (xs ≡ [])
+UpTo e (y ∷ ys) (x ∷ xs) = ((x ≡ y) × UpTo e ys xs) ⊎ ((x ≡ Err e) × (xs ≡ []))
+
+-- how many items may come, of an iterator that has ended or not: one for each end that is left, and an error
+abbrev pub items_left : Bool → Walk → ℕ
+items_left true w = 0
+items_left false w = ends_left w + 1
+
+-- and where no error comes
+abbrev pub matches_left : Bool → Walk → ℕ
+matches_left true w = 0
+matches_left false w = ends_left w
+
+-- A match is an X, which lies at `span`.
+module _ {X : Type 0} (span : X → Span) where
+  -- a turn of an iterator that has not ended: a step of the iteration gives its item, and says whether it ends
+  pub record TakesTurn {S : Type 0} (asks : S → Search → Answer X → S → Type 0) (s : S) (w : Walk) (item : Option (Item X)) (s' : S) (w' : Walk) (done' : Bool) : Type 0 where
+    pub answer : Answer X
+    pub step : Advances span asks s w answer s' w'
+    pub gives : item ≡ item_of answer
+    pub ends : done' ≡ ends_with answer
+    pub rises : ComesAfter w (place_of span answer)
+    pub same : SameButStart w.at w'.at
+    pub fewer : OnSome item (items_left done' w' < items_left false w)
+
+  -- the answer of a step where the search is the function h
+  abbrev pub step_answer : (Search → Answer X) → Walk → Answer X
+  step_answer h w = if repeats w (place_of span (h w.at)) then h (shifted w).at else h w.at
+
+  -- the iteration after that step
+  abbrev pub step_walk : (Search → Answer X) → Walk → Walk
+  step_walk h w = if repeats w (place_of span (h w.at)) then after (shifted w) (place_of span (h (shifted w).at)) else after w (place_of span (h w.at))
+
+  -- a match and the items after it; an error alone; nothing
+  abbrev pub items_from : Answer X → List (Item X) → List (Item X)
+  items_from (Ok (Some x)) rest = Ok x ∷ rest
+  items_from (Ok None) rest = []
+  items_from (Err e) rest = Err e ∷ []
+
+  -- the items of at most n steps
+  abbrev pub items_within : (Search → Answer X) → ℕ → Walk → List (Item X)
+  items_within h zero w = []
+  items_within h (suc n) w = items_from (step_answer h w) (items_within h n (step_walk h w))
+
+  -- all items from w on of a search that is the function h, from left to right; each step leaves fewer ends, so that these steps are enough
+  unfoldable pub greedy : (Search → Answer X) → Walk → List (Item X)
+  greedy h w = items_within h (suc (ends_left w)) w
+
+  -- the items of an iterator that has ended or not
+  abbrev pub greedy_unless : Bool → (Search → Answer X) → Walk → List (Item X)
+  greedy_unless true h w = []
+  greedy_unless false h w = greedy h w

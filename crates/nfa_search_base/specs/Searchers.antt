@@ -1,0 +1,23 @@
+-- the iteration of a `Searcher`
+use Rattle.std.specs.Prelude.{◌≡◌, true, false, Option, Ok}
+use Rattle.regex_search_core.specs.Search.{search_of}
+use Rattle.regex_search_core.specs.declared.search.Match.{Match}
+use Rattle.nfa_search_base.specs.Walks.{Walk, IsPast, repeats, after, shifted}
+use Rattle.nfa_search_base.specs.Finders.{match_place}
+use Rattle.nfa_search_base.specs.declared.iter.searcher.Searcher.{Searcher}
+use Rattle.nfa_search_base.specs.declared.iter.searcher.Offered.{Offered}
+use Rattle.nfa_search_base.specs.declared.iter.searcher.Offered.TheVariants.{Done, Again}
+
+-- where the searcher stands
+abbrev pub walk_of : Searcher → Walk
+walk_of s = record { at = search_of s.input; last = s.last_match_end }
+
+-- what becomes of an answer that is offered: it is done, and moves the iteration, or it is an empty match at the last end, and the start moves one on
+abbrev pub OfferGives : Walk → Option Match → Offered → Walk → Type 0
+OfferGives w o (Done p) w' = (p ≡ o) × (repeats w (match_place (Ok o)) ≡ false) × (w' ≡ after w (match_place (Ok o)))
+OfferGives w o Again w' = (repeats w (match_place (Ok o)) ≡ true) × (w' ≡ shifted w) × IsPast w'
+
+-- the answer is done with
+abbrev pub IsDone : Offered → Type 0
+IsDone (Done p) = Unit {0}
+IsDone Again = ⊥

@@ -1,0 +1,102 @@
+-- the steps of an iteration over the matches of a haystack
+use Rattle.std.specs.Prelude.{◌≡◌, ℕ, ◌+◌, ◌-◌, ◌<◌, ◌≤◌, max, Bool, false, ◌==◌, ◌&&◌, Option, None, Some, Result, Ok, Err, IsOk}
+use Rattle.std.specs.Bool.{MatchBool}
+use Rattle.std.specs.Option.{ForSome}
+use Rattle.regex_search_core.specs.Found.{Found, HalfFound}
+use Rattle.regex_search_core.specs.Search.{Search}
+use Rattle.regex_search_core.specs.declared.search.Span.{Span}
+use Rattle.nfa_search_base.specs.declared.error.SearchError.{SearchError}
+
+-- what a search for an X answers: one, none, or an error
+abbrev pub Answer : Type 0 → Type 0
+Answer X = Result (Option X) SearchError
+
+-- where an iteration stands: the search that it asks next, and the end of the last match
+pub record Walk : Type 0 where
+  pub at : Search
+  pub last : Option ℕ
+
+-- an iteration before its first match
+abbrev pub fresh : Search → Walk
+fresh s = record { at = s; last = None }
+
+-- the last match ended before the start
+abbrev pub IsPast : Walk → Type 0
+IsPast w = ForSome w.last (λ e. e < w.at.start)
+
+-- the last match ended at e
+abbrev pub ended_at : Option ℕ → ℕ → Bool
+ended_at None e = false
+ended_at (Some x) e = x == e
+
+-- the iteration with its start one on
+abbrev pub shifted : Walk → Walk
+shifted w = record w { at = record w.at { start = w.at.start + 1 } }
+
+-- how many ends a match may still have
+abbrev pub ends_left : Walk → ℕ
+ends_left w = w.at.end + 1 - first_end w.last
+  where
+    first_end : Option ℕ → ℕ
+    first_end None = w.at.start
+    first_end (Some e) = max w.at.start (e + 1)
+
+-- An answer moves the iteration by where its match lies: `Some` span, or `None` where it has no match.
+
+-- the match lies in the span of the search
+abbrev pub LiesIn : Search → Option Span → Type 0
+LiesIn s (Some p) = (s.start ≤ p.start) × (p.end ≤ s.end)
+LiesIn s None = Unit {0}
+
+-- the match is an empty one where the last one ended
+abbrev pub repeats : Walk → Option Span → Bool
+repeats w (Some p) = (p.start == p.end) && ended_at w.last p.end
+repeats w None = false
+
+-- the iteration after it: a match moves the start, and the last end, to its end
+abbrev pub after : Walk → Option Span → Walk
+after w (Some p) = record { at = record w.at { start = p.end }; last = Some p.end }
+after w None = w
+
+-- the match starts not before the last end, and ends after it
+abbrev pub ComesAfter : Walk → Option Span → Type 0
+ComesAfter w (Some p) = ForSome w.last (λ e. (e ≤ p.start) × (e < p.end))
+ComesAfter w None = Unit {0}
+
+-- a match leaves fewer ends, and no match not more
+abbrev pub LeavesFewer : Walk → Option Span → Walk → Type 0
+LeavesFewer w (Some p) w' = ends_left w' < ends_left w
+LeavesFewer w None w' = ends_left w' ≤ ends_left w
+
+-- where a match lies
+abbrev pub span_of : Found → Span
+span_of m = record { start = m.start; end = m.end }
+
+-- where a half match is taken to lie: at its offset, without bytes
+abbrev pub half_span_of : HalfFound → Span
+half_span_of m = record { start = m.offset; end = m.offset }
+
+-- A match is an X, which lies at `span`.
+module _ {X : Type 0} (span : X → Span) where
+  -- where the answer's match lies
+  abbrev pub place_of : Answer X → Option Span
+  place_of (Ok (Some x)) = Some (span x)
+  place_of (Ok None) = None
+  place_of (Err e) = None
+
+  -- the answer's match, if there is one, lies in the span of the search
+  abbrev pub IsInside : Search → Answer X → Type 0
+  IsInside s a = LiesIn s (place_of a)
+
+  -- and the answer is no error
+  abbrev pub IsSurelyInside : Search → Answer X → Type 0
+  IsSurelyInside s a = IsInside s a × IsOk a
+
+  -- A step, of what is asked in the state s and of the iteration w, gave r: the first answer, or, where that is an empty match at the last end, the answer one on.
+  pub record Advances {S : Type 0} (asks : S → Search → Answer X → S → Type 0) (s : S) (w : Walk) (r : Answer X) (s' : S) (w' : Walk) : Type 0 where
+    pub answer : Answer X
+    pub between : S
+    pub first : asks s w.at answer between
+    pub rest : MatchBool (repeats w (place_of answer))
+        (asks between (shifted w).at r s' × (w' ≡ after (shifted w) (place_of r)))
+        ((r ≡ answer) × (s' ≡ between) × (w' ≡ after w (place_of r)))

@@ -1,0 +1,22 @@
+//! Iteration over the matches of a haystack that never stands still.
+//!
+//! A [`Searcher`] keeps an input and the end of the last match. Each step asks for a match in the
+//! input, and moves the input's start to the match's end. A match without bytes where the last one
+//! ended would come again and again; in its place the step asks once more from one byte further.
+//! So the ends of the matches go up, and there are at most as many matches as the span has bytes,
+//! and one more. The rule is that of regex-automata's `util::iter`.
+
+mod half_matches;
+pub mod laws;
+mod matches;
+mod place;
+mod searcher;
+
+pub use half_matches::{HalfMatchesIter, TryHalfMatchesIter};
+pub use matches::{MatchesIter, TryMatchesIter};
+pub use searcher::{Offered, Searcher};
+
+#[cfg(test)]
+mod callers;
+#[cfg(test)]
+mod tests;

@@ -1,0 +1,64 @@
+ghost use Rattle.std.specs.Prelude.{◌≡◌, IfOk, map};
+ghost use Rattle.regex_search_core.specs.Found.{found_of};
+ghost use Rattle.regex_search_core.specs.Search.{search_of, whole};
+ghost use Rattle.nfa_search_base.specs.EmptyFinder.{empty_answer};
+ghost use Rattle.nfa_search_base.specs.Finders.{answer_by};
+ghost use Rattle.nfa_search_base.specs.Items.{item_by, greedy};
+ghost use Rattle.nfa_search_base.specs.Walks.{fresh, span_of};
+
+use crate::error::SearchError;
+use crate::iter::Searcher;
+use regex_search_core::{Input, Match, PatternID, Span};
+use std::alloc::{AllocError, Global};
+use std::test::Fail;
+
+// An empty match of the first pattern at the start of the span.
+#[tactic(auto, using(crate::proofs::EmptyFinderLemmas::empty_found, crate::proofs::EmptyFinderLemmas::empty_none))]
+fn empty_at_start(input: &Input<'_>) -> Result<Option<Match>, SearchError>
+    ensures { answer_by found_of result ≡ empty_answer (search_of input.now) }
+{
+    let start = input.start();
+    if start > input.end() {
+        return Ok(None);
+    }
+    match PatternID::new(0) {
+        Some(pattern) => Ok(Some(Match::new(pattern, Span { start, end: start }))),
+        None => unreachable!(),
+    }
+}
+
+// All items, by `collect`: the greedy list of that finder.
+fn collected(alloc: Global, haystack: &[u8]) -> Result<Vec<Result<Match, SearchError>>, AllocError>
+    ensures { IfOk result (λ v. map (item_by found_of) v.items ≡ greedy span_of empty_answer (fresh (whole haystack.now))) }
+{
+    let input = Input::new(haystack);
+    let searcher = Searcher::new(input);
+    let items = searcher.into_matches_iter(empty_at_start);
+    items.collect(alloc)
+}
+
+// The same, by a loop.
+fn looped(alloc: Global, haystack: &[u8]) -> Result<Vec<Result<Match, SearchError>>, AllocError>
+    ensures { IfOk result (λ v. map (item_by found_of) v.items ≡ greedy span_of empty_answer (fresh (whole haystack.now))) }
+{
+    let mut found = Vec::new(alloc);
+    let input = Input::new(haystack);
+    let searcher = Searcher::new(input);
+    let items = searcher.into_matches_iter(empty_at_start);
+    for item in items {
+        found.push(item)?;
+    }
+    Ok(found)
+}
+
+#[test]
+fn lists(rt: HostRuntime) -> Result<(), Fail> {
+    let all = collected(rt.alloc(), b"abc")?;
+    let again = looped(rt.alloc(), b"abc")?;
+    assert_eq!(rt; all.len(), 4);
+    assert_eq!(rt; again.len(), 4);
+    for (at, item) in all.iter().enumerate() {
+        assert_eq!(rt; item.map(|found| found.end()), Ok(at));
+    }
+    Ok(())
+}

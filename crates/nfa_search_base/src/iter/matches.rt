@@ -1,0 +1,171 @@
+use crate::error::SearchError;
+use crate::iter::searcher::Searcher;
+use regex_search_core::{Input, Match};
+use std::fmt;
+
+/// The matches that a finder gives, from left to right, by the steps of
+/// [`Searcher::try_advance`].
+///
+/// It keeps the finder. Its items are `Ok` matches, at most as many as the span has bytes and one
+/// more, and at most one error, that of the finder. It ends for good after the first none and after
+/// the error.
+#[derive(Drop)]
+pub struct TryMatchesIter<'h, F> {
+    searcher: Searcher<'h>,
+    finder: F,
+    done: bool,
+}
+
+impl<'h> Searcher<'h> {
+    ghost use Rattle.std.specs.Prelude.{◌≡◌, false};
+    ghost use Rattle.std.proofs.lemmas.Iterator.{YieldsList};
+    ghost use Rattle.regex_search_core.specs.Found.{Found, found_of};
+    ghost use Rattle.regex_search_core.specs.Search.{Search};
+    ghost use Rattle.nfa_search_base.specs.Walks.{Answer, span_of, IsInside};
+    ghost use Rattle.nfa_search_base.specs.Finders.{AnswersAlong, Computes};
+    ghost use Rattle.nfa_search_base.specs.Items.{item_by, greedy};
+    ghost use Rattle.nfa_search_base.specs.Searchers.{walk_of};
+    ghost use Rattle.nfa_search_base.specs.Stored.{try_walk, try_can, try_steps};
+
+    /// The matches that the finder gives from here on.
+    ///
+    /// The caller owes that the finder, wherever earlier calls have led it, may be called on each
+    /// input of this haystack, anchoring, `earliest` flag and span end, and answers a match in that
+    /// input's span.
+    pub fn into_matches_iter<F>(self, finder: F) -> TryMatchesIter<'h, F>
+    where
+        F: FnMut(&Input<'_>) -> Result<Option<Match>, SearchError>,
+        requires { AnswersAlong found_of F.FnMut (IsInside span_of) finder (walk_of self).at }
+        ensures can { try_can F.FnMut result }
+        ensures walk { try_walk result ≡ walk_of self.entry }
+        ensures finder { result.finder ≡ finder }
+        ensures going { result.done ≡ false }
+        // Where the finder computes h, the items are the greedy list of h, whoever asks for them.
+        ensures list { (h : Search → Answer Found) → Computes found_of F.FnMut h finder (walk_of self.entry).at → YieldsList (try_steps F.FnMut) (item_by found_of) result (greedy span_of h (walk_of self.entry)) }
+    {
+        TryMatchesIter {
+            searcher: self,
+            finder,
+            done: false,
+        }
+    }
+}
+
+impl<'h, F> TryMatchesIter<'h, F> {
+    ghost use Rattle.std.specs.Prelude.{◌≡◌};
+    ghost use Rattle.std.proofs.lemmas.Iterator.{YieldsList};
+    ghost use Rattle.regex_search_core.specs.Found.{Found, found_of};
+    ghost use Rattle.regex_search_core.specs.Search.{Search, search_of};
+    ghost use Rattle.nfa_search_base.specs.Walks.{Answer, span_of, IsSurelyInside};
+    ghost use Rattle.nfa_search_base.specs.Finders.{AnswersAlong, Computes};
+    ghost use Rattle.nfa_search_base.specs.Items.{matches_in, greedy_unless};
+    ghost use Rattle.nfa_search_base.specs.Stored.{try_walk, tries_of, sure_can, sure_steps};
+
+    /// The input that the next step searches.
+    pub fn input(&self) -> &Input<'h>
+        ensures { search_of result.now ≡ (try_walk self.now).at }
+    {
+        self.searcher.input()
+    }
+
+    /// The same matches, plainly. The caller owes that the finder never errs, wherever calls lead
+    /// it.
+    pub fn infallible(self) -> MatchesIter<'h, F>
+    where
+        F: FnMut(&Input<'_>) -> Result<Option<Match>, SearchError>,
+        requires { AnswersAlong found_of F.FnMut (IsSurelyInside span_of) self.finder (try_walk self).at }
+        ensures can { sure_can F.FnMut result }
+        ensures tries { tries_of result ≡ self.entry }
+        // Where the finder computes h, the matches are those of the greedy list of h.
+        ensures list { (h : Search → Answer Found) → Computes found_of F.FnMut h self.entry.finder (try_walk self.entry).at → YieldsList (sure_steps F.FnMut) found_of result (matches_in (greedy_unless span_of self.entry.done h (try_walk self.entry))) }
+    {
+        MatchesIter { tries: self }
+    }
+}
+
+impl<'h, F> Iterator for TryMatchesIter<'h, F>
+where
+    F: FnMut(&Input<'_>) -> Result<Option<Match>, SearchError>,
+{
+    ghost use Rattle.nfa_search_base.specs.Stored.{try_can, try_steps, try_left};
+
+    type Item = Result<Match, SearchError>;
+
+    ghost can_next = { try_can F.FnMut };
+
+    ghost next_gives = { try_steps F.FnMut };
+
+    ghost remaining = { try_left };
+
+    fn next(&mut self) -> Option<Result<Match, SearchError>> {
+        if self.done {
+            return None;
+        }
+        match self.searcher.advance_by(&mut self.finder) {
+            Ok(Some(found)) => Some(Ok(found)),
+            Ok(None) => {
+                self.done = true;
+                None
+            }
+            Err(error) => {
+                self.done = true;
+                Some(Err(error))
+            }
+        }
+    }
+}
+
+/// Leaves the finder out of the text.
+impl<'h, F> fmt::Debug for TryMatchesIter<'h, F> {
+    fn fmt<W: fmt::Write>(&self, f: &mut fmt::Formatter<W>) -> fmt::Result {
+        f.debug_struct("TryMatchesIter")
+            .field("searcher", &self.searcher)
+            .field("done", &self.done)
+            .finish_non_exhaustive()
+    }
+}
+
+/// The matches that a finder gives which never errs, from left to right.
+///
+/// There are at most as many as the span has bytes, and one more. It ends for good after the first
+/// none.
+#[derive(Debug, Drop)]
+pub struct MatchesIter<'h, F> {
+    tries: TryMatchesIter<'h, F>,
+}
+
+impl<'h, F> MatchesIter<'h, F> {
+    ghost use Rattle.std.specs.Prelude.{◌≡◌};
+    ghost use Rattle.regex_search_core.specs.Search.{search_of};
+    ghost use Rattle.nfa_search_base.specs.Stored.{try_walk, tries_of};
+
+    /// The input that the next step searches.
+    pub fn input(&self) -> &Input<'h>
+        ensures { search_of result.now ≡ (try_walk (tries_of self.now)).at }
+    {
+        self.tries.input()
+    }
+}
+
+impl<'h, F> Iterator for MatchesIter<'h, F>
+where
+    F: FnMut(&Input<'_>) -> Result<Option<Match>, SearchError>,
+{
+    ghost use Rattle.nfa_search_base.specs.Stored.{sure_can, sure_steps, sure_left};
+
+    type Item = Match;
+
+    ghost can_next = { sure_can F.FnMut };
+
+    ghost next_gives = { sure_steps F.FnMut };
+
+    ghost remaining = { sure_left };
+
+    fn next(&mut self) -> Option<Match> {
+        match self.tries.next() {
+            Some(Ok(found)) => Some(found),
+            None => None,
+            Some(Err(_)) => unreachable!(),
+        }
+    }
+}
