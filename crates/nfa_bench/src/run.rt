@@ -2,6 +2,7 @@ ghost use Rattle.std.specs.Prelude.{◌≤◌, IfOk};
 
 use nfa_engines::backtrack::BoundedBacktracker;
 use nfa_engines::error::SearchError;
+use nfa_engines::pikevm::PikeVM;
 use nfa_samples::sample;
 use regex_search_core::{Input, Match};
 use std::alloc::Global;
@@ -51,6 +52,7 @@ fn print_matches<W: Write>(alloc: Global, words: &[&str], out: &mut W) -> Result
     let input = Input::new(haystack.as_bytes());
     match engine {
         Engine::Backtracker => print_backtracked(alloc, nfa, input, out),
+        Engine::PikeVM => print_piked(alloc, nfa, input, out),
     }
 }
 
@@ -68,6 +70,20 @@ fn print_backtracked<W: Write>(
     Ok(())
 }
 
+fn print_piked<W: Write>(
+    alloc: Global,
+    nfa: NFA,
+    input: Input<'_>,
+    out: &mut W,
+) -> Result<(), Stop> {
+    let engine = PikeVM::new_from_nfa(nfa)?;
+    let mut cache = engine.create_cache(alloc)?;
+    for found in engine.find_iter(&mut cache, input) {
+        print_match(out, found)?;
+    }
+    Ok(())
+}
+
 fn print_match<W: Write>(out: &mut W, found: Match) -> io::Result<()> {
     let pattern = found.pattern().as_usize();
     writeln!(out, "{pattern} {}..{}", found.start(), found.end())
@@ -77,12 +93,14 @@ fn print_match<W: Write>(out: &mut W, found: Match) -> io::Result<()> {
 #[derive(Clone, Copy, Debug)]
 enum Engine {
     Backtracker,
+    PikeVM,
 }
 
 impl Engine {
     fn from_word(word: &str) -> Option<Engine> {
         match word {
             "back" => Some(Engine::Backtracker),
+            "pike" => Some(Engine::PikeVM),
             _ => None,
         }
     }

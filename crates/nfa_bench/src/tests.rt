@@ -1,3 +1,4 @@
+mod callers;
 mod calls;
 mod engines;
 mod iteration;
@@ -5,12 +6,27 @@ mod lengths;
 mod program;
 mod refusals;
 mod searches;
+mod texts;
 
 use nfa_engines::backtrack::{BoundedBacktracker, Builder, Cache, Config};
 use nfa_samples::sample;
-use regex_search_core::{Input, NonMaxUsize};
+use regex_search_core::{Input, Match, NonMaxUsize};
 use std::alloc::Global;
 use std::test::Fail;
+
+// The matches of `words_numbers` in `abc 1 foo 4567 0 quux`: each one's pattern, start and end.
+const WORDS_AND_NUMBERS: [(usize, usize, usize); 6] = [
+    (0, 0, 3),
+    (1, 4, 5),
+    (0, 6, 9),
+    (1, 10, 14),
+    (1, 15, 16),
+    (0, 17, 21),
+];
+
+fn parts(found: Match) -> (usize, usize, usize) {
+    (found.pattern().as_usize(), found.start(), found.end())
+}
 
 fn backtracker(alloc: Global, name: &str) -> Result<BoundedBacktracker, Fail> {
     let nfa = sample(alloc, name)?.ok_or("unknown name")?;

@@ -1,14 +1,14 @@
 -- Bits in blocks: reading and setting one, and clearing all.
 use Rattle.std.proofs.Common.{◌≡◌, ◌≢◌, ℕ, zero, suc, ◌+◌, ◌-◌, ◌*◌, ◌/◌, ◌%◌, ◌^◌, ◌<◌, ◌≤◌, Bool, true, false, List, [], ◌∷◌, ◌++◌, length, get_or, set, replicate, refl, ap, sym, ◌∙◌, arith, nat_eq, length-set, length-append}
 use Rattle.std.specs.Int.{bit_at, w64}
-use Rattle.std.specs.Prelude.{bit_and, bit_or}
+use Rattle.std.specs.Prelude.{bit_or}
 use Rattle.std.proofs.Common.{inl, inr}
 use Rattle.std.proofs.Math.Decide.{ℕ_discrete}
 use Rattle.std.proofs.lemmas.Bool.{cases_lt}
 use Rattle.std.proofs.lemmas.List.{same_lists, set-append_left, set-append_right, get_or_append_left, get_or-append_right, replicate-append-replicate, get_or_default}
 use Rattle.std.proofs.Common.{get_or-set_same, get_or-set_other}
 use Rattle.std.proofs.lemmas.List.FromFn.{length-map-range_with_len, get_or-map-range_with_len}
-use Rattle.std.proofs.lemmas.Nat.Bits.{bit_at_set_same, bit_at_set_other, bit_at-lt, shr_and_one}
+use Rattle.std.proofs.lemmas.Nat.Bits.{bit_at_set_same, bit_at_set_other, bit_at-lt, same_from_bits}
 use Rattle.nfa_engines.specs.Bits.{block_bits, bits_of, IsClearFrom}
 
 abbrev is_set : ℕ → ℕ → Bool
@@ -54,6 +54,16 @@ block_bits-set block j low =
       | no n ↦
           rw (get_or-set_other (block_bits block) j k true d n, get_or-block_bits block k d in_block, bit_at_set_other w64 block j low k n) refl
     ]))
+
+-- a bit that is set already changes nothing
+bit_or-set : (block j : ℕ) → j < 64 → bit_at block j ≡ 1 → bit_or block (1 * 2 ^ j % 2 ^ 64) ≡ block
+bit_or-set block j low one =
+    same_from_bits (bit_or block (1 * 2 ^ j % 2 ^ 64)) block
+    (λ i.
+    elim (ℕ_discrete i j) [
+      | yes e ↦ rw (e, bit_at_set_same w64 block j low) (sym one)
+      | no n ↦ bit_at_set_other w64 block j low i n
+    ])
 
 -- setting a bit of a block sets that bit of the table
 pub bits_of-set : (blocks : List ℕ) (i j : ℕ) → i < length blocks → j < 64
@@ -116,14 +126,17 @@ module _ (blocks : List ℕ) (bit : ℕ) (inside : bit < length (bits_of blocks)
     pub get_or-bit : (d : Bool) → get_or (bits_of blocks) bit d ≡ nat_eq (bit_at block (bit % 64)) 1
     get_or-bit d = rw whole at (get_or-bits_of blocks (bit / 64) (bit % 64) d block_within place_low) ∙ rw (← same) refl
 
-    pub bit-clear : bit_and (block / 2 ^ (bit % 64)) 1 ≡ 0 → (d : Bool) → get_or (bits_of blocks) bit d ≡ false
-    bit-clear zero' d = get_or-bit d ∙ (let e : bit_at block (bit % 64) ≡ 0 = sym (shr_and_one block (bit % 64)) ∙ zero' in rw e refl)
-
-    pub bit-set : (bit_and (block / 2 ^ (bit % 64)) 1 ≡ 0 → ⊥) → (d : Bool) → get_or (bits_of blocks) bit d ≡ true
-    bit-set some d =
-        let e : bit_at block (bit % 64) ≡ 1 =
+    -- a bit that changes the block was clear, and one that does not was set
+    pub bit-clear : (bit_or block (1 * 2 ^ (bit % 64) % 2 ^ 64) ≡ block → ⊥) → (d : Bool) → get_or (bits_of blocks) bit d ≡ false
+    bit-clear changes d =
         let low = bit_at-lt block (bit % 64) in
-        let not_zero : bit_at block (bit % 64) ≢ 0 = λ z. some (shr_and_one block (bit % 64) ∙ z) in omega arith in
+        let not_one : bit_at block (bit % 64) ≢ 1 = λ one. changes (bit_or-set block (bit % 64) place_low one) in
+        let e : bit_at block (bit % 64) ≡ 0 = omega arith in
+        get_or-bit d ∙ rw e refl
+
+    pub bit-set : bit_or block (1 * 2 ^ (bit % 64) % 2 ^ 64) ≡ block → (d : Bool) → get_or (bits_of blocks) bit d ≡ true
+    bit-set stays d =
+        let e : bit_at block (bit % 64) ≡ 1 = ap (λ n. bit_at n (bit % 64)) (sym stays) ∙ bit_at_set_same w64 block (bit % 64) place_low in
         get_or-bit d ∙ rw e refl
 
     pub bits_of-mark : bits_of (set blocks (bit / 64) (bit_or block (1 * 2 ^ (bit % 64) % 2 ^ 64))) ≡ set (bits_of blocks) bit true

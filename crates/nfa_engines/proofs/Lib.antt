@@ -1,6 +1,5 @@
-mod Made
 pub mod BitLemmas
-pub mod FirstLemmas
+pub mod PassLemmas
 pub mod WalkLemmas
 pub mod StepLemmas
 pub mod UnwindLemmas

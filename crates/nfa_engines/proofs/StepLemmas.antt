@@ -1,15 +1,14 @@
 -- What each kind of state leads to, after the turn that marked its place.
-use Rattle.std.proofs.Common.{◌≡◌, ℕ, suc, zero, ◌+◌, ◌-◌, ◌*◌, ◌^◌, ◌<◌, ◌≤◌, inl, inr, List, [], ◌∷◌, ◌++◌, length, get_or, set, map, reverse, drop, refl, ap, sym, ◌∙◌, arith, subst, append_assoc, append-nil, Fits, w64}
-use Rattle.std.specs.Prelude.{Option, Some, None, true, false, Bool, All, Any, IfSome, sum, option_map, option_and_then, option_to_list, is_some, count_by, cond, nat_lt, if◌then◌else◌}
+use Rattle.std.proofs.Common.{◌≡◌, ℕ, suc, zero, ◌+◌, ◌-◌, ◌*◌, ◌^◌, ◌<◌, ◌≤◌, List, [], ◌∷◌, ◌++◌, length, get_or, set, map, reverse, drop, refl, ap, sym, ◌∙◌, arith, append_assoc, append-nil, Fits, w64}
+use Rattle.std.specs.Prelude.{Option, Some, None, true, false, Bool, All, IfSome, option_map, option_and_then, option_to_list, is_some, count_by, cond, nat_lt, if◌then◌else◌}
 use Rattle.std.specs.List.{slice_get, sum_by}
 use Rattle.std.proofs.lemmas.Nat.{mul-add-lt}
-use Rattle.std.proofs.lemmas.List.{length-map, length-append, map_push}
+use Rattle.std.proofs.lemmas.List.{length-map, map_push}
 use Rattle.std.proofs.lemmas.Grind.{reverse_onto}
 use borrow.Author.Tests.{ltb-true}
 use Rattle.std.proofs.lemmas.List.Elements.{All-push}
 use Rattle.std.proofs.lemmas.List.Sums.{sum_by_push, sum_by-cons}
 use Rattle.regex_search_core.specs.Search.{Search}
-use Rattle.regex_search_core.specs.Patterns.{number_of}
 use Rattle.thompson_nfa.specs.Automaton.{Automaton, Node, LeadsBelow, node_of}
 use Rattle.thompson_nfa.specs.Automaton.Node.{ByteRange, Sparse, Dense, Look, Union, BinaryUnion, Capture, Fail, Match}
 use Rattle.thompson_nfa.specs.Looks.{look_holds}
@@ -18,41 +17,57 @@ use Rattle.thompson_nfa.specs.declared.state.State.{State}
 use Rattle.thompson_nfa.specs.declared.state.Transition.{Transition}
 use Rattle.nfa_search_base.specs.Graphs.{Pair}
 use Rattle.nfa_search_base.specs.Paths.{span_len, degree, node_at, pattern_of, slot_of, edges_of, byte_at, target_on, first_target, holds_byte}
-use Rattle.nfa_search_base.specs.Exploring.{Item, Slots, Found}
+use Rattle.nfa_search_base.specs.Exploring.{Item, Slots}
 use Rattle.nfa_search_base.specs.Exploring.Item.{Explore, Restore}
-use Rattle.nfa_search_base.specs.Turns.{marked_sum}
+use Rattle.nfa_engine_parts.proofs.TargetLemmas.{byte_at-within, target-below, target-degree}
 use Rattle.nfa_engines.specs.Bits.{Marks}
-use Rattle.nfa_engines.specs.Walk.{pair_of, item_of, work_onto, restoring, move_of, tries, tries_of_move, bit_of, HasRoom, IsPlace, IsWithin, Paid, Follows, Ends, Goes, weights}
+use Rattle.nfa_engines.specs.Walk.{pair_of, item_of, work_onto, restoring, move_of, tries, tries_of_move, bit_of, HasRoom, IsPlace, IsWithin, Paid, Follows, Ends, Goes}
 use Rattle.nfa_engines.specs.declared.backtrack.frame.Place.{Place}
 use Rattle.nfa_engines.specs.declared.backtrack.frame.Frame.{Frame}
 use Rattle.nfa_engines.specs.declared.backtrack.frame.Frame.TheVariants.{Step}
-use Rattle.nfa_engines.proofs.WalkLemmas.{node_at-get, bit_of-within, marked_sum-weights, Follows-marked, Follows-plain, Follows-write, Follows-unkept, Ends-match}
+use Rattle.nfa_engines.proofs.WalkLemmas.{node_at-get, bit_of-within, marked_sum-weights, Follows-plain, Follows-write, Follows-unkept, Ends-match}
 
--- the position of a place's bit, as the code computes it
-pub bit_of-place : (nfa : Automaton) (x : Search) (place : Place) (start : ℕ) (states : List State) (sid : ℕ)
-    → start ≡ x.start → map node_of states ≡ nfa.states → sid ≡ place.sid
-    → (place.at - start) * length states + sid ≡ bit_of nfa x (pair_of place)
-bit_of-place nfa x place start states sid from nodes is =
-    let size : length states ≡ length nfa.states = rw (← nodes, length-map) refl in
-    rw (from, size, is) refl
+-- the states that the code holds are those of the NFA
+pub same_size : (nfa : Automaton) (states : List State) → map node_of states ≡ nfa.states → length states ≡ length nfa.states
+same_size nfa states nodes = rw (← nodes, length-map) refl
 
--- its row, and it, fit a `usize`
-module _ (nfa : Automaton) (x : Search) (place : Place) (bits : List Bool) (is_place : IsPlace nfa x place) (room : HasRoom nfa x bits)
-    (start : ℕ) (states : List State) (from : start ≡ x.start) (nodes : map node_of states ≡ nfa.states) where
-  same_size : length states ≡ length nfa.states
-  same_size = rw (← nodes, length-map) refl
+-- a place's bit, as the code computes it, and what fits a `usize`
+module _ (nfa : Automaton) (x : Search) (place : Place) (is_place : IsPlace nfa x place) where
+  pub bit_of-place : (sid : ℕ) → sid ≡ place.sid → place.row + sid ≡ bit_of nfa x (pair_of place)
+  bit_of-place sid is = rw (is_place.row, is) refl
 
-  lies : (place.at - x.start) * length nfa.states + place.sid < length nfa.states * (span_len x + 1)
-  lies =
-      let f = is_place.from in let t = is_place.to in
-      let lt : place.at - x.start < span_len x + 1 = omega arith in
-      mul-add-lt (place.at - x.start) (length nfa.states) place.sid (span_len x + 1) lt is_place.state
+  module _ (bits : List Bool) (room : HasRoom nfa x bits) where
+    lies : (place.at - x.start) * length nfa.states + place.sid < length nfa.states * (span_len x + 1)
+    lies =
+        let f = is_place.from in let t = is_place.to in
+        let lt : place.at - x.start < span_len x + 1 = omega arith in
+        mul-add-lt (place.at - x.start) (length nfa.states) place.sid (span_len x + 1) lt is_place.state
 
-  pub Fits-row : Fits w64 ((place.at - start) * length states)
-  Fits-row = rw (from, same_size) (let k = lies in let f = room.fits in omega arith)
+    pub Fits-bit : (sid : ℕ) → sid ≡ place.sid → Fits w64 (place.row + sid)
+    Fits-bit sid is = rw (is_place.row, is) (let k = lies in let f = room.fits in omega arith)
 
-  pub Fits-bit : (sid : ℕ) → sid ≡ place.sid → Fits w64 ((place.at - start) * length states + sid)
-  Fits-bit sid is = rw (from, same_size, is) (let k = lies in let f = room.fits in omega arith)
+-- the row of the next position
+row-next : (nfa : Automaton) (x : Search) (at row states : ℕ) → x.start ≤ at → row ≡ (at - x.start) * length nfa.states → states ≡ length nfa.states
+    → row + states ≡ (at + 1 - x.start) * length nfa.states
+row-next nfa x at row states from is wide =
+    let e : at + 1 - x.start ≡ suc (at - x.start) = omega arith in
+    rw (e, is, wide) (one-more (at - x.start) (length nfa.states))
+  where
+    one-more : (k n : ℕ) → k * n + n ≡ suc k * n
+    one-more k n = grind arith
+
+-- a row ends in the table
+pub Fits-row : (nfa : Automaton) (x : Search) (place : Place) (bits : List Bool) → IsPlace nfa x place → HasRoom nfa x bits
+    → (states : ℕ) → states ≡ length nfa.states → place.row + states ≤ 2 ^ 64 - 1
+Fits-row nfa x place bits p room states wide =
+    let f = p.from in let t = p.to in
+    let ends = row-next nfa x place.at place.row states p.from p.row wide in
+    let more : place.at + 1 - x.start ≤ span_len x + 1 = omega arith in
+    let k = row-le (place.at + 1 - x.start) (span_len x + 1) (length nfa.states) more in
+    let g = room.fits in omega arith
+  where
+    row-le : (k m n : ℕ) → k ≤ m → k * n ≤ n * m
+    row-le k m n le = grind arith
 
 -- the turn at a place marked it
 pub record Taken (nfa : Automaton) (x : Search) (v : Pair) (marks marked : Marks) : Type 0 where
@@ -93,36 +108,37 @@ work_onto-push [] f work = refl
 work_onto-push (g ∷ fs) f work = work_onto-push fs f (item_of g ∷ work)
 
 -- the alternatives that are put off, the earliest on top
-abbrev pub put : ℕ → List ℕ → List Frame
-put at es = map (λ s. Step s at) (reverse es)
+abbrev pub put : ℕ → ℕ → List ℕ → List Frame
+put at row es = map (λ s. Step s at row) (reverse es)
 
-pub put-cons : (stack : List Frame) (at e : ℕ) (es : List ℕ) → stack ++ put at (e ∷ es) ≡ (stack ++ put at es) ++ Step e at ∷ []
-put-cons stack at e es =
-    ap (λ t. stack ++ map (λ s. Step s at) t) (reverse_onto es e []) ∙ ap (λ t. stack ++ t) (map_push (λ s. Step s at) (reverse es) e)
-    ∙ sym (append_assoc stack (put at es) (Step e at ∷ []))
+pub put-cons : (stack : List Frame) (at row e : ℕ) (es : List ℕ) → stack ++ put at row (e ∷ es) ≡ (stack ++ put at row es) ++ Step e at row ∷ []
+put-cons stack at row e es =
+    ap (λ t. stack ++ map (λ s. Step s at row) t) (reverse_onto es e []) ∙ ap (λ t. stack ++ t) (map_push (λ s. Step s at row) (reverse es) e)
+    ∙ sym (append_assoc stack (put at row es) (Step e at row ∷ []))
 
-pub work_onto-put : (stack : List Frame) (at : ℕ) (es : List ℕ) (work : List Item)
-    → work_onto (stack ++ put at es) work ≡ map Explore (map (λ n. (n, at)) es) ++ work_onto stack work
-work_onto-put stack at [] work = rw append-nil refl
-work_onto-put stack at (e ∷ es) work =
-    ap (λ t. work_onto t work) (put-cons stack at e es) ∙ work_onto-push (stack ++ put at es) (Step e at) work
-    ∙ ap (λ t. Explore (e, at) ∷ t) (work_onto-put stack at es work)
+pub work_onto-put : (stack : List Frame) (at row : ℕ) (es : List ℕ) (work : List Item)
+    → work_onto (stack ++ put at row es) work ≡ map Explore (map (λ n. (n, at)) es) ++ work_onto stack work
+work_onto-put stack at row [] work = rw append-nil refl
+work_onto-put stack at row (e ∷ es) work =
+    ap (λ t. work_onto t work) (put-cons stack at row e es) ∙ work_onto-push (stack ++ put at row es) (Step e at row) work
+    ∙ ap (λ t. Explore (e, at) ∷ t) (work_onto-put stack at row es work)
 
-pub tries-put : (stack : List Frame) (at : ℕ) (es : List ℕ) → sum_by tries (stack ++ put at es) ≡ sum_by tries stack + length es
-tries-put stack at [] = rw append-nil (omega arith)
-tries-put stack at (e ∷ es) =
-    ap (sum_by tries) (put-cons stack at e es) ∙ sum_by_push tries (stack ++ put at es) (Step e at)
-    ∙ (let k = tries-put stack at es in omega arith)
+pub tries-put : (stack : List Frame) (at row : ℕ) (es : List ℕ) → sum_by tries (stack ++ put at row es) ≡ sum_by tries stack + length es
+tries-put stack at row [] = rw append-nil (omega arith)
+tries-put stack at row (e ∷ es) =
+    ap (sum_by tries) (put-cons stack at row e es) ∙ sum_by_push tries (stack ++ put at row es) (Step e at row)
+    ∙ (let k = tries-put stack at row es in omega arith)
 
 module _ (nfa : Automaton) (x : Search) (count : ℕ) where
-  pub within-put : (stack : List Frame) (at : ℕ) → x.start ≤ at → at ≤ x.end → (es : List ℕ)
-      → All (IsWithin nfa x count) stack → All (λ s. s < length nfa.states) es → All (IsWithin nfa x count) (stack ++ put at es)
-  within-put stack at from to [] fits below = rw append-nil fits
-  within-put stack at from to (e ∷ es) fits below =
+  pub within-put : (stack : List Frame) (at row : ℕ) → x.start ≤ at → at ≤ x.end → row ≡ (at - x.start) * length nfa.states → (es : List ℕ)
+      → All (IsWithin nfa x count) stack → All (λ s. s < length nfa.states) es → All (IsWithin nfa x count) (stack ++ put at row es)
+  within-put stack at row from to is [] fits below = rw append-nil fits
+  within-put stack at row from to is (e ∷ es) fits below =
       let here : e < length nfa.states = below 0 e (omega arith) in
       let rest : All (λ s. s < length nfa.states) es = λ k d h. below (suc k) d (omega arith) in
-      rw (put-cons stack at e es)
-      (All-push (IsWithin nfa x count) (stack ++ put at es) (Step e at) (within-put stack at from to es fits rest) (record { state = here; from = from; to = to }))
+      rw (put-cons stack at row e es)
+      (All-push (IsWithin nfa x count) (stack ++ put at row es) (Step e at row) (within-put stack at row from to is es fits rest)
+      (record { state = here; from = from; to = to; row = is }))
 
 -- a frame that puts a slot back
 pub item_of-restoring : (slot : ℕ) (old : Option ℕ) → item_of (restoring slot old) ≡ Restore slot old
@@ -137,75 +153,12 @@ pub tries-restoring : (slot : ℕ) (old : Option ℕ) → tries (restoring slot 
 tries-restoring slot None = refl
 tries-restoring slot (Some offset) = refl
 
--- what a choice between something and nothing says
-then-some : {A : Type 0} (c : Bool) (a u : A) → (if c then Some a else None) ≡ Some u → (c ≡ true) × (a ≡ u)
-then-some true a u e = (refl, cc)
-then-some false a u e = cc
-
-then-true : {A : Type 0} (c : Bool) (o : Option A) (u : A) → (if c then o else None) ≡ Some u → c ≡ true
-then-true true o u e = refl
-then-true false o u e = cc
-
-pub byte_at-within : (x : Search) (p b : ℕ) → byte_at x p ≡ Some b → p < x.end
-byte_at-within x p b e = ltb-true p x.end (then-true (nat_lt p x.end) (slice_get x.haystack p) b e)
-
-first_target-below : (n b u : ℕ) (ts : List Transition) → All (λ t. t.next < n) ts → first_target ts b ≡ Some u → u < n
-first_target-below n b u [] below e = cc
-first_target-below n b u (t ∷ ts) below e =
-    let here : t.next < n = below 0 t (omega arith) in
-    let rest : All (λ t. t.next < n) ts = λ k d h. below (suc k) d (omega arith) in
-    (elim (holds_byte t b) as (λ h. (if h then Some t.next else first_target ts b) ≡ Some u → u < n) [
-      | true ↦ λ s. let same : t.next ≡ u = cc in rw (← same) here
-      | false ↦ λ s. first_target-below n b u ts rest s
-    ]) e
-
-first_target-some : (b u : ℕ) (ts : List Transition) → first_target ts b ≡ Some u → 1 ≤ length ts
-first_target-some b u [] e = cc
-first_target-some b u (t ∷ ts) e = omega arith
-
-dense-below : (n u : ℕ) (targets : List (Option ℕ)) (b : ℕ) → All (λ o. IfSome o (λ s. s < n)) targets
-    → option_and_then (λ t. t) (slice_get targets b) ≡ Some u → u < n
-dense-below n u [] b below e = cc
-dense-below n u (None ∷ targets) zero below e = cc
-dense-below n u (Some t ∷ targets) zero below e =
-    let here : t < n = below 0 (Some t) (omega arith) in
-    let same : t ≡ u = cc in rw (← same) here
-dense-below n u (o ∷ targets) (suc b) below e = dense-below n u targets b (λ k d h. below (suc k) d (omega arith)) e
-
-dense-some : (u : ℕ) (targets : List (Option ℕ)) (b : ℕ) → option_and_then (λ t. t) (slice_get targets b) ≡ Some u → 1 ≤ count_by is_some targets
-dense-some u [] b e = cc
-dense-some u (None ∷ targets) zero e = cc
-dense-some u (Some t ∷ targets) zero e = omega (arith, sum_by-cons (λ o. cond (is_some o) 1 0) (Some t) targets)
-dense-some u (o ∷ targets) (suc b) e = omega (arith, sum_by-cons (λ p. cond (is_some p) 1 0) o targets, dense-some u targets b e)
-
--- a target is a state
-pub target-below : (n : ℕ) (node : Node) (b t : ℕ) → LeadsBelow n node → target_on node b ≡ Some t → t < n
-target-below n (ByteRange trans) b t leads e = rw (← (then-some (holds_byte trans b) trans.next t e).1) leads
-target-below n (Sparse ts) b t leads e = first_target-below n b t ts leads e
-target-below n (Dense targets) b t leads e = dense-below n t targets b leads e
-target-below n (Look look next) b t leads e = cc
-target-below n (Union alternates) b t leads e = cc
-target-below n (BinaryUnion alt1 alt2) b t leads e = cc
-target-below n (Capture next slot) b t leads e = cc
-target-below n Fail b t leads e = cc
-target-below n (Match pattern) b t leads e = cc
-
--- and one of the state's edges
-pub target-degree : (node : Node) (b t : ℕ) → target_on node b ≡ Some t → 1 ≤ degree node
-target-degree (ByteRange trans) b t e = omega arith
-target-degree (Sparse ts) b t e = first_target-some b t ts e
-target-degree (Dense targets) b t e = dense-some t targets b e
-target-degree (Look look next) b t e = cc
-target-degree (Union alternates) b t e = cc
-target-degree (BinaryUnion alt1 alt2) b t e = cc
-target-degree (Capture next slot) b t e = cc
-target-degree Fail b t e = cc
-target-degree (Match pattern) b t e = cc
-
-pub target-tries : (node : Node) (at : ℕ) (byte : Option ℕ) → tries_of_move (move_of (option_and_then (target_on node) byte) at) ≤ degree node
-target-tries node at None = omega arith
-target-tries node at (Some b) =
-    (elim (target_on node b) as (λ o. ((t : ℕ) → o ≡ Some t → 1 ≤ degree node) → tries_of_move (move_of o at) ≤ degree node) [
+-- the turns that a byte state leaves to take
+pub target-tries : (node : Node) (place : Place) (states : ℕ) (byte : Option ℕ)
+    → tries_of_move (move_of (option_and_then (target_on node) byte) place states) ≤ degree node
+target-tries node place states None = omega arith
+target-tries node place states (Some b) =
+    (elim (target_on node b) as (λ o. ((t : ℕ) → o ≡ Some t → 1 ≤ degree node) → tries_of_move (move_of o place states) ≤ degree node) [
       | None ↦ λ some. omega arith
       | Some t ↦ λ some. some t refl
     ]) (target-degree node b)
@@ -231,14 +184,15 @@ module _ {nfa : Automaton} {x : Search} {s at : ℕ} {m n : Marks} (t : Taken nf
       Paid-step node is count stack (stack ++ f ∷ []) in_hand (All-push (IsWithin nfa x count) stack f within fits) (omega (arith, sum_by_push tries stack f))
 
   pub Paid-put : (alternates : List ℕ) → slice_get nfa.states s ≡ Some (Union alternates) → (count : ℕ) (stack : List Frame) (f : ℕ)
-      → slice_get alternates 0 ≡ Some f → All (IsWithin nfa x count) stack → All (λ q. q < length nfa.states) alternates
-      → Paid nfa x count stack m.bits (stack ++ put at (drop 1 alternates)) n.bits 1
-  Paid-put alternates is count stack f first within below =
+      → slice_get alternates 0 ≡ Some f → (row : ℕ) → row ≡ (at - x.start) * length nfa.states
+      → All (IsWithin nfa x count) stack → All (λ q. q < length nfa.states) alternates
+      → Paid nfa x count stack m.bits (stack ++ put at row (drop 1 alternates)) n.bits 1
+  Paid-put alternates is count stack f first row placed within below =
       let split = first-drop alternates f first in
       let rest : All (λ q. q < length nfa.states) (drop 1 alternates) = λ k d h. (rw split at below) (suc k) d (omega arith) in
-      Paid-step (Union alternates) is count stack (stack ++ put at (drop 1 alternates)) 1
-      (within-put nfa x count stack at t.from t.to (drop 1 alternates) within rest)
-      (omega (arith, tries-put stack at (drop 1 alternates), ap length split))
+      Paid-step (Union alternates) is count stack (stack ++ put at row (drop 1 alternates)) 1
+      (within-put nfa x count stack at row t.from t.to placed (drop 1 alternates) within rest)
+      (omega (arith, tries-put stack at row (drop 1 alternates), ap length split))
 
   -- on to the edges
   pub Goes-edges : (node : Node) → slice_get nfa.states s ≡ Some node → pattern_of node ≡ None → slot_of node ≡ None
@@ -247,42 +201,45 @@ module _ {nfa : Automaton} {x : Search} {s at : ℕ} {m n : Marks} (t : Taken nf
   Goes-edges node is plain writes es leads rest slots =
       Follows-plain nfa x m s at rest slots n t.counted t.state t.from t.inside t.clear t.set node is plain writes es leads
 
-  -- a byte state
-  pub Goes-target : (node : Node) → slice_get nfa.states s ≡ Some node → pattern_of node ≡ None → slot_of node ≡ None → LeadsBelow (length nfa.states) node
-      → edges_of x node at ≡ option_to_list (option_and_then (λ b. option_map (λ next. (next, at + 1)) (target_on node b)) (byte_at x at))
-      → (byte : Option ℕ) → byte ≡ byte_at x at → (stack : List Frame) (slots : Slots)
-      → Goes nfa x (s, at) (move_of (option_and_then (target_on node) byte) at) stack m slots stack n slots
-  Goes-target node is plain writes below leads None e stack slots = λ work.
-      Goes-edges node is plain writes [] (leads ∙ rw (← e) refl) (work_onto stack work) slots
-  Goes-target node is plain writes below leads (Some b) e stack slots =
-      (elim (target_on node b) as (λ o. target_on node b ≡ o → Goes nfa x (s, at) (move_of o at) stack m slots stack n slots) [
-        | None ↦ λ none. λ work. Goes-edges node is plain writes [] (leads ∙ rw (← e, none) refl) (work_onto stack work) slots
-        | Some q ↦ λ some.
-            let f = t.from in let inside = byte_at-within x at b (sym e) in
-            let state : q < length nfa.states = target-below (length nfa.states) node b q below some in
-            let from : x.start ≤ at + 1 = omega arith in
-            let to : at + 1 ≤ x.end = omega arith in
-            (record { state = state; from = from; to = to }, λ work. Goes-edges node is plain writes ((q, at + 1) ∷ []) (leads ∙ rw (← e, some) refl) (work_onto stack work) slots)
-      ]) refl
+  -- a byte state, at a place with its row
+  module _ (row : ℕ) (placed : row ≡ (at - x.start) * length nfa.states) (states : ℕ) (wide : states ≡ length nfa.states) where
+    Goes-target : (node : Node) → slice_get nfa.states s ≡ Some node → pattern_of node ≡ None → slot_of node ≡ None → LeadsBelow (length nfa.states) node
+        → edges_of x node at ≡ option_to_list (option_and_then (λ b. option_map (λ next. (next, at + 1)) (target_on node b)) (byte_at x at))
+        → (byte : Option ℕ) → byte ≡ byte_at x at → (stack : List Frame) (slots : Slots)
+        → Goes nfa x (s, at) (move_of (option_and_then (target_on node) byte) (record { sid = s; at = at; row = row }) states) stack m slots stack n slots
+    Goes-target node is plain writes below leads None e stack slots = λ work.
+        Goes-edges node is plain writes [] (leads ∙ rw (← e) refl) (work_onto stack work) slots
+    Goes-target node is plain writes below leads (Some b) e stack slots =
+        (elim (target_on node b) as (λ o. target_on node b ≡ o → Goes nfa x (s, at) (move_of o (record { sid = s; at = at; row = row }) states) stack m slots stack n slots) [
+          | None ↦ λ none. λ work. Goes-edges node is plain writes [] (leads ∙ rw (← e, none) refl) (work_onto stack work) slots
+          | Some q ↦ λ some.
+              let f = t.from in let inside = byte_at-within x at b (sym e) in
+              let state : q < length nfa.states = target-below (length nfa.states) node b q below some in
+              let from : x.start ≤ at + 1 = omega arith in
+              let to : at + 1 ≤ x.end = omega arith in (
+                record { state = state; from = from; to = to; row = row-next nfa x at row states t.from placed wide },
+                λ work. Goes-edges node is plain writes ((q, at + 1) ∷ []) (leads ∙ rw (← e, some) refl) (work_onto stack work) slots,
+              )
+        ]) refl
 
-  -- the three kinds of byte states
-  pub Goes-range : (trans : Transition) → slice_get nfa.states s ≡ Some (ByteRange trans) → LeadsBelow (length nfa.states) (ByteRange trans)
-      → (byte : Option ℕ) → byte ≡ byte_at x at → (stack : List Frame) (slots : Slots)
-      → Goes nfa x (s, at) (move_of (option_and_then (target_on (ByteRange trans)) byte) at) stack m slots stack n slots
-  unfolding edges_of
-  Goes-range trans is below = Goes-target (ByteRange trans) is refl refl below refl
+    -- the three kinds of byte states
+    pub Goes-range : (trans : Transition) → slice_get nfa.states s ≡ Some (ByteRange trans) → LeadsBelow (length nfa.states) (ByteRange trans)
+        → (byte : Option ℕ) → byte ≡ byte_at x at → (stack : List Frame) (slots : Slots)
+        → Goes nfa x (s, at) (move_of (option_and_then (target_on (ByteRange trans)) byte) (record { sid = s; at = at; row = row }) states) stack m slots stack n slots
+    unfolding edges_of
+    Goes-range trans is below = Goes-target (ByteRange trans) is refl refl below refl
 
-  pub Goes-sparse : (ts : List Transition) → slice_get nfa.states s ≡ Some (Sparse ts) → LeadsBelow (length nfa.states) (Sparse ts)
-      → (byte : Option ℕ) → byte ≡ byte_at x at → (stack : List Frame) (slots : Slots)
-      → Goes nfa x (s, at) (move_of (option_and_then (target_on (Sparse ts)) byte) at) stack m slots stack n slots
-  unfolding edges_of
-  Goes-sparse ts is below = Goes-target (Sparse ts) is refl refl below refl
+    pub Goes-sparse : (ts : List Transition) → slice_get nfa.states s ≡ Some (Sparse ts) → LeadsBelow (length nfa.states) (Sparse ts)
+        → (byte : Option ℕ) → byte ≡ byte_at x at → (stack : List Frame) (slots : Slots)
+        → Goes nfa x (s, at) (move_of (option_and_then (target_on (Sparse ts)) byte) (record { sid = s; at = at; row = row }) states) stack m slots stack n slots
+    unfolding edges_of
+    Goes-sparse ts is below = Goes-target (Sparse ts) is refl refl below refl
 
-  pub Goes-dense : (targets : List (Option ℕ)) → slice_get nfa.states s ≡ Some (Dense targets) → LeadsBelow (length nfa.states) (Dense targets)
-      → (byte : Option ℕ) → byte ≡ byte_at x at → (stack : List Frame) (slots : Slots)
-      → Goes nfa x (s, at) (move_of (option_and_then (target_on (Dense targets)) byte) at) stack m slots stack n slots
-  unfolding edges_of
-  Goes-dense targets is below = Goes-target (Dense targets) is refl refl below refl
+    pub Goes-dense : (targets : List (Option ℕ)) → slice_get nfa.states s ≡ Some (Dense targets) → LeadsBelow (length nfa.states) (Dense targets)
+        → (byte : Option ℕ) → byte ≡ byte_at x at → (stack : List Frame) (slots : Slots)
+        → Goes nfa x (s, at) (move_of (option_and_then (target_on (Dense targets)) byte) (record { sid = s; at = at; row = row }) states) stack m slots stack n slots
+    unfolding edges_of
+    Goes-dense targets is below = Goes-target (Dense targets) is refl refl below refl
 
   -- an assertion
   module _ (look : looks.Look) (next : ℕ) (is : slice_get nfa.states s ≡ Some (Look look next)) (rest : List Item) (slots : Slots) where
@@ -297,22 +254,22 @@ module _ {nfa : Automaton} {x : Search} {s at : ℕ} {m n : Marks} (t : Taken nf
   -- alternatives
   module _ (alternates : List ℕ) (is : slice_get nfa.states s ≡ Some (Union alternates)) (slots : Slots) where
     pub Goes-union : (f : ℕ) → slice_get alternates 0 ≡ Some f → (stack : List Frame) (work : List Item)
-        → Follows nfa x m (Explore (s, at) ∷ work_onto stack work) slots n (Explore (f, at) ∷ work_onto (stack ++ put at (drop 1 alternates)) work) slots
+        → (row : ℕ) → Follows nfa x m (Explore (s, at) ∷ work_onto stack work) slots n (Explore (f, at) ∷ work_onto (stack ++ put at row (drop 1 alternates)) work) slots
     unfolding edges_of
-    Goes-union f first stack work =
+    Goes-union f first stack work row =
         let split = first-drop alternates f first in
-        rw (work_onto-put stack at (drop 1 alternates) work)
+        rw (work_onto-put stack at row (drop 1 alternates) work)
         (Goes-edges (Union alternates) is refl refl ((f, at) ∷ map (λ q. (q, at)) (drop 1 alternates)) (ap (map (λ q. (q, at))) split) (work_onto stack work) slots)
 
     pub Goes-no_union : slice_get alternates 0 ≡ None → (rest : List Item) → Follows nfa x m (Explore (s, at) ∷ rest) slots n rest slots
     unfolding edges_of
     Goes-no_union none rest = Goes-edges (Union alternates) is refl refl [] (ap (map (λ q. (q, at))) (none-nil alternates none)) rest slots
 
-  pub Goes-both : (alt1 alt2 : ℕ) → slice_get nfa.states s ≡ Some (BinaryUnion alt1 alt2) → (slots : Slots) (stack : List Frame) (work : List Item)
-      → Follows nfa x m (Explore (s, at) ∷ work_onto stack work) slots n (Explore (alt1, at) ∷ work_onto (stack ++ Step alt2 at ∷ []) work) slots
+  pub Goes-both : (alt1 alt2 : ℕ) → slice_get nfa.states s ≡ Some (BinaryUnion alt1 alt2) → (slots : Slots) (stack : List Frame) (work : List Item) (row : ℕ)
+      → Follows nfa x m (Explore (s, at) ∷ work_onto stack work) slots n (Explore (alt1, at) ∷ work_onto (stack ++ Step alt2 at row ∷ []) work) slots
   unfolding edges_of
-  Goes-both alt1 alt2 is slots stack work =
-      rw (work_onto-push stack (Step alt2 at) work)
+  Goes-both alt1 alt2 is slots stack work row =
+      rw (work_onto-push stack (Step alt2 at row) work)
       (Goes-edges (BinaryUnion alt1 alt2) is refl refl ((alt1, at) ∷ (alt2, at) ∷ []) refl (work_onto stack work) slots)
 
   pub Goes-fail : slice_get nfa.states s ≡ Some Fail → (rest : List Item) (slots : Slots) → Follows nfa x m (Explore (s, at) ∷ rest) slots n rest slots

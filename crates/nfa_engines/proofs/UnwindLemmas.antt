@@ -1,5 +1,5 @@
 -- Taking up what was put off.
-use Rattle.std.proofs.Common.{◌≡◌, ℕ, ◌+◌, ◌<◌, ◌≤◌, List, [], ◌∷◌, ◌++◌, length, set, refl, ap, sym, ◌∙◌, arith, length-set}
+use Rattle.std.proofs.Common.{◌≡◌, ℕ, ◌+◌, List, [], ◌∷◌, ◌++◌, length, refl, ap, arith, length-set}
 use Rattle.std.specs.Prelude.{Option, Some, None, All}
 use Rattle.std.specs.List.{sum_by}
 use Rattle.std.proofs.lemmas.List.Elements.{All-pop}
@@ -19,7 +19,7 @@ module _ (nfa : Automaton) (x : Search) where
   -- a frame that is taken up
   Follows-unwind : (marks : Marks) (work : List Item) (frame : Frame) (slots : Slots) (place : Option Place) (after : Slots)
       → Unwinds frame slots place after → Follows nfa x marks (item_of frame ∷ work) slots marks (with_place place work) after
-  Follows-unwind marks work (Step sid at) slots place after u = rw (u.0, u.1) (Follows-none nfa x marks _ slots)
+  Follows-unwind marks work (Step sid at row) slots place after u = rw (u.0, u.1) (Follows-none nfa x marks _ slots)
   Follows-unwind marks work (Restore slot offset) slots place after u = rw (u.0, u.1) (Follows-restore nfa x marks work slots slot (Some offset))
   Follows-unwind marks work (Clear slot) slots place after u = rw (u.0, u.1) (Follows-restore nfa x marks work slots slot None)
 
@@ -32,7 +32,7 @@ module _ (nfa : Automaton) (x : Search) where
 
   IsWithin-place : (count : ℕ) (frame : Frame) (slots : Slots) (place : Option Place) (after : Slots)
       → Unwinds frame slots place after → IsWithin nfa x count frame → IsPlaceOr nfa x place
-  IsWithin-place count (Step sid at) slots place after u fits = rw u.0 fits
+  IsWithin-place count (Step sid at row) slots place after u fits = rw u.0 fits
   IsWithin-place count (Restore slot offset) slots place after u fits = rw u.0 tt
   IsWithin-place count (Clear slot) slots place after u fits = rw u.0 tt
 
@@ -45,7 +45,7 @@ module _ (nfa : Automaton) (x : Search) where
 
   -- a frame that is within has its slot
   HasSlot-within : (count : ℕ) (frame : Frame) → IsWithin nfa x count frame → HasSlot count frame
-  HasSlot-within count (Step sid at) fits = tt
+  HasSlot-within count (Step sid at row) fits = tt
   HasSlot-within count (Restore slot offset) fits = fits
   HasSlot-within count (Clear slot) fits = fits
 
@@ -53,7 +53,7 @@ module _ (nfa : Automaton) (x : Search) where
   all-HasSlot count stack fits = λ k d h. HasSlot-within count _ (fits k d h)
 
 tries-unwind : (frame : Frame) (slots : Slots) (place : Option Place) (after : Slots) → Unwinds frame slots place after → tries frame ≡ tries_of_place place
-tries-unwind (Step sid at) slots place after u = rw u.0 refl
+tries-unwind (Step sid at row) slots place after u = rw u.0 refl
 tries-unwind (Restore slot offset) slots place after u = rw u.0 refl
 tries-unwind (Clear slot) slots place after u = rw u.0 refl
 
@@ -71,6 +71,6 @@ slots-unwound stack popped frame slots place after pop u fits =
     rw (length-unwind frame slots place after u) both.0
   where
     length-unwind : (frame : Frame) (slots : Slots) (place : Option Place) (after : Slots) → Unwinds frame slots place after → length after ≡ length slots
-    length-unwind (Step sid at) slots place after u = rw u.1 refl
+    length-unwind (Step sid at row) slots place after u = rw u.1 refl
     length-unwind (Restore slot offset) slots place after u = rw (u.1, length-set) refl
     length-unwind (Clear slot) slots place after u = rw (u.1, length-set) refl

@@ -1,10 +1,10 @@
 -- Laws that users of the searches rely on, over the definitions alone.
-use Rattle.std.specs.Prelude.{◌≡◌, ℕ, ◌⊎◌, Bool, List, Option}
+use Rattle.std.specs.Prelude.{◌≡◌, ℕ, ◌⊎◌, Bool, false, List, Option, is_some}
 use Rattle.regex_search_core.specs.Search.{Search}
 use Rattle.regex_search_core.specs.declared.search.MatchKind.{MatchKind}
 use Rattle.thompson_nfa.specs.Automaton.{Automaton}
 use Rattle.nfa_search_base.specs.Graphs.{Pair, PathTo, ComesBefore}
-use Rattle.nfa_search_base.specs.Paths.{edges, starts, IsMatch, IsScanAnswer, IsSearchAnswer}
+use Rattle.nfa_search_base.specs.Paths.{edges, starts, IsMatch, is_utf8_empty, IsScanAnswer, IsSearchAnswer}
 
 -- two answers of one scan are one
 abbrev pub OneScanAnswer : Type 0
@@ -29,3 +29,28 @@ PathsAreOrdered =
 abbrev pub PathsAreOrderedOnce : Type 0
 PathsAreOrderedOnce =
     (nfa : Automaton) (x : Search) (p q : List Pair) → ComesBefore (edges nfa x) p q → ComesBefore (edges nfa x) q p → ⊥
+
+-- a scan has an answer
+abbrev pub EveryScanHasAnAnswer : Type 0
+EveryScanHasAnAnswer =
+    (nfa : Automaton) (x : Search) (kind : MatchKind) (earliest : Bool)
+    → (path : Option (List Pair)) × IsScanAnswer nfa x kind earliest path
+
+-- a search has an answer, after some restarts
+abbrev pub EverySearchHasAnAnswer : Type 0
+EverySearchHasAnAnswer =
+    (nfa : Automaton) (x : Search) (kind : MatchKind) (earliest : Bool)
+    → (restarts : ℕ) × (path : Option (List Pair)) × IsSearchAnswer nfa kind earliest x restarts path
+
+-- two scans of one search both answer a path or both none, of whichever kinds and `earliest` they are
+abbrev pub ScansAgree : Type 0
+ScansAgree =
+    (nfa : Automaton) (x : Search) (kind other : MatchKind) (earliest sooner : Bool) (r s : Option (List Pair))
+    → IsScanAnswer nfa x kind earliest r → IsScanAnswer nfa x other sooner s → is_some r ≡ is_some s
+
+-- so do two searches where no match has to end on a boundary
+abbrev pub SearchesAgree : Type 0
+SearchesAgree =
+    (nfa : Automaton) (x : Search) → is_utf8_empty nfa ≡ false
+    → (kind other : MatchKind) (earliest sooner : Bool) (i j : ℕ) (r s : Option (List Pair))
+    → IsSearchAnswer nfa kind earliest x i r → IsSearchAnswer nfa other sooner x j s → is_some r ≡ is_some s

@@ -2,7 +2,6 @@ pub mod Backtrack
 pub mod Bits
 pub mod Finding
 pub mod FindMatches
-pub mod FirstBytes
 pub mod Laws
 pub mod Walk
 pub use Rattle.nfa_search_base.specs.Graphs

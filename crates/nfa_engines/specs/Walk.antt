@@ -1,5 +1,5 @@
 -- The walk of a backtracker in the words of its proof: its stack as work that is left, its marks as pairs that were seen.
-use Rattle.std.specs.Prelude.{◌≡◌, ◌↔◌, ℕ, ◌+◌, ◌-◌, ◌*◌, ◌^◌, ◌<◌, ◌≤◌, Bool, true, false, List, [], ◌∷◌, ◌++◌, Option, None, Some, length, map, replicate, All, slice_index_or, slice_set, sum, option_map, option_and_then}
+use Rattle.std.specs.Prelude.{◌≡◌, ◌↔◌, ℕ, ◌+◌, ◌-◌, ◌*◌, ◌^◌, ◌<◌, ◌≤◌, Bool, true, false, List, [], ◌∷◌, Option, None, Some, length, map, All, slice_index_or, slice_set, option_map, option_and_then}
 use Rattle.std.specs.Option.{option_map_or}
 use Rattle.std.specs.List.{sum_by}
 use Rattle.regex_search_core.specs.Search.{Search}
@@ -26,7 +26,7 @@ abbrev pub pair_of : Place → Pair
 pair_of place = (place.sid, place.at)
 
 abbrev pub item_of : Frame → Item
-item_of (Step sid at) = ToExplore (sid, at)
+item_of (Step sid at row) = ToExplore (sid, at)
 item_of (Restore slot offset) = ToRestore slot (Some offset)
 item_of (Clear slot) = ToRestore slot None
 
@@ -35,20 +35,20 @@ abbrev pub restoring : ℕ → Option ℕ → Frame
 restoring slot None = Clear slot
 restoring slot (Some offset) = Restore slot offset
 
--- on to the target at the next position, if there is one
-abbrev pub move_of : Option ℕ → ℕ → Move
-move_of None at = Stuck
-move_of (Some sid) at = Go (record { sid = sid; at = at + 1 })
+-- on to the target at the next position, a row of so many states further on, if there is one
+abbrev pub move_of : Option ℕ → Place → ℕ → Move
+move_of None place states = Stuck
+move_of (Some sid) place states = Go (record { sid = sid; at = place.at + 1; row = place.row + states })
 
 -- the turns that a frame waits to take
 abbrev pub tries : Frame → ℕ
-tries (Step sid at) = 1
+tries (Step sid at row) = 1
 tries (Restore slot offset) = 0
 tries (Clear slot) = 0
 
 -- a frame that writes a slot writes one of these
 abbrev pub HasSlot : ℕ → Frame → Type 0
-HasSlot count (Step sid at) = Unit {0}
+HasSlot count (Step sid at row) = Unit {0}
 HasSlot count (Restore slot offset) = slot < count
 HasSlot count (Clear slot) = slot < count
 
@@ -59,7 +59,7 @@ work_onto (f ∷ fs) work = work_onto fs (item_of f ∷ work)
 
 -- what comes of taking a frame up: a place to search on from, or a slot that has its old value again
 abbrev pub Unwinds : Frame → Slots → Option Place → Slots → Type 0
-Unwinds (Step sid at) slots place after = (place ≡ Some (record { sid = sid; at = at })) × (after ≡ slots)
+Unwinds (Step sid at row) slots place after = (place ≡ Some (record { sid = sid; at = at; row = row })) × (after ≡ slots)
 Unwinds (Restore slot offset) slots place after = (place ≡ None) × (after ≡ slice_set slots slot (Some offset))
 Unwinds (Clear slot) slots place after = (place ≡ None) × (after ≡ slice_set slots slot None)
 
@@ -83,11 +83,12 @@ tries_of_turn (Ended half) = 0
 tries_of_turn Over = 0
 
 module _ (nfa : Automaton) (x : Search) where
-  -- the place is one of the NFA's states, in the span
+  -- the place is one of the NFA's states, in the span, and its row is as far from the first as its position from the start
   pub record IsPlace (place : Place) : Type 0 where
     pub state : place.sid < length nfa.states
     pub from : x.start ≤ place.at
     pub to : place.at ≤ x.end
+    pub row : place.row ≡ (place.at - x.start) * length nfa.states
 
   abbrev pub IsPlaceOr : Option Place → Type 0
   IsPlaceOr None = Unit {0}
@@ -95,7 +96,7 @@ module _ (nfa : Automaton) (x : Search) where
 
   -- a frame's place is in the span, and its slot is one of these
   abbrev pub IsWithin : ℕ → Frame → Type 0
-  IsWithin count (Step sid at) = IsPlace (record { sid = sid; at = at })
+  IsWithin count (Step sid at row) = IsPlace (record { sid = sid; at = at; row = row })
   IsWithin count (Restore slot offset) = slot < count
   IsWithin count (Clear slot) = slot < count
 

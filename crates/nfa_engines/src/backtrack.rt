@@ -10,6 +10,7 @@ mod config;
 mod engine;
 mod find_iter;
 mod frame;
+mod scratch;
 mod search;
 mod visited;
 mod walk;

@@ -1,5 +1,5 @@
 //! Laws over the definitions alone. Each function is empty: its contract is the theorem.
-ghost use Rattle.nfa_engines.specs.Laws.{OneScanAnswer, OneSearchAnswer, PathsAreOrdered, PathsAreOrderedOnce};
+ghost use Rattle.nfa_engines.specs.Laws.{EveryScanHasAnAnswer, EverySearchHasAnAnswer, OneScanAnswer, OneSearchAnswer, PathsAreOrdered, PathsAreOrderedOnce, ScansAgree, SearchesAgree};
 
 /// A scan has one answer at most, of each match kind and `earliest`.
 pub fn one_scan_answer()
@@ -15,4 +15,21 @@ pub fn one_search_answer()
 pub fn accepting_paths_are_ordered()
     ensures total { PathsAreOrdered }
     ensures asymmetric { PathsAreOrderedOnce }
+{}
+
+/// Every scan has an answer, of each match kind and `earliest`, whatever the NFA.
+pub fn every_scan_has_an_answer()
+    ensures { EveryScanHasAnAnswer }
+{}
+
+/// Every search has an answer, after some number of restarts.
+pub fn every_search_has_an_answer()
+    ensures { EverySearchHasAnAnswer }
+{}
+
+/// Whether a scan finds a match depends neither on the match kind nor on `earliest`. Nor does it for a search, where no match
+/// has to end on a boundary.
+pub fn is_match_agrees()
+    ensures scans { ScansAgree }
+    ensures searches { SearchesAgree }
 {}

@@ -32,7 +32,7 @@ module _ (edges : Pair → List Pair) (target : Pair → Bool) (capture : Pair �
     IsFirst-later marks v l p a = Path-later a.path l
 
     -- a pair that rises and is no target
-    IsFirst-rises : (marks : List Pair) (v : Pair) → ((w : Pair) → In w (edges v) → e < w.1) → (target v ≡ true → ⊥) → IsFirst edges target marks v None
+    pub IsFirst-rises : (marks : List Pair) (v : Pair) → ((w : Pair) → In w (edges v) → e < w.1) → (target v ≡ true → ⊥) → IsFirst edges target marks v None
     IsFirst-rises marks v rises plain p a = none a.path rises plain
       where
         none : {v : Pair} {p : List Pair} → Path edges target v p → ((w : Pair) → In w (edges v) → e < w.1) → (target v ≡ true → ⊥) → ⊥
@@ -78,12 +78,12 @@ module _ (edges : Pair → List Pair) (target : Pair → Bool) (capture : Pair �
 -- lists
 
 -- what stands in the first of two lists
-In-append_left : {A : Type 0} (x : A) (xs ys : List A) → In x xs → In x (xs ++ ys)
+pub In-append_left : {A : Type 0} (x : A) (xs ys : List A) → In x xs → In x (xs ++ ys)
 In-append_left x [] ys i = absurd i
 In-append_left x (y ∷ xs) ys i = elim i [ inl e ↦ inl e | inr j ↦ inr (In-append_left x xs ys j) ]
 
 -- what stands in the second of two lists
-In-append_right : {A : Type 0} (x : A) (xs ys : List A) → In x ys → In x (xs ++ ys)
+pub In-append_right : {A : Type 0} (x : A) (xs ys : List A) → In x ys → In x (xs ++ ys)
 In-append_right x [] ys i = i
 In-append_right x (y ∷ xs) ys i = inr (In-append_right x xs ys i)
 

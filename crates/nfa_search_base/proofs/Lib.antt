@@ -1,7 +1,11 @@
 pub mod AgreementLemmas
 pub mod AnswerLemmas
 pub mod AskingLemmas
+pub mod EarliestLemmas
 pub mod EmptyFinderLemmas
+pub mod ExistenceLemmas
+pub mod FiniteKindsLemmas
+pub mod FinitePathLemmas
 pub mod GreedyLemmas
 pub mod InsideLemmas
 pub mod KindsLemmas
@@ -18,3 +22,4 @@ pub mod StoredLemmas
 pub mod TurnLemmas
 pub mod UpToLemmas
 pub mod WalkLemmas
+pub mod OverlapLemmas

@@ -73,7 +73,7 @@ module _ (edges : Pair → List Pair) where
 -- paths grow
 
 -- a pair stands in a list, or not
-In-cases : (x : Pair) (p : List Pair) → In x p ⊎ ¬ (In x p)
+pub In-cases : (x : Pair) (p : List Pair) → In x p ⊎ ¬ (In x p)
 In-cases x [] = inr (λ i. i)
 In-cases x (y ∷ p) =
     elim (same x y) [

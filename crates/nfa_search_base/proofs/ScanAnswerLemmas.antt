@@ -49,7 +49,7 @@ module _ (nfa : Automaton) (x : Search) where
   stays p (t ∷ targets) y i = elim i [ inl e ↦ ap (λ z. z.1) e | inr later ↦ stays p targets y later ]
 
   -- an edge stays at its position, where the state does not rest, or leads to the next one within the span
-  edges_of-next : (n : Node) (p : ℕ) (y : Pair) → In y (edges_of x n p) → ((rests n ≡ false) × (y.1 ≡ p)) ⊎ ((y.1 ≡ p + 1) × (p < x.end))
+  pub edges_of-next : (n : Node) (p : ℕ) (y : Pair) → In y (edges_of x n p) → ((rests n ≡ false) × (y.1 ≡ p)) ⊎ ((y.1 ≡ p + 1) × (p < x.end))
   unfolding edges_of
   edges_of-next (ByteRange t) p y i = inr (byte_edge p (target_on (ByteRange t)) y i)
   edges_of-next (Sparse ts) p y i = inr (byte_edge p (target_on (Sparse ts)) y i)

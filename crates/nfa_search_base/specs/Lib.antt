@@ -3,6 +3,7 @@ pub mod Paths
 pub mod FirstPaths
 pub mod Exploring
 pub mod Kinds
+pub mod Overlaps
 pub mod Turns
 pub mod Agreement
 pub mod Asking

@@ -1,8 +1,8 @@
-use super::{backtracker, with_capacity};
+use super::{WORDS_AND_NUMBERS, backtracker, parts, with_capacity};
 use nfa_engines::backtrack::{BoundedBacktracker, Cache, TryFindMatches};
 use nfa_engines::error::SearchError;
 use nfa_samples::sample;
-use regex_search_core::{Input, Match};
+use regex_search_core::Input;
 use std::alloc::Global;
 use std::process::Abort;
 use std::test::Fail;
@@ -90,21 +90,26 @@ fn gives_the_refusal_once(rt: HostRuntime) -> Result<(), Fail> {
     Ok(())
 }
 
-const WORDS_AND_NUMBERS: [(usize, usize, usize); 6] = [
-    (0, 0, 3),
-    (1, 4, 5),
-    (0, 6, 9),
-    (1, 10, 14),
-    (1, 15, 16),
-    (0, 17, 21),
-];
-
-fn parts(found: Match) -> (usize, usize, usize) {
-    (found.pattern().as_usize(), found.start(), found.end())
+// The items are these matches, or those before some place and the refusal of memory, and then nothing.
+fn expect_beginning(
+    rt: &impl Abort,
+    matches: &mut TryFindMatches<'_, '_, '_>,
+    all: &[(usize, usize, usize)],
+) {
+    for want in all {
+        match matches.next() {
+            Some(Ok(found)) => assert_eq!(rt; parts(found), *want),
+            item => {
+                assert_eq!(rt; item, Some(Err(SearchError::Memory)));
+                break;
+            }
+        }
+    }
+    expect_end(rt, matches);
 }
 
-// Meant for runs in which one allocation, whichever, is refused: the items up to there come, then
-// the refusal once.
+// Meant for runs in which one allocation, whichever, is refused. The last word takes more memory than what comes
+// before it, so a refusal may also come after a match.
 #[test]
 fn gives_a_beginning_and_the_refusal(rt: HostRuntime) -> Result<(), Fail> {
     let alloc = rt.alloc();
@@ -113,19 +118,16 @@ fn gives_a_beginning_and_the_refusal(rt: HostRuntime) -> Result<(), Fail> {
         Err(_) => sample(alloc, "words_numbers")?,
     };
     let engine = BoundedBacktracker::new_from_nfa(nfa.ok_or("unknown name")?)?;
-    let mut cache = engine.create_cache(alloc);
-    let input = Input::new(b"abc 1 foo 4567 0 quux");
-    let mut matches = engine.try_find_iter(&mut cache, input);
-    for want in WORDS_AND_NUMBERS {
-        match matches.next() {
-            Some(Ok(found)) => assert_eq!(rt; parts(found), want),
-            Some(Err(error)) => {
-                assert_eq!(rt; error, SearchError::Memory);
-                break;
-            }
-            None => return Err(Fail::from("too few matches")),
-        }
+    for (haystack, all) in [
+        ("abc 1 foo 4567 0 quux", WORDS_AND_NUMBERS.as_slice()),
+        (
+            "a 1 abcdefghijklmnopqrstuvwxyzabcdefghijklmnopqrstuvwxyz",
+            [(0, 0, 1), (1, 2, 3), (0, 4, 56)].as_slice(),
+        ),
+    ] {
+        let mut cache = engine.create_cache(alloc);
+        let input = Input::new(haystack.as_bytes());
+        expect_beginning(&rt, &mut engine.try_find_iter(&mut cache, input), all);
     }
-    expect_end(&rt, &mut matches);
     Ok(())
 }

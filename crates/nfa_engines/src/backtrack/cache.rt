@@ -2,10 +2,10 @@ ghost use Rattle.std.specs.Prelude.{◌≡◌, IfOk, IsOkUnless};
 ghost use Rattle.nfa_engines.specs.Backtrack.{unused, memory_of};
 
 use crate::backtrack::engine::BoundedBacktracker;
-use crate::backtrack::frame::Frame;
+use crate::backtrack::scratch::Scratch;
 use crate::backtrack::visited::Visited;
-use crate::counter::Counter;
 use crate::error::SearchError;
+use nfa_engine_parts::counter::Counter;
 use regex_search_core::{NonMaxUsize, Refused};
 use std::alloc::Global;
 use std::marker::Model;
@@ -16,10 +16,8 @@ use std::marker::Model;
 /// A contract sees how many scans its last search made, and how many turns they took.
 #[derive(Debug, Drop)]
 pub struct Cache {
-    pub(super) stack: Vec<Frame>,
-    pub(super) visited: Visited,
+    pub(super) scratch: Scratch,
     pub(super) slots: Vec<Option<NonMaxUsize>>,
-    pub(super) scans: Counter,
 }
 
 impl Model for Cache {
@@ -28,7 +26,7 @@ impl Model for Cache {
 
     ghost Value = { Work };
 
-    ghost view = { λ c. record { scans = c.scans; turns = c.visited.turns; frames = length c.stack.items; blocks = length c.visited.bits / 64; slots = length c.slots.items } };
+    ghost view = { λ c. record { scans = c.scratch.scans; turns = c.scratch.visited.turns; frames = length c.scratch.stack.items; blocks = length c.scratch.visited.bits / 64; slots = length c.slots.items } };
 }
 
 impl Cache {
@@ -37,10 +35,12 @@ impl Cache {
         ensures { result ≡ unused }
     {
         Cache {
-            stack: Vec::new(alloc),
-            visited: Visited::new(alloc),
+            scratch: Scratch {
+                stack: Vec::new(alloc),
+                visited: Visited::new(alloc),
+                scans: Counter::new(),
+            },
             slots: Vec::new(alloc),
-            scans: Counter::new(),
         }
     }
 
@@ -48,7 +48,7 @@ impl Cache {
     pub fn reset(&mut self, _: &BoundedBacktracker)
         ensures { self.new ≡ record self.old { blocks = 0 } }
     {
-        self.visited.reset();
+        self.scratch.visited.reset();
     }
 
     /// A cache with the same marks and counts. The error is `Memory` alone.
@@ -63,10 +63,12 @@ impl Cache {
         ensures { IfOk result (λ copy. copy ≡ self.now) }
     {
         Ok(Cache {
-            stack: self.stack.clone()?,
-            visited: self.visited.clone()?,
+            scratch: Scratch {
+                stack: self.scratch.stack.clone()?,
+                visited: self.scratch.visited.clone()?,
+                scans: self.scratch.scans.copy(),
+            },
             slots: self.slots.clone()?,
-            scans: self.scans.copy(),
         })
     }
 
@@ -75,8 +77,8 @@ impl Cache {
     pub fn memory_usage(&self) -> usize
         ensures { result ≡ memory_of self.now }
     {
-        let frames = self.stack.len().saturating_mul(24);
-        let blocks = self.visited.block_len().saturating_mul(8);
+        let frames = self.scratch.stack.len().saturating_mul(24);
+        let blocks = self.scratch.visited.block_len().saturating_mul(8);
         let slots = self.slots.len().saturating_mul(8);
         frames.saturating_add(blocks).saturating_add(slots)
     }

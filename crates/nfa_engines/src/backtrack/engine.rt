@@ -12,7 +12,7 @@ use crate::backtrack::cache::Cache;
 use crate::backtrack::config::{Builder, Config};
 use crate::backtrack::search::{search, unset};
 use crate::error::SearchError;
-use crate::first_bytes::FirstBytes;
+use nfa_engine_parts::first_bytes::FirstBytes;
 use regex_search_core::{Captures, Input, Match, NonMaxUsize, PatternID, Refused};
 use std::alloc::Global;
 use std::marker::Model;
@@ -31,7 +31,7 @@ pub struct BoundedBacktracker {
 
 impl Model for BoundedBacktracker {
     ghost use Rattle.nfa_engines.specs.Backtrack.{Backtracker};
-    ghost use Rattle.nfa_engines.specs.FirstBytes.{IsFirstBytes};
+    ghost use Rattle.nfa_engine_parts.specs.FirstBytes.{IsFirstBytes};
 
     ghost Value = { Backtracker };
 
@@ -222,21 +222,16 @@ impl BoundedBacktracker {
         ensures scans { cache.new.scans ≤ scan_limit self.now.nfa (search_of input.now) }
         ensures turns { cache.new.turns ≤ cache.new.scans * ((1 + turn_weight self.now.nfa) * (span_len (search_of input.now) + 1)) }
     {
-        let Cache {
-            stack,
-            visited,
-            scans,
-            ..
-        } = cache;
-        scans.restart();
-        visited.restart_turns();
+        let Cache { scratch, .. } = cache;
+        scratch.scans.restart();
+        scratch.visited.restart_turns();
         if self.is_too_long(input) {
             unset(slots);
             return Err(SearchError::HaystackTooLong {
                 len: input.get_span().len(),
             });
         }
-        let Some(half) = search(&self.nfa, &self.first, input, stack, visited, scans, slots)? else {
+        let Some(half) = search(&self.nfa, &self.first, input, scratch, slots)? else {
             return Ok(None);
         };
         Ok(Some(half.pattern()))
@@ -261,14 +256,9 @@ impl BoundedBacktracker {
         ensures scans { cache.new.scans ≤ scan_limit self.now.nfa (search_of input.entry) }
         ensures turns { cache.new.turns ≤ cache.new.scans * ((1 + turn_weight self.now.nfa) * (span_len (search_of input.entry) + 1)) }
     {
-        let Cache {
-            stack,
-            visited,
-            slots,
-            scans,
-        } = cache;
-        scans.restart();
-        visited.restart_turns();
+        let Cache { scratch, slots } = cache;
+        scratch.scans.restart();
+        scratch.visited.restart_turns();
         if self.is_too_long(&input) {
             return Err(SearchError::HaystackTooLong {
                 len: input.get_span().len(),
@@ -277,8 +267,7 @@ impl BoundedBacktracker {
         let slot_len = self.nfa.group_info().implicit_slot_len();
         grow(slots, slot_len)?;
         let slots = &mut slots.as_mut_slice()[..slot_len];
-        let Some(half) = search(&self.nfa, &self.first, &input, stack, visited, scans, slots)?
-        else {
+        let Some(half) = search(&self.nfa, &self.first, &input, scratch, slots)? else {
             return Ok(None);
         };
         Ok(Match::from_slots(half.pattern(), slots))

@@ -1,6 +1,6 @@
 ghost use Rattle.std.specs.Prelude.{◌≡◌, ℕ, ◌+◌, ◌/◌, ◌<◌, ◌≤◌, [], true, false, length, replicate, slice_index, slice_index_or, slice_set, IfOk, OnOk};
 
-use crate::counter::Counter;
+use nfa_engine_parts::counter::Counter;
 use regex_search_core::Refused;
 use std::alloc::Global;
 use std::marker::Model;
@@ -107,10 +107,11 @@ impl Visited {
         let index = bit / BLOCK_BITS;
         let place = bit % BLOCK_BITS;
         let block = self.blocks[index];
-        if (block >> place) & 1 != 0 {
+        let marked = block | (1u64 << place);
+        if marked == block {
             return false;
         }
-        self.blocks[index] = block | (1u64 << place);
+        self.blocks[index] = marked;
         if self.used <= index {
             self.used = index + 1;
         }

@@ -1,8 +1,9 @@
-ghost use Rattle.std.specs.Prelude.{◌≡◌, ◌+◌, ◌*◌, ◌<◌, ◌≤◌, [], ◌∷◌, ◌++◌, None, Some, List, length, map, reverse, drop, slice_index_or, slice_set, All, IfOk, OnOk, option_and_then, sum};
+ghost use Rattle.std.specs.Prelude.{◌≡◌, ◌+◌, ◌*◌, ◌<◌, ◌≤◌, [], ◌∷◌, ◌++◌, None, Some, List, length, map, reverse, drop, slice_get, slice_index_or, slice_set, All, IfOk, OnOk, option_and_then, sum};
 ghost use Rattle.std.specs.List.{sum_by};
 ghost use Rattle.regex_search_core.specs.Search.{search_of};
-ghost use Rattle.thompson_nfa.specs.Automaton.{Automaton};
+ghost use Rattle.thompson_nfa.specs.Automaton.{Automaton, IsAutomaton, LeadsBelow, node_of};
 ghost use Rattle.thompson_nfa.specs.Automaton.Node.{ByteRange, Sparse, Dense};
+ghost use Rattle.thompson_nfa.specs.Looks.{look_holds};
 ghost use Rattle.regex_search_core.specs.Search.{Search};
 ghost use Rattle.nfa_search_base.specs.Paths.{byte_at, target_on};
 ghost use Rattle.nfa_search_base.specs.Exploring.{Item};
@@ -13,8 +14,9 @@ ghost use Rattle.nfa_engines.specs.declared.backtrack.frame.Frame.TheVariants.{S
 
 use crate::backtrack::frame::{Frame, Place};
 use crate::backtrack::visited::Visited;
+use nfa_engine_parts::transitions::{byte_at, dense_target, range_target, sparse_target};
 use regex_search_core::{HalfMatch, Input, NonMaxUsize, PatternID, Refused, StateID};
-use thompson_nfa::{NFA, State, Transition, look_matches};
+use thompson_nfa::{Look, NFA, State, look_matches};
 
 /// Where a turn leads.
 #[derive(Clone, Copy)]
@@ -37,77 +39,53 @@ pub enum Turn {
     Over,
 }
 
-/// The byte at the position, before the end of the span.
+/// On to the target at the next position, a row of so many states further on, if there is one.
 #[inline(always)]
-fn byte_at(input: &Input<'_>, at: usize) -> Option<u8>
-    ensures { result ≡ byte_at (search_of input.now) at }
-{
-    if at < input.end() {
-        Some(input.haystack()[at])
-    } else {
-        None
-    }
-}
-
-/// Where a `ByteRange` leads on the byte.
-fn range_target(trans: &Transition, byte: Option<u8>) -> Option<StateID>
-    ensures { result ≡ option_and_then (target_on (ByteRange trans.now)) byte }
-{
-    let byte = byte?;
-    if trans.start <= byte && byte <= trans.end {
-        Some(trans.next)
-    } else {
-        None
-    }
-}
-
-/// Where a `Sparse` leads on the byte: by the first transition that holds it.
-fn sparse_target(transitions: &[Transition], byte: Option<u8>) -> Option<StateID>
-    ensures { result ≡ option_and_then (target_on (Sparse transitions.now)) byte }
-{
-    let byte = byte?;
-    for trans in transitions {
-        if trans.start <= byte && byte <= trans.end {
-            return Some(trans.next);
-        }
-    }
-    None
-}
-
-/// Where a `Dense` leads on the byte.
-fn dense_target(targets: &[Option<StateID>], byte: Option<u8>) -> Option<StateID>
-    ensures { result ≡ option_and_then (target_on (Dense targets.now)) byte }
-{
-    let byte = byte?;
-    match targets.get(byte as usize) {
-        Some(target) => *target,
-        None => None,
-    }
-}
-
-/// On to the target at the next position, if there is one.
-#[inline(always)]
-fn past_byte(target: Option<StateID>, at: usize) -> Move
-    requires { at < usize.MAX }
-    ensures { result ≡ move_of target at }
+fn past_byte(target: Option<StateID>, place: Place, states: usize) -> Move
+    requires at { place.at < usize.MAX }
+    requires row { place.row + states ≤ usize.MAX }
+    ensures { result ≡ move_of target place states }
 {
     match target {
-        Some(sid) => Move::Go(Place { sid, at: at + 1 }),
+        Some(sid) => Move::Go(Place {
+            sid,
+            at: place.at + 1,
+            row: place.row + states,
+        }),
         None => Move::Stuck,
     }
 }
 
+/// The state of this number. The walk has the states at hand, and the NFA is here for the contract alone.
+#[inline(always)]
+fn state_at<'a>(nfa: &NFA, states: &'a [State], sid: StateID) -> &'a State
+    requires states { map node_of states.now ≡ nfa.now.states }
+    requires valid { IsAutomaton nfa.now }
+    requires sid { sid < length nfa.now.states }
+    ensures node { slice_get nfa.now.states sid ≡ Some (node_of result.now) }
+    ensures leads { LeadsBelow (length nfa.now.states) (node_of result.now) }
+{
+    &states[sid.as_usize()]
+}
+
+/// Whether the assertion holds at the position. It is a call of its own, so that its values take no registers from the
+/// walk.
+#[inline(never)]
+fn assertion_holds(look: Look, haystack: &[u8], at: usize) -> bool
+    requires { at ≤ length haystack.now }
+    ensures { result ≡ look_holds look haystack.now at }
+{
+    look_matches(look, haystack, at)
+}
+
 /// Puts off all alternatives but the first, the earliest on top.
-fn put_off(stack: &mut Vec<Frame>, alternates: &[StateID], at: usize) -> Result<(), Refused>
-    ensures { OnOk result (stack.new.items ≡ stack.old.items ++ map (λ sid. Step sid at) (reverse (drop 1 alternates.now))) }
+fn put_off(stack: &mut Vec<Frame>, alternates: &[StateID], place: Place) -> Result<(), Refused>
+    ensures { OnOk result (stack.new.items ≡ stack.old.items ++ map (λ sid. Step sid place.at place.row) (reverse (drop 1 alternates.now))) }
 {
     let mut left = alternates.len();
     while left > 1 {
         left -= 1;
-        stack.push(Frame::Step {
-            sid: alternates[left],
-            at,
-        })?;
+        stack.push(place.later(alternates[left]))?;
     }
     Ok(())
 }
@@ -155,12 +133,15 @@ fn push_restoring(
 #[inline(always)]
 fn step(
     nfa: &NFA,
+    states: &[State],
     input: &Input<'_>,
     place: Place,
     stack: &mut Vec<Frame>,
     visited: &mut Visited,
     slots: &mut [Option<NonMaxUsize>],
 ) -> Result<Move, Refused>
+    requires states { map node_of states.now ≡ nfa.now.states }
+    requires valid { IsAutomaton nfa.now }
     requires place { IsPlace nfa.now (search_of input.now) place }
     requires room { HasRoom nfa.now (search_of input.now) visited.old.bits }
     requires within { All (IsWithin nfa.now (search_of input.now) (length slots.old)) stack.old.items }
@@ -169,20 +150,26 @@ fn step(
     ensures paid { IfOk result (λ move. Paid nfa.now (search_of input.now) (length slots.old) stack.old.items visited.old.bits stack.new.items visited.new.bits (tries_of_move move)) }
     ensures goes { IfOk result (λ move. Goes nfa.now (search_of input.now) (pair_of place) move stack.old.items visited.old slots.old stack.new.items visited.new slots.new) }
 {
-    let Place { sid, at } = place;
-    let row = (at - input.start()) * nfa.states().len();
+    let Place { sid, at, row } = place;
     if !visited.insert(row + sid.as_usize()) {
         return Ok(Move::Stuck);
     }
-    match nfa.state(sid) {
-        State::ByteRange { trans } => Ok(past_byte(range_target(trans, byte_at(input, at)), at)),
-        State::Sparse(transitions) => {
-            Ok(past_byte(sparse_target(transitions, byte_at(input, at)), at))
+    match state_at(nfa, states, sid) {
+        State::ByteRange { trans } => {
+            let target = range_target(trans, byte_at(input, at));
+            Ok(past_byte(target, place, states.len()))
         }
-        State::Dense(targets) => Ok(past_byte(dense_target(targets, byte_at(input, at)), at)),
+        State::Sparse(transitions) => {
+            let target = sparse_target(transitions, byte_at(input, at));
+            Ok(past_byte(target, place, states.len()))
+        }
+        State::Dense(targets) => {
+            let target = dense_target(targets, byte_at(input, at));
+            Ok(past_byte(target, place, states.len()))
+        }
         State::Look { look, next } => {
-            if look_matches(*look, input.haystack(), at) {
-                Ok(Move::Go(Place { sid: *next, at }))
+            if assertion_holds(*look, input.haystack(), at) {
+                Ok(Move::Go(place.to(*next)))
             } else {
                 Ok(Move::Stuck)
             }
@@ -191,18 +178,20 @@ fn step(
             let Some(first) = alternates.first() else {
                 return Ok(Move::Stuck);
             };
-            put_off(stack, alternates, at)?;
-            Ok(Move::Go(Place { sid: *first, at }))
+            put_off(stack, alternates, place)?;
+            Ok(Move::Go(place.to(*first)))
         }
         State::BinaryUnion { alt1, alt2 } => {
-            stack.push(Frame::Step { sid: *alt2, at })?;
-            Ok(Move::Go(Place { sid: *alt1, at }))
+            // Read before the stack is written: the compiler then reads each arm's target in its arm.
+            let preferred = place.to(*alt1);
+            stack.push(place.later(*alt2))?;
+            Ok(Move::Go(preferred))
         }
         State::Capture { next, slot } => {
             if *slot < slots.len() {
                 save(stack, slots, *slot, at)?;
             }
-            Ok(Move::Go(Place { sid: *next, at }))
+            Ok(Move::Go(place.to(*next)))
         }
         State::Fail => Ok(Move::Stuck),
         State::Match { pattern_id } => Ok(Move::Matched(*pattern_id)),
@@ -216,7 +205,7 @@ fn unwind(frame: Frame, slots: &mut [Option<NonMaxUsize>]) -> Option<Place>
     ensures { Unwinds frame slots.old result slots.new }
 {
     match frame {
-        Frame::Step { sid, at } => Some(Place { sid, at }),
+        Frame::Step { sid, at, row } => Some(Place { sid, at, row }),
         Frame::Restore { slot, offset } => {
             slots[slot] = Some(offset);
             None
@@ -249,12 +238,15 @@ fn resume(stack: &mut Vec<Frame>, slots: &mut [Option<NonMaxUsize>]) -> Option<P
 #[inline(always)]
 fn advance(
     nfa: &NFA,
+    states: &[State],
     input: &Input<'_>,
     place: Place,
     stack: &mut Vec<Frame>,
     visited: &mut Visited,
     slots: &mut [Option<NonMaxUsize>],
 ) -> Result<Turn, Refused>
+    requires states { map node_of states.now ≡ nfa.now.states }
+    requires valid { IsAutomaton nfa.now }
     requires place { IsPlace nfa.now (search_of input.now) place }
     requires room { HasRoom nfa.now (search_of input.now) visited.old.bits }
     requires within { All (IsWithin nfa.now (search_of input.now) (length slots.old)) stack.old.items }
@@ -264,7 +256,7 @@ fn advance(
     ensures advances { IfOk result (λ turn. Advances nfa.now (search_of input.now) (pair_of place) turn stack.old.items visited.old slots.old stack.new.items visited.new slots.new) }
 {
     let at = place.at;
-    match step(nfa, input, place, stack, visited, slots)? {
+    match step(nfa, states, input, place, stack, visited, slots)? {
         Move::Go(next) => Ok(Turn::On(next)),
         Move::Matched(pattern) => Ok(Turn::Ended(HalfMatch::new(pattern, at))),
         Move::Stuck => match resume(stack, slots) {
@@ -290,9 +282,12 @@ pub fn walk(
     ensures bounded { visited.new.turns + marked_sum (weights nfa.now (search_of input.now)) visited.old.bits ≤ visited.old.turns + 1 + sum (weights nfa.now (search_of input.now)) }
     ensures walks { IfOk result (λ half. Walks nfa.now (search_of input.now) (pair_of start) half visited.old slots.old stack.new.items visited.new slots.new) }
 {
+    // Both are read at each place. Held here, and not behind a reference, they need not be read again after each write.
+    let states = nfa.states();
+    let own_input = *input;
     let mut place = start;
     loop {
-        match advance(nfa, input, place, stack, visited, slots)? {
+        match advance(nfa, states, &own_input, place, stack, visited, slots)? {
             Turn::On(next) => place = next,
             Turn::Ended(half) => return Ok(Some(half)),
             Turn::Over => return Ok(None),

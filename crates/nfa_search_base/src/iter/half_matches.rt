@@ -129,7 +129,7 @@ impl<'h, F> fmt::Debug for TryHalfMatchesIter<'h, F> {
 ///
 /// There are at most as many as the span has bytes, and one more. It ends for good after the first
 /// none.
-#[derive(Debug, Drop)]
+#[derive(Drop)]
 pub struct HalfMatchesIter<'h, F> {
     tries: TryHalfMatchesIter<'h, F>,
 }
@@ -167,5 +167,14 @@ where
             None => None,
             Some(Err(_)) => unreachable!(),
         }
+    }
+}
+
+/// Leaves the finder out of the text.
+impl<'h, F> fmt::Debug for HalfMatchesIter<'h, F> {
+    fn fmt<W: fmt::Write>(&self, f: &mut fmt::Formatter<W>) -> fmt::Result {
+        f.debug_struct("HalfMatchesIter")
+            .field("tries", &self.tries)
+            .finish()
     }
 }

@@ -7,10 +7,10 @@ use Rattle.nfa_engines.proofs.backtrack.search.search_whole.Given as goal
 
 abbrev pub invariant-loop-half : goal.invariant-loop-half
 invariant-loop-half l = record {
-  is : search_of l.search ≡ raised (search_of l.input) l.scans;
-  split : (i : ℕ) → i < l.scans → SplitsCharacter l.nfa LeftmostFirst false (raised (search_of l.input) i);
-  size : length l.visited.bits ≡ length l.fn.visited.bits;
-  turns : l.visited.turns ≤ l.scans * scan_turns l.nfa (search_of l.input);
+  is : search_of l.search ≡ raised (search_of l.input) l.scratch.scans;
+  split : (i : ℕ) → i < l.scratch.scans → SplitsCharacter l.nfa LeftmostFirst false (raised (search_of l.input) i);
+  size : length l.scratch.visited.bits ≡ length l.fn.scratch.visited.bits;
+  turns : l.scratch.visited.turns ≤ l.scratch.scans * scan_turns l.nfa (search_of l.input);
 }
 
 -- the positions that are left to start at

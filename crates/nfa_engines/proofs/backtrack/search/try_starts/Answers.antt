@@ -4,7 +4,7 @@ use Rattle.regex_search_core.specs.Search.{search_of}
 use Rattle.nfa_search_base.specs.Paths.{pairs_from}
 use Rattle.nfa_search_base.specs.Exploring.Item.{Explore}
 use Rattle.nfa_search_base.proofs.AnswerLemmas.{pairs_from-step, pairs_from-end}
-use Rattle.nfa_engines.proofs.FirstLemmas.{Follows-first, Follows-pass}
+use Rattle.nfa_engines.proofs.PassLemmas.{Follows-first, Follows-pass}
 use Rattle.nfa_engines.proofs.WalkLemmas.{Follows-then, Follows-ends, Ends-none, EndsAt-along}
 use Rattle.nfa_engines.proofs.ScanLemmas.{Scans-none, Scans-some, turns-all, turns-bound}
 use Rattle.nfa_engines.proofs.backtrack.search.try_starts.Goals as goal
@@ -23,7 +23,7 @@ pub returns-in-Some-2-clause-answer : goal.returns-in-Some-2-clause-answer
 returns-in-Some-2-clause-answer c =
     let here : c.loop-at.at < c.start_limit-limit.result = c.loop-at-test.true in
     let follows = rw (pairs_from-step c.in-Some.sid here) at c.loop-at.invariant.follows in
-    let walks = rw c.in-Some-2.is at c.in_ok-half.ensures.walks in
+    let walks = rw (c.in-Some-2.is, c.place_of-place.ensures.pair) at c.in_ok-half.ensures.walks in
     let rest = map Explore (pairs_from c.in-Some.sid (c.loop-at.at + 1) (c.start_limit-limit.result - (c.loop-at.at + 1))) in
     let size : length c.walk.new.slots ≡ length c.args.slots.now = c.walk.auto.slots ∙ c.loop-at.auto.slots in
     let unset : c.args.slots.now ≡ replicate (length c.walk.new.slots) None = c.requires.unset ∙ ap (λ n. replicate n None) (sym size) in
@@ -51,7 +51,7 @@ pub loop-at-preserved : goal.loop-at-preserved
 loop-at-preserved c =
     let here : c.loop-at.at < c.start_limit-limit.result = c.loop-at-test.true in
     let follows = rw (pairs_from-step c.in-Some.sid here) at c.loop-at.invariant.follows in
-    let fails = rw c.in_default-2.is at c.in_ok-half.ensures.walks in
+    let fails = rw (c.in_default-2.is, c.place_of-place.ensures.pair) at c.in_ok-half.ensures.walks in
     let rest = map Explore (pairs_from c.in-Some.sid (c.loop-at.at + 1) (c.start_limit-limit.result - (c.loop-at.at + 1))) in
     let walked = Follows-then c.args.nfa.now (search_of c.args.input.now) follows (fails.follows rest) in
     let next = c.next_start-at-in-loop-at.ensures in

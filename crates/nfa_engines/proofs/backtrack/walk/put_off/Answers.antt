@@ -12,4 +12,4 @@ drop-low xs (suc (suc left)) low none = absurd (omega arith)
 pub returns : goal.returns
 returns c =
     c.loop-left.invariant.pushed
-    ∙ ap (λ es. c.args.stack.now.items ++ map (λ sid. Step sid c.args.at) (reverse es)) (drop-low c.args.alternates.now c.loop-left.left c.loop-left-test.false c.loop-left.invariant.none)
+    ∙ ap (λ es. c.args.stack.now.items ++ map (λ sid. Step sid c.args.place.at c.args.place.row) (reverse es)) (drop-low c.args.alternates.now c.loop-left.left c.loop-left-test.false c.loop-left.invariant.none)

@@ -6,7 +6,7 @@ abbrev pub invariant-loop-left : goal.invariant-loop-left
 invariant-loop-left l = record {
   inside : l.left ≤ length l.alternates;
   none : l.left ≡ 0 → length l.alternates ≡ 0;
-  pushed : l.stack.items ≡ l.fn.stack.items ++ map (λ sid. Step sid l.at) (reverse (drop l.left l.alternates));
+  pushed : l.stack.items ≡ l.fn.stack.items ++ map (λ sid. Step sid l.place.at l.place.row) (reverse (drop l.left l.alternates));
 }
 
 abbrev pub decreases-loop-left : goal.decreases-loop-left

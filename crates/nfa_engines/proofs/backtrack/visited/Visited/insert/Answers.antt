@@ -14,11 +14,11 @@ index_mut-requires c =
     let inside : c.args.bit < length (bits_of c.self.inside.blocks.items) = rw (ap (λ (m : Marks). m.bits) c.self.view_is) c.requires in
     omega (arith, block_within c.self.inside.blocks.items c.args.bit inside)
 
-pub returns-then-block-place-ne0-clause-seen : goal.returns-then-block-place-ne0-clause-seen
-returns-then-block-place-ne0-clause-seen c = λ _.
+pub returns-then-marked-block-clause-seen : goal.returns-then-marked-block-clause-seen
+returns-then-marked-block-clause-seen c = λ _.
     let same = ap (λ (m : Marks). m.bits) c.self.view_is in
     let inside : c.args.bit < length (bits_of c.self.inside.blocks.items) = rw same c.requires in
-    (rw (← same) (bit-set c.self.inside.blocks.items c.args.bit inside _ c.index-block.ensures c.if-block-place-ne0.true false), same)
+    (rw (← same) (bit-set c.self.inside.blocks.items c.args.bit inside _ c.index-block.ensures c.if-marked-block.true false), same)
 
 pub invariant_of-self-then-self-index : goal.invariant_of-self-then-self-index
 invariant_of-self-then-self-index c =
@@ -30,7 +30,7 @@ pub returns-then-self-index-clause-fresh : goal.returns-then-self-index-clause-f
 returns-then-self-index-clause-fresh c = λ _.
     let same = ap (λ (m : Marks). m.bits) c.self.view_is in
     let inside : c.args.bit < length (bits_of c.self.inside.blocks.items) = rw same c.requires in (
-      rw (← same) (bit-clear c.self.inside.blocks.items c.args.bit inside _ c.index-block.ensures c.if-block-place-ne0.false true),
+      rw (← same) (bit-clear c.self.inside.blocks.items c.args.bit inside _ c.index-block.ensures c.if-marked-block.false true),
       rw (← same) (bits_of-mark c.self.inside.blocks.items c.args.bit inside _ c.index-block.ensures),
     )
 
@@ -38,6 +38,6 @@ pub returns-else-self-index-clause-fresh : goal.returns-else-self-index-clause-f
 returns-else-self-index-clause-fresh c = λ _.
     let same = ap (λ (m : Marks). m.bits) c.self.view_is in
     let inside : c.args.bit < length (bits_of c.self.inside.blocks.items) = rw same c.requires in (
-      rw (← same) (bit-clear c.self.inside.blocks.items c.args.bit inside _ c.index-block.ensures c.if-block-place-ne0.false true),
+      rw (← same) (bit-clear c.self.inside.blocks.items c.args.bit inside _ c.index-block.ensures c.if-marked-block.false true),
       rw (← same) (bits_of-mark c.self.inside.blocks.items c.args.bit inside _ c.index-block.ensures),
     )

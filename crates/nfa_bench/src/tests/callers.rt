@@ -1,0 +1,167 @@
+ghost use Rattle.std.specs.Prelude.{◌≡◌, Ok, IfOk, map};
+ghost use Rattle.regex_search_core.specs.Found.{found_of};
+ghost use Rattle.regex_search_core.specs.Search.{search_of, whole};
+ghost use Rattle.nfa_search_base.specs.Finders.{answer_by, match_place, half_place};
+ghost use Rattle.nfa_search_base.specs.Items.{item_by, greedy};
+ghost use Rattle.nfa_search_base.specs.Walks.{fresh, span_of, LiesIn};
+ghost use Rattle.nfa_bench.specs.Callers.{AreAllOf, piece_answer};
+
+use super::{WORDS_AND_NUMBERS, backtracker, parts, with_capacity};
+use nfa_engines::backtrack::{BoundedBacktracker, Cache};
+use nfa_engines::error::SearchError;
+use nfa_engines::iter::Searcher;
+use regex_search_core::{HalfMatch, Input, Match, PatternID, Span};
+use std::alloc::{AllocError, Global};
+use std::test::Fail;
+
+// All items of an engine, by `collect`.
+fn collected(
+    alloc: Global,
+    engine: &BoundedBacktracker,
+    cache: &mut Cache,
+    haystack: &[u8],
+) -> Result<Vec<Result<Match, SearchError>>, AllocError>
+    ensures { IfOk result (λ v. AreAllOf engine.now (whole haystack.now) v.items) }
+{
+    let input = Input::new(haystack);
+    let items = engine.try_find_iter(cache, input);
+    items.collect(alloc)
+}
+
+// The same, by a loop.
+fn looped(
+    alloc: Global,
+    engine: &BoundedBacktracker,
+    cache: &mut Cache,
+    haystack: &[u8],
+) -> Result<Vec<Result<Match, SearchError>>, AllocError>
+    ensures { IfOk result (λ v. AreAllOf engine.now (whole haystack.now) v.items) }
+{
+    let mut found = Vec::new(alloc);
+    let input = Input::new(haystack);
+    let items = engine.try_find_iter(cache, input);
+    for item in items {
+        found.push(item)?;
+    }
+    Ok(found)
+}
+
+// The match that takes at most `len` bytes from the start of the span.
+pub fn next_piece(input: &Input<'_>, len: usize) -> Option<Match>
+    ensures is { answer_by found_of (Ok result) ≡ piece_answer len (search_of input.now) }
+    ensures inside { LiesIn (search_of input.now) (match_place (Ok result)) }
+{
+    let start = input.start();
+    let end = input.end();
+    if start > end {
+        return None;
+    }
+    let end = if end - start > len { start + len } else { end };
+    match PatternID::new(0) {
+        Some(pattern) => Some(Match::new(pattern, Span { start, end })),
+        None => unreachable!(),
+    }
+}
+
+// All pieces of the haystack, by a finder that is a closure.
+fn pieces(
+    alloc: Global,
+    haystack: &[u8],
+    len: usize,
+) -> Result<Vec<Result<Match, SearchError>>, AllocError>
+    ensures { IfOk result (λ v. map (item_by found_of) v.items ≡ greedy span_of (piece_answer len) (fresh (whole haystack.now))) }
+{
+    let input = Input::new(haystack);
+    let searcher = Searcher::new(input);
+    let items = searcher.into_matches_iter(|input: &Input<'_>| Ok(next_piece(input, len)));
+    items.collect(alloc)
+}
+
+// The end of the match that the engine finds.
+fn half_found(
+    engine: &BoundedBacktracker,
+    cache: &mut Cache,
+    input: &Input<'_>,
+) -> Result<Option<HalfMatch>, SearchError>
+    ensures { LiesIn (search_of input.now) (half_place result) }
+{
+    match engine.try_find(cache, *input) {
+        Ok(Some(found)) => Ok(Some(HalfMatch::new(found.pattern(), found.end()))),
+        Ok(None) => Ok(None),
+        Err(error) => Err(error),
+    }
+}
+
+#[test]
+fn lists_all_matches(rt: HostRuntime) -> Result<(), Fail> {
+    let alloc = rt.alloc();
+    let engine = backtracker(alloc, "words_numbers")?;
+    let mut cache = engine.create_cache(alloc);
+    let haystack = b"abc 1 foo 4567 0 quux";
+    for all in [
+        collected(alloc, &engine, &mut cache, haystack)?,
+        looped(alloc, &engine, &mut cache, haystack)?,
+    ] {
+        assert_eq!(rt; all.len(), WORDS_AND_NUMBERS.len());
+        for (item, want) in all.iter().zip(WORDS_AND_NUMBERS.iter()) {
+            assert_eq!(rt; item.map(parts), Ok(*want));
+        }
+    }
+    Ok(())
+}
+
+#[test]
+fn lists_the_refusal_alone(rt: HostRuntime) -> Result<(), Fail> {
+    let alloc = rt.alloc();
+    let engine = with_capacity(alloc, "alnum100", 10)?;
+    let mut cache = engine.create_cache(alloc);
+    let refusal = SearchError::HaystackTooLong { len: 3 };
+    for all in [
+        collected(alloc, &engine, &mut cache, b"abc")?,
+        looped(alloc, &engine, &mut cache, b"abc")?,
+    ] {
+        assert_eq!(rt; all.as_slice(), [Err(refusal)].as_slice());
+    }
+    Ok(())
+}
+
+#[test]
+fn lists_all_pieces(rt: HostRuntime) -> Result<(), Fail> {
+    let alloc = rt.alloc();
+    for (haystack, len, want) in [
+        ("abcdefgh", 3, [(0, 3), (3, 6), (6, 8)].as_slice()),
+        ("abcd", 2, [(0, 2), (2, 4)].as_slice()),
+        ("ab", 0, [(0, 0), (1, 1), (2, 2)].as_slice()),
+        ("", 1, [(0, 0)].as_slice()),
+    ] {
+        let all = pieces(alloc, haystack.as_bytes(), len)?;
+        assert_eq!(rt; all.len(), want.len(), "{haystack:?} by {len}");
+        for (item, (start, end)) in all.iter().zip(want) {
+            assert_eq!(rt;
+                item.map(parts),
+                Ok((0, *start, *end)),
+                "{haystack:?} by {len}"
+            );
+        }
+    }
+    Ok(())
+}
+
+#[test]
+fn gives_all_half_matches(rt: HostRuntime) -> Result<(), Fail> {
+    let alloc = rt.alloc();
+    let engine = backtracker(alloc, "a_or_empty")?;
+    let mut cache = engine.create_cache(alloc);
+    let searcher = Searcher::new(Input::new(b"abba"));
+    let mut halves = searcher.into_half_matches_iter(|input: &Input<'_>| half_found(
+        &engine, &mut cache, input,
+    ));
+    for want in [1, 2, 4] {
+        let item = halves.next().map(|item| item.map(|half| half.offset()));
+        assert_eq!(rt; item, Some(Ok(want)));
+    }
+    for _ in 0..2 {
+        assert_eq!(rt; halves.next(), None);
+    }
+    Ok(())
+}

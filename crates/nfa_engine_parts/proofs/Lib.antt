@@ -1,0 +1,3 @@
+mod Made
+pub mod FirstLemmas
+pub mod TargetLemmas

@@ -1,0 +1,5 @@
+use Rattle.nfa_search_base.proofs.ExistenceLemmas.{scan_answer-exists}
+use Rattle.nfa_engines.proofs.laws.every_scan_has_an_answer.Goals as goal
+
+pub returns : goal.returns
+returns c = scan_answer-exists

@@ -1,0 +1,3 @@
+//! A search that follows all states side by side, by the public names of its crate.
+
+pub use nfa_pikevm::{Builder, Cache, Config, FindMatches, PikeVM};

@@ -1,0 +1,337 @@
+-- What the loops over the positions keep.
+use Rattle.std.proofs.Common.{◌≡◌, ℕ, ◌+◌, ◌-◌, ◌*◌, ◌<◌, ◌≤◌, ◌↔◌, inl, inr, Bool, true, false, List, [], ◌∷◌, length, refl, sym, ap, ◌∙◌, subst, arith, length-append, get_or}
+use Rattle.std.specs.Prelude.{None, Some, All, cond}
+use Rattle.std.proofs.lemmas.Bool.{cases_lt, lt-ltb, le-ltb}
+use Rattle.std.proofs.lemmas.List.{ext_get_or}
+use Rattle.std.proofs.lemmas.List.Elements.{All-nil, All-push}
+use Rattle.std.proofs.Math.Nat.{mul-le-mul_right}
+use Rattle.regex_search_core.specs.PatternSets.{size_of_set}
+use Rattle.regex_search_core.specs.Search.{Search}
+use Rattle.regex_search_core.specs.declared.search.MatchKind.TheVariants.{All as AllMatches, LeftmostFirst}
+use Rattle.thompson_nfa.specs.Automaton.{Automaton, IsAutomaton}
+use Rattle.nfa_search_base.specs.Graphs.{Pair}
+use Rattle.nfa_search_base.specs.Paths.{edges, capture, starts, span_len, turn_weight}
+use Rattle.nfa_search_base.specs.Exploring.{Slots}
+use Rattle.nfa_search_base.specs.Kinds.{is_resting, NoneBefore, EndsBefore, IsFront}
+use Rattle.nfa_search_base.specs.Overlaps.{HoldsPattern, IsOverlapResult}
+use Rattle.nfa_search_base.proofs.ScanAnswerLemmas.{EndsBefore-span, starts-from}
+use Rattle.nfa_search_base.proofs.ScanLemmas.{NoneBefore-start, NoneBefore-step, NoneBefore-end}
+use Rattle.nfa_search_base.proofs.KindsLemmas.{first_match-is}
+use Rattle.nfa_search_base.proofs.OverlapLemmas.{wanted-shape, GainsBefore, GainsBefore-start, GainsBefore-step, GainsBefore-end, NoneHeld, NoneHeld-start, NoneHeld-step, NoneHeld-found, NoneHeld-end, FirstAt-front, FirstAt-found, First-none}
+use Rattle.nfa_pikevm.specs.Rows.{Met, Active}
+use Rattle.nfa_pikevm.specs.Scans.{joined, HasThreads, Sizes, AreSized, AreStarts, AreAt, IsPaidAt, scan_turns}
+use Rattle.nfa_pikevm.specs.Overlapping.{wants, Gathers, GathersAll, GathersFirst, GoesPast, CrossesInSet}
+use Rattle.nfa_pikevm.specs.declared.scan.Starts.{Starts}
+use Rattle.nfa_pikevm.proofs.OverlapSetLemmas.{wants-tells}
+use Rattle.nfa_pikevm.proofs.OverlapScanLemmas.{ScansAt, ScansAt-start, ScansAt-join, ScansAt-over, ScansAt-next, front-rests, lead-scan, whole-front, next-at, next-paid}
+
+-- the room that the threads keep, and that no state is kept for the next position
+pub record Keeps (nfa : Automaton) (met0 : Met) (frames0 : ℕ) (curr0 next0 : Active) (met : Met) (frames : ℕ) (curr next : Active) : Type 0 where
+  pub room : HasThreads nfa 0 met frames curr next
+  pub empty : next.items ≡ []
+  pub sizes : (size : Sizes) → AreSized size met0 frames0 curr0 next0 → AreSized size met frames curr next
+
+pub Keeps-start : (nfa : Automaton) (met : Met) (frames : ℕ) (curr next : Active) → HasThreads nfa 0 met frames curr next → next.items ≡ [] → Keeps nfa met frames curr next met frames curr next
+Keeps-start nfa met frames curr next room empty = record { room = room; empty = empty; sizes = λ size s. s }
+
+-- the same but for the states that are kept
+record SameShape (a b : Active) : Type 0 where
+  width : b.width ≡ a.width
+  places : b.places ≡ a.places
+  cells : b.cells ≡ a.cells
+
+same-shape : (a b : Active) (items : List (ℕ × Slots)) → b ≡ record a { items = items } → SameShape a b
+same-shape a b items e = record { width = ap (λ (z : Active). z.width) e; places = ap (λ (z : Active). z.places) e; cells = ap (λ (z : Active). z.cells) e }
+
+-- a start joins the states
+pub room-joined : {nfa : Automaton} {met : Met} {frames : ℕ} {curr next : Active} (after : Active) (items : List (ℕ × Slots)) (met1 : Met) (frames1 : ℕ) (next1 : Active)
+    → HasThreads nfa 0 met frames curr next → after ≡ record curr { items = items } → met1 ≡ met → frames1 ≡ frames → next1 ≡ next → HasThreads nfa 0 met1 frames1 after next1
+room-joined {nfa} {met} {frames} {curr} {next} after items met1 frames1 next1 room e m f n =
+    let s = same-shape curr after items e in
+    rw (m, f, n) (record {
+      serves = record {
+        marks = room.serves.marks;
+        frames_fit = room.serves.frames_fit;
+        curr_places = rw s.places room.serves.curr_places;
+        next_places = room.serves.next_places;
+        curr_cells = omega arith;
+        next_cells = room.serves.next_cells;
+      };
+      curr_width = s.width ∙ room.curr_width;
+      next_width = room.next_width;
+    })
+
+-- the next position
+pub Keeps-next : {nfa : Automaton} {met0 : Met} {frames0 : ℕ} {curr0 next0 : Active} (met : Met) (frames : ℕ) (curr next joined_curr crossed_curr crossed_next curr1 next1 : Active) (met1 : Met) (frames1 : ℕ) (items : List (ℕ × Slots))
+    → Keeps nfa met0 frames0 curr0 next0 met frames curr next → joined_curr ≡ record curr { items = items } → crossed_curr ≡ record joined_curr { items = crossed_curr.items }
+    → crossed_next ≡ record next { items = crossed_next.items } → curr1 ≡ crossed_next → next1 ≡ record crossed_curr { items = [] } → length met1.bits ≡ length met.bits → frames1 ≡ frames
+    → Keeps nfa met0 frames0 curr0 next0 met1 frames1 curr1 next1
+Keeps-next {nfa} {met0} {frames0} {curr0} {next0} met frames curr next joined_curr crossed_curr crossed_next curr1 next1 met1 frames1 items k j c n e f m g =
+    let sj = same-shape curr joined_curr items j in
+    let sc = same-shape joined_curr crossed_curr crossed_curr.items c in
+    let sn = same-shape next crossed_next crossed_next.items n in
+    let s1 = same-shape crossed_curr next1 [] f in
+    let width1 : curr1.width ≡ next.width = ap (λ (z : Active). z.width) e ∙ sn.width in
+    let places1 : curr1.places ≡ next.places = ap (λ (z : Active). z.places) e ∙ sn.places in
+    let cells1 : curr1.cells ≡ next.cells = ap (λ (z : Active). z.cells) e ∙ sn.cells in
+    let width2 : next1.width ≡ curr.width = s1.width ∙ sc.width ∙ sj.width in
+    let places2 : next1.places ≡ curr.places = s1.places ∙ sc.places ∙ sj.places in
+    let cells2 : next1.cells ≡ curr.cells = s1.cells ∙ sc.cells ∙ sj.cells in
+    record {
+      room = record {
+        serves = record {
+          marks = rw m k.room.serves.marks;
+          frames_fit = rw g k.room.serves.frames_fit;
+          curr_places = rw places1 k.room.serves.next_places;
+          next_places = rw places2 k.room.serves.curr_places;
+          curr_cells = omega arith;
+          next_cells = omega arith;
+        };
+        curr_width = width1 ∙ k.room.next_width;
+        next_width = width2 ∙ k.room.curr_width;
+      };
+      empty = ap (λ (z : Active). z.items) f;
+      sizes = λ size s.
+          let old = k.sizes size s in
+          record {
+            marks = m ∙ old.marks;
+            frames_are = g ∙ old.frames_are;
+            curr_places = places1 ∙ old.next_places;
+            next_places = places2 ∙ old.curr_places;
+            curr_cells = cells1 ∙ old.next_cells;
+            next_cells = cells2 ∙ old.curr_cells;
+          };
+    }
+
+-- where the width is none
+pub joined-width : (from : Starts) (width at : ℕ) (items : List (ℕ × Slots)) → width ≡ 0 → joined from width at items ≡ joined from 0 at items
+joined-width from width at items none = ap (λ w. joined from w at items) none
+
+pub sizes-joined : {size : Sizes} {met : Met} {frames : ℕ} {curr next : Active} (after : Active) (items : List (ℕ × Slots)) (met1 : Met) (frames1 : ℕ) (next1 : Active)
+    → AreSized size met frames curr next → after ≡ record curr { items = items } → met1 ≡ met → frames1 ≡ frames → next1 ≡ next → AreSized size met1 frames1 after next1
+sizes-joined {size} {met} {frames} {curr} {next} after items met1 frames1 next1 s e m f n =
+    let t = same-shape curr after items e in
+    rw (m, f, n) (record {
+      marks = s.marks;
+      frames_are = s.frames_are;
+      curr_places = t.places ∙ s.curr_places;
+      next_places = s.next_places;
+      curr_cells = t.cells ∙ s.curr_cells;
+      next_cells = s.next_cells;
+    })
+
+-- the states with the one that joined
+pub joined-below : (nfa : Automaton) (from : Starts) (at : ℕ) (items : List (ℕ × Slots)) → from.state < length nfa.states → All (λ i. i.0 < length nfa.states) items
+    → All (λ i. i.0 < length nfa.states) (joined from 0 at items)
+joined-below nfa from at items below states =
+    elim (cases_lt at from.limit) [
+      | inl less ↦ rw (lt-ltb at from.limit less) (All-push (λ (i : ℕ × Slots). i.0 < length nfa.states) items (from.state, []) states below)
+      | inr past ↦ rw (le-ltb at from.limit past) states
+    ]
+
+pub joined-few : (from : Starts) (at : ℕ) (items : List (ℕ × Slots)) → length (joined from 0 at items) ≤ length items + 1
+joined-few from at items =
+    elim (cases_lt at from.limit) [
+      | inl less ↦ rw (lt-ltb at from.limit less) (omega (arith, length-append items ((from.state, []) ∷ [])))
+      | inr past ↦ rw (le-ltb at from.limit past) (omega arith)
+    ]
+
+pub no-items : (items : List (ℕ × Slots)) → length items ≡ 0 → items ≡ []
+no-items [] e = refl
+no-items (i ∷ items) e = absurd (omega (arith, e))
+
+-- the turns at a position, up to the next one
+module _ (nfa : Automaton) (x : Search) where
+  pub paid-start : (turns : ℕ) (items : List (ℕ × Slots)) → items ≡ [] → IsPaidAt nfa x x.start turns turns (length items)
+  paid-start turns items none = record { bound = let l : length items ≡ 0 = ap (λ (i : List (ℕ × Slots)). length i) none in omega arith }
+
+  pub paid-joined : {at before turns : ℕ} (items : List (ℕ × Slots)) (from : Starts) → IsPaidAt nfa x at before turns (length items)
+      → turns + length (joined from 0 at items) ≤ before + (at - x.start) * (1 + turn_weight nfa) + 1
+  paid-joined {at} {before} {turns} items from p = omega (arith, p.bound, joined-few from at items)
+
+  pub paid-within : {at before turns kept : ℕ} → IsPaidAt nfa x at before turns kept → at ≤ x.end + 1 → x.start ≤ x.end → turns ≤ before + scan_turns nfa x
+  paid-within {at} {before} {turns} {kept} p inside span =
+      let less : at - x.start ≤ span_len x + 1 = omega arith in
+      let more = mul-le-mul_right (1 + turn_weight nfa) less in
+      omega (arith, p.bound)
+
+-- sets that hold the same patterns are one
+sets-same : (old new : List Bool) → length new ≡ length old → ((k : ℕ) → HoldsPattern new k ↔ HoldsPattern old k) → new ≡ old
+sets-same old new size same = ext_get_or false new old size (λ k less. of (get_or new k false) (get_or old k false) (same k).0 (same k).1)
+  where
+    of : (b c : Bool) → (b ≡ true → c ≡ true) → (c ≡ true → b ≡ true) → b ≡ c
+    of true c f g = sym (f refl)
+    of false true f g = g refl
+    of false false f g = refl
+
+module _ (nfa : Automaton) (x : Search) where
+  -- the states and the turns at a position
+  pub record Stands (from : Starts) (at before : ℕ) (met : Met) (items : List (ℕ × Slots)) : Type 0 where
+    pub states : AreAt nfa items
+    pub paid : IsPaidAt nfa x at before met.turns (length items)
+    pub scans : ScansAt nfa x at from.state from.limit met items
+
+  pub Stands-start : (from : Starts) → AreStarts nfa x from → (met : Met) (items : List (ℕ × Slots)) → items ≡ [] → Stands from x.start met.turns met items
+  Stands-start from are met items none = record {
+    states = rw none (record { states = All-nil _; few = omega arith });
+    paid = paid-start nfa x met.turns items none;
+    scans = ScansAt-start nfa x from are met items none;
+  }
+
+  pub Stands-next : {from : Starts} {at before : ℕ} {past : Bool} {met : Met} {items : List (ℕ × Slots)} {set : List Bool} {hit : Bool} {after : Met} {kept : List (ℕ × Slots)} {new : List Bool}
+      → IsAutomaton nfa → x.start ≤ at → Stands from at before met items → CrossesInSet nfa x at past met (joined from 0 at items) set hit after kept new → GoesPast past hit
+      → Stands from (at + 1) before after kept
+  Stands-next {from} {at} {before} {past} {met} {items} good low s c goes = record {
+    states = next-at nfa x c good;
+    paid = next-paid nfa x c refl low (paid-joined nfa x items from s.paid);
+    scans = ScansAt-next nfa x c from.state from.limit (ScansAt-join nfa x from at met items s.scans) goes;
+  }
+
+  -- the turns and the states after the last position
+  pub Stands-turns : {from : Starts} {at before : ℕ} {past : Bool} {met : Met} {items : List (ℕ × Slots)} {set : List Bool} {hit : Bool} {after : Met} {kept : List (ℕ × Slots)} {new : List Bool}
+      → x.start ≤ at → at ≤ x.end → Stands from at before met items → CrossesInSet nfa x at past met (joined from 0 at items) set hit after kept new
+      → after.turns ≤ before + scan_turns nfa x
+  Stands-turns {from} {at} {before} {past} {met} {items} low high s c =
+      paid-within nfa x (next-paid nfa x c refl low (paid-joined nfa x items from s.paid)) (omega arith) (omega arith)
+
+  -- the front of a position that was followed whole
+  stands-front : {from : Starts} {at before : ℕ} {past : Bool} {met : Met} {items : List (ℕ × Slots)} {set : List Bool} {hit : Bool} {after : Met} {kept : List (ℕ × Slots)} {new : List Bool}
+      → Stands from at before met items → (c : CrossesInSet nfa x at past met (joined from 0 at items) set hit after kept new) → GoesPast past hit
+      → IsFront (edges nfa x) (capture nfa) (starts nfa x) (is_resting nfa) (wants nfa x) [] after.turns c.front at
+  stands-front {from} {at} {before} {past} {met} {items} s c goes = whole-front nfa x c from.state from.limit (ScansAt-join nfa x from at met items s.scans) goes
+
+  -- all patterns
+
+  pub record AllAt (from : Starts) (at before : ℕ) (old : List Bool) (met : Met) (items : List (ℕ × Slots)) (new : List Bool) : Type 0 where
+    pub stands : Stands from at before met items
+    pub gains : GainsBefore nfa x (wants nfa x) (wants-tells nfa x) at old new
+
+  pub All-next : {from : Starts} {at before : ℕ} {old : List Bool} {met : Met} {items : List (ℕ × Slots)} {mid : List Bool} {hit : Bool} {after : Met} {kept : List (ℕ × Slots)} {new : List Bool}
+      → IsAutomaton nfa → x.start ≤ at → AllAt from at before old met items mid → CrossesInSet nfa x at true met (joined from 0 at items) mid hit after kept new
+      → AllAt from (at + 1) before old after kept new
+  All-next good low a c = record {
+    stands = Stands-next good low a.stands c (inl refl);
+    gains = GainsBefore-step nfa x (wants nfa x) (wants-tells nfa x) (stands-front a.stands c (inl refl)) a.gains c.gathers.capacity c.gathers.gained;
+  }
+
+  pub All-over : {from : Starts} {at before : ℕ} {old : List Bool} {met : Met} {items : List (ℕ × Slots)} {new : List Bool}
+      → AllAt from at before old met items new → joined from 0 at items ≡ [] → IsOverlapResult nfa x AllMatches false old new
+  All-over {from} {at} {before} {old} {met} {items} a none =
+      GainsBefore-end nfa x (wants nfa x) (wants-tells nfa x) a.gains (ScansAt-over nfa x from at met items a.stands.scans none)
+
+  pub All-end : {from : Starts} {at before : ℕ} {old : List Bool} {met : Met} {items : List (ℕ × Slots)} {new : List Bool}
+      → AllAt from at before old met items new → at ≡ x.end + 1 → IsOverlapResult nfa x AllMatches false old new
+  All-end {at = at} a last =
+      GainsBefore-end nfa x (wants nfa x) (wants-tells nfa x) a.gains (rw last (EndsBefore-span nfa x (wants nfa x)))
+
+  -- the least end
+
+  -- no match was met yet: with `past` none of a pattern below the capacity
+  abbrev pub NoneMet : Bool → ℕ → ℕ → Type 0
+  NoneMet true at n = NoneHeld nfa x (wants nfa x) (wants-tells nfa x) at n
+  NoneMet false at n = NoneBefore (edges nfa x) (starts nfa x) (wants nfa x) at
+
+  pub record EarliestAt (past : Bool) (from : Starts) (at before : ℕ) (old : List Bool) (met : Met) (items : List (ℕ × Slots)) (new : List Bool) : Type 0 where
+    pub stands : Stands from at before met items
+    pub still : new ≡ old
+    pub none : NoneMet past at (length old)
+
+  pub Earliest-start : (past : Bool) (from : Starts) → AreStarts nfa x from → (met : Met) (items : List (ℕ × Slots)) (set : List Bool) → items ≡ []
+      → EarliestAt past from x.start met.turns set met items set
+  Earliest-start past from are met items set none = record { stands = Stands-start from are met items none; still = refl; none = of past }
+    where
+      of : (past : Bool) → NoneMet past x.start (length set)
+      of true = NoneHeld-start nfa x (wants nfa x) (wants-tells nfa x) (length set)
+      of false = NoneBefore-start (edges nfa x) (capture nfa) (starts nfa x) (is_resting nfa) (wants nfa x) [] (wanted-shape nfa x (wants nfa x) (wants-tells nfa x)) x.start (starts-from nfa x)
+
+  -- what was not met at a position
+  unmet : (past : Bool) {at : ℕ} {front : List (Pair × Slots)} {turns : ℕ} (old new : List Bool) → NoneMet past at (length old)
+      → IsFront (edges nfa x) (capture nfa) (starts nfa x) (is_resting nfa) (wants nfa x) [] turns front at → Gathers nfa past (wants nfa x) front old false new
+      → (new ≡ old) × NoneMet past (at + 1) (length old)
+  unmet true old new none f g = (
+    sets-same old new g.capacity (λ k. (λ h. elim ((g.gained k).0 h) [ inl o ↦ o | inr w ↦ absurd (g.none refl k w.0 w.1) ], λ o. (g.gained k).1 (inl o))),
+    NoneHeld-step nfa x (wants nfa x) (wants-tells nfa x) f none (λ k less h. g.none refl k less h),
+  )
+  unmet false {at} {front} old new none f g =
+      elim (first_match-is (wants nfa x) front) [
+        | inl lacks ↦
+            let still : GathersFirst nfa None old false new = rw lacks.0 at g in (
+              still.1,
+              NoneBefore-step (edges nfa x) (capture nfa) (starts nfa x) (is_resting nfa) (wants nfa x) [] (wanted-shape nfa x (wants nfa x) (wants-tells nfa x)) none f lacks.1,
+            )
+        | inr has ↦ let met : GathersFirst nfa (Some has.0) old false new = rw has.1 at g in let never : false ≡ true = met.0 in cc
+      ]
+
+  pub Earliest-next : (past : Bool) {from : Starts} {at before : ℕ} {old : List Bool} {met : Met} {items : List (ℕ × Slots)} {mid : List Bool} {hit : Bool} {after : Met}
+      {kept : List (ℕ × Slots)} {new : List Bool}
+      → IsAutomaton nfa → x.start ≤ at → EarliestAt past from at before old met items mid → CrossesInSet nfa x at past met (joined from 0 at items) mid hit after kept new → hit ≡ false
+      → EarliestAt past from (at + 1) before old after kept new
+  Earliest-next past {at = at} {old = old} {mid = mid} {hit = hit} {new = new} good low a c off =
+      let f = stands-front a.stands c (inr off) in
+      let g : Gathers nfa past (wants nfa x) c.front old false new =
+      subst (λ s. Gathers nfa past (wants nfa x) c.front s false new) a.still (subst (λ h. Gathers nfa past (wants nfa x) c.front mid h new) off c.gathers) in
+      let u = unmet past old new a.none f g in
+      record { stands = Stands-next good low a.stands c (inr off); still = u.0; none = u.1 }
+
+  pub Earliest-found : (past : Bool) {from : Starts} {at before : ℕ} {old : List Bool} {met : Met} {items : List (ℕ × Slots)} {mid : List Bool} {hit : Bool} {after : Met}
+      {kept : List (ℕ × Slots)} {new : List Bool}
+      → IsAutomaton nfa → (past ≡ false → size_of_set old ≡ 0) → EarliestAt past from at before old met items mid
+      → CrossesInSet nfa x at past met (joined from 0 at items) mid hit after kept new → hit ≡ true
+      → IsOverlapResult nfa x (cond past AllMatches LeftmostFirst) true old new
+  Earliest-found true {old = old} {mid = mid} {new = new} good empty a c on =
+      let f = stands-front a.stands c (inl refl) in
+      let g : GathersAll nfa (wants nfa x) c.front old true new =
+      subst (λ s. GathersAll nfa (wants nfa x) c.front s true new) a.still (subst (λ h. GathersAll nfa (wants nfa x) c.front mid h new) on c.gathers) in
+      let held = g.some refl in
+      NoneHeld-found nfa x (wants nfa x) (wants-tells nfa x) f a.none held.0 held.1 held.2 g.capacity g.gained
+  Earliest-found false {from} {at} {before} {old} {met} {items} {mid} {hit} {after} {kept} {new} good empty a c on =
+      let g : Gathers nfa false (wants nfa x) c.front old true new =
+      subst (λ s. Gathers nfa false (wants nfa x) c.front s true new) a.still (subst (λ h. Gathers nfa false (wants nfa x) c.front mid h new) on c.gathers) in
+      elim (first_match-is (wants nfa x) c.front) [
+        | inl lacks ↦ let still : GathersFirst nfa None old true new = rw lacks.0 at g in let never : true ≡ false = still.0 in cc
+        | inr has ↦
+            let put : GathersFirst nfa (Some has.0) old true new = rw has.1 at g in
+            let s = lead-scan nfa x c from.state from.limit (ScansAt-join nfa x from at met items a.stands.scans) in
+            let first = FirstAt-front nfa x (wants nfa x) (wants-tells nfa x) s.1 (front-rests nfa x c) has.0 has.1 in
+            FirstAt-found nfa x (wants nfa x) (wants-tells nfa x) good.patterns a.none first put.1.1 (empty refl) put.1.2
+      ]
+
+  pub Earliest-end : (past : Bool) {from : Starts} {at before : ℕ} {old : List Bool} {met : Met} {items : List (ℕ × Slots)} {new : List Bool}
+      → (past ≡ false → size_of_set old ≡ 0) → EarliestAt past from at before old met items new → EndsBefore (edges nfa x) (starts nfa x) (wants nfa x) at
+      → IsOverlapResult nfa x (cond past AllMatches LeftmostFirst) true old new
+  Earliest-end true empty a ends = rw a.still (NoneHeld-end nfa x (wants nfa x) (wants-tells nfa x) a.none ends)
+  Earliest-end false {old = old} empty a ends =
+      rw a.still
+      (First-none nfa x (wants nfa x) (wants-tells nfa x)
+      (NoneBefore-end (edges nfa x) (capture nfa) (starts nfa x) (is_resting nfa) (wants nfa x) [] (wanted-shape nfa x (wants nfa x) (wants-tells nfa x)) a.none ends) true old (empty refl))
+
+-- the items with the start that joined
+pub joined-items : (from : Starts) (at : ℕ) (curr after : Active) → after ≡ record curr { items = joined from curr.width at curr.items } → curr.width ≡ 0 → after.items ≡ joined from 0 at curr.items
+joined-items from at curr after e none = ap (λ (z : Active). z.items) e ∙ joined-width from curr.width at curr.items none
+
+-- what the position came to, from the items before the start joined
+pub crosses-joined : {nfa : Automaton} {x : Search} {at : ℕ} {past : Bool} {met1 : Met} {items1 : List (ℕ × Slots)} {set : List Bool} {hit : Bool} {after : Met} {kept : List (ℕ × Slots)} {new : List Bool}
+    (met : Met) (items : List (ℕ × Slots)) → met1 ≡ met → items1 ≡ items → CrossesInSet nfa x at past met1 items1 set hit after kept new → CrossesInSet nfa x at past met items set hit after kept new
+crosses-joined {nfa} {x} {at} {past} {met1} {items1} {set} {hit} {after} {kept} {new} met items m i c =
+    subst (λ j. CrossesInSet nfa x at past met j set hit after kept new) i (subst (λ n. CrossesInSet nfa x at past n items1 set hit after kept new) m c)
+
+pub All-start : (nfa : Automaton) (x : Search) (from : Starts) → AreStarts nfa x from → (met : Met) (items : List (ℕ × Slots)) (set : List Bool) → items ≡ []
+    → AllAt nfa x from x.start met.turns set met items set
+All-start nfa x from are met items set none = record {
+  stands = Stands-start nfa x from are met items none;
+  gains = GainsBefore-start nfa x (wants nfa x) (wants-tells nfa x) set;
+}
+
+-- the sizes of threads that were set up
+pub sizes-set_up : {size : Sizes} {met : Met} {frames : ℕ} {curr next : Active} (curr1 next1 : Active) (met1 : Met) (frames1 : ℕ)
+    → AreSized size met frames curr next → curr1 ≡ record curr { items = []; width = 0 } → next1 ≡ record next { items = []; width = 0 } → met1 ≡ met → frames1 ≡ frames
+    → AreSized size met1 frames1 curr1 next1
+sizes-set_up {size} {met} {frames} {curr} {next} curr1 next1 met1 frames1 s c n m f =
+    rw (m, f) (record {
+      marks = s.marks;
+      frames_are = s.frames_are;
+      curr_places = ap (λ (z : Active). z.places) c ∙ s.curr_places;
+      next_places = ap (λ (z : Active). z.places) n ∙ s.next_places;
+      curr_cells = ap (λ (z : Active). z.cells) c ∙ s.curr_cells;
+      next_cells = ap (λ (z : Active). z.cells) n ∙ s.next_cells;
+    })

@@ -1,0 +1,250 @@
+-- What is put into a set of patterns at a position.
+use Rattle.std.proofs.Common.{◌≡◌, ℕ, ◌<◌, ◌⊎◌, ◌↔◌, inl, inr, Bool, true, false, List, [], ◌∷◌, ◌++◌, length, refl, sym, ap, ◌∙◌, arith}
+use Rattle.std.specs.Prelude.{None, Some, not, ◌&&◌, ◌||◌, nat_lt}
+use Rattle.std.proofs.lemmas.Bool.{cases_Bool, cases_lt, lt-ltb, le-ltb}
+use Rattle.std.proofs.lemmas.Bool.Decides.{nat_tests}
+use Rattle.regex_search_core.specs.Boundary.{IsBoundary}
+use Rattle.regex_search_core.specs.PatternSets.{with_pattern}
+use Rattle.regex_search_core.specs.Search.{Search}
+use Rattle.thompson_nfa.specs.Automaton.{Automaton}
+use Rattle.nfa_search_base.specs.Graphs.{Pair, In}
+use Rattle.nfa_search_base.specs.Paths.{node_at, pattern_of, is_match, is_utf8_empty}
+use Rattle.nfa_search_base.specs.Exploring.{Slots, Found}
+use Rattle.nfa_search_base.specs.Kinds.{HoldsMatch, NoMatch, first_match, before_match}
+use Rattle.nfa_search_base.specs.Overlaps.{pattern_at, IsPermittedEnd, IsPermitted}
+use Rattle.nfa_search_base.proofs.OverlapLemmas.{holds-with, length-with}
+use Rattle.nfa_pikevm.specs.States.{Front}
+use Rattle.nfa_pikevm.specs.Overlapping.{is_boundary, permits, wants, GathersFirst, Gathers}
+
+-- whether a position is a boundary
+boundary-to : (haystack : List ℕ) (i : ℕ) → is_boundary haystack i ≡ true → IsBoundary haystack i
+boundary-to haystack i t = grind (arith, nat_tests)
+
+boundary-from : (haystack : List ℕ) (i : ℕ) → IsBoundary haystack i → is_boundary haystack i ≡ true
+boundary-from haystack i h = grind (arith, nat_tests)
+
+-- the test that the program makes
+pub permits-is : (nfa : Automaton) (x : Search) (at : ℕ) (b : Bool) → (b ≡ true → IsBoundary x.haystack at) → (IsBoundary x.haystack at → b ≡ true)
+    → (not (is_utf8_empty nfa) || b) ≡ permits nfa x at
+unfolding permits
+permits-is nfa x at b to back = ap (λ c. not (is_utf8_empty nfa) || c) (same b (is_boundary x.haystack at) (λ t. boundary-from x.haystack at (to t)) (λ t. back (boundary-to x.haystack at t)))
+  where
+    same : (b c : Bool) → (b ≡ true → c ≡ true) → (c ≡ true → b ≡ true) → b ≡ c
+    same true c f g = sym (f refl)
+    same false true f g = g refl
+    same false false f g = refl
+
+module _ (nfa : Automaton) (x : Search) where
+  permits-tells : (at : ℕ) → (permits nfa x at ≡ true) ↔ IsPermittedEnd nfa x at
+  unfolding permits
+  permits-tells at = (of (is_utf8_empty nfa), back (is_utf8_empty nfa))
+    where
+      of : (b : Bool) → (not b || is_boundary x.haystack at) ≡ true → b ≡ true → IsBoundary x.haystack at
+      of true t e = boundary-to x.haystack at t
+      of false t e = cc
+
+      back : (b : Bool) → (b ≡ true → IsBoundary x.haystack at) → (not b || is_boundary x.haystack at) ≡ true
+      back true h = boundary-from x.haystack at (h refl)
+      back false h = refl
+
+  -- the test of a pair
+  pub wants-tells : (v : Pair) → (wants nfa x v ≡ true) ↔ IsPermitted nfa x v
+  unfolding wants
+  wants-tells v = (
+    λ t. let both = parts (is_match nfa v) (permits nfa x v.1) t in record { matches = both.0; ends = (permits-tells v.1).0 both.1 },
+    λ h. let m : is_match nfa v ≡ true = h.matches in rw m ((permits-tells v.1).1 h.ends),
+  )
+    where
+      parts : (b c : Bool) → (b && c) ≡ true → (b ≡ true) × (c ≡ true)
+      parts true c t = (refl, t)
+      parts false c t = cc
+
+  pub wants-match : (v : Pair) → wants nfa x v ≡ true → is_match nfa v ≡ true
+  wants-match v t = ((wants-tells v).0 t).matches
+
+  -- a match at a position that permits it
+  pub wants-here : (s at : ℕ) (k : ℕ) → pattern_of (node_at nfa s) ≡ Some k → permits nfa x at ≡ true → wants nfa x (s, at) ≡ true
+  unfolding wants
+  wants-here s at k is permitted = rw (is, permitted) refl
+
+  -- at another position none is wanted
+  pub wants-nowhere : (v : Pair) (at : ℕ) → v.1 ≡ at → permits nfa x at ≡ false → wants nfa x v ≡ true → ⊥
+  unfolding wants
+  wants-nowhere v at here off t = of (is_match nfa v) (permits nfa x v.1) (rw here off) t
+    where
+      of : (b c : Bool) → c ≡ false → (b && c) ≡ true → ⊥
+      of true c f t = cc
+      of false c f t = cc
+
+-- what is put into the set
+
+module _ (nfa : Automaton) (wanted : Pair → Bool) where
+  -- no wanted pair: the set stays
+  pub Gathers-none : (past : Bool) (front : Front) (set : List Bool) → NoMatch wanted front → Gathers nfa past wanted front set false set
+  Gathers-none true front set plain = record {
+    capacity = refl;
+    gained = λ k. (λ h. inl h, λ s. elim s [ inl h ↦ h | inr h ↦ absurd (plain h.1.item h.1.among h.1.matches) ]);
+    some = λ never. cc;
+    none = λ off k below h. plain h.item h.among h.matches;
+  }
+  Gathers-none false front set plain = of front plain
+    where
+      of : (front : Front) → NoMatch wanted front → Gathers nfa false wanted front set false set
+      of [] plain = (refl, refl)
+      of (a ∷ front) plain =
+          elim (cases_Bool (wanted a.0)) [
+            | inl t ↦ absurd (plain a (inl refl) t)
+            | inr f ↦ rw f (of front (λ b i. plain b (inr i)))
+          ]
+
+  pub before-none : (front : Front) → NoMatch wanted front → before_match wanted front ≡ front
+  before-none [] plain = refl
+  before-none (a ∷ front) plain =
+      elim (cases_Bool (wanted a.0)) [
+        | inl t ↦ absurd (plain a (inl refl) t)
+        | inr f ↦ rw f (ap (λ l. a ∷ l) (before-none front (λ b i. plain b (inr i))))
+      ]
+
+  -- one wanted pair
+  pub Gathers-one : (past : Bool) (a : Pair × Slots) (k : ℕ) (set : List Bool) → wanted a.0 ≡ true → pattern_at nfa a.0 ≡ Some k
+      → Gathers nfa past wanted (a ∷ []) set (not past || nat_lt k (length set)) (with_pattern set k)
+  Gathers-one true a k set t is = record {
+    capacity = length-with set k;
+    gained = λ j. (
+      λ h. elim ((holds-with set k j).0 h) [ inl o ↦ inl o | inr b ↦ inr (b.0, rw (← b.1) here) ],
+      λ s. elim s [ inl o ↦ (holds-with set k j).1 (inl o) | inr b ↦ (holds-with set k j).1 (inr (b.0, only j b.1)) ],
+    );
+    some = λ e. (k, below e, here);
+    none = λ e j less h. let same_pattern : k ≡ j = only j h in absurd (above e (omega arith));
+  }
+    where
+      here : HoldsMatch wanted (pattern_at nfa) k (a ∷ [])
+      here = record { item = a; among = inl refl; matches = t; pattern_is = is }
+
+      only : (j : ℕ) → HoldsMatch wanted (pattern_at nfa) j (a ∷ []) → k ≡ j
+      only j h =
+          elim h.among [
+            | inl e ↦ let at : pattern_at nfa a.0 ≡ Some j = rw (← e) h.pattern_is in let both : Some k ≡ Some j = sym is ∙ at in cc
+            | inr never ↦ absurd never
+          ]
+
+      below : nat_lt k (length set) ≡ true → k < length set
+      below e = elim (cases_lt k (length set)) [ inl less ↦ less | inr more ↦ let f : nat_lt k (length set) ≡ false = le-ltb k (length set) more in cc ]
+
+      above : nat_lt k (length set) ≡ false → k < length set → ⊥
+      above e less = let f : nat_lt k (length set) ≡ true = lt-ltb k (length set) less in cc
+  Gathers-one false a k set t is = rw t (refl, (k, is, refl))
+
+  -- a pair that stands in two lists
+  in-left : (b : Pair × Slots) (f g : Front) → In b f → In b (f ++ g)
+  in-left b [] g i = absurd i
+  in-left b (c ∷ f) g i = elim i [ inl h ↦ inl h | inr j ↦ inr (in-left b f g j) ]
+
+  in-right : (b : Pair × Slots) (f g : Front) → In b g → In b (f ++ g)
+  in-right b [] g i = i
+  in-right b (c ∷ f) g i = inr (in-right b f g i)
+
+  in-either : (b : Pair × Slots) (f g : Front) → In b (f ++ g) → In b f ⊎ In b g
+  in-either b [] g i = inr i
+  in-either b (c ∷ f) g i = elim i [ inl h ↦ inl (inl h) | inr j ↦ elim (in-either b f g j) [ inl h ↦ inl (inr h) | inr h ↦ inr h ] ]
+
+  -- where none is wanted in the first front, the first of both is that of the second
+  first-append : (f g : Front) → first_match wanted f ≡ None → first_match wanted (f ++ g) ≡ first_match wanted g
+  first-append [] g none = refl
+  first-append (a ∷ f) g none =
+      elim (cases_Bool (wanted a.0)) [
+        | inl t ↦ let some : Some a ≡ None = rw t at none in cc
+        | inr e ↦ let rest : first_match wanted f ≡ None = rw e at none in rw e (first-append f g rest)
+      ]
+
+  before-append : (f g : Front) → first_match wanted f ≡ None → before_match wanted (f ++ g) ≡ f ++ before_match wanted g
+  before-append [] g none = refl
+  before-append (a ∷ f) g none =
+      elim (cases_Bool (wanted a.0)) [
+        | inl t ↦ let some : Some a ≡ None = rw t at none in cc
+        | inr e ↦ let rest : first_match wanted f ≡ None = rw e at none in rw e (ap (λ l. a ∷ l) (before-append f g rest))
+      ]
+
+  -- what was met in no front
+  pub first-none : (front : Front) (set new : List Bool) → Gathers nfa false wanted front set false new → first_match wanted front ≡ None
+  first-none front set new = of (first_match wanted front)
+    where
+      of : (o : Found) → GathersFirst nfa o set false new → o ≡ None
+      of None h = refl
+      of (Some a) h = let never : false ≡ true = h.0 in cc
+
+  pub before-then : (f g : Front) (set new : List Bool) → Gathers nfa false wanted f set false new → before_match wanted (f ++ g) ≡ f ++ before_match wanted g
+  before-then f g set new h = before-append f g (first-none f set new h)
+
+  -- one front behind another
+  pub Gathers-then : (past : Bool) (f g : Front) (old mid new : List Bool) (h k : Bool) → (past ≡ false → h ≡ false)
+      → Gathers nfa past wanted f old h mid → Gathers nfa past wanted g mid k new → Gathers nfa past wanted (f ++ g) old (k || h) new
+  Gathers-then true f g old mid new h k on a b = record {
+    capacity = b.capacity ∙ a.capacity;
+    gained = λ j. (
+      λ held.
+          elim ((b.gained j).0 held) [
+            | inl m ↦ elim ((a.gained j).0 m) [ inl o ↦ inl o | inr w ↦ inr (w.0, left j w.1) ]
+            | inr w ↦ inr (rw (← a.capacity) w.0, right j w.1)
+          ],
+      λ s.
+          elim s [
+            | inl o ↦ (b.gained j).1 (inl ((a.gained j).1 (inl o)))
+            | inr w ↦
+                elim (either j w.1) [
+                  | inl x ↦ (b.gained j).1 (inl ((a.gained j).1 (inr (w.0, x))))
+                  | inr y ↦ (b.gained j).1 (inr (rw a.capacity w.0, y))
+                ]
+          ],
+    );
+    some = λ e.
+        elim (cases_Bool k) [
+          | inl yes_k ↦ let w = b.some yes_k in (w.0, rw (← a.capacity) w.1, right w.0 w.2)
+          | inr no_k ↦ let yes_h : h ≡ true = rw no_k at e in let w = a.some yes_h in (w.0, w.1, left w.0 w.2)
+        ];
+    none = λ e j less held.
+        elim (cases_Bool k) [
+          | inl yes_k ↦ let never : true ≡ false = rw yes_k at e in cc
+          | inr no_k ↦
+              let no_h : h ≡ false = rw no_k at e in
+              elim (either j held) [ inl x ↦ a.none no_h j less x | inr y ↦ b.none no_k j (rw a.capacity less) y ]
+        ];
+  }
+    where
+      left : (j : ℕ) → HoldsMatch wanted (pattern_at nfa) j f → HoldsMatch wanted (pattern_at nfa) j (f ++ g)
+      left j w = record { item = w.item; among = in-left w.item f g w.among; matches = w.matches; pattern_is = w.pattern_is }
+
+      right : (j : ℕ) → HoldsMatch wanted (pattern_at nfa) j g → HoldsMatch wanted (pattern_at nfa) j (f ++ g)
+      right j w = record { item = w.item; among = in-right w.item f g w.among; matches = w.matches; pattern_is = w.pattern_is }
+
+      either : (j : ℕ) → HoldsMatch wanted (pattern_at nfa) j (f ++ g) → HoldsMatch wanted (pattern_at nfa) j f ⊎ HoldsMatch wanted (pattern_at nfa) j g
+      either j w =
+          elim (in-either w.item f g w.among) [
+            | inl i ↦ inl (record { item = w.item; among = i; matches = w.matches; pattern_is = w.pattern_is })
+            | inr i ↦ inr (record { item = w.item; among = i; matches = w.matches; pattern_is = w.pattern_is })
+          ]
+  Gathers-then false f g old mid new h k on a b =
+      let off : h ≡ false = on refl in
+      let first : Gathers nfa false wanted f old false mid = rw off at a in
+      let none = first-none f old mid first in
+      let still : mid ≡ old = (let at : GathersFirst nfa None old false mid = rw none at first in at.1) in
+      rw (first-append f g none) (of (first_match wanted g) k off (rw still at b))
+    where
+      of : (o : Found) (k : Bool) → h ≡ false → GathersFirst nfa o old k new → GathersFirst nfa o old (k || h) new
+      of None true off w = let never : true ≡ false = w.0 in cc
+      of None false off w = (off, w.1)
+      of (Some c) true off w = w
+      of (Some c) false off w = let never : false ≡ true = w.0 in cc
+
+-- where an NFA asks for no boundaries any end is permitted
+pub permits-any : (nfa : Automaton) (x : Search) (at : ℕ) (b : Bool) → b ≡ is_utf8_empty nfa → b ≡ false → not b ≡ permits nfa x at
+unfolding permits
+permits-any nfa x at b is off = let e : is_utf8_empty nfa ≡ false = sym is ∙ off in rw (off, e) refl
+
+-- else the boundaries
+pub permits-boundary : (nfa : Automaton) (x : Search) (at : ℕ) (b r : Bool) → b ≡ is_utf8_empty nfa → b ≡ true → (r ≡ true → IsBoundary x.haystack at) → (IsBoundary x.haystack at → r ≡ true)
+    → r ≡ permits nfa x at
+permits-boundary nfa x at b r is on to back =
+    let e : is_utf8_empty nfa ≡ true = sym is ∙ on in
+    let whole : (not (is_utf8_empty nfa) || r) ≡ permits nfa x at = permits-is nfa x at r to back in
+    rw e at whole

@@ -1,0 +1,21 @@
+use Rattle.std.proofs.Common.{◌≡◌, ◌∙◌, ◌*◌, ap, arith, length}
+use Rattle.std.proofs.lemmas.List.{length-take}
+use Rattle.regex_search_core.specs.Patterns.{number_of}
+use Rattle.regex_search_core.specs.Search.{search_of}
+use Rattle.nfa_pikevm.proofs.EngineLemmas.{match-some}
+use Rattle.nfa_pikevm.proofs.engine.PikeVM.find_with.Goals as goal
+
+pub returns-clause-answer : goal.returns-clause-answer
+returns-clause-answer c =
+    let size : length c.search.new.slots ≡ 2 * length c.self.inside.nfa.groups =
+    c.search.auto.slots
+    ∙ omega (
+      arith,
+      length-take c.implicit_slot_len-slot_len.result c.args.found.now,
+      rw (← c.self.view_is) at c.requires.row,
+      c.implicit_slot_len-slot_len.ensures,
+      ap length c.group_info.ensures.value,
+    ) in
+    rw (← c.self.view_is, ← c.get_match_kind.ensures)
+    (match-some c.self.inside.nfa c.get_match_kind.result _ (search_of c.args.input.now) c.group_info.ensures.valid c.in_ok-half.half (number_of c.pattern.result) c.pattern.ensures size
+    c.in_ok-half.ensures.answer _ c.from_slots.ensures)

@@ -1,0 +1,122 @@
+use Rattle.std.proofs.Common.{◌≡◌, ◌∙◌, ◌+◌, ◌<◌, ◌≤◌, length, arith, refl, ap, sym, inl, inr}
+use Rattle.regex_search_core.specs.Search.{search_of}
+use Rattle.nfa_pikevm.specs.Rows.{Met, Active}
+use Rattle.nfa_pikevm.proofs.AllLemmas.{EndsAt-none}
+use Rattle.nfa_pikevm.proofs.EndLemmas.{SearchesFirst-begin, SearchesFirst-joins, SearchesFirst-some, first-over}
+use Rattle.nfa_pikevm.proofs.FrontLemmas.{Paid-next, IsPaidAt-cross, IsPaidAt-later}
+use Rattle.nfa_pikevm.proofs.RoomLemmas.{AreAt-none, none_of, below-joins, few-joins, over-joins, same-all, AreSized-kept, AreSized-swap, HasThreads-swap}
+use Rattle.nfa_pikevm.proofs.ScanLemmas.{AreAt-cross, over-cross, SearchesFirst-miss}
+use Rattle.nfa_pikevm.proofs.scan.scan_first.Goals as goal
+use Rattle.nfa_pikevm.proofs.scan.scan_first.Goals.{then-is_some, else-is_some}
+
+pub loop-at-init : goal.loop-at-init
+loop-at-init c =
+    let start : c.start-at.result ≡ (search_of c.args.input.now).start = c.start-at.ensures in
+    let span : (search_of c.args.input.now).start ≤ (search_of c.args.input.now).end = c.requires.span in
+    record {
+      room = c.requires.room;
+      sizes = λ size h. h;
+      next = c.requires.next;
+      items = rw c.requires.curr (AreAt-none c.args.nfa.now);
+      low = omega arith;
+      high = omega arith;
+      limits = inl refl;
+      over = λ _. c.requires.curr;
+      paid = rw (start, c.requires.curr) (record { bound = omega arith });
+      searches = rw (start, c.requires.curr)
+          (SearchesFirst-begin c.args.nfa.now (search_of c.args.input.now) c.args.starts.now c.requires.starts c.args.slots.now c.args.threads.now.seen c.requires.unset);
+    }
+
+pub returns-then-is_empty-clause-sizes : goal.returns-then-is_empty-clause-sizes
+returns-then-is_empty-clause-sizes c = λ size h.
+    AreSized-kept size c.loop-at.threads.seen c.join_or_skip-at.new.threads.seen _ _ c.loop-at.threads.curr c.loop-at.threads.next c.join_or_skip-at.new.threads.curr c.join_or_skip-at.new.threads.next
+    (ap (λ (m : Met). length m.bits) c.join_or_skip-at.ensures.seen) (ap length c.join_or_skip-at.ensures.frames) c.join_or_skip-at.ensures.curr
+    (same-all c.loop-at.threads.next c.join_or_skip-at.new.threads.next c.join_or_skip-at.ensures.next) (c.loop-at.invariant.sizes size h)
+
+pub returns-then-is_empty-clause-answer : goal.returns-then-is_empty-clause-answer
+returns-then-is_empty-clause-answer c =
+    let x = search_of c.args.input.now in
+    let width = length c.args.slots.now in
+    let to = c.join_or_skip-at.result in
+    let none = none_of c.join_or_skip-at.new.threads.curr.items (c.is_empty.ensures.0 c.if-is_empty.true) in
+    let joins = rw c.loop-at.invariant.room.curr_width at c.join_or_skip-at.ensures.joins in
+    let past : c.loop-at.limit ≤ to = over-joins c.args.nfa.now x c.args.starts.now c.requires.starts width c.loop-at.at c.loop-at.threads.curr.items c.args.first.now.may_begin c.loop-at.limit to
+    c.join_or_skip-at.new.threads.curr.items joins none in
+    let next : c.loop-at.limit ≤ to + 1 = omega arith in
+    let s = SearchesFirst-joins c.args.nfa.now x c.args.first.now.may_begin c.requires.first c.args.starts.now c.requires.starts c.loop-at.limit width c.loop-at.at to c.loop-at.invariant.low joins c.loop-at.invariant.searches in
+    rw c.join_or_skip-at.ensures.seen
+    (first-over c.args.nfa.now x to (to + 1) width c.args.starts.now.state c.loop-at.limit c.loop-at.found c.loop-at.slots c.loop-at.threads.seen c.loop-at.invariant.searches.so_far
+    c.join_or_skip-at.new.threads.curr.items c.loop-at.invariant.searches.is_so_far next none s (sym c.loop-at.auto.slots))
+
+pub cross-requires-clause-states : goal.cross-requires-clause-states
+cross-requires-clause-states c =
+    below-joins c.args.nfa.now (search_of c.args.input.now) c.args.starts.now c.requires.starts (length c.args.slots.now) c.loop-at.at c.loop-at.threads.curr.items c.args.first.now.may_begin c.loop-at.limit
+    c.join_or_skip-at.result c.join_or_skip-at.new.threads.curr.items (rw c.loop-at.invariant.room.curr_width at c.join_or_skip-at.ensures.joins) c.loop-at.invariant.items
+
+pub loop-at-preserved : goal.loop-at-preserved
+loop-at-preserved c =
+    let x = search_of c.args.input.now in
+    let width = length c.args.slots.now in
+    let to = c.join_or_skip-at.result in
+    let state = c.args.starts.now.state in
+    let e : c.end.result ≡ x.end = c.end.ensures.value in
+    let before : c.loop-at.at ≤ x.end = omega (arith, c.loop-at-test.true) in
+    let low : x.start ≤ c.loop-at.at = c.loop-at.invariant.low in
+    let joins = rw c.loop-at.invariant.room.curr_width at c.join_or_skip-at.ensures.joins in
+    let ahead : c.loop-at.at ≤ to = joins.ahead in
+    let ends : to ≤ x.end = joins.within before in
+    let from : x.start ≤ to = omega arith in
+    let s = rw (← c.join_or_skip-at.ensures.seen) at
+    (SearchesFirst-joins c.args.nfa.now x c.args.first.now.may_begin c.requires.first c.args.starts.now c.requires.starts c.loop-at.limit width c.loop-at.at to low joins c.loop-at.invariant.searches) in
+    let crosses = c.cross.ensures.crosses in
+    let few = few-joins c.args.nfa.now x c.args.starts.now c.requires.starts width c.loop-at.at c.loop-at.threads.curr.items c.args.first.now.may_begin c.loop-at.limit to
+    c.join_or_skip-at.new.threads.curr.items joins in
+    let kept = ap (λ (a : Active). a.items) c.move_on.ensures.curr in
+    record {
+      room = HasThreads-swap c.args.nfa.now width c.cross.new.threads.seen c.move_on.new.threads.seen _ _ c.cross.new.threads.curr c.cross.new.threads.next c.move_on.new.threads.curr c.move_on.new.threads.next
+          c.move_on.ensures.seen (ap length c.move_on.ensures.frames) c.move_on.ensures.curr c.move_on.ensures.next (rw c.loop-at.auto.slots at c.cross.ensures.room);
+      sizes = λ size h.
+          AreSized-swap size c.cross.new.threads.seen c.move_on.new.threads.seen _ _ c.cross.new.threads.curr c.cross.new.threads.next c.move_on.new.threads.curr c.move_on.new.threads.next
+          c.move_on.ensures.seen (ap length c.move_on.ensures.frames) c.move_on.ensures.curr c.move_on.ensures.next
+          (AreSized-kept size c.join_or_skip-at.new.threads.seen c.cross.new.threads.seen _ _ c.join_or_skip-at.new.threads.curr c.join_or_skip-at.new.threads.next c.cross.new.threads.curr c.cross.new.threads.next
+          c.cross.ensures.size c.cross.ensures.frames c.cross.ensures.curr c.cross.ensures.next
+          (AreSized-kept size c.loop-at.threads.seen c.join_or_skip-at.new.threads.seen _ _ c.loop-at.threads.curr c.loop-at.threads.next c.join_or_skip-at.new.threads.curr c.join_or_skip-at.new.threads.next
+          (ap (λ (m : Met). length m.bits) c.join_or_skip-at.ensures.seen) (ap length c.join_or_skip-at.ensures.frames) c.join_or_skip-at.ensures.curr
+          (same-all c.loop-at.threads.next c.join_or_skip-at.new.threads.next c.join_or_skip-at.ensures.next) (c.loop-at.invariant.sizes size h)));
+      next = ap (λ (a : Active). a.items) c.move_on.ensures.next;
+      items = rw kept (AreAt-cross c.args.nfa.now x to width state c.loop-at.limit c.requires.starts.leads crosses);
+      low = omega arith;
+      high = omega arith;
+      limits = elim c.if-is_some.branch [
+        | then-is_some w ↦ inr w.limit-is
+        | else-is_some w ↦ elim c.loop-at.invariant.limits [ inl e ↦ inl (w.limit-is ∙ e) | inr e ↦ inr (w.limit-is ∙ e) ]
+      ];
+      over = λ past. kept ∙ over-cross c.args.nfa.now x to width state c.loop-at.limit (let h : x.end ≤ to = omega arith in h) crosses;
+      paid = rw (c.move_on.ensures.seen, kept)
+          (IsPaidAt-cross c.args.nfa.now x to c.args.threads.now.seen.turns c.loop-at.threads.seen.turns (length c.loop-at.threads.curr.items) (length c.join_or_skip-at.new.threads.curr.items)
+          c.cross.new.threads.seen.turns (length c.cross.new.threads.next.items) from
+          (IsPaidAt-later c.args.nfa.now x c.loop-at.at to c.args.threads.now.seen.turns c.loop-at.threads.seen.turns (length c.loop-at.threads.curr.items) ahead c.loop-at.invariant.paid) few
+          (rw c.join_or_skip-at.ensures.seen at
+          (Paid-next c.args.nfa.now x c.join_or_skip-at.new.threads.seen (length c.join_or_skip-at.new.threads.curr.items) c.cross.new.threads.seen (length c.cross.new.threads.next.items) crosses.paid)));
+      searches = rw (c.move_on.ensures.seen, kept)
+          (elim c.if-is_some.branch [
+            | then-is_some w ↦
+                rw (w.limit-is, w.found-is)
+                (SearchesFirst-some c.args.nfa.now x to width state c.loop-at.limit crosses s c.half_at-hit.result c.half_at-hit.ensures (sym c.is_some.ensures ∙ w.if-is_some.true))
+            | else-is_some w ↦
+                rw (w.limit-is, w.found-is)
+                (SearchesFirst-miss c.args.nfa.now x to width state c.loop-at.limit crosses s c.loop-at.invariant.searches.is_so_far
+                (EndsAt-none to c.cross.result c.half_at-hit.result c.half_at-hit.ensures (sym c.is_some.ensures ∙ w.if-is_some.false)))
+          ]);
+    }
+
+pub returns-clause-answer : goal.returns-clause-answer
+returns-clause-answer c =
+    let x = search_of c.args.input.now in
+    let e : c.end.result ≡ x.end = c.end.ensures.value in
+    let past : x.end < c.loop-at.at = omega (arith, c.loop-at-test.false) in
+    let high : c.loop-at.at ≤ x.end + 1 = c.loop-at.invariant.high in
+    let limit : c.args.starts.now.limit ≤ x.end + 1 = c.requires.starts.high in
+    let over : c.loop-at.limit ≤ c.loop-at.at = elim c.loop-at.invariant.limits [ inl same ↦ omega arith | inr none ↦ omega arith ] in
+    first-over c.args.nfa.now x c.loop-at.at c.loop-at.at (length c.args.slots.now) c.args.starts.now.state c.loop-at.limit c.loop-at.found c.loop-at.slots c.loop-at.threads.seen
+    c.loop-at.invariant.searches.so_far c.loop-at.threads.curr.items c.loop-at.invariant.searches.is_so_far over (c.loop-at.invariant.over past) c.loop-at.invariant.searches.searching (sym c.loop-at.auto.slots)

@@ -1,0 +1,76 @@
+-- A PikeVM and its cache as values, and when a cache fits.
+use Rattle.std.specs.Prelude.{◌≡◌, ℕ, ◌+◌, ◌-◌, ◌*◌, ◌^◌, ◌≤◌, max, min, Option, length, unwrap_or}
+use Rattle.std.specs.List.{sum_by}
+use Rattle.regex_search_core.specs.Groups.{slot_count}
+use Rattle.regex_search_core.specs.declared.search.MatchKind.{MatchKind}
+use Rattle.regex_search_core.specs.declared.search.MatchKind.TheVariants.{LeftmostFirst}
+use Rattle.thompson_nfa.specs.Automaton.{Automaton, Node}
+use Rattle.thompson_nfa.specs.Automaton.Node.{ByteRange, Sparse, Dense, Look, Union, BinaryUnion, Capture, Fail, Match}
+
+-- an NFA, and which of several matches was asked for, if that was said
+pub record Pike : Type 0 where
+  pub nfa : Automaton
+  pub match_kind : Option MatchKind
+
+-- which of several matches is meant
+abbrev pub kind_of : Pike → MatchKind
+kind_of vm = unwrap_or vm.match_kind LeftmostFirst
+
+-- how many frames a state pushes at most, beside the state that it goes on with
+abbrev pub room_of : Node → ℕ
+room_of (ByteRange trans) = 0
+room_of (Sparse transitions) = 0
+room_of (Dense targets) = 0
+room_of (Look look next) = 0
+room_of (Union alternates) = length alternates - 1
+room_of (BinaryUnion alt1 alt2) = 1
+room_of (Capture next slot) = 1
+room_of Fail = 0
+room_of (Match pattern) = 0
+
+-- how many places the stack of a search needs: those of all states together, and at least one
+abbrev pub stack_places : Automaton → ℕ
+stack_places nfa = max (sum_by room_of nfa.states) 1
+
+-- what a cache shows: for how many states, slots and patterns it is made, the places of its stack, and the scans and turns of its last search
+pub record PikeCache : Type 0 where
+  pub states : ℕ
+  pub slots : ℕ
+  pub patterns : ℕ
+  pub places : ℕ
+  pub scans : ℕ
+  pub turns : ℕ
+
+-- the cache is large enough for the NFA
+pub record Fits (cache : PikeCache) (nfa : Automaton) : Type 0 where
+  pub states : length nfa.states ≤ cache.states
+  pub slots : slot_count nfa.groups ≤ cache.slots
+  pub patterns : length nfa.patterns ≤ cache.patterns
+  pub places : stack_places nfa ≤ cache.places
+
+-- the numbers of the cache are those that it had
+pub record SameNumbers (old new : PikeCache) : Type 0 where
+  pub states : new.states ≡ old.states
+  pub slots : new.slots ≡ old.slots
+  pub patterns : new.patterns ≡ old.patterns
+  pub places : new.places ≡ old.places
+
+-- what a cache for the NFA shows, after so many scans and turns
+abbrev pub cache_for : Automaton → ℕ → ℕ → PikeCache
+cache_for nfa scans turns = record {
+  states = length nfa.states;
+  slots = slot_count nfa.groups;
+  patterns = length nfa.patterns;
+  places = stack_places nfa;
+  scans = scans;
+  turns = turns;
+}
+
+-- a number that stops at the greatest `usize`
+abbrev pub saturated : ℕ → ℕ
+saturated n = min n (2 ^ 64 - 1)
+
+-- The bytes that a cache holds: 24 for a frame; 8 for each slot of the row of `find` and of those of the two sets, which have a row more
+-- than states; 4 for each state's mark and for each place of the two sets.
+abbrev pub memory_of : PikeCache → ℕ
+memory_of cache = saturated (24 * cache.places + 8 * ((2 * cache.states + 3) * cache.slots) + 4 * (3 * cache.states + 2))

@@ -1,0 +1,93 @@
+-- What a PikeVM puts into a set of patterns, at each position and in all.
+use Rattle.std.specs.Prelude.{◌≡◌, ◌↔◌, ◌⊎◌, ℕ, ◌<◌, ◌==◌, ◌&&◌, ◌||◌, not, Bool, true, false, List, [], ◌∷◌, ◌++◌, Option, None, Some, length, map, All, slice_index, nat_lt, nat_le}
+use Rattle.regex_search_core.specs.PatternSets.{with_pattern}
+use Rattle.regex_search_core.specs.Search.{Search}
+use Rattle.thompson_nfa.specs.Automaton.{Automaton}
+use Rattle.nfa_search_base.specs.Graphs.{Pair}
+use Rattle.nfa_search_base.specs.Paths.{edges, is_match, is_utf8_empty}
+use Rattle.nfa_search_base.specs.Exploring.{Slots, Found, Item}
+use Rattle.nfa_search_base.specs.Exploring.Item.{Explore as ToExplore, Load as ToLoad}
+use Rattle.nfa_search_base.specs.Kinds.{HoldsMatch, first_match, before_match}
+use Rattle.nfa_search_base.specs.Overlaps.{HoldsPattern, pattern_at}
+use Rattle.nfa_pikevm.specs.Rows.{Met}
+use Rattle.nfa_pikevm.specs.States.{Front, moves, tasks, unmarked, work_onto, with_state, Formed, Paid, Follows, Leads}
+use Rattle.nfa_pikevm.specs.declared.frame.FollowEpsilon.{FollowEpsilon}
+
+-- whether the position is a boundary of characters
+abbrev pub is_boundary : List ℕ → ℕ → Bool
+is_boundary haystack i =
+    (i == length haystack) || (nat_lt i (length haystack) && (nat_le (slice_index haystack i) 0x7F || nat_le 0xC0 (slice_index haystack i)))
+
+-- whether a match may end at the position
+unfoldable pub permits : Automaton → Search → ℕ → Bool
+permits nfa x at = not (is_utf8_empty nfa) || is_boundary x.haystack at
+
+-- whether the pair is a match that may end where it does
+unfoldable pub wants : Automaton → Search → Pair → Bool
+wants nfa x v = is_match nfa v && permits nfa x v.1
+
+-- Each pattern below the capacity of which the front holds a wanted pair is put into the set, and it is told whether there is one.
+pub record GathersAll (nfa : Automaton) (wanted : Pair → Bool) (front : Front) (old : List Bool) (met : Bool) (new : List Bool) : Type 0 where
+  pub capacity : length new ≡ length old
+  pub gained : (k : ℕ) → HoldsPattern new k ↔ (HoldsPattern old k ⊎ ((k < length old) × HoldsMatch wanted (pattern_at nfa) k front))
+  pub some : met ≡ true → (k : ℕ) × (k < length old) × HoldsMatch wanted (pattern_at nfa) k front
+  pub none : met ≡ false → (k : ℕ) → k < length old → HoldsMatch wanted (pattern_at nfa) k front → ⊥
+
+-- the pattern of the first wanted pair is put into the set, if there is one
+abbrev pub GathersFirst : Automaton → Found → List Bool → Bool → List Bool → Type 0
+GathersFirst nfa None old met new = (met ≡ false) × (new ≡ old)
+GathersFirst nfa (Some a) old met new = (met ≡ true) × ((k : ℕ) × (pattern_at nfa a.0 ≡ Some k) × (new ≡ with_pattern old k))
+
+-- what is put into the set at a position: with `past` of all wanted pairs, else of the first one
+abbrev pub Gathers : Automaton → Bool → (Pair → Bool) → Front → List Bool → Bool → List Bool → Type 0
+Gathers nfa true wanted front old met new = GathersAll nfa wanted front old met new
+Gathers nfa false wanted front old met new = GathersFirst nfa (first_match wanted front) old met new
+
+-- all that waits is followed: past matches always, else where there is none
+abbrev pub GoesPast : Bool → Bool → Type 0
+GoesPast past met = (past ≡ true) ⊎ (met ≡ false)
+
+-- the states, with rows of no slots
+abbrev pub rowless : List ℕ → List (ℕ × Slots)
+rowless states = map (λ s. (s, [])) states
+
+module _ (nfa : Automaton) (x : Search) where
+  -- What comes of a turn that tries to enter a state, and of what was put off where it leads nowhere: the front that it adds, and
+  -- what of it is put into the set.
+  pub record AdvancesInSet (at : ℕ) (past : Bool) (s : ℕ) (met : Met) (items : List (ℕ × Slots)) (stack : List FollowEpsilon) (set : List Bool) (hit : Bool)
+      (on : Option ℕ) (after : Met) (kept : List (ℕ × Slots)) (above : List FollowEpsilon) (gathered : List Bool) (now : Bool) : Type 0 where
+    pub front : Front
+    pub found : Bool
+    pub added : kept ≡ items ++ moves (edges nfa x) front
+    pub gathers : Gathers nfa past (wants nfa x) front set found gathered
+    pub cut : moves (edges nfa x) (before_match (wants nfa x) front) ≡ moves (edges nfa x) front
+    pub now_is : now ≡ (found || hit)
+    pub formed : (before : Front) → Formed nfa at met.bits before → Formed nfa at after.bits (before ++ front)
+    pub follows : (before : Front) (old : Slots) (work : List Item)
+        → Follows nfa x at met before (ToExplore (s, at) ∷ work_onto at stack (ToLoad old ∷ work)) []
+        after (before ++ front) (with_state at on (work_onto at above (ToLoad old ∷ work))) []
+
+  -- The same of all that a state leads to up to the position's next byte.
+  pub record ArrivesInSet (at : ℕ) (past : Bool) (s : ℕ) (met : Met) (items : List (ℕ × Slots)) (set : List Bool)
+      (hit : Bool) (after : Met) (kept : List (ℕ × Slots)) (gathered : List Bool) : Type 0 where
+    pub front : Front
+    pub added : kept ≡ items ++ moves (edges nfa x) front
+    pub gathers : Gathers nfa past (wants nfa x) front set hit gathered
+    pub cut : past ≡ false → moves (edges nfa x) (before_match (wants nfa x) front) ≡ moves (edges nfa x) front
+    pub formed : (before : Front) → Formed nfa at met.bits before → Formed nfa at after.bits (before ++ front)
+    pub paid : Paid nfa met (length items) [] 1 after (length kept) [] 0
+    pub leads : (before : Front) (old : Slots) (work : List Item)
+        → Leads nfa x at met before (ToExplore (s, at) ∷ ToLoad old ∷ work) [] (GoesPast past hit) after (before ++ front) (ToLoad old ∷ work)
+
+  -- The same of all states at a position, where none was marked before. They have rows of no slots.
+  pub record CrossesInSet (at : ℕ) (past : Bool) (met : Met) (items : List (ℕ × Slots)) (set : List Bool)
+      (hit : Bool) (after : Met) (kept : List (ℕ × Slots)) (gathered : List Bool) : Type 0 where
+    pub front : Front
+    pub rows : All (λ i. i.1 ≡ []) items
+    pub added : kept ≡ moves (edges nfa x) front
+    pub gathers : Gathers nfa past (wants nfa x) front set hit gathered
+    pub cut : past ≡ false → moves (edges nfa x) (before_match (wants nfa x) front) ≡ moves (edges nfa x) front
+    pub formed : Formed nfa at after.bits front
+    pub paid : Paid nfa (unmarked met) 0 [] (length items) after (length kept) [] 0
+    pub leads : (old : Slots) (waiting : List Item)
+        → Leads nfa x at (unmarked met) [] (tasks at items (ToLoad old ∷ waiting)) [] (GoesPast past hit) after front (ToLoad old ∷ waiting)

@@ -1,0 +1,24 @@
+-- How kept states and their rows lie in memory.
+use Rattle.std.specs.Prelude.{ℕ, ◌==◌, Bool, List, [], ◌∷◌, map, take, drop}
+use Rattle.nfa_search_base.specs.Exploring.{Slots}
+
+-- which states are marked at a position, and how often one was tried to be
+pub record Met : Type 0 where
+  pub bits : List Bool
+  pub turns : ℕ
+
+-- the states that are kept, each with its row, the cells of a row, for how many states there is room, and the cells of all rows
+pub record Active : Type 0 where
+  pub items : List (ℕ × Slots)
+  pub width : ℕ
+  pub places : ℕ
+  pub cells : ℕ
+
+-- the states, each with its row of `width` cells
+abbrev pub items_of : ℕ → List ℕ → Slots → List (ℕ × Slots)
+items_of width [] cells = []
+items_of width (s ∷ states) cells = (s, take width cells) ∷ items_of width states (drop width cells)
+
+-- a stamp marks its state if it is the newest one
+abbrev pub marks_of : ℕ → List ℕ → List Bool
+marks_of newest stamps = map (λ stamp. stamp == newest) stamps

@@ -1,0 +1,150 @@
+-- What the scans and the search of a PikeVM come to, over the theory of paths.
+use Rattle.std.specs.Prelude.{◌≡◌, ◌⊎◌, ℕ, ◌++◌, ◌+◌, ◌-◌, ◌*◌, ◌<◌, ◌≤◌, Bool, true, false, List, [], ◌∷◌, Option, None, Some, cond, length, map, replicate, nat_lt, if◌then◌else◌, All, option_map, option_and_then}
+use Rattle.std.specs.List.{sum_by}
+use Rattle.std.specs.Option.{option_map_or}
+use Rattle.regex_search_core.specs.Found.{HalfFound, half_found_of}
+use Rattle.regex_search_core.specs.Search.{Search}
+use Rattle.regex_search_core.specs.declared.search.HalfMatch.{HalfMatch}
+use Rattle.regex_search_core.specs.declared.search.MatchKind.{MatchKind}
+use Rattle.regex_search_core.specs.declared.search.MatchKind.TheVariants.{All as AllMatches, LeftmostFirst}
+use Rattle.thompson_nfa.specs.Automaton.{Automaton, LeadsBelow}
+use Rattle.nfa_search_base.specs.Graphs.{Pair}
+use Rattle.nfa_search_base.specs.Paths.{node_at, pattern_of, edges, is_match, capture, starts, pairs_from, span_len, turn_weight, last_of, path_pattern, slot_row, IsScanAnswer, IsSearchAnswer}
+use Rattle.nfa_search_base.specs.Exploring.{Slots, Found, Item, seeds}
+use Rattle.nfa_search_base.specs.Exploring.Item.{Load}
+use Rattle.nfa_search_base.specs.Kinds.{NoneBefore, LastBefore, Scanning}
+use Rattle.nfa_engine_parts.specs.FirstBytes.{IsRefused}
+use Rattle.nfa_pikevm.specs.Rows.{Met, Active}
+use Rattle.nfa_pikevm.specs.Engines.{room_of}
+use Rattle.nfa_pikevm.specs.declared.scan.Starts.{Starts}
+use Rattle.nfa_pikevm.specs.States.{tasks, unmarked, SeenAt, SearchingAt}
+
+-- a row with no slot set
+abbrev pub blank : ℕ → Slots
+blank width = replicate width None
+
+-- the starts from a position on, below the limit, each with the slots to load behind it
+abbrev pub starts_from : ℕ → ℕ → ℕ → ℕ → List Item
+starts_from width start at limit = seeds (blank width) (pairs_from start at (limit - at))
+
+-- There is room for all states of the NFA, and for one more that starts, with rows of this width.
+pub record Serves (nfa : Automaton) (width : ℕ) (met : Met) (frames : ℕ) (curr next : Active) : Type 0 where
+  pub marks : length nfa.states ≤ length met.bits
+  pub frames_fit : sum_by room_of nfa.states ≤ frames
+  pub curr_places : length nfa.states < curr.places
+  pub next_places : length nfa.states < next.places
+  pub curr_cells : curr.places * width ≤ curr.cells
+  pub next_cells : next.places * width ≤ next.cells
+
+-- and the rows have this width
+pub record HasThreads (nfa : Automaton) (width : ℕ) (met : Met) (frames : ℕ) (curr next : Active) : Type 0 where
+  pub serves : Serves nfa width met frames curr next
+  pub curr_width : curr.width ≡ width
+  pub next_width : next.width ≡ width
+
+-- for how many states there are marks, for how many there is room in each of the two sets, the cells of the rows of each, and the frames
+pub record Sizes : Type 0 where
+  pub states : ℕ
+  pub places : ℕ
+  pub cells : ℕ
+  pub frames : ℕ
+
+-- these are the sizes
+pub record AreSized (size : Sizes) (met : Met) (frames : ℕ) (curr next : Active) : Type 0 where
+  pub marks : length met.bits ≡ size.states
+  pub frames_are : frames ≡ size.frames
+  pub curr_places : curr.places ≡ size.places
+  pub next_places : next.places ≡ size.places
+  pub curr_cells : curr.cells ≡ size.cells
+  pub next_cells : next.cells ≡ size.cells
+
+-- the scan's starts, and which of them may be passed over; and each state leads to states of the NFA
+pub record AreStarts (nfa : Automaton) (x : Search) (starts_at : Starts) : Type 0 where
+  pub state : starts_at.state < length nfa.states
+  pub leads : All (LeadsBelow (length nfa.states)) nfa.states
+  pub all : starts nfa x ≡ pairs_from starts_at.state x.start (starts_at.limit - x.start)
+  pub low : x.start ≤ starts_at.limit
+  pub high : starts_at.limit ≤ x.end + 1
+  pub stop : starts_at.stop ≤ x.end
+  pub before : starts_at.stop < starts_at.limit
+  pub skips : x.start < starts_at.stop → starts_at.state ≡ nfa.anchored
+
+-- the states at a position with the start behind them, where it may still join
+abbrev pub joined : Starts → ℕ → ℕ → List (ℕ × Slots) → List (ℕ × Slots)
+joined starts_at width at items = if nat_lt at starts_at.limit then items ++ (starts_at.state, blank width) ∷ [] else items
+
+-- a match that ends at the position
+abbrev pub half_found : ℕ → ℕ → HalfFound
+half_found pattern at = record { pattern = pattern; offset = at }
+
+-- the position may be passed over: no match begins with its byte
+abbrev pub IsPassed : List Bool → Search → Starts → ℕ → Type 0
+IsPassed table x starts_at k = (k < starts_at.stop) × IsRefused table x k
+
+-- The position that a scan goes on at, where the start has joined the states, or no match begins there. While starts are left some state
+-- is there.
+pub record Joins (table : List Bool) (x : Search) (starts_at : Starts) (limit width at : ℕ) (items : List (ℕ × Slots)) (to : ℕ) (joined : List (ℕ × Slots)) : Type 0 where
+  pub ahead : at ≤ to
+  pub within : at ≤ x.end → to ≤ x.end
+  pub stays : 0 < length items → to ≡ at
+  pub passed : (k : ℕ) → at ≤ k → k < to → IsPassed table x starts_at k
+  pub some : at < limit → 0 < length joined
+  pub last : ((to < limit) × (joined ≡ items ++ (starts_at.state, blank width) ∷ []))
+      ⊎ ((joined ≡ items) × ((limit ≤ to) ⊎ IsPassed table x starts_at to))
+
+-- The states at a position: each is one of the NFA's, and they are no more than it has.
+pub record AreAt (nfa : Automaton) (items : List (ℕ × Slots)) : Type 0 where
+  pub states : All (λ i. i.0 < length nfa.states) items
+  pub few : length items ≤ length nfa.states
+
+module _ (nfa : Automaton) (x : Search) where
+  -- the match that was found so far, and where it ends: none, and no slot set; or one, and its slots
+  abbrev pub IsSoFar : Option HalfMatch → Slots → Found → Type 0
+  IsSoFar None slots g = (g ≡ None) × (slots ≡ blank (length slots))
+  IsSoFar (Some half) slots g =
+      (state : ℕ) × (g ≡ Some ((state, (half_found_of half).offset), slots)) × (pattern_of (node_at nfa state) ≡ Some (half_found_of half).pattern)
+
+  -- the scan's answer is this path, of which the match and the slots are
+  pub record Finds (kind : MatchKind) (earliest : Bool) (half : HalfMatch) (slots : Slots) (turns : ℕ) : Type 0 where
+    pub path : List Pair
+    pub state : ℕ
+    pub answers : IsScanAnswer nfa x kind earliest (Some path)
+    pub matches : pattern_of (node_at nfa state) ≡ Some (half_found_of half).pattern
+    pub ends : last_of path ≡ Some (state, (half_found_of half).offset)
+    pub row : slots ≡ slot_row nfa (length slots) (Some path)
+    pub short : length path ≤ turns
+
+  -- what a scan comes to, by as many turns
+  abbrev pub Scans : MatchKind → Bool → Option HalfMatch → Slots → ℕ → Type 0
+  Scans kind earliest None slots turns = IsScanAnswer nfa x kind earliest None × (slots ≡ blank (length slots))
+  Scans kind earliest (Some half) slots turns = Finds kind earliest half slots turns
+
+  -- the turns of one scan at most
+  abbrev pub scan_turns : ℕ
+  scan_turns = (1 + turn_weight nfa) * (span_len x + 1)
+
+  -- The turns so far and the states at the position are within the starts and the positions before it.
+  pub record IsPaidAt (at before : ℕ) (turns items : ℕ) : Type 0 where
+    pub bound : turns + items ≤ before + (at - x.start) * (1 + turn_weight nfa)
+
+  -- The search for the first path, at a position where it has followed no state yet.
+  pub record SearchesFirst (at width start limit : ℕ) (found : Option HalfMatch) (slots : Slots) (met : Met) (items : List (ℕ × Slots)) : Type 0 where
+    pub so_far : Found
+    pub is_so_far : IsSoFar found slots so_far
+    pub searching : SearchingAt nfa x at (is_match nfa) (starts nfa x) (blank width) so_far (unmarked met) []
+        (tasks at items (Load (blank width) ∷ starts_from width start at limit)) (blank width)
+
+  -- The scan for each match, at a position where it has followed no state yet.
+  pub record ScansAll (at width start limit : ℕ) (met : Met) (items : List (ℕ × Slots)) : Type 0 where
+    pub scanning : Scanning (edges nfa x) (capture nfa) (starts nfa x) (is_match nfa) (blank width) at (SeenAt at (unmarked met).bits) met.turns []
+        (tasks at items (Load (blank width) ∷ starts_from width start at limit)) (blank width)
+
+  -- the search's answer is this, after so many scans and turns
+  pub record Searched (kind : MatchKind) (earliest : Bool) (half : Option HalfMatch) (slots : Slots) (scans turns : ℕ) : Type 0 where
+    pub restarts : ℕ
+    pub path : Option (List Pair)
+    pub answers : IsSearchAnswer nfa kind earliest x restarts path
+    pub pattern_is : option_map (λ h. (half_found_of h).pattern) half ≡ option_and_then (path_pattern nfa) path
+    pub slots_are : slots ≡ slot_row nfa (length slots) path
+    pub scans_are : scans ≡ restarts + 1
+    pub turns_reach : option_map_or length path 0 ≤ turns

@@ -1,0 +1,132 @@
+ghost use Rattle.std.specs.Prelude.{◌≡◌, ◌↔◌, IfOk, OnOk, OnErr, IsOkUnless, IsTrue};
+ghost use Rattle.nfa_pikevm.specs.Engines.{Fits, cache_for, memory_of};
+
+use crate::engine::PikeVM;
+use crate::sizes::{make_room, size_for, stack_places};
+use crate::threads::Threads;
+use nfa_engine_parts::counter::Counter;
+use nfa_search_base::error::SearchError;
+use regex_search_core::{NonMaxUsize, Refused};
+use std::alloc::Global;
+use std::marker::Model;
+
+/// What a PikeVM writes while it searches: the states that it follows, each with a row of slots, and its stack. A search
+/// takes no memory beside it, and owes to the cache that it is large enough: [`Cache::fits`].
+///
+/// A contract sees for how many states, slots and patterns it was made, the places of its stack, and how many scans its
+/// last search made, and how many turns they took.
+#[derive(Debug, Drop)]
+pub struct Cache {
+    pub(super) threads: Threads,
+    pub(super) found: Vec<Option<NonMaxUsize>>,
+    slots: usize,
+    patterns: usize,
+    pub(super) scans: Counter,
+}
+
+impl Model for Cache {
+    ghost use Rattle.std.specs.Prelude.{length};
+    ghost use Rattle.nfa_pikevm.specs.Engines.{PikeCache};
+    ghost use Rattle.nfa_pikevm.specs.Sizes.{IsRoomFor};
+
+    ghost Value = { PikeCache };
+
+    ghost view = { λ c. record { states = length c.threads.seen.bits; slots = c.slots; patterns = c.patterns; places = length c.threads.frames.items; scans = c.scans; turns = c.threads.seen.turns } };
+
+    ghost invariant = { λ c. IsRoomFor (length c.threads.seen.bits) c.slots (length c.threads.frames.items) c.threads.seen (length c.threads.frames.items) c.threads.curr c.threads.next (length c.found.items) };
+}
+
+impl Cache {
+    /// A cache that fits the PikeVM, and is no larger. The error is `Memory` alone.
+    pub fn new(alloc: Global, vm: &PikeVM) -> Result<Cache, SearchError>
+        ensures made { IfOk result (λ made. made ≡ cache_for vm.now.nfa 0 0) }
+        ensures memory { IsOkUnless result SearchError.Memory }
+    {
+        let nfa = vm.get_nfa();
+        let Some(size) = size_for(nfa) else {
+            return Err(SearchError::Memory);
+        };
+        let mut threads = Threads::new(alloc);
+        let mut found = Vec::new(alloc);
+        make_room(&mut threads, &mut found, &size, nfa.start_anchored())?;
+        Ok(Cache {
+            threads,
+            found,
+            slots: size.slots,
+            patterns: nfa.pattern_len(),
+            scans: Counter::new(),
+        })
+    }
+
+    /// Makes the cache as large as the PikeVM needs it, and no larger. The error is `Memory` alone; the cache then is as it
+    /// was, and fits what it fitted.
+    pub fn reset(&mut self, vm: &PikeVM) -> Result<(), SearchError>
+        ensures made { OnOk result (self.new ≡ cache_for vm.now.nfa self.old.scans self.old.turns) }
+        ensures kept { OnErr result (self.new ≡ self.old) }
+        ensures memory { IsOkUnless result SearchError.Memory }
+    {
+        let nfa = vm.get_nfa();
+        let Some(size) = size_for(nfa) else {
+            return Err(SearchError::Memory);
+        };
+        make_room(
+            &mut self.threads,
+            &mut self.found,
+            &size,
+            nfa.start_anchored(),
+        )?;
+        self.slots = size.slots;
+        self.patterns = nfa.pattern_len();
+        Ok(())
+    }
+
+    /// Whether the PikeVM may search with this cache.
+    pub fn fits(&self, vm: &PikeVM) -> bool
+        ensures { IsTrue result ↔ Fits self.now vm.now.nfa }
+    {
+        let nfa = vm.get_nfa();
+        let frames = self.threads.frames.len();
+        let Some(places) = stack_places(nfa) else {
+            return false;
+        };
+        nfa.states().len() <= self.threads.seen.len()
+            && nfa.group_info().slot_len() <= self.slots
+            && nfa.pattern_len() <= self.patterns
+            && places <= frames
+    }
+
+    /// A cache with the same numbers and counts. The error is `Memory` alone.
+    pub fn clone(&self) -> Result<Cache, SearchError>
+        ensures copy { IfOk result (λ copy. copy ≡ self.now) }
+        ensures memory { IsOkUnless result SearchError.Memory }
+    {
+        Ok(self.copied()?)
+    }
+
+    fn copied(&self) -> Result<Cache, Refused>
+        ensures { IfOk result (λ copy. copy ≡ self.now) }
+    {
+        Ok(Cache {
+            threads: self.threads.copied()?,
+            found: self.found.clone()?,
+            slots: self.slots,
+            patterns: self.patterns,
+            scans: self.scans.copy(),
+        })
+    }
+
+    /// The bytes that the cache's collections hold: 24 for a frame of the stack, 8 for a slot, 4 for a place of the sets of
+    /// states. The sum stops at the greatest `usize`.
+    pub fn memory_usage(&self) -> usize
+        ensures { result ≡ memory_of self.now }
+    {
+        let states = self.threads.seen.len();
+        let rows = states.saturating_mul(2).saturating_add(3);
+        let places = states.saturating_mul(3).saturating_add(2);
+        let frames = self.threads.frames.len().saturating_mul(24);
+        let slots = rows.saturating_mul(self.slots).saturating_mul(8);
+        frames
+            .saturating_add(slots)
+            .saturating_add(places.saturating_mul(4))
+    }
+}

@@ -1,0 +1,111 @@
+ghost use Rattle.std.specs.Prelude.{◌≡◌, None, Some, Ok, unwrap_or};
+ghost use Rattle.std.specs.Option.{option_or};
+ghost use Rattle.regex_search_core.specs.declared.search.MatchKind.TheVariants.{LeftmostFirst};
+
+use crate::engine::PikeVM;
+use regex_search_core::MatchKind;
+use std::marker::Model;
+use thompson_nfa::{BuildError, NFA};
+
+/// How a PikeVM is set up. A contract sees it as the match kind that was set, if one was.
+#[derive(Clone, Copy, Debug)]
+pub struct Config {
+    match_kind: Option<MatchKind>,
+}
+
+impl Model for Config {
+    ghost use Rattle.std.specs.Prelude.{Option};
+    ghost use Rattle.regex_search_core.specs.declared.search.MatchKind.{MatchKind};
+
+    ghost Value = { Option MatchKind };
+
+    ghost view = { λ c. c.match_kind };
+
+    ghost inverse = { λ kind. record { match_kind = kind } };
+}
+
+impl Config {
+    /// A configuration with nothing set.
+    pub fn new() -> Config
+        ensures { result ≡ None }
+    {
+        Config { match_kind: None }
+    }
+
+    /// Sets which of several matches is meant.
+    pub fn match_kind(mut self, kind: MatchKind) -> Config
+        ensures { result ≡ Some kind }
+    {
+        self.match_kind = Some(kind);
+        self
+    }
+
+    /// Which of several matches is meant: what was set, or `LeftmostFirst`.
+    pub fn get_match_kind(&self) -> MatchKind
+        ensures { result ≡ unwrap_or self.now LeftmostFirst }
+    {
+        self.match_kind.unwrap_or(MatchKind::LeftmostFirst)
+    }
+
+    /// The newer configuration, with what it leaves unset from this one.
+    fn overwritten_by(&self, newer: Config) -> Config
+        ensures { result ≡ option_or newer self.now }
+    {
+        Config {
+            match_kind: newer.match_kind.or(self.match_kind),
+        }
+    }
+}
+
+impl Default for Config {
+    /// A configuration with nothing set.
+    fn default() -> Config
+        ensures { result ≡ None }
+    {
+        Config::new()
+    }
+}
+
+/// Makes PikeVMs of one configuration. A contract sees it as that configuration.
+#[derive(Clone, Copy, Debug)]
+pub struct Builder {
+    config: Config,
+}
+
+impl Model for Builder {
+    ghost use Rattle.std.specs.Prelude.{Option};
+    ghost use Rattle.regex_search_core.specs.declared.search.MatchKind.{MatchKind};
+
+    ghost Value = { Option MatchKind };
+
+    ghost view = { λ b. b.config };
+
+    ghost inverse = { λ config. record { config = config } };
+}
+
+impl Builder {
+    /// A builder with nothing set.
+    pub fn new() -> Builder
+        ensures { result ≡ None }
+    {
+        Builder {
+            config: Config::new(),
+        }
+    }
+
+    /// Takes over what the configuration sets. An option that it leaves unset stays as it was.
+    pub fn configure(&mut self, config: Config) -> &mut Builder
+        ensures value { result.now ≡ option_or config self.old }
+        ensures same_reference { result.ghost_name ≡ self.entry.ghost_name }
+    {
+        self.config = self.config.overwritten_by(config);
+        self
+    }
+
+    /// A PikeVM of the NFA. This is always `Ok`: the data of Unicode word boundaries is always there.
+    pub fn build_from_nfa(&self, nfa: NFA) -> Result<PikeVM, BuildError>
+        ensures { result ≡ Ok (record { nfa = nfa; match_kind = self.now }) }
+    {
+        Ok(PikeVM::from_parts(self.config, nfa))
+    }
+}

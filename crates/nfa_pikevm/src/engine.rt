@@ -1,0 +1,300 @@
+ghost use Rattle.std.specs.Prelude.{◌≡◌, ◌+◌, ◌*◌, ◌≤◌, None, Ok, false, not, length, replicate, option_map, IfOk, OnOk, OnErr, IsOkUnless};
+ghost use Rattle.regex_search_core.specs.Search.{search_of};
+ghost use Rattle.regex_search_core.specs.Groups.{slot_count};
+ghost use Rattle.regex_search_core.specs.Patterns.{number_of};
+ghost use Rattle.regex_search_core.specs.Found.{found_of};
+ghost use Rattle.thompson_nfa.specs.Simple.{always, never};
+ghost use Rattle.nfa_search_base.specs.Overlaps.{IsOverlapResult};
+ghost use Rattle.nfa_search_base.specs.Paths.{span_len, turn_weight, scan_limit, is_utf8_empty, IsAnswer, IsMatchAnswer, IsFoundAnswer, IsWork};
+ghost use Rattle.nfa_pikevm.specs.Engines.{Fits, SameNumbers, kind_of, cache_for};
+ghost use Rattle.nfa_pikevm.specs.Scans.{Serves, Sizes, AreSized, scan_turns};
+
+use crate::cache::Cache;
+use crate::config::{Builder, Config};
+use crate::overlap::overlap;
+use crate::search::{search, unset};
+use crate::threads::Threads;
+use nfa_engine_parts::counter::Counter;
+use nfa_engine_parts::first_bytes::FirstBytes;
+use nfa_search_base::error::SearchError;
+use regex_search_core::{Captures, Input, Match, NonMaxUsize, PatternID, PatternSet};
+use std::alloc::Global;
+use std::marker::Model;
+use thompson_nfa::{BuildError, NFA};
+
+/// A search of one NFA that follows all states side by side.
+///
+/// Its answers are those of the match kind that was set, and of the input's `earliest`. A contract sees the NFA and that
+/// kind.
+#[derive(Debug, Drop)]
+pub struct PikeVM {
+    config: Config,
+    first: FirstBytes,
+    nfa: NFA,
+}
+
+impl Model for PikeVM {
+    ghost use Rattle.nfa_engine_parts.specs.FirstBytes.{IsFirstBytes};
+    ghost use Rattle.nfa_pikevm.specs.Engines.{Pike};
+
+    ghost Value = { Pike };
+
+    ghost view = { λ e. record { nfa = e.nfa; match_kind = e.config } };
+
+    ghost invariant = { λ e. IsFirstBytes e.nfa e.first.may_begin };
+}
+
+impl PikeVM {
+    pub(super) fn from_parts(config: Config, nfa: NFA) -> PikeVM
+        ensures { result ≡ record { nfa = nfa; match_kind = config } }
+    {
+        let first = FirstBytes::new(&nfa);
+        PikeVM { config, first, nfa }
+    }
+
+    /// A PikeVM of the NFA with the default configuration. This is always `Ok`.
+    pub fn new_from_nfa(nfa: NFA) -> Result<PikeVM, BuildError>
+        ensures { result ≡ Ok (record { nfa = nfa; match_kind = None }) }
+    {
+        Builder::new().build_from_nfa(nfa)
+    }
+
+    /// A PikeVM of the NFA that matches the empty text at each position, with the default configuration. The error is
+    /// `Memory` alone.
+    pub fn always_match(alloc: Global) -> Result<PikeVM, BuildError>
+        ensures made { IfOk result (λ made. made ≡ record { nfa = always; match_kind = None }) }
+        ensures memory { IsOkUnless result BuildError.Memory }
+    {
+        PikeVM::new_from_nfa(NFA::always_match(alloc)?)
+    }
+
+    /// A PikeVM of the NFA that matches nothing, with the default configuration. The error is `Memory` alone.
+    pub fn never_match(alloc: Global) -> Result<PikeVM, BuildError>
+        ensures made { IfOk result (λ made. made ≡ record { nfa = never; match_kind = None }) }
+        ensures memory { IsOkUnless result BuildError.Memory }
+    {
+        PikeVM::new_from_nfa(NFA::never_match(alloc)?)
+    }
+
+    /// A configuration with nothing set.
+    pub fn config() -> Config
+        ensures { result ≡ None }
+    {
+        Config::new()
+    }
+
+    /// A builder with nothing set.
+    pub fn builder() -> Builder
+        ensures { result ≡ None }
+    {
+        Builder::new()
+    }
+
+    /// Captures of all groups of the NFA, with no pattern and no slot set. The error is `Memory` alone.
+    pub fn create_captures(&self, alloc: Global) -> Result<Captures, SearchError>
+        ensures made { IfOk result (λ made. made ≡ record {
+          groups = self.now.nfa.groups;
+          pattern = None;
+          slots = replicate (slot_count self.now.nfa.groups) None;
+        }) }
+        ensures memory { IsOkUnless result SearchError.Memory }
+    {
+        let groups = self.nfa.group_info().clone()?;
+        Ok(Captures::all(alloc, groups)?)
+    }
+
+    /// A cache that fits this PikeVM, and is no larger. The error is `Memory` alone.
+    pub fn create_cache(&self, alloc: Global) -> Result<Cache, SearchError>
+        ensures made { IfOk result (λ made. made ≡ cache_for self.now.nfa 0 0) }
+        ensures memory { IsOkUnless result SearchError.Memory }
+    {
+        Cache::new(alloc, self)
+    }
+
+    /// Makes the cache as large as this PikeVM needs it, and no larger. The error is `Memory` alone; the cache then is as it
+    /// was.
+    pub fn reset_cache(&self, cache: &mut Cache) -> Result<(), SearchError>
+        ensures made { OnOk result (cache.new ≡ cache_for self.now.nfa cache.old.scans cache.old.turns) }
+        ensures kept { OnErr result (cache.new ≡ cache.old) }
+        ensures memory { IsOkUnless result SearchError.Memory }
+    {
+        cache.reset(self)
+    }
+
+    /// How many patterns the NFA has.
+    pub fn pattern_len(&self) -> usize
+        ensures { result ≡ length self.now.nfa.patterns }
+    {
+        self.nfa.pattern_len()
+    }
+
+    /// The configuration that this was made with.
+    pub fn get_config(&self) -> &Config
+        ensures { result.now ≡ self.now.match_kind }
+    {
+        &self.config
+    }
+
+    /// The NFA that this searches for.
+    pub fn get_nfa(&self) -> &NFA
+        ensures { result.now ≡ self.now.nfa }
+    {
+        &self.nfa
+    }
+
+    /// An equal PikeVM. The error is `Memory` alone.
+    pub fn clone(&self) -> Result<PikeVM, SearchError>
+        ensures copy { IfOk result (λ copy. copy ≡ self.now) }
+        ensures memory { IsOkUnless result SearchError.Memory }
+    {
+        let Ok(nfa) = self.nfa.clone() else {
+            return Err(SearchError::Memory);
+        };
+        Ok(PikeVM::from_parts(self.config, nfa))
+    }
+
+    /// Searches, and fills the slots with byte offsets: slots `2p` and `2p + 1` have the start and end of a match of
+    /// pattern `p`, those of the explicit groups follow. Any number of slots may be handed in; those past the NFA's are
+    /// none, and so is every slot after no match.
+    ///
+    /// The caller owes a cache that fits. A search leaves its numbers as they are.
+    pub fn search_slots(
+        &self,
+        cache: &mut Cache,
+        input: &Input<'_>,
+        slots: &mut [Option<NonMaxUsize>],
+    ) -> Option<PatternID>
+        requires { Fits cache.old self.now.nfa }
+        ensures answer { IsAnswer self.now.nfa (kind_of self.now) (search_of input.now).earliest (search_of input.now) (option_map number_of result) slots.new }
+
+        ensures numbers { SameNumbers cache.old cache.new }
+
+        // What was done for it: exactly one scan more than restarts, within stated bounds.
+        ensures work { IsWork self.now.nfa (kind_of self.now) (search_of input.now).earliest (search_of input.now) cache.new.scans cache.new.turns }
+        ensures scans { cache.new.scans ≤ scan_limit self.now.nfa (search_of input.now) }
+        ensures turns { cache.new.turns ≤ cache.new.scans * ((1 + turn_weight self.now.nfa) * (span_len (search_of input.now) + 1)) }
+    {
+        let Cache { threads, scans, .. } = cache;
+        scans.restart();
+        threads.seen.restart_turns();
+        let width = slots.len().min(self.nfa.group_info().slot_len());
+        let (row, rest) = slots.split_at_mut(width);
+        unset(rest);
+        let half = search(
+            &self.nfa,
+            &self.first,
+            self.config.get_match_kind(),
+            input,
+            threads,
+            scans,
+            row,
+        )?;
+        Some(half.pattern())
+    }
+
+    /// The match that a search answers, with its first slots here.
+    fn find_with(
+        &self,
+        threads: &mut Threads,
+        scans: &mut Counter,
+        input: &Input<'_>,
+        found: &mut [Option<NonMaxUsize>],
+    ) -> Option<Match>
+        requires row { 2 * length self.now.nfa.groups ≤ length found.old }
+        requires serves { Serves self.now.nfa (2 * length self.now.nfa.groups) threads.old.seen (length threads.old.frames.items) threads.old.curr threads.old.next }
+        requires counted { scans.old ≡ 0 }
+        requires turned { threads.old.seen.turns ≡ 0 }
+        ensures answer { IsMatchAnswer self.now.nfa (kind_of self.now) (search_of input.now).earliest (search_of input.now) (option_map found_of result) }
+        ensures work { IsWork self.now.nfa (kind_of self.now) (search_of input.now).earliest (search_of input.now) scans.new threads.new.seen.turns }
+        ensures sizes { (size : Sizes) → AreSized size threads.old.seen (length threads.old.frames.items) threads.old.curr threads.old.next → AreSized size threads.new.seen (length threads.new.frames.items) threads.new.curr threads.new.next }
+        ensures scans { scans.new ≤ scan_limit self.now.nfa (search_of input.now) }
+        ensures turns { threads.new.seen.turns ≤ scans.new * scan_turns self.now.nfa (search_of input.now) }
+    {
+        let slot_len = self.nfa.group_info().implicit_slot_len();
+        let slots = &mut found[..slot_len];
+        let half = search(
+            &self.nfa,
+            &self.first,
+            self.config.get_match_kind(),
+            input,
+            threads,
+            scans,
+            slots,
+        )?;
+        Match::from_slots(half.pattern(), slots)
+    }
+
+    /// The match that a search answers: the span between the two slots of its pattern. It is none where there is no
+    /// match, where the NFA writes one of the two slots nowhere on the way, or where the start lies behind the end.
+    ///
+    /// The caller owes a cache that fits. A search leaves its numbers as they are.
+    pub fn find<'h>(&self, cache: &mut Cache, input: Input<'h>) -> Option<Match>
+        requires { Fits cache.old self.now.nfa }
+        ensures answer { IsMatchAnswer self.now.nfa (kind_of self.now) (search_of input.entry).earliest (search_of input.entry) (option_map found_of result) }
+
+        ensures numbers { SameNumbers cache.old cache.new }
+
+        ensures work { IsWork self.now.nfa (kind_of self.now) (search_of input.entry).earliest (search_of input.entry) cache.new.scans cache.new.turns }
+        ensures scans { cache.new.scans ≤ scan_limit self.now.nfa (search_of input.entry) }
+        ensures turns { cache.new.turns ≤ cache.new.scans * ((1 + turn_weight self.now.nfa) * (span_len (search_of input.entry) + 1)) }
+    {
+        let Cache {
+            threads,
+            scans,
+            found,
+            ..
+        } = cache;
+        scans.restart();
+        threads.seen.restart_turns();
+        self.find_with(threads, scans, &input, found.as_mut_slice())
+    }
+
+    /// Whether a search of the input without `earliest` finds a match. The input's `earliest` is ignored: the search stops
+    /// at the earliest match wherever that cannot change the answer.
+    ///
+    /// The caller owes a cache that fits. A search leaves its numbers as they are.
+    pub fn is_match<'h>(&self, cache: &mut Cache, input: Input<'h>) -> bool
+        requires { Fits cache.old self.now.nfa }
+        ensures answer { IsFoundAnswer self.now.nfa (kind_of self.now) false (search_of input.entry) result }
+
+        ensures numbers { SameNumbers cache.old cache.new }
+
+        ensures work { IsWork self.now.nfa (kind_of self.now) (not (is_utf8_empty self.now.nfa)) (search_of input.entry) cache.new.scans cache.new.turns }
+        ensures scans { cache.new.scans ≤ scan_limit self.now.nfa (search_of input.entry) }
+        ensures turns { cache.new.turns ≤ cache.new.scans * ((1 + turn_weight self.now.nfa) * (span_len (search_of input.entry) + 1)) }
+    {
+        let earliest = !(self.nfa.has_empty() && self.nfa.is_utf8());
+        let input = input.earliest(earliest);
+        self.search_slots(cache, &input, &mut []).is_some()
+    }
+
+    /// Puts the patterns of all matches into the set, also of those that overlap. The set keeps what it holds, and gains
+    /// patterns below its capacity alone.
+    ///
+    /// With the kind `All` it gains every pattern that matches somewhere in the span; with `earliest`, those whose matches end
+    /// where the first of them does. With `LeftmostFirst` a set that holds a pattern gains nothing; an empty one gains the pattern
+    /// of the first match, and maybe some of matches that end before it; with `earliest`, that of the first match that ends
+    /// alone. A match ends on a boundary where the NFA asks for it.
+    ///
+    /// The caller owes a cache that fits. A search leaves its numbers as they are.
+    pub fn which_overlapping_matches(
+        &self,
+        cache: &mut Cache,
+        input: &Input<'_>,
+        patterns: &mut PatternSet,
+    )
+        requires { Fits cache.old self.now.nfa }
+        ensures result { IsOverlapResult self.now.nfa (search_of input.now) (kind_of self.now) (search_of input.now).earliest patterns.old patterns.new }
+
+        ensures numbers { SameNumbers cache.old cache.new }
+
+        ensures scans { cache.new.scans ≤ 1 }
+        ensures turns { cache.new.turns ≤ (1 + turn_weight self.now.nfa) * (span_len (search_of input.now) + 1) }
+    {
+        let Cache { threads, scans, .. } = cache;
+        scans.restart();
+        threads.seen.restart_turns();
+        let kind = self.config.get_match_kind();
+        overlap(&self.nfa, kind, input, threads, scans, patterns);
+    }
+}

@@ -1,0 +1,251 @@
+ghost use Rattle.std.specs.Prelude.{◌≡◌, ◌+◌, ◌<◌, ◌≤◌, [], true, false, length, cond, option_map};
+ghost use Rattle.regex_search_core.specs.Search.{search_of};
+ghost use Rattle.regex_search_core.specs.Found.{half_found_of};
+ghost use Rattle.regex_search_core.specs.Patterns.{number_of};
+ghost use Rattle.regex_search_core.specs.declared.search.MatchKind.TheVariants.{All, LeftmostFirst};
+ghost use Rattle.nfa_engine_parts.specs.FirstBytes.{IsFirstBytes};
+ghost use Rattle.nfa_pikevm.specs.Scans.{blank, Serves, HasThreads, Sizes, AreSized, AreStarts, Joins, joined, half_found, Scans, scan_turns};
+
+use crate::threads::{Threads, cross, move_on, set_up};
+use nfa_engine_parts::counter::Counter;
+use nfa_engine_parts::first_bytes::FirstBytes;
+use nfa_engine_parts::starts::{next_start, skip_limit, start_limit, start_state};
+use regex_search_core::{HalfMatch, Input, MatchKind, NonMaxUsize, PatternID, StateID};
+use thompson_nfa::NFA;
+
+/// Where the starts of a scan are: the state, the position behind the last one, and the position behind the last one that
+/// may be passed over for its byte.
+#[derive(Clone, Copy)]
+pub struct Starts {
+    pub state: StateID,
+    pub limit: usize,
+    pub stop: usize,
+}
+
+/// Lets the start state join the states at the position, behind them.
+#[inline(always)]
+pub fn join(starts: &Starts, at: usize, threads: &mut Threads)
+    requires room { length threads.old.curr.items < threads.old.curr.places }
+    ensures curr { threads.new.curr ≡ record threads.old.curr { items = joined starts.now threads.old.curr.width at threads.old.curr.items } }
+    ensures next { threads.new.next ≡ threads.old.next }
+    ensures seen { threads.new.seen ≡ threads.old.seen }
+    ensures frames { threads.new.frames.items ≡ threads.old.frames.items }
+{
+    if at < starts.limit {
+        threads.curr.push_blank(starts.state);
+    }
+}
+
+/// Lets the start state join the states at the position, or, where no state is there, at the next position where a match
+/// may begin. Where none may begin here, or at the limit, it does not join. Answers the position.
+fn join_or_skip(
+    first: &FirstBytes,
+    input: &Input<'_>,
+    starts: &Starts,
+    limit: usize,
+    at: usize,
+    threads: &mut Threads,
+) -> usize
+    requires room { length threads.old.curr.items < threads.old.curr.places }
+    requires place { at ≤ (search_of input.now).end }
+    requires stop { starts.now.stop ≤ (search_of input.now).end }
+    requires order { at < limit → starts.now.stop < limit }
+    ensures curr { threads.new.curr ≡ record threads.old.curr { items = threads.new.curr.items } }
+    ensures next { threads.new.next ≡ threads.old.next }
+    ensures seen { threads.new.seen ≡ threads.old.seen }
+    ensures frames { threads.new.frames.items ≡ threads.old.frames.items }
+    ensures joins { Joins first.now.may_begin (search_of input.now) starts.now limit threads.old.curr.width at threads.old.curr.items result threads.new.curr.items }
+{
+    if at >= limit {
+        return at;
+    }
+    if threads.curr.is_empty() {
+        let next = next_start(first, input, at, starts.stop);
+        threads.curr.push_blank(starts.state);
+        return next;
+    }
+    if at >= starts.stop || !first.refuses(input.haystack()[at]) {
+        threads.curr.push_blank(starts.state);
+    }
+    at
+}
+
+/// The match at the position, if there is one.
+#[inline(always)]
+fn half_at(hit: Option<PatternID>, at: usize) -> Option<HalfMatch>
+    ensures { option_map half_found_of result ≡ option_map (λ pattern. half_found (number_of pattern) at) hit }
+{
+    Some(HalfMatch::new(hit?, at))
+}
+
+/// The first accepting path: at each position, what stands behind a match is dropped.
+fn scan_first(
+    nfa: &NFA,
+    first: &FirstBytes,
+    input: &Input<'_>,
+    starts: &Starts,
+    threads: &mut Threads,
+    slots: &mut [Option<NonMaxUsize>],
+) -> Option<HalfMatch>
+    requires first { IsFirstBytes nfa.now first.now.may_begin }
+    requires starts { AreStarts nfa.now (search_of input.now) starts.now }
+    requires span { (search_of input.now).start ≤ (search_of input.now).end }
+    requires room { HasThreads nfa.now (length slots.old) threads.old.seen (length threads.old.frames.items) threads.old.curr threads.old.next }
+    requires curr { threads.old.curr.items ≡ [] }
+    requires next { threads.old.next.items ≡ [] }
+    requires unset { slots.old ≡ blank (length slots.old) }
+    ensures serves { Serves nfa.now (length slots.old) threads.new.seen (length threads.new.frames.items) threads.new.curr threads.new.next }
+    ensures sizes { (size : Sizes) → AreSized size threads.old.seen (length threads.old.frames.items) threads.old.curr threads.old.next → AreSized size threads.new.seen (length threads.new.frames.items) threads.new.curr threads.new.next }
+    ensures turns { threads.new.seen.turns ≤ threads.old.seen.turns + scan_turns nfa.now (search_of input.now) }
+    ensures answer { Scans nfa.now (search_of input.now) LeftmostFirst false result slots.new threads.new.seen.turns }
+{
+    let mut limit = starts.limit;
+    let mut found = None;
+    let mut at = input.start();
+    while at <= input.end() {
+        at = join_or_skip(first, input, starts, limit, at, threads);
+        if threads.curr.is_empty() {
+            return found;
+        }
+        let hit = half_at(cross(nfa, input, at, false, threads, slots), at);
+        move_on(threads);
+        if hit.is_some() {
+            // A later start comes behind it.
+            found = hit;
+            limit = 0;
+        }
+        at += 1;
+    }
+    found
+}
+
+/// The paths with the greatest end, of which the last one stands.
+fn scan_last(
+    nfa: &NFA,
+    input: &Input<'_>,
+    starts: &Starts,
+    threads: &mut Threads,
+    slots: &mut [Option<NonMaxUsize>],
+) -> Option<HalfMatch>
+    requires starts { AreStarts nfa.now (search_of input.now) starts.now }
+    requires span { (search_of input.now).start ≤ (search_of input.now).end }
+    requires room { HasThreads nfa.now (length slots.old) threads.old.seen (length threads.old.frames.items) threads.old.curr threads.old.next }
+    requires curr { threads.old.curr.items ≡ [] }
+    requires next { threads.old.next.items ≡ [] }
+    requires unset { slots.old ≡ blank (length slots.old) }
+    ensures serves { Serves nfa.now (length slots.old) threads.new.seen (length threads.new.frames.items) threads.new.curr threads.new.next }
+    ensures sizes { (size : Sizes) → AreSized size threads.old.seen (length threads.old.frames.items) threads.old.curr threads.old.next → AreSized size threads.new.seen (length threads.new.frames.items) threads.new.curr threads.new.next }
+    ensures turns { threads.new.seen.turns ≤ threads.old.seen.turns + scan_turns nfa.now (search_of input.now) }
+    ensures answer { Scans nfa.now (search_of input.now) All false result slots.new threads.new.seen.turns }
+{
+    let mut found = None;
+    for at in input.start()..input.end() + 1 {
+        join(starts, at, threads);
+        if threads.curr.is_empty() {
+            return found;
+        }
+        let hit = half_at(cross(nfa, input, at, true, threads, slots), at);
+        move_on(threads);
+        found = hit.or(found);
+    }
+    found
+}
+
+/// The paths with the least end: of them the first, or with `past_match` the last.
+fn scan_earliest(
+    nfa: &NFA,
+    input: &Input<'_>,
+    starts: &Starts,
+    past_match: bool,
+    threads: &mut Threads,
+    slots: &mut [Option<NonMaxUsize>],
+) -> Option<HalfMatch>
+    requires starts { AreStarts nfa.now (search_of input.now) starts.now }
+    requires span { (search_of input.now).start ≤ (search_of input.now).end }
+    requires room { HasThreads nfa.now (length slots.old) threads.old.seen (length threads.old.frames.items) threads.old.curr threads.old.next }
+    requires curr { threads.old.curr.items ≡ [] }
+    requires next { threads.old.next.items ≡ [] }
+    requires unset { slots.old ≡ blank (length slots.old) }
+    ensures serves { Serves nfa.now (length slots.old) threads.new.seen (length threads.new.frames.items) threads.new.curr threads.new.next }
+    ensures sizes { (size : Sizes) → AreSized size threads.old.seen (length threads.old.frames.items) threads.old.curr threads.old.next → AreSized size threads.new.seen (length threads.new.frames.items) threads.new.curr threads.new.next }
+    ensures turns { threads.new.seen.turns ≤ threads.old.seen.turns + scan_turns nfa.now (search_of input.now) }
+    ensures answer { Scans nfa.now (search_of input.now) (cond past_match All LeftmostFirst) true result slots.new threads.new.seen.turns }
+{
+    for at in input.start()..input.end() + 1 {
+        join(starts, at, threads);
+        if threads.curr.is_empty() {
+            return None;
+        }
+        let hit = half_at(cross(nfa, input, at, past_match, threads, slots), at);
+        move_on(threads);
+        if hit.is_some() {
+            return hit;
+        }
+    }
+    None
+}
+
+/// The answer of one scan from these starts.
+fn scan_from(
+    nfa: &NFA,
+    first: &FirstBytes,
+    kind: MatchKind,
+    input: &Input<'_>,
+    starts: &Starts,
+    threads: &mut Threads,
+    slots: &mut [Option<NonMaxUsize>],
+) -> Option<HalfMatch>
+    requires first { IsFirstBytes nfa.now first.now.may_begin }
+    requires starts { AreStarts nfa.now (search_of input.now) starts.now }
+    requires span { (search_of input.now).start ≤ (search_of input.now).end }
+    requires room { HasThreads nfa.now (length slots.old) threads.old.seen (length threads.old.frames.items) threads.old.curr threads.old.next }
+    requires curr { threads.old.curr.items ≡ [] }
+    requires next { threads.old.next.items ≡ [] }
+    requires unset { slots.old ≡ blank (length slots.old) }
+    ensures serves { Serves nfa.now (length slots.old) threads.new.seen (length threads.new.frames.items) threads.new.curr threads.new.next }
+    ensures sizes { (size : Sizes) → AreSized size threads.old.seen (length threads.old.frames.items) threads.old.curr threads.old.next → AreSized size threads.new.seen (length threads.new.frames.items) threads.new.curr threads.new.next }
+    ensures turns { threads.new.seen.turns ≤ threads.old.seen.turns + scan_turns nfa.now (search_of input.now) }
+    ensures answer { Scans nfa.now (search_of input.now) kind (search_of input.now).earliest result slots.new threads.new.seen.turns }
+{
+    let past_match = kind.continue_past_first_match();
+    if input.get_earliest() {
+        scan_earliest(nfa, input, starts, past_match, threads, slots)
+    } else if past_match {
+        scan_last(nfa, input, starts, threads, slots)
+    } else {
+        scan_first(nfa, first, input, starts, threads, slots)
+    }
+}
+
+/// One scan, from a clean slate: the path that is meant, its slots, or no slot set.
+pub fn scan(
+    nfa: &NFA,
+    first: &FirstBytes,
+    kind: MatchKind,
+    input: &Input<'_>,
+    threads: &mut Threads,
+    scans: &mut Counter,
+    slots: &mut [Option<NonMaxUsize>],
+) -> Option<HalfMatch>
+    requires first { IsFirstBytes nfa.now first.now.may_begin }
+    requires serves { Serves nfa.now (length slots.old) threads.old.seen (length threads.old.frames.items) threads.old.curr threads.old.next }
+    ensures scans { scans.new ≡ scans.old + 1 }
+    ensures serves { Serves nfa.now (length slots.old) threads.new.seen (length threads.new.frames.items) threads.new.curr threads.new.next }
+    ensures sizes { (size : Sizes) → AreSized size threads.old.seen (length threads.old.frames.items) threads.old.curr threads.old.next → AreSized size threads.new.seen (length threads.new.frames.items) threads.new.curr threads.new.next }
+    ensures turns { threads.new.seen.turns ≤ threads.old.seen.turns + scan_turns nfa.now (search_of input.now) }
+    ensures answer { Scans nfa.now (search_of input.now) kind (search_of input.now).earliest result slots.new threads.new.seen.turns }
+{
+    scans.tick();
+    slots.fill(None);
+    if input.is_done() {
+        return None;
+    }
+    let state = start_state(nfa, input)?;
+    let starts = Starts {
+        state,
+        limit: start_limit(nfa, input),
+        stop: skip_limit(nfa, input),
+    };
+    set_up(threads, slots.len());
+    scan_from(nfa, first, kind, input, &starts, threads, slots)
+}

@@ -1,0 +1,131 @@
+ghost use Rattle.std.specs.Prelude.{◌≡◌, ◌+◌, ◌*◌, ◌≤◌, true, false, length};
+ghost use Rattle.regex_search_core.specs.Search.{search_of, is_anchored};
+ghost use Rattle.nfa_search_base.specs.Paths.{is_utf8_empty, scan_limit};
+ghost use Rattle.nfa_engine_parts.specs.FirstBytes.{IsFirstBytes};
+ghost use Rattle.nfa_pikevm.specs.Scans.{blank, Serves, Sizes, AreSized, Searched, scan_turns};
+
+use crate::scan::scan;
+use crate::threads::Threads;
+use nfa_engine_parts::counter::Counter;
+use nfa_engine_parts::first_bytes::FirstBytes;
+use regex_search_core::{HalfMatch, Input, MatchKind, NonMaxUsize};
+use thompson_nfa::NFA;
+
+/// Takes the offset of every slot away.
+pub fn unset(slots: &mut [Option<NonMaxUsize>])
+    ensures { slots.new ≡ blank (length slots.old) }
+{
+    slots.fill(None);
+}
+
+/// A search whose scan is its answer.
+fn search_once(
+    nfa: &NFA,
+    first: &FirstBytes,
+    kind: MatchKind,
+    input: &Input<'_>,
+    threads: &mut Threads,
+    scans: &mut Counter,
+    slots: &mut [Option<NonMaxUsize>],
+) -> Option<HalfMatch>
+    requires first { IsFirstBytes nfa.now first.now.may_begin }
+    requires serves { Serves nfa.now (length slots.old) threads.old.seen (length threads.old.frames.items) threads.old.curr threads.old.next }
+    requires counted { scans.old ≡ 0 }
+    requires turned { threads.old.seen.turns ≡ 0 }
+    requires mode { is_utf8_empty nfa.now ≡ false }
+    ensures answer { Searched nfa.now (search_of input.now) kind (search_of input.now).earliest result slots.new scans.new threads.new.seen.turns }
+    ensures sizes { (size : Sizes) → AreSized size threads.old.seen (length threads.old.frames.items) threads.old.curr threads.old.next → AreSized size threads.new.seen (length threads.new.frames.items) threads.new.curr threads.new.next }
+    ensures scans { scans.new ≤ scan_limit nfa.now (search_of input.now) }
+    ensures turns { threads.new.seen.turns ≤ scans.new * scan_turns nfa.now (search_of input.now) }
+{
+    scan(nfa, first, kind, input, threads, scans, slots)
+}
+
+/// One scan, whose answer counts only if it ends on a boundary.
+fn search_kept(
+    nfa: &NFA,
+    first: &FirstBytes,
+    kind: MatchKind,
+    input: &Input<'_>,
+    threads: &mut Threads,
+    scans: &mut Counter,
+    slots: &mut [Option<NonMaxUsize>],
+) -> Option<HalfMatch>
+    requires first { IsFirstBytes nfa.now first.now.may_begin }
+    requires serves { Serves nfa.now (length slots.old) threads.old.seen (length threads.old.frames.items) threads.old.curr threads.old.next }
+    requires counted { scans.old ≡ 0 }
+    requires turned { threads.old.seen.turns ≡ 0 }
+    requires mode { is_utf8_empty nfa.now ≡ true }
+    requires anchored { is_anchored (search_of input.now).anchored ≡ true }
+    ensures answer { Searched nfa.now (search_of input.now) kind (search_of input.now).earliest result slots.new scans.new threads.new.seen.turns }
+    ensures sizes { (size : Sizes) → AreSized size threads.old.seen (length threads.old.frames.items) threads.old.curr threads.old.next → AreSized size threads.new.seen (length threads.new.frames.items) threads.new.curr threads.new.next }
+    ensures scans { scans.new ≤ scan_limit nfa.now (search_of input.now) }
+    ensures turns { threads.new.seen.turns ≤ scans.new * scan_turns nfa.now (search_of input.now) }
+{
+    let half = scan(nfa, first, kind, input, threads, scans, slots)?;
+    if input.is_char_boundary(half.offset()) {
+        return Some(half);
+    }
+    unset(slots);
+    None
+}
+
+/// Scans again, each time from one byte further on, while the answer ends inside a character.
+fn search_whole(
+    nfa: &NFA,
+    first: &FirstBytes,
+    kind: MatchKind,
+    input: &Input<'_>,
+    threads: &mut Threads,
+    scans: &mut Counter,
+    slots: &mut [Option<NonMaxUsize>],
+) -> Option<HalfMatch>
+    requires first { IsFirstBytes nfa.now first.now.may_begin }
+    requires serves { Serves nfa.now (length slots.old) threads.old.seen (length threads.old.frames.items) threads.old.curr threads.old.next }
+    requires counted { scans.old ≡ 0 }
+    requires turned { threads.old.seen.turns ≡ 0 }
+    requires mode { is_utf8_empty nfa.now ≡ true }
+    requires anchored { is_anchored (search_of input.now).anchored ≡ false }
+    ensures answer { Searched nfa.now (search_of input.now) kind (search_of input.now).earliest result slots.new scans.new threads.new.seen.turns }
+    ensures sizes { (size : Sizes) → AreSized size threads.old.seen (length threads.old.frames.items) threads.old.curr threads.old.next → AreSized size threads.new.seen (length threads.new.frames.items) threads.new.curr threads.new.next }
+    ensures scans { scans.new ≤ scan_limit nfa.now (search_of input.now) }
+    ensures turns { threads.new.seen.turns ≤ scans.new * scan_turns nfa.now (search_of input.now) }
+{
+    let mut search = *input;
+    loop {
+        let half = scan(nfa, first, kind, &search, threads, scans, slots)?;
+        if input.is_char_boundary(half.offset()) {
+            return Some(half);
+        }
+        let start = search.start() + 1;
+        search.set_start(start);
+    }
+}
+
+/// The answer of a search: its scan's, or where the NFA asks for whole characters the first that ends on a boundary.
+pub fn search(
+    nfa: &NFA,
+    first: &FirstBytes,
+    kind: MatchKind,
+    input: &Input<'_>,
+    threads: &mut Threads,
+    scans: &mut Counter,
+    slots: &mut [Option<NonMaxUsize>],
+) -> Option<HalfMatch>
+    requires first { IsFirstBytes nfa.now first.now.may_begin }
+    requires serves { Serves nfa.now (length slots.old) threads.old.seen (length threads.old.frames.items) threads.old.curr threads.old.next }
+    requires counted { scans.old ≡ 0 }
+    requires turned { threads.old.seen.turns ≡ 0 }
+    ensures answer { Searched nfa.now (search_of input.now) kind (search_of input.now).earliest result slots.new scans.new threads.new.seen.turns }
+    ensures sizes { (size : Sizes) → AreSized size threads.old.seen (length threads.old.frames.items) threads.old.curr threads.old.next → AreSized size threads.new.seen (length threads.new.frames.items) threads.new.curr threads.new.next }
+    ensures scans { scans.new ≤ scan_limit nfa.now (search_of input.now) }
+    ensures turns { threads.new.seen.turns ≤ scans.new * scan_turns nfa.now (search_of input.now) }
+{
+    if !(nfa.has_empty() && nfa.is_utf8()) {
+        search_once(nfa, first, kind, input, threads, scans, slots)
+    } else if input.get_anchored().is_anchored() {
+        search_kept(nfa, first, kind, input, threads, scans, slots)
+    } else {
+        search_whole(nfa, first, kind, input, threads, scans, slots)
+    }
+}

@@ -1,0 +1,177 @@
+ghost use Rattle.std.specs.Prelude.{◌≡◌, ◌*◌, ◌<◌, ◌≤◌, [], false, length, replicate, All, IfOk};
+ghost use Rattle.regex_search_core.specs.Search.{search_of};
+ghost use Rattle.nfa_pikevm.specs.Rows.{items_of};
+ghost use Rattle.nfa_pikevm.specs.States.{HasRoom, Crosses};
+ghost use Rattle.nfa_pikevm.specs.Scans.{HasThreads};
+
+use crate::active::ActiveStates;
+use crate::closure::follow;
+use crate::frame::FollowEpsilon;
+use crate::seen::Seen;
+use nfa_engine_parts::transitions::byte_at;
+use regex_search_core::{Input, NonMaxUsize, PatternID, Refused, StateID};
+use std::alloc::Global;
+use std::mem;
+use thompson_nfa::NFA;
+
+/// What a scan writes: the states at its position and those at the next one, the states that it met, and the frames of a
+/// closure.
+#[derive(Debug, Drop)]
+pub struct Threads {
+    pub frames: Vec<FollowEpsilon>,
+    pub seen: Seen,
+    pub curr: ActiveStates,
+    pub next: ActiveStates,
+}
+
+/// No state is kept, and rows have `width` slots from here on.
+pub fn set_up(threads: &mut Threads, width: usize)
+    requires curr { threads.old.curr.places * width ≤ threads.old.curr.cells }
+    requires next { threads.old.next.places * width ≤ threads.old.next.cells }
+    ensures curr { threads.new.curr ≡ record threads.old.curr { items = []; width = width } }
+    ensures next { threads.new.next ≡ record threads.old.next { items = []; width = width } }
+    ensures seen { threads.new.seen ≡ threads.old.seen }
+    ensures frames { threads.new.frames.items ≡ threads.old.frames.items }
+{
+    threads.curr.set_up(width);
+    threads.next.set_up(width);
+}
+
+/// The states at the next position become those at this one.
+#[inline(always)]
+pub fn move_on(threads: &mut Threads)
+    ensures curr { threads.new.curr ≡ threads.old.next }
+    ensures next { threads.new.next ≡ record threads.old.curr { items = [] } }
+    ensures seen { threads.new.seen ≡ threads.old.seen }
+    ensures frames { threads.new.frames.items ≡ threads.old.frames.items }
+{
+    let Threads { curr, next, .. } = threads;
+    mem::swap(curr, next);
+    next.clear();
+}
+
+/// Follows the states at the position, in order, each with its row, and keeps what the byte leads to. It answers the last
+/// match, and copies its row; without `past_match` it stops at the first match.
+fn cross_states(
+    nfa: &NFA,
+    input: &Input<'_>,
+    at: usize,
+    past_match: bool,
+    kept: &[StateID],
+    rows: &mut [Option<NonMaxUsize>],
+    frames: &mut [FollowEpsilon],
+    seen: &mut Seen,
+    next: &mut ActiveStates,
+    slots: &mut [Option<NonMaxUsize>],
+) -> Option<PatternID>
+    requires place { at ≤ (search_of input.now).end }
+    requires states { All (λ s. s < length nfa.now.states) kept.now }
+    requires room { HasRoom nfa.now seen.old.bits 0 (length frames.old) 0 next.old.places }
+    requires clear { seen.old.bits ≡ replicate (length seen.old.bits) false }
+    requires empty { next.old.items ≡ [] }
+    requires width { length slots.old ≡ next.old.width }
+    requires rows { length kept.now * length slots.old ≤ length rows.old }
+    ensures size { length seen.new.bits ≡ length seen.old.bits }
+    ensures grows { seen.old.turns ≤ seen.new.turns }
+    ensures same { next.new ≡ record next.old { items = next.new.items } }
+    ensures crosses { Crosses nfa.now (search_of input.now) at past_match seen.old (items_of (length slots.old) kept.now rows.old) slots.old result seen.new next.new.items slots.new }
+{
+    let byte = byte_at(input, at);
+    let width = slots.len();
+    let mut hit = None;
+    for i in 0..kept.len() {
+        let start = i * width;
+        let row = &mut rows[start..start + width];
+        let Some(pattern) = follow(
+            nfa, input, at, byte, past_match, kept[i], frames, seen, next, row, slots,
+        ) else {
+            continue;
+        };
+        hit = Some(pattern);
+        if !past_match {
+            return hit;
+        }
+    }
+    hit
+}
+
+/// Follows the states at the position, and keeps what its byte leads to for the next one. It answers the last match, and
+/// its slots; without `past_match` it stops at the first match.
+pub fn cross(
+    nfa: &NFA,
+    input: &Input<'_>,
+    at: usize,
+    past_match: bool,
+    threads: &mut Threads,
+    slots: &mut [Option<NonMaxUsize>],
+) -> Option<PatternID>
+    requires place { at ≤ (search_of input.now).end }
+    requires states { All (λ i. i.0 < length nfa.now.states) threads.old.curr.items }
+    requires room { HasThreads nfa.now (length slots.old) threads.old.seen (length threads.old.frames.items) threads.old.curr threads.old.next }
+    requires empty { threads.old.next.items ≡ [] }
+    ensures room { HasThreads nfa.now (length slots.old) threads.new.seen (length threads.new.frames.items) threads.new.curr threads.new.next }
+    ensures size { length threads.new.seen.bits ≡ length threads.old.seen.bits }
+    ensures grows { threads.old.seen.turns ≤ threads.new.seen.turns }
+    ensures curr { threads.new.curr ≡ record threads.old.curr { items = threads.new.curr.items } }
+    ensures next { threads.new.next ≡ record threads.old.next { items = threads.new.next.items } }
+    ensures frames { length threads.new.frames.items ≡ length threads.old.frames.items }
+    ensures crosses { Crosses nfa.now (search_of input.now) at past_match threads.old.seen threads.old.curr.items slots.old result threads.new.seen threads.new.next.items slots.new }
+{
+    let Threads {
+        frames,
+        seen,
+        curr,
+        next,
+    } = threads;
+    seen.clear();
+    let ActiveStates {
+        kept,
+        rows,
+        len,
+        ..
+    } = curr;
+    cross_states(
+        nfa,
+        input,
+        at,
+        past_match,
+        &kept.as_slice()[..*len],
+        rows.as_mut_slice(),
+        frames.as_mut_slice(),
+        seen,
+        next,
+        slots,
+    )
+}
+
+impl Threads {
+    /// Room for no state.
+    pub fn new(alloc: Global) -> Threads
+        ensures seen { result.seen ≡ record { bits = []; turns = 0 } }
+        ensures curr { result.curr ≡ record { items = []; width = 0; places = 0; cells = 0 } }
+        ensures next { result.next ≡ record { items = []; width = 0; places = 0; cells = 0 } }
+        ensures frames { result.frames.items ≡ [] }
+    {
+        Threads {
+            frames: Vec::new(alloc),
+            seen: Seen::new(alloc),
+            curr: ActiveStates::new(alloc),
+            next: ActiveStates::new(alloc),
+        }
+    }
+
+    /// The same states, marks and frames.
+    pub fn copied(&self) -> Result<Threads, Refused>
+        ensures seen { IfOk result (λ copy. copy.seen ≡ self.now.seen) }
+        ensures curr { IfOk result (λ copy. copy.curr ≡ self.now.curr) }
+        ensures next { IfOk result (λ copy. copy.next ≡ self.now.next) }
+        ensures frames { IfOk result (λ copy. length copy.frames.items ≡ length self.now.frames.items) }
+    {
+        Ok(Threads {
+            frames: self.frames.clone()?,
+            seen: self.seen.copied()?,
+            curr: self.curr.copied()?,
+            next: self.next.copied()?,
+        })
+    }
+}
