@@ -5,6 +5,7 @@ mod run;
 #[cfg(test)]
 mod tests;
 
+use std::io::BufWriter;
 use std::process::ExitCode;
 use std::{env, io};
 
@@ -14,6 +15,7 @@ fn main(rt: HostRuntime) -> io::Result<ExitCode> {
         .iter()
         .map(|word| word.as_str())
         .collect(rt.alloc())?;
-    let status = run::run(rt.alloc(), &words, &mut io::writer(&rt));
+    let mut out = BufWriter::new(rt.alloc(), io::writer(&rt))?;
+    let status = run::run(rt.alloc(), &words, &mut out);
     Ok(ExitCode::from(status))
 }

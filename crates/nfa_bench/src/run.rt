@@ -30,17 +30,19 @@ pub fn run<W: Write>(alloc: Global, words: &[&str], out: &mut W) -> u8
 fn print<W: Write>(alloc: Global, words: &[&str], out: &mut W) -> io::Result<u8>
     ensures { IfOk result (λ status. status ≤ 2) }
 {
-    match print_matches(alloc, words, out) {
+    let status = match print_matches(alloc, words, out) {
         Ok(()) => {
             out.write_all(b"end\n")?;
-            Ok(0)
+            0
         }
-        Err(Stop::Write(error)) => Err(error),
+        Err(Stop::Write(error)) => return Err(error),
         Err(stop) => {
             writeln!(out, "{stop}")?;
-            Ok(stop.status())
+            stop.status()
         }
-    }
+    };
+    out.flush()?;
+    Ok(status)
 }
 
 fn print_matches<W: Write>(alloc: Global, words: &[&str], out: &mut W) -> Result<(), Stop> {

@@ -1,14 +1,19 @@
+mod caches;
 mod callers;
 mod calls;
 mod engines;
+mod grid;
 mod iteration;
 mod lengths;
+mod pike;
 mod program;
 mod refusals;
 mod searches;
+mod sets;
 mod texts;
 
 use nfa_engines::backtrack::{BoundedBacktracker, Builder, Cache, Config};
+use nfa_engines::pikevm::PikeVM;
 use nfa_samples::sample;
 use regex_search_core::{Input, Match, NonMaxUsize};
 use std::alloc::Global;
@@ -31,6 +36,15 @@ fn parts(found: Match) -> (usize, usize, usize) {
 fn backtracker(alloc: Global, name: &str) -> Result<BoundedBacktracker, Fail> {
     let nfa = sample(alloc, name)?.ok_or("unknown name")?;
     Ok(BoundedBacktracker::new_from_nfa(nfa)?)
+}
+
+fn pikevm(alloc: Global, name: &str) -> Result<PikeVM, Fail> {
+    let nfa = sample(alloc, name)?.ok_or("unknown name")?;
+    Ok(PikeVM::new_from_nfa(nfa)?)
+}
+
+fn both(alloc: Global, name: &str) -> Result<(BoundedBacktracker, PikeVM), Fail> {
+    Ok((backtracker(alloc, name)?, pikevm(alloc, name)?))
 }
 
 fn with_capacity(alloc: Global, name: &str, bytes: usize) -> Result<BoundedBacktracker, Fail> {

@@ -27,14 +27,14 @@ use Rattle.nfa_search_base.proofs.ScanAnswerLemmas.{edges-onward, edges-rise}
 use Rattle.nfa_engine_parts.proofs.TargetLemmas.{target-degree}
 use Rattle.nfa_pikevm.specs.Rows.{Met, Active}
 use Rattle.nfa_pikevm.specs.Engines.{room_of}
-use Rattle.nfa_pikevm.specs.States.{Front, moves, work_onto, with_state, restoring, tries, state_on, one_of, IsWithin, Follows, Formed, Paid, HasRoom, Enters, IsMet}
+use Rattle.nfa_pikevm.specs.States.{Front, moves, work_onto, with_state, tries, state_on, one_of, IsWithin, Follows, Formed, Paid, HasRoom, Enters, IsMet}
 use Rattle.nfa_pikevm.specs.declared.closure.Turn.{Turn}
 use Rattle.nfa_pikevm.specs.declared.closure.Turn.TheVariants.{On, Matched, Over}
 use Rattle.nfa_pikevm.specs.declared.frame.FollowEpsilon.{FollowEpsilon}
-use Rattle.nfa_pikevm.specs.declared.frame.FollowEpsilon.TheVariants.{Explore as ToExplore}
+use Rattle.nfa_pikevm.specs.declared.frame.FollowEpsilon.TheVariants.{Explore as ToExplore, Restore}
 use Rattle.nfa_pikevm.proofs.EdgeLemmas.{node_at-get, edges-some, edges-none, moves-one}
 use Rattle.nfa_pikevm.proofs.FollowLemmas.{Follows-then, Follows-marked, Follows-plain, Follows-write, Follows-unkept, Follows-keep, Follows-unrestored}
-use Rattle.nfa_pikevm.proofs.UnwindLemmas.{work_onto-push, item_of-restoring, IsWithin-restoring, tries-restoring}
+use Rattle.nfa_pikevm.proofs.UnwindLemmas.{work_onto-push}
 
 -- the turn marked the state
 pub record Entered (nfa : Automaton) (s : ℕ) (node : Node) (m n : Met) : Type 0 where
@@ -310,7 +310,7 @@ offset-some (Some k) fits at h f = ap Some h.1
 -- what becomes of stack and slots at a Capture
 abbrev pub IsWritten : ℕ → ℕ → List FollowEpsilon → Slots → List FollowEpsilon → Slots → Type 0
 IsWritten at slot stack slots above written =
-    ((slot < length slots) × IsPut stack (restoring slot (get_or slots slot None)) above × (written ≡ set slots slot (Some at)))
+    ((slot < length slots) × IsPut stack (Restore slot (get_or slots slot None)) above × (written ≡ set slots slot (Some at)))
     ⊎ ((length slots ≤ slot) × (above ≡ stack) × (written ≡ slots))
 
 pub within-capture : (states at slot : ℕ) (stack : List FollowEpsilon) (slots : Slots) (above : List FollowEpsilon) (written : Slots) → IsWritten at slot stack slots above written
@@ -318,7 +318,7 @@ pub within-capture : (states at slot : ℕ) (stack : List FollowEpsilon) (slots 
 within-capture states at slot stack slots above written h within = elim h [
   | inl k ↦ elim k.1 [
     | inl none ↦ rw (none.1 ∙ sym none.0) within
-    | inr more ↦ rw more (All-push (IsWithin states (length slots)) stack _ within (IsWithin-restoring states (length slots) slot _ k.0))
+    | inr more ↦ rw more (All-push (IsWithin states (length slots)) stack (Restore slot (get_or slots slot None)) within k.0)
   ]
   | inr k ↦ rw k.1 within
 ]
@@ -329,7 +329,7 @@ module _ {nfa : Automaton} {s next slot : ℕ} {m n : Met} (e : Entered nfa s (C
   Paid-capture kept = elim h [
     | inl k ↦ elim k.1 [
       | inl none ↦ rw (none.1 ∙ sym none.0) (Paid-same e kept stack 1 (omega arith))
-      | inr more ↦ Paid-push e kept stack (restoring slot (get_or slots slot None)) above 1 more (omega (arith, tries-restoring slot (get_or slots slot None))) (omega arith)
+      | inr more ↦ Paid-push e kept stack (Restore slot (get_or slots slot None)) above 1 more (omega arith) (omega arith)
     ]
     | inr k ↦ rw k.1 (Paid-same e kept stack 1 (omega arith))
   ]
@@ -347,7 +347,7 @@ module _ {nfa : Automaton} {s next slot : ℕ} {m n : Met} (e : Entered nfa s (C
               (Follows-then nfa x at
               (Follows-write nfa x at m before (Load old ∷ work) slots s n e.counted e.inside e.clear e.marked (rw node refl) ((next, at) ∷ []) (rw node refl) slot (rw node refl))
               (Follows-unrestored nfa x at n before work (set slots slot (Some at)) (next, at) slot back old))
-          | inr more ↦ rw (more, k.2, work_onto-push at stack (restoring slot back) (Load old ∷ work), item_of-restoring at slot back)
+          | inr more ↦ rw (more, k.2, work_onto-push at stack (Restore slot back) (Load old ∷ work))
               (Follows-write nfa x at m before (work_onto at stack (Load old ∷ work)) slots s n e.counted e.inside e.clear e.marked (rw node refl) ((next, at) ∷ []) (rw node refl) slot (rw node refl))
         ]
         | inr k ↦ rw (k.1, k.2)

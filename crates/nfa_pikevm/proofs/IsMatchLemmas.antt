@@ -1,5 +1,5 @@
 -- Whether there is a match can be told from the earliest one, where a match may end anywhere.
-use Rattle.std.proofs.Common.{◌≡◌, ℕ, ◌∙◌, sym, subst}
+use Rattle.std.proofs.Common.{◌≡◌, ℕ}
 use Rattle.std.specs.Prelude.{Option, Bool, false, not, is_some}
 use Rattle.regex_search_core.specs.Search.{Search}
 use Rattle.regex_search_core.specs.declared.search.MatchKind.{MatchKind}

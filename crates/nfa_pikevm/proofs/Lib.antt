@@ -1,4 +1,5 @@
 pub mod RowLemmas
+pub mod SlotLemmas
 pub mod FollowLemmas
 pub mod UnwindLemmas
 pub mod EdgeLemmas

@@ -1,5 +1,5 @@
 -- Rows and marks as they lie in memory.
-use Rattle.std.proofs.Common.{◌≡◌, ◌≢◌, ℕ, suc, zero, ◌+◌, ◌-◌, ◌*◌, ◌<◌, ◌≤◌, ◌==◌, List, [], ◌∷◌, ◌++◌, length, get_or, set, map, take, drop, replicate, refl, ap, sym, ◌∙◌, arith, Bool, true, false, cond}
+use Rattle.std.proofs.Common.{◌≡◌, ℕ, suc, zero, ◌+◌, ◌*◌, ◌<◌, ◌≤◌, ◌==◌, List, [], ◌∷◌, ◌++◌, length, get_or, set, take, drop, replicate, refl, ap, sym, ◌∙◌, arith, Bool, true, false}
 use Rattle.std.proofs.Common.{inl, inr, length-drop, length-set}
 use Rattle.std.specs.Prelude.{All, Option, None}
 use Rattle.std.proofs.lemmas.Bool.Decides.{eqb_tells}

@@ -1,6 +1,6 @@
 -- Taking up what was put off.
 use Rattle.std.proofs.Common.{◌≡◌, ℕ, ◌+◌, ◌-◌, ◌<◌, ◌≤◌, List, [], ◌∷◌, ◌++◌, length, take, refl, ap, sym, ◌∙◌, arith, get_or}
-use Rattle.std.specs.Prelude.{Option, Some, None, All}
+use Rattle.std.specs.Prelude.{Option, Some, All}
 use Rattle.std.specs.List.{sum_by}
 use Rattle.std.proofs.lemmas.List.{take_more, take-take}
 use Rattle.std.proofs.lemmas.List.Elements.{All-pop, All-take}
@@ -8,11 +8,10 @@ use Rattle.std.proofs.lemmas.List.Sums.{sum_by_push}
 use Rattle.regex_search_core.specs.Search.{Search}
 use Rattle.thompson_nfa.specs.Automaton.{Automaton}
 use Rattle.nfa_search_base.specs.Exploring.{Item, Slots}
-use Rattle.nfa_search_base.specs.Exploring.Item.{Restore as ToRestore}
 use Rattle.nfa_pikevm.specs.Rows.{Met}
-use Rattle.nfa_pikevm.specs.States.{Front, item_of, work_onto, with_state, tries, tries_of, undone, state_of, restoring, HasSlot, IsWithin, Follows}
+use Rattle.nfa_pikevm.specs.States.{Front, item_of, work_onto, with_state, tries, tries_of, undone, state_of, HasSlot, IsWithin, Follows}
 use Rattle.nfa_pikevm.specs.declared.frame.FollowEpsilon.{FollowEpsilon}
-use Rattle.nfa_pikevm.specs.declared.frame.FollowEpsilon.TheVariants.{Explore, Restore, Clear}
+use Rattle.nfa_pikevm.specs.declared.frame.FollowEpsilon.TheVariants.{Explore, Restore}
 use Rattle.nfa_pikevm.proofs.FollowLemmas.{Follows-then, Follows-none, Follows-restore}
 
 -- the stack without its last frame
@@ -31,26 +30,12 @@ pub work_onto-push : (at : ℕ) (fs : List FollowEpsilon) (f : FollowEpsilon) (w
 work_onto-push at [] f work = refl
 work_onto-push at (g ∷ fs) f work = work_onto-push at fs f (item_of at g ∷ work)
 
--- a frame that puts a slot back
-pub item_of-restoring : (at slot : ℕ) (old : Option ℕ) → item_of at (restoring slot old) ≡ ToRestore slot old
-item_of-restoring at slot None = refl
-item_of-restoring at slot (Some offset) = refl
-
-pub IsWithin-restoring : (states count slot : ℕ) (old : Option ℕ) → slot < count → IsWithin states count (restoring slot old)
-IsWithin-restoring states count slot None h = h
-IsWithin-restoring states count slot (Some offset) h = h
-
-pub tries-restoring : (slot : ℕ) (old : Option ℕ) → tries (restoring slot old) ≡ 0
-tries-restoring slot None = refl
-tries-restoring slot (Some offset) = refl
-
 module _ (nfa : Automaton) (x : Search) (at : ℕ) (met : Met) (front : Front) where
   -- a frame that is taken up
   Follows-undone : (work : List Item) (f : FollowEpsilon) (slots : Slots)
       → Follows nfa x at met front (item_of at f ∷ work) slots met front (with_state at (state_of f) work) (undone f slots)
   Follows-undone work (Explore sid) slots = Follows-none nfa x at met front _ slots
-  Follows-undone work (Restore slot offset) slots = Follows-restore nfa x at met front work slots slot (Some offset)
-  Follows-undone work (Clear slot) slots = Follows-restore nfa x at met front work slots slot None
+  Follows-undone work (Restore slot old) slots = Follows-restore nfa x at met front work slots slot old
 
   pub Follows-popped : (work : List Item) (whole stack popped : List FollowEpsilon) (f : FollowEpsilon) (entry slots : Slots) (state : Option ℕ) (after : Slots)
       → stack ≡ popped ++ f ∷ [] → state ≡ state_of f → after ≡ undone f slots
@@ -65,8 +50,7 @@ tries-popped stack popped f state pop is = omega (arith, ap (sum_by tries) pop, 
   where
     same : (f : FollowEpsilon) → tries f ≡ tries_of (state_of f)
     same (Explore sid) = refl
-    same (Restore slot offset) = refl
-    same (Clear slot) = refl
+    same (Restore slot old) = refl
 
 pub slot-popped : (count : ℕ) (stack popped : List FollowEpsilon) (f : FollowEpsilon) → stack ≡ popped ++ f ∷ [] → All (HasSlot count) stack
     → All (HasSlot count) popped × HasSlot count f

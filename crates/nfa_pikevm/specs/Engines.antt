@@ -70,7 +70,7 @@ cache_for nfa scans turns = record {
 abbrev pub saturated : ℕ → ℕ
 saturated n = min n (2 ^ 64 - 1)
 
--- The bytes that a cache holds: 24 for a frame; 8 for each slot of the row of `find` and of those of the two sets, which have a row more
+-- The bytes that a cache holds: 24 for a frame; 8 for each slot of the row that a search fills and of those of the two sets, which have a row more
 -- than states; 4 for each state's mark and for each place of the two sets.
 abbrev pub memory_of : PikeCache → ℕ
 memory_of cache = saturated (24 * cache.places + 8 * ((2 * cache.states + 3) * cache.slots) + 4 * (3 * cache.states + 2))

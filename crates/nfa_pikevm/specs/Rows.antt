@@ -1,6 +1,15 @@
 -- How kept states and their rows lie in memory.
-use Rattle.std.specs.Prelude.{ℕ, ◌==◌, Bool, List, [], ◌∷◌, map, take, drop}
+use Rattle.std.specs.Prelude.{ℕ, ◌-◌, ◌^◌, ◌==◌, Bool, List, [], ◌∷◌, Option, None, Some, cond, map, take, drop}
 use Rattle.nfa_search_base.specs.Exploring.{Slots}
+
+-- the offset that a slot of a row holds: the greatest `usize` stands for none
+abbrev pub slot_of : ℕ → Option ℕ
+slot_of raw = cond (raw == 2 ^ 64 - 1) None (Some raw)
+
+-- how a row holds an offset, or none
+abbrev pub raw_of : Option ℕ → ℕ
+raw_of None = 2 ^ 64 - 1
+raw_of (Some offset) = offset
 
 -- which states are marked at a position, and how often one was tried to be
 pub record Met : Type 0 where

@@ -1,18 +1,17 @@
 -- What the scans and the search of a PikeVM come to, over the theory of paths.
-use Rattle.std.specs.Prelude.{◌≡◌, ◌⊎◌, ℕ, ◌++◌, ◌+◌, ◌-◌, ◌*◌, ◌<◌, ◌≤◌, Bool, true, false, List, [], ◌∷◌, Option, None, Some, cond, length, map, replicate, nat_lt, if◌then◌else◌, All, option_map, option_and_then}
+use Rattle.std.specs.Prelude.{◌≡◌, ◌⊎◌, ℕ, ◌++◌, ◌+◌, ◌-◌, ◌*◌, ◌<◌, ◌≤◌, Bool, List, [], ◌∷◌, Option, None, Some, length, replicate, nat_lt, if◌then◌else◌, All, option_map, option_and_then}
 use Rattle.std.specs.List.{sum_by}
 use Rattle.std.specs.Option.{option_map_or}
 use Rattle.regex_search_core.specs.Found.{HalfFound, half_found_of}
 use Rattle.regex_search_core.specs.Search.{Search}
 use Rattle.regex_search_core.specs.declared.search.HalfMatch.{HalfMatch}
 use Rattle.regex_search_core.specs.declared.search.MatchKind.{MatchKind}
-use Rattle.regex_search_core.specs.declared.search.MatchKind.TheVariants.{All as AllMatches, LeftmostFirst}
 use Rattle.thompson_nfa.specs.Automaton.{Automaton, LeadsBelow}
 use Rattle.nfa_search_base.specs.Graphs.{Pair}
 use Rattle.nfa_search_base.specs.Paths.{node_at, pattern_of, edges, is_match, capture, starts, pairs_from, span_len, turn_weight, last_of, path_pattern, slot_row, IsScanAnswer, IsSearchAnswer}
 use Rattle.nfa_search_base.specs.Exploring.{Slots, Found, Item, seeds}
 use Rattle.nfa_search_base.specs.Exploring.Item.{Load}
-use Rattle.nfa_search_base.specs.Kinds.{NoneBefore, LastBefore, Scanning}
+use Rattle.nfa_search_base.specs.Kinds.{Scanning}
 use Rattle.nfa_engine_parts.specs.FirstBytes.{IsRefused}
 use Rattle.nfa_pikevm.specs.Rows.{Met, Active}
 use Rattle.nfa_pikevm.specs.Engines.{room_of}

@@ -11,7 +11,7 @@ use Rattle.nfa_pikevm.specs.declared.sizes.Size.{Size}
 abbrev pub sizes_for : ℕ → ℕ → ℕ → Sizes
 sizes_for states slots frames = record { states = states; places = states + 1; cells = (states + 1) * slots; frames = frames }
 
--- The parts of a cache are for so many states and slots, and their stack is of so many frames. `found` is the length of the row of `find`.
+-- The parts of a cache are for so many states and slots, and their stack is of so many frames. `found` is the length of the row that a search fills.
 pub record IsRoomFor (states slots frames : ℕ) (met : Met) (stack : ℕ) (curr next : Active) (found : ℕ) : Type 0 where
   pub sized : AreSized (sizes_for states slots frames) met stack curr next
   pub row : found ≡ slots

@@ -1,6 +1,6 @@
 -- What a PikeVM keeps at a position, in the words of its proof: its marks as pairs that were seen, its stack as work that is left, what it
 -- keeps for the next position as a front.
-use Rattle.std.specs.Prelude.{◌≡◌, ◌↔◌, ◌⊎◌, ℕ, ◌+◌, ◌-◌, ◌*◌, ◌^◌, ◌<◌, ◌≤◌, Bool, true, false, List, [], ◌∷◌, ◌++◌, Option, None, Some, cond, length, map, replicate, take, drop, All, slice_index_or, slice_set, slice_get, sum, if◌then◌else◌}
+use Rattle.std.specs.Prelude.{◌≡◌, ◌⊎◌, ℕ, ◌+◌, ◌<◌, ◌≤◌, Bool, true, false, List, [], ◌∷◌, ◌++◌, Option, None, Some, cond, length, map, replicate, All, slice_index_or, slice_set}
 use Rattle.std.specs.List.{sum_by}
 use Rattle.regex_search_core.specs.Search.{Search}
 use Rattle.regex_search_core.specs.Patterns.{number_of}
@@ -17,7 +17,7 @@ use Rattle.nfa_pikevm.specs.Engines.{room_of}
 use Rattle.nfa_pikevm.specs.declared.closure.Turn.{Turn}
 use Rattle.nfa_pikevm.specs.declared.closure.Turn.TheVariants.{On, Matched, Over}
 use Rattle.nfa_pikevm.specs.declared.frame.FollowEpsilon.{FollowEpsilon}
-use Rattle.nfa_pikevm.specs.declared.frame.FollowEpsilon.TheVariants.{Explore, Restore, Clear}
+use Rattle.nfa_pikevm.specs.declared.frame.FollowEpsilon.TheVariants.{Explore, Restore}
 
 -- The resting pairs that were reached at a position, in order, each with its slots. Of each that a byte leads on from only
 -- the state that it leads to is kept in memory; matches and pairs that lead nowhere are not.
@@ -46,8 +46,7 @@ unmarked met = record met { bits = replicate (length met.bits) false }
 -- what is left to do at the position, for a frame
 abbrev pub item_of : ℕ → FollowEpsilon → Item
 item_of at (Explore sid) = ToExplore (sid, at)
-item_of at (Restore slot offset) = ToRestore slot (Some offset)
-item_of at (Clear slot) = ToRestore slot None
+item_of at (Restore slot old) = ToRestore slot old
 
 -- the frames of a stack, the top first, above some work
 abbrev pub work_onto : ℕ → List FollowEpsilon → List Item → List Item
@@ -65,16 +64,10 @@ state_on (On sid) = Some sid
 state_on (Matched pattern) = None
 state_on Over = None
 
--- what puts the slot back to its old value
-abbrev pub restoring : ℕ → Option ℕ → FollowEpsilon
-restoring slot None = Clear slot
-restoring slot (Some offset) = Restore slot offset
-
 -- the turns that a frame waits to take
 abbrev pub tries : FollowEpsilon → ℕ
 tries (Explore sid) = 1
-tries (Restore slot offset) = 0
-tries (Clear slot) = 0
+tries (Restore slot old) = 0
 
 -- the turn that a state to follow waits to take
 abbrev pub tries_of : Option ℕ → ℕ
@@ -84,26 +77,22 @@ tries_of (Some s) = 1
 -- the slots when a frame is taken up
 abbrev pub undone : FollowEpsilon → Slots → Slots
 undone (Explore sid) slots = slots
-undone (Restore slot offset) slots = slice_set slots slot (Some offset)
-undone (Clear slot) slots = slice_set slots slot None
+undone (Restore slot old) slots = slice_set slots slot old
 
 -- the state that a frame gives to follow
 abbrev pub state_of : FollowEpsilon → Option ℕ
 state_of (Explore sid) = Some sid
-state_of (Restore slot offset) = None
-state_of (Clear slot) = None
+state_of (Restore slot old) = None
 
 -- a frame follows one of so many states, or writes one of so many slots
 abbrev pub IsWithin : ℕ → ℕ → FollowEpsilon → Type 0
 IsWithin states count (Explore sid) = sid < states
-IsWithin states count (Restore slot offset) = slot < count
-IsWithin states count (Clear slot) = slot < count
+IsWithin states count (Restore slot old) = slot < count
 
 -- a frame that writes a slot writes one of so many
 abbrev pub HasSlot : ℕ → FollowEpsilon → Type 0
 HasSlot count (Explore sid) = Unit {0}
-HasSlot count (Restore slot offset) = slot < count
-HasSlot count (Clear slot) = slot < count
+HasSlot count (Restore slot old) = slot < count
 
 -- the state, if there is one, is one of so many
 abbrev pub IsBelow : ℕ → Option ℕ → Type 0

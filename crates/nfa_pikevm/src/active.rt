@@ -1,6 +1,7 @@
 ghost use Rattle.std.specs.Prelude.{◌≡◌, ℕ, ◌+◌, ◌*◌, ◌<◌, ◌≤◌, [], ◌∷◌, ◌++◌, None, length, take, replicate, IfOk, IsTrue, ◌↔◌};
 
-use regex_search_core::{NonMaxUsize, Refused, StateID};
+use crate::slot::{Slot, copy_row};
+use regex_search_core::{Refused, StateID};
 use std::alloc::Global;
 use std::marker::Model;
 
@@ -8,12 +9,20 @@ use std::marker::Model;
 /// list of states with rows.
 ///
 /// Rows are numbered by the place of entry, and so are as dense as the states that are kept.
+///
+/// The parts are boxed, so that two sets change over at the price of two pointers.
 #[derive(Debug, Drop)]
 pub struct ActiveStates {
-    pub(super) kept: Vec<StateID>,
-    pub(super) rows: Vec<Option<NonMaxUsize>>,
-    pub(super) len: usize,
-    pub(super) width: usize,
+    pub(super) parts: Box<Parts>,
+}
+
+/// The states that are kept and their rows, of which the first `len` count.
+#[derive(Debug, Drop)]
+pub struct Parts {
+    pub kept: Vec<StateID>,
+    pub rows: Vec<Slot>,
+    pub len: usize,
+    pub width: usize,
 }
 
 impl Model for ActiveStates {
@@ -22,53 +31,60 @@ impl Model for ActiveStates {
 
     ghost Value = { Active };
 
-    ghost view = { λ a. record { items = items_of a.width (take a.len a.kept.items) a.rows.items; width = a.width; places = length a.kept.items; cells = length a.rows.items } };
+    ghost view = { λ a. let p = a.parts.value in record { items = items_of p.width (take p.len p.kept.items) p.rows.items; width = p.width; places = length p.kept.items; cells = length p.rows.items } };
 
-    ghost invariant = { λ a. (a.len ≤ length a.kept.items) × (length a.kept.items * a.width ≤ length a.rows.items) };
+    ghost invariant = { λ a. let p = a.parts.value in (p.len ≤ length p.kept.items) × (length p.kept.items * p.width ≤ length p.rows.items) };
 }
 
 /// Writes a row behind so many others.
 #[inline(always)]
-fn put_row(rows: &mut [Option<NonMaxUsize>], before: usize, row: &[Option<NonMaxUsize>])
+fn put_row(rows: &mut [Slot], before: usize, row: &[Slot])
     requires { before * length row.now + length row.now ≤ length rows.old }
     ensures { take (before * length row.now + length row.now) rows.new ≡ take (before * length row.now) rows.old ++ row.now }
 {
     let start = before * row.len();
-    rows[start..start + row.len()].copy_from_slice(row);
+    copy_row(&mut rows[start..start + row.len()], row);
 }
 
 /// Writes a row with no slot set behind so many others.
 #[inline(always)]
-fn blank_row(rows: &mut [Option<NonMaxUsize>], before: usize, width: usize)
+fn blank_row(rows: &mut [Slot], before: usize, width: usize)
     requires { before * width + width ≤ length rows.old }
     ensures { take (before * width + width) rows.new ≡ take (before * width) rows.old ++ replicate width None }
 {
     let start = before * width;
-    rows[start..start + width].fill(None);
+    rows[start..start + width].fill(Slot::unset());
 }
 
 impl ActiveStates {
     /// Room for no state.
-    pub fn new(alloc: Global) -> ActiveStates
-        ensures { result ≡ record { items = []; width = 0; places = 0; cells = 0 } }
+    pub fn new(alloc: Global) -> Result<ActiveStates, Refused>
+        ensures { IfOk result (λ made. made ≡ record { items = []; width = 0; places = 0; cells = 0 }) }
     {
-        ActiveStates {
+        let parts = Parts {
             kept: Vec::new(alloc),
             rows: Vec::new(alloc),
             len: 0,
             width: 0,
-        }
+        };
+        Ok(ActiveStates {
+            parts: Box::new(alloc, parts)?,
+        })
     }
 
     /// The same states and rows.
     pub fn copied(&self) -> Result<ActiveStates, Refused>
         ensures { IfOk result (λ copy. copy ≡ self.now) }
     {
+        let parts = Parts {
+            kept: self.parts.kept.clone()?,
+            rows: self.parts.rows.clone()?,
+            len: self.parts.len,
+            width: self.parts.width,
+        };
+        let alloc = *self.parts.kept.allocator();
         Ok(ActiveStates {
-            kept: self.kept.clone()?,
-            rows: self.rows.clone()?,
-            len: self.len,
-            width: self.width,
+            parts: Box::new(alloc, parts)?,
         })
     }
 
@@ -77,8 +93,8 @@ impl ActiveStates {
         requires { self.old.places * width ≤ self.old.cells }
         ensures { self.new ≡ record self.old { items = []; width = width } }
     {
-        self.len = 0;
-        self.width = width;
+        self.parts.len = 0;
+        self.parts.width = width;
     }
 
     /// Keeps no state.
@@ -86,7 +102,7 @@ impl ActiveStates {
     pub fn clear(&mut self)
         ensures { self.new ≡ record self.old { items = [] } }
     {
-        self.len = 0;
+        self.parts.len = 0;
     }
 
     /// Whether no state is kept.
@@ -94,19 +110,20 @@ impl ActiveStates {
     pub fn is_empty(&self) -> bool
         ensures { IsTrue result ↔ (length self.now.items ≡ 0) }
     {
-        self.len == 0
+        self.parts.len == 0
     }
 
     /// Keeps one more state, with its row.
     #[inline(always)]
-    pub fn push(&mut self, sid: StateID, row: &[Option<NonMaxUsize>])
+    pub fn push(&mut self, sid: StateID, row: &[Slot])
         requires room { length self.old.items < self.old.places }
         requires width { length row.now ≡ self.old.width }
         ensures { self.new ≡ record self.old { items = self.old.items ++ (sid, row.now) ∷ [] } }
     {
-        self.kept[self.len] = sid;
-        put_row(self.rows.as_mut_slice(), self.len, row);
-        self.len += 1;
+        let parts = &mut *self.parts;
+        parts.kept[parts.len] = sid;
+        put_row(parts.rows.as_mut_slice(), parts.len, row);
+        parts.len += 1;
     }
 
     /// Keeps one more state, with no slot set.
@@ -115,8 +132,9 @@ impl ActiveStates {
         requires { length self.old.items < self.old.places }
         ensures { self.new ≡ record self.old { items = self.old.items ++ (sid, replicate self.old.width None) ∷ [] } }
     {
-        self.kept[self.len] = sid;
-        blank_row(self.rows.as_mut_slice(), self.len, self.width);
-        self.len += 1;
+        let parts = &mut *self.parts;
+        parts.kept[parts.len] = sid;
+        blank_row(parts.rows.as_mut_slice(), parts.len, parts.width);
+        parts.len += 1;
     }
 }

@@ -3,10 +3,11 @@ ghost use Rattle.nfa_pikevm.specs.Engines.{Fits, cache_for, memory_of};
 
 use crate::engine::PikeVM;
 use crate::sizes::{make_room, size_for, stack_places};
+use crate::slot::Slot;
 use crate::threads::Threads;
 use nfa_engine_parts::counter::Counter;
 use nfa_search_base::error::SearchError;
-use regex_search_core::{NonMaxUsize, Refused};
+use regex_search_core::Refused;
 use std::alloc::Global;
 use std::marker::Model;
 
@@ -18,7 +19,7 @@ use std::marker::Model;
 #[derive(Debug, Drop)]
 pub struct Cache {
     pub(super) threads: Threads,
-    pub(super) found: Vec<Option<NonMaxUsize>>,
+    pub(super) found: Vec<Slot>,
     slots: usize,
     patterns: usize,
     pub(super) scans: Counter,
@@ -46,7 +47,7 @@ impl Cache {
         let Some(size) = size_for(nfa) else {
             return Err(SearchError::Memory);
         };
-        let mut threads = Threads::new(alloc);
+        let mut threads = Threads::new(alloc)?;
         let mut found = Vec::new(alloc);
         make_room(&mut threads, &mut found, &size, nfa.start_anchored())?;
         Ok(Cache {

@@ -5,14 +5,15 @@ ghost use Rattle.thompson_nfa.specs.Automaton.{Automaton};
 ghost use Rattle.nfa_search_base.specs.Paths.{byte_at};
 ghost use Rattle.nfa_search_base.specs.Exploring.{Item};
 ghost use Rattle.nfa_pikevm.specs.Rows.{Met};
-ghost use Rattle.nfa_pikevm.specs.States.{Front, work_onto, with_state, restoring, tries, tries_of, state_on, undone, state_of, HasSlot, IsBelow, IsWithin, Follows, Paid, HasRoom, Enters, Arrives};
-ghost use Rattle.nfa_pikevm.specs.declared.frame.FollowEpsilon.TheVariants.{Explore};
+ghost use Rattle.nfa_pikevm.specs.States.{Front, work_onto, with_state, tries, tries_of, state_on, undone, state_of, HasSlot, IsBelow, IsWithin, Follows, Paid, HasRoom, Enters, Arrives};
+ghost use Rattle.nfa_pikevm.specs.declared.frame.FollowEpsilon.TheVariants.{Explore, Restore};
 
 use crate::active::ActiveStates;
 use crate::frame::FollowEpsilon;
 use crate::seen::Seen;
+use crate::slot::{Slot, copy_row};
 use nfa_engine_parts::transitions::{dense_target, range_target, sparse_target};
-use regex_search_core::{Input, NonMaxUsize, PatternID, StateID};
+use regex_search_core::{Input, PatternID, StateID};
 use thompson_nfa::{NFA, State, look_matches};
 
 /// Where a turn leads.
@@ -59,29 +60,22 @@ fn put_off(frames: &mut [FollowEpsilon], top: &mut usize, alternates: &[StateID]
 
 /// Puts off that the slot gets back what it holds, for what waits on the stack. Where nothing waits nothing is put off.
 #[inline(always)]
-fn keep_old(
-    frames: &mut [FollowEpsilon],
-    top: &mut usize,
-    slots: &[Option<NonMaxUsize>],
-    slot: usize,
-)
+fn keep_old(frames: &mut [FollowEpsilon], top: &mut usize, slots: &[Slot], slot: usize)
     requires room { top.old < length frames.old }
     requires slot { slot < length slots.now }
     ensures empty { top.old ≡ 0 → top.new ≡ 0 }
     ensures top { 0 < top.old → top.new ≡ top.old + 1 }
-    ensures stack { 0 < top.old → take top.new frames.new ≡ take top.old frames.old ++ restoring slot (slice_index_or slots.now slot None) ∷ [] }
+    ensures stack { 0 < top.old → take top.new frames.new ≡ take top.old frames.old ++ Restore slot (slice_index_or slots.now slot None) ∷ [] }
 {
     if *top > 0 {
-        match slots[slot] {
-            Some(offset) => push(frames, top, FollowEpsilon::Restore { slot, offset }),
-            None => push(frames, top, FollowEpsilon::Clear { slot }),
-        }
+        let old = slots[slot];
+        push(frames, top, FollowEpsilon::Restore { slot, old });
     }
 }
 
 /// Keeps the state that a byte leads to, if there is one.
 #[inline(always)]
-fn keep(target: Option<StateID>, next: &mut ActiveStates, slots: &[Option<NonMaxUsize>])
+fn keep(target: Option<StateID>, next: &mut ActiveStates, slots: &[Slot])
     requires room { length next.old.items < next.old.places }
     requires width { length slots.now ≡ next.old.width }
     ensures none { target ≡ None → next.new ≡ next.old }
@@ -105,7 +99,7 @@ pub fn enter(
     top: &mut usize,
     seen: &mut Seen,
     next: &mut ActiveStates,
-    row: &mut [Option<NonMaxUsize>],
+    row: &mut [Slot],
 ) -> Turn
     requires place { at ≤ (search_of input.now).end }
     requires byte { byte ≡ byte_at (search_of input.now) at }
@@ -160,7 +154,7 @@ pub fn enter(
         State::Capture { next, slot } => {
             if *slot < row.len() {
                 keep_old(frames, top, row, *slot);
-                row[*slot] = NonMaxUsize::new(at);
+                row[*slot] = Slot::new(at);
             }
             Turn::On(*next)
         }
@@ -171,19 +165,15 @@ pub fn enter(
 
 /// Takes a frame up: it gives a state to follow, or a slot its old value back.
 #[inline(always)]
-fn unwind(frame: FollowEpsilon, row: &mut [Option<NonMaxUsize>]) -> Option<StateID>
+fn unwind(frame: FollowEpsilon, row: &mut [Slot]) -> Option<StateID>
     requires { HasSlot (length row.old) frame }
     ensures state { result ≡ state_of frame }
     ensures row { row.new ≡ undone frame row.old }
 {
     match frame {
         FollowEpsilon::Explore { sid } => Some(sid),
-        FollowEpsilon::Restore { slot, offset } => {
-            row[slot] = Some(offset);
-            None
-        }
-        FollowEpsilon::Clear { slot } => {
-            row[slot] = None;
+        FollowEpsilon::Restore { slot, old } => {
+            row[slot] = old;
             None
         }
     }
@@ -191,11 +181,7 @@ fn unwind(frame: FollowEpsilon, row: &mut [Option<NonMaxUsize>]) -> Option<State
 
 /// Takes up what was put off last, down to a state to follow.
 #[inline(always)]
-pub fn resume(
-    frames: &[FollowEpsilon],
-    top: &mut usize,
-    row: &mut [Option<NonMaxUsize>],
-) -> Option<StateID>
+pub fn resume(frames: &[FollowEpsilon], top: &mut usize, row: &mut [Slot]) -> Option<StateID>
     requires top { top.old ≤ length frames.now }
     requires slots { All (HasSlot (length row.old)) (take top.old frames.now) }
     ensures top { top.new ≤ top.old }
@@ -226,8 +212,8 @@ pub fn follow(
     frames: &mut [FollowEpsilon],
     seen: &mut Seen,
     next: &mut ActiveStates,
-    row: &mut [Option<NonMaxUsize>],
-    slots: &mut [Option<NonMaxUsize>],
+    row: &mut [Slot],
+    slots: &mut [Slot],
 ) -> Option<PatternID>
     requires place { at ≤ (search_of input.now).end }
     requires byte { byte ≡ byte_at (search_of input.now) at }
@@ -250,7 +236,7 @@ pub fn follow(
                 continue;
             }
             Turn::Matched(pattern) => {
-                slots.copy_from_slice(row);
+                copy_row(slots, row);
                 hit = Some(pattern);
                 if !past_match {
                     return hit;

@@ -1,4 +1,4 @@
-ghost use Rattle.std.specs.Prelude.{◌≡◌, ◌+◌, ◌*◌, ◌≤◌, None, Ok, false, not, length, replicate, option_map, IfOk, OnOk, OnErr, IsOkUnless};
+ghost use Rattle.std.specs.Prelude.{◌≡◌, ◌+◌, ◌*◌, ◌≤◌, None, Ok, false, not, length, min, replicate, option_map, IfOk, OnOk, OnErr, IsOkUnless};
 ghost use Rattle.regex_search_core.specs.Search.{search_of};
 ghost use Rattle.regex_search_core.specs.Groups.{slot_count};
 ghost use Rattle.regex_search_core.specs.Patterns.{number_of};
@@ -12,7 +12,8 @@ ghost use Rattle.nfa_pikevm.specs.Scans.{Serves, Sizes, AreSized, scan_turns};
 use crate::cache::Cache;
 use crate::config::{Builder, Config};
 use crate::overlap::overlap;
-use crate::search::{search, unset};
+use crate::search::search;
+use crate::slot::{Slot, hand_out, match_in};
 use crate::threads::Threads;
 use nfa_engine_parts::counter::Counter;
 use nfa_engine_parts::first_bytes::FirstBytes;
@@ -174,12 +175,38 @@ impl PikeVM {
         ensures scans { cache.new.scans ≤ scan_limit self.now.nfa (search_of input.now) }
         ensures turns { cache.new.turns ≤ cache.new.scans * ((1 + turn_weight self.now.nfa) * (span_len (search_of input.now) + 1)) }
     {
-        let Cache { threads, scans, .. } = cache;
+        let Cache {
+            threads,
+            scans,
+            found,
+            ..
+        } = cache;
         scans.restart();
         threads.seen.restart_turns();
+        self.search_with(threads, scans, input, found.as_mut_slice(), slots)
+    }
+
+    /// The pattern that a search answers, which keeps its slots in a row of the cache and hands them out at the end.
+    fn search_with(
+        &self,
+        threads: &mut Threads,
+        scans: &mut Counter,
+        input: &Input<'_>,
+        found: &mut [Slot],
+        slots: &mut [Option<NonMaxUsize>],
+    ) -> Option<PatternID>
+        requires row { slot_count self.now.nfa.groups ≤ length found.old }
+        requires serves { Serves self.now.nfa (min (length slots.old) (slot_count self.now.nfa.groups)) threads.old.seen (length threads.old.frames.items) threads.old.curr threads.old.next }
+        requires counted { scans.old ≡ 0 }
+        requires turned { threads.old.seen.turns ≡ 0 }
+        ensures answer { IsAnswer self.now.nfa (kind_of self.now) (search_of input.now).earliest (search_of input.now) (option_map number_of result) slots.new }
+        ensures work { IsWork self.now.nfa (kind_of self.now) (search_of input.now).earliest (search_of input.now) scans.new threads.new.seen.turns }
+        ensures sizes { (size : Sizes) → AreSized size threads.old.seen (length threads.old.frames.items) threads.old.curr threads.old.next → AreSized size threads.new.seen (length threads.new.frames.items) threads.new.curr threads.new.next }
+        ensures scans { scans.new ≤ scan_limit self.now.nfa (search_of input.now) }
+        ensures turns { threads.new.seen.turns ≤ scans.new * scan_turns self.now.nfa (search_of input.now) }
+    {
         let width = slots.len().min(self.nfa.group_info().slot_len());
-        let (row, rest) = slots.split_at_mut(width);
-        unset(rest);
+        let row = &mut found[..width];
         let half = search(
             &self.nfa,
             &self.first,
@@ -188,8 +215,9 @@ impl PikeVM {
             threads,
             scans,
             row,
-        )?;
-        Some(half.pattern())
+        );
+        hand_out(row, slots);
+        Some(half?.pattern())
     }
 
     /// The match that a search answers, with its first slots here.
@@ -198,7 +226,7 @@ impl PikeVM {
         threads: &mut Threads,
         scans: &mut Counter,
         input: &Input<'_>,
-        found: &mut [Option<NonMaxUsize>],
+        found: &mut [Slot],
     ) -> Option<Match>
         requires row { 2 * length self.now.nfa.groups ≤ length found.old }
         requires serves { Serves self.now.nfa (2 * length self.now.nfa.groups) threads.old.seen (length threads.old.frames.items) threads.old.curr threads.old.next }
@@ -221,7 +249,7 @@ impl PikeVM {
             scans,
             slots,
         )?;
-        Match::from_slots(half.pattern(), slots)
+        match_in(half.pattern(), slots)
     }
 
     /// The match that a search answers: the span between the two slots of its pattern. It is none where there is no

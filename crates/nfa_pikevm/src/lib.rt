@@ -19,6 +19,7 @@ mod scan;
 mod search;
 mod seen;
 mod sizes;
+mod slot;
 mod threads;
 
 pub use cache::Cache;

@@ -10,7 +10,7 @@ ghost use Rattle.nfa_pikevm.specs.States.{IsBelow, IsWithin, HasRoom, Paid, trie
 ghost use Rattle.nfa_pikevm.specs.Scans.{Serves, HasThreads, Sizes, AreSized, AreStarts, scan_turns};
 ghost use Rattle.nfa_pikevm.specs.Overlapping.{permits, rowless, AdvancesInSet, ArrivesInSet, CrossesInSet};
 
-use crate::active::ActiveStates;
+use crate::active::{ActiveStates, Parts};
 use crate::closure::{Turn, enter, resume};
 use crate::frame::FollowEpsilon;
 use crate::scan::{Starts, join};
@@ -208,7 +208,7 @@ fn cross_to_set(
         next,
     } = threads;
     seen.clear();
-    let ActiveStates { kept, len, .. } = curr;
+    let Parts { kept, len, .. } = &*curr.parts;
     cross_states_to_set(
         nfa,
         input,

@@ -6,11 +6,12 @@ ghost use Rattle.regex_search_core.specs.declared.search.MatchKind.TheVariants.{
 ghost use Rattle.nfa_engine_parts.specs.FirstBytes.{IsFirstBytes};
 ghost use Rattle.nfa_pikevm.specs.Scans.{blank, Serves, HasThreads, Sizes, AreSized, AreStarts, Joins, joined, half_found, Scans, scan_turns};
 
+use crate::slot::Slot;
 use crate::threads::{Threads, cross, move_on, set_up};
 use nfa_engine_parts::counter::Counter;
 use nfa_engine_parts::first_bytes::FirstBytes;
 use nfa_engine_parts::starts::{next_start, skip_limit, start_limit, start_state};
-use regex_search_core::{HalfMatch, Input, MatchKind, NonMaxUsize, PatternID, StateID};
+use regex_search_core::{HalfMatch, Input, MatchKind, PatternID, StateID};
 use thompson_nfa::NFA;
 
 /// Where the starts of a scan are: the state, the position behind the last one, and the position behind the last one that
@@ -85,7 +86,7 @@ fn scan_first(
     input: &Input<'_>,
     starts: &Starts,
     threads: &mut Threads,
-    slots: &mut [Option<NonMaxUsize>],
+    slots: &mut [Slot],
 ) -> Option<HalfMatch>
     requires first { IsFirstBytes nfa.now first.now.may_begin }
     requires starts { AreStarts nfa.now (search_of input.now) starts.now }
@@ -125,7 +126,7 @@ fn scan_last(
     input: &Input<'_>,
     starts: &Starts,
     threads: &mut Threads,
-    slots: &mut [Option<NonMaxUsize>],
+    slots: &mut [Slot],
 ) -> Option<HalfMatch>
     requires starts { AreStarts nfa.now (search_of input.now) starts.now }
     requires span { (search_of input.now).start ≤ (search_of input.now).end }
@@ -158,7 +159,7 @@ fn scan_earliest(
     starts: &Starts,
     past_match: bool,
     threads: &mut Threads,
-    slots: &mut [Option<NonMaxUsize>],
+    slots: &mut [Slot],
 ) -> Option<HalfMatch>
     requires starts { AreStarts nfa.now (search_of input.now) starts.now }
     requires span { (search_of input.now).start ≤ (search_of input.now).end }
@@ -193,7 +194,7 @@ fn scan_from(
     input: &Input<'_>,
     starts: &Starts,
     threads: &mut Threads,
-    slots: &mut [Option<NonMaxUsize>],
+    slots: &mut [Slot],
 ) -> Option<HalfMatch>
     requires first { IsFirstBytes nfa.now first.now.may_begin }
     requires starts { AreStarts nfa.now (search_of input.now) starts.now }
@@ -225,7 +226,7 @@ pub fn scan(
     input: &Input<'_>,
     threads: &mut Threads,
     scans: &mut Counter,
-    slots: &mut [Option<NonMaxUsize>],
+    slots: &mut [Slot],
 ) -> Option<HalfMatch>
     requires first { IsFirstBytes nfa.now first.now.may_begin }
     requires serves { Serves nfa.now (length slots.old) threads.old.seen (length threads.old.frames.items) threads.old.curr threads.old.next }
@@ -236,7 +237,7 @@ pub fn scan(
     ensures answer { Scans nfa.now (search_of input.now) kind (search_of input.now).earliest result slots.new threads.new.seen.turns }
 {
     scans.tick();
-    slots.fill(None);
+    slots.fill(Slot::unset());
     if input.is_done() {
         return None;
     }

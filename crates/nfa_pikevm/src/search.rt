@@ -5,17 +5,18 @@ ghost use Rattle.nfa_engine_parts.specs.FirstBytes.{IsFirstBytes};
 ghost use Rattle.nfa_pikevm.specs.Scans.{blank, Serves, Sizes, AreSized, Searched, scan_turns};
 
 use crate::scan::scan;
+use crate::slot::Slot;
 use crate::threads::Threads;
 use nfa_engine_parts::counter::Counter;
 use nfa_engine_parts::first_bytes::FirstBytes;
-use regex_search_core::{HalfMatch, Input, MatchKind, NonMaxUsize};
+use regex_search_core::{HalfMatch, Input, MatchKind};
 use thompson_nfa::NFA;
 
 /// Takes the offset of every slot away.
-pub fn unset(slots: &mut [Option<NonMaxUsize>])
+pub fn unset(slots: &mut [Slot])
     ensures { slots.new ≡ blank (length slots.old) }
 {
-    slots.fill(None);
+    slots.fill(Slot::unset());
 }
 
 /// A search whose scan is its answer.
@@ -26,7 +27,7 @@ fn search_once(
     input: &Input<'_>,
     threads: &mut Threads,
     scans: &mut Counter,
-    slots: &mut [Option<NonMaxUsize>],
+    slots: &mut [Slot],
 ) -> Option<HalfMatch>
     requires first { IsFirstBytes nfa.now first.now.may_begin }
     requires serves { Serves nfa.now (length slots.old) threads.old.seen (length threads.old.frames.items) threads.old.curr threads.old.next }
@@ -49,7 +50,7 @@ fn search_kept(
     input: &Input<'_>,
     threads: &mut Threads,
     scans: &mut Counter,
-    slots: &mut [Option<NonMaxUsize>],
+    slots: &mut [Slot],
 ) -> Option<HalfMatch>
     requires first { IsFirstBytes nfa.now first.now.may_begin }
     requires serves { Serves nfa.now (length slots.old) threads.old.seen (length threads.old.frames.items) threads.old.curr threads.old.next }
@@ -78,7 +79,7 @@ fn search_whole(
     input: &Input<'_>,
     threads: &mut Threads,
     scans: &mut Counter,
-    slots: &mut [Option<NonMaxUsize>],
+    slots: &mut [Slot],
 ) -> Option<HalfMatch>
     requires first { IsFirstBytes nfa.now first.now.may_begin }
     requires serves { Serves nfa.now (length slots.old) threads.old.seen (length threads.old.frames.items) threads.old.curr threads.old.next }
@@ -110,7 +111,7 @@ pub fn search(
     input: &Input<'_>,
     threads: &mut Threads,
     scans: &mut Counter,
-    slots: &mut [Option<NonMaxUsize>],
+    slots: &mut [Slot],
 ) -> Option<HalfMatch>
     requires first { IsFirstBytes nfa.now first.now.may_begin }
     requires serves { Serves nfa.now (length slots.old) threads.old.seen (length threads.old.frames.items) threads.old.curr threads.old.next }

@@ -6,8 +6,9 @@ ghost use Rattle.nfa_pikevm.specs.Sizes.{IsRoomFor, IsSize, IsSizeOf, IsPast};
 
 use crate::frame::FollowEpsilon;
 use crate::room::{refill, reserve};
+use crate::slot::Slot;
 use crate::threads::Threads;
-use regex_search_core::{NonMaxUsize, Refused, StateID};
+use regex_search_core::{Refused, StateID};
 use thompson_nfa::{NFA, State};
 
 /// How much a cache holds: for how many states and slots it is, the places and the cells of each set of states, and the
@@ -74,7 +75,7 @@ pub fn size_for(nfa: &NFA) -> Option<Size>
 /// Makes the parts of a cache as large as this, and no larger. All memory is taken before anything changes.
 pub fn make_room(
     threads: &mut Threads,
-    found: &mut Vec<Option<NonMaxUsize>>,
+    found: &mut Vec<Slot>,
     size: &Size,
     filler: StateID,
 ) -> Result<(), Refused>
@@ -89,23 +90,23 @@ pub fn make_room(
 {
     reserve(&mut threads.frames, size.frames)?;
     reserve(&mut threads.seen.stamps, size.states)?;
-    reserve(&mut threads.curr.kept, size.places)?;
-    reserve(&mut threads.curr.rows, size.cells)?;
-    reserve(&mut threads.next.kept, size.places)?;
-    reserve(&mut threads.next.rows, size.cells)?;
+    reserve(&mut threads.curr.parts.kept, size.places)?;
+    reserve(&mut threads.curr.parts.rows, size.cells)?;
+    reserve(&mut threads.next.parts.kept, size.places)?;
+    reserve(&mut threads.next.parts.rows, size.cells)?;
     reserve(found, size.slots)?;
-    let unused = FollowEpsilon::Clear { slot: 0 };
+    let unused = FollowEpsilon::Explore { sid: filler };
     refill(&mut threads.frames, size.frames, unused);
     refill(&mut threads.seen.stamps, size.states, 0);
     threads.seen.newest = 1;
-    threads.curr.len = 0;
-    threads.curr.width = 0;
-    refill(&mut threads.curr.kept, size.places, filler);
-    refill(&mut threads.curr.rows, size.cells, None);
-    threads.next.len = 0;
-    threads.next.width = 0;
-    refill(&mut threads.next.kept, size.places, filler);
-    refill(&mut threads.next.rows, size.cells, None);
-    refill(found, size.slots, None);
+    threads.curr.parts.len = 0;
+    threads.curr.parts.width = 0;
+    refill(&mut threads.curr.parts.kept, size.places, filler);
+    refill(&mut threads.curr.parts.rows, size.cells, Slot::unset());
+    threads.next.parts.len = 0;
+    threads.next.parts.width = 0;
+    refill(&mut threads.next.parts.kept, size.places, filler);
+    refill(&mut threads.next.parts.rows, size.cells, Slot::unset());
+    refill(found, size.slots, Slot::unset());
     Ok(())
 }

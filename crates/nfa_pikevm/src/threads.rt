@@ -4,12 +4,13 @@ ghost use Rattle.nfa_pikevm.specs.Rows.{items_of};
 ghost use Rattle.nfa_pikevm.specs.States.{HasRoom, Crosses};
 ghost use Rattle.nfa_pikevm.specs.Scans.{HasThreads};
 
-use crate::active::ActiveStates;
+use crate::active::{ActiveStates, Parts};
 use crate::closure::follow;
 use crate::frame::FollowEpsilon;
 use crate::seen::Seen;
+use crate::slot::Slot;
 use nfa_engine_parts::transitions::byte_at;
-use regex_search_core::{Input, NonMaxUsize, PatternID, Refused, StateID};
+use regex_search_core::{Input, PatternID, Refused, StateID};
 use std::alloc::Global;
 use std::mem;
 use thompson_nfa::NFA;
@@ -52,17 +53,18 @@ pub fn move_on(threads: &mut Threads)
 
 /// Follows the states at the position, in order, each with its row, and keeps what the byte leads to. It answers the last
 /// match, and copies its row; without `past_match` it stops at the first match.
+#[inline(always)]
 fn cross_states(
     nfa: &NFA,
     input: &Input<'_>,
     at: usize,
     past_match: bool,
     kept: &[StateID],
-    rows: &mut [Option<NonMaxUsize>],
+    rows: &mut [Slot],
     frames: &mut [FollowEpsilon],
     seen: &mut Seen,
     next: &mut ActiveStates,
-    slots: &mut [Option<NonMaxUsize>],
+    slots: &mut [Slot],
 ) -> Option<PatternID>
     requires place { at ≤ (search_of input.now).end }
     requires states { All (λ s. s < length nfa.now.states) kept.now }
@@ -97,13 +99,14 @@ fn cross_states(
 
 /// Follows the states at the position, and keeps what its byte leads to for the next one. It answers the last match, and
 /// its slots; without `past_match` it stops at the first match.
+#[inline(always)]
 pub fn cross(
     nfa: &NFA,
     input: &Input<'_>,
     at: usize,
     past_match: bool,
     threads: &mut Threads,
-    slots: &mut [Option<NonMaxUsize>],
+    slots: &mut [Slot],
 ) -> Option<PatternID>
     requires place { at ≤ (search_of input.now).end }
     requires states { All (λ i. i.0 < length nfa.now.states) threads.old.curr.items }
@@ -124,12 +127,12 @@ pub fn cross(
         next,
     } = threads;
     seen.clear();
-    let ActiveStates {
+    let Parts {
         kept,
         rows,
         len,
         ..
-    } = curr;
+    } = &mut *curr.parts;
     cross_states(
         nfa,
         input,
@@ -146,18 +149,18 @@ pub fn cross(
 
 impl Threads {
     /// Room for no state.
-    pub fn new(alloc: Global) -> Threads
-        ensures seen { result.seen ≡ record { bits = []; turns = 0 } }
-        ensures curr { result.curr ≡ record { items = []; width = 0; places = 0; cells = 0 } }
-        ensures next { result.next ≡ record { items = []; width = 0; places = 0; cells = 0 } }
-        ensures frames { result.frames.items ≡ [] }
+    pub fn new(alloc: Global) -> Result<Threads, Refused>
+        ensures seen { IfOk result (λ made. made.seen ≡ record { bits = []; turns = 0 }) }
+        ensures curr { IfOk result (λ made. made.curr ≡ record { items = []; width = 0; places = 0; cells = 0 }) }
+        ensures next { IfOk result (λ made. made.next ≡ record { items = []; width = 0; places = 0; cells = 0 }) }
+        ensures frames { IfOk result (λ made. made.frames.items ≡ []) }
     {
-        Threads {
+        Ok(Threads {
             frames: Vec::new(alloc),
             seen: Seen::new(alloc),
-            curr: ActiveStates::new(alloc),
-            next: ActiveStates::new(alloc),
-        }
+            curr: ActiveStates::new(alloc)?,
+            next: ActiveStates::new(alloc)?,
+        })
     }
 
     /// The same states, marks and frames.

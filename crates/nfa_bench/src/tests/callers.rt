@@ -128,7 +128,7 @@ fn lists_the_refusal_alone(rt: HostRuntime) -> Result<(), Fail> {
 #[test]
 fn lists_all_pieces(rt: HostRuntime) -> Result<(), Fail> {
     let alloc = rt.alloc();
-    for (haystack, len, want) in [
+    for &(haystack, len, want) in &[
         ("abcdefgh", 3, [(0, 3), (3, 6), (6, 8)].as_slice()),
         ("abcd", 2, [(0, 2), (2, 4)].as_slice()),
         ("ab", 0, [(0, 0), (1, 1), (2, 2)].as_slice()),

@@ -39,7 +39,7 @@ fn a_cache_holds_memory_from_a_search_to_a_reset(rt: HostRuntime) -> Result<(), 
 fn configurations_are_shown(rt: HostRuntime) -> Result<(), Fail> {
     let alloc = rt.alloc();
     let config = BoundedBacktracker::config().visited_capacity(10);
-    for (config, want) in [
+    for &(config, want) in &[
         (config.clone()?, "Config { visited_capacity: Some(10) }"),
         (Config::default(), "Config { visited_capacity: None }"),
     ] {

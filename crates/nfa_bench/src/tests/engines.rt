@@ -47,7 +47,7 @@ fn a_clone_answers_as_its_original(rt: HostRuntime) -> Result<(), Fail> {
     let engine = with_capacity(alloc, "a_pair", 1)?;
     let mut cache = engine.create_cache(alloc);
     let (short, long) = ([b'a'; 31], [b'a'; 32]);
-    for (haystack, want) in [
+    for &(haystack, want) in &[
         (short.as_slice(), "0 - -"),
         (long.as_slice(), "HaystackTooLong { len: 32 } - -"),
     ] {

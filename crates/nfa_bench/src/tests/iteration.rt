@@ -8,7 +8,7 @@ use std::process::Abort;
 use std::test::Fail;
 
 // A name, a haystack, and all matches.
-const ALL: [(&str, &[u8], &str); 12] = [
+pub const ALL: &[(&str, &[u8], &str)] = &[
     ("a_or_empty", b"abba", "0 0..1, 0 2..2, 0 3..4, "),
     ("a_or_empty", b"\x80a", "0 1..2, "),
     ("a_or_empty", b"a\x80", "0 2..2, "),
@@ -62,7 +62,7 @@ fn items_text(
 #[test]
 fn gives_all_matches(rt: HostRuntime) -> Result<(), Fail> {
     let alloc = rt.alloc();
-    for (name, haystack, want) in ALL {
+    for &(name, haystack, want) in ALL {
         let engine = backtracker(alloc, name)?;
         let mut cache = engine.create_cache(alloc);
         let text = items_text(alloc, &engine, &mut cache, haystack)?;
@@ -118,7 +118,7 @@ fn gives_a_beginning_and_the_refusal(rt: HostRuntime) -> Result<(), Fail> {
         Err(_) => sample(alloc, "words_numbers")?,
     };
     let engine = BoundedBacktracker::new_from_nfa(nfa.ok_or("unknown name")?)?;
-    for (haystack, all) in [
+    for &(haystack, all) in &[
         ("abc 1 foo 4567 0 quux", WORDS_AND_NUMBERS.as_slice()),
         (
             "a 1 abcdefghijklmnopqrstuvwxyzabcdefghijklmnopqrstuvwxyz",

@@ -10,7 +10,7 @@ fn refuses_from_the_first_length_too_many(rt: HostRuntime) -> Result<(), Fail> {
     let engine = with_capacity(alloc, "a_pair", 1)?;
     assert_eq!(rt; engine.max_haystack_len(), 31);
     let mut cache = engine.create_cache(alloc);
-    for (haystack, want) in [
+    for &(haystack, want) in &[
         ([b'a'; 31].as_slice(), "0 - -"),
         ([b'a'; 32].as_slice(), "HaystackTooLong { len: 32 } - -"),
     ] {
@@ -32,7 +32,7 @@ fn refuses_before_all_else(rt: HostRuntime) -> Result<(), Fail> {
     assert_eq!(rt; engine.max_haystack_len(), 0);
     let pattern = PatternID::new(5).ok_or("too great a number")?;
     let whole = Input::new(b"abc");
-    for (input, want) in [
+    for &(input, want) in &[
         (whole, "HaystackTooLong { len: 3 } - -"),
         (
             whole.anchored(Anchored::Pattern(pattern)),
@@ -56,7 +56,7 @@ fn refuses_before_all_else(rt: HostRuntime) -> Result<(), Fail> {
 fn keeps_what_a_newer_configuration_leaves_unset(rt: HostRuntime) -> Result<(), Fail> {
     let alloc = rt.alloc();
     let mut builder = Builder::new();
-    for (config, want) in [
+    for &(config, want) in &[
         (Config::new(), 262144),
         (Config::new().visited_capacity(10), 10),
         (Config::new(), 10),

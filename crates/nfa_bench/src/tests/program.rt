@@ -8,7 +8,7 @@ const USAGE: &str = "usage: nfa-bench back|pike NAME HAYSTACK\n";
 #[test]
 fn prints_the_match_and_the_end(rt: HostRuntime) -> Result<(), Fail> {
     let alloc = rt.alloc();
-    for (name, haystack, want) in [
+    for &(name, haystack, want) in &[
         ("abc_a", "abc", "0 0..3\nend\n"),
         ("abc_a", "abcab", "0 0..3\n0 3..4\nend\n"),
         ("abc_a", "xyz", "end\n"),
@@ -18,10 +18,12 @@ fn prints_the_match_and_the_end(rt: HostRuntime) -> Result<(), Fail> {
         ("snowman", "a☃b", "0 1..4\nend\n"),
         ("ab_b", "xb", "1 1..2\nend\n"),
     ] {
-        let mut out = Vec::new(alloc);
-        let status = run(alloc, &["back", name, haystack], &mut out);
-        assert_eq!(rt; out.as_slice(), want.as_bytes(), "{name} on {haystack}");
-        assert_eq!(rt; status, 0, "{name} on {haystack}");
+        for engine in ["back", "pike"] {
+            let mut out = Vec::new(alloc);
+            let status = run(alloc, &[engine, name, haystack], &mut out);
+            assert_eq!(rt; out.as_slice(), want.as_bytes(), "{name} on {haystack}");
+            assert_eq!(rt; status, 0, "{name} on {haystack}");
+        }
     }
     Ok(())
 }
@@ -35,10 +37,11 @@ fn says_why_it_does_not_search(rt: HostRuntime) -> Result<(), Fail> {
         assert_eq!(rt; run(alloc, &words[..count], &mut out), 2, "{count} words");
         assert_eq!(rt; out.as_slice(), USAGE.as_bytes(), "{count} words");
     }
-    for (engine, name, want) in [
+    for &(engine, name, want) in &[
         ("both", "abc_a", USAGE),
         ("both", "nothing", USAGE),
         ("back", "nothing", "unknown name\n"),
+        ("pike", "nothing", "unknown name\n"),
         ("back", "", "unknown name\n"),
     ] {
         let mut out = Vec::new(alloc);
@@ -55,7 +58,7 @@ fn says_why_it_does_not_search(rt: HostRuntime) -> Result<(), Fail> {
 #[test]
 fn says_which_length_is_too_long(rt: HostRuntime) -> Result<(), Fail> {
     let alloc = rt.alloc();
-    for (len, want, status) in [
+    for &(len, want, status) in &[
         (19971, "end\n", 0),
         (19972, "haystack too long: 19972\n", 1),
     ] {
@@ -97,7 +100,7 @@ impl Write for Refusing {
 #[test]
 fn writes_nothing_after_a_write_that_failed(rt: HostRuntime) -> Result<(), Fail> {
     let alloc = rt.alloc();
-    for (name, whole, status) in [
+    for &(name, whole, status) in &[
         ("abc_a", "0 0..3\nend\n", 0),
         ("nothing", "unknown name\n", 2),
     ] {

@@ -1,10 +1,11 @@
-use super::{backtracker, found_text, slots_text};
+use super::{backtracker, both, found_text, pike, slots_text};
 use regex_search_core::{Anchored, Input, PatternID};
+use std::alloc::Global;
 use std::process::Abort;
 use std::test::Fail;
 
 // A name, a haystack, and the pattern with as many slots as the NFA has.
-const SLOTS: [(&str, &str, &str); 53] = [
+const SLOTS: &[(&str, &str, &str)] = &[
     ("abc", "xabcabc", "0 1 4"),
     ("abc", "ab", "none - -"),
     ("ab_b", "ab", "0 0 2 - -"),
@@ -61,7 +62,7 @@ const SLOTS: [(&str, &str, &str); 53] = [
 ];
 
 // A name, a haystack, and the first match.
-const FOUND: [(&str, &str, &str); 16] = [
+pub const FOUND: &[(&str, &str, &str)] = &[
     ("abc_a", "abc", "0 0..3"),
     ("ab_b", "xb", "1 1..2"),
     ("snowman", "a☃b", "0 1..4"),
@@ -82,7 +83,7 @@ const FOUND: [(&str, &str, &str); 16] = [
 ];
 
 // A name, a haystack, a span, whether the search is anchored, and the first match.
-const FOUND_IN_SPAN: [(&str, &str, usize, usize, bool, &str); 9] = [
+pub const FOUND_IN_SPAN: &[(&str, &str, usize, usize, bool, &str)] = &[
     ("empty", "☃", 1, 3, true, "none"),
     ("empty", "☃", 1, 3, false, "0 3..3"),
     ("empty", "☃", 3, 3, true, "0 3..3"),
@@ -94,21 +95,34 @@ const FOUND_IN_SPAN: [(&str, &str, usize, usize, bool, &str); 9] = [
     ("abc", "abc", 0, 2, false, "none"),
 ];
 
-fn input_in<'h>(rt: &impl Abort, haystack: &'h [u8], start: usize, end: usize) -> Input<'h> {
+pub fn input_in<'h>(rt: &impl Abort, haystack: &'h [u8], start: usize, end: usize) -> Input<'h> {
     assert!(rt; start <= end && end <= haystack.len());
     Input::new(haystack).range(start..end)
 }
 
+fn expect_slots(
+    rt: &impl Abort,
+    alloc: Global,
+    name: &str,
+    haystack: &str,
+    want: &str,
+) -> Result<(), Fail> {
+    let (engine, vm) = both(alloc, name)?;
+    let input = Input::new(haystack.as_bytes());
+    let slot_len = vm.get_nfa().group_info().slot_len();
+    let mut marks = engine.create_cache(alloc);
+    let text = slots_text(alloc, &engine, &mut marks, &input, slot_len)?;
+    assert_eq!(rt; text.as_str(), want, "{name} on {haystack:?}");
+    let mut threads = vm.create_cache(alloc)?;
+    let text = pike::slots_text(rt, alloc, &vm, &mut threads, &input, slot_len)?;
+    assert_eq!(rt; text.as_str(), want, "{name} on {haystack:?}");
+    Ok(())
+}
+
 #[test]
 fn fills_the_slots_of_each_sample(rt: HostRuntime) -> Result<(), Fail> {
-    let alloc = rt.alloc();
-    for (name, haystack, want) in SLOTS {
-        let engine = backtracker(alloc, name)?;
-        let mut cache = engine.create_cache(alloc);
-        let input = Input::new(haystack.as_bytes());
-        let slot_len = engine.get_nfa().group_info().slot_len();
-        let text = slots_text(alloc, &engine, &mut cache, &input, slot_len)?;
-        assert_eq!(rt; text.as_str(), want, "{name} on {haystack:?}");
+    for &(name, haystack, want) in SLOTS {
+        expect_slots(&rt, rt.alloc(), name, haystack, want)?;
     }
     Ok(())
 }
@@ -116,7 +130,7 @@ fn fills_the_slots_of_each_sample(rt: HostRuntime) -> Result<(), Fail> {
 #[test]
 fn finds_the_first_match(rt: HostRuntime) -> Result<(), Fail> {
     let alloc = rt.alloc();
-    for (name, haystack, want) in FOUND {
+    for &(name, haystack, want) in FOUND {
         let engine = backtracker(alloc, name)?;
         let mut cache = engine.create_cache(alloc);
         for earliest in [false, true] {
@@ -131,7 +145,7 @@ fn finds_the_first_match(rt: HostRuntime) -> Result<(), Fail> {
 #[test]
 fn finds_the_first_match_in_a_span(rt: HostRuntime) -> Result<(), Fail> {
     let alloc = rt.alloc();
-    for (name, haystack, start, end, anchored, want) in FOUND_IN_SPAN {
+    for &(name, haystack, start, end, anchored, want) in FOUND_IN_SPAN {
         let engine = backtracker(alloc, name)?;
         let mut cache = engine.create_cache(alloc);
         let mode = if anchored {
@@ -163,7 +177,7 @@ fn finds_the_end_of_bytes_that_are_no_text(rt: HostRuntime) -> Result<(), Fail> 
 #[test]
 fn tells_whether_there_is_a_match(rt: HostRuntime) -> Result<(), Fail> {
     let alloc = rt.alloc();
-    for (name, haystack, start, end, want) in [
+    for &(name, haystack, start, end, want) in &[
         ("a_star", "☃", 1, 2, false),
         ("a_star_bytes", "☃", 1, 2, true),
         ("a_bare", "a", 0, 1, true),
@@ -182,7 +196,7 @@ fn takes_any_number_of_slots(rt: HostRuntime) -> Result<(), Fail> {
     let alloc = rt.alloc();
     let engine = backtracker(alloc, "abc")?;
     let mut cache = engine.create_cache(alloc);
-    for (haystack, slot_len, want) in [
+    for &(haystack, slot_len, want) in &[
         ("abc", 0, "0"),
         ("abc", 1, "0 0"),
         ("abc", 4, "0 0 3 - -"),
@@ -199,7 +213,7 @@ fn takes_any_number_of_slots(rt: HostRuntime) -> Result<(), Fail> {
 #[test]
 fn searches_for_one_pattern(rt: HostRuntime) -> Result<(), Fail> {
     let alloc = rt.alloc();
-    for (name, haystack, pattern, want) in [
+    for &(name, haystack, pattern, want) in &[
         ("six", "foo123", 0, "0 0 6 - -"),
         ("six", "foo123", 1, "1 - - 0 6"),
         ("six", "1oo123", 1, "none - - - -"),

@@ -49,12 +49,12 @@ fn next_end(input: &Input<'_>) -> Option<HalfMatch>
 }
 
 // How many steps were made, and where the searcher and the iterator then stand.
-const STATES: [(usize, &str, bool); 2] = [(0, FRESH, false), (3, AFTER_THE_LAST, true)];
+const STATES: &[(usize, &str, bool)] = &[(0, FRESH, false), (3, AFTER_THE_LAST, true)];
 
 #[test]
 fn iterators_over_a_finder_are_shown(rt: HostRuntime) -> Result<(), Fail> {
     let alloc = rt.alloc();
-    for (steps, searcher, done) in STATES {
+    for &(steps, searcher, done) in STATES {
         let new = Searcher::new(Input::new(b"ab"));
         let mut tries = new.into_matches_iter(|input: &Input<'_>| Ok(next_piece(input, 1)));
         let new = Searcher::new(Input::new(b"ab"));
@@ -77,7 +77,7 @@ fn iterators_over_a_finder_are_shown(rt: HostRuntime) -> Result<(), Fail> {
 #[test]
 fn iterators_over_a_half_finder_are_shown(rt: HostRuntime) -> Result<(), Fail> {
     let alloc = rt.alloc();
-    for (steps, searcher, done) in STATES {
+    for &(steps, searcher, done) in STATES {
         let new = Searcher::new(Input::new(b"ab"));
         let mut tries = new.into_half_matches_iter(|input: &Input<'_>| Ok(next_end(input)));
         let new = Searcher::new(Input::new(b"ab"));

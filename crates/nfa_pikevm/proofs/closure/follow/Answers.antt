@@ -47,7 +47,7 @@ loop-on-preserved-in-On c =
 
 pub returns-then-not-past_match-clause-arrives : goal.returns-then-not-past_match-clause-arrives
 returns-then-not-past_match-clause-arrives c =
-    rw c.copy_from_slice.ensures.after
+    rw c.copy_row.ensures
     (Arrives-cut c.loop-on.invariant.followed c.in-Matched.ensures.enters c.if-not-past_match.true (Paid-dropped (Paid-then c.loop-on.invariant.paid c.in-Matched.ensures.paid)))
 
 -- the turn, with what it paid
@@ -58,7 +58,7 @@ turned-Some : (c : goal.In-Some)
     c.enter.new.seen (length c.enter.new.next.items) (take c.enter.new.top c.enter.new.frames) 0
 turned-Some c = elim c.match-enter.branch [
   | in-Matched+else-not-past_match w ↦ (
-    rw (w.hit-is, w.slots-is, w.copy_from_slice.ensures.after) (Followed-matched c.loop-on.invariant.followed w.in-Matched.ensures.enters w.if-not-past_match.false),
+    rw (w.hit-is, w.slots-is, w.copy_row.ensures) (Followed-matched c.loop-on.invariant.followed w.in-Matched.ensures.enters w.if-not-past_match.false),
     w.in-Matched.ensures.paid,
   )
   | in-Over w ↦ (
@@ -94,7 +94,7 @@ turned-None : (c : goal.In-None)
     c.enter.new.seen (length c.enter.new.next.items) (take c.enter.new.top c.enter.new.frames) 0
 turned-None c = elim c.match-enter.branch [
   | in-Matched+else-not-past_match w ↦ (
-    rw (w.hit-is, w.slots-is, w.copy_from_slice.ensures.after) (Followed-matched c.loop-on.invariant.followed w.in-Matched.ensures.enters w.if-not-past_match.false),
+    rw (w.hit-is, w.slots-is, w.copy_row.ensures) (Followed-matched c.loop-on.invariant.followed w.in-Matched.ensures.enters w.if-not-past_match.false),
     w.in-Matched.ensures.paid,
   )
   | in-Over w ↦ (

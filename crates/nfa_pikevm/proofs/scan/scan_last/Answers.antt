@@ -1,6 +1,5 @@
-use Rattle.std.proofs.Common.{◌≡◌, ◌∙◌, ◌+◌, ◌≤◌, length, arith, refl, ap, sym, inl, true}
+use Rattle.std.proofs.Common.{◌≡◌, ◌∙◌, ◌+◌, ◌≤◌, length, arith, refl, ap, sym, inl}
 use Rattle.regex_search_core.specs.Search.{search_of}
-use Rattle.nfa_search_base.specs.Paths.{starts}
 use Rattle.nfa_pikevm.specs.Rows.{Met, Active}
 use Rattle.nfa_pikevm.specs.Scans.{joined}
 use Rattle.nfa_pikevm.proofs.AllLemmas.{ScansAll-cross, HasLast-cross}

@@ -1,4 +1,4 @@
-use Rattle.std.proofs.Common.{◌∙◌, ◌-◌, refl, below_more}
+use Rattle.std.proofs.Common.{◌∙◌, refl, below_more}
 use Rattle.std.specs.Prelude.{Some, None}
 use Rattle.regex_search_core.specs.Search.{search_of}
 use Rattle.nfa_search_base.specs.Paths.{raised, EndsOnBoundary, SplitsCharacter}

@@ -4,5 +4,6 @@ use Rattle.nfa_pikevm.proofs.threads.cross.Goals as goal
 
 pub cross_states-requires-clause-states : goal.cross_states-requires-clause-states
 cross_states-requires-clause-states c =
-    let states = rw (← c.curr.view_is) at c.requires.states in
-    rw c.as_slice.ensures.value (states-below (length c.args.nfa.now.states) c.curr.inside.width _ c.curr.inside.rows.items states)
+    let states = rw (← c.curr.view_is, ← c.deref_mut.ensures.value) at c.requires.states in
+    let p = c.deref_mut.result.now in
+    rw c.as_slice.ensures.value (states-below (length c.args.nfa.now.states) p.width _ p.rows.items states)

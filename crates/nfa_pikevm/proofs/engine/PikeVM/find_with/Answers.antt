@@ -18,4 +18,4 @@ returns-clause-answer c =
     ) in
     rw (← c.self.view_is, ← c.get_match_kind.ensures)
     (match-some c.self.inside.nfa c.get_match_kind.result _ (search_of c.args.input.now) c.group_info.ensures.valid c.in_ok-half.half (number_of c.pattern.result) c.pattern.ensures size
-    c.in_ok-half.ensures.answer _ c.from_slots.ensures)
+    c.in_ok-half.ensures.answer _ c.match_in.ensures)

@@ -1,0 +1,103 @@
+use super::pike::of_kind;
+use super::searches::input_in;
+use nfa_engines::pikevm::{Cache, PikeVM};
+use regex_search_core::MatchKind::{All, LeftmostFirst};
+use regex_search_core::{Anchored, Input, MatchKind, PatternID, PatternSet};
+use std::alloc::Global;
+use std::process::Abort;
+use std::test::Fail;
+
+// A name, a kind, a haystack, the capacity of a set, and the patterns that an empty set gains: in a search, and in one
+// with `earliest`.
+const GAINED: &[(&str, MatchKind, &str, usize, [&str; 2])] = &[
+    ("foo_bar", All, "foobar", 4, ["0 1 3 ", "0 "]),
+    ("foo_bar", All, "foobar", 1, ["0 ", "0 "]),
+    ("ab_abc", LeftmostFirst, "abc", 2, ["0 ", "0 "]),
+    ("abc_ab", LeftmostFirst, "abc", 2, ["0 1 ", "1 "]),
+    ("b_a", LeftmostFirst, "ab", 2, ["1 ", "1 "]),
+    ("b_a", LeftmostFirst, "axb", 2, ["1 ", "1 "]),
+    ("empty", All, "a☃z", 1, ["0 ", "0 "]),
+    ("abc", All, "xyz", 2, ["", ""]),
+    ("abc", LeftmostFirst, "xyz", 2, ["", ""]),
+];
+
+// The patterns of the set after the search, each with a blank behind it.
+fn set_text(
+    rt: &impl Abort,
+    alloc: Global,
+    vm: &PikeVM,
+    cache: &mut Cache,
+    input: &Input<'_>,
+    set: &mut PatternSet,
+) -> Result<String, Fail> {
+    assert!(rt; cache.fits(vm));
+    vm.which_overlapping_matches(cache, input, set);
+    let mut text = String::new(alloc);
+    for pattern in set.iter() {
+        write!(text, "{} ", pattern.as_usize())?;
+    }
+    Ok(text)
+}
+
+#[test]
+fn an_empty_set_gains_what_matches(rt: HostRuntime) -> Result<(), Fail> {
+    let alloc = rt.alloc();
+    for &(name, kind, haystack, capacity, wants) in GAINED {
+        let vm = of_kind(alloc, name, kind)?;
+        let mut cache = vm.create_cache(alloc)?;
+        for (earliest, want) in [false, true].iter().zip(wants.iter()) {
+            let mut set = PatternSet::new(alloc, capacity)?;
+            let input = Input::new(haystack.as_bytes()).earliest(*earliest);
+            let text = set_text(&rt, alloc, &vm, &mut cache, &input, &mut set)?;
+            assert_eq!(rt; text.as_str(), *want, "{name} on {haystack:?} {earliest}");
+        }
+    }
+    Ok(())
+}
+
+#[test]
+fn a_set_loses_nothing(rt: HostRuntime) -> Result<(), Fail> {
+    let alloc = rt.alloc();
+    for &(kind, want) in &[(LeftmostFirst, "1 "), (All, "0 1 ")] {
+        let vm = of_kind(alloc, "ab_abc", kind)?;
+        let mut cache = vm.create_cache(alloc)?;
+        let mut set = PatternSet::new(alloc, 2)?;
+        let second = PatternID::new(1).ok_or("too great a number")?;
+        assert_eq!(rt; set.try_insert(second), Some(true));
+        let text = set_text(&rt, alloc, &vm, &mut cache, &Input::new(b"abc"), &mut set)?;
+        assert_eq!(rt; text.as_str(), want, "{kind:?}");
+    }
+    Ok(())
+}
+
+// A name, a haystack, a span, whether the search is anchored, and the patterns that an empty set gains under `All`.
+const GAINED_IN_SPAN: &[(&str, &str, usize, usize, bool, &str)] = &[
+    ("abc_b", "abx", 0, 3, true, ""),
+    ("abc_b", "abx", 0, 3, false, "1 "),
+    ("empty", "☃", 1, 3, false, "0 "),
+    ("empty", "☃", 1, 2, false, ""),
+    ("empty", "☃", 1, 3, true, ""),
+];
+
+#[test]
+fn an_empty_set_gains_what_matches_in_a_span(rt: HostRuntime) -> Result<(), Fail> {
+    let alloc = rt.alloc();
+    for &(name, haystack, start, end, anchored, want) in GAINED_IN_SPAN {
+        let vm = of_kind(alloc, name, All)?;
+        let mut cache = vm.create_cache(alloc)?;
+        let mut set = PatternSet::new(alloc, 2)?;
+        let mode = if anchored {
+            Anchored::Yes
+        } else {
+            Anchored::No
+        };
+        let input = input_in(&rt, haystack.as_bytes(), start, end).anchored(mode);
+        let text = set_text(&rt, alloc, &vm, &mut cache, &input, &mut set)?;
+        assert_eq!(rt;
+            text.as_str(),
+            want,
+            "{name} on {haystack:?} from {start} to {end}"
+        );
+    }
+    Ok(())
+}

@@ -1,0 +1,105 @@
+ghost use Rattle.std.specs.Prelude.{◌≡◌, ◌++◌, ◌+◌, ◌-◌, ◌<◌, ◌≤◌, Some, None, length, replicate, option_map};
+ghost use Rattle.std.specs.Option.{SomeIff};
+ghost use Rattle.regex_search_core.specs.Found.{found_of};
+ghost use Rattle.regex_search_core.specs.Patterns.{number_of};
+ghost use Rattle.regex_search_core.specs.Slots.{match_of, offset_at};
+
+use regex_search_core::{Match, NonMaxUsize, PatternID, Span};
+use std::marker::Model;
+
+/// A slot of a row, in eight bytes, where an `Option` takes sixteen: the greatest `usize` stands for none.
+///
+/// A contract sees it as the offset, if there is one.
+#[derive(Clone, Copy, Debug)]
+pub struct Slot(usize);
+
+impl Model for Slot {
+    ghost use Rattle.std.specs.Prelude.{ℕ, Option};
+    ghost use Rattle.nfa_pikevm.specs.Rows.{slot_of, raw_of};
+
+    ghost Value = { Option ℕ };
+
+    ghost view = { λ s. slot_of s.0 };
+
+    ghost inverse = { λ o. record { 0 = raw_of o } };
+}
+
+impl Slot {
+    /// No offset.
+    #[inline(always)]
+    pub fn unset() -> Slot
+        ensures { result ≡ None }
+    {
+        Slot(usize::MAX)
+    }
+
+    /// This offset. None for the greatest `usize`.
+    #[inline(always)]
+    pub fn new(offset: usize) -> Slot
+        ensures { SomeIff result (offset < usize.MAX) offset }
+    {
+        Slot(offset)
+    }
+
+    /// What the slot holds.
+    #[inline(always)]
+    pub fn get(self) -> Option<NonMaxUsize>
+        ensures { result ≡ self }
+    {
+        NonMaxUsize::new(self.0)
+    }
+}
+
+/// Copies a row. Rows are a few slots long, mostly two: the start and the end of a match.
+#[inline(always)]
+pub fn copy_row(to: &mut [Slot], from: &[Slot])
+    requires { length to.old ≡ length from.now }
+    ensures { to.new ≡ from.now }
+{
+    if from.len() == 2 {
+        to[0] = from[0];
+        to[1] = from[1];
+        return;
+    }
+    for i in 0..from.len() {
+        to[i] = from[i];
+    }
+}
+
+/// Takes the offset of every slot away.
+fn clear(slots: &mut [Option<NonMaxUsize>])
+    ensures { slots.new ≡ replicate (length slots.old) None }
+{
+    slots.fill(None);
+}
+
+/// Gives the slots what the row holds, and those past it no offset.
+pub fn hand_out(row: &[Slot], slots: &mut [Option<NonMaxUsize>])
+    requires { length row.now ≤ length slots.old }
+    ensures { slots.new ≡ row.now ++ replicate (length slots.old - length row.now) None }
+{
+    clear(slots);
+    for i in 0..row.len() {
+        slots[i] = row[i].get();
+    }
+}
+
+/// The offset in this slot of the row, if there is one.
+fn offset_in(row: &[Slot], slot: usize) -> Option<usize>
+    ensures { result ≡ offset_at row.now slot }
+{
+    Some(row.get(slot)?.get()?.get())
+}
+
+/// The match of the pattern whose start and end the row holds, if it holds both, in order.
+pub fn match_in(pattern: PatternID, row: &[Slot]) -> Option<Match>
+    ensures { option_map found_of result ≡ match_of (Some (number_of pattern)) row.now }
+{
+    let slot = pattern.as_usize() * 2;
+    let start = offset_in(row, slot)?;
+    let end = offset_in(row, slot + 1)?;
+    if start > end {
+        return None;
+    }
+    Some(Match::new(pattern, Span { start, end }))
+}
