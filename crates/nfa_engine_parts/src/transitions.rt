@@ -36,7 +36,8 @@ pub fn sparse_target(transitions: &[Transition], byte: Option<u8>) -> Option<Sta
 {
     let byte = byte?;
     for trans in transitions {
-        if trans.start <= byte && byte <= trans.end {
+        // Ranges mostly ascend: those that end before the byte are then passed over by one test.
+        if byte <= trans.end && trans.start <= byte {
             return Some(trans.next);
         }
     }

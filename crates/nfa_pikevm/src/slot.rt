@@ -50,19 +50,24 @@ impl Slot {
     }
 }
 
-/// Copies a row. Rows are a few slots long, mostly two: the start and the end of a match.
+/// Copies a row. Of most searches it has two slots or four: those of the match of one pattern, or of two.
 #[inline(always)]
 pub fn copy_row(to: &mut [Slot], from: &[Slot])
     requires { length to.old ≡ length from.now }
     ensures { to.new ≡ from.now }
 {
-    if from.len() == 2 {
-        to[0] = from[0];
-        to[1] = from[1];
-        return;
-    }
-    for i in 0..from.len() {
-        to[i] = from[i];
+    match from.len() {
+        2 => {
+            to[0] = from[0];
+            to[1] = from[1];
+        }
+        4 => {
+            to[0] = from[0];
+            to[1] = from[1];
+            to[2] = from[2];
+            to[3] = from[3];
+        }
+        _ => to.copy_from_slice(from),
     }
 }
 
