@@ -6,3 +6,4 @@ pub mod UnwindLemmas
 pub mod ScanLemmas
 pub mod EngineLemmas
 pub mod FindLemmas
+pub mod LawLemmas

@@ -1,10 +1,11 @@
 -- Laws that users of the searches rely on, over the definitions alone.
-use Rattle.std.specs.Prelude.{◌≡◌, ℕ, ◌⊎◌, Bool, false, List, Option, is_some}
+use Rattle.std.specs.Prelude.{◌≡◌, ℕ, ◌⊎◌, ◌-◌, ◌≤◌, Bool, false, List, Option, None, is_some, length, take, drop, replicate}
+use Rattle.regex_search_core.specs.Groups.{slot_count}
 use Rattle.regex_search_core.specs.Search.{Search}
 use Rattle.regex_search_core.specs.declared.search.MatchKind.{MatchKind}
-use Rattle.thompson_nfa.specs.Automaton.{Automaton}
+use Rattle.thompson_nfa.specs.Automaton.{Automaton, IsAutomaton}
 use Rattle.nfa_search_base.specs.Graphs.{Pair, PathTo, ComesBefore}
-use Rattle.nfa_search_base.specs.Paths.{edges, starts, IsMatch, is_utf8_empty, IsScanAnswer, IsSearchAnswer}
+use Rattle.nfa_search_base.specs.Paths.{edges, starts, IsMatch, is_utf8_empty, IsScanAnswer, IsSearchAnswer, IsAnswer}
 
 -- two answers of one scan are one
 abbrev pub OneScanAnswer : Type 0
@@ -54,3 +55,22 @@ SearchesAgree =
     (nfa : Automaton) (x : Search) → is_utf8_empty nfa ≡ false
     → (kind other : MatchKind) (earliest sooner : Bool) (i j : ℕ) (r s : Option (List Pair))
     → IsSearchAnswer nfa kind earliest x i r → IsSearchAnswer nfa other sooner x j s → is_some r ≡ is_some s
+
+-- two answers of one search with as many slots are one
+abbrev pub AnswersAgree : Type 0
+AnswersAgree =
+    (nfa : Automaton) (x : Search) (kind : MatchKind) (earliest : Bool) (p q : Option ℕ) (s t : List (Option ℕ))
+    → IsAnswer nfa kind earliest x p s → IsAnswer nfa kind earliest x q t → length s ≡ length t → (p ≡ q) × (s ≡ t)
+
+-- of two answers of one search, the one with fewer slots has the first ones of the other
+abbrev pub FewerSlots : Type 0
+FewerSlots =
+    (nfa : Automaton) (x : Search) (kind : MatchKind) (earliest : Bool) (p q : Option ℕ) (s t : List (Option ℕ))
+    → IsAnswer nfa kind earliest x p s → IsAnswer nfa kind earliest x q t → length s ≤ length t → (p ≡ q) × (s ≡ take (length s) t)
+
+-- the slots of an answer past those of the NFA are none
+abbrev pub SlotsPastAreNone : Type 0
+SlotsPastAreNone =
+    (nfa : Automaton) (x : Search) (kind : MatchKind) (earliest : Bool) (p : Option ℕ) (s : List (Option ℕ))
+    → IsAutomaton nfa → IsAnswer nfa kind earliest x p s → slot_count nfa.groups ≤ length s
+    → drop (slot_count nfa.groups) s ≡ replicate (length s - slot_count nfa.groups) None

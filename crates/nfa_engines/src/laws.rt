@@ -1,5 +1,5 @@
 //! Laws over the definitions alone. Each function is empty: its contract is the theorem.
-ghost use Rattle.nfa_engines.specs.Laws.{EveryScanHasAnAnswer, EverySearchHasAnAnswer, OneScanAnswer, OneSearchAnswer, PathsAreOrdered, PathsAreOrderedOnce, ScansAgree, SearchesAgree};
+ghost use Rattle.nfa_engines.specs.Laws.{AnswersAgree, EveryScanHasAnAnswer, EverySearchHasAnAnswer, FewerSlots, OneScanAnswer, OneSearchAnswer, PathsAreOrdered, PathsAreOrderedOnce, ScansAgree, SearchesAgree, SlotsPastAreNone};
 
 /// A scan has one answer at most, of each match kind and `earliest`.
 pub fn one_scan_answer()
@@ -32,4 +32,16 @@ pub fn every_search_has_an_answer()
 pub fn is_match_agrees()
     ensures scans { ScansAgree }
     ensures searches { SearchesAgree }
+{}
+
+/// A search has one pattern and one row of slots. So the two engines, which both answer with those of the search's answer, agree
+/// wherever the backtracker answers.
+pub fn engines_agree()
+    ensures { AnswersAgree }
+{}
+
+/// Fewer slots are the first ones of the same answer, and slots past those of the NFA are none.
+pub fn fewer_slots()
+    ensures first { FewerSlots }
+    ensures past { SlotsPastAreNone }
 {}

@@ -7,7 +7,7 @@ use Rattle.thompson_nfa.specs.Automaton.{Automaton}
 use Rattle.nfa_search_base.specs.Exploring.{Slots}
 use Rattle.nfa_search_base.specs.Paths.{is_utf8_empty, IsAnswer, IsFoundAnswer, IsWork}
 use Rattle.nfa_search_base.proofs.EarliestLemmas.{search_answer-asked, found_answer-earliest}
-use Rattle.nfa_pikevm.proofs.EngineLemmas.{found-of}
+use Rattle.nfa_search_base.proofs.PatternLemmas.{found-of}
 
 module _ (nfa : Automaton) (kind : MatchKind) (x y : Search) (e : Bool) (is_e : e ≡ not (is_utf8_empty nfa)) (is_y : y ≡ record x { earliest = e }) where
   -- the work for the answer

@@ -67,8 +67,17 @@ pub fn copy_row(to: &mut [Slot], from: &[Slot])
             to[2] = from[2];
             to[3] = from[3];
         }
-        _ => to.copy_from_slice(from),
+        _ => copy_long_row(to, from),
     }
+}
+
+/// Copies a row of any length.
+#[inline(never)]
+fn copy_long_row(to: &mut [Slot], from: &[Slot])
+    requires { length to.old ≡ length from.now }
+    ensures { to.new ≡ from.now }
+{
+    to.copy_from_slice(from);
 }
 
 /// Takes the offset of every slot away.

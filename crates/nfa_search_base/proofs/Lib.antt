@@ -23,3 +23,4 @@ pub mod TurnLemmas
 pub mod UpToLemmas
 pub mod WalkLemmas
 pub mod OverlapLemmas
+pub mod PatternLemmas
