@@ -34,8 +34,8 @@ pub fn is_match_agrees()
     ensures searches { SearchesAgree }
 {}
 
-/// A search has one pattern and one row of slots. So the two engines, which both answer with those of the search's answer, agree
-/// wherever the backtracker answers.
+/// A search has one pattern and one row of slots. So a PikeVM that is asked for the leftmost first match, and not for the earliest,
+/// agrees with the backtracker wherever that one answers.
 pub fn engines_agree()
     ensures { AnswersAgree }
 {}
