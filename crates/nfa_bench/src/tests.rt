@@ -1,97 +1,129 @@
-mod caches;
-mod callers;
-mod calls;
-mod engines;
-mod grid;
-mod iteration;
-mod lengths;
-mod pike;
-mod program;
-mod refusals;
-mod searches;
-mod sets;
-mod texts;
-
-use nfa_engines::backtrack::{BoundedBacktracker, Builder, Cache, Config};
-use nfa_engines::pikevm::PikeVM;
-use nfa_samples::sample;
-use regex_search_core::{Input, Match, NonMaxUsize};
-use std::alloc::Global;
+use crate::run::run;
+use std::io;
+use std::io::Write;
 use std::test::Fail;
 
-// The matches of `words_numbers` in `abc 1 foo 4567 0 quux`: each one's pattern, start and end.
-const WORDS_AND_NUMBERS: [(usize, usize, usize); 6] = [
-    (0, 0, 3),
-    (1, 4, 5),
-    (0, 6, 9),
-    (1, 10, 14),
-    (1, 15, 16),
-    (0, 17, 21),
-];
+const USAGE: &str = "usage: nfa-bench back|pike NAME HAYSTACK\n";
 
-fn parts(found: Match) -> (usize, usize, usize) {
-    (found.pattern().as_usize(), found.start(), found.end())
-}
-
-fn backtracker(alloc: Global, name: &str) -> Result<BoundedBacktracker, Fail> {
-    let nfa = sample(alloc, name)?.ok_or("unknown name")?;
-    Ok(BoundedBacktracker::new_from_nfa(nfa)?)
-}
-
-fn pikevm(alloc: Global, name: &str) -> Result<PikeVM, Fail> {
-    let nfa = sample(alloc, name)?.ok_or("unknown name")?;
-    Ok(PikeVM::new_from_nfa(nfa)?)
-}
-
-fn both(alloc: Global, name: &str) -> Result<(BoundedBacktracker, PikeVM), Fail> {
-    Ok((backtracker(alloc, name)?, pikevm(alloc, name)?))
-}
-
-fn with_capacity(alloc: Global, name: &str, bytes: usize) -> Result<BoundedBacktracker, Fail> {
-    let nfa = sample(alloc, name)?.ok_or("unknown name")?;
-    let mut builder = Builder::new();
-    builder.configure(Config::new().visited_capacity(bytes));
-    Ok(builder.build_from_nfa(nfa)?)
-}
-
-// What `try_search_slots` answers and leaves in slots that held 7 before: the pattern, `none` or the
-// error, and then each slot, which is `-` where it is None.
-fn slots_text(
-    alloc: Global,
-    engine: &BoundedBacktracker,
-    cache: &mut Cache,
-    input: &Input<'_>,
-    slot_len: usize,
-) -> Result<String, Fail> {
-    let mut slots = vec![in alloc; NonMaxUsize::new(7); slot_len]?;
-    let mut text = match engine.try_search_slots(cache, input, &mut slots) {
-        Ok(Some(pattern)) => format!(in alloc; "{}", pattern.as_usize())?,
-        Ok(None) => String::from_str(alloc, "none")?,
-        Err(error) => format!(in alloc; "{error:?}")?,
-    };
-    for slot in &slots {
-        match slot {
-            Some(offset) => write!(text, " {}", offset.get())?,
-            None => text.push_str(" -")?,
+#[test]
+fn prints_the_match_and_the_end(rt: HostRuntime) -> Result<(), Fail> {
+    let alloc = rt.alloc();
+    for &(name, haystack, want) in &[
+        ("abc_a", "abc", "0 0..3\nend\n"),
+        ("abc_a", "abcab", "0 0..3\n0 3..4\nend\n"),
+        ("abc_a", "xyz", "end\n"),
+        ("a_or_empty", "", "0 0..0\nend\n"),
+        ("a_pair", "a", "end\n"),
+        ("empty", "a☃z", "0 0..0\n0 1..1\n0 4..4\n0 5..5\nend\n"),
+        ("snowman", "a☃b", "0 1..4\nend\n"),
+        ("ab_b", "xb", "1 1..2\nend\n"),
+    ] {
+        for engine in ["back", "pike"] {
+            let mut out = Vec::new(alloc);
+            let status = run(alloc, &[engine, name, haystack], &mut out);
+            assert_eq!(rt; out.as_slice(), want.as_bytes(), "{name} on {haystack}");
+            assert_eq!(rt; status, 0, "{name} on {haystack}");
         }
     }
-    Ok(text)
+    Ok(())
 }
 
-// What `try_find` answers: the pattern and the span, `none` or the error.
-fn found_text(
-    alloc: Global,
-    engine: &BoundedBacktracker,
-    cache: &mut Cache,
-    input: Input<'_>,
-) -> Result<String, Fail> {
-    let text = match engine.try_find(cache, input) {
-        Ok(Some(found)) => {
-            let pattern = found.pattern().as_usize();
-            format!(in alloc; "{pattern} {}..{}", found.start(), found.end())
+#[test]
+fn says_why_it_does_not_search(rt: HostRuntime) -> Result<(), Fail> {
+    let alloc = rt.alloc();
+    let words = ["back", "abc_a", "abc", "abc"];
+    for count in [0, 1, 2, 4] {
+        let mut out = Vec::new(alloc);
+        assert_eq!(rt; run(alloc, &words[..count], &mut out), 2, "{count} words");
+        assert_eq!(rt; out.as_slice(), USAGE.as_bytes(), "{count} words");
+    }
+    for &(engine, name, want) in &[
+        ("both", "abc_a", USAGE),
+        ("both", "nothing", USAGE),
+        ("back", "nothing", "unknown name\n"),
+        ("pike", "nothing", "unknown name\n"),
+        ("back", "", "unknown name\n"),
+    ] {
+        let mut out = Vec::new(alloc);
+        assert_eq!(rt;
+            run(alloc, &[engine, name, "x"], &mut out),
+            2,
+            "{engine} {name}"
+        );
+        assert_eq!(rt; out.as_slice(), want.as_bytes(), "{engine} {name}");
+    }
+    Ok(())
+}
+
+#[test]
+fn says_which_length_is_too_long(rt: HostRuntime) -> Result<(), Fail> {
+    let alloc = rt.alloc();
+    for &(len, want, status) in &[
+        (19971, "end\n", 0),
+        (19972, "haystack too long: 19972\n", 1),
+    ] {
+        let dots = ".".repeat(alloc, len)?;
+        let mut out = Vec::new(alloc);
+        assert_eq!(rt;
+            run(alloc, &["back", "alnum100", dots.as_str()], &mut out),
+            status
+        );
+        assert_eq!(rt; out.as_slice(), want.as_bytes());
+    }
+    Ok(())
+}
+
+// Takes so many writes, and refuses each one after them.
+#[derive(Drop)]
+struct Refusing {
+    written: Vec<u8>,
+    left: usize,
+    refused: usize,
+}
+
+impl Write for Refusing {
+    fn write(&mut self, buf: &[u8]) -> io::Result<usize> {
+        if self.left == 0 {
+            self.refused = self.refused.saturating_add(1);
+            return Err(io::Error::from(io::ErrorKind::BrokenPipe));
         }
-        Ok(None) => String::from_str(alloc, "none"),
-        Err(error) => format!(in alloc; "{error:?}"),
-    };
-    Ok(text?)
+        self.left -= 1;
+        self.written.extend_from_slice(buf)?;
+        Ok(buf.len())
+    }
+
+    fn flush(&mut self) -> io::Result<()> {
+        Ok(())
+    }
+}
+
+#[test]
+fn writes_nothing_after_a_write_that_failed(rt: HostRuntime) -> Result<(), Fail> {
+    let alloc = rt.alloc();
+    for &(name, whole, status) in &[
+        ("abc_a", "0 0..3\nend\n", 0),
+        ("nothing", "unknown name\n", 2),
+    ] {
+        let mut taken_all = false;
+        for left in 0..20 {
+            let mut out = Refusing {
+                written: Vec::new(alloc),
+                left,
+                refused: 0,
+            };
+            let ended = run(alloc, &["back", name, "abc"], &mut out);
+            if out.refused == 0 {
+                assert_eq!(rt; out.written.as_slice(), whole.as_bytes());
+                assert_eq!(rt; ended, status);
+                taken_all = true;
+            } else {
+                assert!(rt; out.written.len() < whole.len());
+                assert!(rt; whole.as_bytes().starts_with(&out.written));
+                assert_eq!(rt; out.refused, 1);
+                assert_eq!(rt; ended, 1);
+            }
+        }
+        assert!(rt; taken_all);
+    }
+    Ok(())
 }

@@ -1,6 +1,7 @@
 //! Sample NFAs by name, for tests and for trying the engines out.
 #![tactic(auto)]
 
+pub mod answers;
 mod draft;
 mod tables;
 #[cfg(test)]

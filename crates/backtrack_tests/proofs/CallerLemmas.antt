@@ -12,7 +12,7 @@ use Rattle.nfa_engines.specs.Backtrack.{Backtracker}
 use Rattle.nfa_engines.specs.FindMatches.{find_steps, FindsAll}
 use Rattle.nfa_engines.specs.Finding.{GivesMatches, all_matches}
 use Rattle.nfa_engines.specs.declared.backtrack.find_iter.TryFindMatches.{TryFindMatches}
-use Rattle.nfa_bench.specs.Callers.{AreAllOf}
+use Rattle.backtrack_tests.specs.Callers.{AreAllOf}
 
 -- the law of an iterator over the matches of x
 abbrev pub HasLaw : Backtracker → Search → TryFindMatches → Type 0

@@ -1,43 +1,12 @@
 use super::{WORDS_AND_NUMBERS, backtracker, parts, with_capacity};
 use nfa_engines::backtrack::{BoundedBacktracker, Cache, TryFindMatches};
 use nfa_engines::error::SearchError;
+use nfa_samples::answers::ALL;
 use nfa_samples::sample;
 use regex_search_core::Input;
 use std::alloc::Global;
 use std::process::Abort;
 use std::test::Fail;
-
-// A name, a haystack, and all matches.
-pub const ALL: &[(&str, &[u8], &str)] = &[
-    ("a_or_empty", b"abba", "0 0..1, 0 2..2, 0 3..4, "),
-    ("a_or_empty", b"\x80a", "0 1..2, "),
-    ("a_or_empty", b"a\x80", "0 2..2, "),
-    (
-        "empty",
-        b"a\xE2\x98\x83z",
-        "0 0..0, 0 1..1, 0 4..4, 0 5..5, ",
-    ),
-    ("empty", b"\x80\x80", "0 2..2, "),
-    (
-        "empty_bytes",
-        b"a\xE2\x98\x83z",
-        "0 0..0, 0 1..1, 0 2..2, 0 3..3, 0 4..4, 0 5..5, ",
-    ),
-    ("empty_or_a", b"a", "0 0..0, 0 1..1, "),
-    ("loop", b"aa", "0 0..0, 0 1..1, 0 2..2, "),
-    (
-        "words_numbers",
-        b"abc 1 foo 4567 0 quux",
-        "0 0..3, 1 4..5, 0 6..9, 1 10..14, 1 15..16, 0 17..21, ",
-    ),
-    (
-        "foo_num",
-        b"foo1 foo12 foo123",
-        "0 0..4, 0 5..10, 0 11..17, ",
-    ),
-    ("a_bare", b"a", ""),
-    ("backwards", b"a", ""),
-];
 
 // The items, each with a comma behind it: the pattern and the span, or the error.
 fn items_text(

@@ -4,7 +4,7 @@ ghost use Rattle.regex_search_core.specs.Search.{search_of, whole};
 ghost use Rattle.nfa_search_base.specs.Finders.{answer_by, match_place, half_place};
 ghost use Rattle.nfa_search_base.specs.Items.{item_by, greedy};
 ghost use Rattle.nfa_search_base.specs.Walks.{fresh, span_of, LiesIn};
-ghost use Rattle.nfa_bench.specs.Callers.{AreAllOf, piece_answer};
+ghost use Rattle.backtrack_tests.specs.Callers.{AreAllOf, piece_answer};
 
 use super::{WORDS_AND_NUMBERS, backtracker, parts, with_capacity};
 use nfa_engines::backtrack::{BoundedBacktracker, Cache};

@@ -1,6 +1,7 @@
-use super::{backtracker, pikevm};
+use super::pikevm;
 use nfa_engines::backtrack::{self, BoundedBacktracker};
 use nfa_engines::pikevm::{self, PikeVM};
+use nfa_samples::sample;
 use regex_search_core::{Anchored, Input, NonMaxUsize, PatternID};
 use std::alloc::Global;
 use std::process::Abort;
@@ -82,7 +83,8 @@ struct Both {
 
 impl Both {
     fn new(alloc: Global, name: &str) -> Result<Both, Fail> {
-        let backtracker = backtracker(alloc, name)?;
+        let nfa = sample(alloc, name)?.ok_or("unknown name")?;
+        let backtracker = BoundedBacktracker::new_from_nfa(nfa)?;
         let vm = pikevm(alloc, name)?;
         let slot_len = vm.get_nfa().group_info().slot_len();
         Ok(Both {

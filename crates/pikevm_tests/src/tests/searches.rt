@@ -1,56 +1,11 @@
-use super::iteration::ALL;
-use super::pikevm;
-use super::searches::{FOUND, FOUND_IN_SPAN, input_in};
+use super::{found_text, input_in, of_kind, pikevm, slots_text};
 use nfa_engines::pikevm::{Cache, Config, PikeVM};
+use nfa_samples::answers::{ALL, FOUND, FOUND_IN_SPAN, OF_ONE_PATTERN, OF_SLOT_LENS, SLOTS};
 use nfa_samples::sample;
-use regex_search_core::{Anchored, Input, MatchKind, NonMaxUsize, PatternID};
+use regex_search_core::{Anchored, Input, MatchKind, PatternID};
 use std::alloc::Global;
 use std::process::Abort;
 use std::test::Fail;
-
-// What `search_slots` answers and leaves in slots that held 7 before: the pattern or `none`, and then each slot, which
-// is `-` where it is None.
-pub fn slots_text(
-    rt: &impl Abort,
-    alloc: Global,
-    vm: &PikeVM,
-    cache: &mut Cache,
-    input: &Input<'_>,
-    slot_len: usize,
-) -> Result<String, Fail> {
-    let mut slots = vec![in alloc; NonMaxUsize::new(7); slot_len]?;
-    assert!(rt; cache.fits(vm));
-    let mut text = match vm.search_slots(cache, input, &mut slots) {
-        Some(pattern) => format!(in alloc; "{}", pattern.as_usize())?,
-        None => String::from_str(alloc, "none")?,
-    };
-    for slot in &slots {
-        match slot {
-            Some(offset) => write!(text, " {}", offset.get())?,
-            None => text.push_str(" -")?,
-        }
-    }
-    Ok(text)
-}
-
-// What `find` answers: the pattern and the span, or `none`.
-pub fn found_text(
-    rt: &impl Abort,
-    alloc: Global,
-    vm: &PikeVM,
-    cache: &mut Cache,
-    input: Input<'_>,
-) -> Result<String, Fail> {
-    assert!(rt; cache.fits(vm));
-    let text = match vm.find(cache, input) {
-        Some(found) => {
-            let pattern = found.pattern().as_usize();
-            format!(in alloc; "{pattern} {}..{}", found.start(), found.end())
-        }
-        None => String::from_str(alloc, "none"),
-    };
-    Ok(text?)
-}
 
 // Whether `is_match` finds a match.
 fn is_match(rt: &impl Abort, vm: &PikeVM, cache: &mut Cache, input: Input<'_>) -> bool {
@@ -58,11 +13,28 @@ fn is_match(rt: &impl Abort, vm: &PikeVM, cache: &mut Cache, input: Input<'_>) -
     vm.is_match(cache, input)
 }
 
-pub fn of_kind(alloc: Global, name: &str, kind: MatchKind) -> Result<PikeVM, Fail> {
-    let nfa = sample(alloc, name)?.ok_or("unknown name")?;
-    let mut builder = PikeVM::builder();
-    builder.configure(Config::new().match_kind(kind));
-    Ok(builder.build_from_nfa(nfa)?)
+fn expect_slots(
+    rt: &impl Abort,
+    alloc: Global,
+    name: &str,
+    haystack: &str,
+    want: &str,
+) -> Result<(), Fail> {
+    let vm = pikevm(alloc, name)?;
+    let slot_len = vm.get_nfa().group_info().slot_len();
+    let mut cache = vm.create_cache(alloc)?;
+    let input = Input::new(haystack.as_bytes());
+    let text = slots_text(rt, alloc, &vm, &mut cache, &input, slot_len)?;
+    assert_eq!(rt; text.as_str(), want, "{name} on {haystack:?}");
+    Ok(())
+}
+
+#[test]
+fn fills_the_slots_of_each_sample(rt: HostRuntime) -> Result<(), Fail> {
+    for &(name, haystack, want) in SLOTS {
+        expect_slots(&rt, rt.alloc(), name, haystack, want)?;
+    }
+    Ok(())
 }
 
 #[test]
@@ -157,27 +129,13 @@ fn takes_any_number_of_slots(rt: HostRuntime) -> Result<(), Fail> {
     let alloc = rt.alloc();
     let vm = pikevm(alloc, "abc")?;
     let mut cache = vm.create_cache(alloc)?;
-    for &(haystack, slot_len, want) in &[
-        ("abc", 0, "0"),
-        ("abc", 1, "0 0"),
-        ("abc", 4, "0 0 3 - -"),
-        ("abc", 10, "0 0 3 - - - - - - - -"),
-        ("abx", 4, "none - - - -"),
-    ] {
+    for &(haystack, slot_len, want) in OF_SLOT_LENS {
         let input = Input::new(haystack.as_bytes()).anchored(Anchored::Yes);
         let text = slots_text(&rt, alloc, &vm, &mut cache, &input, slot_len)?;
         assert_eq!(rt; text.as_str(), want, "{slot_len} slots on {haystack}");
     }
     Ok(())
 }
-
-// A name, a haystack, a pattern, and what an anchored search for it answers.
-const ONE_PATTERN: &[(&str, &str, usize, &str)] = &[
-    ("six", "foo123", 0, "0 0 6 - -"),
-    ("six", "foo123", 1, "1 - - 0 6"),
-    ("six", "1oo123", 1, "none - - - -"),
-    ("abc", "abc", 5, "none - - - -"),
-];
 
 fn expect_of_pattern(
     rt: &impl Abort,
@@ -198,7 +156,7 @@ fn expect_of_pattern(
 
 #[test]
 fn searches_for_one_pattern(rt: HostRuntime) -> Result<(), Fail> {
-    for &(name, haystack, pattern, want) in ONE_PATTERN {
+    for &(name, haystack, pattern, want) in OF_ONE_PATTERN {
         expect_of_pattern(&rt, rt.alloc(), name, haystack, pattern, want)?;
     }
     Ok(())

@@ -1,5 +1,5 @@
 use Rattle.std.proofs.Common.{◌≡◌}
-use Rattle.nfa_bench.proofs.tests.callers.looped.Given as goal
+use Rattle.backtrack_tests.proofs.tests.callers.looped.Given as goal
 
 abbrev pub invariant-loop-item : goal.invariant-loop-item
 invariant-loop-item l = l.found.items ≡ l.yielded

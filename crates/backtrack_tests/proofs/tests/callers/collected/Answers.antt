@@ -1,7 +1,7 @@
 use Rattle.std.proofs.Common.{subst}
 use Rattle.regex_search_core.specs.Search.{Search, whole}
-use Rattle.nfa_bench.proofs.CallerLemmas.{HasLaw, all-from_collect}
-use Rattle.nfa_bench.proofs.tests.callers.collected.Goals as goal
+use Rattle.backtrack_tests.proofs.CallerLemmas.{HasLaw, all-from_collect}
+use Rattle.backtrack_tests.proofs.tests.callers.collected.Goals as goal
 
 pub returns : goal.returns
 returns c =

@@ -1,5 +1,4 @@
-use super::pike::found_text;
-use super::pikevm;
+use super::{found_text, pikevm};
 use nfa_engines::error::SearchError;
 use nfa_engines::pikevm::{Cache, PikeVM};
 use nfa_samples::sample;

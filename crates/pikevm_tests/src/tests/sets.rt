@@ -1,5 +1,4 @@
-use super::pike::of_kind;
-use super::searches::input_in;
+use super::{input_in, of_kind};
 use nfa_engines::pikevm::{Cache, PikeVM};
 use regex_search_core::MatchKind::{All, LeftmostFirst};
 use regex_search_core::{Anchored, Input, MatchKind, PatternID, PatternSet};

@@ -6,8 +6,8 @@ use Rattle.nfa_search_base.specs.Finders.{answer_by}
 use Rattle.nfa_search_base.specs.Items.{item_by, greedy}
 use Rattle.nfa_search_base.specs.Walks.{Walk, fresh, span_of}
 use Rattle.nfa_search_base.proofs.AskingLemmas.{same_start-self, same_start-then, ServesAlong-by}
-use Rattle.nfa_bench.specs.Callers.{piece_answer}
-use Rattle.nfa_bench.proofs.tests.callers.pieces.Goals as goal
+use Rattle.backtrack_tests.specs.Callers.{piece_answer}
+use Rattle.backtrack_tests.proofs.tests.callers.pieces.Goals as goal
 
 pub returns : goal.returns
 returns c =
