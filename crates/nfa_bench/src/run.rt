@@ -87,8 +87,16 @@ fn print_piked<W: Write>(
 }
 
 fn print_match<W: Write>(out: &mut W, found: Match) -> io::Result<()> {
-    let pattern = found.pattern().as_usize();
-    writeln!(out, "{pattern} {}..{}", found.start(), found.end())
+    let mut digits = itoa::Buffer::new();
+    for (number, behind) in [
+        (found.pattern().as_usize(), " "),
+        (found.start(), ".."),
+        (found.end(), "\n"),
+    ] {
+        out.write_all(digits.format(number).as_bytes())?;
+        out.write_all(behind.as_bytes())?;
+    }
+    Ok(())
 }
 
 /// What searches.
