@@ -1,5 +1,6 @@
 ghost use Rattle.std.specs.Prelude.{◌≡◌, ◌*◌, ◌<◌, ◌≤◌, [], false, length, replicate, All, IfOk};
 ghost use Rattle.regex_search_core.specs.Search.{search_of};
+ghost use Rattle.nfa_search_base.specs.Paths.{byte_at};
 ghost use Rattle.nfa_pikevm.specs.Rows.{items_of};
 ghost use Rattle.nfa_pikevm.specs.States.{HasRoom, Crosses};
 ghost use Rattle.nfa_pikevm.specs.Scans.{HasThreads};
@@ -58,6 +59,7 @@ fn cross_states(
     nfa: &NFA,
     input: &Input<'_>,
     at: usize,
+    byte: Option<u8>,
     past_match: bool,
     kept: &[StateID],
     rows: &mut [Slot],
@@ -67,6 +69,7 @@ fn cross_states(
     slots: &mut [Slot],
 ) -> Option<PatternID>
     requires place { at ≤ (search_of input.now).end }
+    requires byte { byte ≡ byte_at (search_of input.now) at }
     requires states { All (λ s. s < length nfa.now.states) kept.now }
     requires room { HasRoom nfa.now seen.old.bits 0 (length frames.old) 0 next.old.places }
     requires clear { seen.old.bits ≡ replicate (length seen.old.bits) false }
@@ -78,7 +81,6 @@ fn cross_states(
     ensures same { next.new ≡ record next.old { items = next.new.items } }
     ensures crosses { Crosses nfa.now (search_of input.now) at past_match seen.old (items_of (length slots.old) kept.now rows.old) slots.old result seen.new next.new.items slots.new }
 {
-    let byte = byte_at(input, at);
     let width = slots.len();
     let mut hit = None;
     for i in 0..kept.len() {
@@ -133,18 +135,36 @@ pub fn cross(
         len,
         ..
     } = &mut *curr.parts;
-    cross_states(
-        nfa,
-        input,
-        at,
-        past_match,
-        &kept.as_slice()[..*len],
-        rows.as_mut_slice(),
-        frames.as_mut_slice(),
-        seen,
-        next,
-        slots,
-    )
+    let kept = &kept.as_slice()[..*len];
+    // A call each, so that the loop over the states does not ask at each one whether there is a byte.
+    match byte_at(input, at) {
+        Some(byte) => cross_states(
+            nfa,
+            input,
+            at,
+            Some(byte),
+            past_match,
+            kept,
+            rows.as_mut_slice(),
+            frames.as_mut_slice(),
+            seen,
+            next,
+            slots,
+        ),
+        None => cross_states(
+            nfa,
+            input,
+            at,
+            None,
+            past_match,
+            kept,
+            rows.as_mut_slice(),
+            frames.as_mut_slice(),
+            seen,
+            next,
+            slots,
+        ),
+    }
 }
 
 impl Threads {

@@ -7,3 +7,9 @@ cross_states-requires-clause-states c =
     let states = rw (← c.curr.view_is, ← c.deref_mut.ensures.value) at c.requires.states in
     let p = c.deref_mut.result.now in
     rw c.as_slice.ensures.value (states-below (length c.args.nfa.now.states) p.width _ p.rows.items states)
+
+pub cross_states-requires-in-None-clause-states : goal.cross_states-requires-in-None-clause-states
+cross_states-requires-in-None-clause-states c =
+    let states = rw (← c.curr.view_is, ← c.deref_mut.ensures.value) at c.requires.states in
+    let p = c.deref_mut.result.now in
+    rw c.as_slice.ensures.value (states-below (length c.args.nfa.now.states) p.width _ p.rows.items states)
