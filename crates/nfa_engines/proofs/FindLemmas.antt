@@ -1,5 +1,5 @@
 -- Whoever runs the iterator over a backtracker's matches to its end has all of them, up to a refusal.
-use Rattle.std.proofs.Common.{◌≡◌, ℕ, zero, suc, ◌+◌, ◌-◌, ◌*◌, ◌<◌, ◌≤◌, true, false, Bool, Option, None, Some, Result, Ok, Err, IfOk, List, [], ◌∷◌, length, map, refl, sym, ◌∙◌, ap, subst, ◌⊎◌, inl, inr, MatchBool, if◌then◌else◌, arith}
+use Rattle.std.proofs.Common.{◌≡◌, ℕ, zero, suc, ◌+◌, ◌*◌, ◌<◌, ◌≤◌, true, false, Bool, Option, None, Some, Result, Ok, Err, IfOk, List, [], ◌∷◌, length, map, refl, sym, ◌∙◌, ap, subst, ◌⊎◌, inl, inr, MatchBool, if◌then◌else◌, arith}
 use Rattle.std.specs.Option.{option_map, option_and_then}
 use Rattle.std.specs.Iterator.{Yields}
 use Rattle.std.proofs.Math.Nat.{mul-le-mul_left}
@@ -10,7 +10,6 @@ use Rattle.regex_search_core.specs.Slots.{match_of}
 use Rattle.regex_search_core.specs.declared.search.Match.{Match}
 use Rattle.regex_search_core.specs.declared.search.MatchKind.TheVariants.{LeftmostFirst}
 use Rattle.thompson_nfa.specs.Automaton.{Automaton}
-use Rattle.nfa_search_base.specs.Asking.{SameButStart}
 use Rattle.nfa_search_base.specs.Finders.{match_place}
 use Rattle.nfa_search_base.specs.Items.{Item, item_by, item_of, ends_with, items_left, step_answer, step_walk, items_from, items_within, greedy}
 use Rattle.nfa_search_base.specs.Paths.{span_len, slot_row, path_pattern, IsMatchAnswer}
@@ -23,7 +22,7 @@ use Rattle.nfa_search_base.proofs.InsideLemmas.{match-within}
 use Rattle.nfa_search_base.proofs.StepLemmas.{chosen, same_start-shifted}
 use Rattle.nfa_engines.specs.Backtrack.{Backtracker, IsTooLong}
 use Rattle.nfa_engines.specs.FindMatches.{TakesFindTurn, find_engine, find_walk, find_steps, FindsAll}
-use Rattle.nfa_engines.specs.Finding.{IsFindOf, Finds, GivesMatches, all_matches, UpToMemory, AreItems}
+use Rattle.nfa_engines.specs.Finding.{IsFindOf, Finds, GivesMatches, all_matches, UpToMemory}
 use Rattle.nfa_engines.specs.declared.backtrack.find_iter.TryFindMatches.{TryFindMatches}
 
 -- a match that is found lies in the span

@@ -1,6 +1,6 @@
 -- What follows for slots from a search having one answer.
 use Rattle.std.proofs.Common.{◌≡◌, ℕ, ◌+◌, ◌-◌, ◌≤◌, ◌∙◌, Bool, List, ◌++◌, length, take, drop, replicate, sym, ap, arith}
-use Rattle.std.specs.Prelude.{Option, None, Some, option_and_then}
+use Rattle.std.specs.Prelude.{Option, None, option_and_then}
 use Rattle.std.proofs.Math.Seq.{drop-append_seam}
 use Rattle.std.proofs.lemmas.List.{length-take-le}
 use Rattle.regex_search_core.specs.Groups.{slot_count}

@@ -1,20 +1,12 @@
 -- The starts that are passed over.
-use Rattle.std.proofs.Common.{◌≡◌, ℕ, suc, zero, ◌+◌, ◌-◌, ◌<◌, ◌≤◌, inl, inr, List, [], ◌∷◌, length, get_or, set, map, replicate, refl, ap, sym, ◌∙◌, arith, subst, below_more, get_or-set_other}
-use Rattle.std.specs.Prelude.{Option, Some, None, true, false, Bool, All, option_map, option_and_then, option_to_list, is_some, if◌then◌else◌}
-use Rattle.std.specs.List.{slice_get}
-use Rattle.std.proofs.Math.Decide.{ℕ_discrete}
-use Rattle.std.proofs.lemmas.Bool.{cases_lt, lt-ltb}
-use Rattle.std.proofs.lemmas.List.{get_or_default}
-use Rattle.std.proofs.lemmas.Option.{get_or_from_slice_get, slice_get-get_or}
+use Rattle.std.proofs.Common.{◌≡◌, ℕ, suc, zero, ◌+◌, ◌-◌, ◌<◌, ◌≤◌, inl, inr, List, ◌∷◌, map, sym, arith, subst}
+use Rattle.std.specs.Prelude.{Some, None, Bool}
+use Rattle.std.proofs.lemmas.Bool.{cases_lt}
 use Rattle.regex_search_core.specs.Search.{Search}
-use Rattle.thompson_nfa.specs.Automaton.{Automaton, Node}
-use Rattle.thompson_nfa.specs.Automaton.Node.{ByteRange, Sparse, Dense, Look, Union, BinaryUnion, Capture, Fail, Match}
-use Rattle.thompson_nfa.specs.Looks.{look_holds}
-use Rattle.thompson_nfa.specs.declared.state.Transition.{Transition}
-use Rattle.nfa_search_base.specs.Graphs.{Pair, In}
-use Rattle.nfa_search_base.specs.FirstPaths.{Path, IsFirst}
-use Rattle.nfa_search_base.specs.FirstPaths.Path.{stop, go}
-use Rattle.nfa_search_base.specs.Paths.{start_state, starts, pairs_from, node_at, pattern_of, edges, edges_of, is_match, capture, byte_at, target_on, first_target, holds_byte}
+use Rattle.thompson_nfa.specs.Automaton.{Automaton}
+use Rattle.nfa_search_base.specs.Graphs.{Pair}
+use Rattle.nfa_search_base.specs.FirstPaths.{IsFirst}
+use Rattle.nfa_search_base.specs.Paths.{start_state, starts, pairs_from, edges, is_match, capture}
 use Rattle.nfa_search_base.specs.Exploring.{Item, Slots, Answer}
 use Rattle.nfa_search_base.specs.Exploring.Item.{Explore}
 use Rattle.nfa_search_base.proofs.AnswerLemmas.{pairs_from-step, pairs_from-end}

@@ -1,7 +1,6 @@
 -- From what a walk comes to, to what a scan and a search answer.
-use Rattle.std.proofs.Common.{◌≡◌, ℕ, ◌+◌, ◌-◌, ◌*◌, ◌^◌, ◌<◌, ◌≤◌, ◌⊎◌, inl, inr, List, [], ◌∷◌, length, map, replicate, refl, ap, sym, ◌∙◌, arith, sum, subst}
-use Rattle.std.specs.Prelude.{Option, Some, None, Result, Ok, Err, IfOk, IfNone, true, false, Bool, IsTrue, option_map, option_and_then, ⊤}
-use Rattle.std.specs.Option.{option_map_or}
+use Rattle.std.proofs.Common.{◌≡◌, ℕ, ◌+◌, ◌-◌, ◌*◌, ◌^◌, ◌<◌, ◌≤◌, List, [], length, map, replicate, refl, ap, sym, ◌∙◌, arith, sum, subst}
+use Rattle.std.specs.Prelude.{Option, Some, None, Result, Ok, Err, IfOk, IfNone, true, false, Bool}
 use Rattle.std.proofs.Math.Nat.{mul-le-mul_left}
 use Rattle.regex_search_core.specs.Boundary.{IsBoundary}
 use Rattle.regex_search_core.specs.Found.{half_found_of}
@@ -10,9 +9,9 @@ use Rattle.regex_search_core.specs.declared.refused.Refused.{Refused}
 use Rattle.regex_search_core.specs.declared.search.HalfMatch.{HalfMatch}
 use Rattle.regex_search_core.specs.declared.search.MatchKind.TheVariants.{LeftmostFirst}
 use Rattle.thompson_nfa.specs.Automaton.{Automaton}
-use Rattle.nfa_search_base.specs.Graphs.{Pair, In}
-use Rattle.nfa_search_base.specs.Paths.{span_len, raised, starts, is_utf8_empty, pattern_of, node_at, path_pattern, last_of, slot_row, turn_weight, EndsOnBoundary, SplitsCharacter, IsKeptAnswer, IsRestartedAnswer, IsScanAnswer, IsSearchAnswer}
-use Rattle.nfa_search_base.specs.Exploring.{Slots, Found}
+use Rattle.nfa_search_base.specs.Graphs.{Pair}
+use Rattle.nfa_search_base.specs.Paths.{span_len, raised, starts, is_utf8_empty, path_pattern, slot_row, turn_weight, EndsOnBoundary, IsKeptAnswer, IsRestartedAnswer, IsScanAnswer, IsSearchAnswer}
+use Rattle.nfa_search_base.specs.Exploring.{Slots}
 use Rattle.nfa_search_base.specs.Exploring.Item.{Explore}
 use Rattle.nfa_search_base.specs.Turns.{marked_sum}
 use Rattle.nfa_search_base.proofs.AnswerLemmas.{scan_none, scan_some, ends_on_boundary}

@@ -1,13 +1,12 @@
 -- What each kind of state leads to, after the turn that marked its place.
-use Rattle.std.proofs.Common.{◌≡◌, ℕ, suc, zero, ◌+◌, ◌-◌, ◌*◌, ◌^◌, ◌<◌, ◌≤◌, List, [], ◌∷◌, ◌++◌, length, get_or, set, map, reverse, drop, refl, ap, sym, ◌∙◌, arith, append_assoc, append-nil, Fits, w64}
-use Rattle.std.specs.Prelude.{Option, Some, None, true, false, Bool, All, IfSome, option_map, option_and_then, option_to_list, is_some, count_by, cond, nat_lt, if◌then◌else◌}
+use Rattle.std.proofs.Common.{◌≡◌, ℕ, suc, ◌+◌, ◌-◌, ◌*◌, ◌^◌, ◌<◌, ◌≤◌, List, [], ◌∷◌, ◌++◌, length, get_or, set, map, reverse, drop, refl, ap, sym, ◌∙◌, arith, append_assoc, append-nil, Fits, w64}
+use Rattle.std.specs.Prelude.{Option, Some, None, true, false, Bool, All, option_map, option_and_then, option_to_list}
 use Rattle.std.specs.List.{slice_get, sum_by}
 use Rattle.std.proofs.lemmas.Nat.{mul-add-lt}
 use Rattle.std.proofs.lemmas.List.{length-map, map_push}
 use Rattle.std.proofs.lemmas.Grind.{reverse_onto}
-use borrow.Author.Tests.{ltb-true}
 use Rattle.std.proofs.lemmas.List.Elements.{All-push}
-use Rattle.std.proofs.lemmas.List.Sums.{sum_by_push, sum_by-cons}
+use Rattle.std.proofs.lemmas.List.Sums.{sum_by_push}
 use Rattle.regex_search_core.specs.Search.{Search}
 use Rattle.thompson_nfa.specs.Automaton.{Automaton, Node, LeadsBelow, node_of}
 use Rattle.thompson_nfa.specs.Automaton.Node.{ByteRange, Sparse, Dense, Look, Union, BinaryUnion, Capture, Fail, Match}
@@ -16,7 +15,7 @@ use Rattle.thompson_nfa.specs.declared.look.Look as looks
 use Rattle.thompson_nfa.specs.declared.state.State.{State}
 use Rattle.thompson_nfa.specs.declared.state.Transition.{Transition}
 use Rattle.nfa_search_base.specs.Graphs.{Pair}
-use Rattle.nfa_search_base.specs.Paths.{span_len, degree, node_at, pattern_of, slot_of, edges_of, byte_at, target_on, first_target, holds_byte}
+use Rattle.nfa_search_base.specs.Paths.{span_len, degree, node_at, pattern_of, slot_of, edges_of, byte_at, target_on}
 use Rattle.nfa_search_base.specs.Exploring.{Item, Slots}
 use Rattle.nfa_search_base.specs.Exploring.Item.{Explore, Restore}
 use Rattle.nfa_engine_parts.proofs.TargetLemmas.{byte_at-within, target-below, target-degree}

@@ -1,24 +1,23 @@
 -- The steps of a walk, one for each kind of state.
-use Rattle.std.proofs.Common.{◌≡◌, ◌≢◌, ℕ, suc, zero, ◌+◌, ◌-◌, ◌*◌, ◌<◌, ◌≤◌, ◌⊎◌, inl, inr, List, [], ◌∷◌, ◌++◌, length, get_or, set, map, replicate, refl, ap, sym, ◌∙◌, arith, rules, nat_lt, subst}
-use Rattle.std.specs.Prelude.{Option, Some, None, true, false, Bool, All, sum, option_map, option_and_then, option_to_list, MatchOption, is_some}
-use Rattle.std.specs.List.{slice_get, sum_by}
+use Rattle.std.proofs.Common.{◌≡◌, ℕ, suc, zero, ◌+◌, ◌-◌, ◌*◌, ◌<◌, ◌≤◌, ◌⊎◌, inl, inr, List, [], ◌∷◌, ◌++◌, length, get_or, set, map, replicate, refl, ap, ◌∙◌, arith}
+use Rattle.std.specs.Prelude.{Option, Some, None, true, false, Bool, sum}
+use Rattle.std.specs.List.{slice_get}
 use Rattle.std.proofs.Math.Decide.{ℕ_discrete}
 use Rattle.std.proofs.lemmas.Nat.{mul-add-lt, same_from_place}
-use Rattle.std.proofs.lemmas.Option.{slice_get-map, get_or_from_slice_get, slice_get_within}
-use Rattle.std.proofs.lemmas.List.{length-map, length-append, get_or_default}
+use Rattle.std.proofs.lemmas.Option.{slice_get-map, get_or_from_slice_get}
+use Rattle.std.proofs.lemmas.List.{length-map, get_or_default}
 use Rattle.std.proofs.Common.{get_or-set_same, get_or-set_other}
-use Rattle.std.proofs.lemmas.List.Elements.{All-push, All-get_or}
-use Rattle.std.proofs.lemmas.List.Sums.{sum_by_push, sum-map}
+use Rattle.std.proofs.lemmas.List.Sums.{sum-map}
 use Rattle.regex_search_core.specs.Search.{Search}
 use Rattle.thompson_nfa.specs.Automaton.{Automaton, Node}
-use Rattle.thompson_nfa.specs.Automaton.Node.{Look, Union, BinaryUnion, Capture, Fail, Match}
+use Rattle.thompson_nfa.specs.Automaton.Node.{Capture, Fail, Match}
 use Rattle.nfa_search_base.specs.Graphs.{Pair, In}
 use Rattle.nfa_search_base.specs.Paths.{span_len, degree, node_at, pattern_of, slot_of, edges, edges_of, is_match, capture, turn_weight}
 use Rattle.nfa_search_base.specs.Exploring.{Item, Slots, Found, Answer}
 use Rattle.nfa_search_base.specs.Exploring.Item.{Explore, Restore}
 use Rattle.nfa_search_base.specs.Turns.{marked_sum, repeated}
 use Rattle.nfa_search_base.proofs.SearchLemmas.{Answer-none, Answer-restore, Answer-marked, Answer-target, Answer-plain, Answer-write, Answer-unkept}
-use Rattle.nfa_search_base.proofs.TurnLemmas.{marked_sum-set, marked_sum-le, sum-repeated, get_or-repeated}
+use Rattle.nfa_search_base.proofs.TurnLemmas.{marked_sum-set, sum-repeated, get_or-repeated}
 use Rattle.nfa_engines.specs.Bits.{Marks}
 use Rattle.regex_search_core.specs.declared.search.HalfMatch.{HalfMatch}
 use Rattle.nfa_engines.specs.Walk.{bit_of, HasRoom, IsMarked, Agrees, weights, WalkAnswer, Follows, Ends, EndsAt}

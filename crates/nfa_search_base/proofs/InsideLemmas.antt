@@ -1,5 +1,5 @@
 -- The match of a search's answer lies in its span.
-use Rattle.std.proofs.Common.{◌≡◌, ℕ, ◌+◌, ◌*◌, ◌≤◌, ◌⊎◌, inl, inr, Bool, true, false, List, [], ◌∷◌, map, refl, ap, sym, ◌∙◌, subst, MatchBool, arith}
+use Rattle.std.proofs.Common.{◌≡◌, ℕ, ◌+◌, ◌*◌, ◌≤◌, inl, inr, Bool, true, false, List, [], ◌∷◌, map, refl, ap, sym, subst, MatchBool, arith}
 use Rattle.std.specs.Prelude.{Option, None, Some, cond, nat_le, option_and_then, option_map, ◌==◌}
 use Rattle.std.specs.Option.{option_or, option_map_or}
 use Rattle.std.specs.List.{slice_get, range_with_len}
@@ -8,11 +8,11 @@ use Rattle.std.proofs.lemmas.Option.{slice_get-map}
 use Rattle.regex_search_core.specs.Found.{Found}
 use Rattle.regex_search_core.specs.Groups.{slot_count}
 use Rattle.regex_search_core.specs.Search.{Search, is_anchored}
-use Rattle.regex_search_core.specs.Slots.{offset_at, span_at, match_of}
+use Rattle.regex_search_core.specs.Slots.{offset_at, match_of}
 use Rattle.regex_search_core.specs.declared.search.MatchKind.{MatchKind}
 use Rattle.regex_search_core.specs.declared.search.Span.{Span}
 use Rattle.thompson_nfa.specs.Automaton.{Automaton}
-use Rattle.nfa_search_base.specs.Graphs.{Pair, In, HeadIs, Linked, PathTo}
+use Rattle.nfa_search_base.specs.Graphs.{Pair, In, Linked, PathTo}
 use Rattle.nfa_search_base.specs.Paths.{edges, starts, capture, raised, path_pattern, slot_among, slot_row, is_utf8_empty, IsScanAnswer, IsKeptAnswer, IsRestartedAnswer, IsSearchAnswer, IsMatchAnswer}
 use Rattle.nfa_search_base.proofs.AnswerLemmas.{scan_answer-leads, never_none}
 use Rattle.nfa_search_base.proofs.ScanAnswerLemmas.{edges-onward, edges-within, starts-from, starts-within}

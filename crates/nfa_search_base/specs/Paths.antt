@@ -1,5 +1,5 @@
 -- What a search of an NFA answers, in terms of its paths.
-use Rattle.std.specs.Prelude.{◌≡◌, ℕ, zero, suc, ◌+◌, ◌-◌, ◌*◌, ◌<◌, ◌≤◌, ◌⊎◌, Bool, true, false, ◌&&◌, ◌||◌, MatchBool, not, is_some, replicate, List, [], ◌∷◌, length, map, count_by, Option, Some, None, option_map, option_and_then, option_to_list, if◌then◌else◌, ◌==◌, nat_lt, nat_le, slice_get, slice_index_or, ⊤}
+use Rattle.std.specs.Prelude.{◌≡◌, ℕ, zero, suc, ◌+◌, ◌-◌, ◌<◌, ◌≤◌, ◌⊎◌, Bool, true, false, ◌&&◌, ◌||◌, MatchBool, not, is_some, replicate, List, [], ◌∷◌, length, map, count_by, Option, Some, None, option_map, option_and_then, option_to_list, if◌then◌else◌, ◌==◌, nat_lt, nat_le, slice_get, slice_index_or, ⊤}
 use Rattle.std.specs.List.{range_with_len, sum_by, last_or}
 use Rattle.std.specs.Option.{option_or, option_map_or}
 use Rattle.regex_search_core.specs.Boundary.{IsBoundary}

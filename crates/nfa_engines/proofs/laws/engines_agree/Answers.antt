@@ -1,4 +1,4 @@
-use Rattle.std.proofs.Common.{◌∙◌, ap, take, length, arith}
+use Rattle.std.proofs.Common.{◌∙◌, ap, take, arith}
 use Rattle.std.proofs.Math.Seq.{take-length}
 use Rattle.nfa_engines.proofs.LawLemmas.{fewer-slots}
 use Rattle.nfa_engines.proofs.laws.engines_agree.Goals as goal

@@ -1,4 +1,4 @@
-use Rattle.std.proofs.Common.{replicate, ◌≡◌, ◌∙◌, ◌+◌, ap, refl, inl, inr, arith}
+use Rattle.std.proofs.Common.{replicate, ◌∙◌, ◌+◌, ap, refl, inl, inr, arith}
 use Rattle.std.specs.Prelude.{None, Some}
 use Rattle.regex_search_core.specs.Search.{search_of}
 use Rattle.nfa_search_base.specs.Paths.{EndsOnBoundary}

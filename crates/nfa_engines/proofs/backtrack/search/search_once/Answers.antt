@@ -1,4 +1,4 @@
-use Rattle.std.proofs.Common.{◌≡◌, ◌∙◌, ◌+◌, ap}
+use Rattle.std.proofs.Common.{◌∙◌, ◌+◌, ap}
 use Rattle.regex_search_core.specs.Search.{search_of}
 use Rattle.nfa_engines.proofs.ScanLemmas.{Searched-once}
 use Rattle.nfa_engines.proofs.backtrack.search.search_once.Goals as goal

@@ -1,7 +1,5 @@
-use Rattle.std.proofs.Common.{◌≡◌, ◌∙◌, ◌+◌, ◌-◌, ◌*◌, ◌<◌, ◌≤◌, ℕ, length, replicate, arith, sym, ap, refl, below_more}
+use Rattle.std.proofs.Common.{◌∙◌, ◌-◌, length, replicate, arith, sym, ap, refl, below_more}
 use Rattle.std.specs.Prelude.{Some, None, false}
-use Rattle.regex_search_core.specs.Boundary.{IsBoundary}
-use Rattle.regex_search_core.specs.Found.{half_found_of}
 use Rattle.regex_search_core.specs.Search.{search_of}
 use Rattle.regex_search_core.specs.declared.search.MatchKind.TheVariants.{LeftmostFirst}
 use Rattle.nfa_search_base.specs.Paths.{raised, EndsOnBoundary, SplitsCharacter}

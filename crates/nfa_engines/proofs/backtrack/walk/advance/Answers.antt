@@ -1,4 +1,4 @@
-use Rattle.std.proofs.Common.{◌≡◌, ◌∙◌, ◌+◌, ◌≤◌, ap, arith, refl, sym}
+use Rattle.std.proofs.Common.{◌∙◌, ap, arith, refl, sym}
 use Rattle.std.specs.Prelude.{Some}
 use Rattle.regex_search_core.specs.Found.{HalfFound}
 use Rattle.regex_search_core.specs.Search.{search_of}

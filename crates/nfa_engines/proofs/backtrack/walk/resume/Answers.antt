@@ -1,4 +1,4 @@
-use Rattle.std.proofs.Common.{append-nil, arith, ◌≡◌, ◌∙◌, sym, [], length}
+use Rattle.std.proofs.Common.{append-nil, arith, ◌∙◌}
 use Rattle.nfa_engines.proofs.UnwindLemmas.{Follows-unwound, within-unwound, tries-unwound, slots-unwound}
 use Rattle.nfa_engines.proofs.backtrack.walk.resume.Goals as goal
 

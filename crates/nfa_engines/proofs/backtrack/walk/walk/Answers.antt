@@ -1,4 +1,4 @@
-use Rattle.std.proofs.Common.{◌≡◌, ◌∙◌, arith}
+use Rattle.std.proofs.Common.{◌∙◌, arith}
 use Rattle.regex_search_core.specs.Search.{search_of}
 use Rattle.nfa_search_base.proofs.TurnLemmas.{marked_sum-le}
 use Rattle.nfa_engines.specs.Walk.{weights}

@@ -1,4 +1,4 @@
-use Rattle.std.proofs.Common.{rules, ◌≡◌, ◌∙◌, sym, ap, subst, map, List, refl, Result}
+use Rattle.std.proofs.Common.{rules, ◌≡◌, ◌∙◌, ap, subst, map, List, refl, Result}
 use Rattle.std.proofs.lemmas.Iterator.Consumers.{YieldsList-at, YieldsList-end}
 use Rattle.regex_search_core.specs.declared.search.Match.{Match}
 use Rattle.nfa_search_base.specs.declared.error.SearchError.{SearchError}
