@@ -45,7 +45,8 @@ impl FirstBytes {
     /// Whether no match begins with the byte.
     #[inline(always)]
     pub fn refuses(&self, byte: u8) -> bool
-        ensures { result ≡ true → slice_index_or self.now.may_begin byte true ≡ false }
+        ensures refused { result ≡ true → slice_index_or self.now.may_begin byte true ≡ false }
+        ensures admitted { result ≡ false → slice_index_or self.now.may_begin byte true ≡ true }
     {
         !self.may_begin[byte as usize]
     }

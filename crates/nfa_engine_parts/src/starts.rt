@@ -39,15 +39,11 @@ pub fn start_limit(nfa: &NFA, input: &Input<'_>) -> usize
 /// The position behind the last one that may be passed over for its byte: none where a path may start at one alone.
 pub fn skip_limit(nfa: &NFA, input: &Input<'_>) -> usize
     requires { (search_of input.now).start ≤ (search_of input.now).end }
+    ensures count { result + 1 ≡ (search_of input.now).start + start_count nfa.now (search_of input.now) }
     ensures within { result ≤ (search_of input.now).end }
-    ensures before { result < (search_of input.now).start + start_count nfa.now (search_of input.now) }
     ensures anchored { (search_of input.now).start < result → start_state nfa.now (search_of input.now).anchored ≡ Some nfa.now.anchored }
 {
-    if input.get_anchored().is_anchored() || nfa.is_always_start_anchored() {
-        input.start()
-    } else {
-        input.end()
-    }
+    start_limit(nfa, input) - 1
 }
 
 /// The first position, from this one on, that is not passed over for its byte. It is a call of its own, so that its
@@ -61,6 +57,7 @@ pub fn next_start(first: &FirstBytes, input: &Input<'_>, from: usize, stop: usiz
     ensures near { from ≤ stop → result ≤ stop }
     ensures stays { stop ≤ from → result ≡ from }
     ensures passed { (k : ℕ) → from ≤ k → k < result → IsRefused first.now.may_begin (search_of input.now) k }
+    ensures least { result < stop → IsRefused first.now.may_begin (search_of input.now) result → ⊥ }
 {
     let haystack = input.haystack();
     let mut at = from;

@@ -12,7 +12,7 @@ loop-at-preserved c =
     let here : IsRefused c.args.first.now.may_begin (search_of c.args.input.now) c.loop-at.at = record {
       byte = get_or c.args.input.now.haystack.now c.loop-at.at 0;
       read = byte_at-inside (search_of c.args.input.now) c.loop-at.at inside fits;
-      refused = rw c.haystack-haystack.ensures at (c.refuses.ensures c.if-refuses.true);
+      refused = rw c.haystack-haystack.ensures at (c.refuses.ensures.refused c.if-refuses.true);
     } in
     record {
       low = omega arith;

@@ -29,7 +29,7 @@ returns-else-not-refuses-clause-joins c =
     let here : IsRefused c.args.first.now.may_begin (search_of c.args.input.now) c.args.at = record {
       byte = get_or c.args.input.now.haystack.now c.args.at 0;
       read = byte_at-inside (search_of c.args.input.now) c.args.at inside fits;
-      refused = rw c.haystack.ensures at (c.refuses.ensures c.if-not-refuses.false);
+      refused = rw c.haystack.ensures at (c.refuses.ensures.refused c.if-not-refuses.false);
     } in
     record {
       ahead = omega arith;
