@@ -317,7 +317,7 @@ impl PikeVM {
         ensures numbers { SameNumbers cache.old cache.new }
 
         ensures scans { cache.new.scans ≤ 1 }
-        ensures turns { cache.new.turns ≤ (1 + turn_weight self.now.nfa) * (span_len (search_of input.now) + 1) }
+        ensures turns { cache.new.turns ≤ cache.new.scans * ((1 + turn_weight self.now.nfa) * (span_len (search_of input.now) + 1)) }
     {
         let Cache { threads, scans, .. } = cache;
         scans.restart();

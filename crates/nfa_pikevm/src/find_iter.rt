@@ -41,6 +41,7 @@ impl PikeVM {
     ) -> FindMatches<'r, 'c, 'h>
         requires { Fits cache.old self.now.nfa }
         ensures same_reference { result.cache.ghost_name ≡ cache.entry.ghost_name }
+        ensures same_cache { result.cache.now ≡ cache.entry.now }
         ensures engine { find_engine result ≡ self.now }
         ensures walk { find_walk result ≡ fresh (search_of input.entry) }
         ensures going { result.done ≡ false }

@@ -363,7 +363,7 @@ pub fn overlap(
 )
     requires serves { Serves nfa.now 0 threads.old.seen (length threads.old.frames.items) threads.old.curr threads.old.next }
     ensures result { IsOverlapResult nfa.now (search_of input.now) kind (search_of input.now).earliest patterns.old patterns.new }
-    ensures scans { (scans.new ≡ scans.old) ⊎ (scans.new ≡ scans.old + 1) }
+    ensures scans { ((scans.new ≡ scans.old) × (threads.new.seen.turns ≡ threads.old.seen.turns)) ⊎ (scans.new ≡ scans.old + 1) }
     ensures serves { Serves nfa.now 0 threads.new.seen (length threads.new.frames.items) threads.new.curr threads.new.next }
     ensures sizes { (size : Sizes) → AreSized size threads.old.seen (length threads.old.frames.items) threads.old.curr threads.old.next → AreSized size threads.new.seen (length threads.new.frames.items) threads.new.curr threads.new.next }
     ensures turns { threads.new.seen.turns ≤ threads.old.seen.turns + scan_turns nfa.now (search_of input.now) }
