@@ -19,6 +19,7 @@ const LIMIT: usize = 64;
 /// lack of room, or where a match may be empty, no byte is refused.
 #[derive(Clone, Copy)]
 pub struct FirstBytes {
+    /// Whether a match may begin with a byte, at the byte's place.
     pub may_begin: [bool; 256],
 }
 
@@ -141,8 +142,8 @@ fn admit_targets(table: &mut [bool; 256], targets: &[Option<StateID>])
     }
 }
 
-/// Reaches the states that the state leads to without a byte, and lets the bytes through that it reads. It is not done
-/// where the state is a match, or where there is no room.
+/// Reaches the states that the state leads to without a byte, and lets the bytes through that it reads. False where the
+/// state is a match, or where there was no room.
 fn follow(state: &State, reached: &mut Reached, table: &mut [bool; 256]) -> bool
     requires { reached.old.len ≤ 64 }
     ensures room { reached.new.len ≤ 64 }

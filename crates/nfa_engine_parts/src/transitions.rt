@@ -1,3 +1,4 @@
+//! Where a byte leads from a state.
 ghost use Rattle.std.specs.Prelude.{◌≡◌, option_and_then};
 ghost use Rattle.regex_search_core.specs.Search.{search_of};
 ghost use Rattle.thompson_nfa.specs.Automaton.Node.{ByteRange, Sparse, Dense};
@@ -48,9 +49,5 @@ pub fn sparse_target(transitions: &[Transition], byte: Option<u8>) -> Option<Sta
 pub fn dense_target(targets: &[Option<StateID>], byte: Option<u8>) -> Option<StateID>
     ensures { result ≡ option_and_then (target_on (Dense targets.now)) byte }
 {
-    let byte = byte?;
-    match targets.get(byte as usize) {
-        Some(target) => *target,
-        None => None,
-    }
+    *targets.get(byte? as usize)?
 }

@@ -28,7 +28,7 @@ unused = record { scans = 0; turns = 0; frames = 0; blocks = 0; slots = 0 }
 
 -- the bytes that a cache holds: 24 for a frame, 8 for a block, 8 for a slot
 abbrev pub memory_of : Work → ℕ
-memory_of w = saturated (saturated (saturated (24 * w.frames) + saturated (8 * w.blocks)) + saturated (8 * w.slots))
+memory_of w = saturated (24 * w.frames + 8 * w.blocks + 8 * w.slots)
 
 -- the capacity in bytes that holds where none is set
 abbrev pub default_capacity : ℕ
@@ -42,7 +42,7 @@ rounded_bits bytes = saturated (64 * ((saturated (8 * bytes) + 63) / 64))
 abbrev pub capacity_of : Backtracker → ℕ
 capacity_of e = rounded_bits (unwrap_or e.visited_capacity default_capacity)
 
--- the length of the longest span that every search may have
+-- The length of the longest span that a search may have, where there is a bit for each state; else 0, and no search may be made.
 abbrev pub max_haystack_len_of : Backtracker → ℕ
 max_haystack_len_of e = capacity_of e / length e.nfa.states - 1
 

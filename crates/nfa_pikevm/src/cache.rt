@@ -38,15 +38,13 @@ impl Model for Cache {
 }
 
 impl Cache {
-    /// A cache that fits the PikeVM, and is no larger. The error is `Memory` alone.
+    /// A cache that fits the PikeVM, with the numbers of that one. The error is `Memory` alone.
     pub fn new(alloc: Global, vm: &PikeVM) -> Result<Cache, SearchError>
         ensures made { IfOk result (λ made. made ≡ cache_for vm.now.nfa 0 0) }
         ensures memory { IsOkUnless result SearchError.Memory }
     {
         let nfa = vm.get_nfa();
-        let Some(size) = size_for(nfa) else {
-            return Err(SearchError::Memory);
-        };
+        let size = size_for(nfa).ok_or(SearchError::Memory)?;
         let mut threads = Threads::new(alloc)?;
         let mut found = Vec::new(alloc);
         make_room(&mut threads, &mut found, &size, nfa.start_anchored())?;
@@ -59,17 +57,15 @@ impl Cache {
         })
     }
 
-    /// Makes the cache as large as the PikeVM needs it, and no larger. The error is `Memory` alone; the cache then is as it
-    /// was, and fits what it fitted.
+    /// Gives the cache the numbers of the PikeVM, also where they are smaller; memory that it has stays with it. The error is
+    /// `Memory` alone; the cache then is as it was, and fits what it fitted.
     pub fn reset(&mut self, vm: &PikeVM) -> Result<(), SearchError>
         ensures made { OnOk result (self.new ≡ cache_for vm.now.nfa self.old.scans self.old.turns) }
         ensures kept { OnErr result (self.new ≡ self.old) }
         ensures memory { IsOkUnless result SearchError.Memory }
     {
         let nfa = vm.get_nfa();
-        let Some(size) = size_for(nfa) else {
-            return Err(SearchError::Memory);
-        };
+        let size = size_for(nfa).ok_or(SearchError::Memory)?;
         make_room(
             &mut self.threads,
             &mut self.found,
@@ -116,18 +112,18 @@ impl Cache {
         })
     }
 
-    /// The bytes that the cache's collections hold: 24 for a frame of the stack, 8 for a slot, 4 for a place of the sets of
-    /// states. The sum stops at the greatest `usize`.
+    /// The bytes that the entries of the cache take: 24 for a frame of the stack, 8 for a slot, 4 for each state's mark and
+    /// each place of the two sets of states. The sum stops at the greatest `usize`.
     pub fn memory_usage(&self) -> usize
         ensures { result ≡ memory_of self.now }
     {
         let states = self.threads.seen.len();
         let rows = states.saturating_mul(2).saturating_add(3);
-        let places = states.saturating_mul(3).saturating_add(2);
+        let entries = states.saturating_mul(3).saturating_add(2);
         let frames = self.threads.frames.len().saturating_mul(24);
         let slots = rows.saturating_mul(self.slots).saturating_mul(8);
         frames
             .saturating_add(slots)
-            .saturating_add(places.saturating_mul(4))
+            .saturating_add(entries.saturating_mul(4))
     }
 }

@@ -199,7 +199,7 @@ pub fn resume(frames: &[FollowEpsilon], top: &mut usize, row: &mut [Slot]) -> Op
     None
 }
 
-/// Follows all that the root leads to at the position with no byte, each state in its turn, and keeps what the byte leads
+/// Follows all that the root leads to at the position without reading a byte, each state in its turn, and keeps what the byte leads
 /// to. It answers the last match, and copies the row as it is there; without `past_match` it stops at the first match.
 #[inline(always)]
 pub fn follow(

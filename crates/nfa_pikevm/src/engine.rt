@@ -302,7 +302,8 @@ impl PikeVM {
     /// With the kind `All` it gains every pattern that matches somewhere in the span; with `earliest`, those whose matches end
     /// where the first of them does. With `LeftmostFirst` a set that holds a pattern gains nothing; an empty one gains the pattern
     /// of the first match, and maybe some of matches that end before it; with `earliest`, that of the first match that ends
-    /// alone. A match ends on a boundary where the NFA asks for it.
+    /// alone. That is where its capacity is at least the number of patterns; with less it is open which it gains. A match ends
+    /// on a boundary where the NFA asks for it.
     ///
     /// The caller owes a cache that fits. A search leaves its numbers as they are.
     pub fn which_overlapping_matches(

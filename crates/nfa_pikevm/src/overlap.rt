@@ -104,7 +104,7 @@ fn advance_to_set(
     resume(frames, top, &mut [])
 }
 
-/// Follows all that the root leads to at the position with no byte, each state in its turn, and keeps what the byte leads
+/// Follows all that the root leads to at the position without reading a byte, each state in its turn, and keeps what the byte leads
 /// to. The patterns of the matches that may end here are put into the set; without `past_match` it stops at the first one.
 /// Answers whether one was met: with `past_match` one below the set's capacity.
 #[inline(always)]
@@ -143,7 +143,7 @@ fn follow_to_set(
     met
 }
 
-/// Follows the states at the position, in order, as [`follow_to_set`] does with each.
+/// Follows the states at the position, in order, as [`follow_to_set`] does with each, and answers as it does.
 fn cross_states_to_set(
     nfa: &NFA,
     input: &Input<'_>,
@@ -181,7 +181,8 @@ fn cross_states_to_set(
     met
 }
 
-/// Follows the states at the position, and keeps what its byte leads to for the next one.
+/// Follows the states at the position, and keeps what its byte leads to for the next one. Answers whether a match was met:
+/// with `past_match` one below the set's capacity.
 fn cross_to_set(
     nfa: &NFA,
     input: &Input<'_>,
@@ -381,6 +382,7 @@ pub fn overlap(
     let starts = Starts {
         state,
         limit: start_limit(nfa, input),
+        // No start is passed over here.
         stop: input.start(),
     };
     set_up(threads, 0);

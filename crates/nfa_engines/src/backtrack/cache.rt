@@ -44,7 +44,8 @@ impl Cache {
         }
     }
 
-    /// Drops all marks and the blocks that held them. A search needs no reset before it.
+    /// Drops all marks and the blocks that held them; their memory stays for the next search. A search needs no reset before
+    /// it.
     pub fn reset(&mut self, _: &BoundedBacktracker)
         ensures { self.new ≡ record self.old { blocks = 0 } }
     {
@@ -72,7 +73,7 @@ impl Cache {
         })
     }
 
-    /// The bytes that the cache's collections hold: 24 for a frame of the stack, 8 for a block of marks, 8 for a slot.
+    /// The bytes that the entries of the cache take: 24 for a frame of the stack, 8 for a block of marks, 8 for a slot.
     /// The sum stops at the greatest `usize`.
     pub fn memory_usage(&self) -> usize
         ensures { result ≡ memory_of self.now }

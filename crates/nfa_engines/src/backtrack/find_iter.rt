@@ -71,13 +71,9 @@ impl BoundedBacktracker {
         ensures inside { LiesIn (walk_of searcher.old).at (match_place result) }
         ensures walk { walk_of searcher.new ≡ after (walk_of searcher.old) (match_place result) }
     {
-        match self.find_at(cache, searcher.input()) {
-            Ok(found) => {
-                searcher.offer(found);
-                Ok(found)
-            }
-            Err(error) => Err(error),
-        }
+        let found = self.find_at(cache, searcher.input())?;
+        searcher.offer(found);
+        Ok(found)
     }
 
     // The next match of an iteration.
@@ -92,10 +88,7 @@ impl BoundedBacktracker {
         ensures same { SameButStart (walk_of searcher.old).at (walk_of searcher.new).at }
         ensures onward { (walk_of searcher.old).at.start ≤ (walk_of searcher.new).at.start }
     {
-        let first = match self.find_at(cache, searcher.input()) {
-            Ok(first) => first,
-            Err(error) => return Err(error),
-        };
+        let first = self.find_at(cache, searcher.input())?;
         match searcher.offer(first) {
             Offered::Done(found) => Ok(found),
             Offered::Again => self.step_again(cache, searcher),

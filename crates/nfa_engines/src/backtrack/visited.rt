@@ -60,7 +60,7 @@ impl Visited {
         self.blocks.len()
     }
 
-    /// Gives all blocks back.
+    /// Holds no block from here on. The memory stays for the next search.
     pub fn reset(&mut self)
         ensures { self.new ≡ record self.old { bits = [] } }
     {
