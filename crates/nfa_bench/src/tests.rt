@@ -14,6 +14,7 @@ fn prints_the_match_and_the_end(rt: HostRuntime) -> Result<(), Fail> {
         ("abc_a", "xyz", "end\n"),
         ("a_or_empty", "", "0 0..0\nend\n"),
         ("a_pair", "a", "end\n"),
+        ("a_bare", "a", "end\n"),
         ("empty", "a☃z", "0 0..0\n0 1..1\n0 4..4\n0 5..5\nend\n"),
         ("snowman", "a☃b", "0 1..4\nend\n"),
         ("ab_b", "xb", "1 1..2\nend\n"),

@@ -1,5 +1,5 @@
-//! What searches of the samples answer, leftmost first, as lists of rows that begin with the sample's name. Both engines
-//! give these answers.
+//! What searches of the samples answer, leftmost first: the answers of regex-automata 0.4.18, which its two engines give
+//! alike. Rows begin with the sample's name. A match whose slots give no span (`a_bare`, `a_pair`, `backwards`) is none here.
 
 /// A haystack, and the pattern with as many slots as the NFA has, `-` where there is no offset.
 pub const SLOTS: &[(&str, &str, &str)] = &[
@@ -125,7 +125,7 @@ pub const ALL: &[(&str, &[u8], &str)] = &[
     ("backwards", b"a", ""),
 ];
 
-/// For `abc`, anchored: a haystack, a number of slots, and the pattern with as many slots, `-` where there is no offset.
+/// Of `abc`, anchored, with no name in the rows: a haystack, a number of slots, and the pattern with as many slots, `-` where there is no offset.
 pub const OF_SLOT_LENS: &[(&str, usize, &str)] = &[
     ("abc", 0, "0"),
     ("abc", 1, "0 0"),
@@ -141,3 +141,6 @@ pub const OF_ONE_PATTERN: &[(&str, &str, usize, &str)] = &[
     ("six", "1oo123", 1, "none - - - -"),
     ("abc", "abc", 5, "none - - - -"),
 ];
+
+/// The slots of `groups` on `ab`, whose pattern is the first.
+pub const GROUPS_ON_AB: [Option<usize>; 6] = [Some(0), Some(2), None, None, Some(0), Some(2)];

@@ -5,7 +5,7 @@ mod sets;
 
 use nfa_engines::pikevm::{Cache, Config, PikeVM};
 use nfa_samples::sample;
-use regex_search_core::{Input, MatchKind, NonMaxUsize};
+use regex_search_core::{Anchored, Input, MatchKind, NonMaxUsize};
 use std::alloc::Global;
 use std::process::Abort;
 use std::test::Fail;
@@ -22,9 +22,20 @@ fn of_kind(alloc: Global, name: &str, kind: MatchKind) -> Result<PikeVM, Fail> {
     Ok(builder.build_from_nfa(nfa)?)
 }
 
-fn input_in<'h>(rt: &impl Abort, haystack: &'h [u8], start: usize, end: usize) -> Input<'h> {
+fn input_in<'h>(
+    rt: &impl Abort,
+    haystack: &'h [u8],
+    start: usize,
+    end: usize,
+    anchored: bool,
+) -> Input<'h> {
     assert!(rt; start <= end && end <= haystack.len());
-    Input::new(haystack).range(start..end)
+    let mode = if anchored {
+        Anchored::Yes
+    } else {
+        Anchored::No
+    };
+    Input::new(haystack).range(start..end).anchored(mode)
 }
 
 // What `search_slots` answers and leaves in slots that held 7 before: the pattern or `none`, and then each slot, which

@@ -5,7 +5,7 @@ use regex_search_core::Input;
 use std::test::Fail;
 
 #[test]
-fn makes_what_it_says(rt: HostRuntime) -> Result<(), Fail> {
+fn reads_what_it_was_made_with(rt: HostRuntime) -> Result<(), Fail> {
     let alloc = rt.alloc();
     let nfa = sample(alloc, "ab_b")?.ok_or("unknown name")?;
     let engine = BoundedBacktracker::new_from_nfa(nfa)?;
@@ -20,7 +20,7 @@ fn makes_what_it_says(rt: HostRuntime) -> Result<(), Fail> {
 }
 
 #[test]
-fn a_cache_holds_memory_from_a_search_to_a_reset(rt: HostRuntime) -> Result<(), Fail> {
+fn a_cache_serves_after_a_reset(rt: HostRuntime) -> Result<(), Fail> {
     let alloc = rt.alloc();
     let engine = backtracker(alloc, "abc_a")?;
     let mut cache = Cache::new(alloc, &engine);

@@ -5,7 +5,7 @@ use regex_search_core::{Anchored, Input, PatternID};
 use std::test::Fail;
 
 #[test]
-fn refuses_from_the_first_length_too_many(rt: HostRuntime) -> Result<(), Fail> {
+fn refuses_lengths_above_the_greatest(rt: HostRuntime) -> Result<(), Fail> {
     let alloc = rt.alloc();
     let engine = with_capacity(alloc, "a_pair", 1)?;
     assert_eq!(rt; engine.max_haystack_len(), 31);

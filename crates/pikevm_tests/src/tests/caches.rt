@@ -1,13 +1,12 @@
-use super::{found_text, pikevm};
+use super::{found_text, pikevm, slots_text};
 use nfa_engines::error::SearchError;
 use nfa_engines::pikevm::{Cache, PikeVM};
+use nfa_samples::answers::{GROUPS_ON_AB, OF_SLOT_LENS};
 use nfa_samples::sample;
-use regex_search_core::{Input, NonMaxUsize, PatternID};
+use regex_search_core::{Anchored, Input, NonMaxUsize, PatternID};
 use std::alloc::Global;
 use std::process::Abort;
 use std::test::Fail;
-
-const GROUPS_ON_AB: [Option<usize>; 6] = [Some(0), Some(2), None, None, Some(0), Some(2)];
 
 // `groups` on "ab" fills its six slots.
 fn expect_groups(rt: &impl Abort, groups: &PikeVM, cache: &mut Cache) {
@@ -20,19 +19,30 @@ fn expect_groups(rt: &impl Abort, groups: &PikeVM, cache: &mut Cache) {
     }
 }
 
+// What `abc` answers with this cache.
+fn expect_abc(rt: &impl Abort, alloc: Global, abc: &PikeVM, cache: &mut Cache) -> Result<(), Fail> {
+    for &(haystack, slot_len, want) in OF_SLOT_LENS {
+        let input = Input::new(haystack.as_bytes()).anchored(Anchored::Yes);
+        let text = slots_text(rt, alloc, abc, cache, &input, slot_len)?;
+        assert_eq!(rt; text.as_str(), want, "{slot_len} slots on {haystack}");
+    }
+    let unknown = PatternID::new(5).ok_or("too great a number")?;
+    let input = Input::new(b"abc").anchored(Anchored::Pattern(unknown));
+    let text = slots_text(rt, alloc, abc, cache, &input, 4)?;
+    assert_eq!(rt; text.as_str(), "none - - - -");
+    Ok(())
+}
+
 #[test]
 fn a_cache_fits_smaller_engines(rt: HostRuntime) -> Result<(), Fail> {
     let alloc = rt.alloc();
     let (groups, abc) = (pikevm(alloc, "groups")?, pikevm(alloc, "abc")?);
     let mut cache = groups.create_cache(alloc)?;
     expect_groups(&rt, &groups, &mut cache);
-    let text = found_text(&rt, alloc, &abc, &mut cache, Input::new(b"xabcabc"))?;
-    assert_eq!(rt; text.as_str(), "0 1..4");
+    expect_abc(&rt, alloc, &abc, &mut cache)?;
     abc.reset_cache(&mut cache)?;
     assert!(rt; !cache.fits(&groups));
-    let text = found_text(&rt, alloc, &abc, &mut cache, Input::new(b"xabcabc"))?;
-    assert_eq!(rt; text.as_str(), "0 1..4");
-    Ok(())
+    expect_abc(&rt, alloc, &abc, &mut cache)
 }
 
 #[test]
@@ -46,6 +56,10 @@ fn each_number_of_a_cache_counts(rt: HostRuntime) -> Result<(), Fail> {
         ("snowman", "three_digits", true),
         ("abc_a", "snowman", true),
         ("abc", "groups", false),
+        // Short of patterns, of places on the stack, and of states alone.
+        ("date", "b_a", false),
+        ("alnum100", "a_star", false),
+        ("loop", "abc", false),
     ] {
         let cache = pikevm(alloc, made_for)?.create_cache(alloc)?;
         let vm = pikevm(alloc, used_with)?;
@@ -54,26 +68,30 @@ fn each_number_of_a_cache_counts(rt: HostRuntime) -> Result<(), Fail> {
     Ok(())
 }
 
-// A name that a cache is made for, and then searches with it: a name, a haystack, and the match.
+// What a cache is made for; then what searches with it, on which haystack, and the match.
+const ONE_CACHE: &[(&str, &[(&str, &str, &str)])] = &[
+    ("loop", &[("a_star", "aaa", "0 0..3")]),
+    (
+        "snowman",
+        &[
+            ("abc_a", "abc", "0 0..3"),
+            ("three_digits", "123", "0 0..3"),
+            ("snowman", "a☃b", "0 1..4"),
+        ],
+    ),
+    ("abc_a", &[("snowman", "a☃b", "0 1..4")]),
+];
+
 #[test]
 fn one_cache_serves_one_engine_after_the_other(rt: HostRuntime) -> Result<(), Fail> {
     let alloc = rt.alloc();
-    for &(made_for, name, haystack, want) in &[
-        ("loop", "a_star", "aaa", "0 0..3"),
-        ("snowman", "abc_a", "abc", "0 0..3"),
-        ("snowman", "three_digits", "123", "0 0..3"),
-        ("snowman", "snowman", "a☃b", "0 1..4"),
-        ("abc_a", "snowman", "a☃b", "0 1..4"),
-    ] {
-        let maker = pikevm(alloc, made_for)?;
-        let mut cache = maker.create_cache(alloc)?;
-        for _ in 0..2 {
+    for &(made_for, searches) in ONE_CACHE {
+        let mut cache = pikevm(alloc, made_for)?.create_cache(alloc)?;
+        for &(name, haystack, want) in searches {
             let vm = pikevm(alloc, name)?;
             let input = Input::new(haystack.as_bytes());
             let text = found_text(&rt, alloc, &vm, &mut cache, input)?;
             assert_eq!(rt; text.as_str(), want, "{name} with a cache for {made_for}");
-            let text = found_text(&rt, alloc, &maker, &mut cache, Input::new(b"\xFF"))?;
-            assert!(rt; text.len() > 0);
         }
     }
     Ok(())

@@ -8,7 +8,8 @@ use std::process::Abort;
 use std::test::Fail;
 
 // A name, and the number that `fold` makes of the answers of all searches of `sum_of_answers`. The numbers were made of
-// the answers of regex-automata 0.4.18, whose two engines agree on all of them.
+// the answers of regex-automata 0.4.18, whose two engines agree on all of them. Where three numbers are one, the NFA matches
+// in no haystack.
 const SUMS: &[(&str, u64)] = &[
     ("abc", 6114000370497124573),
     ("ab_b", 7921167313159344319),
@@ -50,6 +51,8 @@ const HAYSTACKS: &[&[u8]] = &[
     b"foobar 123",
     b"\x80a\xE2\x98",
 ];
+
+const SEED: u64 = 7;
 
 fn fold(sum: u64, value: u64) -> u64 {
     sum.wrapping_mul(31).wrapping_add(value)
@@ -141,7 +144,7 @@ fn both_engines_give_the_answers_of_regex_automata(rt: HostRuntime) -> Result<()
     let alloc = rt.alloc();
     for &(name, want) in SUMS {
         let mut both = Both::new(alloc, name)?;
-        let mut sum = 7;
+        let mut sum = SEED;
         for &haystack in HAYSTACKS {
             sum = sum_of_answers(&rt, &mut both, sum, haystack)?;
         }

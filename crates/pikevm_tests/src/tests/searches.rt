@@ -56,18 +56,30 @@ fn finds_the_first_match_in_a_span(rt: HostRuntime) -> Result<(), Fail> {
     for &(name, haystack, start, end, anchored, want) in FOUND_IN_SPAN {
         let vm = pikevm(alloc, name)?;
         let mut cache = vm.create_cache(alloc)?;
-        let mode = if anchored {
-            Anchored::Yes
-        } else {
-            Anchored::No
-        };
-        let input = input_in(&rt, haystack.as_bytes(), start, end).anchored(mode);
+        let input = input_in(&rt, haystack.as_bytes(), start, end, anchored);
         let text = found_text(&rt, alloc, &vm, &mut cache, input)?;
         assert_eq!(rt;
             text.as_str(),
             want,
             "{name} on {haystack:?} from {start} to {end}"
         );
+    }
+    Ok(())
+}
+
+#[test]
+fn finds_long_matches(rt: HostRuntime) -> Result<(), Fail> {
+    let alloc = rt.alloc();
+    let vm = pikevm(alloc, "alnum100")?;
+    let mut cache = vm.create_cache(alloc)?;
+    for &(byte, len, want) in &[
+        (b'.', 19971, "none"),
+        (b'a', 100, "0 0..100"),
+        (b'a', 99, "none"),
+    ] {
+        let haystack = vec![in alloc; byte; len]?;
+        let text = found_text(&rt, alloc, &vm, &mut cache, Input::new(&haystack))?;
+        assert_eq!(rt; text.as_str(), want, "{len} bytes {byte}");
     }
     Ok(())
 }
@@ -118,7 +130,7 @@ fn tells_whether_there_is_a_match(rt: HostRuntime) -> Result<(), Fail> {
     ] {
         let vm = pikevm(alloc, name)?;
         let mut cache = vm.create_cache(alloc)?;
-        let input = input_in(&rt, haystack.as_bytes(), start, end);
+        let input = input_in(&rt, haystack.as_bytes(), start, end, false);
         assert_eq!(rt; is_match(&rt, &vm, &mut cache, input), want, "{name}");
     }
     Ok(())
@@ -206,6 +218,9 @@ fn matches_always_or_never(rt: HostRuntime) -> Result<(), Fail> {
             let input = Input::new(haystack.as_bytes());
             let text = found_text(&rt, alloc, &vm, &mut cache, input)?;
             assert_eq!(rt; text.as_str(), want, "on {haystack:?}");
+            assert!(rt; cache.fits(&vm));
+            let first = vm.find_iter(&mut cache, input).next();
+            assert_eq!(rt; first.is_some(), pattern_len > 0, "on {haystack:?}");
         }
     }
     Ok(())
@@ -250,5 +265,22 @@ fn a_clone_answers_as_its_original(rt: HostRuntime) -> Result<(), Fail> {
     assert_eq!(rt; copy.memory_usage(), cache.memory_usage());
     let text = found_text(&rt, alloc, &vm.clone()?, &mut copy, input)?;
     assert_eq!(rt; text.as_str(), "0 3..4");
+    Ok(())
+}
+
+#[test]
+fn configurations_are_shown(rt: HostRuntime) -> Result<(), Fail> {
+    let alloc = rt.alloc();
+    let config = PikeVM::config().match_kind(MatchKind::All);
+    for &(config, want) in &[
+        (config, "Config { match_kind: Some(All) }"),
+        (Config::default(), "Config { match_kind: None }"),
+    ] {
+        assert_eq!(rt; format!(in alloc; "{config:?}")?.as_str(), want);
+    }
+    let mut builder = PikeVM::builder();
+    builder.configure(config);
+    let want = "Builder { config: Config { match_kind: Some(All) } }";
+    assert_eq!(rt; format!(in alloc; "{builder:?}")?.as_str(), want);
     Ok(())
 }

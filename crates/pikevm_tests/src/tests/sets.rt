@@ -1,7 +1,7 @@
 use super::{input_in, of_kind};
 use nfa_engines::pikevm::{Cache, PikeVM};
 use regex_search_core::MatchKind::{All, LeftmostFirst};
-use regex_search_core::{Anchored, Input, MatchKind, PatternID, PatternSet};
+use regex_search_core::{Input, MatchKind, PatternID, PatternSet};
 use std::alloc::Global;
 use std::process::Abort;
 use std::test::Fail;
@@ -69,28 +69,23 @@ fn a_set_loses_nothing(rt: HostRuntime) -> Result<(), Fail> {
     Ok(())
 }
 
-// A name, a haystack, a span, whether the search is anchored, and the patterns that an empty set gains under `All`.
-const GAINED_IN_SPAN: &[(&str, &str, usize, usize, bool, &str)] = &[
-    ("abc_b", "abx", 0, 3, true, ""),
-    ("abc_b", "abx", 0, 3, false, "1 "),
-    ("empty", "☃", 1, 3, false, "0 "),
-    ("empty", "☃", 1, 2, false, ""),
-    ("empty", "☃", 1, 3, true, ""),
+// A name, a haystack, a span, whether the search is anchored, the capacity of a set, and the patterns that an empty set gains under `All`.
+const GAINED_IN_SPAN: &[(&str, &str, usize, usize, bool, usize, &str)] = &[
+    ("abc_b", "abx", 0, 3, true, 2, ""),
+    ("abc_b", "abx", 0, 3, false, 2, "1 "),
+    ("empty", "☃", 1, 3, false, 1, "0 "),
+    ("empty", "☃", 1, 2, false, 1, ""),
+    ("empty", "☃", 1, 3, true, 1, ""),
 ];
 
 #[test]
 fn an_empty_set_gains_what_matches_in_a_span(rt: HostRuntime) -> Result<(), Fail> {
     let alloc = rt.alloc();
-    for &(name, haystack, start, end, anchored, want) in GAINED_IN_SPAN {
+    for &(name, haystack, start, end, anchored, capacity, want) in GAINED_IN_SPAN {
         let vm = of_kind(alloc, name, All)?;
         let mut cache = vm.create_cache(alloc)?;
-        let mut set = PatternSet::new(alloc, 2)?;
-        let mode = if anchored {
-            Anchored::Yes
-        } else {
-            Anchored::No
-        };
-        let input = input_in(&rt, haystack.as_bytes(), start, end).anchored(mode);
+        let mut set = PatternSet::new(alloc, capacity)?;
+        let input = input_in(&rt, haystack.as_bytes(), start, end, anchored);
         let text = set_text(&rt, alloc, &vm, &mut cache, &input, &mut set)?;
         assert_eq!(rt;
             text.as_str(),
@@ -98,5 +93,16 @@ fn an_empty_set_gains_what_matches_in_a_span(rt: HostRuntime) -> Result<(), Fail
             "{name} on {haystack:?} from {start} to {end}"
         );
     }
+    Ok(())
+}
+
+#[test]
+fn a_larger_cache_serves_as_well(rt: HostRuntime) -> Result<(), Fail> {
+    let alloc = rt.alloc();
+    let mut cache = of_kind(alloc, "foo_bar", All)?.create_cache(alloc)?;
+    let vm = of_kind(alloc, "abc_ab", LeftmostFirst)?;
+    let mut set = PatternSet::new(alloc, 2)?;
+    let text = set_text(&rt, alloc, &vm, &mut cache, &Input::new(b"abc"), &mut set)?;
+    assert_eq!(rt; text.as_str(), "0 1 ");
     Ok(())
 }
