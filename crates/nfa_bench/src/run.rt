@@ -150,6 +150,7 @@ impl fmt::Display for Stop {
 }
 
 impl From<BuildError> for Stop {
+    // The samples are well formed, so an NFA is not made for want of memory alone.
     fn from(_: BuildError) -> Stop {
         Stop::Memory
     }

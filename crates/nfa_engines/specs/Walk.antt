@@ -22,9 +22,11 @@ use Rattle.nfa_engines.specs.declared.backtrack.walk.Move.TheVariants.{Go, Stuck
 use Rattle.nfa_engines.specs.declared.backtrack.walk.Turn.{Turn}
 use Rattle.nfa_engines.specs.declared.backtrack.walk.Turn.TheVariants.{On, Ended, Over}
 
+-- the state and position of a place
 abbrev pub pair_of : Place → Pair
 pair_of place = (place.sid, place.at)
 
+-- what a frame leaves to do
 abbrev pub item_of : Frame → Item
 item_of (Step sid at row) = ToExplore (sid, at)
 item_of (Restore slot offset) = ToRestore slot (Some offset)
@@ -68,6 +70,7 @@ abbrev pub with_place : Option Place → List Item → List Item
 with_place None work = work
 with_place (Some place) work = ToExplore (pair_of place) ∷ work
 
+-- how many tries to mark are owed where a turn leads
 abbrev pub tries_of_place : Option Place → ℕ
 tries_of_place None = 0
 tries_of_place (Some place) = 1
@@ -90,6 +93,7 @@ module _ (nfa : Automaton) (x : Search) where
     pub to : place.at ≤ x.end
     pub row : place.row ≡ (place.at - x.start) * length nfa.states
 
+  -- so is the place, if there is one
   abbrev pub IsPlaceOr : Option Place → Type 0
   IsPlaceOr None = Unit {0}
   IsPlaceOr (Some place) = IsPlace place

@@ -22,6 +22,7 @@ pub struct Parts {
     pub kept: Vec<StateID>,
     pub rows: Vec<Slot>,
     pub len: usize,
+    /// How many slots a row has.
     pub width: usize,
 }
 

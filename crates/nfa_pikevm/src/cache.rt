@@ -12,7 +12,7 @@ use std::alloc::Global;
 use std::marker::Model;
 
 /// What a PikeVM writes while it searches: the states that it follows, each with a row of slots, and its stack. A search
-/// takes no memory beside it, and owes to the cache that it is large enough: [`Cache::fits`].
+/// takes no memory beside it; the caller owes a cache that is large enough: [`Cache::fits`].
 ///
 /// A contract sees for how many states, slots and patterns it was made, the places of its stack, and how many scans its
 /// last search made, and how many turns they took.

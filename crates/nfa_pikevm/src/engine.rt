@@ -186,7 +186,7 @@ impl PikeVM {
         self.search_with(threads, scans, input, found.as_mut_slice(), slots)
     }
 
-    /// The pattern that a search answers, which keeps its slots in a row of the cache and hands them out at the end.
+    /// The pattern that a search answers. It fills the row `found` of the cache, and hands that out at the end.
     fn search_with(
         &self,
         threads: &mut Threads,
@@ -220,7 +220,7 @@ impl PikeVM {
         Some(half?.pattern())
     }
 
-    /// The match that a search answers, with its first slots here.
+    /// The match that a search answers, from the row of the cache that it fills.
     fn find_with(
         &self,
         threads: &mut Threads,

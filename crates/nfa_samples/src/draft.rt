@@ -112,6 +112,7 @@ impl Draft {
         Ok(draft)
     }
 
+    /// Adds the state of the row.
     pub fn push(&mut self, row: Row<'_>) -> Result<(), BuildError> {
         self.states.push(row.state(self.alloc)?)?;
         Ok(())
