@@ -20,7 +20,6 @@ pub mod SkipLemmas
 pub mod StepLemmas
 pub mod StoredLemmas
 pub mod TurnLemmas
-pub mod UpToLemmas
 pub mod WalkLemmas
 pub mod OverlapLemmas
 pub mod PatternLemmas

@@ -1,5 +1,5 @@
 -- what an iterator over the matches of a haystack gives
-use Rattle.std.specs.Prelude.{◌≡◌, ℕ, zero, suc, ◌+◌, ◌<◌, Bool, true, false, if◌then◌else◌, List, [], ◌∷◌, Option, None, Some, Result, Ok, Err, OnSome, ◌⊎◌}
+use Rattle.std.specs.Prelude.{◌≡◌, ℕ, zero, suc, ◌+◌, ◌<◌, Bool, true, false, if◌then◌else◌, List, [], ◌∷◌, Option, None, Some, Result, Ok, Err, OnSome}
 use Rattle.regex_search_core.specs.Search.{Search}
 use Rattle.regex_search_core.specs.declared.search.Span.{Span}
 use Rattle.nfa_search_base.specs.Asking.{SameButStart}
@@ -32,13 +32,6 @@ abbrev pub matches_in : {X : Type 0} → List (Item X) → List X
 matches_in [] = []
 matches_in (Ok x ∷ items) = x ∷ matches_in items
 matches_in (Err e ∷ items) = matches_in items
-
--- the items are the list, or a beginning of it and then this error
-abbrev pub UpTo : {X : Type 0} → SearchError → List (Item X) → List (Item X) → Type 0
-UpTo e [] [] = Unit {0}
-UpTo e (y ∷ ys) [] = ⊥
-UpTo e [] (x ∷ xs) = (x ≡ Err e) × (xs ≡ [])
-UpTo e (y ∷ ys) (x ∷ xs) = ((x ≡ y) × UpTo e ys xs) ⊎ ((x ≡ Err e) × (xs ≡ []))
 
 -- how many items may come, of an iterator that has ended or not: one for each end that is left, and an error
 abbrev pub items_left : Bool → Walk → ℕ

@@ -170,12 +170,13 @@ mod tests {
     #[test]
     fn forward(rt: HostRuntime) {
         for (anchored, fails, want, starts) in [
-            (Anchored::Yes, 9, Ok(None), 0),
-            (Anchored::No, 9, Ok(Some(43)), 123),
-            (Anchored::No, 1, Err(ERROR), 1),
+            (Anchored::Yes, 9, Ok(None), 1),
+            (Anchored::No, 9, Ok(Some(43)), 1123),
+            (Anchored::No, 1, Err(ERROR), 11),
         ] {
             let input = Input::new(SNOWMAN).anchored(anchored);
-            let mut seen = 0usize;
+            // A 1, and after it the starts of the inputs that the calls were given.
+            let mut seen = 1usize;
             let found = skip_splits_fwd(&input, 41, 1, |input: &Input<'_>| {
                 seen = seen.wrapping_mul(10).wrapping_add(input.start());
                 if input.start() == fails {
@@ -191,13 +192,14 @@ mod tests {
     #[test]
     fn backward(rt: HostRuntime) {
         for (haystack, end, offset, place, fails, want, ends) in [
-            (SNOWMAN, 3, 2, 9, 9, Ok(Some(40)), 210),
-            (SNOWMAN, 3, 2, 1, 1, Err(ERROR), 21),
-            (b"\x80", 0, 0, 9, 9, Ok(None), 0),
+            (SNOWMAN, 3, 2, 9, 9, Ok(Some(40)), 1210),
+            (SNOWMAN, 3, 2, 1, 1, Err(ERROR), 121),
+            (b"\x80", 0, 0, 9, 9, Ok(None), 1),
         ] {
             assert!(rt; offset <= end && end <= haystack.len());
             let input = Input::new(haystack).span(Span { start: 0, end });
-            let mut seen = 0usize;
+            // A 1, and after it the ends of the inputs that the calls were given.
+            let mut seen = 1usize;
             let found = skip_splits_rev(&input, 42, offset, |input: &Input<'_>| {
                 seen = seen.wrapping_mul(10).wrapping_add(input.end());
                 if input.end() == fails {

@@ -5,7 +5,7 @@ use thiserror::Error;
 #[derive(Clone, Copy, Debug, PartialEq, Eq, Error)]
 pub enum SearchError {
     /// The span has `len` bytes, more than the engine's visited capacity allows for its NFA.
-    #[error("the haystack of {len} bytes is too long to search")]
+    #[error("the span of {len} bytes is too long to search")]
     HaystackTooLong { len: usize },
     /// A growth was refused.
     #[error("out of memory")]
@@ -34,5 +34,30 @@ impl From<Refused> for SearchError {
 
     fn from(_: Refused) -> SearchError {
         SearchError::Memory
+    }
+}
+
+#[cfg(test)]
+mod tests {
+    use super::SearchError;
+    use regex_search_core::MatchError;
+    use std::test::Fail;
+
+    #[test]
+    fn errors_are_told(rt: HostRuntime) -> Result<(), Fail> {
+        for &(error, want) in &[
+            (
+                SearchError::HaystackTooLong { len: 32 },
+                "the span of 32 bytes is too long to search",
+            ),
+            (SearchError::Memory, "out of memory"),
+            (
+                SearchError::Finder(MatchError::GaveUp { offset: 7 }),
+                "the finder failed: GaveUp { offset: 7 }",
+            ),
+        ] {
+            assert_eq!(rt; format!(in rt.alloc(); "{error}")?.as_str(), want);
+        }
+        Ok(())
     }
 }

@@ -1,4 +1,4 @@
-//! Iteration over the matches of a haystack that never stands still.
+//! Iteration over the matches of a haystack, which always moves on.
 //!
 //! A [`Searcher`] keeps an input and the end of the last match. Each step asks for a match in the
 //! input, and moves the input's start to the match's end. A match without bytes where the last one

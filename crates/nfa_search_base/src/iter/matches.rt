@@ -125,7 +125,7 @@ impl<'h, F> fmt::Debug for TryMatchesIter<'h, F> {
     }
 }
 
-/// The matches that a finder gives which never errs, from left to right.
+/// The matches that a finder that never errs gives, from left to right.
 ///
 /// There are at most as many as the span has bytes, and one more. It ends for good after the first
 /// none.

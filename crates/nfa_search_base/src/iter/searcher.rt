@@ -133,7 +133,7 @@ impl<'h> Searcher<'h> {
         second
     }
 
-    /// The next match that a finder gives which never errs, by the step of
+    /// The next match that a finder that never errs gives, by the step of
     /// [`Searcher::try_advance`]. That it never errs the caller owes too.
     pub fn advance<F>(&mut self, mut finder: F) -> Option<Match>
     where
@@ -190,7 +190,7 @@ impl<'h> Searcher<'h> {
         second
     }
 
-    /// The next half match that a finder gives which never errs, by the step of
+    /// The next half match that a finder that never errs gives, by the step of
     /// [`Searcher::try_advance_half`]. That it never errs the caller owes too.
     pub fn advance_half<F>(&mut self, mut finder: F) -> Option<HalfMatch>
     where

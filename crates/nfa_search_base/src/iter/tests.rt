@@ -129,7 +129,7 @@ fn iterators_after_errors(rt: HostRuntime) {
 }
 
 #[test]
-fn plain_forms(rt: HostRuntime) -> Result<(), Fail> {
+fn infallible_forms(rt: HostRuntime) -> Result<(), Fail> {
     let mut searcher = Searcher::new(Input::new(b"ab"));
     for at in 0..3usize {
         let full = searcher.advance(|input: &Input<'_>| Ok(nearest(input, 0)));
