@@ -1,4 +1,5 @@
 mod caches;
+mod callers;
 mod grid;
 mod searches;
 mod sets;
