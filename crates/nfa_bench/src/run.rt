@@ -150,7 +150,7 @@ impl fmt::Display for Stop {
 }
 
 impl From<BuildError> for Stop {
-    // The samples are well formed, so an NFA is not made for want of memory alone.
+    // The samples are well formed, so only memory can be wanting.
     fn from(_: BuildError) -> Stop {
         Stop::Memory
     }
