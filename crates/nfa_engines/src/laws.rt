@@ -27,15 +27,15 @@ pub fn every_search_has_an_answer()
     ensures { EverySearchHasAnAnswer }
 {}
 
-/// Whether a scan finds a match depends neither on the match kind nor on `earliest`. Nor does it for a search, where no match
-/// has to end on a boundary.
+/// Whether a scan finds a match depends neither on the match kind nor on `earliest`. Nor does it for a search, where no
+/// match has to end on a boundary.
 pub fn is_match_agrees()
     ensures scans { ScansAgree }
     ensures searches { SearchesAgree }
 {}
 
-/// A search has one pattern and one row of slots. So a PikeVM that is asked for the leftmost first match, and not for the earliest,
-/// agrees with the backtracker wherever that one answers.
+/// A search has one pattern and one row of slots. So a PikeVM that is asked for the leftmost first match, and not for
+/// the earliest, agrees with the backtracker wherever that one answers.
 pub fn engines_agree()
     ensures { AnswersAgree }
 {}

@@ -38,7 +38,7 @@ impl Model for Cache {
 }
 
 impl Cache {
-    /// A cache that fits the PikeVM, with the numbers of that one. The error is `Memory` alone.
+    /// A cache with the numbers of the PikeVM, which it thus fits. The error is `Memory` alone.
     pub fn new(alloc: Global, vm: &PikeVM) -> Result<Cache, SearchError>
         ensures made { IfOk result (λ made. made ≡ cache_for vm.now.nfa 0 0) }
         ensures memory { IsOkUnless result SearchError.Memory }
@@ -57,8 +57,8 @@ impl Cache {
         })
     }
 
-    /// Gives the cache the numbers of the PikeVM, also where they are smaller; memory that it has stays with it. The error is
-    /// `Memory` alone; the cache then is as it was, and fits what it fitted.
+    /// Gives the cache the numbers of the PikeVM, also where they are smaller; memory that it has stays with it. The error
+    /// is `Memory` alone; the cache then is as it was, and fits what it fitted.
     pub fn reset(&mut self, vm: &PikeVM) -> Result<(), SearchError>
         ensures made { OnOk result (self.new ≡ cache_for vm.now.nfa self.old.scans self.old.turns) }
         ensures kept { OnErr result (self.new ≡ self.old) }
@@ -112,8 +112,8 @@ impl Cache {
         })
     }
 
-    /// The bytes that the entries of the cache take: 24 for a frame of the stack, 8 for a slot, 4 for each state's mark and
-    /// each place of the two sets of states. The sum stops at the greatest `usize`.
+    /// The bytes that the entries of the cache take: 24 for a frame of the stack, 8 for a slot, 4 for each state's mark
+    /// and each place of the two sets of states. The sum stops at the greatest `usize`.
     pub fn memory_usage(&self) -> usize
         ensures { result ≡ memory_of self.now }
     {

@@ -86,8 +86,8 @@ fn keep(target: Option<StateID>, next: &mut ActiveStates, slots: &[Slot])
     }
 }
 
-/// One turn: tries to enter the state, and says where it leads. Of a state that waits for a byte, the state that the byte
-/// leads to is kept.
+/// One turn: tries to enter the state, and says where it leads. Of a state that waits for a byte, the state that the
+/// byte leads to is kept.
 #[inline(always)]
 pub fn enter(
     nfa: &NFA,
@@ -199,8 +199,9 @@ pub fn resume(frames: &[FollowEpsilon], top: &mut usize, row: &mut [Slot]) -> Op
     None
 }
 
-/// Follows all that the root leads to at the position without reading a byte, each state in its turn, and keeps what the byte leads
-/// to. It answers the last match, and copies the row as it is there; without `past_match` it stops at the first match.
+/// Follows all that the root leads to at the position without reading a byte, each state in its turn, and keeps what
+/// the byte leads to. It answers the last match, and copies the row as it is there; without `past_match` it stops at
+/// the first match.
 #[inline(always)]
 pub fn follow(
     nfa: &NFA,

@@ -112,8 +112,8 @@ impl PikeVM {
         Cache::new(alloc, self)
     }
 
-    /// Makes the cache as large as this PikeVM needs it, and no larger. The error is `Memory` alone; the cache then is as it
-    /// was.
+    /// Gives the cache the numbers of this PikeVM, also where they are smaller. The error is `Memory` alone; the cache
+    /// then is as it was.
     pub fn reset_cache(&self, cache: &mut Cache) -> Result<(), SearchError>
         ensures made { OnOk result (cache.new ≡ cache_for self.now.nfa cache.old.scans cache.old.turns) }
         ensures kept { OnErr result (cache.new ≡ cache.old) }
@@ -277,8 +277,8 @@ impl PikeVM {
         self.find_with(threads, scans, &input, found.as_mut_slice())
     }
 
-    /// Whether a search of the input without `earliest` finds a match. The input's `earliest` is ignored: the search stops
-    /// at the earliest match wherever that cannot change the answer.
+    /// Whether a search of the input without `earliest` finds a match. The input's `earliest` is ignored: the search
+    /// stops at the earliest match wherever that cannot change the answer.
     ///
     /// The caller owes a cache that fits. A search leaves its numbers as they are.
     pub fn is_match<'h>(&self, cache: &mut Cache, input: Input<'h>) -> bool
@@ -299,11 +299,11 @@ impl PikeVM {
     /// Puts the patterns of all matches into the set, also of those that overlap. The set keeps what it holds, and gains
     /// patterns below its capacity alone.
     ///
-    /// With the kind `All` it gains every pattern that matches somewhere in the span; with `earliest`, those whose matches end
-    /// where the first of them does. With `LeftmostFirst` a set that holds a pattern gains nothing; an empty one gains the pattern
-    /// of the first match, and maybe some of matches that end before it; with `earliest`, that of the first match that ends
-    /// alone. That is where its capacity is at least the number of patterns; with less it is open which it gains. A match ends
-    /// on a boundary where the NFA asks for it.
+    /// With the kind `All` it gains every pattern that matches somewhere in the span; with `earliest`, those whose
+    /// matches end where the first of them does. With `LeftmostFirst` a set that holds a pattern gains nothing; an
+    /// empty one gains the pattern of the first match, and maybe some of matches that end before it; with `earliest`,
+    /// that of the first match that ends alone. That is where its capacity is at least the number of patterns; with
+    /// less it is open which it gains. A match ends on a boundary where the NFA asks for it.
     ///
     /// The caller owes a cache that fits. A search leaves its numbers as they are.
     pub fn which_overlapping_matches(

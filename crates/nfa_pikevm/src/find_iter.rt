@@ -33,7 +33,8 @@ impl PikeVM {
     /// cache that fits.
     ///
     /// The next match is searched for from the end of the last one. In place of an empty match where the last one ended
-    /// comes what a search from one byte further on finds.
+    /// comes what a search from one byte further on finds. The numbers of the cache stay as they are, so it fits
+    /// afterwards what it fitted before.
     pub fn find_iter<'r, 'c, 'h>(
         &'r self,
         cache: &'c mut Cache,

@@ -104,9 +104,9 @@ fn advance_to_set(
     resume(frames, top, &mut [])
 }
 
-/// Follows all that the root leads to at the position without reading a byte, each state in its turn, and keeps what the byte leads
-/// to. The patterns of the matches that may end here are put into the set; without `past_match` it stops at the first one.
-/// Answers whether one was met: with `past_match` one below the set's capacity.
+/// Follows all that the root leads to at the position without reading a byte, each state in its turn, and keeps what
+/// the byte leads to. The patterns of the matches that may end here are put into the set; without `past_match` it stops
+/// at the first one. Answers whether one was met: with `past_match` one below the set's capacity.
 #[inline(always)]
 fn follow_to_set(
     nfa: &NFA,
@@ -181,8 +181,8 @@ fn cross_states_to_set(
     met
 }
 
-/// Follows the states at the position, and keeps what its byte leads to for the next one. Answers whether a match was met:
-/// with `past_match` one below the set's capacity.
+/// Follows the states at the position, and keeps what its byte leads to for the next one. Answers whether a match was
+/// met: with `past_match` one below the set's capacity.
 fn cross_to_set(
     nfa: &NFA,
     input: &Input<'_>,

@@ -14,8 +14,8 @@ use nfa_engine_parts::starts::{next_start, skip_limit, start_limit, start_state}
 use regex_search_core::{HalfMatch, Input, MatchKind, PatternID, StateID};
 use thompson_nfa::NFA;
 
-/// Where the starts of a scan are: the state, the position behind the last one, and the position behind the last one that
-/// may be passed over for its byte.
+/// Where the starts of a scan are: the state, the position behind the last one, and the position behind the last one
+/// that may be passed over for its byte.
 #[derive(Clone, Copy)]
 pub struct Starts {
     pub state: StateID,

@@ -52,8 +52,8 @@ pub fn move_on(threads: &mut Threads)
     next.clear();
 }
 
-/// Follows the states at the position, in order, each with its row, and keeps what the byte leads to. It answers the last
-/// match, and copies its row; without `past_match` it stops at the first match.
+/// Follows the states at the position, in order, each with its row, and keeps what the byte leads to. It answers the
+/// last match, and copies its row; without `past_match` it stops at the first match.
 #[inline(always)]
 fn cross_states(
     nfa: &NFA,

@@ -1,5 +1,6 @@
-//! What searches of the samples answer, leftmost first: the answers of regex-automata 0.4.18, which its two engines give
-//! alike. Rows begin with the sample's name. A match whose slots give no span (`a_bare`, `a_pair`, `backwards`) is none here.
+//! What searches of the samples answer, leftmost first. Rows begin with the sample's name. These are the answers of
+//! regex-automata 0.4.18, whose two engines agree on them; what it leaves open is none here: slots past those of the
+//! NFA, and a match whose slots give no span (`a_bare`, `a_pair`, `backwards`).
 
 /// A haystack, and the pattern with as many slots as the NFA has, `-` where there is no offset.
 pub const SLOTS: &[(&str, &str, &str)] = &[
@@ -125,7 +126,8 @@ pub const ALL: &[(&str, &[u8], &str)] = &[
     ("backwards", b"a", ""),
 ];
 
-/// Of `abc`, anchored, with no name in the rows: a haystack, a number of slots, and the pattern with as many slots, `-` where there is no offset.
+/// Of `abc`, anchored, with no name in the rows: a haystack, a number of slots, and the pattern with as many slots, `-`
+/// where there is no offset.
 pub const OF_SLOT_LENS: &[(&str, usize, &str)] = &[
     ("abc", 0, "0"),
     ("abc", 1, "0 0"),

@@ -44,8 +44,8 @@ impl Cache {
         }
     }
 
-    /// Drops all marks and the blocks that held them; their memory stays for the next search. A search needs no reset before
-    /// it.
+    /// Drops all marks and the blocks that held them; their memory stays for the next search. A search needs no reset
+    /// before it.
     pub fn reset(&mut self, _: &BoundedBacktracker)
         ensures { self.new ≡ record self.old { blocks = 0 } }
     {

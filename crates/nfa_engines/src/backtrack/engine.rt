@@ -41,7 +41,8 @@ impl Model for BoundedBacktracker {
 }
 
 /// The least visited capacity, in bytes, that has a bit for each pair of the search. With it no search of the input is
-/// refused for its length. The caller owes that the states times the positions of the span, its bytes and one, fit a `usize`.
+/// refused for its length. The caller owes that the states times the positions of the span, its bytes and one, fit a
+/// `usize`.
 pub fn min_visited_capacity(nfa: &NFA, input: &Input<'_>) -> usize
     requires { length nfa.now.states * (span_len (search_of input.now) + 1) < 2 ^ 64 }
     ensures { result ≡ min_capacity_of nfa.now (search_of input.now) }
@@ -132,8 +133,8 @@ impl BoundedBacktracker {
         Ok(Captures::all(alloc, groups)?)
     }
 
-    /// Drops all marks of the cache and the blocks that held them; their memory stays for the next search. A search needs no
-    /// reset before it.
+    /// Drops all marks of the cache and the blocks that held them; their memory stays for the next search. A search
+    /// needs no reset before it.
     pub fn reset_cache(&self, cache: &mut Cache)
         ensures { cache.new ≡ record cache.old { blocks = 0 } }
     {

@@ -8,8 +8,8 @@ use std::process::Abort;
 use std::test::Fail;
 
 // A name, and the number that `fold` makes of the answers of all searches of `sum_of_answers`. The numbers were made of
-// the answers of regex-automata 0.4.18, whose two engines agree on all of them. Where three numbers are one, the NFA matches
-// in no haystack.
+// the answers of regex-automata 0.4.18, whose two engines agree on all of them. Where three numbers are one, the NFA
+// matches in no haystack.
 const SUMS: &[(&str, u64)] = &[
     ("abc", 6114000370497124573),
     ("ab_b", 7921167313159344319),

@@ -69,7 +69,8 @@ fn a_set_loses_nothing(rt: HostRuntime) -> Result<(), Fail> {
     Ok(())
 }
 
-// A name, a haystack, a span, whether the search is anchored, the capacity of a set, and the patterns that an empty set gains under `All`.
+// A name, a haystack, a span, whether the search is anchored, the capacity of a set, and the patterns that an empty set
+// gains under `All`.
 const GAINED_IN_SPAN: &[(&str, &str, usize, usize, bool, usize, &str)] = &[
     ("abc_b", "abx", 0, 3, true, 2, ""),
     ("abc_b", "abx", 0, 3, false, 2, "1 "),
