@@ -1,6 +1,6 @@
 -- The match of a search's answer lies in its span.
-use Rattle.std.proofs.Common.{◌≡◌, ℕ, ◌+◌, ◌*◌, ◌≤◌, inl, inr, Bool, true, false, List, [], ◌∷◌, map, refl, ap, sym, subst, MatchBool, arith}
-use Rattle.std.specs.Prelude.{Option, None, Some, cond, nat_le, option_and_then, option_map, ◌==◌}
+use Rattle.std.proofs.Common.{◌∙◌, ◌≡◌, ℕ, ◌+◌, ◌*◌, ◌≤◌, inl, inr, Bool, true, false, List, [], ◌∷◌, map, refl, ap, sym, subst, MatchBool, arith}
+use Rattle.std.specs.Prelude.{◌<◌, length, replicate, All, IfSome, Option, None, Some, cond, nat_le, option_and_then, option_map, ◌==◌}
 use Rattle.std.specs.Option.{option_or, option_map_or}
 use Rattle.std.specs.List.{slice_get, range_with_len}
 use Rattle.std.proofs.lemmas.Bool.{cases_lt, le-leb, lt-leb}
@@ -8,13 +8,15 @@ use Rattle.std.proofs.lemmas.Option.{slice_get-map}
 use Rattle.regex_search_core.specs.Found.{Found}
 use Rattle.regex_search_core.specs.Groups.{slot_count}
 use Rattle.regex_search_core.specs.Search.{Search, is_anchored}
-use Rattle.regex_search_core.specs.Slots.{offset_at, match_of}
+use Rattle.regex_search_core.specs.Slots.{offset_at, span_at, match_of}
 use Rattle.regex_search_core.specs.declared.search.MatchKind.{MatchKind}
 use Rattle.regex_search_core.specs.declared.search.Span.{Span}
-use Rattle.thompson_nfa.specs.Automaton.{Automaton}
+use Rattle.thompson_nfa.specs.Automaton.{Automaton, IsAutomaton}
 use Rattle.nfa_search_base.specs.Graphs.{Pair, In, Linked, PathTo}
-use Rattle.nfa_search_base.specs.Paths.{edges, starts, capture, raised, path_pattern, slot_among, slot_row, is_utf8_empty, IsScanAnswer, IsKeptAnswer, IsRestartedAnswer, IsSearchAnswer, IsMatchAnswer}
+use Rattle.nfa_search_base.specs.Paths.{edges, starts, capture, raised, path_pattern, pattern_of, node_at, last_of, slot_among, slot_row, is_utf8_empty, IsScanAnswer, IsKeptAnswer, IsRestartedAnswer, IsSearchAnswer, IsAnswer, IsMatchAnswer}
 use Rattle.nfa_search_base.proofs.AnswerLemmas.{scan_answer-leads, never_none}
+use Rattle.std.proofs.lemmas.List.Elements.{All-map, All-replicate}
+use Rattle.nfa_search_base.proofs.PatternLemmas.{node-pattern}
 use Rattle.nfa_search_base.proofs.ScanAnswerLemmas.{edges-onward, edges-within, starts-from, starts-within}
 
 -- the position lies in the span
@@ -137,3 +139,59 @@ module _ (nfa : Automaton) where
             → (x.start ≤ f.start) × (f.start ≤ f.end) × (f.end ≤ x.end)
         of None answers e = cc
         of (Some p) answers e = some p (scanned x a.restarts p answers) (path_pattern nfa p) e
+
+    -- what holds of the number that a slot has
+    if-some : (o : Option ℕ) (P : ℕ → Type 0) → ((k : ℕ) → o ≡ Some k → P k) → IfSome o P
+    if-some None P holds = tt
+    if-some (Some k) P holds = holds k refl
+
+    -- each slot of an answer is none, or lies in the span
+    pub slots-within : (x : Search) (pattern : Option ℕ) (slots : List (Option ℕ)) → IsAnswer nfa kind earliest x pattern slots
+        → All (λ o. IfSome o (λ k. (x.start ≤ k) × (k ≤ x.end))) slots
+    unfolding slot_row
+    slots-within x pattern slots a =
+        subst (All (λ o. IfSome o (λ k. (x.start ≤ k) × (k ≤ x.end)))) (sym a.slots_are) (of a.path a.answers)
+      where
+        some : (p : List Pair) (s : Scanned x p) (j k : ℕ) → slot_among nfa p j ≡ Some k → (x.start ≤ k) × (k ≤ x.end)
+        some p s j k e =
+            let to = scan_answer-leads nfa s.from kind earliest p s.answers in
+            let lies = slot-within s.from p (path-within s.from to.end p to.path) j k e in
+            let on : x.start ≤ s.from.start = s.on in
+            let end : s.from.end ≡ x.end = s.end in
+            (omega (arith, lies.0), omega (arith, lies.1))
+
+        of : (path : Option (List Pair)) → IsSearchAnswer nfa kind earliest x a.restarts path
+            → All (λ o. IfSome o (λ k. (x.start ≤ k) × (k ≤ x.end))) (slot_row nfa (length slots) path)
+        of None answers = All-replicate (λ o. IfSome o (λ k. (x.start ≤ k) × (k ≤ x.end))) (length slots) None tt
+        of (Some p) answers =
+            let s = scanned x a.restarts p answers in
+            All-map (λ o. IfSome o (λ k. (x.start ≤ k) × (k ≤ x.end))) (slot_among nfa p) (range_with_len 0 (length slots))
+            (λ i d below. if-some (slot_among nfa p _) (λ k. (x.start ≤ k) × (k ≤ x.end)) (λ k e. some p s _ k e))
+
+    path-pattern : IsAutomaton nfa → (p : List Pair) (q : ℕ) → path_pattern nfa p ≡ Some q → q < length nfa.patterns
+    path-pattern valid p q e = of (last_of p) e
+      where
+        of : (last : Option Pair) → option_and_then (λ (v : Pair). pattern_of (node_at nfa v.0)) last ≡ Some q → q < length nfa.patterns
+        of None e = cc
+        of (Some v) e = node-pattern nfa valid v.0 q e
+
+    among : IsAutomaton nfa → (path : Option (List Pair)) (q : ℕ) → option_and_then (path_pattern nfa) path ≡ Some q → q < length nfa.patterns
+    among valid None q e = cc
+    among valid (Some p) q e = path-pattern valid p q e
+
+    -- the pattern of an answer is one of the NFA's
+    pub pattern-within : IsAutomaton nfa → (x : Search) (pattern : Option ℕ) (slots : List (Option ℕ)) → IsAnswer nfa kind earliest x pattern slots
+        → IfSome pattern (λ q. q < length nfa.patterns)
+    pattern-within valid x pattern slots a = if-some pattern (λ q. q < length nfa.patterns) (λ q e. among valid a.path q (sym a.pattern_is ∙ e))
+
+    -- and so is that of a match
+    pub match-pattern : IsAutomaton nfa → (x : Search) (f : Found) → IsMatchAnswer nfa kind earliest x (Some f) → f.pattern < length nfa.patterns
+    match-pattern valid x f a = of (option_and_then (path_pattern nfa) a.path) refl a.found_is
+      where
+        of : (o : Option ℕ) → option_and_then (path_pattern nfa) a.path ≡ o → Some f ≡ match_of o (slot_row nfa (slot_count nfa.groups) a.path) → f.pattern < length nfa.patterns
+        of None is e = cc
+        of (Some q) is e = subst (λ (n : ℕ). n < length nfa.patterns) (same (span_at (slot_row nfa (slot_count nfa.groups) a.path) (2 * q)) e) (among valid a.path q is)
+          where
+            same : (o : Option Span) → Some f ≡ option_map (λ (s : Span). record { pattern = q; start = s.start; end = s.end }) o → q ≡ f.pattern
+            same None e = cc
+            same (Some s) e = let is : f ≡ record { pattern = q; start = s.start; end = s.end } = cc in sym (ap (λ (g : Found). g.pattern) is)

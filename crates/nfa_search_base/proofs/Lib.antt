@@ -1,6 +1,7 @@
 pub mod AgreementLemmas
 pub mod AnswerLemmas
 pub mod AskingLemmas
+pub mod CatchingLemmas
 pub mod EarliestLemmas
 pub mod EmptyFinderLemmas
 pub mod ExistenceLemmas
@@ -9,6 +10,7 @@ pub mod FinitePathLemmas
 pub mod GreedyLemmas
 pub mod InsideLemmas
 pub mod KindsLemmas
+pub mod KnownLemmas
 pub mod PathLemmas
 pub mod PathToLemmas
 pub mod ScanAnswerLemmas
@@ -23,3 +25,4 @@ pub mod TurnLemmas
 pub mod WalkLemmas
 pub mod OverlapLemmas
 pub mod PatternLemmas
+pub mod ListLemmas

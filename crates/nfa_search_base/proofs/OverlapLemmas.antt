@@ -5,7 +5,7 @@ use Rattle.std.specs.List.{last_or}
 use Rattle.std.proofs.Math.Decide.{ℕ_discrete}
 use Rattle.std.proofs.lemmas.Bool.{cases_Bool, cases_lt, lt-ltb, le-ltb}
 use Rattle.std.proofs.lemmas.List.{get_or_past}
-use Rattle.std.proofs.lemmas.List.Sums.{sum_by-cons}
+use Rattle.std.proofs.lemmas.List.Sums.{sum_by-cons, count_by-le-length}
 use Rattle.regex_search_core.specs.PatternSets.{with_pattern, size_of_set}
 use Rattle.regex_search_core.specs.Search.{Search}
 use Rattle.regex_search_core.specs.declared.search.MatchKind.TheVariants.{All, LeftmostFirst}
@@ -29,6 +29,27 @@ use Rattle.nfa_search_base.proofs.ScanAnswerLemmas.{Scanned-matches, starts-from
 
 size-cons : (b : Bool) (bs : List Bool) → size_of_set (b ∷ bs) ≡ cond b 1 0 + size_of_set bs
 size-cons b bs = sum_by-cons (λ (c : Bool). cond c 1 0) b bs
+
+-- a full set holds each pattern below its capacity
+full-holds : (set : List Bool) → size_of_set set ≡ length set → (k : ℕ) → k < length set → HoldsPattern set k
+full-holds [] full k lt = absurd (omega (arith, lt))
+full-holds (false ∷ bs) full k lt =
+    let most : size_of_set bs ≤ length bs = count_by-le-length (λ b. b) bs in
+    let e : size_of_set (false ∷ bs) ≡ 0 + size_of_set bs = size-cons false bs in
+    absurd (omega (arith, most, e, full))
+full-holds (true ∷ bs) full zero lt = refl
+full-holds (true ∷ bs) full (suc k) lt =
+    let e : size_of_set (true ∷ bs) ≡ 1 + size_of_set bs = size-cons true bs in
+    full-holds bs (omega (arith, e, full)) k (omega (arith, lt))
+
+-- a full set gains none
+pub full-gains : (nfa : Automaton) (x : Search) (earliest : Bool) (set : List Bool) → size_of_set set ≡ length set → IsOverlapResult nfa x All earliest set set
+full-gains nfa x earliest set full = record {
+  capacity = refl;
+  keeps = λ k h. h;
+  sound = λ k h. inl h;
+  gains = record { gained = λ k. (λ h. inl h, λ s. elim s [ inl o ↦ o | inr w ↦ full-holds set full k w.0 ]) };
+}
 
 -- a set of no pattern holds none
 pub size-none : (set : List Bool) → size_of_set set ≡ 0 → (k : ℕ) → HoldsPattern set k → ⊥
@@ -230,6 +251,20 @@ module _ (nfa : Automaton) (x : Search) (wants : Pair → Bool) (tells : (v : Pa
                         (IsReached-along (λ v p. (tells v).1 p) w.1),
                   ))
             ],
+      );
+    };
+  }
+
+  -- a full set gains no more
+  pub GainsBefore-full : {e : ℕ} {old new : List Bool} → GainsBefore e old new → size_of_set new ≡ length new → IsOverlapResult nfa x All false old new
+  GainsBefore-full {e} {old} {new} g full = record {
+    capacity = g.capacity;
+    keeps = λ k h. (g.gained k).1 (inl h);
+    sound = λ k h. elim ((g.gained k).0 h) [ inl o ↦ inl o | inr w ↦ inr (w.0, reached-sound w.1) ];
+    gains = record {
+      gained = λ k. (
+        λ h. elim ((g.gained k).0 h) [ inl o ↦ inl o | inr w ↦ inr (w.0, reached-sound w.1) ],
+        λ s. elim s [ inl o ↦ (g.gained k).1 (inl o) | inr w ↦ full-holds new full k (rw g.capacity w.0) ],
       );
     };
   }

@@ -65,7 +65,7 @@ unwritten (Some k) i at below =
 
 module _ (nfa : Automaton) where
   -- a state's pattern is one of the NFA's
-  node-pattern : IsAutomaton nfa → (q k : ℕ) → pattern_of (node_at nfa q) ≡ Some k → k < length nfa.patterns
+  pub node-pattern : IsAutomaton nfa → (q k : ℕ) → pattern_of (node_at nfa q) ≡ Some k → k < length nfa.patterns
   unfolding node_at
   node-pattern valid q k e =
       elim (cases_lt q (length nfa.states)) [

@@ -5,8 +5,8 @@ use Rattle.std.specs.Fn.{Mut}
 use Rattle.std.specs.Borrow.{Bor}
 use Rattle.regex_search_core.specs.Search.{Search, search_of}
 use Rattle.regex_search_core.specs.declared.search.Input.{Input}
-use Rattle.nfa_search_base.specs.Asking.{Asks, SameButStart, SameButEnd, ServesAlong}
-use Rattle.nfa_search_base.proofs.AskingLemmas.{ServesAs-now, ServesAlong-call}
+use Rattle.nfa_search_base.specs.Asking.{Asks, IsCallableOn, SameButStart, SameButEnd, ServesAlong}
+use Rattle.nfa_search_base.proofs.AskingLemmas.{ServesOn-now, ServesOnAlong-call}
 use Rattle.nfa_search_base.specs.declared.error.SearchError.{SearchError}
 use Rattle.nfa_search_base.specs.Skipping.{Placed, value_of, IsPlacedIn, IsSplit, IsWhole, raised, lowered, Answers, LeadsTo, SkipsTo}
 
@@ -50,18 +50,18 @@ module _ {T F : Type 0} (g : Mut F (Bor Input × Unit {0}) (Placed T)) (haystack
     module _ (s : Search) (r0 : Placed T) (f0 : F) (t : Search) (r : Placed T) (f : F) (come : HasCome s r0 f0 t r f) where
       -- the next call may be made
       pub HasCome-callable : (u : Search) → Same s u → (p : Bor Input) → search_of p.now ≡ u → g.pre f (p, tt)
-      HasCome-callable u same = (ServesAs-now g Same same-self same-then IsPlacedIn f s u same come.serves).callable
+      HasCome-callable u same = (ServesOn-now (IsCallableOn g) (Asks g) Same same-self same-then IsPlacedIn f s u same come.serves).callable
 
       -- its answer lies in the span
       pub HasCome-placed : (u : Search) (a : Placed T) (f' : F) → Same s u → Asks g f u a f' → IsPlacedIn u a
-      HasCome-placed u a f' same asked = (ServesAs-now g Same same-self same-then IsPlacedIn f s u same come.serves).replies a f' asked
+      HasCome-placed u a f' same asked = (ServesOn-now (IsCallableOn g) (Asks g) Same same-self same-then IsPlacedIn f s u same come.serves).replies a f' asked
 
       -- and after it the skipping has come there
       pub HasCome-next : (u : Search) (a : Placed T) (f' : F) → Same s u → ((n : ℕ) → moved n ≡ Some t → moved (n + 1) ≡ Some u) → IsSplit haystack r → Asks g f u a f'
           → HasCome s r0 f0 u a f'
       HasCome-next u a f' same up split asked = record {
         same = same;
-        serves = ServesAlong-call g Same same-self same-then IsPlacedIn f s u a f' same asked come.serves;
+        serves = ServesOnAlong-call (IsCallableOn g) (Asks g) Same same-self same-then IsPlacedIn f s u a f' same asked come.serves;
         count = come.count + 1;
         at = up come.count come.at;
         so_far = IsSkipping-next r0 f0 come.count r f a f' split (rw (up come.count come.at) asked) come.so_far;

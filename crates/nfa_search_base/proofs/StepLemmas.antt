@@ -1,28 +1,23 @@
 -- a step of an iteration by a finder
-use Rattle.std.proofs.Common.{◌≡◌, ◌≤◌, true, false, Bool, Option, None, Some, Result, Ok, Err, IsOk, refl, sym, ◌∙◌, ap, subst, ◌⊎◌, inl, inr, MatchBool, arith}
-use Rattle.std.specs.Fn.{Mut}
+use Rattle.std.proofs.Common.{◌≡◌, true, false, Bool, Option, None, Some, Result, IsOk, refl, sym, subst, ◌⊎◌, inl, inr, MatchBool}
+use Rattle.std.specs.Fn.{Called, Mut}
 use Rattle.std.specs.Borrow.{Bor}
-use Rattle.regex_search_core.specs.Found.{half_found_of}
 use Rattle.regex_search_core.specs.Search.{Search, search_of}
-use Rattle.regex_search_core.specs.declared.search.HalfMatch.{HalfMatch}
 use Rattle.regex_search_core.specs.declared.search.Input.{Input}
 use Rattle.regex_search_core.specs.declared.search.Span.{Span}
-use Rattle.nfa_search_base.specs.Asking.{Asks, SameButStart}
+use Rattle.nfa_search_base.specs.Asking.{IsCallableOn, SameButStart}
 use Rattle.nfa_search_base.specs.Behind.{IsBehind}
-use Rattle.nfa_search_base.specs.Walks.{half_span_of, Walk, Answer, place_of, IsInside, IsSurelyInside, LiesIn, repeats, after, shifted, Advances, ComesAfter, LeavesFewer}
-use Rattle.nfa_search_base.specs.Finders.{answer_by, Finds, ServesStep, AnswersAlong}
+use Rattle.nfa_search_base.specs.Walks.{Walk, Answer, place_of, IsInside, IsSurelyInside, repeats, after, shifted, Advances, ComesAfter, LeavesFewer}
+use Rattle.nfa_search_base.specs.Finders.{answer_by, Finds, AnswersAlong}
+use Rattle.nfa_search_base.specs.Serving.{ServesOnAlong, ServesTurn}
 use Rattle.nfa_search_base.specs.declared.error.SearchError.{SearchError}
-use Rattle.nfa_search_base.proofs.AskingLemmas.{same_start-self, same_start-then, ServesAs-now, ServesAlong-same, ServesAlong-call, ServesAlong-weaker}
+use Rattle.nfa_search_base.proofs.AskingLemmas.{same_start-self, same_start-then, ServesOn-now, ServesOnAlong-same, ServesOnAlong-call, ServesOnAlong-weaker, ServesOnAlong-by}
 use Rattle.nfa_search_base.proofs.WalkLemmas.{IsOrdered, ComesAfter-first, LeavesFewer-first, ComesAfter-second, LeavesFewer-second}
 
 -- which of the two facts a test chose
 pub chosen : {A B : Type 0} (b : Bool) → MatchBool b A B → ((b ≡ true) × A) ⊎ ((b ≡ false) × B)
 chosen true h = inl (refl, h)
 chosen false h = inr (refl, h)
-
--- a half match does not end before it starts
-pub half-ordered : (m : HalfMatch) → (half_span_of (half_found_of m)).start ≤ (half_span_of (half_found_of m)).end
-half-ordered m = omega arith
 
 -- after a match or none, the search is the same but for its start
 pub same_start-after : (w : Walk) (place : Option Span) → SameButStart w.at (after w place).at
@@ -38,169 +33,93 @@ pub same_start-after_shifted : (w : Walk) (place : Option Span) → SameButStart
 same_start-after_shifted w None = record { haystack = refl; end = refl; anchored = refl; earliest = refl }
 same_start-after_shifted w (Some p) = record { haystack = refl; end = refl; anchored = refl; earliest = refl }
 
-module _ {A X F : Type 0} (view : A → X) (g : Mut F (Bor Input × Unit {0}) (Result (Option A) SearchError)) (span : X → Span)
-    (ordered : (m : A) → (span (view m)).start ≤ (span (view m)).end) where
-  -- where the match that was replied lies
-  abbrev place : Result (Option A) SearchError → Option Span
-  place reply = place_of span (answer_by view reply)
-
-  -- it does not end before it starts
-  pub place-ordered : (reply : Result (Option A) SearchError) → IsOrdered (place reply)
-  place-ordered (Ok (Some m)) = λ p is. let e : span (view m) ≡ p = cc in subst (λ (q : Span). q.start ≤ q.end) e (ordered m)
-  place-ordered (Ok None) = λ p is. let e : None ≡ Some p = is in cc
-  place-ordered (Err x) = λ p is. let e : None ≡ Some p = is in cc
-
-  -- what a step by the finder ensures
-  pub record StepDone (f : F) (w : Walk) (reply : Result (Option A) SearchError) (f' : F) (w' : Walk) : Type 0 where
-    pub step : Advances span (Finds view g) f w (answer_by view reply) f' w'
-    pub rises : ComesAfter w (place reply)
-    pub fewer : LeavesFewer w (place reply) w'
-    pub same : SameButStart w.at w'.at
-
-  module _ (f : F) (w : Walk) (serves : ServesStep view g span (IsInside span) f w) (reply : Result (Option A) SearchError) (f' : F) (asked : Asks g f w.at reply f') where
-    -- the first match lies in the span
-    pub first-lies : (p : Option Span) → p ≡ place reply → LiesIn w.at p
-    first-lies p is = subst (λ (q : Option Span). LiesIn w.at q) (sym is) (serves.first.replies reply f' asked)
-
-    -- also as it is taken
-    pub first-taken : (w1 : Walk) (p : Option Span) → w1 ≡ w → p ≡ place reply → LiesIn w1.at p
-    first-taken w1 p stays is = subst (λ (v : Walk). LiesIn v.at p) (sym stays) (first-lies p is)
-
-    -- the first answer is taken
-    pub done-first : (w1 w2 : Walk) (p1 p2 : Option Span) → IsBehind w.last w.at.start → p1 ≡ place reply → p2 ≡ place reply → repeats w p1 ≡ false → w1 ≡ w → w2 ≡ after w1 p2
-        → StepDone f w reply f' w2
-    done-first w1 w2 p1 p2 behind is1 is2 new stays taken =
-        let lies : LiesIn w.at (place reply) = serves.first.replies reply f' asked in
-        let is_new : repeats w (place reply) ≡ false = subst (λ (q : Option Span). repeats w q ≡ false) is1 new in
-        let w' : w2 ≡ after w (place reply) = taken ∙ ap (λ (v : Walk). after v p2) stays ∙ ap (λ (q : Option Span). after w q) is2 in
-        let comes : ComesAfter w (place reply) = ComesAfter-first w (place reply) behind lies (place-ordered reply) is_new in
-        record {
-          step = record {
-            answer = answer_by view reply;
-            between = f';
-            first = record { reply = reply; asked = asked; shows = refl };
-            rest = subst (λ (b : Bool). MatchBool b (Finds view g f' (shifted w).at (answer_by view reply) f' × (w2 ≡ after (shifted w) (place reply)))
-                ((answer_by view reply ≡ answer_by view reply) × (f' ≡ f') × (w2 ≡ after w (place reply)))) (sym is_new) (refl, refl, w');
-          };
-          rises = comes;
-          fewer = subst (λ (v : Walk). LeavesFewer w (place reply) v) (sym w') (LeavesFewer-first w (place reply) lies (place-ordered reply) comes);
-          same = subst (λ (v : Walk). SameButStart w.at v.at) (sym w') (same_start-after w (place reply));
-        }
-
-    module _ (p1 : Option Span) (w1 : Walk) (is1 : p1 ≡ place reply) (again : repeats w p1 ≡ true) (moved : w1 ≡ shifted w) where
-      -- the first match repeats the last one
-      does_repeat : repeats w (place reply) ≡ true
-      does_repeat = subst (λ (q : Option Span). repeats w q ≡ true) is1 again
-
-      -- so the second call may be made
-      pub second-callable : (p : Bor Input) → search_of p.now ≡ w1.at → g.pre f' (p, tt)
-      second-callable p e = (serves.second reply f' asked does_repeat).callable p (e ∙ ap (λ (v : Walk). v.at) moved)
-
-      module _ (reply' : Result (Option A) SearchError) (f'' : F) (asked' : Asks g f' w1.at reply' f'') where
-        -- it is a call one on
-        second-asked : Asks g f' (shifted w).at reply' f''
-        second-asked = subst (λ (v : Walk). Asks g f' v.at reply' f'') moved asked'
-
-        -- whose match lies in the span
-        pub second-lies : (p2 : Option Span) → p2 ≡ place reply' → LiesIn w1.at p2
-        second-lies p2 is2 = subst (λ (v : Walk). LiesIn v.at p2) (sym moved)
-            (subst (λ (q : Option Span). LiesIn (shifted w).at q) (sym is2) ((serves.second reply f' asked does_repeat).replies reply' f'' second-asked))
-
-        -- and is taken
-        pub done-second : (w2 : Walk) (p2 : Option Span) → IsBehind w.last w.at.start → p2 ≡ place reply' → w2 ≡ after w1 p2 → StepDone f w reply' f'' w2
-        done-second w2 p2 behind is2 taken =
-            let lies : LiesIn (shifted w).at (place reply') = (serves.second reply f' asked does_repeat).replies reply' f'' second-asked in
-            let w' : w2 ≡ after (shifted w) (place reply') = taken ∙ ap (λ (v : Walk). after v p2) moved ∙ ap (λ (q : Option Span). after (shifted w) q) is2 in
-            let comes : ComesAfter w (place reply') = ComesAfter-second w (place reply') behind lies (place-ordered reply') in
-            record {
-              step = record {
-                answer = answer_by view reply;
-                between = f';
-                first = record { reply = reply; asked = asked; shows = refl };
-                rest = subst (λ (b : Bool). MatchBool b (Finds view g f' (shifted w).at (answer_by view reply') f'' × (w2 ≡ after (shifted w) (place reply')))
-                    ((answer_by view reply' ≡ answer_by view reply) × (f'' ≡ f') × (w2 ≡ after w (place reply')))) (sym does_repeat)
-                    (record { reply = reply'; asked = second-asked; shows = refl }, w');
-              };
-              rises = comes;
-              fewer = subst (λ (v : Walk). LeavesFewer w (place reply') v) (sym w') (LeavesFewer-second w (place reply') lies (place-ordered reply') comes);
-              same = subst (λ (v : Walk). SameButStart w.at v.at) (sym w') (same_start-after_shifted w (place reply'));
-            }
-
--- what holds of a finder's answers along its calls
-module _ {A X F : Type 0} (view : A → X) (g : Mut F (Bor Input × Unit {0}) (Result (Option A) SearchError)) (span : X → Span) where
-  -- P of the value of a reply
-  abbrev by_value : (Search → Answer X → Type 0) → Search → Result (Option A) SearchError → Type 0
-  by_value P s reply = P s (answer_by view reply)
-
+module _ {S X : Type 0} (accepts : S → Search → Type 0) (asks : S → Search → Answer X → S → Type 0) (span : X → Span) where
+  -- what holds along the calls
   module _ (P : Search → Answer X → Type 0) where
+    -- it holds along the calls from s on searches like t
+    abbrev Along : S → Search → Type 0
+    Along s t = ServesOnAlong accepts asks SameButStart P s t
+
     -- the same from a search like it
-    pub AnswersAlong-same : (f : F) (s t : Search) → SameButStart s t → AnswersAlong view g P f s → AnswersAlong view g P f t
-    AnswersAlong-same f s t same h = ServesAlong-same g SameButStart same_start-self same_start-then (by_value P) f s t same h
+    pub Along-same : (f : S) (s t : Search) → SameButStart s t → Along f s → Along f t
+    Along-same f s t same h = ServesOnAlong-same accepts asks SameButStart same_start-self same_start-then P f s t same h
 
     -- after a call
-    pub AnswersAlong-call : (f : F) (s t : Search) (a : Answer X) (f' : F) → SameButStart s t → Finds view g f t a f' → AnswersAlong view g P f s → AnswersAlong view g P f' s
-    AnswersAlong-call f s t a f' same found h = ServesAlong-call g SameButStart same_start-self same_start-then (by_value P) f s t found.reply f' same found.asked h
+    pub Along-call : (f : S) (s t : Search) (a : Answer X) (f' : S) → SameButStart s t → asks f t a f' → Along f s → Along f' s
+    Along-call f s t a f' same asked h = ServesOnAlong-call accepts asks SameButStart same_start-self same_start-then P f s t a f' same asked h
 
     -- what it gives of a call
-    pub AnswersAlong-now : (f : F) (s t : Search) (a : Answer X) (f' : F) → SameButStart s t → Finds view g f t a f' → AnswersAlong view g P f s → P t a
-    AnswersAlong-now f s t a f' same found h =
-        subst (λ (b : Answer X). P t b) (sym found.shows) ((ServesAs-now g SameButStart same_start-self same_start-then (by_value P) f s t same h).replies found.reply f' found.asked)
+    pub Along-now : (f : S) (s t : Search) (a : Answer X) (f' : S) → SameButStart s t → asks f t a f' → Along f s → P t a
+    Along-now f s t a f' same asked h = (ServesOn-now accepts asks SameButStart same_start-self same_start-then P f s t same h).replies a f' asked
 
     -- a step may be made
-    pub ServesStep-now : (f : F) (w : Walk) → AnswersAlong view g P f w.at → ServesStep view g span P f w
-    ServesStep-now f w h = record {
-      first = ServesAs-now g SameButStart same_start-self same_start-then (by_value P) f w.at w.at (same_start-self w.at) h;
-      second = λ reply f' asked again. ServesAs-now g SameButStart same_start-self same_start-then (by_value P) f' w.at (shifted w).at (same_start-shifted w)
-          (ServesAlong-call g SameButStart same_start-self same_start-then (by_value P) f w.at w.at reply f' (same_start-self w.at) asked h);
+    pub ServesTurn-now : (f : S) (w : Walk) → Along f w.at → ServesTurn accepts asks span P f w
+    ServesTurn-now f w h = record {
+      first = ServesOn-now accepts asks SameButStart same_start-self same_start-then P f w.at w.at (same_start-self w.at) h;
+      second = λ a f' asked again. ServesOn-now accepts asks SameButStart same_start-self same_start-then P f' w.at (shifted w).at (same_start-shifted w)
+          (Along-call f w.at w.at a f' (same_start-self w.at) asked h);
     }
 
     -- after a step
-    pub AnswersAlong-step : (f : F) (w : Walk) (r : Answer X) (f' : F) (w' : Walk) → Advances span (Finds view g) f w r f' w' → AnswersAlong view g P f w.at → AnswersAlong view g P f' w.at
-    AnswersAlong-step f w r f' w' step h =
-        let once : AnswersAlong view g P step.between w.at = AnswersAlong-call f w.at w.at step.answer step.between (same_start-self w.at) step.first h in
+    pub Along-step : (f : S) (w : Walk) (r : Answer X) (f' : S) (w' : Walk) → Advances span asks f w r f' w' → Along f w.at → Along f' w.at
+    Along-step f w r f' w' step h =
+        let once : Along step.between w.at = Along-call f w.at w.at step.answer step.between (same_start-self w.at) step.first h in
         elim (chosen (repeats w (place_of span step.answer)) step.rest) [
-          | inl p ↦ AnswersAlong-call step.between w.at (shifted w).at r f' (same_start-shifted w) p.1.0 once
-          | inr p ↦ subst (λ (q : F). AnswersAlong view g P q w.at) (sym p.1.1) once
+          | inl p ↦ Along-call step.between w.at (shifted w).at r f' (same_start-shifted w) p.1.0 once
+          | inr p ↦ subst (λ (q : S). Along q w.at) (sym p.1.1) once
         ]
 
     -- and from where the iteration then stands
-    pub AnswersAlong-turn : (f : F) (w : Walk) (r : Answer X) (f' : F) (w' : Walk) → Advances span (Finds view g) f w r f' w' → SameButStart w.at w'.at → AnswersAlong view g P f w.at
-        → AnswersAlong view g P f' w'.at
-    AnswersAlong-turn f w r f' w' step same h = AnswersAlong-same f' w.at w'.at same (AnswersAlong-step f w r f' w' step h)
+    pub Along-turn : (f : S) (w : Walk) (r : Answer X) (f' : S) (w' : Walk) → Advances span asks f w r f' w' → SameButStart w.at w'.at → Along f w.at → Along f' w'.at
+    Along-turn f w r f' w' step same h = Along-same f' w.at w'.at same (Along-step f w r f' w' step h)
 
     -- the answer of a step is one of a call
-    pub AnswersAlong-answer : (f : F) (w : Walk) (r : Answer X) (f' : F) (w' : Walk) → Advances span (Finds view g) f w r f' w' → AnswersAlong view g P f w.at → (s : Search) × P s r
-    AnswersAlong-answer f w r f' w' step h =
-        let once : AnswersAlong view g P step.between w.at = AnswersAlong-call f w.at w.at step.answer step.between (same_start-self w.at) step.first h in
+    pub Along-answer : (f : S) (w : Walk) (r : Answer X) (f' : S) (w' : Walk) → Advances span asks f w r f' w' → Along f w.at → (s : Search) × P s r
+    Along-answer f w r f' w' step h =
+        let once : Along step.between w.at = Along-call f w.at w.at step.answer step.between (same_start-self w.at) step.first h in
         elim (chosen (repeats w (place_of span step.answer)) step.rest) [
-          | inl p ↦ ((shifted w).at, AnswersAlong-now step.between w.at (shifted w).at r f' (same_start-shifted w) p.1.0 once)
-          | inr p ↦ (w.at, subst (λ (b : Answer X). P w.at b) (sym p.1.0) (AnswersAlong-now f w.at w.at step.answer step.between (same_start-self w.at) step.first h))
+          | inl p ↦ ((shifted w).at, Along-now step.between w.at (shifted w).at r f' (same_start-shifted w) p.1.0 once)
+          | inr p ↦ (w.at, subst (λ (b : Answer X). P w.at b) (sym p.1.0) (Along-now f w.at w.at step.answer step.between (same_start-self w.at) step.first h))
         ]
 
   -- what holds of each answer may be weakened
-  pub AnswersAlong-weaker : (P Q : Search → Answer X → Type 0) (f : F) (s : Search) → ((t : Search) (a : Answer X) → P t a → Q t a) → AnswersAlong view g P f s → AnswersAlong view g Q f s
-  AnswersAlong-weaker P Q f s weaker h = ServesAlong-weaker g SameButStart same_start-self same_start-then (by_value P) (by_value Q) f s (λ t reply p. weaker t (answer_by view reply) p) h
+  pub Along-weaker : (P Q : Search → Answer X → Type 0) (f : S) (s : Search) → ((t : Search) (a : Answer X) → P t a → Q t a) → Along P f s → Along Q f s
+  Along-weaker P Q f s weaker h = ServesOnAlong-weaker accepts asks SameButStart same_start-self same_start-then P Q f s weaker h
 
   -- so may what is asked of a step
-  pub ServesStep-surely : (f : F) (w : Walk) → ServesStep view g span (IsSurelyInside span) f w → ServesStep view g span (IsInside span) f w
-  ServesStep-surely f w h = record {
-    first = record { callable = h.first.callable; replies = λ reply f' asked. (h.first.replies reply f' asked).0 };
-    second = λ reply f' asked again.
-        let now = h.second reply f' asked again in
-        record { callable = now.callable; replies = λ reply' f'' asked'. (now.replies reply' f'' asked').0 };
+  pub ServesTurn-surely : (f : S) (w : Walk) → ServesTurn accepts asks span (IsSurelyInside span) f w → ServesTurn accepts asks span (IsInside span) f w
+  ServesTurn-surely f w h = record {
+    first = record { callable = h.first.callable; replies = λ a f' asked. (h.first.replies a f' asked).0 };
+    second = λ a f' asked again.
+        let now = h.second a f' asked again in
+        record { callable = now.callable; replies = λ a' f'' asked'. (now.replies a' f'' asked').0 };
   }
 
-  -- where the finder never errs, a step has no error
-  pub step-surely : (f : F) (w : Walk) (r : Answer X) (f' : F) (w' : Walk) → ServesStep view g span (IsSurelyInside span) f w → Advances span (Finds view g) f w r f' w' → IsOk r
-  step-surely f w r f' w' h step =
-      let first = step.first in
-      elim (chosen (repeats w (place_of span step.answer)) step.rest) [
-        | inl p ↦
-            let again : repeats w (place_of span (answer_by view first.reply)) ≡ true = subst (λ (b : Answer X). repeats w (place_of span b) ≡ true) first.shows p.0 in
-            let second = p.1.0 in
-            subst (λ (b : Answer X). IsOk b) (sym second.shows) ((h.second first.reply step.between first.asked again).replies second.reply f' second.asked).1
-        | inr p ↦ subst (λ (b : Answer X). IsOk b) (sym (p.1.0 ∙ first.shows)) (h.first.replies first.reply step.between first.asked).1
-      ]
+  -- where no call errs, a step has no error
+  pub step-surely : (f : S) (w : Walk) (r : Answer X) (f' : S) (w' : Walk) → ServesTurn accepts asks span (IsSurelyInside span) f w → Advances span asks f w r f' w' → IsOk r
+  step-surely f w r f' w' h step = elim (chosen (repeats w (place_of span step.answer)) step.rest) [
+    | inl p ↦ ((h.second step.answer step.between step.first p.0).replies r f' p.1.0).1
+    | inr p ↦ subst (λ (b : Answer X). IsOk b) (sym p.1.0) (h.first.replies step.answer step.between step.first).1
+  ]
+
+-- a finder's answers along its calls are its replies' values
+module _ {A X F : Type 0} (view : A → X) (g : Mut F (Bor Input × Unit {0}) (Result (Option A) SearchError)) (P : Search → Answer X → Type 0) where
+  pub AnswersAlong-by : (Inv : F → Type 0) (f : F) (s : Search) → Inv f
+      → ((q : F) (p : Bor Input) → SameButStart s (search_of p.now) → Inv q → g.pre q (p, tt))
+      → ((q : F) (p : Bor Input) (reply : Result (Option A) SearchError) (q' : F) → SameButStart s (search_of p.now) → Inv q → Called g q (p, tt) reply q' → P (search_of p.now) (answer_by view reply) × Inv q')
+      → AnswersAlong view g P f s
+  AnswersAlong-by Inv f s now may says = ServesOnAlong-by (IsCallableOn g) (Finds view g) SameButStart same_start-self same_start-then P Inv f s now
+      (λ q t same inv p e. may q p (rw e same) inv)
+      (λ q t a q' same inv found.
+      let asked = found.asked in
+      let k = says q asked.shown found.reply q' (rw asked.shows same) inv asked.called in
+      (subst (λ (b : Answer X). P t b) (sym found.shows) (subst (λ (u : Search). P u (answer_by view found.reply)) asked.shows k.0), k.1))
+
+  pub AnswersAlong-always : (f : F) (s : Search)
+      → ((q : F) (p : Bor Input) → SameButStart s (search_of p.now) → g.pre q (p, tt))
+      → ((q : F) (p : Bor Input) (reply : Result (Option A) SearchError) (q' : F) → SameButStart s (search_of p.now) → Called g q (p, tt) reply q' → P (search_of p.now) (answer_by view reply))
+      → AnswersAlong view g P f s
+  AnswersAlong-always f s may says = AnswersAlong-by (λ (q : F). Unit {0}) f s tt (λ q p same u. may q p same) (λ q p reply q' same u called. (says q p reply q' same called, tt))
 
 -- A step of any searcher whose answers lie in the span, as an engine over a cache.
 module _ {X S : Type 0} (span : X → Span) (asks : S → Search → Answer X → S → Type 0)

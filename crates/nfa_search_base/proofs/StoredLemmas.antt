@@ -1,120 +1,204 @@
--- the iterators that keep a finder
-use Rattle.std.proofs.Common.{◌≡◌, ◌+◌, ◌<◌, true, false, Bool, Option, None, Some, Result, Ok, Err, IsOk, MatchBool, List, [], ◌∷◌, refl, sym, ◌∙◌, arith}
-use Rattle.std.specs.Fn.{Mut}
-use Rattle.std.specs.Borrow.{Bor}
-use Rattle.std.specs.Option.{option_map}
-use Rattle.std.specs.Iterator.{AlwaysYields}
+-- the iterators that keep what they ask
+use Rattle.std.proofs.Common.{◌≡◌, ◌+◌, ◌<◌, true, false, Bool, Option, None, Some, Result, Ok, Err, IsOk, OnSome, MatchBool, List, [], ◌∷◌, refl, sym, ◌∙◌, ap, subst, arith}
+use Rattle.std.specs.Option.{option_map, IfSome, IfNone}
+use Rattle.std.specs.Iterator.{AlwaysYields, MakesProgress, IsFinite, size}
 use Rattle.std.proofs.lemmas.Iterator.{YieldsList}
 use Rattle.regex_search_core.specs.Search.{Search}
-use Rattle.regex_search_core.specs.declared.search.Input.{Input}
 use Rattle.regex_search_core.specs.declared.search.Span.{Span}
 use Rattle.nfa_search_base.specs.Asking.{SameButStart}
-use Rattle.nfa_search_base.specs.Walks.{Walk, Answer, IsInside, IsSurelyInside, ends_left}
-use Rattle.nfa_search_base.specs.Finders.{Finds, AnswersAlong, Computes}
-use Rattle.nfa_search_base.specs.Items.{Item, item_by, item_of, ends_with, items_left, matches_in, TakesTurn, greedy_unless}
+use Rattle.nfa_search_base.specs.Walks.{Walk, Answer, place_of, IsInside, IsSurelyInside, LeavesFewer, ends_left}
+use Rattle.nfa_search_base.specs.Items.{Item, item_by, item_of, ends_with, items_left, matches_left, matches_in, greedy_unless}
+use Rattle.nfa_search_base.specs.Serving.{ServesOnAlong, StepDone}
+use Rattle.nfa_search_base.specs.Steps.{TakesStep, GivesItem, ends_at, ComesOfMatch}
+use Rattle.nfa_search_base.specs.Stored.{steps_walk, can_step, can_step_surely, takes_steps, takes_sure_steps, steps_left, sure_left}
 use Rattle.nfa_search_base.specs.declared.error.SearchError.{SearchError}
+use Rattle.nfa_search_base.specs.declared.iter.steps.Steps.{Steps}
 use Rattle.nfa_search_base.proofs.AskingLemmas.{same_start-self}
-use Rattle.nfa_search_base.proofs.StepLemmas.{AnswersAlong-same, AnswersAlong-call, AnswersAlong-now, AnswersAlong-turn, AnswersAlong-answer, AnswersAlong-weaker}
-use Rattle.nfa_search_base.proofs.GreedyLemmas.{IsTurnOf, turn-computes, yields-greedy}
+use Rattle.nfa_search_base.proofs.StepLemmas.{Along-same, Along-call, Along-now, Along-turn, Along-answer, Along-weaker}
+use Rattle.nfa_search_base.proofs.GreedyLemmas.{IsTurnOf, step-computes, yields-greedy}
+
+-- after a match fewer ends are left, and after an error nothing is
+step-fewer : {X Y : Type 0} (span : X → Span) (w w' : Walk) (a : Answer X) (r : Option (Result Y SearchError)) → ComesOfMatch a r → LeavesFewer w (place_of span a) w'
+    → OnSome r (items_left (ends_at r) w' < items_left false w)
+step-fewer span w w' a None comes less = tt
+step-fewer span w w' (Ok (Some x)) (Some (Ok y)) comes less = omega (arith, less)
+step-fewer span w w' (Ok None) (Some (Ok y)) comes less = absurd comes
+step-fewer span w w' (Err e) (Some (Ok y)) comes less = absurd comes
+step-fewer span w w' a (Some (Err e)) comes less = omega arith
+
+-- a step of the iteration is one of the iterator
+pub takes-step : {S X Y : Type 0} (accepts : S → Search → Type 0) (asks : S → Search → Answer X → S → Type 0) (span : X → Span) (gives : S → Answer X → Option (Result Y SearchError) → Type 0)
+    (s : S) (w : Walk) (a : Answer X) (s' : S) (w' : Walk) (r : Option (Result Y SearchError)) (d : Bool)
+    → StepDone accepts asks span s w a s' w' → gives s' a r → ComesOfMatch a r → d ≡ ends_at r → TakesStep span asks gives s w r s' w' d
+takes-step accepts asks span gives s w a s' w' r d done item comes ends = record {
+  answer = a;
+  step = done.step;
+  item = item;
+  ends = ends;
+  rises = done.rises;
+  same = done.same;
+  fewer = rw ends (step-fewer span w w' a r comes done.fewer);
+}
+
+ends-as : {X Y : Type 0} (view : Y → X) (a : Answer X) (r : Option (Result Y SearchError)) → GivesItem view a r → ends_at r ≡ ends_with a
+ends-as view (Ok (Some x)) (Some (Ok y)) h = refl
+ends-as view (Ok (Some x)) (Some (Err e)) h = let k : Some (Err e) ≡ Some (Ok x) = h in cc
+ends-as view (Ok (Some x)) None h = let k : None ≡ Some (Ok x) = h in cc
+ends-as view (Ok None) (Some (Ok y)) h = let k : Some (Ok (view y)) ≡ None = h in cc
+ends-as view (Ok None) (Some (Err e)) h = refl
+ends-as view (Ok None) None h = refl
+ends-as view (Err e) (Some (Ok y)) h = let k : Some (Ok (view y)) ≡ Some (Err e) = h in cc
+ends-as view (Err e) (Some (Err x)) h = refl
+ends-as view (Err e) None h = refl
 
 no_err : {X : Type 0} (a : Answer X) (e : SearchError) → IsOk a → Some (Err e) ≡ item_of a → ⊥
 no_err (Ok (Some x)) e ok is = let k : Some (Err e) ≡ Some (Ok x) = is in cc
 no_err (Ok None) e ok is = let k : Some (Err e) ≡ None = is in cc
 no_err (Err x) e ok is = let k : false ≡ true = ok in cc
 
-goes_on : {X : Type 0} (a : Answer X) (y : X) → Some (Ok y) ≡ item_of a → ends_with a ≡ false
-goes_on (Ok (Some x)) y is = refl
-goes_on (Ok None) y is = let k : Some (Ok y) ≡ None = is in cc
-goes_on (Err x) y is = let k : Some (Ok y) ≡ Some (Err x) = is in cc
+-- such a step leaves an iterator that may go on, with fewer items to come
+module _ {S X Y : Type 0} (accepts : S → Search → Type 0) (asks : S → Search → Answer X → S → Type 0) (span : X → Span) (gives : S → Answer X → Option (Result Y SearchError) → Type 0)
+    (P : Search → Answer X → Type 0) (s t : Steps S) (r : Option (Result Y SearchError)) where
+  abbrev can : Steps S → Type 0
+  can q = ServesOnAlong accepts asks SameButStart P q.asker (steps_walk q).at
 
--- T is an iterator that keeps a finder, and stands at `walk`.
-module _ {A X F T : Type 0} (view : A → X) (g : Mut F (Bor Input × Unit {0}) (Result (Option A) SearchError)) (span : X → Span) (walk : T → Walk) (finder : T → F) (done : T → Bool) where
-  -- its steps
-  abbrev steps : T → Option (Result A SearchError) → T → Type 0
-  steps s r t = MatchBool (done s)
-      ((r ≡ None) × (t ≡ s))
-      (TakesTurn span (Finds view g) (finder s) (walk s) (option_map (item_by view) r) (finder t) (walk t) (done t))
+  pub steps-progress : can s → s.done ≡ false → TakesStep span asks gives s.asker (steps_walk s) r t.asker (steps_walk t) t.done → MakesProgress can steps_left s r t
+  steps-progress may going x =
+      let after : can t = Along-turn accepts asks span P s.asker (steps_walk s) x.answer t.asker (steps_walk t) x.step x.same may in
+      record { on = λ f. on_some r x.fewer after; keeps = keeps_on r after; rests = λ f. rests_on r }
+    where
+      on_some : (q : Option (Result Y SearchError)) → OnSome q (items_left t.done (steps_walk t) < items_left false (steps_walk s)) → can t
+          → OnSome q (can t × IsFinite (steps_left t) × (size (steps_left t) < size (steps_left s)))
+      on_some None less after = tt
+      on_some (Some y) less after = (after, tt, rw going less)
+
+      keeps_on : (q : Option (Result Y SearchError)) → can t → IfSome q (λ z. can t)
+      keeps_on None after = tt
+      keeps_on (Some y) after = after
+
+      rests_on : (q : Option (Result Y SearchError)) → IfNone q (IsFinite (steps_left t))
+      rests_on None = tt
+      rests_on (Some y) = tt
+
+  -- also where the iterator may have ended
+  pub takes-progress : can s → takes_steps span asks gives s r t → MakesProgress can steps_left s r t
+  takes-progress may st = at_done s.done refl st
+    where
+      at_done : (b : Bool) → s.done ≡ b → MatchBool b ((r ≡ None) × (t ≡ s)) (TakesStep span asks gives s.asker (steps_walk s) r t.asker (steps_walk t) t.done) → MakesProgress can steps_left s r t
+      at_done true d x = subst (λ (q : Option (Result Y SearchError)). MakesProgress can steps_left s q t) (sym x.0) (record { on = λ f. tt; keeps = tt; rests = λ f. tt })
+      at_done false d x = steps-progress may d x
+
+module _ {S X Y : Type 0} (accepts : S → Search → Type 0) (asks : S → Search → Answer X → S → Type 0) (span : X → Span) (view : Y → X) where
+  abbrev steps : Steps S → Option (Result Y SearchError) → Steps S → Type 0
+  steps s r t = takes_steps span asks (λ q. GivesItem view) s r t
+
+  abbrev sure_steps : Steps S → Option Y → Steps S → Type 0
+  sure_steps s r t = takes_sure_steps span asks (λ q. GivesItem view) s r t
+
+  abbrev turn : Steps S → Option (Result Y SearchError) → Steps S → Type 0
+  turn s r t = TakesStep span asks (λ q. GivesItem view) s.asker (steps_walk s) r t.asker (steps_walk t) t.done
 
   module _ (h : Search → Answer X) where
-    -- an answer is that of the function
-    acts : (f : F) (s : Search) (a : Answer X) (f' : F) → Computes view g h f s → Finds view g f s a f' → (a ≡ h s) × Computes view g h f' s
-    acts f s a f' computes found = (
-      AnswersAlong-now view g span (λ (t : Search) (b : Answer X). b ≡ h t) f s s a f' (same_start-self s) found computes,
-      AnswersAlong-call view g span (λ (t : Search) (b : Answer X). b ≡ h t) f s s a f' (same_start-self s) found computes,
+    abbrev Good : S → Search → Type 0
+    Good s t = ServesOnAlong accepts asks SameButStart (λ u a. a ≡ h u) s t
+
+    acts : (f : S) (s : Search) (a : Answer X) (f' : S) → Good f s → asks f s a f' → (a ≡ h s) × Good f' s
+    acts f s a f' computes asked = (
+      Along-now accepts asks span (λ (t : Search) (b : Answer X). b ≡ h t) f s s a f' (same_start-self s) asked computes,
+      Along-call accepts asks span (λ (t : Search) (b : Answer X). b ≡ h t) f s s a f' (same_start-self s) asked computes,
     )
 
-    -- also on a search like it
-    moves : (f : F) (s t : Search) → SameButStart s t → Computes view g h f s → Computes view g h f t
-    moves f s t same computes = AnswersAlong-same view g span (λ (u : Search) (b : Answer X). b ≡ h u) f s t same computes
+    moves : (f : S) (s t : Search) → SameButStart s t → Good f s → Good f t
+    moves f s t same computes = Along-same accepts asks span (λ (u : Search) (b : Answer X). b ≡ h u) f s t same computes
 
-    turns : (s : T) (r : Option (Result A SearchError)) (t : T) → Computes view g h (finder s) (walk s).at → steps s r t
-        → MatchBool (done s) (r ≡ None) (IsTurnOf span h (walk s) (option_map (item_by view) r) (walk t) (done t) × Computes view g h (finder t) (walk t).at)
-    turns s r t computes st = at_done (done s) st
+    turns : (s : Steps S) (r : Option (Result Y SearchError)) (t : Steps S) → Good s.asker (steps_walk s).at → steps s r t
+        → MatchBool s.done (r ≡ None) (IsTurnOf span h (steps_walk s) (option_map (item_by view) r) (steps_walk t) t.done × Good t.asker (steps_walk t).at)
+    turns s r t computes st = at_done s.done st
       where
-        at_done : (b : Bool) → MatchBool b ((r ≡ None) × (t ≡ s)) (TakesTurn span (Finds view g) (finder s) (walk s) (option_map (item_by view) r) (finder t) (walk t) (done t))
-            → MatchBool b (r ≡ None) (IsTurnOf span h (walk s) (option_map (item_by view) r) (walk t) (done t) × Computes view g h (finder t) (walk t).at)
+        some_fewer : (r : Option (Result Y SearchError)) → OnSome r (items_left t.done (steps_walk t) < items_left false (steps_walk s))
+            → (x : Item X) → option_map (item_by view) r ≡ Some x → items_left t.done (steps_walk t) < items_left false (steps_walk s)
+        some_fewer None less x is = let k : None ≡ Some x = is in cc
+        some_fewer (Some y) less x is = less
+
+        at_done : (b : Bool) → MatchBool b ((r ≡ None) × (t ≡ s)) (turn s r t)
+            → MatchBool b (r ≡ None) (IsTurnOf span h (steps_walk s) (option_map (item_by view) r) (steps_walk t) t.done × Good t.asker (steps_walk t).at)
         at_done true x = x.0
-        at_done false x = turn-computes span (Finds view g) h (Computes view g h) acts moves (finder s) (walk s) (option_map (item_by view) r) (finder t) (walk t) (done t) computes x
+        at_done false x =
+            let e = step-computes span asks h Good acts moves s.asker (steps_walk s) x.answer t.asker (steps_walk t) computes x.step in (
+              record {
+                gives = x.item ∙ ap item_of e.0;
+                walk = e.1;
+                ends = x.ends ∙ ends-as view x.answer r x.item ∙ ap ends_with e.0;
+                fewer = some_fewer r x.fewer;
+              },
+              moves t.asker (steps_walk s).at (steps_walk t).at x.same e.2,
+            )
 
     -- the items are the greedy list
-    pub try-yields : (s : T) → Computes view g h (finder s) (walk s).at → YieldsList steps (item_by view) s (greedy_unless span (done s) h (walk s))
+    pub try-yields : (s : Steps S) → Good s.asker (steps_walk s).at → YieldsList steps (item_by view) s (greedy_unless span s.done h (steps_walk s))
     try-yields s computes = record {
-      runs = yields-greedy span steps (item_by view) walk done h (λ (q : T). Computes view g h (finder q) (walk q).at) turns s computes;
+      runs = yields-greedy span steps (item_by view) (λ (q : Steps S). steps_walk q) (λ (q : Steps S). q.done) h (λ (q : Steps S). Good q.asker (steps_walk q).at) turns s computes;
     }
 
-  -- a finder that never errs stays in the span
-  pub surely-inside : (f : F) (s : Search) → AnswersAlong view g (IsSurelyInside span) f s → AnswersAlong view g (IsInside span) f s
-  surely-inside f s h = AnswersAlong-weaker view g span (IsSurelyInside span) (IsInside span) f s (λ t a p. p.0) h
+  -- where no call errs, the matches stay in the span
+  pub surely-inside : (s : Steps S) → can_step_surely accepts asks span s → can_step accepts asks span s
+  surely-inside s h = Along-weaker accepts asks span (IsSurelyInside span) (IsInside span) s.asker (steps_walk s).at (λ t a p. p.0) h
 
-  module _ (s t : T) (r : Option (Result A SearchError)) (h : AnswersAlong view g (IsSurelyInside span) (finder s) (walk s).at) (st : steps s r t) where
-    -- where the finder never errs, no error comes
+  module _ (s t : Steps S) (r : Option (Result Y SearchError)) (h : can_step_surely accepts asks span s) (st : steps s r t) where
+    -- and no error comes
     pub never-err : (e : SearchError) → r ≡ Some (Err e) → ⊥
-    never-err e is = at_done (done s) st
+    never-err e is = at_done s.done st
       where
-        at_done : (b : Bool) → MatchBool b ((r ≡ None) × (t ≡ s)) (TakesTurn span (Finds view g) (finder s) (walk s) (option_map (item_by view) r) (finder t) (walk t) (done t)) → ⊥
+        at_done : (b : Bool) → MatchBool b ((r ≡ None) × (t ≡ s)) (turn s r t) → ⊥
         at_done true x = let k : None ≡ Some (Err e) = sym x.0 ∙ is in cc
         at_done false x =
-            let gives = x.gives in
-            no_err x.answer e (AnswersAlong-answer view g span (IsSurelyInside span) (finder s) (walk s) x.answer (finder t) (walk t) x.step h).1.1 (rw is at gives)
+            let gives = x.item in
+            no_err x.answer e (Along-answer accepts asks span (IsSurelyInside span) s.asker (steps_walk s) x.answer t.asker (steps_walk t) x.step h).1.1 (rw is at gives)
 
     -- after a match the iterator may go on, and fewer ends are left
-    pub after-match : (m : A) → r ≡ Some (Ok m)
-        → (done s ≡ false) × (done t ≡ false) × (ends_left (walk t) < ends_left (walk s)) × AnswersAlong view g (IsSurelyInside span) (finder t) (walk t).at
-    after-match m is = at_done (done s) refl st
+    pub after-match : (m : Y) → r ≡ Some (Ok m)
+        → (s.done ≡ false) × (t.done ≡ false) × (ends_left (steps_walk t) < ends_left (steps_walk s)) × can_step_surely accepts asks span t
+    after-match m is = at_done s.done refl st
       where
-        at_done : (b : Bool) → done s ≡ b → MatchBool b ((r ≡ None) × (t ≡ s)) (TakesTurn span (Finds view g) (finder s) (walk s) (option_map (item_by view) r) (finder t) (walk t) (done t))
-            → (done s ≡ false) × (done t ≡ false) × (ends_left (walk t) < ends_left (walk s)) × AnswersAlong view g (IsSurelyInside span) (finder t) (walk t).at
+        at_done : (b : Bool) → s.done ≡ b → MatchBool b ((r ≡ None) × (t ≡ s)) (turn s r t)
+            → (s.done ≡ false) × (t.done ≡ false) × (ends_left (steps_walk t) < ends_left (steps_walk s)) × can_step_surely accepts asks span t
         at_done true d x = let k : None ≡ Some (Ok m) = sym x.0 ∙ is in cc
         at_done false d x =
-            let gives = x.gives in
             let some = x.fewer in
-            let going : done t ≡ false = x.ends ∙ goes_on x.answer (view m) (rw is at gives) in
-            let less : items_left (done t) (walk t) < items_left false (walk s) = rw is at some in
-            let fewer : ends_left (walk t) + 1 < ends_left (walk s) + 1 = rw going at less in
-            (d, going, omega arith, AnswersAlong-turn view g span (IsSurelyInside span) (finder s) (walk s) x.answer (finder t) (walk t) x.step x.same h)
+            let going : t.done ≡ false = x.ends ∙ ap ends_at is in
+            let less : items_left t.done (steps_walk t) < items_left false (steps_walk s) = rw is at some in
+            let fewer : ends_left (steps_walk t) + 1 < ends_left (steps_walk s) + 1 = rw going at less in
+            (d, going, omega arith, Along-turn accepts asks span (IsSurelyInside span) s.asker (steps_walk s) x.answer t.asker (steps_walk t) x.step x.same h)
 
-  -- U is an iterator over T that gives the matches alone.
-  module _ {U : Type 0} (tries : U → T) where
-    -- its steps
-    abbrev sure_steps : U → Option A → U → Type 0
-    sure_steps s r t = steps (tries s) (option_map (λ m. Ok m) r) (tries t)
+    -- so a match is progress
+    pub sure-some : (m : Y) (r' : Option Y) → r ≡ Some (Ok m) → r' ≡ Some m → MakesProgress (can_step_surely accepts asks span) sure_left s r' t
+    sure-some m r' is is' =
+        let k = after-match m is in
+        let start = k.0 in
+        let going = k.1 in
+        let less : matches_left t.done (steps_walk t) < matches_left s.done (steps_walk s) = rw (start, going) k.2 in
+        subst (λ (q : Option Y). MakesProgress (can_step_surely accepts asks span) sure_left s q t) (sym is') (record { on = λ f. (k.3, tt, less); keeps = k.3; rests = λ f. tt })
 
-    -- where no step is, any list is given
-    no_steps : (zs : List X) (s : U) → ((j : U) → ¬ (sure_steps s None j)) → ((x : A) (j : U) → ¬ (sure_steps s (Some x) j)) → AlwaysYields sure_steps view s zs
-    no_steps [] s none some = some
-    no_steps (z ∷ zs) s none some = (none, λ x j st. absurd (some x j st))
+  -- and so is none
+  pub sure-none : (s t : Steps S) (r : Option Y) → r ≡ None → MakesProgress (can_step_surely accepts asks span) sure_left s r t
+  sure-none s t r is = subst (λ (q : Option Y). MakesProgress (can_step_surely accepts asks span) sure_left s q t) (sym is) (record { on = λ f. tt; keeps = tt; rests = λ f. tt })
 
-    -- the matches are those of the items
-    yields : (ys : List (Item X)) (s : U) → AlwaysYields steps (item_by view) (tries s) ys → AlwaysYields sure_steps view s (matches_in ys)
-    yields [] s h = λ x j st. h (Ok x) (tries j) st
-    yields (Ok y ∷ ys) s h = (
-      (λ j st. h.0 (tries j) st),
-      (λ x j st. let k = h.1 (Ok x) (tries j) st in let e : Ok (view x) ≡ Ok y = k.0 in let same : view x ≡ y = cc in (same, yields ys j k.1)),
-    )
-    yields (Err e ∷ ys) s h = no_steps (matches_in ys) s (λ j st. h.0 (tries j) st)
-        (λ x j st. let k : Ok (view x) ≡ Err e = (h.1 (Ok x) (tries j) st).0 in cc)
+  -- where no step is, any list is given
+  no_steps : (zs : List X) (s : Steps S) → ((j : Steps S) → ¬ (sure_steps s None j)) → ((x : Y) (j : Steps S) → ¬ (sure_steps s (Some x) j)) → AlwaysYields sure_steps view s zs
+  no_steps [] s none some = some
+  no_steps (z ∷ zs) s none some = (none, λ x j st. absurd (some x j st))
 
-    -- so they are the matches of the greedy list
-    pub sure-yields : (h : Search → Answer X) (s : U) → Computes view g h (finder (tries s)) (walk (tries s)).at
-        → YieldsList sure_steps view s (matches_in (greedy_unless span (done (tries s)) h (walk (tries s))))
-    sure-yields h s computes = record { runs = yields (greedy_unless span (done (tries s)) h (walk (tries s))) s (try-yields h (tries s) computes).runs }
+  -- the matches are those of the items
+  yields : (ys : List (Item X)) (s : Steps S) → AlwaysYields steps (item_by view) s ys → AlwaysYields sure_steps view s (matches_in ys)
+  yields [] s h = λ x j st. h (Ok x) j st
+  yields (Ok y ∷ ys) s h = (
+    (λ j st. h.0 j st),
+    (λ x j st. let k = h.1 (Ok x) j st in let e : Ok (view x) ≡ Ok y = k.0 in let same : view x ≡ y = cc in (same, yields ys j k.1)),
+  )
+  yields (Err e ∷ ys) s h = no_steps (matches_in ys) s (λ j st. h.0 j st)
+      (λ x j st. let k : Ok (view x) ≡ Err e = (h.1 (Ok x) j st).0 in cc)
+
+  -- so they are the matches of the greedy list
+  pub sure-yields : (h : Search → Answer X) (s : Steps S) → Good h s.asker (steps_walk s).at
+      → YieldsList sure_steps view s (matches_in (greedy_unless span s.done h (steps_walk s)))
+  sure-yields h s computes = record { runs = yields (greedy_unless span s.done h (steps_walk s)) s (try-yields h s computes).runs }

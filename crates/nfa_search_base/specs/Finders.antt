@@ -1,5 +1,5 @@
 -- finders of matches, as what an iteration asks
-use Rattle.std.specs.Prelude.{◌≡◌, true, Option, None, Some, Result, Ok, Err}
+use Rattle.std.specs.Prelude.{◌≡◌, Option, None, Some, Result, Ok, Err}
 use Rattle.std.specs.Fn.{Mut}
 use Rattle.std.specs.Borrow.{Bor}
 use Rattle.regex_search_core.specs.Found.{found_of, half_found_of}
@@ -8,8 +8,9 @@ use Rattle.regex_search_core.specs.declared.search.HalfMatch.{HalfMatch}
 use Rattle.regex_search_core.specs.declared.search.Input.{Input}
 use Rattle.regex_search_core.specs.declared.search.Match.{Match}
 use Rattle.regex_search_core.specs.declared.search.Span.{Span}
-use Rattle.nfa_search_base.specs.Asking.{Asks, ServesAs, ServesAlong, SameButStart}
-use Rattle.nfa_search_base.specs.Walks.{Answer, Walk, place_of, IsInside, IsSurelyInside, repeats, shifted, span_of, half_span_of, Advances}
+use Rattle.nfa_search_base.specs.Asking.{Asks, IsCallableOn, SameButStart}
+use Rattle.nfa_search_base.specs.Serving.{ServesOnAlong, ServesTurn}
+use Rattle.nfa_search_base.specs.Walks.{Answer, Walk, place_of, IsInside, IsSurelyInside, span_of, half_span_of, Advances}
 use Rattle.nfa_search_base.specs.declared.error.SearchError.{SearchError}
 
 -- the reply as values
@@ -27,14 +28,12 @@ module _ {A X F : Type 0} (view : A → X) (g : Mut F (Bor Input × Unit {0}) (R
     pub shows : a ≡ answer_by view reply
 
   -- P holds of the answers of f for a step of the iteration w, for which it may be called once, and again one on where the first answer is an empty match at the last end
-  pub record ServesStep (span : X → Span) (P : Search → Answer X → Type 0) (f : F) (w : Walk) : Type 0 where
-    pub first : ServesAs g (λ s reply. P s (answer_by view reply)) f w.at
-    pub second : (reply : Result (Option A) SearchError) (f' : F) → Asks g f w.at reply f' → repeats w (place_of span (answer_by view reply)) ≡ true
-        → ServesAs g (λ s reply'. P s (answer_by view reply')) f' (shifted w).at
+  abbrev pub ServesStep : (X → Span) → (Search → Answer X → Type 0) → F → Walk → Type 0
+  ServesStep span P f w = ServesTurn (IsCallableOn g) Finds span P f w
 
   -- wherever calls on searches that differ from s in their start alone lead from f, the next may be made, and P holds of its answer
   abbrev pub AnswersAlong : (Search → Answer X → Type 0) → F → Search → Type 0
-  AnswersAlong P f s = ServesAlong g SameButStart (λ t reply. P t (answer_by view reply)) f s
+  AnswersAlong P f s = ServesOnAlong (IsCallableOn g) Finds SameButStart P f s
 
   -- f answers each search like s as h does, for as long as it is called
   abbrev pub Computes : (Search → Answer X) → F → Search → Type 0

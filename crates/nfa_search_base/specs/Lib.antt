@@ -8,12 +8,17 @@ pub mod Turns
 pub mod Agreement
 pub mod Asking
 pub mod Behind
+pub mod Catching
+pub mod CaughtSteps
 pub mod EmptyFinder
 pub mod Finders
-pub mod HalfStored
 pub mod Items
+pub mod Likes
+pub mod Known
 pub mod Searchers
+pub mod Serving
 pub mod Skipping
+pub mod Steps
 pub mod Stored
 pub mod Walks
 pub use Rattle.regex_search_core.specs.Boundary
@@ -24,3 +29,4 @@ pub use Rattle.regex_search_core.specs.Search
 pub use Rattle.regex_search_core.specs.Slots
 pub use Rattle.thompson_nfa.specs.Automaton
 pub use Rattle.thompson_nfa.specs.Looks
+pub mod Lists

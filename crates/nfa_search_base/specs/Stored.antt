@@ -1,50 +1,45 @@
--- the iterators that keep a finder of matches
+-- the iterators that keep what they ask
 use Rattle.std.specs.Prelude.{◌≡◌, Option, None, Result, Ok, MatchBool, option_map}
-use Rattle.std.specs.Fn.{Mut}
-use Rattle.std.specs.Borrow.{Bor}
 use Rattle.std.specs.Iterator.{Count, at_most}
-use Rattle.regex_search_core.specs.Found.{found_of}
-use Rattle.regex_search_core.specs.declared.search.Input.{Input}
-use Rattle.regex_search_core.specs.declared.search.Match.{Match}
-use Rattle.nfa_search_base.specs.Walks.{Walk, span_of, IsInside, IsSurelyInside}
-use Rattle.nfa_search_base.specs.Finders.{Finds, AnswersAlong}
-use Rattle.nfa_search_base.specs.Items.{item_by, items_left, matches_left, TakesTurn}
+use Rattle.regex_search_core.specs.Search.{Search}
+use Rattle.regex_search_core.specs.declared.search.Span.{Span}
+use Rattle.nfa_search_base.specs.Likes.{SameButStart}
+use Rattle.nfa_search_base.specs.Walks.{Answer, Walk, IsInside, IsSurelyInside}
+use Rattle.nfa_search_base.specs.Items.{items_left, matches_left}
 use Rattle.nfa_search_base.specs.Searchers.{walk_of}
+use Rattle.nfa_search_base.specs.Serving.{ServesOnAlong}
+use Rattle.nfa_search_base.specs.Steps.{TakesStep}
 use Rattle.nfa_search_base.specs.declared.error.SearchError.{SearchError}
-use Rattle.nfa_search_base.specs.declared.iter.matches.TryMatchesIter.{TryMatchesIter}
-use Rattle.nfa_search_base.specs.declared.iter.matches.MatchesIter.{MatchesIter}
+use Rattle.nfa_search_base.specs.declared.iter.steps.Steps.{Steps}
 
 -- where the iterator stands
-abbrev pub try_walk : {F : Type 0} → TryMatchesIter F → Walk
-try_walk s = walk_of s.searcher
+abbrev pub steps_walk : {S : Type 0} → Steps S → Walk
+steps_walk s = walk_of s.searcher
 
 -- how many items may come
-abbrev pub try_left : {F : Type 0} → TryMatchesIter F → Count
-try_left s = at_most (items_left s.done (try_walk s))
-
--- the iterator inside
-abbrev pub tries_of : {F : Type 0} → MatchesIter F → TryMatchesIter F
-tries_of s = s.tries
+abbrev pub steps_left : {S : Type 0} → Steps S → Count
+steps_left s = at_most (items_left s.done (steps_walk s))
 
 -- how many matches may come
-abbrev pub sure_left : {F : Type 0} → MatchesIter F → Count
-sure_left s = at_most (matches_left s.tries.done (try_walk s.tries))
+abbrev pub sure_left : {S : Type 0} → Steps S → Count
+sure_left s = at_most (matches_left s.done (steps_walk s))
 
-module _ {F : Type 0} (g : Mut F (Bor Input × Unit {0}) (Result (Option Match) SearchError)) where
-  -- wherever calls lead from the finder, it may be called on the iteration's searches, and answers matches in their spans
-  abbrev pub try_can : TryMatchesIter F → Type 0
-  try_can s = AnswersAlong found_of g (IsInside span_of) s.finder (try_walk s).at
+module _ {S X : Type 0} (accepts : S → Search → Type 0) (asks : S → Search → Answer X → S → Type 0) (span : X → Span) where
+  -- wherever calls lead, the next on a search of the iteration may be made, and its match lies in the span
+  abbrev pub can_step : Steps S → Type 0
+  can_step s = ServesOnAlong accepts asks SameButStart (IsInside span) s.asker (steps_walk s).at
 
-  -- nothing comes, and nothing changes, once it has ended; else it takes a turn
-  abbrev pub try_steps : TryMatchesIter F → Option (Result Match SearchError) → TryMatchesIter F → Type 0
-  try_steps s r t = MatchBool s.done
+  -- and is no error
+  abbrev pub can_step_surely : Steps S → Type 0
+  can_step_surely s = ServesOnAlong accepts asks SameButStart (IsSurelyInside span) s.asker (steps_walk s).at
+
+module _ {S X Y : Type 0} (span : X → Span) (asks : S → Search → Answer X → S → Type 0) (gives : S → Answer X → Option (Result Y SearchError) → Type 0) where
+  -- nothing comes, and nothing changes, once it has ended; else it takes a step
+  abbrev pub takes_steps : Steps S → Option (Result Y SearchError) → Steps S → Type 0
+  takes_steps s r t = MatchBool s.done
       ((r ≡ None) × (t ≡ s))
-      (TakesTurn span_of (Finds found_of g) s.finder (try_walk s) (option_map (item_by found_of) r) t.finder (try_walk t) t.done)
+      (TakesStep span asks gives s.asker (steps_walk s) r t.asker (steps_walk t) t.done)
 
-  -- and the finder never errs
-  abbrev pub sure_can : MatchesIter F → Type 0
-  sure_can s = AnswersAlong found_of g (IsSurelyInside span_of) s.tries.finder (try_walk s.tries).at
-
-  -- a step of the iterator inside, with no error
-  abbrev pub sure_steps : MatchesIter F → Option Match → MatchesIter F → Type 0
-  sure_steps s r t = try_steps s.tries (option_map (λ m. Ok m) r) t.tries
+  -- a step with no error
+  abbrev pub takes_sure_steps : Steps S → Option Y → Steps S → Type 0
+  takes_sure_steps s r t = takes_steps s (option_map (λ m. Ok m) r) t

@@ -1,7 +1,9 @@
 ghost use Rattle.regex_search_core.specs.Search.{search_of};
 ghost use Rattle.nfa_search_base.specs.Asking.{Asks, IsCallableOn};
+ghost use Rattle.nfa_search_base.specs.Catching.{AsksWith, IsCallableWith};
 
-use regex_search_core::Input;
+use crate::error::SearchError;
+use regex_search_core::{Captures, Input};
 
 // One call of a finder that a caller handed in.
 pub(crate) fn ask<F, R>(finder: &mut F, input: &Input<'_>) -> R
@@ -11,4 +13,18 @@ where
     ensures { Asks F.FnMut finder.old (search_of input.now) result finder.new }
 {
     finder(input)
+}
+
+// One call of a finder of captures that a caller handed in.
+pub(crate) fn ask_with<F>(
+    finder: &mut F,
+    input: &Input<'_>,
+    captures: &mut Captures,
+) -> Result<(), SearchError>
+where
+    F: FnMut(&Input<'_>, &mut Captures) -> Result<(), SearchError>,
+    requires { IsCallableWith F.FnMut finder.old captures.old (search_of input.now) }
+    ensures { AsksWith F.FnMut finder.old captures.old (search_of input.now) result finder.new captures.new }
+{
+    finder(input, captures)
 }

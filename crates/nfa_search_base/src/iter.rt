@@ -6,12 +6,16 @@
 //! So the ends of the matches go up, and there are at most as many matches as the span has bytes,
 //! and one more. The rule is that of regex-automata's `util::iter`.
 
+mod captures_matches;
+mod finder;
 mod half_matches;
 pub mod laws;
 mod matches;
 mod place;
 mod searcher;
+mod steps;
 
+pub use captures_matches::{CapturesIter, TryCapturesIter};
 pub use half_matches::{HalfMatchesIter, TryHalfMatchesIter};
 pub use matches::{MatchesIter, TryMatchesIter};
 pub use searcher::{Offered, Searcher};

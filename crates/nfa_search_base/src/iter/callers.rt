@@ -1,14 +1,15 @@
-ghost use Rattle.std.specs.Prelude.{◌≡◌, IfOk, map};
+ghost use Rattle.std.specs.Prelude.{◌≡◌, [], ◌∷◌, Some, IfOk, map};
 ghost use Rattle.regex_search_core.specs.Found.{found_of};
 ghost use Rattle.regex_search_core.specs.Search.{search_of, whole};
-ghost use Rattle.nfa_search_base.specs.EmptyFinder.{empty_answer};
+ghost use Rattle.nfa_search_base.specs.Catching.{UpToRefusal, caught_by, row_of, row_span};
+ghost use Rattle.nfa_search_base.specs.EmptyFinder.{empty_answer, zero_row};
 ghost use Rattle.nfa_search_base.specs.Finders.{answer_by};
 ghost use Rattle.nfa_search_base.specs.Items.{item_by, greedy};
 ghost use Rattle.nfa_search_base.specs.Walks.{fresh, span_of};
 
 use crate::error::SearchError;
 use crate::iter::Searcher;
-use regex_search_core::{Input, Match, PatternID, Span};
+use regex_search_core::{Captures, GroupInfo, Input, Match, PatternID, Span};
 use std::alloc::{AllocError, Global};
 use std::test::Fail;
 
@@ -49,6 +50,50 @@ fn looped(alloc: Global, haystack: &[u8]) -> Result<Vec<Result<Match, SearchErro
         found.push(item)?;
     }
     Ok(found)
+}
+
+// Captures of the empty match of the first pattern at the start of the haystack, from slots that
+// say so.
+fn captured_at_zero(input: &Input<'_>, captures: &mut Captures) -> Result<(), SearchError>
+    requires { captures.old.slots ≡ Some 0 ∷ Some 0 ∷ [] }
+    ensures row { caught_by captures.new result ≡ zero_row (search_of input.now) }
+    ensures slots { captures.new.slots ≡ Some 0 ∷ Some 0 ∷ [] }
+{
+    if input.start() == 0 {
+        captures.set_pattern(PatternID::new(0));
+    } else {
+        captures.set_pattern(None);
+    }
+    Ok(())
+}
+
+// All items of an iterator over captures: the greedy list of that finder, up to a refusal.
+fn collected_captures(
+    alloc: Global,
+    haystack: &[u8],
+    captures: Captures,
+) -> Result<Vec<Result<Captures, SearchError>>, AllocError>
+    requires { captures.slots ≡ Some 0 ∷ Some 0 ∷ [] }
+    ensures { IfOk result (λ v. UpToRefusal (greedy row_span zero_row (fresh (whole haystack.now))) (map (item_by row_of) v.items)) }
+{
+    let input = Input::new(haystack);
+    let searcher = Searcher::new(input);
+    let items = searcher.into_captures_iter(captures, captured_at_zero);
+    items.collect(alloc)
+}
+
+#[test]
+fn captures_come(rt: HostRuntime) -> Result<(), Fail> {
+    let alloc = rt.alloc();
+    let groups = GroupInfo::new(vec![in alloc; Vec::new(alloc)]?).ok_or("too many slots")?;
+    let captures = Captures::matches(alloc, groups)?;
+    let searcher = Searcher::new(Input::new(b"abc"));
+    let items = searcher.into_captures_iter(captures, |input, captures| {
+        captures.set_pattern(None);
+        Ok(())
+    });
+    assert_eq!(rt; items.count(), 0);
+    Ok(())
 }
 
 #[test]

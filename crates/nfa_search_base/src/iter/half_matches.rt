@@ -1,7 +1,10 @@
 use crate::error::SearchError;
+use crate::iter::finder::OnHalfMatches;
 use crate::iter::searcher::Searcher;
+use crate::iter::steps::Steps;
 use regex_search_core::{HalfMatch, Input};
 use std::fmt;
+use std::marker::Model;
 
 /// The half matches that a finder gives, from left to right, by the steps of
 /// [`Searcher::try_advance_half`].
@@ -11,9 +14,15 @@ use std::fmt;
 /// the error.
 #[derive(Drop)]
 pub struct TryHalfMatchesIter<'h, F> {
-    searcher: Searcher<'h>,
-    finder: F,
-    done: bool,
+    steps: Steps<'h, OnHalfMatches<F>>,
+}
+
+impl<'h, F> Model for TryHalfMatchesIter<'h, F> {
+    ghost use Rattle.nfa_search_base.specs.declared.iter.steps.Steps.{Steps};
+
+    ghost Value = { Steps F };
+
+    ghost view = { λ i. i.steps };
 }
 
 impl<'h> Searcher<'h> {
@@ -22,10 +31,12 @@ impl<'h> Searcher<'h> {
     ghost use Rattle.regex_search_core.specs.Found.{HalfFound, half_found_of};
     ghost use Rattle.regex_search_core.specs.Search.{Search};
     ghost use Rattle.nfa_search_base.specs.Walks.{Answer, half_span_of, IsInside};
-    ghost use Rattle.nfa_search_base.specs.Finders.{AnswersAlong, Computes};
+    ghost use Rattle.nfa_search_base.specs.Finders.{Finds, AnswersAlong, Computes};
     ghost use Rattle.nfa_search_base.specs.Items.{item_by, greedy};
     ghost use Rattle.nfa_search_base.specs.Searchers.{walk_of};
-    ghost use Rattle.nfa_search_base.specs.HalfStored.{try_walk, try_can, try_steps};
+    ghost use Rattle.nfa_search_base.specs.Asking.{IsCallableOn};
+    ghost use Rattle.nfa_search_base.specs.Steps.{GivesItem};
+    ghost use Rattle.nfa_search_base.specs.Stored.{steps_walk, can_step, takes_steps};
 
     /// The half matches that the finder gives from here on.
     ///
@@ -36,17 +47,19 @@ impl<'h> Searcher<'h> {
     where
         F: FnMut(&Input<'_>) -> Result<Option<HalfMatch>, SearchError>,
         requires { AnswersAlong half_found_of F.FnMut (IsInside half_span_of) finder (walk_of self).at }
-        ensures can { try_can F.FnMut result }
-        ensures walk { try_walk result ≡ walk_of self.entry }
-        ensures finder { result.finder ≡ finder }
+        ensures can { can_step (IsCallableOn F.FnMut) (Finds half_found_of F.FnMut) half_span_of result }
+        ensures walk { steps_walk result ≡ walk_of self.entry }
+        ensures finder { result.asker ≡ finder }
         ensures going { result.done ≡ false }
         // Where the finder computes h, the items are the greedy list of h, whoever asks for them.
-        ensures list { (h : Search → Answer HalfFound) → Computes half_found_of F.FnMut h finder (walk_of self.entry).at → YieldsList (try_steps F.FnMut) (item_by half_found_of) result (greedy half_span_of h (walk_of self.entry)) }
+        ensures list { (h : Search → Answer HalfFound) → Computes half_found_of F.FnMut h finder (walk_of self.entry).at → YieldsList (takes_steps half_span_of (Finds half_found_of F.FnMut) (λ _. GivesItem half_found_of)) (item_by half_found_of) result (greedy half_span_of h (walk_of self.entry)) }
     {
         TryHalfMatchesIter {
-            searcher: self,
-            finder,
-            done: false,
+            steps: Steps {
+                searcher: self,
+                asker: OnHalfMatches { finder },
+                done: false,
+            },
         }
     }
 }
@@ -57,15 +70,17 @@ impl<'h, F> TryHalfMatchesIter<'h, F> {
     ghost use Rattle.regex_search_core.specs.Found.{HalfFound, half_found_of};
     ghost use Rattle.regex_search_core.specs.Search.{Search, search_of};
     ghost use Rattle.nfa_search_base.specs.Walks.{Answer, half_span_of, IsSurelyInside};
-    ghost use Rattle.nfa_search_base.specs.Finders.{AnswersAlong, Computes};
+    ghost use Rattle.nfa_search_base.specs.Finders.{Finds, AnswersAlong, Computes};
     ghost use Rattle.nfa_search_base.specs.Items.{matches_in, greedy_unless};
-    ghost use Rattle.nfa_search_base.specs.HalfStored.{try_walk, tries_of, sure_can, sure_steps};
+    ghost use Rattle.nfa_search_base.specs.Asking.{IsCallableOn};
+    ghost use Rattle.nfa_search_base.specs.Steps.{GivesItem};
+    ghost use Rattle.nfa_search_base.specs.Stored.{steps_walk, can_step_surely, takes_sure_steps};
 
     /// The input that the next step searches.
     pub fn input(&self) -> &Input<'h>
-        ensures { search_of result.now ≡ (try_walk self.now).at }
+        ensures { search_of result.now ≡ (steps_walk self.now).at }
     {
-        self.searcher.input()
+        self.steps.searcher.input()
     }
 
     /// The same half matches, plainly. The caller owes that the finder never errs, wherever calls lead
@@ -73,11 +88,11 @@ impl<'h, F> TryHalfMatchesIter<'h, F> {
     pub fn infallible(self) -> HalfMatchesIter<'h, F>
     where
         F: FnMut(&Input<'_>) -> Result<Option<HalfMatch>, SearchError>,
-        requires { AnswersAlong half_found_of F.FnMut (IsSurelyInside half_span_of) self.finder (try_walk self).at }
-        ensures can { sure_can F.FnMut result }
-        ensures tries { tries_of result ≡ self.entry }
+        requires { AnswersAlong half_found_of F.FnMut (IsSurelyInside half_span_of) self.asker (steps_walk self).at }
+        ensures can { can_step_surely (IsCallableOn F.FnMut) (Finds half_found_of F.FnMut) half_span_of result }
+        ensures same { result ≡ self.entry }
         // Where the finder computes h, the matches are those of the greedy list of h.
-        ensures list { (h : Search → Answer HalfFound) → Computes half_found_of F.FnMut h self.entry.finder (try_walk self.entry).at → YieldsList (sure_steps F.FnMut) half_found_of result (matches_in (greedy_unless half_span_of self.entry.done h (try_walk self.entry))) }
+        ensures list { (h : Search → Answer HalfFound) → Computes half_found_of F.FnMut h self.entry.asker (steps_walk self.entry).at → YieldsList (takes_sure_steps half_span_of (Finds half_found_of F.FnMut) (λ _. GivesItem half_found_of)) half_found_of result (matches_in (greedy_unless half_span_of self.entry.done h (steps_walk self.entry))) }
     {
         HalfMatchesIter { tries: self }
     }
@@ -87,31 +102,23 @@ impl<'h, F> Iterator for TryHalfMatchesIter<'h, F>
 where
     F: FnMut(&Input<'_>) -> Result<Option<HalfMatch>, SearchError>,
 {
-    ghost use Rattle.nfa_search_base.specs.HalfStored.{try_can, try_steps, try_left};
+    ghost use Rattle.regex_search_core.specs.Found.{half_found_of};
+    ghost use Rattle.nfa_search_base.specs.Asking.{IsCallableOn};
+    ghost use Rattle.nfa_search_base.specs.Finders.{Finds};
+    ghost use Rattle.nfa_search_base.specs.Steps.{GivesItem};
+    ghost use Rattle.nfa_search_base.specs.Stored.{can_step, takes_steps, steps_left};
+    ghost use Rattle.nfa_search_base.specs.Walks.{half_span_of};
 
     type Item = Result<HalfMatch, SearchError>;
 
-    ghost can_next = { try_can F.FnMut };
+    ghost can_next = { can_step (IsCallableOn F.FnMut) (Finds half_found_of F.FnMut) half_span_of };
 
-    ghost next_gives = { try_steps F.FnMut };
+    ghost next_gives = { takes_steps half_span_of (Finds half_found_of F.FnMut) (λ _. GivesItem half_found_of) };
 
-    ghost remaining = { try_left };
+    ghost remaining = { steps_left };
 
     fn next(&mut self) -> Option<Result<HalfMatch, SearchError>> {
-        if self.done {
-            return None;
-        }
-        match self.searcher.advance_half_by(&mut self.finder) {
-            Ok(Some(found)) => Some(Ok(found)),
-            Ok(None) => {
-                self.done = true;
-                None
-            }
-            Err(error) => {
-                self.done = true;
-                Some(Err(error))
-            }
-        }
+        self.steps.next()
     }
 }
 
@@ -119,8 +126,8 @@ where
 impl<'h, F> fmt::Debug for TryHalfMatchesIter<'h, F> {
     fn fmt<W: fmt::Write>(&self, f: &mut fmt::Formatter<W>) -> fmt::Result {
         f.debug_struct("TryHalfMatchesIter")
-            .field("searcher", &self.searcher)
-            .field("done", &self.done)
+            .field("searcher", &self.steps.searcher)
+            .field("done", &self.steps.done)
             .finish_non_exhaustive()
     }
 }
@@ -134,14 +141,22 @@ pub struct HalfMatchesIter<'h, F> {
     tries: TryHalfMatchesIter<'h, F>,
 }
 
+impl<'h, F> Model for HalfMatchesIter<'h, F> {
+    ghost use Rattle.nfa_search_base.specs.declared.iter.steps.Steps.{Steps};
+
+    ghost Value = { Steps F };
+
+    ghost view = { λ i. i.tries };
+}
+
 impl<'h, F> HalfMatchesIter<'h, F> {
     ghost use Rattle.std.specs.Prelude.{◌≡◌};
     ghost use Rattle.regex_search_core.specs.Search.{search_of};
-    ghost use Rattle.nfa_search_base.specs.HalfStored.{try_walk, tries_of};
+    ghost use Rattle.nfa_search_base.specs.Stored.{steps_walk};
 
     /// The input that the next step searches.
     pub fn input(&self) -> &Input<'h>
-        ensures { search_of result.now ≡ (try_walk (tries_of self.now)).at }
+        ensures { search_of result.now ≡ (steps_walk self.now).at }
     {
         self.tries.input()
     }
@@ -151,13 +166,18 @@ impl<'h, F> Iterator for HalfMatchesIter<'h, F>
 where
     F: FnMut(&Input<'_>) -> Result<Option<HalfMatch>, SearchError>,
 {
-    ghost use Rattle.nfa_search_base.specs.HalfStored.{sure_can, sure_steps, sure_left};
+    ghost use Rattle.regex_search_core.specs.Found.{half_found_of};
+    ghost use Rattle.nfa_search_base.specs.Asking.{IsCallableOn};
+    ghost use Rattle.nfa_search_base.specs.Finders.{Finds};
+    ghost use Rattle.nfa_search_base.specs.Steps.{GivesItem};
+    ghost use Rattle.nfa_search_base.specs.Stored.{can_step_surely, takes_sure_steps, sure_left};
+    ghost use Rattle.nfa_search_base.specs.Walks.{half_span_of};
 
     type Item = HalfMatch;
 
-    ghost can_next = { sure_can F.FnMut };
+    ghost can_next = { can_step_surely (IsCallableOn F.FnMut) (Finds half_found_of F.FnMut) half_span_of };
 
-    ghost next_gives = { sure_steps F.FnMut };
+    ghost next_gives = { takes_sure_steps half_span_of (Finds half_found_of F.FnMut) (λ _. GivesItem half_found_of) };
 
     ghost remaining = { sure_left };
 

@@ -1,7 +1,10 @@
 use crate::error::SearchError;
+use crate::iter::finder::OnMatches;
 use crate::iter::searcher::Searcher;
+use crate::iter::steps::Steps;
 use regex_search_core::{Input, Match};
 use std::fmt;
+use std::marker::Model;
 
 /// The matches that a finder gives, from left to right, by the steps of
 /// [`Searcher::try_advance`].
@@ -11,9 +14,15 @@ use std::fmt;
 /// the error.
 #[derive(Drop)]
 pub struct TryMatchesIter<'h, F> {
-    searcher: Searcher<'h>,
-    finder: F,
-    done: bool,
+    steps: Steps<'h, OnMatches<F>>,
+}
+
+impl<'h, F> Model for TryMatchesIter<'h, F> {
+    ghost use Rattle.nfa_search_base.specs.declared.iter.steps.Steps.{Steps};
+
+    ghost Value = { Steps F };
+
+    ghost view = { λ i. i.steps };
 }
 
 impl<'h> Searcher<'h> {
@@ -22,10 +31,12 @@ impl<'h> Searcher<'h> {
     ghost use Rattle.regex_search_core.specs.Found.{Found, found_of};
     ghost use Rattle.regex_search_core.specs.Search.{Search};
     ghost use Rattle.nfa_search_base.specs.Walks.{Answer, span_of, IsInside};
-    ghost use Rattle.nfa_search_base.specs.Finders.{AnswersAlong, Computes};
+    ghost use Rattle.nfa_search_base.specs.Finders.{Finds, AnswersAlong, Computes};
     ghost use Rattle.nfa_search_base.specs.Items.{item_by, greedy};
     ghost use Rattle.nfa_search_base.specs.Searchers.{walk_of};
-    ghost use Rattle.nfa_search_base.specs.Stored.{try_walk, try_can, try_steps};
+    ghost use Rattle.nfa_search_base.specs.Asking.{IsCallableOn};
+    ghost use Rattle.nfa_search_base.specs.Steps.{GivesItem};
+    ghost use Rattle.nfa_search_base.specs.Stored.{steps_walk, can_step, takes_steps};
 
     /// The matches that the finder gives from here on.
     ///
@@ -36,17 +47,19 @@ impl<'h> Searcher<'h> {
     where
         F: FnMut(&Input<'_>) -> Result<Option<Match>, SearchError>,
         requires { AnswersAlong found_of F.FnMut (IsInside span_of) finder (walk_of self).at }
-        ensures can { try_can F.FnMut result }
-        ensures walk { try_walk result ≡ walk_of self.entry }
-        ensures finder { result.finder ≡ finder }
+        ensures can { can_step (IsCallableOn F.FnMut) (Finds found_of F.FnMut) span_of result }
+        ensures walk { steps_walk result ≡ walk_of self.entry }
+        ensures finder { result.asker ≡ finder }
         ensures going { result.done ≡ false }
         // Where the finder computes h, the items are the greedy list of h, whoever asks for them.
-        ensures list { (h : Search → Answer Found) → Computes found_of F.FnMut h finder (walk_of self.entry).at → YieldsList (try_steps F.FnMut) (item_by found_of) result (greedy span_of h (walk_of self.entry)) }
+        ensures list { (h : Search → Answer Found) → Computes found_of F.FnMut h finder (walk_of self.entry).at → YieldsList (takes_steps span_of (Finds found_of F.FnMut) (λ _. GivesItem found_of)) (item_by found_of) result (greedy span_of h (walk_of self.entry)) }
     {
         TryMatchesIter {
-            searcher: self,
-            finder,
-            done: false,
+            steps: Steps {
+                searcher: self,
+                asker: OnMatches { finder },
+                done: false,
+            },
         }
     }
 }
@@ -57,15 +70,17 @@ impl<'h, F> TryMatchesIter<'h, F> {
     ghost use Rattle.regex_search_core.specs.Found.{Found, found_of};
     ghost use Rattle.regex_search_core.specs.Search.{Search, search_of};
     ghost use Rattle.nfa_search_base.specs.Walks.{Answer, span_of, IsSurelyInside};
-    ghost use Rattle.nfa_search_base.specs.Finders.{AnswersAlong, Computes};
+    ghost use Rattle.nfa_search_base.specs.Finders.{Finds, AnswersAlong, Computes};
     ghost use Rattle.nfa_search_base.specs.Items.{matches_in, greedy_unless};
-    ghost use Rattle.nfa_search_base.specs.Stored.{try_walk, tries_of, sure_can, sure_steps};
+    ghost use Rattle.nfa_search_base.specs.Asking.{IsCallableOn};
+    ghost use Rattle.nfa_search_base.specs.Steps.{GivesItem};
+    ghost use Rattle.nfa_search_base.specs.Stored.{steps_walk, can_step_surely, takes_sure_steps};
 
     /// The input that the next step searches.
     pub fn input(&self) -> &Input<'h>
-        ensures { search_of result.now ≡ (try_walk self.now).at }
+        ensures { search_of result.now ≡ (steps_walk self.now).at }
     {
-        self.searcher.input()
+        self.steps.searcher.input()
     }
 
     /// The same matches, plainly. The caller owes that the finder never errs, wherever calls lead
@@ -73,11 +88,11 @@ impl<'h, F> TryMatchesIter<'h, F> {
     pub fn infallible(self) -> MatchesIter<'h, F>
     where
         F: FnMut(&Input<'_>) -> Result<Option<Match>, SearchError>,
-        requires { AnswersAlong found_of F.FnMut (IsSurelyInside span_of) self.finder (try_walk self).at }
-        ensures can { sure_can F.FnMut result }
-        ensures tries { tries_of result ≡ self.entry }
+        requires { AnswersAlong found_of F.FnMut (IsSurelyInside span_of) self.asker (steps_walk self).at }
+        ensures can { can_step_surely (IsCallableOn F.FnMut) (Finds found_of F.FnMut) span_of result }
+        ensures same { result ≡ self.entry }
         // Where the finder computes h, the matches are those of the greedy list of h.
-        ensures list { (h : Search → Answer Found) → Computes found_of F.FnMut h self.entry.finder (try_walk self.entry).at → YieldsList (sure_steps F.FnMut) found_of result (matches_in (greedy_unless span_of self.entry.done h (try_walk self.entry))) }
+        ensures list { (h : Search → Answer Found) → Computes found_of F.FnMut h self.entry.asker (steps_walk self.entry).at → YieldsList (takes_sure_steps span_of (Finds found_of F.FnMut) (λ _. GivesItem found_of)) found_of result (matches_in (greedy_unless span_of self.entry.done h (steps_walk self.entry))) }
     {
         MatchesIter { tries: self }
     }
@@ -87,31 +102,23 @@ impl<'h, F> Iterator for TryMatchesIter<'h, F>
 where
     F: FnMut(&Input<'_>) -> Result<Option<Match>, SearchError>,
 {
-    ghost use Rattle.nfa_search_base.specs.Stored.{try_can, try_steps, try_left};
+    ghost use Rattle.regex_search_core.specs.Found.{found_of};
+    ghost use Rattle.nfa_search_base.specs.Asking.{IsCallableOn};
+    ghost use Rattle.nfa_search_base.specs.Finders.{Finds};
+    ghost use Rattle.nfa_search_base.specs.Steps.{GivesItem};
+    ghost use Rattle.nfa_search_base.specs.Stored.{can_step, takes_steps, steps_left};
+    ghost use Rattle.nfa_search_base.specs.Walks.{span_of};
 
     type Item = Result<Match, SearchError>;
 
-    ghost can_next = { try_can F.FnMut };
+    ghost can_next = { can_step (IsCallableOn F.FnMut) (Finds found_of F.FnMut) span_of };
 
-    ghost next_gives = { try_steps F.FnMut };
+    ghost next_gives = { takes_steps span_of (Finds found_of F.FnMut) (λ _. GivesItem found_of) };
 
-    ghost remaining = { try_left };
+    ghost remaining = { steps_left };
 
     fn next(&mut self) -> Option<Result<Match, SearchError>> {
-        if self.done {
-            return None;
-        }
-        match self.searcher.advance_by(&mut self.finder) {
-            Ok(Some(found)) => Some(Ok(found)),
-            Ok(None) => {
-                self.done = true;
-                None
-            }
-            Err(error) => {
-                self.done = true;
-                Some(Err(error))
-            }
-        }
+        self.steps.next()
     }
 }
 
@@ -119,8 +126,8 @@ where
 impl<'h, F> fmt::Debug for TryMatchesIter<'h, F> {
     fn fmt<W: fmt::Write>(&self, f: &mut fmt::Formatter<W>) -> fmt::Result {
         f.debug_struct("TryMatchesIter")
-            .field("searcher", &self.searcher)
-            .field("done", &self.done)
+            .field("searcher", &self.steps.searcher)
+            .field("done", &self.steps.done)
             .finish_non_exhaustive()
     }
 }
@@ -134,14 +141,22 @@ pub struct MatchesIter<'h, F> {
     tries: TryMatchesIter<'h, F>,
 }
 
+impl<'h, F> Model for MatchesIter<'h, F> {
+    ghost use Rattle.nfa_search_base.specs.declared.iter.steps.Steps.{Steps};
+
+    ghost Value = { Steps F };
+
+    ghost view = { λ i. i.tries };
+}
+
 impl<'h, F> MatchesIter<'h, F> {
     ghost use Rattle.std.specs.Prelude.{◌≡◌};
     ghost use Rattle.regex_search_core.specs.Search.{search_of};
-    ghost use Rattle.nfa_search_base.specs.Stored.{try_walk, tries_of};
+    ghost use Rattle.nfa_search_base.specs.Stored.{steps_walk};
 
     /// The input that the next step searches.
     pub fn input(&self) -> &Input<'h>
-        ensures { search_of result.now ≡ (try_walk (tries_of self.now)).at }
+        ensures { search_of result.now ≡ (steps_walk self.now).at }
     {
         self.tries.input()
     }
@@ -151,13 +166,18 @@ impl<'h, F> Iterator for MatchesIter<'h, F>
 where
     F: FnMut(&Input<'_>) -> Result<Option<Match>, SearchError>,
 {
-    ghost use Rattle.nfa_search_base.specs.Stored.{sure_can, sure_steps, sure_left};
+    ghost use Rattle.regex_search_core.specs.Found.{found_of};
+    ghost use Rattle.nfa_search_base.specs.Asking.{IsCallableOn};
+    ghost use Rattle.nfa_search_base.specs.Finders.{Finds};
+    ghost use Rattle.nfa_search_base.specs.Steps.{GivesItem};
+    ghost use Rattle.nfa_search_base.specs.Stored.{can_step_surely, takes_sure_steps, sure_left};
+    ghost use Rattle.nfa_search_base.specs.Walks.{span_of};
 
     type Item = Match;
 
-    ghost can_next = { sure_can F.FnMut };
+    ghost can_next = { can_step_surely (IsCallableOn F.FnMut) (Finds found_of F.FnMut) span_of };
 
-    ghost next_gives = { sure_steps F.FnMut };
+    ghost next_gives = { takes_sure_steps span_of (Finds found_of F.FnMut) (λ _. GivesItem found_of) };
 
     ghost remaining = { sure_left };
 

@@ -1,8 +1,8 @@
 ghost use Rattle.nfa_search_base.specs.Behind.{IsBehind};
 
-use crate::asking::ask;
 use crate::error::SearchError;
-use crate::iter::place::{half_match_span, match_span};
+use crate::iter::finder::{Answers, OnHalfMatches, OnMatches};
+use crate::iter::place::match_span;
 use regex_search_core::{HalfMatch, Input, Match, Span};
 use std::alloc::AllocError;
 
@@ -47,9 +47,10 @@ impl<'h> Searcher<'h> {
     ghost use Rattle.std.specs.Option.{ForSome};
     ghost use Rattle.regex_search_core.specs.Search.{search_of};
     ghost use Rattle.nfa_search_base.specs.Asking.{SameButStart};
-    ghost use Rattle.nfa_search_base.specs.Walks.{fresh, shifted, after, repeats, LiesIn, IsPast, ComesAfter, LeavesFewer};
+    ghost use Rattle.nfa_search_base.specs.Walks.{IsInside, fresh, shifted, after, repeats, LiesIn, IsPast, ComesAfter, LeavesFewer};
     ghost use Rattle.nfa_search_base.specs.Finders.{match_place, half_place, FindsStep, FindsStepSurely, StepsBy, FindsHalfStep, FindsHalfStepSurely, HalfStepsBy};
     ghost use Rattle.nfa_search_base.specs.Searchers.{walk_of, OfferGives, IsDone};
+    ghost use Rattle.nfa_search_base.specs.Serving.{ServesTurn, StepDone};
 
     /// The iteration over the matches of this input, before its first.
     pub fn new(input: Input<'h>) -> Searcher<'h>
@@ -101,7 +102,7 @@ impl<'h> Searcher<'h> {
     /// So the ends of the matches go up over all calls, and there are at most as many matches as
     /// the span has bytes, and one more. The caller owes that the finder answers matches in its
     /// input's span.
-    pub fn try_advance<F>(&mut self, mut finder: F) -> Result<Option<Match>, SearchError>
+    pub fn try_advance<F>(&mut self, finder: F) -> Result<Option<Match>, SearchError>
     where
         F: FnMut(&Input<'_>) -> Result<Option<Match>, SearchError>,
         requires { FindsStep F.FnMut finder (walk_of self.old) }
@@ -110,32 +111,12 @@ impl<'h> Searcher<'h> {
         ensures fewer { LeavesFewer (walk_of self.old) (match_place result) (walk_of self.new) }
         ensures same { SameButStart (walk_of self.old).at (walk_of self.new).at }
     {
-        self.advance_by(&mut finder)
-    }
-
-    // The same, by a finder that is lent.
-    pub(crate) fn advance_by<F>(&mut self, finder: &mut F) -> Result<Option<Match>, SearchError>
-    where
-        F: FnMut(&Input<'_>) -> Result<Option<Match>, SearchError>,
-        requires { FindsStep F.FnMut finder.old (walk_of self.old) }
-        ensures step { StepsBy F.FnMut finder.old (walk_of self.old) result finder.new (walk_of self.new) }
-        ensures rises { ComesAfter (walk_of self.old) (match_place result) }
-        ensures fewer { LeavesFewer (walk_of self.old) (match_place result) (walk_of self.new) }
-        ensures same { SameButStart (walk_of self.old).at (walk_of self.new).at }
-    {
-        let first = ask(finder, &self.input);
-        if !self.moves_on(match_span(first)) {
-            self.take(match_span(first));
-            return first;
-        }
-        let second = ask(finder, &self.input);
-        self.take(match_span(second));
-        second
+        self.step_by(&mut OnMatches { finder })
     }
 
     /// The next match that a finder that never errs gives, by the step of
     /// [`Searcher::try_advance`]. That it never errs the caller owes too.
-    pub fn advance<F>(&mut self, mut finder: F) -> Option<Match>
+    pub fn advance<F>(&mut self, finder: F) -> Option<Match>
     where
         F: FnMut(&Input<'_>) -> Result<Option<Match>, SearchError>,
         requires { FindsStepSurely F.FnMut finder (walk_of self.old) }
@@ -144,7 +125,7 @@ impl<'h> Searcher<'h> {
         ensures fewer { LeavesFewer (walk_of self.old) (match_place (Ok result)) (walk_of self.new) }
         ensures same { SameButStart (walk_of self.old).at (walk_of self.new).at }
     {
-        match self.advance_by(&mut finder) {
+        match self.try_advance(finder) {
             Ok(found) => found,
             Err(_) => unreachable!(),
         }
@@ -155,7 +136,7 @@ impl<'h> Searcher<'h> {
     /// The same as [`Searcher::try_advance`] where only the ends of matches are known: the finder
     /// is called a second time where its first answer has the offset at which the last match
     /// ended. The caller owes that the finder answers offsets in its input's span.
-    pub fn try_advance_half<F>(&mut self, mut finder: F) -> Result<Option<HalfMatch>, SearchError>
+    pub fn try_advance_half<F>(&mut self, finder: F) -> Result<Option<HalfMatch>, SearchError>
     where
         F: FnMut(&Input<'_>) -> Result<Option<HalfMatch>, SearchError>,
         requires { FindsHalfStep F.FnMut finder (walk_of self.old) }
@@ -164,35 +145,12 @@ impl<'h> Searcher<'h> {
         ensures fewer { LeavesFewer (walk_of self.old) (half_place result) (walk_of self.new) }
         ensures same { SameButStart (walk_of self.old).at (walk_of self.new).at }
     {
-        self.advance_half_by(&mut finder)
-    }
-
-    // The same, by a finder that is lent.
-    pub(crate) fn advance_half_by<F>(
-        &mut self,
-        finder: &mut F,
-    ) -> Result<Option<HalfMatch>, SearchError>
-    where
-        F: FnMut(&Input<'_>) -> Result<Option<HalfMatch>, SearchError>,
-        requires { FindsHalfStep F.FnMut finder.old (walk_of self.old) }
-        ensures step { HalfStepsBy F.FnMut finder.old (walk_of self.old) result finder.new (walk_of self.new) }
-        ensures rises { ComesAfter (walk_of self.old) (half_place result) }
-        ensures fewer { LeavesFewer (walk_of self.old) (half_place result) (walk_of self.new) }
-        ensures same { SameButStart (walk_of self.old).at (walk_of self.new).at }
-    {
-        let first = ask(finder, &self.input);
-        if !self.moves_on(half_match_span(first)) {
-            self.take(half_match_span(first));
-            return first;
-        }
-        let second = ask(finder, &self.input);
-        self.take(half_match_span(second));
-        second
+        self.step_by(&mut OnHalfMatches { finder })
     }
 
     /// The next half match that a finder that never errs gives, by the step of
     /// [`Searcher::try_advance_half`]. That it never errs the caller owes too.
-    pub fn advance_half<F>(&mut self, mut finder: F) -> Option<HalfMatch>
+    pub fn advance_half<F>(&mut self, finder: F) -> Option<HalfMatch>
     where
         F: FnMut(&Input<'_>) -> Result<Option<HalfMatch>, SearchError>,
         requires { FindsHalfStepSurely F.FnMut finder (walk_of self.old) }
@@ -201,10 +159,27 @@ impl<'h> Searcher<'h> {
         ensures fewer { LeavesFewer (walk_of self.old) (half_place (Ok result)) (walk_of self.new) }
         ensures same { SameButStart (walk_of self.old).at (walk_of self.new).at }
     {
-        match self.advance_half_by(&mut finder) {
+        match self.try_advance_half(finder) {
             Ok(found) => found,
             Err(_) => unreachable!(),
         }
+    }
+
+    // A step, of whatever answers searches.
+    pub(crate) fn step_by<A: Answers>(&mut self, asker: &mut A) -> A::Reply
+        requires { ServesTurn A.accepts A.asks A.span (IsInside A.span) asker.old (walk_of self.old) }
+        ensures { StepDone A.accepts A.asks A.span asker.old (walk_of self.old) (A.shows asker.new result) asker.new (walk_of self.new) }
+    {
+        let first = asker.answer(&self.input);
+        let place = asker.place(first);
+        if !self.moves_on(place) {
+            self.take(place);
+            return first;
+        }
+        let second = asker.answer(&self.input);
+        let place = asker.place(second);
+        self.take(place);
+        second
     }
 
     // Whether the match is an empty one at the last end. The start then moves one on.

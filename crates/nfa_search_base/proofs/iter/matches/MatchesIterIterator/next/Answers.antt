@@ -1,18 +1,19 @@
-use Rattle.std.proofs.Common.{rules}
 use Rattle.regex_search_core.specs.Found.{found_of}
+use Rattle.nfa_search_base.specs.Asking.{IsCallableOn}
+use Rattle.nfa_search_base.specs.Finders.{Finds}
 use Rattle.nfa_search_base.specs.Walks.{span_of}
-use Rattle.nfa_search_base.specs.Stored.{try_walk}
-use Rattle.nfa_search_base.specs.declared.iter.matches.TryMatchesIter.{TryMatchesIter}
-use Rattle.nfa_search_base.proofs.StoredLemmas.{surely-inside, never-err, after-match}
+use Rattle.nfa_search_base.proofs.StoredLemmas.{surely-inside, never-err, sure-some, sure-none}
 use Rattle.nfa_search_base.proofs.iter.matches.MatchesIterIterator.next.Goals as goal
+use Rattle.nfa_search_base.proofs.iter.matches.MatchesIterIterator.next.Goals.{in-Some-Ok, in-None}
 
 pub next-requires : goal.next-requires
-next-requires g c = surely-inside found_of g.F.FnMut span_of try_walk (λ (s : TryMatchesIter g.row.F.Denot). s.finder) (λ (s : TryMatchesIter g.row.F.Denot). s.done) c.args.self.now.tries.finder (try_walk c.args.self.now.tries).at c.requires
+next-requires g c = surely-inside (IsCallableOn g.F.FnMut) (Finds found_of g.F.FnMut) span_of found_of c.self.inside.tries (rw (← c.self.view_is) at c.requires)
 
 pub unreachable-requires : goal.unreachable-requires
-unreachable-requires g c = never-err found_of g.F.FnMut span_of try_walk (λ (s : TryMatchesIter g.row.F.Denot). s.finder) (λ (s : TryMatchesIter g.row.F.Denot). s.done) c.args.self.now.tries c.next.new.self c.next.result c.requires c.next.ensures.steps c.in-Some-Err.field-0-0 (cc)
+unreachable-requires g c = never-err (IsCallableOn g.F.FnMut) (Finds found_of g.F.FnMut) span_of found_of c.self.inside.tries c.next.new.self c.next.result (rw (← c.self.view_is) at c.requires) c.next.ensures.steps c.in-Some-Err.field-0-0 (cc)
 
-pub returns-in-Some-Ok-clause-goes : goal.returns-in-Some-Ok-clause-goes
-returns-in-Some-Ok-clause-goes g c =
-    let after = after-match found_of g.F.FnMut span_of try_walk (λ (s : TryMatchesIter g.row.F.Denot). s.finder) (λ (s : TryMatchesIter g.row.F.Denot). s.done) c.args.self.now.tries c.next.new.self c.next.result c.requires c.next.ensures.steps c.in-Some-Ok.found (cc) in
-    search rules
+pub returns-clause-goes : goal.returns-clause-goes
+returns-clause-goes g c = elim c.match-next.branch [
+  | in-Some-Ok w ↦ rw c.self.view_is at (sure-some (IsCallableOn g.F.FnMut) (Finds found_of g.F.FnMut) span_of found_of c.self.inside.tries c.next.new.self c.next.result (rw (← c.self.view_is) at c.requires) c.next.ensures.steps w.in-Some-Ok.found _ (cc) w.result-is)
+  | in-None w ↦ sure-none (IsCallableOn g.F.FnMut) (Finds found_of g.F.FnMut) span_of found_of c.args.self.now c.next.new.self _ w.result-is
+]

@@ -1,19 +1,20 @@
 use Rattle.std.proofs.Common.{◌≡◌, true, false, subst, IsOk, Option, Result}
 use Rattle.regex_search_core.specs.Found.{found_of}
 use Rattle.regex_search_core.specs.declared.search.Match.{Match}
+use Rattle.nfa_search_base.specs.Asking.{IsCallableOn}
 use Rattle.nfa_search_base.specs.Walks.{span_of}
-use Rattle.nfa_search_base.specs.Finders.{answer_by}
+use Rattle.nfa_search_base.specs.Finders.{Finds, answer_by}
 use Rattle.nfa_search_base.specs.Searchers.{walk_of}
 use Rattle.nfa_search_base.specs.declared.error.SearchError.{SearchError}
-use Rattle.nfa_search_base.proofs.StepLemmas.{ServesStep-surely, step-surely}
+use Rattle.nfa_search_base.proofs.StepLemmas.{ServesTurn-surely, step-surely}
 use Rattle.nfa_search_base.proofs.iter.searcher.Searcher.advance.Goals as goal
 
-pub advance_by-requires : goal.advance_by-requires
-advance_by-requires g c = ServesStep-surely found_of g.F.FnMut span_of c.args.finder (walk_of c.args.self.now) c.requires
+pub try_advance-requires : goal.try_advance-requires
+try_advance-requires g c = ServesTurn-surely (IsCallableOn g.F.FnMut) (Finds found_of g.F.FnMut) span_of c.args.finder (walk_of c.args.self.now) c.requires
 
 pub unreachable-requires : goal.unreachable-requires
 unreachable-requires g c =
     let no : false ≡ true =
     subst (λ (r : Result (Option Match) SearchError). IsOk (answer_by found_of r)) c.in-Err.is
-    (step-surely found_of g.F.FnMut span_of c.args.finder (walk_of c.args.self.now) _ _ _ c.requires c.advance_by.ensures.step) in
+    (step-surely (IsCallableOn g.F.FnMut) (Finds found_of g.F.FnMut) span_of c.args.finder (walk_of c.args.self.now) _ _ _ c.requires c.try_advance.ensures.step.1) in
     cc

@@ -1,0 +1,101 @@
+-- finders of captures
+use Rattle.std.specs.Prelude.{◌≡◌, ◌⊎◌, ℕ, List, [], ◌∷◌, map, Option, None, Some, Result, Ok, Err, option_map}
+use Rattle.std.specs.Fn.{Called, Mut}
+use Rattle.std.specs.Borrow.{Bor, MutBor}
+use Rattle.std.specs.Iterator.{Drains}
+use Rattle.regex_search_core.specs.Search.{Search, search_of}
+use Rattle.regex_search_core.specs.Slots.{Captured, match_of}
+use Rattle.regex_search_core.specs.declared.search.Input.{Input}
+use Rattle.regex_search_core.specs.declared.search.Span.{Span}
+use Rattle.nfa_search_base.specs.Likes.{SameButStart}
+use Rattle.nfa_search_base.specs.Walks.{Answer, span_of}
+use Rattle.nfa_search_base.specs.Items.{Item}
+use Rattle.nfa_search_base.specs.Serving.{ServesOnAlong}
+use Rattle.nfa_search_base.specs.declared.error.SearchError.{SearchError}
+use Rattle.nfa_search_base.specs.declared.error.SearchError.TheVariants.{Memory}
+
+-- what captures hold of a search: the pattern and the slots
+pub record Row : Type 0 where
+  pub pattern : Option ℕ
+  pub slots : List (Option ℕ)
+
+abbrev pub row_of : Captured → Row
+row_of c = record { pattern = c.pattern; slots = c.slots }
+
+-- where the match of a row lies; a row without one is no match, and its span is never asked for
+abbrev pub row_span : Row → Span
+row_span x = or_nothing (option_map span_of (match_of x.pattern x.slots))
+  where
+    or_nothing : Option Span → Span
+    or_nothing (Some p) = p
+    or_nothing None = record { start = 0; end = 0 }
+
+-- the row that captures hold, where they have a match
+abbrev pub caught : Captured → Option Row
+caught c = option_map (λ m. row_of c) (match_of c.pattern c.slots)
+
+-- what a call that left these captures and gave this reply answers
+abbrev pub caught_by : Captured → Result (Unit {0}) SearchError → Answer Row
+caught_by c (Ok u) = Ok (caught c)
+caught_by c (Err e) = Err e
+
+-- a finder, and the captures that it is called with next
+pub record Catching (F : Type 0) : Type 0 where
+  pub finder : F
+  pub captures : Captured
+
+-- the item is a copy of the captures that were left, which hold the row; or memory for the copy was refused
+abbrev pub GivesCaptures : {F : Type 0} → Catching F → Answer Row → Option (Result Captured SearchError) → Type 0
+GivesCaptures c (Ok (Some x)) r = ((r ≡ Some (Ok c.captures)) × (row_of c.captures ≡ x)) ⊎ (r ≡ Some (Err Memory))
+GivesCaptures c (Ok None) r = r ≡ None
+GivesCaptures c (Err e) r = r ≡ Some (Err e)
+
+-- the item is no error but a refusal of memory
+abbrev pub IsAtMostMemory : {Y : Type 0} → Option (Result Y SearchError) → Type 0
+IsAtMostMemory None = Unit {0}
+IsAtMostMemory (Some (Ok y)) = Unit {0}
+IsAtMostMemory (Some (Err e)) = e ≡ Memory
+
+-- the items of the list, or those before some match and then `Memory`
+abbrev pub UpToRefusal : {X : Type 0} → List (Item X) → List (Item X) → Type 0
+UpToRefusal [] [] = Unit {0}
+UpToRefusal (y ∷ ys) [] = ⊥
+UpToRefusal [] (x ∷ xs) = ⊥
+UpToRefusal (y ∷ ys) (x ∷ xs) = ((x ≡ y) × UpToRefusal ys xs) ⊎ ((x ≡ Err Memory) × (xs ≡ []))
+
+-- whoever runs the iterator s to its end has the items of the list, up to a refusal
+pub record YieldsUpToRefusal {T R X : Type 0} (steps : T → Option R → T → Type 0) (value : R → Item X) (s : T) (all : List (Item X)) : Type 0 where
+  pub at : (xs : List R) → Drains steps s xs → UpToRefusal all (map value xs)
+
+module _ {F : Type 0} (g : Mut F (Bor Input × (MutBor Captured × Unit {0})) (Result (Unit {0}) SearchError × (MutBor Captured × Unit {0}))) where
+  -- the finder may be called on this search, with these captures
+  abbrev pub IsCallableWith : F → Captured → Search → Type 0
+  IsCallableWith f c s = (p : Bor Input) (q : MutBor Captured) → search_of p.now ≡ s → q.now ≡ c → g.pre f (p, (q, tt))
+
+  -- a call of the finder f on this search, with the captures c, gave the reply, and left the finder as f' and the captures as c'
+  pub record AsksWith (f : F) (c : Captured) (s : Search) (reply : Result (Unit {0}) SearchError) (f' : F) (c' : Captured) : Type 0 where
+    pub shown : Bor Input
+    pub lent : MutBor Captured
+    pub shows : search_of shown.now ≡ s
+    pub lends : lent.now ≡ c
+    pub left : MutBor Captured
+    pub called : Called g f (shown, (lent, tt)) (reply, (left, tt)) f'
+    pub leaves : left.now ≡ c'
+
+  -- the finder may be called on this search, with the captures that are kept
+  abbrev pub CanCatch : Catching F → Search → Type 0
+  CanCatch c s = IsCallableWith c.finder c.captures s
+
+  -- such a call answers this
+  pub record Catches (c : Catching F) (s : Search) (a : Answer Row) (c' : Catching F) : Type 0 where
+    pub reply : Result (Unit {0}) SearchError
+    pub asked : AsksWith c.finder c.captures s reply c'.finder c'.captures
+    pub answers : a ≡ caught_by c'.captures reply
+
+  -- wherever calls on searches that differ from s in their start alone lead, the next may be made, and P holds of its answer
+  abbrev pub CatchesAlong : (Search → Answer Row → Type 0) → Catching F → Search → Type 0
+  CatchesAlong P c s = ServesOnAlong CanCatch Catches SameButStart P c s
+
+  -- it answers each search like s as h does, for as long as it is called
+  abbrev pub CatchesBy : (Search → Answer Row) → Catching F → Search → Type 0
+  CatchesBy h c s = CatchesAlong (λ t a. a ≡ h t) c s

@@ -1,0 +1,37 @@
+-- whatever answers searches
+use Rattle.std.specs.Prelude.{◌≡◌, true, List}
+use Rattle.std.specs.List.{FoldsTo}
+use Rattle.regex_search_core.specs.Search.{Search}
+use Rattle.regex_search_core.specs.declared.search.Span.{Span}
+use Rattle.nfa_search_base.specs.Likes.{SameButStart}
+use Rattle.nfa_search_base.specs.Walks.{Answer, Walk, place_of, repeats, shifted, Advances, ComesAfter, LeavesFewer}
+
+-- In the state s it `accepts` a search t, and then a call on t `asks` it, which gives a reply and leaves a state.
+module _ {S R : Type 0} (accepts : S → Search → Type 0) (asks : S → Search → R → S → Type 0) where
+  -- it may be called on this search, and P holds of what it then replies
+  pub record ServesOn (P : Search → R → Type 0) (s : S) (t : Search) : Type 0 where
+    pub callable : accepts s t
+    pub replies : (reply : R) (s' : S) → asks s t reply s' → P t reply
+
+  module _ (Same : Search → Search → Type 0) where
+    -- calls on searches that are the same as t led from s to s'
+    abbrev pub LeadsOn : Search → S → List (Search × R) → S → Type 0
+    LeadsOn t s calls s' = FoldsTo (λ p x q. Same t x.0 × asks p x.0 x.1 q) s calls s'
+
+    -- wherever such calls lead, the next may be made, and P holds of what it replies
+    pub record ServesOnAlong (P : Search → R → Type 0) (s : S) (t : Search) : Type 0 where
+      pub at : (calls : List (Search × R)) (s' : S) (u : Search) → LeadsOn t s calls s' → Same t u → ServesOn P s' u
+
+-- Its replies are answers, whose matches lie at `span`.
+module _ {S X : Type 0} (accepts : S → Search → Type 0) (asks : S → Search → Answer X → S → Type 0) (span : X → Span) where
+  -- P holds of its answers for a step of the iteration w, for which it may be called once, and again one on where the first answer is an empty match at the last end
+  pub record ServesTurn (P : Search → Answer X → Type 0) (s : S) (w : Walk) : Type 0 where
+    pub first : ServesOn accepts asks P s w.at
+    pub second : (a : Answer X) (s' : S) → asks s w.at a s' → repeats w (place_of span a) ≡ true → ServesOn accepts asks P s' (shifted w).at
+
+  -- what a step gives: it is one of the iteration, its match comes after the last one and leaves fewer ends, and only the search's start moved
+  pub record StepDone (s : S) (w : Walk) (a : Answer X) (s' : S) (w' : Walk) : Type 0 where
+    pub step : Advances span asks s w a s' w'
+    pub rises : ComesAfter w (place_of span a)
+    pub fewer : LeavesFewer w (place_of span a) w'
+    pub same : SameButStart w.at w'.at

@@ -1,0 +1,42 @@
+-- the steps of an iterator that keeps what it asks
+use Rattle.std.specs.Prelude.{◌≡◌, ◌<◌, Bool, true, false, Option, None, Some, Result, Ok, Err, OnSome, option_map}
+use Rattle.regex_search_core.specs.Search.{Search}
+use Rattle.regex_search_core.specs.declared.search.Span.{Span}
+use Rattle.nfa_search_base.specs.Likes.{SameButStart}
+use Rattle.nfa_search_base.specs.Walks.{Answer, Walk, place_of, ComesAfter, Advances}
+use Rattle.nfa_search_base.specs.Items.{item_by, item_of, items_left}
+use Rattle.nfa_search_base.specs.declared.error.SearchError.{SearchError}
+
+-- the answer has a match
+abbrev pub HasMatch : {X : Type 0} → Answer X → Type 0
+HasMatch (Ok (Some x)) = Unit {0}
+HasMatch (Ok None) = ⊥
+HasMatch (Err e) = ⊥
+
+-- an item that is no error comes of a match
+abbrev pub ComesOfMatch : {X Y : Type 0} → Answer X → Option (Result Y SearchError) → Type 0
+ComesOfMatch a None = Unit {0}
+ComesOfMatch a (Some (Ok y)) = HasMatch a
+ComesOfMatch a (Some (Err e)) = Unit {0}
+
+-- the iterator ends with this item: with none and with an error
+abbrev pub ends_at : {Y : Type 0} → Option (Result Y SearchError) → Bool
+ends_at None = true
+ends_at (Some (Ok y)) = false
+ends_at (Some (Err e)) = true
+
+-- the item is the answer's
+abbrev pub GivesItem : {X Y : Type 0} → (Y → X) → Answer X → Option (Result Y SearchError) → Type 0
+GivesItem view a r = option_map (item_by view) r ≡ item_of a
+
+-- A match is an X, which lies at `span`; a call `asks`; an item is a Y, and `gives` says which an answer gives, in the state that the call left.
+module _ {S X Y : Type 0} (span : X → Span) (asks : S → Search → Answer X → S → Type 0) (gives : S → Answer X → Option (Result Y SearchError) → Type 0) where
+  -- a step of an iterator that has not ended
+  pub record TakesStep (s : S) (w : Walk) (r : Option (Result Y SearchError)) (s' : S) (w' : Walk) (done' : Bool) : Type 0 where
+    pub answer : Answer X
+    pub step : Advances span asks s w answer s' w'
+    pub item : gives s' answer r
+    pub ends : done' ≡ ends_at r
+    pub rises : ComesAfter w (place_of span answer)
+    pub same : SameButStart w.at w'.at
+    pub fewer : OnSome r (items_left done' w' < items_left false w)

@@ -1,0 +1,221 @@
+ghost use Rattle.std.specs.Prelude.{◌≡◌, ◌≤◌, Option, Result};
+ghost use Rattle.std.specs.Option.{ForSome};
+ghost use Rattle.regex_search_core.specs.Search.{Search, search_of};
+ghost use Rattle.regex_search_core.specs.declared.search.Span.{Span};
+ghost use Rattle.nfa_search_base.specs.Walks.{Answer, place_of};
+ghost use Rattle.nfa_search_base.specs.Steps.{ComesOfMatch};
+ghost use Rattle.nfa_search_base.specs.declared.error.SearchError.{SearchError};
+
+use crate::asking::{ask, ask_with};
+use crate::error::SearchError;
+use crate::iter::place::{half_match_span, match_span};
+use regex_search_core::{Captures, HalfMatch, Input, Match, Span};
+use std::marker::Model;
+
+// Whatever answers the searches of an iteration.
+pub(crate) trait Answers: Drop {
+    // What a call gives, and what it stands for, in the state that the call left.
+    type Reply: Copy;
+
+    ghost Value: { Type 0 };
+
+    ghost shows: { Self → Self.Reply → Answer Value };
+
+    // Where a match lies.
+    ghost span: { Value → Span };
+
+    // It may be called on this search.
+    ghost accepts: { Self → Search → Type 0 };
+
+    // The item of an iterator that an answer gives, in the state that the call left.
+    type Item;
+
+    ghost gives: { Self → Answer Value → Option (Result Self.Item SearchError) → Type 0 };
+
+    // A call on this search may give this answer and leave this.
+    ghost asks: { Self → Search → Answer Value → Self → Type 0 };
+
+    fn answer(&mut self, input: &Input<'_>) -> Self::Reply
+        requires { accepts self.old (search_of input.now) }
+        ensures { asks self.old (search_of input.now) (shows self.new result) self.new };
+
+    // Where the match of the answer lies.
+    fn place(&self, reply: Self::Reply) -> Option<Span>
+        ensures place { result ≡ place_of span (shows self.now reply) }
+        ensures ordered { ForSome result (λ p. p.start ≤ p.end) };
+
+    // The item of the answer.
+    fn item(&self, reply: Self::Reply) -> Option<Result<Self::Item, SearchError>>
+        ensures gives { gives self.now (shows self.now reply) result }
+        ensures found { ComesOfMatch (shows self.now reply) result };
+}
+
+// A finder of matches.
+#[derive(Drop)]
+pub(crate) struct OnMatches<F> {
+    pub(crate) finder: F,
+}
+
+impl<F> Model for OnMatches<F> {
+    ghost Value = { F };
+
+    ghost view = { λ a. a.finder };
+}
+
+impl<F> Answers for OnMatches<F>
+where
+    F: FnMut(&Input<'_>) -> Result<Option<Match>, SearchError>,
+{
+    ghost use Rattle.regex_search_core.specs.Found.{Found, found_of};
+    ghost use Rattle.nfa_search_base.specs.Asking.{IsCallableOn};
+    ghost use Rattle.nfa_search_base.specs.Finders.{Finds, answer_by};
+    ghost use Rattle.nfa_search_base.specs.Steps.{GivesItem};
+    ghost use Rattle.nfa_search_base.specs.Walks.{span_of};
+
+    type Reply = Result<Option<Match>, SearchError>;
+
+    ghost Value = { Found };
+
+    ghost shows = { λ _ reply. answer_by found_of reply };
+
+    ghost span = { span_of };
+
+    ghost accepts = { IsCallableOn F.FnMut };
+
+    ghost asks = { Finds found_of F.FnMut };
+
+    type Item = Match;
+
+    ghost gives = { λ _. GivesItem found_of };
+
+    fn answer(&mut self, input: &Input<'_>) -> Result<Option<Match>, SearchError> {
+        ask(&mut self.finder, input)
+    }
+
+    fn place(&self, reply: Result<Option<Match>, SearchError>) -> Option<Span> {
+        match_span(reply)
+    }
+
+    fn item(
+        &self,
+        reply: Result<Option<Match>, SearchError>,
+    ) -> Option<Result<Match, SearchError>> {
+        reply.transpose()
+    }
+}
+
+// A finder of half matches.
+#[derive(Drop)]
+pub(crate) struct OnHalfMatches<F> {
+    pub(crate) finder: F,
+}
+
+impl<F> Model for OnHalfMatches<F> {
+    ghost Value = { F };
+
+    ghost view = { λ a. a.finder };
+}
+
+impl<F> Answers for OnHalfMatches<F>
+where
+    F: FnMut(&Input<'_>) -> Result<Option<HalfMatch>, SearchError>,
+{
+    ghost use Rattle.regex_search_core.specs.Found.{HalfFound, half_found_of};
+    ghost use Rattle.nfa_search_base.specs.Asking.{IsCallableOn};
+    ghost use Rattle.nfa_search_base.specs.Finders.{Finds, answer_by};
+    ghost use Rattle.nfa_search_base.specs.Steps.{GivesItem};
+    ghost use Rattle.nfa_search_base.specs.Walks.{half_span_of};
+
+    type Reply = Result<Option<HalfMatch>, SearchError>;
+
+    ghost Value = { HalfFound };
+
+    ghost shows = { λ _ reply. answer_by half_found_of reply };
+
+    ghost span = { half_span_of };
+
+    ghost accepts = { IsCallableOn F.FnMut };
+
+    ghost asks = { Finds half_found_of F.FnMut };
+
+    type Item = HalfMatch;
+
+    ghost gives = { λ _. GivesItem half_found_of };
+
+    fn answer(&mut self, input: &Input<'_>) -> Result<Option<HalfMatch>, SearchError> {
+        ask(&mut self.finder, input)
+    }
+
+    fn place(&self, reply: Result<Option<HalfMatch>, SearchError>) -> Option<Span> {
+        half_match_span(reply)
+    }
+
+    fn item(
+        &self,
+        reply: Result<Option<HalfMatch>, SearchError>,
+    ) -> Option<Result<HalfMatch, SearchError>> {
+        reply.transpose()
+    }
+}
+
+// A finder of captures, and the captures that it writes to.
+#[derive(Drop)]
+pub(crate) struct OnCaptures<F> {
+    pub(crate) finder: F,
+    pub(crate) captures: Captures,
+}
+
+impl<F> Model for OnCaptures<F> {
+    ghost use Rattle.nfa_search_base.specs.Catching.{Catching};
+
+    ghost Value = { Catching F };
+
+    ghost view = { λ a. record { finder = a.finder; captures = a.captures } };
+}
+
+impl<F> Answers for OnCaptures<F>
+where
+    F: FnMut(&Input<'_>, &mut Captures) -> Result<(), SearchError>,
+{
+    ghost use Rattle.nfa_search_base.specs.Catching.{Row, CanCatch, Catches, caught_by, row_span, GivesCaptures};
+
+    type Reply = Result<(), SearchError>;
+
+    ghost Value = { Row };
+
+    ghost shows = { λ c reply. caught_by c.captures reply };
+
+    ghost span = { row_span };
+
+    ghost accepts = { CanCatch F.FnMut };
+
+    ghost asks = { Catches F.FnMut };
+
+    type Item = Captures;
+
+    ghost gives = { GivesCaptures };
+
+    fn answer(&mut self, input: &Input<'_>) -> Result<(), SearchError> {
+        ask_with(&mut self.finder, input, &mut self.captures)
+    }
+
+    fn place(&self, reply: Result<(), SearchError>) -> Option<Span> {
+        match reply {
+            Ok(()) => Some(self.captures.get_match()?.span()),
+            Err(_) => None,
+        }
+    }
+
+    fn item(&self, reply: Result<(), SearchError>) -> Option<Result<Captures, SearchError>> {
+        match reply {
+            Ok(()) => match self.captures.get_match() {
+                Some(_) => match self.captures.clone() {
+                    Ok(copy) => Some(Ok(copy)),
+                    Err(_) => Some(Err(SearchError::Memory)),
+                },
+                None => None,
+            },
+            Err(error) => Some(Err(error)),
+        }
+    }
+}
