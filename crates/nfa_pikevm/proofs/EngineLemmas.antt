@@ -1,9 +1,12 @@
 -- From what a search comes to, to what its callers are told.
 use Rattle.std.proofs.Common.{◌≡◌, ℕ, ◌+◌, ◌*◌, ◌≤◌, min, inl, inr, List, [], ◌∷◌, ◌++◌, length, refl, ap, sym, ◌∙◌, arith, length-append}
-use Rattle.std.specs.Prelude.{Option, Some, None, Bool, option_map, option_and_then}
+use Rattle.std.specs.Prelude.{Option, Some, None, Bool, option_map, option_and_then, IfSome, All, ◌<◌}
 use Rattle.std.proofs.lemmas.Bool.{cases_lt}
 use Rattle.std.proofs.lemmas.List.{append-nil}
-use Rattle.regex_search_core.specs.Found.{Found, half_found_of}
+use Rattle.regex_search_core.specs.Found.{Found, found_of, half_found_of}
+use Rattle.regex_search_core.specs.Patterns.{number_of}
+use Rattle.regex_search_core.specs.declared.search.Match.{Match}
+use Rattle.regex_search_core.specs.declared.primitives.PatternID.{PatternID}
 use Rattle.regex_search_core.specs.Groups.{slot_count}
 use Rattle.regex_search_core.specs.Search.{Search}
 use Rattle.regex_search_core.specs.Slots.{match_of}
@@ -14,7 +17,9 @@ use Rattle.nfa_search_base.specs.Graphs.{Pair}
 use Rattle.nfa_search_base.specs.Paths.{path_pattern, slot_row, IsAnswer, IsMatchAnswer, IsWork}
 use Rattle.nfa_search_base.specs.Exploring.{Slots}
 use Rattle.nfa_search_base.proofs.PatternLemmas.{slot_row-more, match-along-path}
+use Rattle.nfa_search_base.proofs.InsideLemmas.{match-within, match-pattern, slots-within, pattern-within}
 use Rattle.nfa_pikevm.specs.Scans.{blank, Searched}
+use Rattle.nfa_search_base.specs.Lists.{IsInside, IsSlotInside}
 
 module _ (nfa : Automaton) where
   -- A search was handed as many slots as the NFA has, or fewer, and the rest are none: together they are a row of the path.
@@ -64,3 +69,21 @@ module _ (nfa : Automaton) (kind : MatchKind) (earliest : Bool) where
           let pattern : Some k ≡ option_and_then (path_pattern nfa) s.path = ap Some is ∙ s.pattern_is in
           leads ∙ match-along-path nfa valid k slots size s.path pattern s.slots_are;
     }
+
+  -- what callers learn of the numbers in an answer
+  module _ (x : Search) where
+    pub inside-of : (r : Option Match) → IsMatchAnswer nfa kind earliest x (option_map found_of r) → IfSome r (λ m. IsInside x (found_of m))
+    inside-of None h = tt
+    inside-of (Some m) h = let k = match-within nfa kind earliest x (found_of m) h in record { from = k.0; ordered = k.1; to = k.2 }
+
+    pub pattern-of : IsAutomaton nfa → (r : Option Match) → IsMatchAnswer nfa kind earliest x (option_map found_of r) → IfSome r (λ m. (found_of m).pattern < length nfa.patterns)
+    pattern-of valid None h = tt
+    pattern-of valid (Some m) h = match-pattern nfa kind earliest valid x (found_of m) h
+
+    pub slots-inside : (pattern : Option ℕ) (slots : List (Option ℕ)) → IsAnswer nfa kind earliest x pattern slots → All (IsSlotInside x) slots
+    slots-inside pattern slots a = slots-within nfa kind earliest x pattern slots a
+
+    pub slots-pattern : IsAutomaton nfa → (r : Option PatternID) (slots : List (Option ℕ)) → IsAnswer nfa kind earliest x (option_map number_of r) slots
+        → IfSome r (λ p. number_of p < length nfa.patterns)
+    slots-pattern valid None slots a = tt
+    slots-pattern valid (Some p) slots a = pattern-within nfa kind earliest valid x (Some (number_of p)) slots a

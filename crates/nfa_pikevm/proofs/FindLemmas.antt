@@ -1,26 +1,25 @@
 -- Whoever runs the iterator over a PikeVM's matches has all of them.
 use Rattle.std.proofs.Common.{◌≡◌, true, false, Bool, Option, None, Some, Ok, Err, List, [], ◌∷◌, sym, ◌∙◌, ap, subst, MatchBool}
-use Rattle.std.specs.Option.{option_map, option_and_then}
+use Rattle.std.specs.Option.{ForSome, option_map}
 use Rattle.std.specs.Iterator.{AlwaysYields}
 use Rattle.std.proofs.lemmas.Iterator.{YieldsList}
 use Rattle.regex_search_core.specs.Found.{Found, found_of}
-use Rattle.regex_search_core.specs.Groups.{slot_count}
 use Rattle.regex_search_core.specs.Search.{Search}
-use Rattle.regex_search_core.specs.Slots.{match_of}
 use Rattle.regex_search_core.specs.declared.search.Match.{Match}
 use Rattle.regex_search_core.specs.declared.search.MatchKind.{MatchKind}
 use Rattle.thompson_nfa.specs.Automaton.{Automaton}
 use Rattle.nfa_search_base.specs.Asking.{SameButStart}
 use Rattle.nfa_search_base.specs.Items.{Item, matches_in, greedy, greedy_unless}
-use Rattle.nfa_search_base.specs.Paths.{slot_row, path_pattern, IsMatchAnswer}
-use Rattle.nfa_search_base.specs.Walks.{Walk, Answer, fresh, LiesIn, span_of}
-use Rattle.nfa_search_base.proofs.AnswerLemmas.{search_answer-unique}
+use Rattle.nfa_search_base.specs.Known.{IsSureMatch}
+use Rattle.nfa_search_base.specs.Paths.{IsMatchAnswer}
+use Rattle.nfa_search_base.specs.Walks.{Walk, Answer, fresh, after, LiesIn, span_of}
 use Rattle.nfa_search_base.proofs.AskingLemmas.{same_start-self, same_start-then}
 use Rattle.nfa_search_base.proofs.GreedyLemmas.{IsTurnOf, turn-computes, yields-greedy}
 use Rattle.nfa_search_base.proofs.InsideLemmas.{match-within}
+use Rattle.nfa_search_base.proofs.KnownLemmas.{match-unique, match-sure, sure-match}
 use Rattle.nfa_pikevm.specs.Engines.{Pike, kind_of}
 use Rattle.nfa_pikevm.specs.FindMatches.{TakesFindTurn, find_engine, find_walk, find_steps, item}
-use Rattle.nfa_pikevm.specs.Finding.{Finds, GivesMatches, all_matches, place}
+use Rattle.nfa_pikevm.specs.Finding.{Finds, IsFindOf, IsKnown, GivesMatches, all_matches, answer_of, place}
 use Rattle.nfa_pikevm.specs.declared.find_iter.FindMatches.{FindMatches}
 
 -- a match that is found lies in the span
@@ -28,11 +27,32 @@ pub find-inside : (nfa : Automaton) (kind : MatchKind) (earliest : Bool) (x : Se
 find-inside nfa kind earliest x (Some m) h = let k = match-within nfa kind earliest x (found_of m) h in (k.0, k.2)
 find-inside nfa kind earliest x None h = tt
 
--- a search has one match
-one-match : (nfa : Automaton) (kind : MatchKind) (earliest : Bool) (x : Search) (a b : Option Found) → IsMatchAnswer nfa kind earliest x a → IsMatchAnswer nfa kind earliest x b → a ≡ b
-one-match nfa kind earliest x a b h k =
-    let one = search_answer-unique nfa kind earliest x h.restarts k.restarts h.path k.path h.answers k.answers in
-    h.found_is ∙ ap (λ p. match_of (option_and_then (path_pattern nfa) p) (slot_row nfa (slot_count nfa.groups) p)) one.1 ∙ sym k.found_is
+-- the match that is known is the one that a search finds
+pub known-found : (vm : Pike) (x : Search) (known : Option Match) (m : Match) → known ≡ Some m → IsKnown vm x known → IsFindOf vm x (answer_of known)
+known-found vm x known m is knows =
+    subst (λ (o : Option Match). IsFindOf vm x (answer_of o)) (sym is) (sure-match vm.nfa (kind_of vm) x.earliest x (found_of m) (knows m is))
+
+-- so it lies in the span
+pub known-inside : (vm : Pike) (x : Search) (known : Option Match) (m : Match) → known ≡ Some m → IsKnown vm x known → LiesIn x (place known)
+known-inside vm x known m is knows =
+    subst (λ (o : Option Match). LiesIn x (place o)) (sym is)
+    (find-inside vm.nfa (kind_of vm) x.earliest x (Some m) (sure-match vm.nfa (kind_of vm) x.earliest x (found_of m) (knows m is)))
+
+-- a match that ends where its search starts is known of the next search
+pub known-kept : (vm : Pike) (w : Walk) (found kept : Option Match) → ForSome kept (λ m. (found ≡ Some m) × (m.span.end ≡ w.at.start))
+    → IsFindOf vm w.at (answer_of found) → IsKnown vm (after w (place found)).at kept
+known-kept vm w found kept ends finds = λ m is.
+    let e : found ≡ Some m = (ends m is).0 in
+    let here : m.span.end ≡ w.at.start = (ends m is).1 in
+    let same : record w.at { start = m.span.end } ≡ w.at = ap (λ end. record w.at { start = end }) here in
+    let sure : IsSureMatch vm.nfa (kind_of vm) w.at.earliest w.at (found_of m) =
+    match-sure vm.nfa (kind_of vm) w.at.earliest w.at (found_of m) (subst (λ (o : Option Match). IsFindOf vm w.at (answer_of o)) e finds) in
+    subst (λ (o : Option Match). let y = (after w (place o)).at in IsSureMatch vm.nfa (kind_of vm) y.earliest y (found_of m)) (sym e)
+    (subst (λ (y : Search). IsSureMatch vm.nfa (kind_of vm) y.earliest y (found_of m)) (sym same) sure)
+
+-- what is known of a search is known of the same search
+pub known-same : (vm : Pike) (x y : Search) (known : Option Match) → y ≡ x → IsKnown vm x known → IsKnown vm y known
+known-same vm x y known same knows = subst (λ (z : Search). IsKnown vm z known) (sym same) knows
 
 -- An iterator whose items are values: it gives the matches among the items.
 module _ {S A X : Type 0} (steps : S → Option A → S → Type 0) (view : A → X) where
@@ -57,7 +77,7 @@ module _ (vm : Pike) (h : Search → Option Found) where
   -- a search has the match that h gives
   acts : (s : Unit {0}) (x : Search) (a : Answer Found) (t : Unit {0}) → GivesMatches vm h x → Finds vm s x a t → (a ≡ answer x) × GivesMatches vm h x
   acts s x (Ok found) t gives is =
-      let same : found ≡ h x = one-match vm.nfa (kind_of vm) x.earliest x found (h x) is (gives x (same_start-self x)) in
+      let same : found ≡ h x = match-unique vm.nfa (kind_of vm) x.earliest x found (h x) is (gives x (same_start-self x)) in
       (ap (λ (o : Option Found). let a : Answer Found = Ok o in a) same, gives)
   acts s x (Err error) t gives is = absurd is
 

@@ -17,7 +17,7 @@ use Rattle.nfa_search_base.specs.Overlaps.{HoldsPattern, IsOverlapResult}
 use Rattle.nfa_search_base.proofs.ScanAnswerLemmas.{EndsBefore-span, starts-from}
 use Rattle.nfa_search_base.proofs.ScanLemmas.{NoneBefore-start, NoneBefore-step, NoneBefore-end}
 use Rattle.nfa_search_base.proofs.KindsLemmas.{first_match-is}
-use Rattle.nfa_search_base.proofs.OverlapLemmas.{wanted-shape, GainsBefore, GainsBefore-start, GainsBefore-step, GainsBefore-end, NoneHeld, NoneHeld-start, NoneHeld-step, NoneHeld-found, NoneHeld-end, FirstAt-front, FirstAt-found, First-none}
+use Rattle.nfa_search_base.proofs.OverlapLemmas.{wanted-shape, GainsBefore, GainsBefore-start, GainsBefore-step, GainsBefore-end, GainsBefore-full, NoneHeld, NoneHeld-start, NoneHeld-step, NoneHeld-found, NoneHeld-end, FirstAt-front, FirstAt-found, First-none}
 use Rattle.nfa_pikevm.specs.Rows.{Met, Active}
 use Rattle.nfa_pikevm.specs.Scans.{joined, HasThreads, Sizes, AreSized, AreStarts, AreAt, IsPaidAt, scan_turns}
 use Rattle.nfa_pikevm.specs.Overlapping.{wants, Gathers, GathersAll, GathersFirst, GoesPast, CrossesInSet}
@@ -223,6 +223,11 @@ module _ (nfa : Automaton) (x : Search) where
       → AllAt from at before old met items new → at ≡ x.end + 1 → IsOverlapResult nfa x AllMatches false old new
   All-end {at = at} a last =
       GainsBefore-end nfa x (wants nfa x) (wants-tells nfa x) a.gains (rw last (EndsBefore-span nfa x (wants nfa x)))
+
+  -- a full set gains no more
+  pub All-full : {from : Starts} {at before : ℕ} {old : List Bool} {met : Met} {items : List (ℕ × Slots)} {new : List Bool}
+      → AllAt from at before old met items new → size_of_set new ≡ length new → IsOverlapResult nfa x AllMatches false old new
+  All-full a full = GainsBefore-full nfa x (wants nfa x) (wants-tells nfa x) a.gains full
 
   -- the least end
 

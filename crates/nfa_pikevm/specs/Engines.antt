@@ -32,7 +32,8 @@ room_of (Match pattern) = 0
 abbrev pub stack_places : Automaton → ℕ
 stack_places nfa = max (sum_by room_of nfa.states) 1
 
--- what a cache shows: for how many states, slots and patterns it is made, the places of its stack, and the scans and turns of its last search
+-- What a cache shows: for how many states, slots and patterns it is made, the places of its stack, the scans and turns of its last search, and
+-- those of all its searches.
 pub record PikeCache : Type 0 where
   pub states : ℕ
   pub slots : ℕ
@@ -40,6 +41,13 @@ pub record PikeCache : Type 0 where
   pub places : ℕ
   pub scans : ℕ
   pub turns : ℕ
+  pub all_scans : ℕ
+  pub all_turns : ℕ
+
+-- the scans and turns of the new search are the only ones that were added to those of all
+pub record AddsWork (old new : PikeCache) : Type 0 where
+  pub scans : new.all_scans ≡ old.all_scans + new.scans
+  pub turns : new.all_turns ≡ old.all_turns + new.turns
 
 -- the cache is large enough for the NFA
 pub record Fits (cache : PikeCache) (nfa : Automaton) : Type 0 where
@@ -55,15 +63,26 @@ pub record SameNumbers (old new : PikeCache) : Type 0 where
   pub patterns : new.patterns ≡ old.patterns
   pub places : new.places ≡ old.places
 
--- what a cache for the NFA shows, after so many scans and turns
-abbrev pub cache_for : Automaton → ℕ → ℕ → PikeCache
-cache_for nfa scans turns = record {
+-- what the cache shows once it is made for the NFA, whatever it was made for before
+abbrev pub refitted : PikeCache → Automaton → PikeCache
+refitted cache nfa = record cache {
   states = length nfa.states;
   slots = slot_count nfa.groups;
   patterns = length nfa.patterns;
   places = stack_places nfa;
-  scans = scans;
-  turns = turns;
+}
+
+-- what a new cache for the NFA shows
+abbrev pub cache_for : Automaton → PikeCache
+cache_for nfa = record {
+  states = length nfa.states;
+  slots = slot_count nfa.groups;
+  patterns = length nfa.patterns;
+  places = stack_places nfa;
+  scans = 0;
+  turns = 0;
+  all_scans = 0;
+  all_turns = 0;
 }
 
 -- a number that stops at the greatest `usize`

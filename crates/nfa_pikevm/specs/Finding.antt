@@ -1,5 +1,6 @@
 -- What a PikeVM answers where a match is asked for, and the list of matches that comes of asking again and again.
 use Rattle.std.specs.Prelude.{List, Option, Ok, Err}
+use Rattle.std.specs.Option.{ForSome}
 use Rattle.regex_search_core.specs.Found.{Found, found_of}
 use Rattle.regex_search_core.specs.Search.{Search}
 use Rattle.regex_search_core.specs.declared.search.Match.{Match}
@@ -7,6 +8,7 @@ use Rattle.regex_search_core.specs.declared.search.Span.{Span}
 use Rattle.nfa_search_base.specs.Asking.{SameButStart}
 use Rattle.nfa_search_base.specs.Finders.{answer_by, match_place}
 use Rattle.nfa_search_base.specs.Items.{greedy, matches_in}
+use Rattle.nfa_search_base.specs.Known.{IsSureMatch}
 use Rattle.nfa_search_base.specs.Paths.{IsMatchAnswer}
 use Rattle.nfa_search_base.specs.Walks.{Answer, fresh, span_of}
 use Rattle.nfa_pikevm.specs.Engines.{Pike, kind_of}
@@ -27,6 +29,10 @@ answer_of found = answer_by found_of (Ok found)
 -- where the match that was replied lies
 abbrev pub place : Option Match → Option Span
 place found = match_place (Ok found)
+
+-- what is known of a search before it is made: nothing, or its match
+abbrev pub IsKnown : Pike → Search → Option Match → Type 0
+IsKnown vm x known = ForSome known (λ m. IsSureMatch vm.nfa (kind_of vm) x.earliest x (found_of m))
 
 -- h gives the match of each search that differs from x in its start alone
 abbrev pub GivesMatches : Pike → (Search → Option Found) → Search → Type 0

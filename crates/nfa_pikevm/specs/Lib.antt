@@ -6,3 +6,4 @@ pub mod Sizes
 pub mod Finding
 pub mod FindMatches
 pub mod Overlapping
+pub mod Runs

@@ -16,6 +16,7 @@ use Rattle.nfa_engine_parts.specs.FirstBytes.{IsRefused}
 use Rattle.nfa_pikevm.specs.Rows.{Met, Active}
 use Rattle.nfa_pikevm.specs.Engines.{room_of}
 use Rattle.nfa_pikevm.specs.declared.scan.Starts.{Starts}
+use Rattle.nfa_pikevm.specs.declared.threads.Threads.{Threads}
 use Rattle.nfa_pikevm.specs.States.{tasks, unmarked, SeenAt, SearchingAt}
 
 -- a row with no slot set
@@ -56,6 +57,20 @@ pub record AreSized (size : Sizes) (met : Met) (frames : ℕ) (curr next : Activ
   pub next_places : next.places ≡ size.places
   pub curr_cells : curr.cells ≡ size.cells
   pub next_cells : next.cells ≡ size.cells
+
+-- the threads have room for a search of the NFA, with rows of this width
+abbrev pub HaveRoom : Automaton → ℕ → Threads → Type 0
+HaveRoom nfa width t = Serves nfa width t.seen (length t.frames.items) t.curr t.next
+
+-- and their rows have this width
+abbrev pub HaveRows : Automaton → ℕ → Threads → Type 0
+HaveRows nfa width t = HasThreads nfa width t.seen (length t.frames.items) t.curr t.next
+
+-- the threads have the sizes that they had
+abbrev pub SameSizes : Threads → Threads → Type 0
+SameSizes old new =
+    (size : Sizes) → AreSized size old.seen (length old.frames.items) old.curr old.next
+    → AreSized size new.seen (length new.frames.items) new.curr new.next
 
 -- the scan's starts, and which of them may be passed over; and each state leads to states of the NFA
 pub record AreStarts (nfa : Automaton) (x : Search) (starts_at : Starts) : Type 0 where

@@ -1,5 +1,5 @@
 ghost use Rattle.std.specs.Prelude.{◌≡◌, ◌↔◌, IfOk, OnOk, OnErr, IsOkUnless, IsTrue};
-ghost use Rattle.nfa_pikevm.specs.Engines.{Fits, cache_for, memory_of};
+ghost use Rattle.nfa_pikevm.specs.Engines.{Fits, cache_for, refitted, memory_of};
 
 use crate::engine::PikeVM;
 use crate::sizes::{make_room, size_for, stack_places};
@@ -23,16 +23,20 @@ pub struct Cache {
     slots: usize,
     patterns: usize,
     pub(super) scans: Counter,
+    /// The scans of all searches before the last one.
+    pub(super) past_scans: Counter,
+    /// The turns of all searches before the last one.
+    pub(super) past_turns: Counter,
 }
 
 impl Model for Cache {
-    ghost use Rattle.std.specs.Prelude.{length};
+    ghost use Rattle.std.specs.Prelude.{◌+◌, length};
     ghost use Rattle.nfa_pikevm.specs.Engines.{PikeCache};
     ghost use Rattle.nfa_pikevm.specs.Sizes.{IsRoomFor};
 
     ghost Value = { PikeCache };
 
-    ghost view = { λ c. record { states = length c.threads.seen.bits; slots = c.slots; patterns = c.patterns; places = length c.threads.frames.items; scans = c.scans; turns = c.threads.seen.turns } };
+    ghost view = { λ c. record { states = length c.threads.seen.bits; slots = c.slots; patterns = c.patterns; places = length c.threads.frames.items; scans = c.scans; turns = c.threads.seen.turns; all_scans = c.past_scans + c.scans; all_turns = c.past_turns + c.threads.seen.turns } };
 
     ghost invariant = { λ c. IsRoomFor (length c.threads.seen.bits) c.slots (length c.threads.frames.items) c.threads.seen (length c.threads.frames.items) c.threads.curr c.threads.next (length c.found.items) };
 }
@@ -40,7 +44,7 @@ impl Model for Cache {
 impl Cache {
     /// A cache with the numbers of the PikeVM, which it thus fits. The error is `Memory` alone.
     pub fn new(alloc: Global, vm: &PikeVM) -> Result<Cache, SearchError>
-        ensures made { IfOk result (λ made. made ≡ cache_for vm.now.nfa 0 0) }
+        ensures made { IfOk result (λ made. made ≡ cache_for vm.now.nfa) }
         ensures memory { IsOkUnless result SearchError.Memory }
     {
         let nfa = vm.get_nfa();
@@ -54,13 +58,15 @@ impl Cache {
             slots: size.slots,
             patterns: nfa.pattern_len(),
             scans: Counter::new(),
+            past_scans: Counter::new(),
+            past_turns: Counter::new(),
         })
     }
 
     /// Gives the cache the numbers of the PikeVM, also where they are smaller; memory that it has stays with it. The error
     /// is `Memory` alone; the cache then is as it was, and fits what it fitted.
     pub fn reset(&mut self, vm: &PikeVM) -> Result<(), SearchError>
-        ensures made { OnOk result (self.new ≡ cache_for vm.now.nfa self.old.scans self.old.turns) }
+        ensures made { OnOk result (self.new ≡ refitted self.old vm.now.nfa) }
         ensures kept { OnErr result (self.new ≡ self.old) }
         ensures memory { IsOkUnless result SearchError.Memory }
     {
@@ -109,6 +115,8 @@ impl Cache {
             slots: self.slots,
             patterns: self.patterns,
             scans: self.scans.copy(),
+            past_scans: self.past_scans.copy(),
+            past_turns: self.past_turns.copy(),
         })
     }
 

@@ -1,4 +1,4 @@
-ghost use Rattle.std.specs.Prelude.{◌≡◌, ◌+◌, ◌*◌, ◌≤◌, None, Ok, false, not, length, min, replicate, option_map, IfOk, OnOk, OnErr, IsOkUnless};
+ghost use Rattle.std.specs.Prelude.{◌≡◌, ◌+◌, ◌*◌, ◌≤◌, None, Ok, false, not, length, min, replicate, option_map, IfOk, IfSome, All, ◌<◌, OnOk, OnErr, IsOkUnless};
 ghost use Rattle.regex_search_core.specs.Search.{search_of};
 ghost use Rattle.regex_search_core.specs.Groups.{slot_count};
 ghost use Rattle.regex_search_core.specs.Patterns.{number_of};
@@ -6,8 +6,9 @@ ghost use Rattle.regex_search_core.specs.Found.{found_of};
 ghost use Rattle.thompson_nfa.specs.Simple.{always, never};
 ghost use Rattle.nfa_search_base.specs.Overlaps.{IsOverlapResult};
 ghost use Rattle.nfa_search_base.specs.Paths.{span_len, turn_weight, scan_limit, is_utf8_empty, IsAnswer, IsMatchAnswer, IsFoundAnswer, IsWork};
-ghost use Rattle.nfa_pikevm.specs.Engines.{Fits, SameNumbers, kind_of, cache_for};
-ghost use Rattle.nfa_pikevm.specs.Scans.{Serves, Sizes, AreSized, scan_turns};
+ghost use Rattle.nfa_pikevm.specs.Engines.{AddsWork, Fits, SameNumbers, kind_of, cache_for, refitted};
+ghost use Rattle.nfa_pikevm.specs.Scans.{HaveRoom, SameSizes, scan_turns, Serves, Sizes, AreSized};
+ghost use Rattle.nfa_search_base.specs.Lists.{IsInside, IsSlotInside};
 
 use crate::cache::Cache;
 use crate::config::{Builder, Config};
@@ -106,7 +107,7 @@ impl PikeVM {
 
     /// A cache that fits this PikeVM, and is no larger. The error is `Memory` alone.
     pub fn create_cache(&self, alloc: Global) -> Result<Cache, SearchError>
-        ensures made { IfOk result (λ made. made ≡ cache_for self.now.nfa 0 0) }
+        ensures made { IfOk result (λ made. made ≡ cache_for self.now.nfa) }
         ensures memory { IsOkUnless result SearchError.Memory }
     {
         Cache::new(alloc, self)
@@ -115,7 +116,7 @@ impl PikeVM {
     /// Gives the cache the numbers of this PikeVM, also where they are smaller. The error is `Memory` alone; the cache
     /// then is as it was.
     pub fn reset_cache(&self, cache: &mut Cache) -> Result<(), SearchError>
-        ensures made { OnOk result (cache.new ≡ cache_for self.now.nfa cache.old.scans cache.old.turns) }
+        ensures made { OnOk result (cache.new ≡ refitted cache.old self.now.nfa) }
         ensures kept { OnErr result (cache.new ≡ cache.old) }
         ensures memory { IsOkUnless result SearchError.Memory }
     {
@@ -167,8 +168,11 @@ impl PikeVM {
     ) -> Option<PatternID>
         requires { Fits cache.old self.now.nfa }
         ensures answer { IsAnswer self.now.nfa (kind_of self.now) (search_of input.now).earliest (search_of input.now) (option_map number_of result) slots.new }
+        ensures pattern { IfSome result (λ p. number_of p < length self.now.nfa.patterns) }
+        ensures inside { All (IsSlotInside (search_of input.now)) slots.new }
 
         ensures numbers { SameNumbers cache.old cache.new }
+        ensures total { AddsWork cache.old cache.new }
 
         // What was done for it: exactly one scan more than restarts, within stated bounds.
         ensures work { IsWork self.now.nfa (kind_of self.now) (search_of input.now).earliest (search_of input.now) cache.new.scans cache.new.turns }
@@ -179,10 +183,12 @@ impl PikeVM {
             threads,
             scans,
             found,
+            past_scans,
+            past_turns,
             ..
         } = cache;
-        scans.restart();
-        threads.seen.restart_turns();
+        past_scans.take(scans);
+        threads.seen.restart_turns(past_turns);
         self.search_with(threads, scans, input, found.as_mut_slice(), slots)
     }
 
@@ -196,12 +202,13 @@ impl PikeVM {
         slots: &mut [Option<NonMaxUsize>],
     ) -> Option<PatternID>
         requires row { slot_count self.now.nfa.groups ≤ length found.old }
-        requires serves { Serves self.now.nfa (min (length slots.old) (slot_count self.now.nfa.groups)) threads.old.seen (length threads.old.frames.items) threads.old.curr threads.old.next }
+        requires serves { HaveRoom self.now.nfa (min (length slots.old) (slot_count self.now.nfa.groups)) threads.old }
         requires counted { scans.old ≡ 0 }
         requires turned { threads.old.seen.turns ≡ 0 }
         ensures answer { IsAnswer self.now.nfa (kind_of self.now) (search_of input.now).earliest (search_of input.now) (option_map number_of result) slots.new }
+        ensures pattern { IfSome result (λ p. number_of p < length self.now.nfa.patterns) }
         ensures work { IsWork self.now.nfa (kind_of self.now) (search_of input.now).earliest (search_of input.now) scans.new threads.new.seen.turns }
-        ensures sizes { (size : Sizes) → AreSized size threads.old.seen (length threads.old.frames.items) threads.old.curr threads.old.next → AreSized size threads.new.seen (length threads.new.frames.items) threads.new.curr threads.new.next }
+        ensures sizes { SameSizes threads.old threads.new }
         ensures scans { scans.new ≤ scan_limit self.now.nfa (search_of input.now) }
         ensures turns { threads.new.seen.turns ≤ scans.new * scan_turns self.now.nfa (search_of input.now) }
     {
@@ -229,12 +236,13 @@ impl PikeVM {
         found: &mut [Slot],
     ) -> Option<Match>
         requires row { 2 * length self.now.nfa.groups ≤ length found.old }
-        requires serves { Serves self.now.nfa (2 * length self.now.nfa.groups) threads.old.seen (length threads.old.frames.items) threads.old.curr threads.old.next }
+        requires serves { HaveRoom self.now.nfa (2 * length self.now.nfa.groups) threads.old }
         requires counted { scans.old ≡ 0 }
         requires turned { threads.old.seen.turns ≡ 0 }
         ensures answer { IsMatchAnswer self.now.nfa (kind_of self.now) (search_of input.now).earliest (search_of input.now) (option_map found_of result) }
+        ensures pattern { IfSome result (λ m. (found_of m).pattern < length self.now.nfa.patterns) }
         ensures work { IsWork self.now.nfa (kind_of self.now) (search_of input.now).earliest (search_of input.now) scans.new threads.new.seen.turns }
-        ensures sizes { (size : Sizes) → AreSized size threads.old.seen (length threads.old.frames.items) threads.old.curr threads.old.next → AreSized size threads.new.seen (length threads.new.frames.items) threads.new.curr threads.new.next }
+        ensures sizes { SameSizes threads.old threads.new }
         ensures scans { scans.new ≤ scan_limit self.now.nfa (search_of input.now) }
         ensures turns { threads.new.seen.turns ≤ scans.new * scan_turns self.now.nfa (search_of input.now) }
     {
@@ -259,8 +267,11 @@ impl PikeVM {
     pub fn find<'h>(&self, cache: &mut Cache, input: Input<'h>) -> Option<Match>
         requires { Fits cache.old self.now.nfa }
         ensures answer { IsMatchAnswer self.now.nfa (kind_of self.now) (search_of input.entry).earliest (search_of input.entry) (option_map found_of result) }
+        ensures pattern { IfSome result (λ m. (found_of m).pattern < length self.now.nfa.patterns) }
+        ensures inside { IfSome result (λ m. IsInside (search_of input.entry) (found_of m)) }
 
         ensures numbers { SameNumbers cache.old cache.new }
+        ensures total { AddsWork cache.old cache.new }
 
         ensures work { IsWork self.now.nfa (kind_of self.now) (search_of input.entry).earliest (search_of input.entry) cache.new.scans cache.new.turns }
         ensures scans { cache.new.scans ≤ scan_limit self.now.nfa (search_of input.entry) }
@@ -270,10 +281,12 @@ impl PikeVM {
             threads,
             scans,
             found,
+            past_scans,
+            past_turns,
             ..
         } = cache;
-        scans.restart();
-        threads.seen.restart_turns();
+        past_scans.take(scans);
+        threads.seen.restart_turns(past_turns);
         self.find_with(threads, scans, &input, found.as_mut_slice())
     }
 
@@ -286,6 +299,7 @@ impl PikeVM {
         ensures answer { IsFoundAnswer self.now.nfa (kind_of self.now) false (search_of input.entry) result }
 
         ensures numbers { SameNumbers cache.old cache.new }
+        ensures total { AddsWork cache.old cache.new }
 
         ensures work { IsWork self.now.nfa (kind_of self.now) (not (is_utf8_empty self.now.nfa)) (search_of input.entry) cache.new.scans cache.new.turns }
         ensures scans { cache.new.scans ≤ scan_limit self.now.nfa (search_of input.entry) }
@@ -316,13 +330,20 @@ impl PikeVM {
         ensures result { IsOverlapResult self.now.nfa (search_of input.now) (kind_of self.now) (search_of input.now).earliest patterns.old patterns.new }
 
         ensures numbers { SameNumbers cache.old cache.new }
+        ensures total { AddsWork cache.old cache.new }
 
         ensures scans { cache.new.scans ≤ 1 }
         ensures turns { cache.new.turns ≤ cache.new.scans * ((1 + turn_weight self.now.nfa) * (span_len (search_of input.now) + 1)) }
     {
-        let Cache { threads, scans, .. } = cache;
-        scans.restart();
-        threads.seen.restart_turns();
+        let Cache {
+            threads,
+            scans,
+            past_scans,
+            past_turns,
+            ..
+        } = cache;
+        past_scans.take(scans);
+        threads.seen.restart_turns(past_turns);
         let kind = self.config.get_match_kind();
         overlap(&self.nfa, kind, input, threads, scans, patterns);
     }

@@ -7,7 +7,7 @@ ghost use Rattle.thompson_nfa.specs.Automaton.{IsAutomaton};
 ghost use Rattle.nfa_search_base.specs.Overlaps.{IsOverlapResult};
 ghost use Rattle.nfa_search_base.specs.Paths.{byte_at};
 ghost use Rattle.nfa_pikevm.specs.States.{IsBelow, IsWithin, HasRoom, Paid, tries_of};
-ghost use Rattle.nfa_pikevm.specs.Scans.{Serves, HasThreads, Sizes, AreSized, AreStarts, scan_turns};
+ghost use Rattle.nfa_pikevm.specs.Scans.{HaveRoom, HaveRows, SameSizes, AreStarts, scan_turns};
 ghost use Rattle.nfa_pikevm.specs.Overlapping.{permits, rowless, AdvancesInSet, ArrivesInSet, CrossesInSet};
 
 use crate::active::{ActiveStates, Parts};
@@ -193,9 +193,9 @@ fn cross_to_set(
 ) -> bool
     requires place { at ≤ (search_of input.now).end }
     requires states { All (λ i. i.0 < length nfa.now.states) threads.old.curr.items }
-    requires room { HasThreads nfa.now 0 threads.old.seen (length threads.old.frames.items) threads.old.curr threads.old.next }
+    requires room { HaveRows nfa.now 0 threads.old }
     requires empty { threads.old.next.items ≡ [] }
-    ensures room { HasThreads nfa.now 0 threads.new.seen (length threads.new.frames.items) threads.new.curr threads.new.next }
+    ensures room { HaveRows nfa.now 0 threads.new }
     ensures size { length threads.new.seen.bits ≡ length threads.old.seen.bits }
     ensures curr { threads.new.curr ≡ record threads.old.curr { items = threads.new.curr.items } }
     ensures next { threads.new.next ≡ record threads.old.next { items = threads.new.next.items } }
@@ -234,15 +234,18 @@ fn overlap_all(
     requires valid { IsAutomaton nfa.now }
     requires starts { AreStarts nfa.now (search_of input.now) starts.now }
     requires span { (search_of input.now).start ≤ (search_of input.now).end }
-    requires room { HasThreads nfa.now 0 threads.old.seen (length threads.old.frames.items) threads.old.curr threads.old.next }
+    requires room { HaveRows nfa.now 0 threads.old }
     requires curr { threads.old.curr.items ≡ [] }
     requires next { threads.old.next.items ≡ [] }
-    ensures serves { Serves nfa.now 0 threads.new.seen (length threads.new.frames.items) threads.new.curr threads.new.next }
-    ensures sizes { (size : Sizes) → AreSized size threads.old.seen (length threads.old.frames.items) threads.old.curr threads.old.next → AreSized size threads.new.seen (length threads.new.frames.items) threads.new.curr threads.new.next }
+    ensures serves { HaveRoom nfa.now 0 threads.new }
+    ensures sizes { SameSizes threads.old threads.new }
     ensures turns { threads.new.seen.turns ≤ threads.old.seen.turns + scan_turns nfa.now (search_of input.now) }
     ensures gains { IsOverlapResult nfa.now (search_of input.now) AllMatches false patterns.old patterns.new }
 {
     for at in input.start()..input.end() + 1 {
+        if patterns.is_full() {
+            return;
+        }
         join(starts, at, threads);
         if threads.curr.is_empty() {
             return;
@@ -265,15 +268,18 @@ fn overlap_earliest(
     requires valid { IsAutomaton nfa.now }
     requires starts { AreStarts nfa.now (search_of input.now) starts.now }
     requires span { (search_of input.now).start ≤ (search_of input.now).end }
-    requires room { HasThreads nfa.now 0 threads.old.seen (length threads.old.frames.items) threads.old.curr threads.old.next }
+    requires room { HaveRows nfa.now 0 threads.old }
     requires curr { threads.old.curr.items ≡ [] }
     requires next { threads.old.next.items ≡ [] }
     requires empty { past_match ≡ false → size_of_set patterns.old ≡ 0 }
-    ensures serves { Serves nfa.now 0 threads.new.seen (length threads.new.frames.items) threads.new.curr threads.new.next }
-    ensures sizes { (size : Sizes) → AreSized size threads.old.seen (length threads.old.frames.items) threads.old.curr threads.old.next → AreSized size threads.new.seen (length threads.new.frames.items) threads.new.curr threads.new.next }
+    ensures serves { HaveRoom nfa.now 0 threads.new }
+    ensures sizes { SameSizes threads.old threads.new }
     ensures turns { threads.new.seen.turns ≤ threads.old.seen.turns + scan_turns nfa.now (search_of input.now) }
     ensures gains { IsOverlapResult nfa.now (search_of input.now) (cond past_match AllMatches LeftmostFirst) true patterns.old patterns.new }
 {
+    if past_match && patterns.is_full() {
+        return;
+    }
     for at in input.start()..input.end() + 1 {
         join(starts, at, threads);
         if threads.curr.is_empty() {
@@ -298,12 +304,12 @@ fn overlap_first(
     requires valid { IsAutomaton nfa.now }
     requires starts { AreStarts nfa.now (search_of input.now) starts.now }
     requires span { (search_of input.now).start ≤ (search_of input.now).end }
-    requires room { HasThreads nfa.now 0 threads.old.seen (length threads.old.frames.items) threads.old.curr threads.old.next }
+    requires room { HaveRows nfa.now 0 threads.old }
     requires curr { threads.old.curr.items ≡ [] }
     requires next { threads.old.next.items ≡ [] }
     requires empty { size_of_set patterns.old ≡ 0 }
-    ensures serves { Serves nfa.now 0 threads.new.seen (length threads.new.frames.items) threads.new.curr threads.new.next }
-    ensures sizes { (size : Sizes) → AreSized size threads.old.seen (length threads.old.frames.items) threads.old.curr threads.old.next → AreSized size threads.new.seen (length threads.new.frames.items) threads.new.curr threads.new.next }
+    ensures serves { HaveRoom nfa.now 0 threads.new }
+    ensures sizes { SameSizes threads.old threads.new }
     ensures turns { threads.new.seen.turns ≤ threads.old.seen.turns + scan_turns nfa.now (search_of input.now) }
     ensures gains { IsOverlapResult nfa.now (search_of input.now) LeftmostFirst false patterns.old patterns.new }
 {
@@ -334,12 +340,12 @@ fn overlap_from(
     requires valid { IsAutomaton nfa.now }
     requires starts { AreStarts nfa.now (search_of input.now) starts.now }
     requires span { (search_of input.now).start ≤ (search_of input.now).end }
-    requires room { HasThreads nfa.now 0 threads.old.seen (length threads.old.frames.items) threads.old.curr threads.old.next }
+    requires room { HaveRows nfa.now 0 threads.old }
     requires curr { threads.old.curr.items ≡ [] }
     requires next { threads.old.next.items ≡ [] }
     requires empty { kind ≡ LeftmostFirst → size_of_set patterns.old ≡ 0 }
-    ensures serves { Serves nfa.now 0 threads.new.seen (length threads.new.frames.items) threads.new.curr threads.new.next }
-    ensures sizes { (size : Sizes) → AreSized size threads.old.seen (length threads.old.frames.items) threads.old.curr threads.old.next → AreSized size threads.new.seen (length threads.new.frames.items) threads.new.curr threads.new.next }
+    ensures serves { HaveRoom nfa.now 0 threads.new }
+    ensures sizes { SameSizes threads.old threads.new }
     ensures turns { threads.new.seen.turns ≤ threads.old.seen.turns + scan_turns nfa.now (search_of input.now) }
     ensures gains { IsOverlapResult nfa.now (search_of input.now) kind (search_of input.now).earliest patterns.old patterns.new }
 {
@@ -362,11 +368,11 @@ pub fn overlap(
     scans: &mut Counter,
     patterns: &mut PatternSet,
 )
-    requires serves { Serves nfa.now 0 threads.old.seen (length threads.old.frames.items) threads.old.curr threads.old.next }
+    requires serves { HaveRoom nfa.now 0 threads.old }
     ensures result { IsOverlapResult nfa.now (search_of input.now) kind (search_of input.now).earliest patterns.old patterns.new }
     ensures scans { ((scans.new ≡ scans.old) × (threads.new.seen.turns ≡ threads.old.seen.turns)) ⊎ (scans.new ≡ scans.old + 1) }
-    ensures serves { Serves nfa.now 0 threads.new.seen (length threads.new.frames.items) threads.new.curr threads.new.next }
-    ensures sizes { (size : Sizes) → AreSized size threads.old.seen (length threads.old.frames.items) threads.old.curr threads.old.next → AreSized size threads.new.seen (length threads.new.frames.items) threads.new.curr threads.new.next }
+    ensures serves { HaveRoom nfa.now 0 threads.new }
+    ensures sizes { SameSizes threads.old threads.new }
     ensures turns { threads.new.seen.turns ≤ threads.old.seen.turns + scan_turns nfa.now (search_of input.now) }
 {
     if !kind.continue_past_first_match() && !patterns.is_empty() {

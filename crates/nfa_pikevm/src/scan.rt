@@ -4,7 +4,7 @@ ghost use Rattle.regex_search_core.specs.Found.{half_found_of};
 ghost use Rattle.regex_search_core.specs.Patterns.{number_of};
 ghost use Rattle.regex_search_core.specs.declared.search.MatchKind.TheVariants.{All, LeftmostFirst};
 ghost use Rattle.nfa_engine_parts.specs.FirstBytes.{IsFirstBytes};
-ghost use Rattle.nfa_pikevm.specs.Scans.{blank, Serves, HasThreads, Sizes, AreSized, AreStarts, Joins, joined, half_found, Scans, scan_turns};
+ghost use Rattle.nfa_pikevm.specs.Scans.{blank, HaveRoom, HaveRows, SameSizes, AreStarts, Joins, joined, half_found, Scans, scan_turns};
 
 use crate::slot::Slot;
 use crate::threads::{Threads, cross, move_on, set_up};
@@ -91,12 +91,12 @@ fn scan_first(
     requires first { IsFirstBytes nfa.now first.now.may_begin }
     requires starts { AreStarts nfa.now (search_of input.now) starts.now }
     requires span { (search_of input.now).start ≤ (search_of input.now).end }
-    requires room { HasThreads nfa.now (length slots.old) threads.old.seen (length threads.old.frames.items) threads.old.curr threads.old.next }
+    requires room { HaveRows nfa.now (length slots.old) threads.old }
     requires curr { threads.old.curr.items ≡ [] }
     requires next { threads.old.next.items ≡ [] }
     requires unset { slots.old ≡ blank (length slots.old) }
-    ensures serves { Serves nfa.now (length slots.old) threads.new.seen (length threads.new.frames.items) threads.new.curr threads.new.next }
-    ensures sizes { (size : Sizes) → AreSized size threads.old.seen (length threads.old.frames.items) threads.old.curr threads.old.next → AreSized size threads.new.seen (length threads.new.frames.items) threads.new.curr threads.new.next }
+    ensures serves { HaveRoom nfa.now (length slots.old) threads.new }
+    ensures sizes { SameSizes threads.old threads.new }
     ensures turns { threads.new.seen.turns ≤ threads.old.seen.turns + scan_turns nfa.now (search_of input.now) }
     ensures answer { Scans nfa.now (search_of input.now) LeftmostFirst false result slots.new threads.new.seen.turns }
 {
@@ -130,12 +130,12 @@ fn scan_last(
 ) -> Option<HalfMatch>
     requires starts { AreStarts nfa.now (search_of input.now) starts.now }
     requires span { (search_of input.now).start ≤ (search_of input.now).end }
-    requires room { HasThreads nfa.now (length slots.old) threads.old.seen (length threads.old.frames.items) threads.old.curr threads.old.next }
+    requires room { HaveRows nfa.now (length slots.old) threads.old }
     requires curr { threads.old.curr.items ≡ [] }
     requires next { threads.old.next.items ≡ [] }
     requires unset { slots.old ≡ blank (length slots.old) }
-    ensures serves { Serves nfa.now (length slots.old) threads.new.seen (length threads.new.frames.items) threads.new.curr threads.new.next }
-    ensures sizes { (size : Sizes) → AreSized size threads.old.seen (length threads.old.frames.items) threads.old.curr threads.old.next → AreSized size threads.new.seen (length threads.new.frames.items) threads.new.curr threads.new.next }
+    ensures serves { HaveRoom nfa.now (length slots.old) threads.new }
+    ensures sizes { SameSizes threads.old threads.new }
     ensures turns { threads.new.seen.turns ≤ threads.old.seen.turns + scan_turns nfa.now (search_of input.now) }
     ensures answer { Scans nfa.now (search_of input.now) All false result slots.new threads.new.seen.turns }
 {
@@ -163,12 +163,12 @@ fn scan_earliest(
 ) -> Option<HalfMatch>
     requires starts { AreStarts nfa.now (search_of input.now) starts.now }
     requires span { (search_of input.now).start ≤ (search_of input.now).end }
-    requires room { HasThreads nfa.now (length slots.old) threads.old.seen (length threads.old.frames.items) threads.old.curr threads.old.next }
+    requires room { HaveRows nfa.now (length slots.old) threads.old }
     requires curr { threads.old.curr.items ≡ [] }
     requires next { threads.old.next.items ≡ [] }
     requires unset { slots.old ≡ blank (length slots.old) }
-    ensures serves { Serves nfa.now (length slots.old) threads.new.seen (length threads.new.frames.items) threads.new.curr threads.new.next }
-    ensures sizes { (size : Sizes) → AreSized size threads.old.seen (length threads.old.frames.items) threads.old.curr threads.old.next → AreSized size threads.new.seen (length threads.new.frames.items) threads.new.curr threads.new.next }
+    ensures serves { HaveRoom nfa.now (length slots.old) threads.new }
+    ensures sizes { SameSizes threads.old threads.new }
     ensures turns { threads.new.seen.turns ≤ threads.old.seen.turns + scan_turns nfa.now (search_of input.now) }
     ensures answer { Scans nfa.now (search_of input.now) (cond past_match All LeftmostFirst) true result slots.new threads.new.seen.turns }
 {
@@ -199,12 +199,12 @@ fn scan_from(
     requires first { IsFirstBytes nfa.now first.now.may_begin }
     requires starts { AreStarts nfa.now (search_of input.now) starts.now }
     requires span { (search_of input.now).start ≤ (search_of input.now).end }
-    requires room { HasThreads nfa.now (length slots.old) threads.old.seen (length threads.old.frames.items) threads.old.curr threads.old.next }
+    requires room { HaveRows nfa.now (length slots.old) threads.old }
     requires curr { threads.old.curr.items ≡ [] }
     requires next { threads.old.next.items ≡ [] }
     requires unset { slots.old ≡ blank (length slots.old) }
-    ensures serves { Serves nfa.now (length slots.old) threads.new.seen (length threads.new.frames.items) threads.new.curr threads.new.next }
-    ensures sizes { (size : Sizes) → AreSized size threads.old.seen (length threads.old.frames.items) threads.old.curr threads.old.next → AreSized size threads.new.seen (length threads.new.frames.items) threads.new.curr threads.new.next }
+    ensures serves { HaveRoom nfa.now (length slots.old) threads.new }
+    ensures sizes { SameSizes threads.old threads.new }
     ensures turns { threads.new.seen.turns ≤ threads.old.seen.turns + scan_turns nfa.now (search_of input.now) }
     ensures answer { Scans nfa.now (search_of input.now) kind (search_of input.now).earliest result slots.new threads.new.seen.turns }
 {
@@ -229,10 +229,10 @@ pub fn scan(
     slots: &mut [Slot],
 ) -> Option<HalfMatch>
     requires first { IsFirstBytes nfa.now first.now.may_begin }
-    requires serves { Serves nfa.now (length slots.old) threads.old.seen (length threads.old.frames.items) threads.old.curr threads.old.next }
+    requires serves { HaveRoom nfa.now (length slots.old) threads.old }
     ensures scans { scans.new ≡ scans.old + 1 }
-    ensures serves { Serves nfa.now (length slots.old) threads.new.seen (length threads.new.frames.items) threads.new.curr threads.new.next }
-    ensures sizes { (size : Sizes) → AreSized size threads.old.seen (length threads.old.frames.items) threads.old.curr threads.old.next → AreSized size threads.new.seen (length threads.new.frames.items) threads.new.curr threads.new.next }
+    ensures serves { HaveRoom nfa.now (length slots.old) threads.new }
+    ensures sizes { SameSizes threads.old threads.new }
     ensures turns { threads.new.seen.turns ≤ threads.old.seen.turns + scan_turns nfa.now (search_of input.now) }
     ensures answer { Scans nfa.now (search_of input.now) kind (search_of input.now).earliest result slots.new threads.new.seen.turns }
 {

@@ -2,7 +2,7 @@ ghost use Rattle.std.specs.Prelude.{◌≡◌, ◌+◌, ◌*◌, ◌≤◌, true
 ghost use Rattle.regex_search_core.specs.Search.{search_of, is_anchored};
 ghost use Rattle.nfa_search_base.specs.Paths.{is_utf8_empty, scan_limit};
 ghost use Rattle.nfa_engine_parts.specs.FirstBytes.{IsFirstBytes};
-ghost use Rattle.nfa_pikevm.specs.Scans.{blank, Serves, Sizes, AreSized, Searched, scan_turns};
+ghost use Rattle.nfa_pikevm.specs.Scans.{blank, HaveRoom, SameSizes, Searched, scan_turns};
 
 use crate::scan::scan;
 use crate::slot::Slot;
@@ -30,12 +30,12 @@ fn search_once(
     slots: &mut [Slot],
 ) -> Option<HalfMatch>
     requires first { IsFirstBytes nfa.now first.now.may_begin }
-    requires serves { Serves nfa.now (length slots.old) threads.old.seen (length threads.old.frames.items) threads.old.curr threads.old.next }
+    requires serves { HaveRoom nfa.now (length slots.old) threads.old }
     requires counted { scans.old ≡ 0 }
     requires turned { threads.old.seen.turns ≡ 0 }
     requires mode { is_utf8_empty nfa.now ≡ false }
     ensures answer { Searched nfa.now (search_of input.now) kind (search_of input.now).earliest result slots.new scans.new threads.new.seen.turns }
-    ensures sizes { (size : Sizes) → AreSized size threads.old.seen (length threads.old.frames.items) threads.old.curr threads.old.next → AreSized size threads.new.seen (length threads.new.frames.items) threads.new.curr threads.new.next }
+    ensures sizes { SameSizes threads.old threads.new }
     ensures scans { scans.new ≤ scan_limit nfa.now (search_of input.now) }
     ensures turns { threads.new.seen.turns ≤ scans.new * scan_turns nfa.now (search_of input.now) }
 {
@@ -53,13 +53,13 @@ fn search_kept(
     slots: &mut [Slot],
 ) -> Option<HalfMatch>
     requires first { IsFirstBytes nfa.now first.now.may_begin }
-    requires serves { Serves nfa.now (length slots.old) threads.old.seen (length threads.old.frames.items) threads.old.curr threads.old.next }
+    requires serves { HaveRoom nfa.now (length slots.old) threads.old }
     requires counted { scans.old ≡ 0 }
     requires turned { threads.old.seen.turns ≡ 0 }
     requires mode { is_utf8_empty nfa.now ≡ true }
     requires anchored { is_anchored (search_of input.now).anchored ≡ true }
     ensures answer { Searched nfa.now (search_of input.now) kind (search_of input.now).earliest result slots.new scans.new threads.new.seen.turns }
-    ensures sizes { (size : Sizes) → AreSized size threads.old.seen (length threads.old.frames.items) threads.old.curr threads.old.next → AreSized size threads.new.seen (length threads.new.frames.items) threads.new.curr threads.new.next }
+    ensures sizes { SameSizes threads.old threads.new }
     ensures scans { scans.new ≤ scan_limit nfa.now (search_of input.now) }
     ensures turns { threads.new.seen.turns ≤ scans.new * scan_turns nfa.now (search_of input.now) }
 {
@@ -82,13 +82,13 @@ fn search_whole(
     slots: &mut [Slot],
 ) -> Option<HalfMatch>
     requires first { IsFirstBytes nfa.now first.now.may_begin }
-    requires serves { Serves nfa.now (length slots.old) threads.old.seen (length threads.old.frames.items) threads.old.curr threads.old.next }
+    requires serves { HaveRoom nfa.now (length slots.old) threads.old }
     requires counted { scans.old ≡ 0 }
     requires turned { threads.old.seen.turns ≡ 0 }
     requires mode { is_utf8_empty nfa.now ≡ true }
     requires anchored { is_anchored (search_of input.now).anchored ≡ false }
     ensures answer { Searched nfa.now (search_of input.now) kind (search_of input.now).earliest result slots.new scans.new threads.new.seen.turns }
-    ensures sizes { (size : Sizes) → AreSized size threads.old.seen (length threads.old.frames.items) threads.old.curr threads.old.next → AreSized size threads.new.seen (length threads.new.frames.items) threads.new.curr threads.new.next }
+    ensures sizes { SameSizes threads.old threads.new }
     ensures scans { scans.new ≤ scan_limit nfa.now (search_of input.now) }
     ensures turns { threads.new.seen.turns ≤ scans.new * scan_turns nfa.now (search_of input.now) }
 {
@@ -114,11 +114,11 @@ pub fn search(
     slots: &mut [Slot],
 ) -> Option<HalfMatch>
     requires first { IsFirstBytes nfa.now first.now.may_begin }
-    requires serves { Serves nfa.now (length slots.old) threads.old.seen (length threads.old.frames.items) threads.old.curr threads.old.next }
+    requires serves { HaveRoom nfa.now (length slots.old) threads.old }
     requires counted { scans.old ≡ 0 }
     requires turned { threads.old.seen.turns ≡ 0 }
     ensures answer { Searched nfa.now (search_of input.now) kind (search_of input.now).earliest result slots.new scans.new threads.new.seen.turns }
-    ensures sizes { (size : Sizes) → AreSized size threads.old.seen (length threads.old.frames.items) threads.old.curr threads.old.next → AreSized size threads.new.seen (length threads.new.frames.items) threads.new.curr threads.new.next }
+    ensures sizes { SameSizes threads.old threads.new }
     ensures scans { scans.new ≤ scan_limit nfa.now (search_of input.now) }
     ensures turns { threads.new.seen.turns ≤ scans.new * scan_turns nfa.now (search_of input.now) }
 {

@@ -57,11 +57,12 @@ impl Seen {
         self.stamps.len()
     }
 
-    /// Counts from 0 again.
-    pub fn restart_turns(&mut self)
-        ensures { self.new ≡ record self.old { turns = 0 } }
+    /// Counts from 0 again. What was counted is added to the total.
+    pub fn restart_turns(&mut self, total: &mut Counter)
+        ensures restarted { self.new ≡ record self.old { turns = 0 } }
+        ensures total { total.new ≡ total.old + self.old.turns }
     {
-        self.turns.restart();
+        total.take(&mut self.turns);
     }
 
     /// Takes every mark away.

@@ -3,7 +3,7 @@ ghost use Rattle.regex_search_core.specs.Search.{search_of};
 ghost use Rattle.nfa_search_base.specs.Paths.{byte_at};
 ghost use Rattle.nfa_pikevm.specs.Rows.{items_of};
 ghost use Rattle.nfa_pikevm.specs.States.{HasRoom, Crosses};
-ghost use Rattle.nfa_pikevm.specs.Scans.{HasThreads};
+ghost use Rattle.nfa_pikevm.specs.Scans.{HaveRows};
 
 use crate::active::{ActiveStates, Parts};
 use crate::closure::follow;
@@ -112,9 +112,9 @@ pub fn cross(
 ) -> Option<PatternID>
     requires place { at ≤ (search_of input.now).end }
     requires states { All (λ i. i.0 < length nfa.now.states) threads.old.curr.items }
-    requires room { HasThreads nfa.now (length slots.old) threads.old.seen (length threads.old.frames.items) threads.old.curr threads.old.next }
+    requires room { HaveRows nfa.now (length slots.old) threads.old }
     requires empty { threads.old.next.items ≡ [] }
-    ensures room { HasThreads nfa.now (length slots.old) threads.new.seen (length threads.new.frames.items) threads.new.curr threads.new.next }
+    ensures room { HaveRows nfa.now (length slots.old) threads.new }
     ensures size { length threads.new.seen.bits ≡ length threads.old.seen.bits }
     ensures grows { threads.old.seen.turns ≤ threads.new.seen.turns }
     ensures curr { threads.new.curr ≡ record threads.old.curr { items = threads.new.curr.items } }

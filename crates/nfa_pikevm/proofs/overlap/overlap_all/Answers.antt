@@ -1,7 +1,7 @@
 use Rattle.std.proofs.Common.{◌∙◌, ap, sym, arith, length}
 use Rattle.regex_search_core.specs.Search.{search_of}
 use Rattle.nfa_pikevm.specs.Rows.{Met, Active}
-use Rattle.nfa_pikevm.proofs.OverlapLoopLemmas.{Keeps-start, Keeps-next, sizes-joined, joined-below, joined-items, crosses-joined, no-items, All-start, All-next, All-over, All-end}
+use Rattle.nfa_pikevm.proofs.OverlapLoopLemmas.{Keeps-start, Keeps-next, sizes-joined, joined-below, joined-items, crosses-joined, no-items, All-start, All-next, All-full, All-over, All-end}
 use Rattle.nfa_pikevm.proofs.overlap.overlap_all.Goals as goal
 
 pub loop-at-init : goal.loop-at-init
@@ -10,6 +10,10 @@ loop-at-init c = record {
   keeps = Keeps-start _ _ _ _ _ c.requires.room c.requires.next;
   so_far = rw c.start-at.ensures (All-start c.args.nfa.now (search_of c.args.input.now) c.args.starts.now c.requires.starts c.args.threads.now.seen c.args.threads.now.curr.items c.args.patterns.now c.requires.curr);
 }
+
+pub returns-then-is_full-clause-gains : goal.returns-then-is_full-clause-gains
+returns-then-is_full-clause-gains c =
+    All-full c.args.nfa.now (search_of c.args.input.now) c.loop-at.invariant.so_far (c.is_full.ensures.0 c.if-is_full.true)
 
 pub returns-then-is_empty-clause-sizes : goal.returns-then-is_empty-clause-sizes
 returns-then-is_empty-clause-sizes c = λ size s.

@@ -1,5 +1,6 @@
-use Rattle.std.proofs.Common.{◌≡◌, ◌∙◌, ◌+◌, ap, sym, arith, length}
+use Rattle.std.proofs.Common.{◌≡◌, ◌∙◌, ◌+◌, true, ap, sym, arith, length}
 use Rattle.regex_search_core.specs.Search.{search_of}
+use Rattle.nfa_search_base.proofs.OverlapLemmas.{full-gains}
 use Rattle.nfa_search_base.proofs.ScanAnswerLemmas.{EndsBefore-span}
 use Rattle.nfa_pikevm.specs.Rows.{Met, Active}
 use Rattle.nfa_pikevm.specs.Overlapping.{wants}
@@ -14,6 +15,10 @@ loop-at-init c = record {
   so_far = rw c.start-at.ensures
       (Earliest-start c.args.nfa.now (search_of c.args.input.now) c.args.past_match c.args.starts.now c.requires.starts c.args.threads.now.seen c.args.threads.now.curr.items c.args.patterns.now c.requires.curr);
 }
+
+pub returns-then-is_full-clause-gains : goal.returns-then-is_full-clause-gains
+returns-then-is_full-clause-gains c =
+    rw c.if-past_match.true (full-gains c.args.nfa.now (search_of c.args.input.now) true c.args.patterns.now (c.is_full.ensures.0 c.if-is_full.true))
 
 pub returns-then-is_empty-clause-sizes : goal.returns-then-is_empty-clause-sizes
 returns-then-is_empty-clause-sizes c = λ size s.

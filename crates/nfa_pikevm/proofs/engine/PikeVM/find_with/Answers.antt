@@ -2,7 +2,9 @@ use Rattle.std.proofs.Common.{◌≡◌, ◌∙◌, ◌*◌, ap, arith, length}
 use Rattle.std.proofs.lemmas.List.{length-take}
 use Rattle.regex_search_core.specs.Patterns.{number_of}
 use Rattle.regex_search_core.specs.Search.{search_of}
-use Rattle.nfa_pikevm.proofs.EngineLemmas.{match-some}
+use Rattle.thompson_nfa.specs.Automaton.{IsAutomaton}
+use Rattle.nfa_pikevm.specs.Engines.{kind_of}
+use Rattle.nfa_pikevm.proofs.EngineLemmas.{match-some, pattern-of}
 use Rattle.nfa_pikevm.proofs.engine.PikeVM.find_with.Goals as goal
 
 pub returns-clause-answer : goal.returns-clause-answer
@@ -19,3 +21,8 @@ returns-clause-answer c =
     rw (← c.self.view_is, ← c.get_match_kind.ensures)
     (match-some c.self.inside.nfa c.get_match_kind.result _ (search_of c.args.input.now) c.group_info.ensures.valid c.in_ok-half.half (number_of c.pattern.result) c.pattern.ensures size
     c.in_ok-half.ensures.answer _ c.match_in.ensures)
+
+pub returns-clause-pattern : goal.returns-clause-pattern
+returns-clause-pattern c =
+    let valid : IsAutomaton c.args.self.now.nfa = rw (← c.self.view_is) c.group_info.ensures.valid in
+    pattern-of c.args.self.now.nfa (kind_of c.args.self.now) _ (search_of c.args.input.now) valid c.match_in.result (returns-clause-answer c)

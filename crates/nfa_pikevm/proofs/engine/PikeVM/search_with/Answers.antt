@@ -6,7 +6,9 @@ use Rattle.regex_search_core.specs.Groups.{slot_count}
 use Rattle.regex_search_core.specs.Patterns.{number_of}
 use Rattle.nfa_search_base.specs.Exploring.{Slots}
 use Rattle.nfa_pikevm.specs.Scans.{blank}
-use Rattle.nfa_pikevm.proofs.EngineLemmas.{answer-of, row-whole}
+use Rattle.thompson_nfa.specs.Automaton.{IsAutomaton}
+use Rattle.nfa_pikevm.specs.Engines.{kind_of}
+use Rattle.nfa_pikevm.proofs.EngineLemmas.{answer-of, row-whole, slots-pattern}
 use Rattle.nfa_pikevm.proofs.RowLemmas.{length-blank}
 use Rattle.nfa_pikevm.proofs.engine.PikeVM.search_with.Goals as goal
 
@@ -35,3 +37,8 @@ returns-clause-answer c =
     rw (← c.self.view_is, ← c.get_match_kind.ensures, c.hand_out.ensures)
     (answer-of c.self.inside.nfa c.get_match_kind.result _ (search_of c.args.input.now) (Some c.in_ok-half.field-0) (Some (number_of c.pattern.result)) (ap Some c.pattern.ensures)
     c.in_ok-half.ensures.answer _ (row-whole c.self.inside.nfa c.group_info.ensures.valid row rest _ _ cut size left (ap blank (sym (length-blank k)))))
+
+pub returns-clause-pattern : goal.returns-clause-pattern
+returns-clause-pattern c =
+    let valid : IsAutomaton c.args.self.now.nfa = rw (← c.self.view_is) c.group_info.ensures.valid in
+    slots-pattern c.args.self.now.nfa (kind_of c.args.self.now) _ (search_of c.args.input.now) valid (Some c.pattern.result) _ (returns-clause-answer c)
