@@ -1,28 +1,28 @@
 -- Whoever runs the iterator over a backtracker's matches to its end has all of them, up to a refusal.
 use Rattle.std.proofs.Common.{◌≡◌, ℕ, zero, suc, ◌+◌, ◌*◌, ◌<◌, ◌≤◌, true, false, Bool, Option, None, Some, Result, Ok, Err, IfOk, List, [], ◌∷◌, length, map, refl, sym, ◌∙◌, ap, subst, ◌⊎◌, inl, inr, MatchBool, if◌then◌else◌, arith}
-use Rattle.std.specs.Option.{option_map, option_and_then}
+use Rattle.std.specs.Option.{ForSome, option_map}
 use Rattle.std.specs.Iterator.{Yields}
 use Rattle.std.proofs.Math.Nat.{mul-le-mul_left}
 use Rattle.regex_search_core.specs.Found.{Found, found_of}
-use Rattle.regex_search_core.specs.Groups.{slot_count}
 use Rattle.regex_search_core.specs.Search.{Search}
-use Rattle.regex_search_core.specs.Slots.{match_of}
 use Rattle.regex_search_core.specs.declared.search.Match.{Match}
+use Rattle.regex_search_core.specs.declared.search.Span.{Span}
 use Rattle.regex_search_core.specs.declared.search.MatchKind.TheVariants.{LeftmostFirst}
 use Rattle.thompson_nfa.specs.Automaton.{Automaton}
-use Rattle.nfa_search_base.specs.Finders.{match_place}
+use Rattle.nfa_search_base.specs.Finders.{answer_by, match_place}
 use Rattle.nfa_search_base.specs.Items.{Item, item_by, item_of, ends_with, items_left, step_answer, step_walk, items_from, items_within, greedy}
-use Rattle.nfa_search_base.specs.Paths.{span_len, slot_row, path_pattern, IsMatchAnswer}
+use Rattle.nfa_search_base.specs.Known.{IsSureMatch}
+use Rattle.nfa_search_base.specs.Paths.{span_len, IsMatchAnswer}
 use Rattle.nfa_search_base.specs.Walks.{Walk, Answer, fresh, Advances, LiesIn, place_of, span_of, repeats, shifted, after, ends_left}
 use Rattle.nfa_search_base.specs.declared.error.SearchError.{SearchError}
 use Rattle.nfa_search_base.specs.declared.error.SearchError.TheVariants.{HaystackTooLong, Memory}
-use Rattle.nfa_search_base.proofs.AnswerLemmas.{search_answer-unique}
 use Rattle.nfa_search_base.proofs.AskingLemmas.{same_start-self, same_start-then}
 use Rattle.nfa_search_base.proofs.InsideLemmas.{match-within}
+use Rattle.nfa_search_base.proofs.KnownLemmas.{match-unique, match-sure, sure-match}
 use Rattle.nfa_search_base.proofs.StepLemmas.{chosen, same_start-shifted}
 use Rattle.nfa_engines.specs.Backtrack.{Backtracker, IsTooLong}
 use Rattle.nfa_engines.specs.FindMatches.{TakesFindTurn, find_engine, find_walk, find_steps, FindsAll}
-use Rattle.nfa_engines.specs.Finding.{IsFindOf, Finds, GivesMatches, all_matches, UpToMemory}
+use Rattle.nfa_engines.specs.Finding.{IsFindOf, IsKnown, Finds, GivesMatches, all_matches, UpToMemory}
 use Rattle.nfa_engines.specs.declared.backtrack.find_iter.TryFindMatches.{TryFindMatches}
 
 -- a match that is found lies in the span
@@ -32,11 +32,44 @@ find-inside nfa x (Ok (Some m)) h = let k = match-within nfa LeftmostFirst false
 find-inside nfa x (Ok None) h = tt
 find-inside nfa x (Err e) h = tt
 
--- a search has one match
-one-match : (nfa : Automaton) (x : Search) (a b : Option Found) → IsMatchAnswer nfa LeftmostFirst false x a → IsMatchAnswer nfa LeftmostFirst false x b → a ≡ b
-one-match nfa x a b h k =
-    let one = search_answer-unique nfa LeftmostFirst false x h.restarts k.restarts h.path k.path h.answers k.answers in
-    h.found_is ∙ ap (λ p. match_of (option_and_then (path_pattern nfa) p) (slot_row nfa (slot_count nfa.groups) p)) one.1 ∙ sym k.found_is
+-- whoever makes the search, which is not too long, finds the match
+abbrev IsSureAt : Backtracker → Search → Match → Type 0
+IsSureAt e x m = ¬ (IsTooLong e x) × IsSureMatch e.nfa LeftmostFirst false x (found_of m)
+
+-- a reply without an error, as values
+abbrev reply : Option Match → Answer Found
+reply found = answer_by found_of (Ok found)
+
+-- where its match lies
+abbrev place : Option Match → Option Span
+place found = match_place (Ok found)
+
+-- the match that is known is the one that a search finds
+pub known-found : (e : Backtracker) (x : Search) (known : Option Match) (m : Match) → known ≡ Some m → IsKnown e x known → IsFindOf e x (reply known)
+known-found e x known m is knows =
+    let k = knows m is in
+    subst (λ (o : Option Match). IsFindOf e x (reply o)) (sym is) (k.0, sure-match e.nfa LeftmostFirst false x (found_of m) k.1)
+
+-- so it lies in the span
+pub known-inside : (e : Backtracker) (x : Search) (known : Option Match) (m : Match) → known ≡ Some m → IsKnown e x known → LiesIn x (place known)
+known-inside e x known m is knows =
+    let inside = match-within e.nfa LeftmostFirst false x (found_of m) (sure-match e.nfa LeftmostFirst false x (found_of m) (knows m is).1) in
+    subst (λ (o : Option Match). LiesIn x (place o)) (sym is) (inside.0, inside.2)
+
+-- a match that ends where its search starts is known of the next search
+pub known-kept : (e : Backtracker) (w : Walk) (found kept : Option Match) → ForSome kept (λ m. (found ≡ Some m) × (m.span.end ≡ w.at.start))
+    → IsFindOf e w.at (reply found) → IsKnown e (after w (place found)).at kept
+known-kept e w found kept ends finds = λ m is.
+    let one : found ≡ Some m = (ends m is).0 in
+    let here : m.span.end ≡ w.at.start = (ends m is).1 in
+    let same : record w.at { start = m.span.end } ≡ w.at = ap (λ end. record w.at { start = end }) here in
+    let found_it : IsFindOf e w.at (reply (Some m)) = subst (λ (o : Option Match). IsFindOf e w.at (reply o)) one finds in
+    subst (λ (o : Option Match). IsSureAt e (after w (place o)).at m) (sym one)
+    (subst (λ (y : Search). IsSureAt e y m) (sym same) (found_it.0, match-sure e.nfa LeftmostFirst false w.at (found_of m) found_it.1))
+
+-- what is known of a search is known of the same search
+pub known-same : (e : Backtracker) (x y : Search) (known : Option Match) → y ≡ x → IsKnown e x known → IsKnown e y known
+known-same e x y known same knows = subst (λ (z : Search). IsKnown e z known) (sym same) knows
 
 if-true : {A : Type 0} (b : Bool) (x y : A) → b ≡ true → (if b then x else y) ≡ x
 if-true b x y h = rw h
@@ -45,7 +78,7 @@ if-false : {A : Type 0} (b : Bool) (x y : A) → b ≡ false → (if b then x el
 if-false b x y h = rw h
 
 -- a span is not too long where one that begins before it is not
-still-fits : (e : Backtracker) (x y : Search) → y.end ≡ x.end → x.start ≤ y.start → ¬ (IsTooLong e x) → ¬ (IsTooLong e y)
+pub still-fits : (e : Backtracker) (x y : Search) → y.end ≡ x.end → x.start ≤ y.start → ¬ (IsTooLong e x) → ¬ (IsTooLong e y)
 still-fits e x y end on fits long =
     let shorter : span_len y + 1 ≤ span_len x + 1 = omega (arith, end, on) in
     let more : length e.nfa.states * (span_len y + 1) ≤ length e.nfa.states * (span_len x + 1) = mul-le-mul_left (length e.nfa.states) shorter in
@@ -59,7 +92,7 @@ module _ (e : Backtracker) (h : Search → Option Found) where
   -- a search that fits has the match that h gives, or no memory
   asked : (x : Search) (a : Answer Found) → GivesMatches e h x → ¬ (IsTooLong e x) → IsFindOf e x a → (a ≡ Err Memory) ⊎ (a ≡ answer x)
   asked x (Ok found) gives fits is =
-      let same : found ≡ h x = one-match e.nfa x found (h x) is.1 (gives x (same_start-self x)) in
+      let same : found ≡ h x = match-unique e.nfa LeftmostFirst false x found (h x) is.1 (gives x (same_start-self x)) in
       inr (ap (λ (o : Option Found). let a : Answer Found = Ok o in a) same)
   asked x (Err error) gives fits is =
       elim is [
@@ -126,7 +159,7 @@ abbrev value : Result Match SearchError → Item Found
 value item = item_by found_of item
 
 -- the turn of a state that goes on
-turn_of : (s t : TryFindMatches) (r : Option (Result Match SearchError)) → s.done ≡ false → find_steps s r t → TakesFindTurn s r t
+pub turn_of : (s t : TryFindMatches) (r : Option (Result Match SearchError)) → s.done ≡ false → find_steps s r t → TakesFindTurn s r t
 turn_of s t r d st = of s.done d st
   where
     of : (b : Bool) → b ≡ false → MatchBool b ((r ≡ None) × (t ≡ s)) (TakesFindTurn s r t) → TakesFindTurn s r t
@@ -134,14 +167,14 @@ turn_of s t r d st = of s.done d st
     of false e m = m
 
 -- and of one that has ended
-none_of : (s t : TryFindMatches) (r : Option (Result Match SearchError)) → s.done ≡ true → find_steps s r t → r ≡ None
+pub none_of : (s t : TryFindMatches) (r : Option (Result Match SearchError)) → s.done ≡ true → find_steps s r t → r ≡ None
 none_of s t r d st = of s.done d st
   where
     of : (b : Bool) → b ≡ true → MatchBool b ((r ≡ None) × (t ≡ s)) (TakesFindTurn s r t) → r ≡ None
     of true e m = m.0
     of false e m = cc
 
-after_end : (s t : TryFindMatches) (xs : List (Result Match SearchError)) → s.done ≡ true → Yields find_steps s xs t → xs ≡ []
+pub after_end : (s t : TryFindMatches) (xs : List (Result Match SearchError)) → s.done ≡ true → Yields find_steps s xs t → xs ≡ []
 after_end s t [] d h = refl
 after_end s t (x ∷ xs) d h = let e : Some x ≡ None = none_of s h.0 (Some x) d h.1 in cc
 

@@ -1,5 +1,5 @@
 -- A backtracker as a value, and how much it may try.
-use Rattle.std.specs.Prelude.{ℕ, ◌+◌, ◌*◌, ◌/◌, ◌^◌, ◌-◌, ◌<◌, min, length, Option, unwrap_or}
+use Rattle.std.specs.Prelude.{◌≡◌, ℕ, ◌+◌, ◌*◌, ◌/◌, ◌^◌, ◌-◌, ◌<◌, ◌≤◌, min, max, length, Option, unwrap_or}
 use Rattle.regex_search_core.specs.Search.{Search}
 use Rattle.thompson_nfa.specs.Automaton.{Automaton}
 use Rattle.nfa_search_base.specs.Paths.{span_len}
@@ -13,18 +13,46 @@ pub record Backtracker : Type 0 where
   pub nfa : Automaton
   pub visited_capacity : Option ℕ
 
--- what a cache shows: how many scans its last search made, and how many turns; and how many frames, blocks of marks and
--- slots it holds
+-- what a cache shows: how many scans its last search made, and how many turns, and those of all its searches; how many
+-- frames, blocks of marks and slots it holds; and how many of its searches were answered, and how many refused
 pub record Work : Type 0 where
   pub scans : ℕ
   pub turns : ℕ
   pub frames : ℕ
   pub blocks : ℕ
   pub slots : ℕ
+  pub answered : ℕ
+  pub refused : ℕ
+  pub all_scans : ℕ
+  pub all_turns : ℕ
 
 -- a cache that has made no search and holds nothing
 abbrev pub unused : Work
-unused = record { scans = 0; turns = 0; frames = 0; blocks = 0; slots = 0 }
+unused = record { scans = 0; turns = 0; frames = 0; blocks = 0; slots = 0; answered = 0; refused = 0; all_scans = 0; all_turns = 0 }
+
+-- one search more was answered
+pub record CountsAnswer (old new : Work) : Type 0 where
+  pub answered : new.answered ≡ old.answered + 1
+  pub refused : new.refused ≡ old.refused
+
+-- one search more was refused
+pub record CountsRefusal (old new : Work) : Type 0 where
+  pub answered : new.answered ≡ old.answered
+  pub refused : new.refused ≡ old.refused + 1
+
+-- the scans and turns of the new search are the only ones that were added to those of all
+pub record AddsWork (old new : Work) : Type 0 where
+  pub scans : new.all_scans ≡ old.all_scans + new.scans
+  pub turns : new.all_turns ≡ old.all_turns + new.turns
+
+-- no block is given back, and no more are taken than the pairs of the search need
+pub record GrowsBlocks (nfa : Automaton) (x : Search) (old new : ℕ) : Type 0 where
+  pub kept : old ≤ new
+  pub needed : new ≤ max old ((length nfa.states * (span_len x + 1) + 63) / 64)
+
+-- the cache after a search that was refused before it began
+abbrev pub refused_early : Work → Work
+refused_early w = record w { scans = 0; turns = 0; refused = w.refused + 1 }
 
 -- the bytes that a cache holds: 24 for a frame, 8 for a block, 8 for a slot
 abbrev pub memory_of : Work → ℕ

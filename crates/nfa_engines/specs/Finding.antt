@@ -1,10 +1,13 @@
 -- What a backtracker answers where a match is asked for, and the list of matches that comes of asking again and again.
 use Rattle.std.specs.Prelude.{◌≡◌, ◌⊎◌, false, List, [], ◌∷◌, Option, Ok, Err}
-use Rattle.regex_search_core.specs.Found.{Found}
+use Rattle.std.specs.Option.{ForSome}
+use Rattle.regex_search_core.specs.Found.{Found, found_of}
 use Rattle.regex_search_core.specs.Search.{Search}
+use Rattle.regex_search_core.specs.declared.search.Match.{Match}
 use Rattle.regex_search_core.specs.declared.search.MatchKind.TheVariants.{LeftmostFirst}
 use Rattle.nfa_search_base.specs.Asking.{SameButStart}
 use Rattle.nfa_search_base.specs.Items.{Item, greedy}
+use Rattle.nfa_search_base.specs.Known.{IsSureMatch}
 use Rattle.nfa_search_base.specs.Paths.{span_len, IsMatchAnswer}
 use Rattle.nfa_search_base.specs.Walks.{Answer, fresh, span_of}
 use Rattle.nfa_search_base.specs.declared.error.SearchError.TheVariants.{HaystackTooLong, Memory}
@@ -18,6 +21,10 @@ IsFindOf e x (Err error) = (IsTooLong e x × (error ≡ HaystackTooLong (span_le
 -- the same, of a backtracker that is asked once more and does not change
 abbrev pub Finds : Backtracker → Unit {0} → Search → Answer Found → Unit {0} → Type 0
 Finds e s x answer t = IsFindOf e x answer
+
+-- what is known of a search before it is made: nothing, or that it is not too long, and its match
+abbrev pub IsKnown : Backtracker → Search → Option Match → Type 0
+IsKnown e x known = ForSome known (λ m. ¬ (IsTooLong e x) × IsSureMatch e.nfa LeftmostFirst false x (found_of m))
 
 -- h gives the match of each search that differs from x in its start alone
 abbrev pub GivesMatches : Backtracker → (Search → Option Found) → Search → Type 0

@@ -1,4 +1,5 @@
 pub mod Backtrack
+pub mod Begin
 pub mod Bits
 pub mod Finding
 pub mod FindMatches
@@ -13,3 +14,4 @@ pub use Rattle.regex_search_core.specs.Patterns
 pub use Rattle.regex_search_core.specs.Search
 pub use Rattle.regex_search_core.specs.Slots
 pub use Rattle.thompson_nfa.specs.Automaton
+pub mod Runs

@@ -13,20 +13,29 @@ use std::marker::Model;
 /// What a backtracker writes while it searches: its marks, its stack, and slots of its own. Any cache serves any
 /// backtracker, whatever it was used for before.
 ///
-/// A contract sees how many scans its last search made, and how many turns they took.
+/// A contract sees how many scans its last search made, and how many turns they took; and how many of its searches were
+/// answered, and how many refused.
 #[derive(Debug, Drop)]
 pub struct Cache {
     pub(super) scratch: Scratch,
     pub(super) slots: Vec<Option<NonMaxUsize>>,
+    /// How many searches were answered.
+    pub(super) answered: Counter,
+    /// How many searches were refused.
+    pub(super) refused: Counter,
+    /// The scans of all searches before the last one.
+    pub(super) past_scans: Counter,
+    /// The turns of all searches before the last one.
+    pub(super) past_turns: Counter,
 }
 
 impl Model for Cache {
-    ghost use Rattle.std.specs.Prelude.{◌/◌, length};
+    ghost use Rattle.std.specs.Prelude.{◌+◌, ◌/◌, length};
     ghost use Rattle.nfa_engines.specs.Backtrack.{Work};
 
     ghost Value = { Work };
 
-    ghost view = { λ c. record { scans = c.scratch.scans; turns = c.scratch.visited.turns; frames = length c.scratch.stack.items; blocks = length c.scratch.visited.bits / 64; slots = length c.slots.items } };
+    ghost view = { λ c. record { scans = c.scratch.scans; turns = c.scratch.visited.turns; frames = length c.scratch.stack.items; blocks = length c.scratch.visited.bits / 64; slots = length c.slots.items; answered = c.answered; refused = c.refused; all_scans = c.past_scans + c.scratch.scans; all_turns = c.past_turns + c.scratch.visited.turns } };
 }
 
 impl Cache {
@@ -41,6 +50,10 @@ impl Cache {
                 scans: Counter::new(),
             },
             slots: Vec::new(alloc),
+            answered: Counter::new(),
+            refused: Counter::new(),
+            past_scans: Counter::new(),
+            past_turns: Counter::new(),
         }
     }
 
@@ -70,6 +83,10 @@ impl Cache {
                 scans: self.scratch.scans.copy(),
             },
             slots: self.slots.clone()?,
+            answered: self.answered.copy(),
+            refused: self.refused.copy(),
+            past_scans: self.past_scans.copy(),
+            past_turns: self.past_turns.copy(),
         })
     }
 

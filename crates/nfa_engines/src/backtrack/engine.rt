@@ -1,19 +1,22 @@
-ghost use Rattle.std.specs.Prelude.{◌≡◌, ◌↔◌, ◌⊎◌, ◌+◌, ◌*◌, ◌<◌, ◌≤◌, ◌^◌, None, Ok, length, vec_len, replicate, option_map, IfOk, OnOk, IfErr, OnErr, IsErrOf, IsOkUnless, IsTrue, false};
+ghost use Rattle.std.specs.Prelude.{◌≡◌, ◌↔◌, ◌⊎◌, ◌+◌, ◌*◌, ◌/◌, ◌<◌, ◌≤◌, ◌^◌, None, Ok, length, vec_len, replicate, option_map, IfOk, OnOk, IfErr, OnErr, IsErrOf, IsOkUnless, IsTrue, false, IfSome};
 ghost use Rattle.regex_search_core.specs.Search.{search_of};
 ghost use Rattle.regex_search_core.specs.Groups.{slot_count};
 ghost use Rattle.regex_search_core.specs.Patterns.{number_of};
-ghost use Rattle.regex_search_core.specs.Found.{found_of};
+ghost use Rattle.regex_search_core.specs.Found.{found_of, half_found_of};
 ghost use Rattle.regex_search_core.specs.declared.search.MatchKind.TheVariants.{LeftmostFirst};
 ghost use Rattle.thompson_nfa.specs.Simple.{always, never};
 ghost use Rattle.nfa_search_base.specs.Paths.{span_len, turn_weight, scan_limit, IsAnswer, IsMatchAnswer, IsFoundAnswer, IsWork, IsWithinScans};
-ghost use Rattle.nfa_engines.specs.Backtrack.{IsTooLong, unused, capacity_of, rounded_bits, max_haystack_len_of, min_capacity_of};
+ghost use Rattle.nfa_engines.specs.Walk.{scan_turns};
+ghost use Rattle.nfa_engines.specs.Backtrack.{IsTooLong, AddsWork, CountsAnswer, CountsRefusal, GrowsBlocks, refused_early, unused, capacity_of, rounded_bits, max_haystack_len_of, min_capacity_of};
+ghost use Rattle.nfa_search_base.specs.Lists.{IsInside};
 
 use crate::backtrack::cache::Cache;
 use crate::backtrack::config::{Builder, Config};
+use crate::backtrack::scratch::Scratch;
 use crate::backtrack::search::{search, unset};
 use crate::error::SearchError;
 use nfa_engine_parts::first_bytes::FirstBytes;
-use regex_search_core::{Captures, Input, Match, NonMaxUsize, PatternID, Refused};
+use regex_search_core::{Captures, HalfMatch, Input, Match, NonMaxUsize, PatternID, Refused};
 use std::alloc::Global;
 use std::marker::Model;
 use thompson_nfa::{BuildError, NFA};
@@ -65,6 +68,13 @@ fn grow(slots: &mut Vec<Option<NonMaxUsize>>, len: usize) -> Result<(), Refused>
         slots.resize(len, None)?;
     }
     Ok(())
+}
+
+/// The pattern of the match.
+fn pattern_of(half: Option<HalfMatch>) -> Option<PatternID>
+    ensures { option_map number_of result ≡ option_map (λ half. (half_found_of half).pattern) half }
+{
+    Some(half?.pattern())
 }
 
 impl BoundedBacktracker {
@@ -223,20 +233,36 @@ impl BoundedBacktracker {
         ensures within { OnErr result (IsWithinScans self.now.nfa LeftmostFirst false (search_of input.now) cache.new.scans) }
         ensures scans { cache.new.scans ≤ scan_limit self.now.nfa (search_of input.now) }
         ensures turns { cache.new.turns ≤ cache.new.scans * ((1 + turn_weight self.now.nfa) * (span_len (search_of input.now) + 1)) }
+        // It is counted once.
+        ensures answered { OnOk result (CountsAnswer cache.old cache.new) }
+        ensures refused { OnErr result (CountsRefusal cache.old cache.new) }
+        ensures total { AddsWork cache.old cache.new }
+        ensures blocks { GrowsBlocks self.now.nfa (search_of input.now) cache.old.blocks cache.new.blocks }
+        ensures early { IsTooLong self.now (search_of input.now) → cache.new ≡ refused_early cache.old }
     {
-        let Cache { scratch, .. } = cache;
-        scratch.scans.restart();
-        scratch.visited.restart_turns();
+        let Cache {
+            scratch,
+            answered,
+            refused,
+            past_scans,
+            past_turns,
+            ..
+        } = cache;
+        past_scans.take(&mut scratch.scans);
+        scratch.visited.restart_turns(past_turns);
         if self.is_too_long(input) {
             unset(slots);
+            refused.tick();
             return Err(SearchError::HaystackTooLong {
                 len: input.get_span().len(),
             });
         }
-        let Some(half) = search(&self.nfa, &self.first, input, scratch, slots)? else {
-            return Ok(None);
+        let Ok(half) = search(&self.nfa, &self.first, input, scratch, slots) else {
+            refused.tick();
+            return Err(SearchError::Memory);
         };
-        Ok(Some(half.pattern()))
+        answered.tick();
+        Ok(pattern_of(half))
     }
 
     /// The match that a search answers: the span between the two slots of its pattern. It is none where there is no
@@ -249,6 +275,8 @@ impl BoundedBacktracker {
         input: Input<'h>,
     ) -> Result<Option<Match>, SearchError>
         ensures answer { IfOk result (λ found. IsMatchAnswer self.now.nfa LeftmostFirst false (search_of input.entry) (option_map found_of found)) }
+        ensures inside { IfOk result (λ found. IfSome found (λ m. IsInside (search_of input.entry) (found_of m))) }
+        ensures pattern { IfOk result (λ found. IfSome found (λ m. (found_of m).pattern < length self.now.nfa.patterns)) }
 
         ensures too_long { IsErrOf result (SearchError.HaystackTooLong (span_len (search_of input.entry))) ↔ IsTooLong self.now (search_of input.entry) }
         ensures errors { IfErr result (λ e. (e ≡ SearchError.Memory) ⊎ (e ≡ SearchError.HaystackTooLong (span_len (search_of input.entry)))) }
@@ -257,19 +285,60 @@ impl BoundedBacktracker {
         ensures within { OnErr result (IsWithinScans self.now.nfa LeftmostFirst false (search_of input.entry) cache.new.scans) }
         ensures scans { cache.new.scans ≤ scan_limit self.now.nfa (search_of input.entry) }
         ensures turns { cache.new.turns ≤ cache.new.scans * ((1 + turn_weight self.now.nfa) * (span_len (search_of input.entry) + 1)) }
+        // It is counted once.
+        ensures answered { OnOk result (CountsAnswer cache.old cache.new) }
+        ensures refused { OnErr result (CountsRefusal cache.old cache.new) }
+        ensures total { AddsWork cache.old cache.new }
+        ensures blocks { GrowsBlocks self.now.nfa (search_of input.entry) cache.old.blocks cache.new.blocks }
+        ensures early { IsTooLong self.now (search_of input.entry) → cache.new ≡ refused_early cache.old }
     {
-        let Cache { scratch, slots } = cache;
-        scratch.scans.restart();
-        scratch.visited.restart_turns();
+        let Cache {
+            scratch,
+            slots,
+            answered,
+            refused,
+            past_scans,
+            past_turns,
+        } = cache;
+        past_scans.take(&mut scratch.scans);
+        scratch.visited.restart_turns(past_turns);
         if self.is_too_long(&input) {
+            refused.tick();
             return Err(SearchError::HaystackTooLong {
                 len: input.get_span().len(),
             });
         }
+        let Ok(found) = self.find_with(scratch, slots, &input) else {
+            refused.tick();
+            return Err(SearchError::Memory);
+        };
+        answered.tick();
+        Ok(found)
+    }
+
+    /// The match of a search that is not too long, from slots of the cache.
+    fn find_with(
+        &self,
+        scratch: &mut Scratch,
+        slots: &mut Vec<Option<NonMaxUsize>>,
+        input: &Input<'_>,
+    ) -> Result<Option<Match>, Refused>
+        requires fits { length self.now.nfa.states * (span_len (search_of input.now) + 1) < 2 ^ 64 }
+        requires counted { scratch.old.scans ≡ 0 }
+        requires turned { scratch.old.visited.turns ≡ 0 }
+        ensures answer { IfOk result (λ found. IsMatchAnswer self.now.nfa LeftmostFirst false (search_of input.now) (option_map found_of found)) }
+        ensures inside { IfOk result (λ found. IfSome found (λ m. IsInside (search_of input.now) (found_of m))) }
+        ensures pattern { IfOk result (λ found. IfSome found (λ m. (found_of m).pattern < length self.now.nfa.patterns)) }
+        ensures work { OnOk result (IsWork self.now.nfa LeftmostFirst false (search_of input.now) scratch.new.scans scratch.new.visited.turns) }
+        ensures within { IsWithinScans self.now.nfa LeftmostFirst false (search_of input.now) scratch.new.scans }
+        ensures blocks { GrowsBlocks self.now.nfa (search_of input.now) (length scratch.old.visited.bits / 64) (length scratch.new.visited.bits / 64) }
+        ensures scans { scratch.new.scans ≤ scan_limit self.now.nfa (search_of input.now) }
+        ensures turns { scratch.new.visited.turns ≤ scratch.new.scans * scan_turns self.now.nfa (search_of input.now) }
+    {
         let slot_len = self.nfa.group_info().implicit_slot_len();
         grow(slots, slot_len)?;
         let slots = &mut slots.as_mut_slice()[..slot_len];
-        let Some(half) = search(&self.nfa, &self.first, &input, scratch, slots)? else {
+        let Some(half) = search(&self.nfa, &self.first, input, scratch, slots)? else {
             return Ok(None);
         };
         Ok(Match::from_slots(half.pattern(), slots))
@@ -288,6 +357,12 @@ impl BoundedBacktracker {
         ensures within { OnErr result (IsWithinScans self.now.nfa LeftmostFirst false (search_of input.entry) cache.new.scans) }
         ensures scans { cache.new.scans ≤ scan_limit self.now.nfa (search_of input.entry) }
         ensures turns { cache.new.turns ≤ cache.new.scans * ((1 + turn_weight self.now.nfa) * (span_len (search_of input.entry) + 1)) }
+        // It is counted once.
+        ensures answered { OnOk result (CountsAnswer cache.old cache.new) }
+        ensures refused { OnErr result (CountsRefusal cache.old cache.new) }
+        ensures total { AddsWork cache.old cache.new }
+        ensures blocks { GrowsBlocks self.now.nfa (search_of input.entry) cache.old.blocks cache.new.blocks }
+        ensures early { IsTooLong self.now (search_of input.entry) → cache.new ≡ refused_early cache.old }
     {
         match self.try_search_slots(cache, &input, &mut [])? {
             Some(_) => Ok(true),

@@ -1,3 +1,8 @@
+ghost use Rattle.std.specs.Prelude.{◌≡◌, Some};
+ghost use Rattle.std.specs.Option.{ForSome};
+ghost use Rattle.nfa_search_base.specs.Searchers.{walk_of};
+ghost use Rattle.nfa_engines.specs.Finding.{IsKnown};
+
 use crate::backtrack::cache::Cache;
 use crate::backtrack::engine::BoundedBacktracker;
 use crate::error::SearchError;
@@ -13,19 +18,23 @@ pub struct TryFindMatches<'r, 'c, 'h> {
     engine: &'r BoundedBacktracker,
     cache: &'c mut Cache,
     searcher: Searcher<'h>,
+    // What the next search would answer, if the last one told it: an empty match where the input starts.
+    known: Option<Match>,
     done: bool,
+    ghost knows: { IsKnown engine.now (walk_of searcher).at known },
 }
 
 impl BoundedBacktracker {
-    ghost use Rattle.std.specs.Prelude.{◌≡◌, ◌≤◌, false, Option};
+    ghost use Rattle.std.specs.Prelude.{◌≡◌, ◌≤◌, false, Option, Ok};
     ghost use Rattle.regex_search_core.specs.Found.{Found, found_of};
     ghost use Rattle.regex_search_core.specs.Search.{Search, search_of};
     ghost use Rattle.nfa_search_base.specs.Asking.{SameButStart};
     ghost use Rattle.nfa_search_base.specs.Finders.{answer_by, match_place};
-    ghost use Rattle.nfa_search_base.specs.Searchers.{walk_of};
+    ghost use Rattle.nfa_search_base.specs.Searchers.{walk_of, OfferGives, IsDone};
     ghost use Rattle.nfa_search_base.specs.Walks.{fresh, after, span_of, Advances, ComesAfter, IsPast, LeavesFewer, LiesIn};
-    ghost use Rattle.nfa_engines.specs.Finding.{Finds, IsFindOf, GivesMatches, all_matches};
+    ghost use Rattle.nfa_engines.specs.Finding.{Finds, IsFindOf, IsKnown, GivesMatches, all_matches};
     ghost use Rattle.nfa_engines.specs.FindMatches.{find_engine, find_walk, FindsAll};
+    ghost use Rattle.nfa_engines.specs.Runs.{RunsGive, RunsMatch, RunsInside, GivesFirst, GivesFirstMatches, GivesAllMatches, GivesNext, GivesNextMatch};
 
     /// The matches of the input that do not overlap, from left to right. To make this takes no memory.
     ///
@@ -41,6 +50,15 @@ impl BoundedBacktracker {
         ensures engine { find_engine result ≡ self.now }
         ensures walk { find_walk result ≡ fresh (search_of input.entry) }
         ensures going { result.done ≡ false }
+        // Each run of calls gives the first items, and all of them where it goes on to `None`.
+        ensures runs { RunsGive self.now (search_of input.entry) result }
+        ensures matches { RunsMatch self.now (search_of input.entry) result }
+        ensures inside { RunsInside (search_of input.entry) result }
+        ensures first { GivesFirst self.now (search_of input.entry) result }
+        ensures first_matches { GivesFirstMatches self.now (search_of input.entry) result }
+        ensures next { GivesNext self.now (search_of input.entry) result }
+        ensures next_match { GivesNextMatch self.now (search_of input.entry) result }
+        ensures all_matches { GivesAllMatches self.now (search_of input.entry) result }
         // Run to its end it gives all matches, up to a refusal.
         ensures list { (h : Search → Option Found) → GivesMatches self.now h (search_of input.entry) → FindsAll self.now (search_of input.entry) (all_matches h (search_of input.entry)) result }
     {
@@ -48,6 +66,7 @@ impl BoundedBacktracker {
             engine: self,
             cache,
             searcher: Searcher::new(input),
+            known: None,
             done: false,
         }
     }
@@ -60,19 +79,62 @@ impl BoundedBacktracker {
         self.try_find(cache, *input)
     }
 
+    // The match of the searcher's input: the one that is known, else what a search finds.
+    fn find_first(
+        &self,
+        cache: &mut Cache,
+        input: &Input<'_>,
+        known: Option<Match>,
+    ) -> Result<Option<Match>, SearchError>
+        requires { IsKnown self.now (search_of input.now) known }
+        ensures finds { IsFindOf self.now (search_of input.now) (answer_by found_of result) }
+        ensures inside { LiesIn (search_of input.now) (match_place result) }
+    {
+        match known {
+            Some(_) => Ok(known),
+            None => self.find_at(cache, input),
+        }
+    }
+
+    // Offers the match of the searcher's input, and keeps it if the input stays the same.
+    fn offer(
+        &self,
+        searcher: &mut Searcher<'_>,
+        known: &mut Option<Match>,
+        found: Option<Match>,
+    ) -> Offered
+        requires finds { IsFindOf self.now (walk_of searcher.old).at (answer_by found_of (Ok found)) }
+        requires inside { LiesIn (walk_of searcher.old).at (match_place (Ok found)) }
+        ensures gives { OfferGives (walk_of searcher.old) found result (walk_of searcher.new) }
+        ensures once { IsPast (walk_of searcher.old) → IsDone result }
+        ensures same { SameButStart (walk_of searcher.old).at (walk_of searcher.new).at }
+        ensures knows { IsKnown self.now (walk_of searcher.new).at known.new }
+    {
+        let start = searcher.input().start();
+        let offered = searcher.offer(found);
+        *known = match offered {
+            Offered::Done(_) => ending_at(start, found),
+            Offered::Again => None,
+        };
+        offered
+    }
+
     // The match in place of an empty one where the last match ended.
     fn step_again(
         &self,
         cache: &mut Cache,
         searcher: &mut Searcher<'_>,
+        known: &mut Option<Match>,
     ) -> Result<Option<Match>, SearchError>
-        requires { IsPast (walk_of searcher.old) }
+        requires past { IsPast (walk_of searcher.old) }
+        requires knew { IsKnown self.now (walk_of searcher.old).at known.old }
         ensures finds { IsFindOf self.now (walk_of searcher.old).at (answer_by found_of result) }
         ensures inside { LiesIn (walk_of searcher.old).at (match_place result) }
         ensures walk { walk_of searcher.new ≡ after (walk_of searcher.old) (match_place result) }
+        ensures knows { IsKnown self.now (walk_of searcher.new).at known.new }
     {
         let found = self.find_at(cache, searcher.input())?;
-        searcher.offer(found);
+        self.offer(searcher, known, found);
         Ok(found)
     }
 
@@ -81,18 +143,31 @@ impl BoundedBacktracker {
         &self,
         cache: &mut Cache,
         searcher: &mut Searcher<'_>,
+        known: &mut Option<Match>,
     ) -> Result<Option<Match>, SearchError>
+        requires { IsKnown self.now (walk_of searcher.old).at known.old }
         ensures step { Advances span_of (Finds self.now) tt (walk_of searcher.old) (answer_by found_of result) tt (walk_of searcher.new) }
         ensures rises { ComesAfter (walk_of searcher.old) (match_place result) }
         ensures fewer { LeavesFewer (walk_of searcher.old) (match_place result) (walk_of searcher.new) }
         ensures same { SameButStart (walk_of searcher.old).at (walk_of searcher.new).at }
         ensures onward { (walk_of searcher.old).at.start ≤ (walk_of searcher.new).at.start }
+        ensures knows { IsKnown self.now (walk_of searcher.new).at known.new }
     {
-        let first = self.find_at(cache, searcher.input())?;
-        match searcher.offer(first) {
+        let first = self.find_first(cache, searcher.input(), *known)?;
+        match self.offer(searcher, known, first) {
             Offered::Done(found) => Ok(found),
-            Offered::Again => self.step_again(cache, searcher),
+            Offered::Again => self.step_again(cache, searcher, known),
         }
+    }
+}
+
+// The match if it ends there, else none.
+fn ending_at(end: usize, found: Option<Match>) -> Option<Match>
+    ensures { ForSome result (λ m. (found ≡ Some m) × (m.span.end ≡ end)) }
+{
+    match found {
+        Some(last) => { if last.end() == end { Some(last) } else { None } }
+        None => None,
     }
 }
 
@@ -109,7 +184,10 @@ impl<'r, 'c, 'h> Iterator for TryFindMatches<'r, 'c, 'h> {
         if self.done {
             return None;
         }
-        match self.engine.try_step(self.cache, &mut self.searcher) {
+        match self
+            .engine
+            .try_step(self.cache, &mut self.searcher, &mut self.known)
+        {
             Ok(Some(found)) => Some(Ok(found)),
             Ok(None) => {
                 self.done = true;

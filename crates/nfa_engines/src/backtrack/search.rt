@@ -1,8 +1,9 @@
-ghost use Rattle.std.specs.Prelude.{◌≡◌, ℕ, ◌+◌, ◌-◌, ◌*◌, ◌^◌, ◌<◌, ◌≤◌, [], None, Some, true, false, length, replicate, IfOk, IfSome, IfNone, OnErr};
+ghost use Rattle.std.specs.Prelude.{◌≡◌, ℕ, ◌+◌, ◌-◌, ◌*◌, ◌/◌, ◌^◌, ◌<◌, ◌≤◌, [], None, Some, true, false, length, replicate, IfOk, IfSome, IfNone, OnErr};
 ghost use Rattle.regex_search_core.specs.Search.{search_of, is_anchored};
 ghost use Rattle.regex_search_core.specs.declared.search.MatchKind.TheVariants.{LeftmostFirst};
 ghost use Rattle.nfa_search_base.specs.Paths.{span_len, start_state, starts, pairs_from, is_utf8_empty, scan_limit, IsWithinScans};
 ghost use Rattle.nfa_engine_parts.specs.FirstBytes.{IsFirstBytes};
+ghost use Rattle.nfa_engines.specs.Backtrack.{GrowsBlocks};
 ghost use Rattle.nfa_engines.specs.Walk.{pair_of, HasRoom, IsPlace, Scans, Searched, scan_turns};
 
 use crate::backtrack::frame::{Frame, Place};
@@ -121,6 +122,7 @@ fn search_once(
     requires mode { is_utf8_empty nfa.now ≡ false }
     ensures answer { IfOk result (λ half. Searched nfa.now (search_of input.now) half slots.new scratch.new.scans scratch.new.visited.turns) }
     ensures refused { OnErr result (slots.new ≡ replicate (length slots.old) None) }
+    ensures size { length scratch.new.visited.bits ≡ length scratch.old.visited.bits }
     ensures scans { scratch.new.scans ≡ 1 }
     ensures turns { scratch.new.visited.turns ≤ scan_turns nfa.now (search_of input.now) }
 {
@@ -143,6 +145,7 @@ fn search_kept(
     requires anchored { is_anchored (search_of input.now).anchored ≡ true }
     ensures answer { IfOk result (λ half. Searched nfa.now (search_of input.now) half slots.new scratch.new.scans scratch.new.visited.turns) }
     ensures refused { OnErr result (slots.new ≡ replicate (length slots.old) None) }
+    ensures size { length scratch.new.visited.bits ≡ length scratch.old.visited.bits }
     ensures scans { scratch.new.scans ≡ 1 }
     ensures turns { scratch.new.visited.turns ≤ scan_turns nfa.now (search_of input.now) }
 {
@@ -173,6 +176,7 @@ fn search_whole(
     ensures answer { IfOk result (λ half. Searched nfa.now (search_of input.now) half slots.new scratch.new.scans scratch.new.visited.turns) }
     ensures refused { OnErr result (slots.new ≡ replicate (length slots.old) None) }
     ensures within { IsWithinScans nfa.now LeftmostFirst false (search_of input.now) scratch.new.scans }
+    ensures size { length scratch.new.visited.bits ≡ length scratch.old.visited.bits }
     ensures scans { scratch.new.scans ≤ scan_limit nfa.now (search_of input.now) }
     ensures turns { scratch.new.visited.turns ≤ scratch.new.scans * scan_turns nfa.now (search_of input.now) }
 {
@@ -204,6 +208,7 @@ pub fn search(
     ensures answer { IfOk result (λ half. Searched nfa.now (search_of input.now) half slots.new scratch.new.scans scratch.new.visited.turns) }
     ensures refused { OnErr result (slots.new ≡ replicate (length slots.old) None) }
     ensures within { IsWithinScans nfa.now LeftmostFirst false (search_of input.now) scratch.new.scans }
+    ensures blocks { GrowsBlocks nfa.now (search_of input.now) (length scratch.old.visited.bits / 64) (length scratch.new.visited.bits / 64) }
     ensures scans { scratch.new.scans ≤ scan_limit nfa.now (search_of input.now) }
     ensures turns { scratch.new.visited.turns ≤ scratch.new.scans * scan_turns nfa.now (search_of input.now) }
 {

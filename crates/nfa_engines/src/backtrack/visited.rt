@@ -1,4 +1,4 @@
-ghost use Rattle.std.specs.Prelude.{◌≡◌, ℕ, ◌+◌, ◌/◌, ◌<◌, ◌≤◌, [], true, false, length, replicate, slice_index, slice_index_or, slice_set, IfOk, OnOk};
+ghost use Rattle.std.specs.Prelude.{◌≡◌, ℕ, ◌+◌, ◌/◌, ◌<◌, ◌≤◌, max, [], true, false, length, replicate, slice_index, slice_index_or, slice_set, IfOk, OnOk};
 
 use nfa_engine_parts::counter::Counter;
 use regex_search_core::Refused;
@@ -68,17 +68,20 @@ impl Visited {
         self.blocks.clear();
     }
 
-    /// Counts from 0 again.
-    pub fn restart_turns(&mut self)
-        ensures { self.new ≡ record self.old { turns = 0 } }
+    /// Counts from 0 again. What was counted is added to the total.
+    pub fn restart_turns(&mut self, total: &mut Counter)
+        ensures restarted { self.new ≡ record self.old { turns = 0 } }
+        ensures total { total.new ≡ total.old + self.old.turns }
     {
-        self.turns.restart();
+        total.take(&mut self.turns);
     }
 
     /// Makes room for so many marks.
     pub fn reserve(&mut self, bits: usize) -> Result<(), Refused>
         ensures turns { self.new.turns ≡ self.old.turns }
         ensures room { OnOk result (bits ≤ length self.new.bits) }
+        ensures kept { length self.old.bits / 64 ≤ length self.new.bits / 64 }
+        ensures needed { length self.new.bits / 64 ≤ max (length self.old.bits / 64) ((bits + 63) / 64) }
     {
         let needed = bits.div_ceil(BLOCK_BITS);
         if self.blocks.len() < needed {

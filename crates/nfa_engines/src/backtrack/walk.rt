@@ -1,5 +1,6 @@
-ghost use Rattle.std.specs.Prelude.{◌≡◌, ◌+◌, ◌*◌, ◌<◌, ◌≤◌, [], ◌∷◌, ◌++◌, None, Some, List, length, map, reverse, drop, slice_get, slice_index_or, slice_set, All, IfOk, OnOk, option_and_then, sum};
+ghost use Rattle.std.specs.Prelude.{◌≡◌, ◌+◌, ◌*◌, ◌<◌, ◌≤◌, [], ◌∷◌, ◌++◌, None, Some, true, List, length, map, reverse, drop, slice_get, slice_index_or, slice_set, All, IfOk, OnOk, option_and_then, sum};
 ghost use Rattle.std.specs.List.{sum_by};
+ghost use Rattle.std.specs.Option.{ForSome};
 ghost use Rattle.regex_search_core.specs.Search.{search_of};
 ghost use Rattle.thompson_nfa.specs.Automaton.{Automaton, IsAutomaton, LeadsBelow, node_of};
 ghost use Rattle.thompson_nfa.specs.Automaton.Node.{ByteRange, Sparse, Dense};
@@ -8,6 +9,7 @@ ghost use Rattle.regex_search_core.specs.Search.{Search};
 ghost use Rattle.nfa_search_base.specs.Paths.{byte_at, target_on};
 ghost use Rattle.nfa_search_base.specs.Exploring.{Item};
 ghost use Rattle.nfa_search_base.specs.Turns.{marked_sum};
+ghost use Rattle.nfa_engines.specs.Begin.{Begins, IsPutBack};
 ghost use Rattle.nfa_engines.specs.Bits.{Marks};
 ghost use Rattle.nfa_engines.specs.Walk.{pair_of, work_onto, restoring, move_of, tries, tries_of_move, tries_of_place, tries_of_turn, with_place, HasSlot, Unwinds, IsPlace, IsPlaceOr, IsWithin, HasRoom, Paid, Follows, Goes, Advances, Walks, weights};
 ghost use Rattle.nfa_engines.specs.declared.backtrack.frame.Frame.TheVariants.{Step};
@@ -127,6 +129,13 @@ fn push_restoring(
             Ok(())
         }
     }
+}
+
+/// Where a walk goes on after its first turn, and the slot that this wrote, if it took one.
+#[derive(Clone, Copy)]
+pub struct Begun {
+    place: Place,
+    slot: Option<usize>,
 }
 
 /// One turn: tries to mark the place, and says where it leads.
@@ -266,8 +275,100 @@ fn advance(
     }
 }
 
-/// Searches from a place to the first match, past what is marked.
+/// Whether the slot is handed out and has no offset.
+#[inline(always)]
+fn is_unset(slots: &[Option<NonMaxUsize>], slot: usize) -> bool
+    ensures { result ≡ true → (slot < length slots.now) × (slice_index_or slots.now slot None ≡ None) }
+{
+    slot < slots.len() && slots[slot].is_none()
+}
+
+/// Writes the position to the slot.
+#[inline(always)]
+fn write(slots: &mut [Option<NonMaxUsize>], slot: usize, at: usize)
+    requires slot { slot < length slots.old }
+    requires at { at < usize.MAX }
+    ensures { slots.new ≡ slice_set slots.old slot (Some at) }
+{
+    slots[slot] = NonMaxUsize::new(at);
+}
+
+/// The first turn of a walk, if it writes a slot without an offset. `None` where the place is marked already.
+#[inline(always)]
+fn begin(
+    nfa: &NFA,
+    input: &Input<'_>,
+    place: Place,
+    visited: &mut Visited,
+    slots: &mut [Option<NonMaxUsize>],
+) -> Option<Begun>
+    requires place { IsPlace nfa.now (search_of input.now) place }
+    requires room { HasRoom nfa.now (search_of input.now) visited.old.bits }
+    ensures size { length visited.new.bits ≡ length visited.old.bits }
+    ensures begins { Begins nfa.now (search_of input.now) (pair_of place) result visited.old slots.old visited.new slots.new }
+{
+    match state_at(nfa, nfa.states(), place.sid) {
+        State::Capture { next, slot } => {
+            if !is_unset(slots, *slot) {
+                return Some(Begun { place, slot: None });
+            }
+            if !visited.insert(place.row + place.sid.as_usize()) {
+                return None;
+            }
+            write(slots, *slot, place.at);
+            Some(Begun {
+                place: place.to(*next),
+                slot: Some(*slot),
+            })
+        }
+        _ => Some(Begun { place, slot: None }),
+    }
+}
+
+/// Takes the offset of the slot away, if one was written.
+#[inline(always)]
+fn put_back(slot: Option<usize>, slots: &mut [Option<NonMaxUsize>])
+    requires { ForSome slot (λ k. k < length slots.old) }
+    ensures { IsPutBack slot slots.old slots.new }
+{
+    match slot {
+        Some(written) => slots[written] = None,
+        None => {}
+    }
+}
+
+/// Searches from a place to the first match, past what is marked. A slot that its first turn writes needs no place on
+/// the stack.
 pub fn walk(
+    nfa: &NFA,
+    input: &Input<'_>,
+    start: Place,
+    stack: &mut Vec<Frame>,
+    visited: &mut Visited,
+    slots: &mut [Option<NonMaxUsize>],
+) -> Result<Option<HalfMatch>, Refused>
+    requires place { IsPlace nfa.now (search_of input.now) start }
+    requires room { HasRoom nfa.now (search_of input.now) visited.old.bits }
+    requires empty { stack.old.items ≡ [] }
+    ensures size { length visited.new.bits ≡ length visited.old.bits }
+    ensures bounded { visited.new.turns + marked_sum (weights nfa.now (search_of input.now)) visited.old.bits ≤ visited.old.turns + 1 + sum (weights nfa.now (search_of input.now)) }
+    ensures walks { IfOk result (λ half. Walks nfa.now (search_of input.now) (pair_of start) half visited.old slots.old stack.new.items visited.new slots.new) }
+{
+    match begin(nfa, input, start, visited, slots) {
+        None => Ok(None),
+        Some(begun) => match walk_on(nfa, input, begun.place, stack, visited, slots)? {
+            Some(half) => Ok(Some(half)),
+            None => {
+                put_back(begun.slot, slots);
+                Ok(None)
+            }
+        },
+    }
+}
+
+/// Searches from a place to the first match, past what is marked.
+#[inline(always)]
+fn walk_on(
     nfa: &NFA,
     input: &Input<'_>,
     start: Place,

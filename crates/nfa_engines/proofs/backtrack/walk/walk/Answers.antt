@@ -1,50 +1,32 @@
-use Rattle.std.proofs.Common.{◌∙◌, arith}
+use Rattle.std.proofs.Common.{arith}
 use Rattle.regex_search_core.specs.Search.{search_of}
 use Rattle.nfa_search_base.proofs.TurnLemmas.{marked_sum-le}
+use Rattle.nfa_engines.specs.Begin.{kept_onto}
 use Rattle.nfa_engines.specs.Walk.{weights}
+use Rattle.nfa_engines.proofs.BeginLemmas.{Follows-put_back}
 use Rattle.nfa_engines.proofs.WalkLemmas.{Follows-then, EndsAt-along}
 use Rattle.nfa_engines.proofs.backtrack.walk.walk.Goals as goal
 
-pub returns-in_err-next-clause-bounded : goal.returns-in_err-next-clause-bounded
-returns-in_err-next-clause-bounded c =
-    omega (arith, c.loop-next.invariant.tried, c.advance.ensures.turns, marked_sum-le (weights c.args.nfa.now (search_of c.args.input.now)) c.loop-next.visited.bits)
+pub returns-in-None-clause-bounded : goal.returns-in-None-clause-bounded
+returns-in-None-clause-bounded c =
+    let fails = rw c.in-None.is at c.begin.ensures.begins in
+    omega (arith, fails.spent, marked_sum-le (weights c.args.nfa.now (search_of c.args.input.now)) c.begin.new.visited.bits)
 
-pub loop-next-smaller : goal.loop-next-smaller
-loop-next-smaller c =
-    let paid = rw c.in-On.is at c.in_ok-next.ensures.paid in
-    omega (arith, paid.tried, marked_sum-le (weights c.args.nfa.now (search_of c.args.input.now)) c.advance.new.visited.bits)
+pub returns-in-Some-2-clause-walks : goal.returns-in-Some-2-clause-walks
+returns-in-Some-2-clause-walks c = λ work.
+    let goes = rw c.in-Some.is at c.begin.ensures.begins in
+    let walks = rw c.in-Some-2.is at c.in_ok-half-in-Some.ensures.walks in
+    EndsAt-along c.args.nfa.now (search_of c.args.input.now) (goes.follows work) (walks (kept_onto c.in-Some.begun.slot work))
 
-pub loop-next-preserved : goal.loop-next-preserved
-loop-next-preserved c =
-    let paid = rw c.in-On.is at c.in_ok-next.ensures.paid in
-    let advances = rw c.in-On.is at c.in_ok-next.ensures.advances in
+pub returns-in-None-2-clause-walks : goal.returns-in-None-2-clause-walks
+returns-in-None-2-clause-walks c =
+    let goes = rw c.in-Some.is at c.begin.ensures.begins in
+    let fails = rw c.in-None-2.is at c.in_ok-half-in-Some.ensures.walks in
     record {
-      place = advances.0;
-      size = c.advance.ensures.size ∙ c.loop-next.invariant.size;
-      within = rw c.loop-next.auto.slots at paid.within;
-      follows = λ work. Follows-then c.args.nfa.now (search_of c.args.input.now) (c.loop-next.invariant.follows work) (advances.1 work);
-      tried = omega (arith, c.loop-next.invariant.tried, c.advance.ensures.turns, paid.tried);
-    }
-
-pub returns-in-Ended-clause-bounded : goal.returns-in-Ended-clause-bounded
-returns-in-Ended-clause-bounded c =
-    omega (arith, c.loop-next.invariant.tried, c.advance.ensures.turns, marked_sum-le (weights c.args.nfa.now (search_of c.args.input.now)) c.loop-next.visited.bits)
-
-pub returns-in-Ended-clause-walks : goal.returns-in-Ended-clause-walks
-returns-in-Ended-clause-walks c = λ work.
-    let advances = rw c.in-Ended.is at c.in_ok-next.ensures.advances in
-    EndsAt-along c.args.nfa.now (search_of c.args.input.now) (c.loop-next.invariant.follows work) (advances work)
-
-pub returns-in-Over-clause-bounded : goal.returns-in-Over-clause-bounded
-returns-in-Over-clause-bounded c =
-    omega (arith, c.loop-next.invariant.tried, c.advance.ensures.turns, marked_sum-le (weights c.args.nfa.now (search_of c.args.input.now)) c.loop-next.visited.bits)
-
-pub returns-in-Over-clause-walks : goal.returns-in-Over-clause-walks
-returns-in-Over-clause-walks c =
-    let paid = rw c.in-Over.is at c.in_ok-next.ensures.paid in
-    let advances = rw c.in-Over.is at c.in_ok-next.ensures.advances in
-    record {
-      empty = advances.0;
-      follows = λ work. Follows-then c.args.nfa.now (search_of c.args.input.now) (c.loop-next.invariant.follows work) (advances.1 work);
-      spent = omega (arith, c.loop-next.invariant.tried, c.advance.ensures.turns, paid.tried);
+      empty = fails.empty;
+      follows = λ work.
+          Follows-then c.args.nfa.now (search_of c.args.input.now)
+          (Follows-then c.args.nfa.now (search_of c.args.input.now) (goes.follows work) (fails.follows (kept_onto c.in-Some.begun.slot work)))
+          (Follows-put_back c.args.nfa.now (search_of c.args.input.now) c.walk_on.new.visited work c.in-Some.begun.slot c.walk_on.new.slots c.put_back.new.slots c.put_back.ensures);
+      spent = omega (arith, goes.spent, fails.spent);
     }

@@ -6,7 +6,7 @@ use Rattle.nfa_search_base.specs.Exploring.{Item}
 use Rattle.nfa_search_base.specs.Exploring.Item.{Explore}
 use Rattle.nfa_search_base.specs.Turns.{marked_sum}
 use Rattle.nfa_engines.specs.Walk.{pair_of, work_onto, tries, IsPlace, IsWithin, Follows, weights}
-use Rattle.nfa_engines.proofs.backtrack.walk.walk.Given as goal
+use Rattle.nfa_engines.proofs.backtrack.walk.walk_on.Given as goal
 
 abbrev pub invariant-loop-next : goal.invariant-loop-next
 invariant-loop-next l = record {
