@@ -19,7 +19,7 @@ const NEVER: &str =
     "NFA { states: [Fail], anchored: StateID(0), unanchored: StateID(0), patterns: [], groups: GroupInfo { names: [], slot_len: 0 }, has_empty: false, utf8: false }";
 
 const UNUSED: &str =
-    "Cache { scratch: Scratch { stack: [], visited: Visited { blocks: [], used: 0, turns: Counter }, scans: Counter }, slots: [] }";
+    "Cache { scratch: Scratch { stack: [], visited: Visited { blocks: [], used: 0, turns: Counter }, scans: Counter }, slots: [], answered: Counter, refused: Counter, past_scans: Counter, past_turns: Counter }";
 
 #[test]
 fn an_iterator_over_an_engine_is_shown(rt: HostRuntime) -> Result<(), Fail> {
@@ -28,7 +28,7 @@ fn an_iterator_over_an_engine_is_shown(rt: HostRuntime) -> Result<(), Fail> {
     let mut cache = engine.create_cache(alloc);
     let matches = engine.try_find_iter(&mut cache, Input::new(b"ab"));
     let want = format!(in alloc;
-        "TryFindMatches {{ engine: BoundedBacktracker {{ config: Config {{ visited_capacity: None }}, first: FirstBytes {{ .. }}, nfa: {NEVER} }}, cache: {UNUSED}, searcher: {FRESH}, done: false }}"
+        "TryFindMatches {{ engine: BoundedBacktracker {{ config: Config {{ visited_capacity: None }}, first: FirstBytes {{ .. }}, nfa: {NEVER} }}, cache: {UNUSED}, searcher: {FRESH}, known: None, done: false }}"
     )?;
     assert_eq!(rt; format!(in alloc; "{matches:?}")?.as_str(), want.as_str());
     Ok(())
