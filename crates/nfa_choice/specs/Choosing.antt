@@ -1,0 +1,80 @@
+-- An engine above two others as a value, and which of the two a search is for.
+use Rattle.std.specs.Prelude.{◌≡◌, ◌⊎◌, ℕ, Bool, true, false, ◌&&◌, not, nat_le, MatchBool, Option, Some}
+use Rattle.regex_search_core.specs.Search.{Search}
+use Rattle.regex_search_core.specs.declared.search.MatchKind.{MatchKind}
+use Rattle.regex_search_core.specs.declared.search.MatchKind.TheVariants.{All, LeftmostFirst}
+use Rattle.thompson_nfa.specs.Automaton.{Automaton}
+use Rattle.nfa_search_base.specs.Paths.{span_len}
+use Rattle.nfa_search_base.specs.Walks.{Walk, shifted}
+use Rattle.nfa_engines.specs.Backtrack.{Backtracker, Work, AddsWork, CountsAnswer, CountsRefusal, max_haystack_len_of}
+use Rattle.nfa_pikevm.specs.Engines.{Pike, PikeCache, AddsWork as AddsPikeWork, Fits, SameNumbers, kind_of, refitted}
+use Rattle.nfa_choice.specs.declared.choose.Engine.{Engine}
+use Rattle.nfa_choice.specs.declared.choose.Engine.TheVariants as engine
+
+-- an NFA, what was set for the two engines, what their caches show, and which of them gave the last answer
+pub record Choosing : Type 0 where
+  pub nfa : Automaton
+  pub visited_capacity : Option ℕ
+  pub match_kind : Option MatchKind
+  pub back : Work
+  pub pike : PikeCache
+  pub ran : Option Engine
+
+-- its backtracker
+abbrev pub backtracker_of : Choosing → Backtracker
+backtracker_of c = record { nfa = c.nfa; visited_capacity = c.visited_capacity }
+
+-- its PikeVM, whose answers are its own
+abbrev pub pike_of : Choosing → Pike
+pike_of c = record { nfa = c.nfa; match_kind = c.match_kind }
+
+-- which of several matches is meant
+abbrev pub kind_in : Choosing → MatchKind
+kind_in c = kind_of (pike_of c)
+
+abbrev pub is_leftmost_first : MatchKind → Bool
+is_leftmost_first LeftmostFirst = true
+is_leftmost_first All = false
+
+-- the search is one for the backtracker: leftmost first, not the earliest match, and of a span that is short enough
+abbrev pub is_for_backtracker : Choosing → Search → Bool
+is_for_backtracker c x = is_leftmost_first (kind_in c) && (not x.earliest && nat_le (span_len x) (max_haystack_len_of (backtracker_of c)))
+
+-- the backtracker answered, and the PikeVM was not asked
+pub record BacktrackerRan (old new : Choosing) : Type 0 where
+  pub counts : CountsAnswer old.back new.back
+  pub work : AddsWork old.back new.back
+  pub ran : new.ran ≡ Some engine.Backtracker
+  pub pike : new.pike ≡ old.pike
+
+-- the backtracker was asked and refused, and the PikeVM answered
+pub record PikeStoodIn (old new : Choosing) : Type 0 where
+  pub counts : CountsRefusal old.back new.back
+  pub tried : AddsWork old.back new.back
+  pub work : AddsPikeWork old.pike new.pike
+  pub ran : new.ran ≡ Some engine.PikeVM
+
+-- the PikeVM answered, and the backtracker was not asked
+pub record PikeRan (old new : Choosing) : Type 0 where
+  pub back : new.back ≡ old.back
+  pub work : AddsPikeWork old.pike new.pike
+  pub ran : new.ran ≡ Some engine.PikeVM
+
+-- which engine ran, by the rule
+abbrev pub RunsByRule : Choosing → Search → Choosing → Type 0
+RunsByRule old x new = MatchBool (is_for_backtracker old x) (BacktrackerRan old new ⊎ PikeStoodIn old new) (PikeRan old new)
+
+-- one search, or a second one from one byte further on
+abbrev pub AsksOnceOrTwice : Choosing → Walk → Choosing → Type 0
+AsksOnceOrTwice old w new = RunsByRule old w.at new ⊎ ((between : Choosing) × RunsByRule old w.at between × RunsByRule between (shifted w).at new)
+
+-- what a search leaves as it is
+pub record KeepsEngines (old new : Choosing) : Type 0 where
+  pub nfa : new.nfa ≡ old.nfa
+  pub visited_capacity : new.visited_capacity ≡ old.visited_capacity
+  pub match_kind : new.match_kind ≡ old.match_kind
+  pub numbers : SameNumbers old.pike new.pike
+
+-- the cache of the PikeVM for another NFA: it is reset only where it does not fit
+abbrev pub IsRefitted : PikeCache → Automaton → PikeCache → Type 0
+IsRefitted old nfa new = (Fits old nfa × (new ≡ old)) ⊎ (¬ (Fits old nfa) × (new ≡ refitted old nfa))

@@ -1,0 +1,206 @@
+ghost use Rattle.std.specs.Prelude.{◌≡◌, None, Some, Ok, false, option_map, IfOk, OnOk, OnErr, IsOkUnless};
+ghost use Rattle.regex_search_core.specs.Search.{search_of};
+ghost use Rattle.regex_search_core.specs.Patterns.{number_of};
+ghost use Rattle.regex_search_core.specs.Found.{found_of};
+ghost use Rattle.nfa_search_base.specs.Paths.{IsAnswer, IsMatchAnswer, IsFoundAnswer};
+ghost use Rattle.nfa_engines.specs.Backtrack.{unused};
+ghost use Rattle.nfa_pikevm.specs.Engines.{cache_for};
+ghost use Rattle.nfa_choice.specs.Choosing.{is_for_backtracker, kind_in, IsRefitted, KeepsEngines, RunsByRule};
+
+mod find_iter;
+
+pub use find_iter::ChoiceMatches;
+use nfa_engines::backtrack::{self, BoundedBacktracker};
+use nfa_engines::error::SearchError;
+use nfa_engines::pikevm::{self, PikeVM};
+use regex_search_core::{Input, Match, MatchKind, NonMaxUsize, PatternID};
+use std::alloc::Global;
+use std::marker::Model;
+use thompson_nfa::NFA;
+
+/// One of the two engines.
+#[derive(Clone, Copy, Debug, PartialEq, Eq)]
+pub enum Engine {
+    /// The one that walks depth first.
+    Backtracker,
+    /// The one that follows all states side by side.
+    PikeVM,
+}
+
+/// A search of one NFA that takes the engine which suits, and never fails.
+///
+/// The backtracker runs where the match kind is leftmost first, `earliest` is off and the span is at most as long as
+/// [`BoundedBacktracker::max_haystack_len`]. Where it refuses, and everywhere else, the PikeVM runs. A contract sees the
+/// NFA, what was set for both, what both caches show, and which engine gave the last answer.
+#[derive(Debug, Drop)]
+pub struct Choice {
+    back: BoundedBacktracker,
+    pike: PikeVM,
+    back_cache: backtrack::Cache,
+    pike_cache: pikevm::Cache,
+    ran: Option<Engine>,
+}
+
+impl Model for Choice {
+    ghost use Rattle.std.specs.Prelude.{◌≡◌};
+    ghost use Rattle.nfa_pikevm.specs.Engines.{Fits};
+    ghost use Rattle.nfa_choice.specs.Choosing.{Choosing};
+
+    ghost Value = { Choosing };
+
+    ghost view = { λ c. record { nfa = c.back.nfa; visited_capacity = c.back.visited_capacity; match_kind = c.pike.match_kind; back = c.back_cache; pike = c.pike_cache; ran = c.ran } };
+
+    ghost invariant = { λ c. (c.pike.nfa ≡ c.back.nfa) × Fits c.pike_cache c.back.nfa };
+}
+
+/// A backtracker of the NFA.
+fn backtracker(config: backtrack::Config, nfa: NFA) -> BoundedBacktracker
+    ensures { result ≡ record { nfa = nfa; visited_capacity = config } }
+{
+    let mut builder = BoundedBacktracker::builder();
+    builder.configure(config);
+    match builder.build_from_nfa(nfa) {
+        Ok(engine) => engine,
+        Err(_) => unreachable!(),
+    }
+}
+
+/// A PikeVM of the NFA.
+fn pikevm(config: pikevm::Config, nfa: NFA) -> PikeVM
+    ensures { result ≡ record { nfa = nfa; match_kind = config } }
+{
+    let mut builder = PikeVM::builder();
+    builder.configure(config);
+    match builder.build_from_nfa(nfa) {
+        Ok(engine) => engine,
+        Err(_) => unreachable!(),
+    }
+}
+
+impl Choice {
+    /// Both engines over the NFA, each with its configuration and a cache. The error is `Memory` alone.
+    pub fn new(
+        alloc: Global,
+        nfa: NFA,
+        back: backtrack::Config,
+        pike: pikevm::Config,
+    ) -> Result<Choice, SearchError>
+        ensures made { IfOk result (λ made. made ≡ record {
+          nfa = nfa;
+          visited_capacity = back;
+          match_kind = pike;
+          back = unused;
+          pike = cache_for nfa;
+          ran = None;
+        }) }
+        ensures memory { IsOkUnless result SearchError.Memory }
+    {
+        let Ok(copy) = nfa.clone() else {
+            return Err(SearchError::Memory);
+        };
+        let back = backtracker(back, copy);
+        let pike = pikevm(pike, nfa);
+        let back_cache = back.create_cache(alloc);
+        let pike_cache = pike.create_cache(alloc)?;
+        Ok(Choice {
+            back,
+            pike,
+            back_cache,
+            pike_cache,
+            ran: None,
+        })
+    }
+
+    /// The engine whose answer the last search gave, also one of an iteration; none before the first.
+    pub fn ran(&self) -> Option<Engine>
+        ensures { result ≡ self.now.ran }
+    {
+        self.ran
+    }
+
+    /// Whether the search is one for the backtracker.
+    fn is_for_backtracker(&self, input: &Input<'_>) -> bool
+        ensures { result ≡ is_for_backtracker self.now (search_of input.now) }
+    {
+        self.pike.get_config().get_match_kind() == MatchKind::LeftmostFirst
+            && !input.get_earliest()
+            && input.get_span().len() <= self.back.max_haystack_len()
+    }
+
+    /// Searches, and fills the slots with byte offsets, as both engines do: any number may be handed in; those past the
+    /// NFA's are none, and so is every slot after no match.
+    pub fn search_slots(
+        &mut self,
+        input: &Input<'_>,
+        slots: &mut [Option<NonMaxUsize>],
+    ) -> Option<PatternID>
+        ensures answer { IsAnswer self.old.nfa (kind_in self.old) (search_of input.now).earliest (search_of input.now) (option_map number_of result) slots.new }
+        ensures runs { RunsByRule self.old (search_of input.now) self.new }
+        ensures keeps { KeepsEngines self.old self.new }
+    {
+        if self.is_for_backtracker(input) {
+            if let Ok(pattern) = self
+                .back
+                .try_search_slots(&mut self.back_cache, input, slots)
+            {
+                self.ran = Some(Engine::Backtracker);
+                return pattern;
+            }
+        }
+        self.ran = Some(Engine::PikeVM);
+        self.pike.search_slots(&mut self.pike_cache, input, slots)
+    }
+
+    /// The match that a search answers.
+    pub fn find<'h>(&mut self, input: Input<'h>) -> Option<Match>
+        ensures answer { IsMatchAnswer self.old.nfa (kind_in self.old) (search_of input.entry).earliest (search_of input.entry) (option_map found_of result) }
+        ensures runs { RunsByRule self.old (search_of input.entry) self.new }
+        ensures keeps { KeepsEngines self.old self.new }
+    {
+        if self.is_for_backtracker(&input) {
+            if let Ok(found) = self.back.try_find(&mut self.back_cache, input) {
+                self.ran = Some(Engine::Backtracker);
+                return found;
+            }
+        }
+        self.ran = Some(Engine::PikeVM);
+        self.pike.find(&mut self.pike_cache, input)
+    }
+
+    /// Whether a search of the input without `earliest` finds a match.
+    pub fn is_match<'h>(&mut self, input: Input<'h>) -> bool
+        ensures answer { IsFoundAnswer self.old.nfa (kind_in self.old) false (search_of input.entry) result }
+        ensures runs { RunsByRule self.old (search_of input.entry) self.new }
+        ensures keeps { KeepsEngines self.old self.new }
+    {
+        if self.is_for_backtracker(&input) {
+            if let Ok(found) = self.back.try_is_match(&mut self.back_cache, input) {
+                self.ran = Some(Engine::Backtracker);
+                return found;
+            }
+        }
+        self.ran = Some(Engine::PikeVM);
+        self.pike.is_match(&mut self.pike_cache, input)
+    }
+
+    /// From here on the searches are over this NFA, with the configurations as they were set. The error is `Memory`
+    /// alone; the searches then are over the old NFA, as before.
+    pub fn replace(&mut self, nfa: NFA) -> Result<(), SearchError>
+        ensures made { OnOk result (self.new ≡ record self.old { nfa = nfa; pike = self.new.pike }) }
+        ensures refitted { OnOk result (IsRefitted self.old.pike nfa self.new.pike) }
+        ensures kept { OnErr result (self.new ≡ self.old) }
+        ensures memory { IsOkUnless result SearchError.Memory }
+    {
+        let Ok(copy) = nfa.clone() else {
+            return Err(SearchError::Memory);
+        };
+        let back = backtracker(*self.back.get_config(), copy);
+        let pike = pikevm(*self.pike.get_config(), nfa);
+        if !self.pike_cache.fits(&pike) {
+            self.pike_cache.reset(&pike)?;
+        }
+        self.back = back;
+        self.pike = pike;
+        Ok(())
+    }
+}
