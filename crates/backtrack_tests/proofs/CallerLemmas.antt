@@ -8,10 +8,10 @@ use Rattle.regex_search_core.specs.Found.{Found}
 use Rattle.regex_search_core.specs.Search.{Search}
 use Rattle.regex_search_core.specs.declared.search.Match.{Match}
 use Rattle.nfa_search_base.specs.declared.error.SearchError.{SearchError}
-use Rattle.nfa_engines.specs.Backtrack.{Backtracker}
-use Rattle.nfa_engines.specs.FindMatches.{find_steps, FindsAll}
-use Rattle.nfa_engines.specs.Finding.{GivesMatches, all_matches}
-use Rattle.nfa_engines.specs.declared.backtrack.find_iter.TryFindMatches.{TryFindMatches}
+use Rattle.nfa_backtrack.specs.Backtrack.{Backtracker}
+use Rattle.nfa_backtrack.specs.FindMatches.{find_steps, FindsAll}
+use Rattle.nfa_backtrack.specs.Finding.{GivesMatches, all_matches}
+use Rattle.nfa_backtrack.specs.declared.find_iter.TryFindMatches.{TryFindMatches}
 use Rattle.backtrack_tests.specs.Callers.{AreAllOf}
 
 -- the law of an iterator over the matches of x

@@ -6,8 +6,8 @@ use Rattle.regex_search_core.specs.declared.search.Match.{Match}
 use Rattle.nfa_search_base.specs.Items.{item_by}
 use Rattle.nfa_search_base.specs.Walks.{Answer}
 use Rattle.nfa_search_base.specs.declared.error.SearchError.{SearchError}
-use Rattle.nfa_engines.specs.Backtrack.{Backtracker}
-use Rattle.nfa_engines.specs.Finding.{GivesMatches, all_matches, AreItems}
+use Rattle.nfa_backtrack.specs.Backtrack.{Backtracker}
+use Rattle.nfa_backtrack.specs.Finding.{GivesMatches, all_matches, AreItems}
 
 -- whichever function gives the match of each search, these are the items of its list, as far as memory was there
 abbrev pub AreAllOf : Backtracker → Search → List (Result Match SearchError) → Type 0

@@ -6,7 +6,7 @@ ghost use Rattle.regex_search_core.specs.Found.{Found, found_of};
 ghost use Rattle.regex_search_core.specs.Search.{search_of, whole};
 ghost use Rattle.regex_search_core.specs.declared.search.MatchKind.TheVariants.{LeftmostFirst};
 ghost use Rattle.nfa_search_base.specs.Lists.{AreMatches, AreFirstMatches, IsInside};
-ghost use Rattle.nfa_engines.specs.Runs.{AreAllItems, AreFirstItems};
+ghost use Rattle.nfa_backtrack.specs.Runs.{AreAllItems, AreFirstItems};
 
 use nfa_engines::backtrack::{BoundedBacktracker, Cache};
 use nfa_engines::error::SearchError;

@@ -12,9 +12,9 @@ use Rattle.regex_search_core.specs.declared.search.MatchKind.{MatchKind}
 use Rattle.thompson_nfa.specs.Automaton.{Automaton}
 use Rattle.nfa_search_base.specs.Asking.{SameButStart}
 use Rattle.nfa_search_base.specs.Items.{Item, matches_in, greedy, greedy_unless}
-use Rattle.nfa_search_base.specs.Paths.{slot_row, path_pattern, IsMatchAnswer}
+use Rattle.nfa_paths.specs.Paths.{slot_row, path_pattern, IsMatchAnswer}
 use Rattle.nfa_search_base.specs.Walks.{Walk, Answer, fresh, span_of}
-use Rattle.nfa_search_base.proofs.AnswerLemmas.{search_answer-unique}
+use Rattle.nfa_paths.proofs.AnswerLemmas.{search_answer-unique}
 use Rattle.nfa_search_base.proofs.AskingLemmas.{same_start-self, same_start-then}
 use Rattle.nfa_search_base.proofs.GreedyLemmas.{IsTurnOf, turn-computes, yields-greedy}
 use Rattle.nfa_pikevm.specs.Engines.{Pike, kind_of}

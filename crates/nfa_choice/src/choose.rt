@@ -2,8 +2,8 @@ ghost use Rattle.std.specs.Prelude.{◌≡◌, None, Some, Ok, false, option_map
 ghost use Rattle.regex_search_core.specs.Search.{search_of};
 ghost use Rattle.regex_search_core.specs.Patterns.{number_of};
 ghost use Rattle.regex_search_core.specs.Found.{found_of};
-ghost use Rattle.nfa_search_base.specs.Paths.{IsAnswer, IsMatchAnswer, IsFoundAnswer};
-ghost use Rattle.nfa_engines.specs.Backtrack.{unused};
+ghost use Rattle.nfa_paths.specs.Paths.{IsAnswer, IsMatchAnswer, IsFoundAnswer};
+ghost use Rattle.nfa_backtrack.specs.Backtrack.{unused};
 ghost use Rattle.nfa_pikevm.specs.Engines.{cache_for};
 ghost use Rattle.nfa_choice.specs.Choosing.{is_for_backtracker, kind_in, IsRefitted, KeepsEngines, RunsByRule};
 

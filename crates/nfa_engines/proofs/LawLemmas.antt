@@ -7,9 +7,9 @@ use Rattle.regex_search_core.specs.Groups.{slot_count}
 use Rattle.regex_search_core.specs.Search.{Search}
 use Rattle.regex_search_core.specs.declared.search.MatchKind.{MatchKind}
 use Rattle.thompson_nfa.specs.Automaton.{Automaton, IsAutomaton}
-use Rattle.nfa_search_base.specs.Paths.{slot_row, path_pattern, IsAnswer}
-use Rattle.nfa_search_base.proofs.AnswerLemmas.{search_answer-unique}
-use Rattle.nfa_search_base.proofs.PatternLemmas.{slot_row-more, slot_row-take}
+use Rattle.nfa_paths.specs.Paths.{slot_row, path_pattern, IsAnswer}
+use Rattle.nfa_paths.proofs.AnswerLemmas.{search_answer-unique}
+use Rattle.nfa_paths.proofs.PatternLemmas.{slot_row-more, slot_row-take}
 
 module _ (nfa : Automaton) (x : Search) (kind : MatchKind) (earliest : Bool) where
   pub fewer-slots : (p q : Option ℕ) (s t : List (Option ℕ)) → IsAnswer nfa kind earliest x p s → IsAnswer nfa kind earliest x q t → length s ≤ length t

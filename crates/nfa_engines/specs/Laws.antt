@@ -4,8 +4,8 @@ use Rattle.regex_search_core.specs.Groups.{slot_count}
 use Rattle.regex_search_core.specs.Search.{Search}
 use Rattle.regex_search_core.specs.declared.search.MatchKind.{MatchKind}
 use Rattle.thompson_nfa.specs.Automaton.{Automaton, IsAutomaton}
-use Rattle.nfa_search_base.specs.Graphs.{Pair, PathTo, ComesBefore}
-use Rattle.nfa_search_base.specs.Paths.{edges, starts, IsMatch, is_utf8_empty, IsScanAnswer, IsSearchAnswer, IsAnswer}
+use Rattle.nfa_paths.specs.Graphs.{Pair, PathTo, ComesBefore}
+use Rattle.nfa_paths.specs.Paths.{edges, starts, IsMatch, is_utf8_empty, IsScanAnswer, IsSearchAnswer, IsAnswer}
 
 -- two answers of one scan are one
 abbrev pub OneScanAnswer : Type 0

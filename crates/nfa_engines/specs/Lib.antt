@@ -1,12 +1,9 @@
-pub mod Backtrack
-pub mod Begin
-pub mod Bits
-pub mod Finding
-pub mod FindMatches
 pub mod Laws
-pub mod Walk
-pub use Rattle.nfa_search_base.specs.Graphs
-pub use Rattle.nfa_search_base.specs.Paths
+pub use Rattle.nfa_paths.specs.Graphs
+pub use Rattle.nfa_paths.specs.Paths
+pub use Rattle.nfa_paths.specs.Overlaps
+pub use Rattle.nfa_search_base.specs.Lists
+pub use Rattle.nfa_search_base.specs.Walks
 pub use Rattle.regex_search_core.specs.Boundary
 pub use Rattle.regex_search_core.specs.Found
 pub use Rattle.regex_search_core.specs.Groups
@@ -14,4 +11,3 @@ pub use Rattle.regex_search_core.specs.Patterns
 pub use Rattle.regex_search_core.specs.Search
 pub use Rattle.regex_search_core.specs.Slots
 pub use Rattle.thompson_nfa.specs.Automaton
-pub mod Runs

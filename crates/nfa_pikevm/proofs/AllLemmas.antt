@@ -9,15 +9,15 @@ use Rattle.regex_search_core.specs.declared.primitives.PatternID.{PatternID}
 use Rattle.regex_search_core.specs.declared.search.HalfMatch.{HalfMatch}
 use Rattle.regex_search_core.specs.declared.search.MatchKind.TheVariants.{All as AllMatches, LeftmostFirst}
 use Rattle.thompson_nfa.specs.Automaton.{Automaton}
-use Rattle.nfa_search_base.specs.Graphs.{Pair, In}
-use Rattle.nfa_search_base.specs.Exploring.{Item, Slots, Found, round}
-use Rattle.nfa_search_base.specs.Exploring.Item.{Explore, Load}
-use Rattle.nfa_search_base.specs.Kinds.{is_resting, NoMatch, IsFoundBy, NoneBefore, LastBefore, last_match, IsFront, Scanning}
-use Rattle.nfa_search_base.specs.Paths.{node_at, pattern_of, edges, is_match, capture, starts, IsScanAnswer}
-use Rattle.nfa_search_base.proofs.KindsLemmas.{first_match-is, last_match-is}
-use Rattle.nfa_search_base.proofs.ScanAnswerLemmas.{edges-onward, seeds-later, Scanned-matches, scan_earliest_last-found}
-use Rattle.nfa_search_base.proofs.ScanLemmas.{NoneBefore-step, LastBefore-step}
-use Rattle.nfa_search_base.proofs.ScanningLemmas.{Scanning-front, Scanning-round}
+use Rattle.nfa_paths.specs.Graphs.{Pair, In}
+use Rattle.nfa_paths.specs.Exploring.{Item, Slots, Found, round}
+use Rattle.nfa_paths.specs.Exploring.Item.{Explore, Load}
+use Rattle.nfa_paths.specs.Kinds.{is_resting, NoMatch, IsFoundBy, NoneBefore, LastBefore, last_match, IsFront, Scanning}
+use Rattle.nfa_paths.specs.Paths.{node_at, pattern_of, edges, is_match, capture, starts, IsScanAnswer}
+use Rattle.nfa_paths.proofs.KindsLemmas.{first_match-is, last_match-is}
+use Rattle.nfa_paths.proofs.ScanAnswerLemmas.{edges-onward, seeds-later, Scanned-matches, scan_earliest_last-found}
+use Rattle.nfa_paths.proofs.ScanLemmas.{NoneBefore-step, LastBefore-step}
+use Rattle.nfa_paths.proofs.ScanningLemmas.{Scanning-front, Scanning-round}
 use Rattle.nfa_pikevm.specs.Rows.{Met}
 use Rattle.nfa_pikevm.specs.States.{Front, tasks, unmarked, meant, GoesOn, SeenAt, Crosses}
 use Rattle.nfa_pikevm.specs.Scans.{blank, starts_from, half_found, IsSoFar, ScansAll}

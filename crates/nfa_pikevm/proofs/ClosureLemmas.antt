@@ -6,12 +6,12 @@ use Rattle.std.proofs.lemmas.List.{length-take-le}
 use Rattle.regex_search_core.specs.Search.{Search}
 use Rattle.regex_search_core.specs.declared.primitives.PatternID.{PatternID}
 use Rattle.thompson_nfa.specs.Automaton.{Automaton}
-use Rattle.nfa_search_base.specs.Graphs.{Pair}
-use Rattle.nfa_search_base.specs.Paths.{edges, is_match}
-use Rattle.nfa_search_base.specs.Exploring.{Item, Slots, Found}
-use Rattle.nfa_search_base.specs.Exploring.Item.{Explore as ToExplore, Load as ToLoad}
-use Rattle.nfa_search_base.specs.Kinds.{first_match, before_match, last_match, NoMatch}
-use Rattle.nfa_search_base.proofs.AnswerLemmas.{IsMatch-edges}
+use Rattle.nfa_paths.specs.Graphs.{Pair}
+use Rattle.nfa_paths.specs.Paths.{edges, is_match}
+use Rattle.nfa_paths.specs.Exploring.{Item, Slots, Found}
+use Rattle.nfa_paths.specs.Exploring.Item.{Explore as ToExplore, Load as ToLoad}
+use Rattle.nfa_paths.specs.Kinds.{first_match, before_match, last_match, NoMatch}
+use Rattle.nfa_paths.proofs.AnswerLemmas.{IsMatch-edges}
 use Rattle.nfa_pikevm.specs.Rows.{Met, Active}
 use Rattle.nfa_pikevm.specs.States.{Front, moves, work_onto, with_state, state_on, tries, meant, IsHit, Follows, Formed, Paid, HasRoom, Enters, Arrives}
 use Rattle.nfa_pikevm.specs.declared.closure.Turn.{Turn}

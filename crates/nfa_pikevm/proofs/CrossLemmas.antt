@@ -10,15 +10,15 @@ use borrow.Rule.Slice.PartMut.{put_mid}
 use Rattle.regex_search_core.specs.Search.{Search}
 use Rattle.regex_search_core.specs.declared.primitives.PatternID.{PatternID}
 use Rattle.thompson_nfa.specs.Automaton.{Automaton}
-use Rattle.nfa_search_base.specs.Graphs.{Pair}
-use Rattle.nfa_search_base.specs.Paths.{degree, edges, is_match, capture}
-use Rattle.nfa_search_base.specs.Exploring.{Item, Slots, Found}
-use Rattle.nfa_search_base.specs.Exploring.Item.{Explore, Load}
-use Rattle.nfa_search_base.specs.Kinds.{first_match, before_match, last_match}
-use Rattle.nfa_search_base.specs.Turns.{marked_sum}
-use Rattle.nfa_search_base.proofs.SearchLemmas.{Answer-load, AnswerBehind-along}
-use Rattle.nfa_search_base.proofs.SearchingLemmas.{Searching-load}
-use Rattle.nfa_search_base.proofs.TurnLemmas.{marked_sum-clear}
+use Rattle.nfa_paths.specs.Graphs.{Pair}
+use Rattle.nfa_paths.specs.Paths.{degree, edges, is_match, capture}
+use Rattle.nfa_paths.specs.Exploring.{Item, Slots, Found}
+use Rattle.nfa_paths.specs.Exploring.Item.{Explore, Load}
+use Rattle.nfa_paths.specs.Kinds.{first_match, before_match, last_match}
+use Rattle.nfa_paths.specs.Turns.{marked_sum}
+use Rattle.nfa_paths.proofs.SearchLemmas.{Answer-load, AnswerBehind-along}
+use Rattle.nfa_paths.proofs.SearchingLemmas.{Searching-load}
+use Rattle.nfa_paths.proofs.TurnLemmas.{marked_sum-clear}
 use Rattle.nfa_pikevm.specs.Rows.{Met, Active, items_of}
 use Rattle.nfa_pikevm.specs.Engines.{room_of}
 use Rattle.nfa_pikevm.specs.States.{Front, moves, tasks, unmarked, one_of, meant, IsHit, GoesOn, Formed, HasRoom, Paid, Follows, Leads, Arrives, Crosses}

@@ -7,17 +7,17 @@ use Rattle.std.proofs.lemmas.Bool.{cases_Bool, cases_lt}
 use Rattle.regex_search_core.specs.Search.{Search}
 use Rattle.regex_search_core.specs.declared.search.MatchKind.TheVariants.{LeftmostFirst}
 use Rattle.thompson_nfa.specs.Automaton.{Automaton}
-use Rattle.nfa_search_base.specs.Graphs.{Pair, In, WantedAt, IsFirstTo, IsFirstPath}
-use Rattle.nfa_search_base.specs.FirstPaths.{Path, IsFirst}
-use Rattle.nfa_search_base.specs.FirstPaths.Path.{stop, go}
-use Rattle.nfa_search_base.specs.Exploring.{Item, Slots, AnswerBehind, found}
-use Rattle.nfa_search_base.specs.Kinds.{Passes, IsFoundBy, found_along, NoneBefore, first_match, is_resting, Scanning}
-use Rattle.nfa_search_base.specs.Paths.{edges, is_match, capture, starts, IsScanAnswer}
-use Rattle.nfa_search_base.proofs.AnswerLemmas.{IsMatch-capture, never_none}
-use Rattle.nfa_search_base.proofs.KindsLemmas.{is_plain, test, test-true, true-test}
-use Rattle.nfa_search_base.proofs.PathLemmas.{IsFirst-target}
-use Rattle.nfa_search_base.proofs.ScanAnswerLemmas.{edges-onward, edges-rise, Scanned-matches}
-use Rattle.nfa_search_base.proofs.ScanLemmas.{IsFirstPath-found}
+use Rattle.nfa_paths.specs.Graphs.{Pair, In, WantedAt, IsFirstTo, IsFirstPath}
+use Rattle.nfa_paths.specs.FirstPaths.{Path, IsFirst}
+use Rattle.nfa_paths.specs.FirstPaths.Path.{stop, go}
+use Rattle.nfa_paths.specs.Exploring.{Item, Slots, AnswerBehind, found}
+use Rattle.nfa_paths.specs.Kinds.{Passes, IsFoundBy, found_along, NoneBefore, first_match, is_resting, Scanning}
+use Rattle.nfa_paths.specs.Paths.{edges, is_match, capture, starts, IsScanAnswer}
+use Rattle.nfa_paths.proofs.AnswerLemmas.{IsMatch-capture, never_none}
+use Rattle.nfa_paths.proofs.KindsLemmas.{is_plain, test, test-true, true-test}
+use Rattle.nfa_paths.proofs.PathLemmas.{IsFirst-target}
+use Rattle.nfa_paths.proofs.ScanAnswerLemmas.{edges-onward, edges-rise, Scanned-matches}
+use Rattle.nfa_paths.proofs.ScanLemmas.{IsFirstPath-found}
 use Rattle.nfa_pikevm.specs.States.{Front}
 
 module _ (nfa : Automaton) (x : Search) (e : ℕ) where

@@ -6,10 +6,10 @@ use Rattle.std.specs.List.{slice_get}
 use Rattle.regex_search_core.specs.Search.{Search}
 use Rattle.thompson_nfa.specs.Automaton.{Automaton, Node}
 use Rattle.thompson_nfa.specs.Automaton.Node.{ByteRange, Sparse, Dense, Look, Union, BinaryUnion, Capture, Fail, Match}
-use Rattle.nfa_search_base.specs.Graphs.{Pair}
-use Rattle.nfa_search_base.specs.Paths.{node_at, edges, edges_of, byte_at, target_on}
-use Rattle.nfa_search_base.specs.Exploring.{Slots}
-use Rattle.nfa_search_base.specs.Kinds.{rests}
+use Rattle.nfa_paths.specs.Graphs.{Pair}
+use Rattle.nfa_paths.specs.Paths.{node_at, edges, edges_of, byte_at, target_on}
+use Rattle.nfa_paths.specs.Exploring.{Slots}
+use Rattle.nfa_paths.specs.Kinds.{rests}
 use Rattle.nfa_pikevm.specs.States.{moves}
 
 -- what a state's number names

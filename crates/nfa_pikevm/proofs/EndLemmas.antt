@@ -9,17 +9,17 @@ use Rattle.regex_search_core.specs.declared.search.HalfMatch.{HalfMatch}
 use Rattle.regex_search_core.specs.declared.search.MatchKind.{MatchKind}
 use Rattle.regex_search_core.specs.declared.search.MatchKind.TheVariants.{All as AllMatches, LeftmostFirst}
 use Rattle.thompson_nfa.specs.Automaton.{Automaton}
-use Rattle.nfa_search_base.specs.Graphs.{Pair}
-use Rattle.nfa_search_base.specs.FirstPaths.{IsFirst}
-use Rattle.nfa_search_base.specs.Exploring.{Item, Slots, Found, seeds}
-use Rattle.nfa_search_base.specs.Exploring.Item.{Load}
-use Rattle.nfa_search_base.specs.Kinds.{is_resting, IsFoundBy, NoneBefore, EndsBefore, Scanning}
-use Rattle.nfa_search_base.specs.Paths.{edges, is_match, capture, starts, IsScanAnswer}
-use Rattle.nfa_search_base.proofs.SearchingLemmas.{Searching-load, Searching-done}
-use Rattle.nfa_search_base.proofs.ScanAnswerLemmas.{Scanned-matches, starts-from, EndsBefore-span, IsFoundBy-none, IsFoundBy-some, scan_first-found, scan_last-found}
-use Rattle.nfa_search_base.proofs.ScanLemmas.{IsFoundBy-more, NoneBefore-start, LastBefore-start, EndsBefore-over}
-use Rattle.nfa_search_base.proofs.ScanningLemmas.{Scanning-load, Scanning-over}
-use Rattle.nfa_engine_parts.specs.FirstBytes.{IsFirstBytes}
+use Rattle.nfa_paths.specs.Graphs.{Pair}
+use Rattle.nfa_paths.specs.FirstPaths.{IsFirst}
+use Rattle.nfa_paths.specs.Exploring.{Item, Slots, Found, seeds}
+use Rattle.nfa_paths.specs.Exploring.Item.{Load}
+use Rattle.nfa_paths.specs.Kinds.{is_resting, IsFoundBy, NoneBefore, EndsBefore, Scanning}
+use Rattle.nfa_paths.specs.Paths.{edges, is_match, capture, starts, IsScanAnswer}
+use Rattle.nfa_paths.proofs.SearchingLemmas.{Searching-load, Searching-done}
+use Rattle.nfa_paths.proofs.ScanAnswerLemmas.{Scanned-matches, starts-from, EndsBefore-span, IsFoundBy-none, IsFoundBy-some, scan_first-found, scan_last-found}
+use Rattle.nfa_paths.proofs.ScanLemmas.{IsFoundBy-more, NoneBefore-start, LastBefore-start, EndsBefore-over}
+use Rattle.nfa_paths.proofs.ScanningLemmas.{Scanning-load, Scanning-over}
+use Rattle.nfa_scanning.specs.FirstBytes.{IsFirstBytes}
 use Rattle.nfa_pikevm.specs.Rows.{Met}
 use Rattle.nfa_pikevm.specs.States.{tasks, unmarked, SeenAt, SearchingAt, Crosses}
 use Rattle.nfa_pikevm.specs.Scans.{blank, starts_from, joined, half_found, IsPassed, Joins, AreStarts, IsSoFar, Scans, SearchesFirst, ScansAll}

@@ -13,11 +13,11 @@ use Rattle.regex_search_core.specs.Slots.{match_of}
 use Rattle.regex_search_core.specs.declared.search.HalfMatch.{HalfMatch}
 use Rattle.regex_search_core.specs.declared.search.MatchKind.{MatchKind}
 use Rattle.thompson_nfa.specs.Automaton.{Automaton, IsAutomaton}
-use Rattle.nfa_search_base.specs.Graphs.{Pair}
-use Rattle.nfa_search_base.specs.Paths.{path_pattern, slot_row, IsAnswer, IsMatchAnswer, IsWork}
-use Rattle.nfa_search_base.specs.Exploring.{Slots}
-use Rattle.nfa_search_base.proofs.PatternLemmas.{slot_row-more, match-along-path}
-use Rattle.nfa_search_base.proofs.InsideLemmas.{match-within, match-pattern, slots-within, pattern-within}
+use Rattle.nfa_paths.specs.Graphs.{Pair}
+use Rattle.nfa_paths.specs.Paths.{path_pattern, slot_row, IsAnswer, IsMatchAnswer, IsWork}
+use Rattle.nfa_paths.specs.Exploring.{Slots}
+use Rattle.nfa_paths.proofs.PatternLemmas.{slot_row-more, match-along-path}
+use Rattle.nfa_paths.proofs.InsideLemmas.{match-within, match-pattern, slots-within, pattern-within}
 use Rattle.nfa_pikevm.specs.Scans.{blank, Searched}
 use Rattle.nfa_search_base.specs.Lists.{IsInside, IsSlotInside}
 

@@ -15,16 +15,16 @@ use Rattle.thompson_nfa.specs.Automaton.Node.{Look, Union, BinaryUnion, Capture,
 use Rattle.thompson_nfa.specs.Looks.{look_holds}
 use Rattle.thompson_nfa.specs.declared.look.Look as looks
 use Rattle.thompson_nfa.specs.declared.state.State.{State}
-use Rattle.nfa_search_base.specs.Graphs.{Pair, In}
-use Rattle.nfa_search_base.specs.Paths.{degree, node_at, pattern_of, slot_of, edges, edges_of, byte_at, target_on, is_match}
-use Rattle.nfa_search_base.specs.Exploring.{Item, Slots}
-use Rattle.nfa_search_base.specs.Exploring.Item.{Explore, Load}
-use Rattle.nfa_search_base.specs.Kinds.{rests}
-use Rattle.nfa_search_base.specs.Turns.{marked_sum}
-use Rattle.nfa_search_base.proofs.TurnLemmas.{marked_sum-set, marked_sum-le}
-use Rattle.nfa_search_base.proofs.ScanningLemmas.{once-keep}
-use Rattle.nfa_search_base.proofs.ScanAnswerLemmas.{edges-onward, edges-rise}
-use Rattle.nfa_engine_parts.proofs.TargetLemmas.{target-degree}
+use Rattle.nfa_paths.specs.Graphs.{Pair, In}
+use Rattle.nfa_paths.specs.Paths.{degree, node_at, pattern_of, slot_of, edges, edges_of, byte_at, target_on, is_match}
+use Rattle.nfa_paths.specs.Exploring.{Item, Slots}
+use Rattle.nfa_paths.specs.Exploring.Item.{Explore, Load}
+use Rattle.nfa_paths.specs.Kinds.{rests}
+use Rattle.nfa_paths.specs.Turns.{marked_sum}
+use Rattle.nfa_paths.proofs.TurnLemmas.{marked_sum-set, marked_sum-le}
+use Rattle.nfa_paths.proofs.ScanningLemmas.{once-keep}
+use Rattle.nfa_paths.proofs.ScanAnswerLemmas.{edges-onward, edges-rise}
+use Rattle.nfa_scanning.proofs.TargetLemmas.{target-degree}
 use Rattle.nfa_pikevm.specs.Rows.{Met, Active}
 use Rattle.nfa_pikevm.specs.Engines.{room_of}
 use Rattle.nfa_pikevm.specs.States.{Front, moves, work_onto, with_state, tries, state_on, one_of, IsWithin, Follows, Formed, Paid, HasRoom, Enters, IsMet}

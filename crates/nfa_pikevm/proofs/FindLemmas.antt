@@ -10,13 +10,13 @@ use Rattle.regex_search_core.specs.declared.search.MatchKind.{MatchKind}
 use Rattle.thompson_nfa.specs.Automaton.{Automaton}
 use Rattle.nfa_search_base.specs.Asking.{SameButStart}
 use Rattle.nfa_search_base.specs.Items.{Item, matches_in, greedy, greedy_unless}
-use Rattle.nfa_search_base.specs.Known.{IsSureMatch}
-use Rattle.nfa_search_base.specs.Paths.{IsMatchAnswer}
+use Rattle.nfa_paths.specs.Known.{IsSureMatch}
+use Rattle.nfa_paths.specs.Paths.{IsMatchAnswer}
 use Rattle.nfa_search_base.specs.Walks.{Walk, Answer, fresh, after, LiesIn, span_of}
 use Rattle.nfa_search_base.proofs.AskingLemmas.{same_start-self, same_start-then}
 use Rattle.nfa_search_base.proofs.GreedyLemmas.{IsTurnOf, turn-computes, yields-greedy}
-use Rattle.nfa_search_base.proofs.InsideLemmas.{match-within}
-use Rattle.nfa_search_base.proofs.KnownLemmas.{match-unique, match-sure, sure-match}
+use Rattle.nfa_paths.proofs.InsideLemmas.{match-within}
+use Rattle.nfa_paths.proofs.KnownLemmas.{match-unique, match-sure, sure-match}
 use Rattle.nfa_pikevm.specs.Engines.{Pike, kind_of}
 use Rattle.nfa_pikevm.specs.FindMatches.{TakesFindTurn, find_engine, find_walk, find_steps, item}
 use Rattle.nfa_pikevm.specs.Finding.{Finds, IsFindOf, IsKnown, GivesMatches, all_matches, answer_of, place}

@@ -5,12 +5,12 @@ use Rattle.std.proofs.Math.Decide.{ℕ_discrete}
 use Rattle.std.proofs.lemmas.List.{get_or_default}
 use Rattle.regex_search_core.specs.Search.{Search}
 use Rattle.thompson_nfa.specs.Automaton.{Automaton}
-use Rattle.nfa_search_base.specs.Graphs.{Pair, In}
-use Rattle.nfa_search_base.specs.Paths.{edges, is_match, capture}
-use Rattle.nfa_search_base.specs.Exploring.{Item, Slots, Found, Answer, Searching}
-use Rattle.nfa_search_base.specs.Exploring.Item.{Explore, Restore, Load}
-use Rattle.nfa_search_base.proofs.SearchLemmas.{AnswerBehind-along}
-use Rattle.nfa_search_base.proofs.SearchingLemmas.{Searching-restore, Searching-load, Searching-marked, Searching-plain, Searching-write, Searching-unkept, Searching-keep}
+use Rattle.nfa_paths.specs.Graphs.{Pair, In}
+use Rattle.nfa_paths.specs.Paths.{edges, is_match, capture}
+use Rattle.nfa_paths.specs.Exploring.{Item, Slots, Found, Answer, Searching}
+use Rattle.nfa_paths.specs.Exploring.Item.{Explore, Restore, Load}
+use Rattle.nfa_paths.proofs.SearchLemmas.{AnswerBehind-along}
+use Rattle.nfa_paths.proofs.SearchingLemmas.{Searching-restore, Searching-load, Searching-marked, Searching-plain, Searching-write, Searching-unkept, Searching-keep}
 use Rattle.nfa_pikevm.specs.Rows.{Met}
 use Rattle.nfa_pikevm.specs.States.{Front, SeenAt, AreMatches, Follows}
 

@@ -10,13 +10,13 @@ use Rattle.std.proofs.lemmas.List.Sums.{sum-map, sum_by-cons}
 use Rattle.regex_search_core.specs.Search.{Search}
 use Rattle.thompson_nfa.specs.Automaton.{Automaton, Node, LeadsBelow}
 use Rattle.thompson_nfa.specs.Automaton.Node.{ByteRange, Sparse, Dense, Look, Union, BinaryUnion, Capture, Fail, Match}
-use Rattle.nfa_search_base.specs.Graphs.{Pair, In}
-use Rattle.nfa_search_base.specs.Exploring.{Slots, Found}
-use Rattle.nfa_search_base.specs.Kinds.{rests, is_resting, NoMatch, first_match, before_match, last_match}
-use Rattle.nfa_search_base.specs.Paths.{degree, node_at, slot_of, edges, edges_of, byte_at, target_on, capture, turn_weight, span_len}
-use Rattle.nfa_search_base.proofs.ScanAnswerLemmas.{edges-rise}
-use Rattle.nfa_search_base.proofs.TurnLemmas.{marked_sum-le}
-use Rattle.nfa_engine_parts.proofs.TargetLemmas.{target-below, byte_at-within}
+use Rattle.nfa_paths.specs.Graphs.{Pair, In}
+use Rattle.nfa_paths.specs.Exploring.{Slots, Found}
+use Rattle.nfa_paths.specs.Kinds.{rests, is_resting, NoMatch, first_match, before_match, last_match}
+use Rattle.nfa_paths.specs.Paths.{degree, node_at, slot_of, edges, edges_of, byte_at, target_on, capture, turn_weight, span_len}
+use Rattle.nfa_paths.proofs.ScanAnswerLemmas.{edges-rise}
+use Rattle.nfa_paths.proofs.TurnLemmas.{marked_sum-le}
+use Rattle.nfa_scanning.proofs.TargetLemmas.{target-below, byte_at-within}
 use Rattle.nfa_pikevm.specs.Rows.{Met}
 use Rattle.nfa_pikevm.specs.States.{Front, moves, unmarked, one_of, SeenAt, Formed, Paid}
 use Rattle.nfa_pikevm.specs.Scans.{IsPaidAt, scan_turns}

@@ -4,10 +4,10 @@ use Rattle.std.specs.Prelude.{Option, Bool, false, not, is_some}
 use Rattle.regex_search_core.specs.Search.{Search}
 use Rattle.regex_search_core.specs.declared.search.MatchKind.{MatchKind}
 use Rattle.thompson_nfa.specs.Automaton.{Automaton}
-use Rattle.nfa_search_base.specs.Exploring.{Slots}
-use Rattle.nfa_search_base.specs.Paths.{is_utf8_empty, IsAnswer, IsFoundAnswer, IsWork}
-use Rattle.nfa_search_base.proofs.EarliestLemmas.{search_answer-asked, found_answer-earliest}
-use Rattle.nfa_search_base.proofs.PatternLemmas.{found-of}
+use Rattle.nfa_paths.specs.Exploring.{Slots}
+use Rattle.nfa_paths.specs.Paths.{is_utf8_empty, IsAnswer, IsFoundAnswer, IsWork}
+use Rattle.nfa_paths.proofs.EarliestLemmas.{search_answer-asked, found_answer-earliest}
+use Rattle.nfa_paths.proofs.PatternLemmas.{found-of}
 
 module _ (nfa : Automaton) (kind : MatchKind) (x y : Search) (e : Bool) (is_e : e ≡ not (is_utf8_empty nfa)) (is_y : y ≡ record x { earliest = e }) where
   -- the work for the answer

@@ -5,10 +5,10 @@ use Rattle.std.proofs.lemmas.List.{drop_more, length-map, length-replicate}
 use Rattle.std.proofs.lemmas.List.Elements.{All-nil, All-cons, All-head, All-tail}
 use Rattle.regex_search_core.specs.Search.{Search}
 use Rattle.thompson_nfa.specs.Automaton.{Automaton}
-use Rattle.nfa_search_base.specs.Paths.{edges}
-use Rattle.nfa_search_base.specs.Exploring.{Slots, Item}
-use Rattle.nfa_search_base.specs.Exploring.Item.{Explore as ToExplore, Load as ToLoad}
-use Rattle.nfa_search_base.specs.Kinds.{before_match}
+use Rattle.nfa_paths.specs.Paths.{edges}
+use Rattle.nfa_paths.specs.Exploring.{Slots, Item}
+use Rattle.nfa_paths.specs.Exploring.Item.{Explore as ToExplore, Load as ToLoad}
+use Rattle.nfa_paths.specs.Kinds.{before_match}
 use Rattle.nfa_pikevm.specs.Rows.{Met, Active, items_of}
 use Rattle.nfa_pikevm.specs.States.{Front, moves, tasks, unmarked, Formed, Paid, Follows, Leads}
 use Rattle.nfa_pikevm.specs.Overlapping.{wants, Gathers, GoesPast, rowless, ArrivesInSet, CrossesInSet}

@@ -7,19 +7,19 @@ use Rattle.regex_search_core.specs.PatternSets.{size_of_set}
 use Rattle.regex_search_core.specs.Search.{Search}
 use Rattle.regex_search_core.specs.declared.search.MatchKind.TheVariants.{LeftmostFirst}
 use Rattle.thompson_nfa.specs.Automaton.{Automaton, IsAutomaton}
-use Rattle.nfa_search_base.specs.Graphs.{Pair, In}
-use Rattle.nfa_search_base.specs.Paths.{edges, capture, starts, pairs_from}
-use Rattle.nfa_search_base.specs.Exploring.{Slots, Found, Item, round, seeds}
-use Rattle.nfa_search_base.specs.Exploring.Item.{Explore as ToExplore, Load as ToLoad}
-use Rattle.nfa_search_base.specs.Kinds.{first_match, before_match}
-use Rattle.nfa_search_base.specs.Overlaps.{IsOverlapResult}
-use Rattle.nfa_search_base.proofs.AnswerLemmas.{pairs_from-step, pairs_from-end}
-use Rattle.nfa_search_base.proofs.KindsLemmas.{first_match-is}
-use Rattle.nfa_search_base.proofs.ScanAnswerLemmas.{edges-onward, seeds-later}
-use Rattle.nfa_search_base.proofs.SearchingLemmas.{Searching-load, Searching-round, Searching-done}
-use Rattle.nfa_search_base.proofs.ScanningLemmas.{Searching-cut, Searching-wait}
-use Rattle.nfa_search_base.proofs.PathToLemmas.{is_false}
-use Rattle.nfa_search_base.proofs.OverlapLemmas.{heads, Sound, Sound-start, Sound-hit, Sound-round, Sound-cut, Searched, UpTo, UpTo-next, UpTo-match, UpTo-end}
+use Rattle.nfa_paths.specs.Graphs.{Pair, In}
+use Rattle.nfa_paths.specs.Paths.{edges, capture, starts, pairs_from}
+use Rattle.nfa_paths.specs.Exploring.{Slots, Found, Item, round, seeds}
+use Rattle.nfa_paths.specs.Exploring.Item.{Explore as ToExplore, Load as ToLoad}
+use Rattle.nfa_paths.specs.Kinds.{first_match, before_match}
+use Rattle.nfa_paths.specs.Overlaps.{IsOverlapResult}
+use Rattle.nfa_paths.proofs.AnswerLemmas.{pairs_from-step, pairs_from-end}
+use Rattle.nfa_paths.proofs.KindsLemmas.{first_match-is}
+use Rattle.nfa_paths.proofs.ScanAnswerLemmas.{edges-onward, seeds-later}
+use Rattle.nfa_paths.proofs.SearchingLemmas.{Searching-load, Searching-round, Searching-done}
+use Rattle.nfa_paths.proofs.ScanningLemmas.{Searching-cut, Searching-wait}
+use Rattle.nfa_paths.proofs.PathToLemmas.{is_false}
+use Rattle.nfa_paths.proofs.OverlapLemmas.{heads, Sound, Sound-start, Sound-hit, Sound-round, Sound-cut, Searched, UpTo, UpTo-next, UpTo-match, UpTo-end}
 use Rattle.nfa_pikevm.specs.Rows.{Met}
 use Rattle.nfa_pikevm.specs.Scans.{starts_from, joined, AreStarts, AreAt, IsPaidAt}
 use Rattle.nfa_pikevm.specs.States.{Front, moves, tasks, unmarked, SearchingAt, Leads}

@@ -9,15 +9,15 @@ use Rattle.regex_search_core.specs.PatternSets.{size_of_set}
 use Rattle.regex_search_core.specs.Search.{Search}
 use Rattle.regex_search_core.specs.declared.search.MatchKind.TheVariants.{All as AllMatches, LeftmostFirst}
 use Rattle.thompson_nfa.specs.Automaton.{Automaton, IsAutomaton}
-use Rattle.nfa_search_base.specs.Graphs.{Pair}
-use Rattle.nfa_search_base.specs.Paths.{edges, capture, starts, span_len, turn_weight}
-use Rattle.nfa_search_base.specs.Exploring.{Slots}
-use Rattle.nfa_search_base.specs.Kinds.{is_resting, NoneBefore, EndsBefore, IsFront}
-use Rattle.nfa_search_base.specs.Overlaps.{HoldsPattern, IsOverlapResult}
-use Rattle.nfa_search_base.proofs.ScanAnswerLemmas.{EndsBefore-span, starts-from}
-use Rattle.nfa_search_base.proofs.ScanLemmas.{NoneBefore-start, NoneBefore-step, NoneBefore-end}
-use Rattle.nfa_search_base.proofs.KindsLemmas.{first_match-is}
-use Rattle.nfa_search_base.proofs.OverlapLemmas.{wanted-shape, GainsBefore, GainsBefore-start, GainsBefore-step, GainsBefore-end, GainsBefore-full, NoneHeld, NoneHeld-start, NoneHeld-step, NoneHeld-found, NoneHeld-end, FirstAt-front, FirstAt-found, First-none}
+use Rattle.nfa_paths.specs.Graphs.{Pair}
+use Rattle.nfa_paths.specs.Paths.{edges, capture, starts, span_len, turn_weight}
+use Rattle.nfa_paths.specs.Exploring.{Slots}
+use Rattle.nfa_paths.specs.Kinds.{is_resting, NoneBefore, EndsBefore, IsFront}
+use Rattle.nfa_paths.specs.Overlaps.{HoldsPattern, IsOverlapResult}
+use Rattle.nfa_paths.proofs.ScanAnswerLemmas.{EndsBefore-span, starts-from}
+use Rattle.nfa_paths.proofs.ScanLemmas.{NoneBefore-start, NoneBefore-step, NoneBefore-end}
+use Rattle.nfa_paths.proofs.KindsLemmas.{first_match-is}
+use Rattle.nfa_paths.proofs.OverlapLemmas.{wanted-shape, GainsBefore, GainsBefore-start, GainsBefore-step, GainsBefore-end, GainsBefore-full, NoneHeld, NoneHeld-start, NoneHeld-step, NoneHeld-found, NoneHeld-end, FirstAt-front, FirstAt-found, First-none}
 use Rattle.nfa_pikevm.specs.Rows.{Met, Active}
 use Rattle.nfa_pikevm.specs.Scans.{joined, HasThreads, Sizes, AreSized, AreStarts, AreAt, IsPaidAt, scan_turns}
 use Rattle.nfa_pikevm.specs.Overlapping.{wants, Gathers, GathersAll, GathersFirst, GoesPast, CrossesInSet}

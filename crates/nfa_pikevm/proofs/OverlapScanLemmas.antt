@@ -8,20 +8,20 @@ use Rattle.std.proofs.lemmas.List.Sums.{sum-map, sum_by-cons}
 use Rattle.regex_search_core.specs.Search.{Search}
 use Rattle.thompson_nfa.specs.Automaton.{Automaton, Node, LeadsBelow, IsAutomaton}
 use Rattle.thompson_nfa.specs.Automaton.Node.{ByteRange, Sparse, Dense, Look, Union, BinaryUnion, Capture, Fail, Match}
-use Rattle.nfa_search_base.specs.Graphs.{Pair, In}
-use Rattle.nfa_search_base.specs.Paths.{node_at, degree, edges, edges_of, byte_at, target_on, capture, starts, pairs_from, turn_weight}
-use Rattle.nfa_search_base.specs.Exploring.{Slots, Found, Item, Answer, AnswerBehind, Searching, round, seeds}
-use Rattle.nfa_search_base.specs.Exploring.Item.{Explore as ToExplore, Load as ToLoad}
-use Rattle.nfa_search_base.specs.Kinds.{rests, is_resting, Scanning, IsFront, EndsBefore}
-use Rattle.nfa_search_base.specs.Turns.{marked_sum}
-use Rattle.nfa_search_base.proofs.AnswerLemmas.{pairs_from-step, pairs_from-end}
-use Rattle.nfa_search_base.proofs.SearchLemmas.{Answer-more, Answer-seeds}
-use Rattle.nfa_search_base.proofs.ScanningLemmas.{Scanning-round, Scanning-front, Scanning-load, Scanning-over}
-use Rattle.nfa_search_base.proofs.ScanAnswerLemmas.{edges_of-next, edges-onward, seeds-later}
-use Rattle.nfa_search_base.proofs.ScanLemmas.{EndsBefore-over}
-use Rattle.nfa_search_base.proofs.TurnLemmas.{marked_sum-le, marked_sum-clear}
-use Rattle.nfa_search_base.proofs.OverlapLemmas.{wanted-shape, resting-capture}
-use Rattle.nfa_engine_parts.proofs.TargetLemmas.{target-below}
+use Rattle.nfa_paths.specs.Graphs.{Pair, In}
+use Rattle.nfa_paths.specs.Paths.{node_at, degree, edges, edges_of, byte_at, target_on, capture, starts, pairs_from, turn_weight}
+use Rattle.nfa_paths.specs.Exploring.{Slots, Found, Item, Answer, AnswerBehind, Searching, round, seeds}
+use Rattle.nfa_paths.specs.Exploring.Item.{Explore as ToExplore, Load as ToLoad}
+use Rattle.nfa_paths.specs.Kinds.{rests, is_resting, Scanning, IsFront, EndsBefore}
+use Rattle.nfa_paths.specs.Turns.{marked_sum}
+use Rattle.nfa_paths.proofs.AnswerLemmas.{pairs_from-step, pairs_from-end}
+use Rattle.nfa_paths.proofs.SearchLemmas.{Answer-more, Answer-seeds}
+use Rattle.nfa_paths.proofs.ScanningLemmas.{Scanning-round, Scanning-front, Scanning-load, Scanning-over}
+use Rattle.nfa_paths.proofs.ScanAnswerLemmas.{edges_of-next, edges-onward, seeds-later}
+use Rattle.nfa_paths.proofs.ScanLemmas.{EndsBefore-over}
+use Rattle.nfa_paths.proofs.TurnLemmas.{marked_sum-le, marked_sum-clear}
+use Rattle.nfa_paths.proofs.OverlapLemmas.{wanted-shape, resting-capture}
+use Rattle.nfa_scanning.proofs.TargetLemmas.{target-below}
 use Rattle.nfa_pikevm.specs.Rows.{Met}
 use Rattle.nfa_pikevm.specs.Scans.{starts_from, joined, AreStarts, AreAt, IsPaidAt}
 use Rattle.nfa_pikevm.specs.States.{Front, moves, tasks, unmarked, SeenAt, Formed, Leads, one_of}

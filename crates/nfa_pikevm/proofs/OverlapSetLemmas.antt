@@ -7,12 +7,12 @@ use Rattle.regex_search_core.specs.Boundary.{IsBoundary}
 use Rattle.regex_search_core.specs.PatternSets.{with_pattern}
 use Rattle.regex_search_core.specs.Search.{Search}
 use Rattle.thompson_nfa.specs.Automaton.{Automaton}
-use Rattle.nfa_search_base.specs.Graphs.{Pair, In}
-use Rattle.nfa_search_base.specs.Paths.{node_at, pattern_of, is_match, is_utf8_empty}
-use Rattle.nfa_search_base.specs.Exploring.{Slots, Found}
-use Rattle.nfa_search_base.specs.Kinds.{HoldsMatch, NoMatch, first_match, before_match}
-use Rattle.nfa_search_base.specs.Overlaps.{pattern_at, IsPermittedEnd, IsPermitted}
-use Rattle.nfa_search_base.proofs.OverlapLemmas.{holds-with, length-with}
+use Rattle.nfa_paths.specs.Graphs.{Pair, In}
+use Rattle.nfa_paths.specs.Paths.{node_at, pattern_of, is_match, is_utf8_empty}
+use Rattle.nfa_paths.specs.Exploring.{Slots, Found}
+use Rattle.nfa_paths.specs.Kinds.{HoldsMatch, NoMatch, first_match, before_match}
+use Rattle.nfa_paths.specs.Overlaps.{pattern_at, IsPermittedEnd, IsPermitted}
+use Rattle.nfa_paths.proofs.OverlapLemmas.{holds-with, length-with}
 use Rattle.nfa_pikevm.specs.States.{Front}
 use Rattle.nfa_pikevm.specs.Overlapping.{is_boundary, permits, wants, GathersFirst, Gathers}
 

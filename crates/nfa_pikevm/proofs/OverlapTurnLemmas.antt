@@ -8,14 +8,14 @@ use Rattle.regex_search_core.specs.Search.{Search}
 use Rattle.regex_search_core.specs.Patterns.{number_of}
 use Rattle.regex_search_core.specs.declared.primitives.PatternID.{PatternID}
 use Rattle.thompson_nfa.specs.Automaton.{Automaton}
-use Rattle.nfa_search_base.specs.Graphs.{Pair, In}
-use Rattle.nfa_search_base.specs.Paths.{node_at, pattern_of, edges, is_match, capture}
-use Rattle.nfa_search_base.specs.Exploring.{Slots, Item}
-use Rattle.nfa_search_base.specs.Exploring.Item.{Explore as ToExplore, Load as ToLoad}
-use Rattle.nfa_search_base.specs.Kinds.{NoMatch, before_match}
-use Rattle.nfa_search_base.proofs.AnswerLemmas.{IsMatch-edges}
-use Rattle.nfa_search_base.proofs.SearchLemmas.{Answer-load, AnswerBehind-along}
-use Rattle.nfa_search_base.proofs.SearchingLemmas.{Searching-load}
+use Rattle.nfa_paths.specs.Graphs.{Pair, In}
+use Rattle.nfa_paths.specs.Paths.{node_at, pattern_of, edges, is_match, capture}
+use Rattle.nfa_paths.specs.Exploring.{Slots, Item}
+use Rattle.nfa_paths.specs.Exploring.Item.{Explore as ToExplore, Load as ToLoad}
+use Rattle.nfa_paths.specs.Kinds.{NoMatch, before_match}
+use Rattle.nfa_paths.proofs.AnswerLemmas.{IsMatch-edges}
+use Rattle.nfa_paths.proofs.SearchLemmas.{Answer-load, AnswerBehind-along}
+use Rattle.nfa_paths.proofs.SearchingLemmas.{Searching-load}
 use Rattle.nfa_pikevm.specs.Rows.{Met, Active}
 use Rattle.nfa_pikevm.specs.States.{Front, moves, work_onto, with_state, state_on, IsMet, IsWithin, Enters, Formed, Paid, Follows}
 use Rattle.nfa_pikevm.specs.Overlapping.{permits, wants, Gathers, AdvancesInSet, ArrivesInSet}

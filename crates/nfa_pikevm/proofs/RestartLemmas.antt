@@ -8,10 +8,10 @@ use Rattle.regex_search_core.specs.Search.{Search, is_anchored}
 use Rattle.regex_search_core.specs.declared.search.HalfMatch.{HalfMatch}
 use Rattle.regex_search_core.specs.declared.search.MatchKind.{MatchKind}
 use Rattle.thompson_nfa.specs.Automaton.{Automaton}
-use Rattle.nfa_search_base.specs.Graphs.{Pair}
-use Rattle.nfa_search_base.specs.Paths.{span_len, raised, is_utf8_empty, path_pattern, slot_row, turn_weight, EndsOnBoundary, IsKeptAnswer, IsRestartedAnswer, IsScanAnswer, IsSearchAnswer}
-use Rattle.nfa_search_base.specs.Exploring.{Slots}
-use Rattle.nfa_search_base.proofs.AnswerLemmas.{ends_on_boundary}
+use Rattle.nfa_paths.specs.Graphs.{Pair}
+use Rattle.nfa_paths.specs.Paths.{span_len, raised, is_utf8_empty, path_pattern, slot_row, turn_weight, EndsOnBoundary, IsKeptAnswer, IsRestartedAnswer, IsScanAnswer, IsSearchAnswer}
+use Rattle.nfa_paths.specs.Exploring.{Slots}
+use Rattle.nfa_paths.proofs.AnswerLemmas.{ends_on_boundary}
 use Rattle.nfa_pikevm.specs.Scans.{blank, Finds, Scans, Searched, scan_turns}
 
 -- the slots of no path

@@ -5,7 +5,7 @@ use Rattle.std.proofs.lemmas.Bool.{cases_lt, lt-ltb, le-ltb}
 use Rattle.std.proofs.lemmas.List.Elements.{All-push, All-nil}
 use Rattle.regex_search_core.specs.Search.{Search}
 use Rattle.thompson_nfa.specs.Automaton.{Automaton}
-use Rattle.nfa_search_base.specs.Exploring.{Slots}
+use Rattle.nfa_paths.specs.Exploring.{Slots}
 use Rattle.nfa_pikevm.specs.Rows.{Met, Active}
 use Rattle.nfa_pikevm.specs.Scans.{blank, joined, HasThreads, Sizes, AreSized, AreStarts, Joins, AreAt}
 use Rattle.nfa_pikevm.specs.declared.scan.Starts.{Starts}

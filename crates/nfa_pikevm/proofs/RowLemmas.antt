@@ -5,7 +5,7 @@ use Rattle.std.specs.Prelude.{All, Option, None}
 use Rattle.std.proofs.lemmas.Bool.Decides.{eqb_tells}
 use Rattle.std.proofs.lemmas.List.{take-take, take-append-le, drop-append-le, drop-take, drop-drop, length-take-le, get_or-map, map-set, length-map, take_more_set, length-replicate}
 use Rattle.std.proofs.lemmas.List.Elements.{All-head, All-tail}
-use Rattle.nfa_search_base.specs.Exploring.{Slots}
+use Rattle.nfa_paths.specs.Exploring.{Slots}
 use Rattle.std.proofs.Math.Nat.{mul-le-mul_right}
 use Rattle.nfa_pikevm.specs.Rows.{Met, Active, items_of, marks_of}
 

@@ -7,16 +7,16 @@ use Rattle.regex_search_core.specs.Patterns.{number_of}
 use Rattle.regex_search_core.specs.declared.primitives.PatternID.{PatternID}
 use Rattle.regex_search_core.specs.declared.search.HalfMatch.{HalfMatch}
 use Rattle.thompson_nfa.specs.Automaton.{Automaton, LeadsBelow}
-use Rattle.nfa_search_base.specs.Graphs.{Pair, In}
-use Rattle.nfa_search_base.specs.Exploring.{Item, Slots, Found, round}
-use Rattle.nfa_search_base.specs.Exploring.Item.{Explore, Load}
-use Rattle.nfa_search_base.specs.Kinds.{first_match, before_match}
-use Rattle.nfa_search_base.specs.Paths.{edges, is_match, capture, starts}
-use Rattle.nfa_search_base.proofs.AnswerLemmas.{IsMatch-capture}
-use Rattle.nfa_search_base.proofs.ScanAnswerLemmas.{edges-onward, seeds-later}
-use Rattle.nfa_search_base.proofs.ScanningLemmas.{Searching-cut, Searching-wait, Searching-cut_round}
-use Rattle.nfa_search_base.proofs.SearchingLemmas.{Searching-round}
-use Rattle.nfa_search_base.proofs.PathToLemmas.{is_false}
+use Rattle.nfa_paths.specs.Graphs.{Pair, In}
+use Rattle.nfa_paths.specs.Exploring.{Item, Slots, Found, round}
+use Rattle.nfa_paths.specs.Exploring.Item.{Explore, Load}
+use Rattle.nfa_paths.specs.Kinds.{first_match, before_match}
+use Rattle.nfa_paths.specs.Paths.{edges, is_match, capture, starts}
+use Rattle.nfa_paths.proofs.AnswerLemmas.{IsMatch-capture}
+use Rattle.nfa_paths.proofs.ScanAnswerLemmas.{edges-onward, seeds-later}
+use Rattle.nfa_paths.proofs.ScanningLemmas.{Searching-cut, Searching-wait, Searching-cut_round}
+use Rattle.nfa_paths.proofs.SearchingLemmas.{Searching-round}
+use Rattle.nfa_paths.proofs.PathToLemmas.{is_false}
 use Rattle.nfa_pikevm.specs.Rows.{Met}
 use Rattle.nfa_pikevm.specs.States.{Front, moves, tasks, unmarked, GoesOn, SeenAt, SearchingAt, Crosses}
 use Rattle.nfa_pikevm.specs.Scans.{blank, starts_from, half_found, AreAt, IsSoFar, SearchesFirst}

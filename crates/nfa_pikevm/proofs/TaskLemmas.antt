@@ -2,12 +2,12 @@
 use Rattle.std.proofs.Common.{◌≡◌, ℕ, suc, zero, ◌+◌, ◌<◌, ◌≤◌, ◌⊎◌, ◌↔◌, inl, inr, List, [], ◌∷◌, ◌++◌, map, refl, ap, sym, ◌∙◌, arith, subst, Bool}
 use Rattle.std.specs.Prelude.{Option, None}
 use Rattle.std.proofs.lemmas.Bool.{cases_lt, lt-ltb, le-ltb}
-use Rattle.nfa_search_base.specs.Graphs.{Pair, In}
-use Rattle.nfa_search_base.specs.FirstPaths.{IsFirst}
-use Rattle.nfa_search_base.specs.Exploring.{Item, Slots, Found, Answer, AnswerBehind, Searching, round, seeds}
-use Rattle.nfa_search_base.specs.Exploring.Item.{Explore, Load}
-use Rattle.nfa_search_base.proofs.SearchLemmas.{Answer-more, Answer-seeds, AnswerBehind-along}
-use Rattle.nfa_search_base.proofs.AnswerLemmas.{pairs_from-step, pairs_from-end}
+use Rattle.nfa_paths.specs.Graphs.{Pair, In}
+use Rattle.nfa_paths.specs.FirstPaths.{IsFirst}
+use Rattle.nfa_paths.specs.Exploring.{Item, Slots, Found, Answer, AnswerBehind, Searching, round, seeds}
+use Rattle.nfa_paths.specs.Exploring.Item.{Explore, Load}
+use Rattle.nfa_paths.proofs.SearchLemmas.{Answer-more, Answer-seeds, AnswerBehind-along}
+use Rattle.nfa_paths.proofs.AnswerLemmas.{pairs_from-step, pairs_from-end}
 use Rattle.nfa_pikevm.specs.States.{Front, moves, tasks}
 use Rattle.nfa_pikevm.specs.Scans.{blank, starts_from, joined}
 use Rattle.nfa_pikevm.specs.declared.scan.Starts.{Starts}

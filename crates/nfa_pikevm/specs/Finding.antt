@@ -8,8 +8,8 @@ use Rattle.regex_search_core.specs.declared.search.Span.{Span}
 use Rattle.nfa_search_base.specs.Asking.{SameButStart}
 use Rattle.nfa_search_base.specs.Finders.{answer_by, match_place}
 use Rattle.nfa_search_base.specs.Items.{greedy, matches_in}
-use Rattle.nfa_search_base.specs.Known.{IsSureMatch}
-use Rattle.nfa_search_base.specs.Paths.{IsMatchAnswer}
+use Rattle.nfa_paths.specs.Known.{IsSureMatch}
+use Rattle.nfa_paths.specs.Paths.{IsMatchAnswer}
 use Rattle.nfa_search_base.specs.Walks.{Answer, fresh, span_of}
 use Rattle.nfa_pikevm.specs.Engines.{Pike, kind_of}
 

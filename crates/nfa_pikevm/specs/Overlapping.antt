@@ -3,12 +3,12 @@ use Rattle.std.specs.Prelude.{◌≡◌, ◌↔◌, ◌⊎◌, ℕ, ◌<◌, ◌
 use Rattle.regex_search_core.specs.PatternSets.{with_pattern}
 use Rattle.regex_search_core.specs.Search.{Search}
 use Rattle.thompson_nfa.specs.Automaton.{Automaton}
-use Rattle.nfa_search_base.specs.Graphs.{Pair}
-use Rattle.nfa_search_base.specs.Paths.{edges, is_match, is_utf8_empty}
-use Rattle.nfa_search_base.specs.Exploring.{Slots, Found, Item}
-use Rattle.nfa_search_base.specs.Exploring.Item.{Explore as ToExplore, Load as ToLoad}
-use Rattle.nfa_search_base.specs.Kinds.{HoldsMatch, first_match, before_match}
-use Rattle.nfa_search_base.specs.Overlaps.{HoldsPattern, pattern_at}
+use Rattle.nfa_paths.specs.Graphs.{Pair}
+use Rattle.nfa_paths.specs.Paths.{edges, is_match, is_utf8_empty}
+use Rattle.nfa_paths.specs.Exploring.{Slots, Found, Item}
+use Rattle.nfa_paths.specs.Exploring.Item.{Explore as ToExplore, Load as ToLoad}
+use Rattle.nfa_paths.specs.Kinds.{HoldsMatch, first_match, before_match}
+use Rattle.nfa_paths.specs.Overlaps.{HoldsPattern, pattern_at}
 use Rattle.nfa_pikevm.specs.Rows.{Met}
 use Rattle.nfa_pikevm.specs.States.{Front, moves, tasks, unmarked, work_onto, with_state, Formed, Paid, Follows, Leads}
 use Rattle.nfa_pikevm.specs.declared.frame.FollowEpsilon.{FollowEpsilon}

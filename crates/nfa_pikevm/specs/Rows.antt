@@ -1,6 +1,6 @@
 -- How kept states and their rows lie in memory.
 use Rattle.std.specs.Prelude.{ℕ, ◌-◌, ◌^◌, ◌==◌, Bool, List, [], ◌∷◌, Option, None, Some, cond, map, take, drop}
-use Rattle.nfa_search_base.specs.Exploring.{Slots}
+use Rattle.nfa_paths.specs.Exploring.{Slots}
 
 -- the offset that a slot of a row holds: the greatest `usize` stands for none
 abbrev pub slot_of : ℕ → Option ℕ

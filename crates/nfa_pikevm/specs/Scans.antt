@@ -7,12 +7,12 @@ use Rattle.regex_search_core.specs.Search.{Search}
 use Rattle.regex_search_core.specs.declared.search.HalfMatch.{HalfMatch}
 use Rattle.regex_search_core.specs.declared.search.MatchKind.{MatchKind}
 use Rattle.thompson_nfa.specs.Automaton.{Automaton, LeadsBelow}
-use Rattle.nfa_search_base.specs.Graphs.{Pair}
-use Rattle.nfa_search_base.specs.Paths.{node_at, pattern_of, edges, is_match, capture, starts, pairs_from, span_len, turn_weight, last_of, path_pattern, slot_row, IsScanAnswer, IsSearchAnswer}
-use Rattle.nfa_search_base.specs.Exploring.{Slots, Found, Item, seeds}
-use Rattle.nfa_search_base.specs.Exploring.Item.{Load}
-use Rattle.nfa_search_base.specs.Kinds.{Scanning}
-use Rattle.nfa_engine_parts.specs.FirstBytes.{IsRefused}
+use Rattle.nfa_paths.specs.Graphs.{Pair}
+use Rattle.nfa_paths.specs.Paths.{node_at, pattern_of, edges, is_match, capture, starts, pairs_from, span_len, turn_weight, last_of, path_pattern, slot_row, IsScanAnswer, IsSearchAnswer}
+use Rattle.nfa_paths.specs.Exploring.{Slots, Found, Item, seeds}
+use Rattle.nfa_paths.specs.Exploring.Item.{Load}
+use Rattle.nfa_paths.specs.Kinds.{Scanning}
+use Rattle.nfa_scanning.specs.FirstBytes.{IsRefused}
 use Rattle.nfa_pikevm.specs.Rows.{Met, Active}
 use Rattle.nfa_pikevm.specs.Engines.{room_of}
 use Rattle.nfa_pikevm.specs.declared.scan.Starts.{Starts}

@@ -6,12 +6,12 @@ use Rattle.regex_search_core.specs.Search.{Search}
 use Rattle.regex_search_core.specs.Patterns.{number_of}
 use Rattle.regex_search_core.specs.declared.primitives.PatternID.{PatternID}
 use Rattle.thompson_nfa.specs.Automaton.{Automaton, Node}
-use Rattle.nfa_search_base.specs.Graphs.{Pair, NoRepeats}
-use Rattle.nfa_search_base.specs.Paths.{degree, node_at, pattern_of, edges, is_match, capture}
-use Rattle.nfa_search_base.specs.Exploring.{Slots, Found, Item, Answer, Searching}
-use Rattle.nfa_search_base.specs.Exploring.Item.{Explore as ToExplore, Restore as ToRestore, Load as ToLoad}
-use Rattle.nfa_search_base.specs.Kinds.{rests, first_match, before_match, last_match, NoMatch}
-use Rattle.nfa_search_base.specs.Turns.{marked_sum}
+use Rattle.nfa_paths.specs.Graphs.{Pair, NoRepeats}
+use Rattle.nfa_paths.specs.Paths.{degree, node_at, pattern_of, edges, is_match, capture}
+use Rattle.nfa_paths.specs.Exploring.{Slots, Found, Item, Answer, Searching}
+use Rattle.nfa_paths.specs.Exploring.Item.{Explore as ToExplore, Restore as ToRestore, Load as ToLoad}
+use Rattle.nfa_paths.specs.Kinds.{rests, first_match, before_match, last_match, NoMatch}
+use Rattle.nfa_paths.specs.Turns.{marked_sum}
 use Rattle.nfa_pikevm.specs.Rows.{Met}
 use Rattle.nfa_pikevm.specs.Engines.{room_of}
 use Rattle.nfa_pikevm.specs.declared.closure.Turn.{Turn}

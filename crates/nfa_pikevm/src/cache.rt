@@ -5,7 +5,7 @@ use crate::engine::PikeVM;
 use crate::sizes::{make_room, size_for, stack_places};
 use crate::slot::Slot;
 use crate::threads::Threads;
-use nfa_engine_parts::counter::Counter;
+use nfa_scanning::counter::Counter;
 use nfa_search_base::error::SearchError;
 use regex_search_core::Refused;
 use std::alloc::Global;

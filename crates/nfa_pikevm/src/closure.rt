@@ -2,8 +2,8 @@ ghost use Rattle.std.specs.Prelude.{◌≡◌, ℕ, ◌+◌, ◌<◌, ◌≤◌,
 ghost use Rattle.std.specs.List.{sum_by};
 ghost use Rattle.regex_search_core.specs.Search.{Search, search_of};
 ghost use Rattle.thompson_nfa.specs.Automaton.{Automaton};
-ghost use Rattle.nfa_search_base.specs.Paths.{byte_at};
-ghost use Rattle.nfa_search_base.specs.Exploring.{Item};
+ghost use Rattle.nfa_paths.specs.Paths.{byte_at};
+ghost use Rattle.nfa_paths.specs.Exploring.{Item};
 ghost use Rattle.nfa_pikevm.specs.Rows.{Met};
 ghost use Rattle.nfa_pikevm.specs.States.{Front, work_onto, with_state, tries, tries_of, state_on, undone, state_of, HasSlot, IsBelow, IsWithin, Follows, Paid, HasRoom, Enters, Arrives};
 ghost use Rattle.nfa_pikevm.specs.declared.frame.FollowEpsilon.TheVariants.{Explore, Restore};
@@ -12,7 +12,7 @@ use crate::active::ActiveStates;
 use crate::frame::FollowEpsilon;
 use crate::seen::Seen;
 use crate::slot::{Slot, copy_row};
-use nfa_engine_parts::transitions::{dense_target, range_target, sparse_target};
+use nfa_scanning::transitions::{dense_target, range_target, sparse_target};
 use regex_search_core::{Input, PatternID, StateID};
 use thompson_nfa::{NFA, State, look_matches};
 

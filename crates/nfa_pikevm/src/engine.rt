@@ -4,8 +4,8 @@ ghost use Rattle.regex_search_core.specs.Groups.{slot_count};
 ghost use Rattle.regex_search_core.specs.Patterns.{number_of};
 ghost use Rattle.regex_search_core.specs.Found.{found_of};
 ghost use Rattle.thompson_nfa.specs.Simple.{always, never};
-ghost use Rattle.nfa_search_base.specs.Overlaps.{IsOverlapResult};
-ghost use Rattle.nfa_search_base.specs.Paths.{span_len, turn_weight, scan_limit, is_utf8_empty, IsAnswer, IsMatchAnswer, IsFoundAnswer, IsWork};
+ghost use Rattle.nfa_paths.specs.Overlaps.{IsOverlapResult};
+ghost use Rattle.nfa_paths.specs.Paths.{span_len, turn_weight, scan_limit, is_utf8_empty, IsAnswer, IsMatchAnswer, IsFoundAnswer, IsWork};
 ghost use Rattle.nfa_pikevm.specs.Engines.{AddsWork, Fits, SameNumbers, kind_of, cache_for, refitted};
 ghost use Rattle.nfa_pikevm.specs.Scans.{HaveRoom, SameSizes, scan_turns, Serves, Sizes, AreSized};
 ghost use Rattle.nfa_search_base.specs.Lists.{IsInside, IsSlotInside};
@@ -16,8 +16,8 @@ use crate::overlap::overlap;
 use crate::search::search;
 use crate::slot::{Slot, hand_out, match_in};
 use crate::threads::Threads;
-use nfa_engine_parts::counter::Counter;
-use nfa_engine_parts::first_bytes::FirstBytes;
+use nfa_scanning::counter::Counter;
+use nfa_scanning::first_bytes::FirstBytes;
 use nfa_search_base::error::SearchError;
 use regex_search_core::{Captures, Input, Match, NonMaxUsize, PatternID, PatternSet};
 use std::alloc::Global;
@@ -36,7 +36,7 @@ pub struct PikeVM {
 }
 
 impl Model for PikeVM {
-    ghost use Rattle.nfa_engine_parts.specs.FirstBytes.{IsFirstBytes};
+    ghost use Rattle.nfa_scanning.specs.FirstBytes.{IsFirstBytes};
     ghost use Rattle.nfa_pikevm.specs.Engines.{Pike};
 
     ghost Value = { Pike };

@@ -3,14 +3,14 @@ ghost use Rattle.regex_search_core.specs.Search.{search_of};
 ghost use Rattle.regex_search_core.specs.Found.{half_found_of};
 ghost use Rattle.regex_search_core.specs.Patterns.{number_of};
 ghost use Rattle.regex_search_core.specs.declared.search.MatchKind.TheVariants.{All, LeftmostFirst};
-ghost use Rattle.nfa_engine_parts.specs.FirstBytes.{IsFirstBytes};
+ghost use Rattle.nfa_scanning.specs.FirstBytes.{IsFirstBytes};
 ghost use Rattle.nfa_pikevm.specs.Scans.{blank, HaveRoom, HaveRows, SameSizes, AreStarts, Joins, joined, half_found, Scans, scan_turns};
 
 use crate::slot::Slot;
 use crate::threads::{Threads, cross, move_on, set_up};
-use nfa_engine_parts::counter::Counter;
-use nfa_engine_parts::first_bytes::FirstBytes;
-use nfa_engine_parts::starts::{next_start, skip_limit, start_limit, start_state};
+use nfa_scanning::counter::Counter;
+use nfa_scanning::first_bytes::FirstBytes;
+use nfa_scanning::starts::{next_start, skip_limit, start_limit, start_state};
 use regex_search_core::{HalfMatch, Input, MatchKind, PatternID, StateID};
 use thompson_nfa::NFA;
 

@@ -1,14 +1,14 @@
 ghost use Rattle.std.specs.Prelude.{◌≡◌, ◌+◌, ◌*◌, ◌≤◌, true, false, length};
 ghost use Rattle.regex_search_core.specs.Search.{search_of, is_anchored};
-ghost use Rattle.nfa_search_base.specs.Paths.{is_utf8_empty, scan_limit};
-ghost use Rattle.nfa_engine_parts.specs.FirstBytes.{IsFirstBytes};
+ghost use Rattle.nfa_paths.specs.Paths.{is_utf8_empty, scan_limit};
+ghost use Rattle.nfa_scanning.specs.FirstBytes.{IsFirstBytes};
 ghost use Rattle.nfa_pikevm.specs.Scans.{blank, HaveRoom, SameSizes, Searched, scan_turns};
 
 use crate::scan::scan;
 use crate::slot::Slot;
 use crate::threads::Threads;
-use nfa_engine_parts::counter::Counter;
-use nfa_engine_parts::first_bytes::FirstBytes;
+use nfa_scanning::counter::Counter;
+use nfa_scanning::first_bytes::FirstBytes;
 use regex_search_core::{HalfMatch, Input, MatchKind};
 use thompson_nfa::NFA;
 

@@ -1,6 +1,6 @@
 ghost use Rattle.std.specs.Prelude.{◌≡◌, ℕ, ◌+◌, ◌<◌, [], true, false, length, replicate, slice_index_or, slice_set, IfOk};
 
-use nfa_engine_parts::counter::Counter;
+use nfa_scanning::counter::Counter;
 use regex_search_core::Refused;
 use std::alloc::Global;
 use std::marker::Model;

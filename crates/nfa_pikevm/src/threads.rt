@@ -1,6 +1,6 @@
 ghost use Rattle.std.specs.Prelude.{◌≡◌, ◌*◌, ◌<◌, ◌≤◌, [], false, length, replicate, All, IfOk};
 ghost use Rattle.regex_search_core.specs.Search.{search_of};
-ghost use Rattle.nfa_search_base.specs.Paths.{byte_at};
+ghost use Rattle.nfa_paths.specs.Paths.{byte_at};
 ghost use Rattle.nfa_pikevm.specs.Rows.{items_of};
 ghost use Rattle.nfa_pikevm.specs.States.{HasRoom, Crosses};
 ghost use Rattle.nfa_pikevm.specs.Scans.{HaveRows};
@@ -10,7 +10,7 @@ use crate::closure::follow;
 use crate::frame::FollowEpsilon;
 use crate::seen::Seen;
 use crate::slot::Slot;
-use nfa_engine_parts::transitions::byte_at;
+use nfa_scanning::transitions::byte_at;
 use regex_search_core::{Input, PatternID, Refused, StateID};
 use std::alloc::Global;
 use std::mem;

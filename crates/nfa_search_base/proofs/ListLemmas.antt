@@ -13,14 +13,14 @@ use Rattle.regex_search_core.specs.Groups.{slot_count}
 use Rattle.regex_search_core.specs.Slots.{match_of}
 use Rattle.regex_search_core.specs.declared.search.MatchKind.{MatchKind}
 use Rattle.thompson_nfa.specs.Automaton.{Automaton}
-use Rattle.nfa_search_base.specs.Paths.{slot_row, path_pattern, IsMatchAnswer}
+use Rattle.nfa_paths.specs.Paths.{slot_row, path_pattern, IsMatchAnswer}
 use Rattle.nfa_search_base.specs.Asking.{SameButStart}
 use Rattle.nfa_search_base.specs.Items.{Item, matches_in, items_from, items_within, greedy, step_answer, step_walk}
 use Rattle.nfa_search_base.specs.Walks.{Answer, after, place_of, ends_left}
-use Rattle.nfa_search_base.proofs.AnswerLemmas.{search_answer-unique}
+use Rattle.nfa_paths.proofs.AnswerLemmas.{search_answer-unique}
 use Rattle.nfa_search_base.proofs.AskingLemmas.{same_start-self, same_start-then}
 use Rattle.nfa_search_base.proofs.WalkLemmas.{LeavesFewer-first}
-use Rattle.nfa_search_base.proofs.InsideLemmas.{match-within}
+use Rattle.nfa_paths.proofs.InsideLemmas.{match-within}
 use Rattle.nfa_search_base.proofs.StepLemmas.{chosen, same_start-after, same_start-shifted}
 use Rattle.nfa_search_base.specs.Lists.{past, IsNext, ComeNext, ComeLast, AreFirstMatches, AreMatches, IsInside, AreApart}
 

@@ -1,10 +1,3 @@
-pub mod Graphs
-pub mod Paths
-pub mod FirstPaths
-pub mod Exploring
-pub mod Kinds
-pub mod Overlaps
-pub mod Turns
 pub mod Agreement
 pub mod Asking
 pub mod Behind
@@ -14,13 +7,16 @@ pub mod EmptyFinder
 pub mod Finders
 pub mod Items
 pub mod Likes
-pub mod Known
+pub mod Lists
 pub mod Searchers
 pub mod Serving
 pub mod Skipping
 pub mod Steps
 pub mod Stored
 pub mod Walks
+pub use Rattle.nfa_paths.specs.Graphs
+pub use Rattle.nfa_paths.specs.Paths
+pub use Rattle.nfa_paths.specs.Overlaps
 pub use Rattle.regex_search_core.specs.Boundary
 pub use Rattle.regex_search_core.specs.Found
 pub use Rattle.regex_search_core.specs.Groups
@@ -29,4 +25,3 @@ pub use Rattle.regex_search_core.specs.Search
 pub use Rattle.regex_search_core.specs.Slots
 pub use Rattle.thompson_nfa.specs.Automaton
 pub use Rattle.thompson_nfa.specs.Looks
-pub mod Lists

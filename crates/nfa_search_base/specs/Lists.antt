@@ -5,7 +5,7 @@ use Rattle.regex_search_core.specs.Found.{Found}
 use Rattle.regex_search_core.specs.Search.{Search}
 use Rattle.regex_search_core.specs.declared.search.MatchKind.{MatchKind}
 use Rattle.thompson_nfa.specs.Automaton.{Automaton}
-use Rattle.nfa_search_base.specs.Paths.{IsMatchAnswer}
+use Rattle.nfa_paths.specs.Paths.{IsMatchAnswer}
 use Rattle.nfa_search_base.specs.Walks.{Walk, fresh, after, repeats, shifted, span_of}
 
 -- the iteration after this match

@@ -1,4 +1,4 @@
-use Rattle.nfa_search_base.proofs.AnswerLemmas.{accepting_order, accepting_order-asymmetric}
+use Rattle.nfa_paths.proofs.AnswerLemmas.{accepting_order, accepting_order-asymmetric}
 use Rattle.nfa_engines.proofs.laws.accepting_paths_are_ordered.Goals as goal
 
 pub returns-clause-total : goal.returns-clause-total

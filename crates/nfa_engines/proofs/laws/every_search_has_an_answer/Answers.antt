@@ -1,4 +1,4 @@
-use Rattle.nfa_search_base.proofs.ExistenceLemmas.{search_answer-exists}
+use Rattle.nfa_paths.proofs.ExistenceLemmas.{search_answer-exists}
 use Rattle.nfa_engines.proofs.laws.every_search_has_an_answer.Goals as goal
 
 pub returns : goal.returns

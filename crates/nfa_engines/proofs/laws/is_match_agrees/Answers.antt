@@ -1,4 +1,4 @@
-use Rattle.nfa_search_base.proofs.ExistenceLemmas.{scan_answers-agree, search_answers-agree}
+use Rattle.nfa_paths.proofs.ExistenceLemmas.{scan_answers-agree, search_answers-agree}
 use Rattle.nfa_engines.proofs.laws.is_match_agrees.Goals as goal
 
 pub returns-clause-scans : goal.returns-clause-scans

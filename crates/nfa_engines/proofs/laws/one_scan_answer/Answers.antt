@@ -1,4 +1,4 @@
-use Rattle.nfa_search_base.proofs.AnswerLemmas.{scan_answer-unique}
+use Rattle.nfa_paths.proofs.AnswerLemmas.{scan_answer-unique}
 use Rattle.nfa_engines.proofs.laws.one_scan_answer.Goals as goal
 
 pub returns : goal.returns

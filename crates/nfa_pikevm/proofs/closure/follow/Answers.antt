@@ -1,8 +1,8 @@
 use Rattle.std.proofs.Common.{◌≡◌, ◌∙◌, [], length, map, take, arith, refl}
 use Rattle.std.specs.Prelude.{None}
 use Rattle.regex_search_core.specs.Search.{search_of}
-use Rattle.nfa_search_base.specs.Paths.{degree}
-use Rattle.nfa_search_base.proofs.TurnLemmas.{marked_sum-le}
+use Rattle.nfa_paths.specs.Paths.{degree}
+use Rattle.nfa_paths.proofs.TurnLemmas.{marked_sum-le}
 use Rattle.nfa_pikevm.specs.States.{Paid}
 use Rattle.nfa_pikevm.proofs.UnwindLemmas.{within-lower}
 use Rattle.nfa_pikevm.proofs.ClosureLemmas.{Followed, Followed-begin, Followed-plain, Followed-matched, Followed-resumed, Arrives-whole, Arrives-cut, Paid-begin, Paid-then, Paid-resumed, Paid-dropped, HasRoom-paid, same-items}

@@ -1,7 +1,7 @@
 use Rattle.std.proofs.Common.{◌∙◌, arith, refl, map}
 use Rattle.regex_search_core.specs.Search.{search_of}
-use Rattle.nfa_search_base.specs.Paths.{degree}
-use Rattle.nfa_search_base.proofs.TurnLemmas.{marked_sum-le}
+use Rattle.nfa_paths.specs.Paths.{degree}
+use Rattle.nfa_paths.proofs.TurnLemmas.{marked_sum-le}
 use Rattle.nfa_pikevm.proofs.OverlapTurnLemmas.{Arriving-start, Arriving-step, Arriving-end, Paid-then, Paid-start, Paid-drop, same-after, still-none}
 use Rattle.nfa_pikevm.proofs.overlap.follow_to_set.Goals as goal
 

@@ -2,8 +2,8 @@ use Rattle.std.proofs.Common.{◌≡◌, ◌≤◌, ◌<◌, ◌+◌, ◌-◌, [
 use Rattle.std.specs.Prelude.{All, Some, sum}
 use Rattle.std.specs.List.{sum_by}
 use Rattle.regex_search_core.specs.Search.{search_of}
-use Rattle.nfa_search_base.specs.Paths.{degree}
-use Rattle.nfa_search_base.specs.Turns.{marked_sum}
+use Rattle.nfa_paths.specs.Paths.{degree}
+use Rattle.nfa_paths.specs.Turns.{marked_sum}
 use Rattle.nfa_pikevm.specs.States.{tries, IsWithin, Paid}
 use Rattle.nfa_pikevm.proofs.OverlapTurnLemmas.{Arriving}
 use Rattle.nfa_pikevm.proofs.overlap.follow_to_set.Given as goal

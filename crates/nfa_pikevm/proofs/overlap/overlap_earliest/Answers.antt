@@ -1,7 +1,7 @@
 use Rattle.std.proofs.Common.{◌≡◌, ◌∙◌, ◌+◌, true, ap, sym, arith, length}
 use Rattle.regex_search_core.specs.Search.{search_of}
-use Rattle.nfa_search_base.proofs.OverlapLemmas.{full-gains}
-use Rattle.nfa_search_base.proofs.ScanAnswerLemmas.{EndsBefore-span}
+use Rattle.nfa_paths.proofs.OverlapLemmas.{full-gains}
+use Rattle.nfa_paths.proofs.ScanAnswerLemmas.{EndsBefore-span}
 use Rattle.nfa_pikevm.specs.Rows.{Met, Active}
 use Rattle.nfa_pikevm.specs.Overlapping.{wants}
 use Rattle.nfa_pikevm.proofs.OverlapScanLemmas.{ScansAt-over}

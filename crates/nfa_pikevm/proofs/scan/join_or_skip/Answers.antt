@@ -1,7 +1,7 @@
 use Rattle.std.proofs.Common.{◌≡◌, ◌<◌, ◌≤◌, length, get_or, arith, refl, ap, inl, inr}
 use Rattle.regex_search_core.specs.Search.{search_of}
-use Rattle.nfa_engine_parts.specs.FirstBytes.{IsRefused}
-use Rattle.nfa_engine_parts.proofs.FirstLemmas.{byte_at-inside}
+use Rattle.nfa_scanning.specs.FirstBytes.{IsRefused}
+use Rattle.nfa_scanning.proofs.FirstLemmas.{byte_at-inside}
 use Rattle.nfa_pikevm.specs.Rows.{Active}
 use Rattle.nfa_pikevm.specs.Scans.{blank}
 use Rattle.nfa_pikevm.proofs.RoomLemmas.{skip-within, skip-early, skip-less, some-push, some_of}

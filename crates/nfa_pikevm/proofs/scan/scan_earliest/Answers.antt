@@ -1,6 +1,6 @@
 use Rattle.std.proofs.Common.{◌≡◌, ◌∙◌, ◌+◌, ◌≤◌, length, arith, refl, ap, sym, inr, true, cond}
 use Rattle.regex_search_core.specs.Search.{search_of}
-use Rattle.nfa_search_base.proofs.ScanAnswerLemmas.{scan_answer-none}
+use Rattle.nfa_paths.proofs.ScanAnswerLemmas.{scan_answer-none}
 use Rattle.regex_search_core.specs.declared.search.MatchKind.TheVariants.{All, LeftmostFirst}
 use Rattle.nfa_pikevm.specs.Rows.{Met, Active}
 use Rattle.nfa_pikevm.specs.Scans.{joined}

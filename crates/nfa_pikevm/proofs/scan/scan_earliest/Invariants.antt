@@ -1,7 +1,7 @@
 use Rattle.std.proofs.Common.{◌≡◌, [], length}
 use Rattle.regex_search_core.specs.Search.{search_of}
-use Rattle.nfa_search_base.specs.Kinds.{NoneBefore}
-use Rattle.nfa_search_base.specs.Paths.{edges, is_match, starts}
+use Rattle.nfa_paths.specs.Kinds.{NoneBefore}
+use Rattle.nfa_paths.specs.Paths.{edges, is_match, starts}
 use Rattle.nfa_pikevm.specs.Scans.{HasThreads, Sizes, AreSized, AreAt, IsPaidAt, ScansAll}
 use Rattle.nfa_pikevm.proofs.scan.scan_earliest.Given as goal
 

@@ -1,7 +1,7 @@
 use Rattle.std.proofs.Common.{◌∙◌, ◌+◌, ap, refl, inl, inr, sym}
 use Rattle.std.specs.Prelude.{None, Some}
 use Rattle.regex_search_core.specs.Search.{search_of}
-use Rattle.nfa_search_base.specs.Paths.{EndsOnBoundary}
+use Rattle.nfa_paths.specs.Paths.{EndsOnBoundary}
 use Rattle.nfa_pikevm.specs.Scans.{blank}
 use Rattle.nfa_pikevm.proofs.RestartLemmas.{Searched-none, Searched-some, kept-answer, pattern-found, whole-found}
 use Rattle.nfa_pikevm.proofs.search.search_kept.Goals as goal

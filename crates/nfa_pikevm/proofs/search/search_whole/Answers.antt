@@ -1,7 +1,7 @@
 use Rattle.std.proofs.Common.{◌∙◌, refl, below_more}
 use Rattle.std.specs.Prelude.{Some, None}
 use Rattle.regex_search_core.specs.Search.{search_of}
-use Rattle.nfa_search_base.specs.Paths.{raised, EndsOnBoundary, SplitsCharacter}
+use Rattle.nfa_paths.specs.Paths.{raised, EndsOnBoundary, SplitsCharacter}
 use Rattle.nfa_pikevm.proofs.RestartLemmas.{Scans-raised, turns-raised, Searched-none, Searched-some, restarted-answer, pattern-found, whole-found, raised-start}
 use Rattle.nfa_pikevm.proofs.search.search_whole.Goals as goal
 

@@ -1,6 +1,6 @@
 use Rattle.std.proofs.Common.{◌≡◌, ℕ, ◌+◌, ◌-◌, ◌*◌, ◌<◌, ◌≤◌, length}
 use Rattle.regex_search_core.specs.Search.{search_of}
-use Rattle.nfa_search_base.specs.Paths.{raised, SplitsCharacter}
+use Rattle.nfa_paths.specs.Paths.{raised, SplitsCharacter}
 use Rattle.nfa_pikevm.specs.Scans.{Serves, Sizes, AreSized, scan_turns}
 use Rattle.nfa_pikevm.proofs.search.search_whole.Given as goal
 

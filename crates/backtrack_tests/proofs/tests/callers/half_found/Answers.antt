@@ -1,7 +1,7 @@
 use Rattle.std.proofs.Common.{ap, arith}
 use Rattle.regex_search_core.specs.Found.{HalfFound}
 use Rattle.regex_search_core.specs.Search.{search_of}
-use Rattle.nfa_engines.proofs.FindLemmas.{find-inside}
+use Rattle.nfa_backtrack.proofs.FindLemmas.{find-inside}
 use Rattle.backtrack_tests.proofs.tests.callers.half_found.Goals as goal
 
 pub returns-in-Ok-Some : goal.returns-in-Ok-Some

@@ -2,7 +2,7 @@ use Rattle.std.proofs.Common.{List, Result, sym, subst}
 use Rattle.regex_search_core.specs.Search.{Search, whole}
 use Rattle.regex_search_core.specs.declared.search.Match.{Match}
 use Rattle.nfa_search_base.specs.declared.error.SearchError.{SearchError}
-use Rattle.nfa_engines.specs.declared.backtrack.find_iter.TryFindMatches.{TryFindMatches}
+use Rattle.nfa_backtrack.specs.declared.find_iter.TryFindMatches.{TryFindMatches}
 use Rattle.backtrack_tests.specs.Callers.{AreAllOf}
 use Rattle.backtrack_tests.proofs.CallerLemmas.{HasLaw, all-from_loop}
 use Rattle.backtrack_tests.proofs.tests.callers.looped.Goals as goal

@@ -3,7 +3,7 @@ use Rattle.std.specs.Prelude.{Option, None, Some, not, is_some, option_map}
 use Rattle.regex_search_core.specs.Search.{search_of}
 use Rattle.regex_search_core.specs.Patterns.{number_of}
 use Rattle.regex_search_core.specs.declared.primitives.PatternID.{PatternID}
-use Rattle.nfa_search_base.specs.Paths.{is_utf8_empty}
+use Rattle.nfa_paths.specs.Paths.{is_utf8_empty}
 use Rattle.nfa_pikevm.specs.Engines.{kind_of}
 use Rattle.nfa_pikevm.proofs.IsMatchLemmas.{found-free, work-free}
 use Rattle.nfa_pikevm.proofs.engine.PikeVM.is_match.Goals as goal

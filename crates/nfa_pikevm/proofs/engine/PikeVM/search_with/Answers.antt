@@ -4,7 +4,7 @@ use Rattle.std.proofs.lemmas.List.{length-take}
 use Rattle.regex_search_core.specs.Search.{search_of}
 use Rattle.regex_search_core.specs.Groups.{slot_count}
 use Rattle.regex_search_core.specs.Patterns.{number_of}
-use Rattle.nfa_search_base.specs.Exploring.{Slots}
+use Rattle.nfa_paths.specs.Exploring.{Slots}
 use Rattle.nfa_pikevm.specs.Scans.{blank}
 use Rattle.thompson_nfa.specs.Automaton.{IsAutomaton}
 use Rattle.nfa_pikevm.specs.Engines.{kind_of}

@@ -1,0 +1,32 @@
+use Rattle.std.proofs.Common.{refl}
+use Rattle.regex_search_core.specs.Search.{search_of}
+use Rattle.nfa_backtrack.proofs.FindLemmas.{finds-from}
+use Rattle.nfa_backtrack.proofs.RunLemmas.{runs-give, runs-match, runs-inside, gives-first, gives-first-matches, gives-matches, gives-next, gives-next-match}
+use Rattle.nfa_backtrack.proofs.engine.BoundedBacktracker.try_find_iter.Goals as goal
+
+pub returns-clause-list : goal.returns-clause-list
+returns-clause-list c = λ h gives. finds-from c.args.self.now h _ (search_of c.args.input) refl c.new.ensures refl gives
+
+pub returns-clause-runs : goal.returns-clause-runs
+returns-clause-runs c = runs-give c.args.self.now (search_of c.args.input) _ refl c.new.ensures refl
+
+pub returns-clause-matches : goal.returns-clause-matches
+returns-clause-matches c = runs-match c.args.self.now (search_of c.args.input) _ refl c.new.ensures refl
+
+pub returns-clause-inside : goal.returns-clause-inside
+returns-clause-inside c = runs-inside c.args.self.now (search_of c.args.input) _ refl c.new.ensures refl
+
+pub returns-clause-first : goal.returns-clause-first
+returns-clause-first c = gives-first c.args.self.now (search_of c.args.input) _ refl c.new.ensures refl
+
+pub returns-clause-first_matches : goal.returns-clause-first_matches
+returns-clause-first_matches c = gives-first-matches c.args.self.now (search_of c.args.input) _ refl c.new.ensures refl
+
+pub returns-clause-all_matches : goal.returns-clause-all_matches
+returns-clause-all_matches c = gives-matches c.args.self.now (search_of c.args.input) _ refl c.new.ensures refl
+
+pub returns-clause-next : goal.returns-clause-next
+returns-clause-next c = gives-next c.args.self.now (search_of c.args.input) _ refl c.new.ensures refl
+
+pub returns-clause-next_match : goal.returns-clause-next_match
+returns-clause-next_match c = gives-next-match c.args.self.now (search_of c.args.input) _ refl c.new.ensures refl

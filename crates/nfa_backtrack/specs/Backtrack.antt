@@ -1,0 +1,83 @@
+-- A backtracker as a value, and how much it may try.
+use Rattle.std.specs.Prelude.{◌≡◌, ℕ, ◌+◌, ◌*◌, ◌/◌, ◌^◌, ◌-◌, ◌<◌, ◌≤◌, min, max, length, Option, unwrap_or}
+use Rattle.regex_search_core.specs.Search.{Search}
+use Rattle.thompson_nfa.specs.Automaton.{Automaton}
+use Rattle.nfa_paths.specs.Paths.{span_len}
+
+-- a number that stops at the greatest `usize`
+abbrev pub saturated : ℕ → ℕ
+saturated n = min n (2 ^ 64 - 1)
+
+-- an NFA, and how many bytes of marks were asked for, if any were
+pub record Backtracker : Type 0 where
+  pub nfa : Automaton
+  pub visited_capacity : Option ℕ
+
+-- what a cache shows: how many scans its last search made, and how many turns, and those of all its searches; how many
+-- frames, blocks of marks and slots it holds; and how many of its searches were answered, and how many refused
+pub record Work : Type 0 where
+  pub scans : ℕ
+  pub turns : ℕ
+  pub frames : ℕ
+  pub blocks : ℕ
+  pub slots : ℕ
+  pub answered : ℕ
+  pub refused : ℕ
+  pub all_scans : ℕ
+  pub all_turns : ℕ
+
+-- a cache that has made no search and holds nothing
+abbrev pub unused : Work
+unused = record { scans = 0; turns = 0; frames = 0; blocks = 0; slots = 0; answered = 0; refused = 0; all_scans = 0; all_turns = 0 }
+
+-- one search more was answered
+pub record CountsAnswer (old new : Work) : Type 0 where
+  pub answered : new.answered ≡ old.answered + 1
+  pub refused : new.refused ≡ old.refused
+
+-- one search more was refused
+pub record CountsRefusal (old new : Work) : Type 0 where
+  pub answered : new.answered ≡ old.answered
+  pub refused : new.refused ≡ old.refused + 1
+
+-- the scans and turns of the new search are the only ones that were added to those of all
+pub record AddsWork (old new : Work) : Type 0 where
+  pub scans : new.all_scans ≡ old.all_scans + new.scans
+  pub turns : new.all_turns ≡ old.all_turns + new.turns
+
+-- no block is given back, and no more are taken than the pairs of the search need
+pub record GrowsBlocks (nfa : Automaton) (x : Search) (old new : ℕ) : Type 0 where
+  pub kept : old ≤ new
+  pub needed : new ≤ max old ((length nfa.states * (span_len x + 1) + 63) / 64)
+
+-- the cache after a search that was refused before it began
+abbrev pub refused_early : Work → Work
+refused_early w = record w { scans = 0; turns = 0; refused = w.refused + 1 }
+
+-- the bytes that a cache holds: 24 for a frame, 8 for a block, 8 for a slot
+abbrev pub memory_of : Work → ℕ
+memory_of w = saturated (24 * w.frames + 8 * w.blocks + 8 * w.slots)
+
+-- the capacity in bytes that holds where none is set
+abbrev pub default_capacity : ℕ
+default_capacity = 262144
+
+-- the bits of so many bytes, rounded up to whole blocks of 64
+abbrev pub rounded_bits : ℕ → ℕ
+rounded_bits bytes = saturated (64 * ((saturated (8 * bytes) + 63) / 64))
+
+-- how many pairs a search may mark
+abbrev pub capacity_of : Backtracker → ℕ
+capacity_of e = rounded_bits (unwrap_or e.visited_capacity default_capacity)
+
+-- The length of the longest span that a search may have, where there is a bit for each state; else 0, and no search may be made.
+abbrev pub max_haystack_len_of : Backtracker → ℕ
+max_haystack_len_of e = capacity_of e / length e.nfa.states - 1
+
+-- the search has more pairs than may be marked
+abbrev pub IsTooLong : Backtracker → Search → Type 0
+IsTooLong e x = capacity_of e < length e.nfa.states * (span_len x + 1)
+
+-- the least capacity in bytes that has a bit for each pair
+abbrev pub min_capacity_of : Automaton → Search → ℕ
+min_capacity_of nfa x = (length nfa.states * (span_len x + 1) + 7) / 8

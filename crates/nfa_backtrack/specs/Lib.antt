@@ -1,0 +1,16 @@
+pub mod Backtrack
+pub mod Begin
+pub mod Bits
+pub mod Finding
+pub mod FindMatches
+pub mod Walk
+pub mod Runs
+pub use Rattle.nfa_paths.specs.Graphs
+pub use Rattle.nfa_paths.specs.Paths
+pub use Rattle.regex_search_core.specs.Boundary
+pub use Rattle.regex_search_core.specs.Found
+pub use Rattle.regex_search_core.specs.Groups
+pub use Rattle.regex_search_core.specs.Patterns
+pub use Rattle.regex_search_core.specs.Search
+pub use Rattle.regex_search_core.specs.Slots
+pub use Rattle.thompson_nfa.specs.Automaton

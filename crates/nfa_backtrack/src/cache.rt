@@ -1,0 +1,103 @@
+ghost use Rattle.std.specs.Prelude.{◌≡◌, IfOk, IsOkUnless};
+ghost use Rattle.nfa_backtrack.specs.Backtrack.{unused, memory_of};
+
+use crate::engine::BoundedBacktracker;
+use crate::scratch::Scratch;
+use crate::visited::Visited;
+use nfa_search_base::error::SearchError;
+use nfa_scanning::counter::Counter;
+use regex_search_core::{NonMaxUsize, Refused};
+use std::alloc::Global;
+use std::marker::Model;
+
+/// What a backtracker writes while it searches: its marks, its stack, and slots of its own. Any cache serves any
+/// backtracker, whatever it was used for before.
+///
+/// A contract sees how many scans its last search made, and how many turns they took; and how many of its searches were
+/// answered, and how many refused.
+#[derive(Debug, Drop)]
+pub struct Cache {
+    pub(super) scratch: Scratch,
+    pub(super) slots: Vec<Option<NonMaxUsize>>,
+    /// How many searches were answered.
+    pub(super) answered: Counter,
+    /// How many searches were refused.
+    pub(super) refused: Counter,
+    /// The scans of all searches before the last one.
+    pub(super) past_scans: Counter,
+    /// The turns of all searches before the last one.
+    pub(super) past_turns: Counter,
+}
+
+impl Model for Cache {
+    ghost use Rattle.std.specs.Prelude.{◌+◌, ◌/◌, length};
+    ghost use Rattle.nfa_backtrack.specs.Backtrack.{Work};
+
+    ghost Value = { Work };
+
+    ghost view = { λ c. record { scans = c.scratch.scans; turns = c.scratch.visited.turns; frames = length c.scratch.stack.items; blocks = length c.scratch.visited.bits / 64; slots = length c.slots.items; answered = c.answered; refused = c.refused; all_scans = c.past_scans + c.scratch.scans; all_turns = c.past_turns + c.scratch.visited.turns } };
+}
+
+impl Cache {
+    /// A cache that holds no memory yet.
+    pub fn new(alloc: Global, _: &BoundedBacktracker) -> Cache
+        ensures { result ≡ unused }
+    {
+        Cache {
+            scratch: Scratch {
+                stack: Vec::new(alloc),
+                visited: Visited::new(alloc),
+                scans: Counter::new(),
+            },
+            slots: Vec::new(alloc),
+            answered: Counter::new(),
+            refused: Counter::new(),
+            past_scans: Counter::new(),
+            past_turns: Counter::new(),
+        }
+    }
+
+    /// Drops all marks and the blocks that held them; their memory stays for the next search. A search needs no reset
+    /// before it.
+    pub fn reset(&mut self, _: &BoundedBacktracker)
+        ensures { self.new ≡ record self.old { blocks = 0 } }
+    {
+        self.scratch.visited.reset();
+    }
+
+    /// A cache with the same marks and counts. The error is `Memory` alone.
+    pub fn clone(&self) -> Result<Cache, SearchError>
+        ensures copy { IfOk result (λ copy. copy ≡ self.now) }
+        ensures memory { IsOkUnless result SearchError.Memory }
+    {
+        Ok(self.copied()?)
+    }
+
+    fn copied(&self) -> Result<Cache, Refused>
+        ensures { IfOk result (λ copy. copy ≡ self.now) }
+    {
+        Ok(Cache {
+            scratch: Scratch {
+                stack: self.scratch.stack.clone()?,
+                visited: self.scratch.visited.clone()?,
+                scans: self.scratch.scans.copy(),
+            },
+            slots: self.slots.clone()?,
+            answered: self.answered.copy(),
+            refused: self.refused.copy(),
+            past_scans: self.past_scans.copy(),
+            past_turns: self.past_turns.copy(),
+        })
+    }
+
+    /// The bytes that the entries of the cache take: 24 for a frame of the stack, 8 for a block of marks, 8 for a slot.
+    /// The sum stops at the greatest `usize`.
+    pub fn memory_usage(&self) -> usize
+        ensures { result ≡ memory_of self.now }
+    {
+        let frames = self.scratch.stack.len().saturating_mul(24);
+        let blocks = self.scratch.visited.block_len().saturating_mul(8);
+        let slots = self.slots.len().saturating_mul(8);
+        frames.saturating_add(blocks).saturating_add(slots)
+    }
+}

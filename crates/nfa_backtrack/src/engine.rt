@@ -1,0 +1,372 @@
+ghost use Rattle.std.specs.Prelude.{◌≡◌, ◌↔◌, ◌⊎◌, ◌+◌, ◌*◌, ◌/◌, ◌<◌, ◌≤◌, ◌^◌, None, Ok, length, vec_len, replicate, option_map, IfOk, OnOk, IfErr, OnErr, IsErrOf, IsOkUnless, IsTrue, false, IfSome};
+ghost use Rattle.regex_search_core.specs.Search.{search_of};
+ghost use Rattle.regex_search_core.specs.Groups.{slot_count};
+ghost use Rattle.regex_search_core.specs.Patterns.{number_of};
+ghost use Rattle.regex_search_core.specs.Found.{found_of, half_found_of};
+ghost use Rattle.regex_search_core.specs.declared.search.MatchKind.TheVariants.{LeftmostFirst};
+ghost use Rattle.thompson_nfa.specs.Simple.{always, never};
+ghost use Rattle.nfa_paths.specs.Paths.{span_len, turn_weight, scan_limit, IsAnswer, IsMatchAnswer, IsFoundAnswer, IsWork, IsWithinScans};
+ghost use Rattle.nfa_backtrack.specs.Walk.{scan_turns};
+ghost use Rattle.nfa_backtrack.specs.Backtrack.{IsTooLong, AddsWork, CountsAnswer, CountsRefusal, GrowsBlocks, refused_early, unused, capacity_of, rounded_bits, max_haystack_len_of, min_capacity_of};
+ghost use Rattle.nfa_search_base.specs.Lists.{IsInside};
+
+use crate::cache::Cache;
+use crate::config::{Builder, Config};
+use crate::scratch::Scratch;
+use crate::search::{search, unset};
+use nfa_search_base::error::SearchError;
+use nfa_scanning::first_bytes::FirstBytes;
+use regex_search_core::{Captures, HalfMatch, Input, Match, NonMaxUsize, PatternID, Refused};
+use std::alloc::Global;
+use std::marker::Model;
+use thompson_nfa::{BuildError, NFA};
+
+/// A search of one NFA, depth first, with a table of marks that bounds its work.
+///
+/// Its answers are those of leftmost first search: the match with the least start and, of those, the one that the
+/// earlier alternatives lead to. `earliest` is ignored. A contract sees the NFA and the capacity that was set.
+#[derive(Debug, Drop)]
+pub struct BoundedBacktracker {
+    config: Config,
+    first: FirstBytes,
+    nfa: NFA,
+}
+
+impl Model for BoundedBacktracker {
+    ghost use Rattle.nfa_backtrack.specs.Backtrack.{Backtracker};
+    ghost use Rattle.nfa_scanning.specs.FirstBytes.{IsFirstBytes};
+
+    ghost Value = { Backtracker };
+
+    ghost view = { λ e. record { nfa = e.nfa; visited_capacity = e.config } };
+
+    ghost invariant = { λ e. IsFirstBytes e.nfa e.first.may_begin };
+}
+
+/// The least visited capacity, in bytes, that has a bit for each pair of the search. With it no search of the input is
+/// refused for its length. The caller owes that the states times the positions of the span, its bytes and one, fit a
+/// `usize`.
+pub fn min_visited_capacity(nfa: &NFA, input: &Input<'_>) -> usize
+    requires { length nfa.now.states * (span_len (search_of input.now) + 1) < 2 ^ 64 }
+    ensures { result ≡ min_capacity_of nfa.now (search_of input.now) }
+{
+    (nfa.states().len() * (input.get_span().len() + 1)).div_ceil(8)
+}
+
+/// The bits of so many bytes, rounded up to whole blocks.
+fn rounded_bits(bytes: usize) -> usize
+    ensures { result ≡ rounded_bits bytes }
+{
+    bytes.saturating_mul(8).div_ceil(64).saturating_mul(64)
+}
+
+/// Makes room for so many slots.
+fn grow(slots: &mut Vec<Option<NonMaxUsize>>, len: usize) -> Result<(), Refused>
+    ensures { OnOk result (len ≤ vec_len slots.new) }
+{
+    if slots.len() < len {
+        slots.resize(len, None)?;
+    }
+    Ok(())
+}
+
+/// The pattern of the match.
+fn pattern_of(half: Option<HalfMatch>) -> Option<PatternID>
+    ensures { option_map number_of result ≡ option_map (λ half. (half_found_of half).pattern) half }
+{
+    Some(half?.pattern())
+}
+
+impl BoundedBacktracker {
+    pub(super) fn from_parts(config: Config, nfa: NFA) -> BoundedBacktracker
+        ensures { result ≡ record { nfa = nfa; visited_capacity = config } }
+    {
+        let first = FirstBytes::new(&nfa);
+        BoundedBacktracker { config, first, nfa }
+    }
+
+    /// A backtracker of the NFA with the default configuration. This is always `Ok`.
+    pub fn new_from_nfa(nfa: NFA) -> Result<BoundedBacktracker, BuildError>
+        ensures { result ≡ Ok (record { nfa = nfa; visited_capacity = None }) }
+    {
+        Builder::new().build_from_nfa(nfa)
+    }
+
+    /// A backtracker of the NFA that matches the empty text at each position, with the default configuration. The error
+    /// is `Memory` alone.
+    pub fn always_match(alloc: Global) -> Result<BoundedBacktracker, BuildError>
+        ensures made { IfOk result (λ made. made ≡ record { nfa = always; visited_capacity = None }) }
+        ensures memory { IsOkUnless result BuildError.Memory }
+    {
+        BoundedBacktracker::new_from_nfa(NFA::always_match(alloc)?)
+    }
+
+    /// A backtracker of the NFA that matches nothing, with the default configuration. The error is `Memory` alone.
+    pub fn never_match(alloc: Global) -> Result<BoundedBacktracker, BuildError>
+        ensures made { IfOk result (λ made. made ≡ record { nfa = never; visited_capacity = None }) }
+        ensures memory { IsOkUnless result BuildError.Memory }
+    {
+        BoundedBacktracker::new_from_nfa(NFA::never_match(alloc)?)
+    }
+
+    /// A configuration with nothing set.
+    pub fn config() -> Config
+        ensures { result ≡ None }
+    {
+        Config::new()
+    }
+
+    /// A builder with nothing set.
+    pub fn builder() -> Builder
+        ensures { result ≡ None }
+    {
+        Builder::new()
+    }
+
+    /// A cache for this backtracker, which holds no memory yet.
+    pub fn create_cache(&self, alloc: Global) -> Cache
+        ensures { result ≡ unused }
+    {
+        Cache::new(alloc, self)
+    }
+
+    /// Captures of all groups of the NFA, with no pattern and no slot set. The error is `Memory` alone.
+    pub fn create_captures(&self, alloc: Global) -> Result<Captures, SearchError>
+        ensures made { IfOk result (λ made. made ≡ record {
+          groups = self.now.nfa.groups;
+          pattern = None;
+          slots = replicate (slot_count self.now.nfa.groups) None;
+        }) }
+        ensures memory { IsOkUnless result SearchError.Memory }
+    {
+        let groups = self.nfa.group_info().clone()?;
+        Ok(Captures::all(alloc, groups)?)
+    }
+
+    /// Drops all marks of the cache and the blocks that held them; their memory stays for the next search. A search
+    /// needs no reset before it.
+    pub fn reset_cache(&self, cache: &mut Cache)
+        ensures { cache.new ≡ record cache.old { blocks = 0 } }
+    {
+        cache.reset(self);
+    }
+
+    /// How many patterns the NFA has.
+    pub fn pattern_len(&self) -> usize
+        ensures { result ≡ length self.now.nfa.patterns }
+    {
+        self.nfa.pattern_len()
+    }
+
+    /// The configuration that this was made with.
+    pub fn get_config(&self) -> &Config
+        ensures { result.now ≡ self.now.visited_capacity }
+    {
+        &self.config
+    }
+
+    /// The NFA that this searches for.
+    pub fn get_nfa(&self) -> &NFA
+        ensures { result.now ≡ self.now.nfa }
+    {
+        &self.nfa
+    }
+
+    /// An equal backtracker. The error is `Memory` alone.
+    pub fn clone(&self) -> Result<BoundedBacktracker, SearchError>
+        ensures copy { IfOk result (λ copy. copy ≡ self.now) }
+        ensures memory { IsOkUnless result SearchError.Memory }
+    {
+        let Ok(nfa) = self.nfa.clone() else {
+            return Err(SearchError::Memory);
+        };
+        Ok(BoundedBacktracker::from_parts(self.config, nfa))
+    }
+
+    /// How many pairs of a state and a position a search may mark.
+    fn capacity(&self) -> usize
+        ensures { result ≡ capacity_of self.now }
+    {
+        rounded_bits(self.config.get_visited_capacity())
+    }
+
+    /// A length in bytes up to which no span is refused for its length, where the capacity has a bit for each state.
+    ///
+    /// It is the number of pairs that may be marked, divided by the number of states, less one and not below 0.
+    pub fn max_haystack_len(&self) -> usize
+        ensures { result ≡ max_haystack_len_of self.now }
+    {
+        (self.capacity() / self.nfa.states().len()).saturating_sub(1)
+    }
+
+    /// Whether the search has more pairs than may be marked.
+    fn is_too_long(&self, input: &Input<'_>) -> bool
+        ensures { IsTrue result ↔ IsTooLong self.now (search_of input.now) }
+    {
+        let positions = input.get_span().len() + 1;
+        match self.nfa.states().len().checked_mul(positions) {
+            Some(pairs) => pairs > self.capacity(),
+            None => true,
+        }
+    }
+
+    /// Searches, and fills the slots with byte offsets: slots `2p` and `2p + 1` have the start and end of a match of
+    /// pattern `p`, those of the explicit groups follow. Any number of slots may be handed in; those past the NFA's are
+    /// none, and so is every slot after no match and after an error.
+    ///
+    /// The span's length alone decides whether a search is too long; that is tested before all else. `Memory` is
+    /// answered where a growth of the cache was refused. After an error the cache serves the next search.
+    pub fn try_search_slots(
+        &self,
+        cache: &mut Cache,
+        input: &Input<'_>,
+        slots: &mut [Option<NonMaxUsize>],
+    ) -> Result<Option<PatternID>, SearchError>
+        ensures answer { IfOk result (λ pattern. IsAnswer self.now.nfa LeftmostFirst false (search_of input.now) (option_map number_of pattern) slots.new) }
+        ensures cleared { OnErr result (slots.new ≡ replicate (length slots.old) None) }
+
+        ensures too_long { IsErrOf result (SearchError.HaystackTooLong (span_len (search_of input.now))) ↔ IsTooLong self.now (search_of input.now) }
+        ensures errors { IfErr result (λ e. (e ≡ SearchError.Memory) ⊎ (e ≡ SearchError.HaystackTooLong (span_len (search_of input.now)))) }
+
+        // What was done for it: exactly one scan more than restarts, within stated bounds.
+        ensures work { OnOk result (IsWork self.now.nfa LeftmostFirst false (search_of input.now) cache.new.scans cache.new.turns) }
+        ensures within { OnErr result (IsWithinScans self.now.nfa LeftmostFirst false (search_of input.now) cache.new.scans) }
+        ensures scans { cache.new.scans ≤ scan_limit self.now.nfa (search_of input.now) }
+        ensures turns { cache.new.turns ≤ cache.new.scans * ((1 + turn_weight self.now.nfa) * (span_len (search_of input.now) + 1)) }
+        // It is counted once.
+        ensures answered { OnOk result (CountsAnswer cache.old cache.new) }
+        ensures refused { OnErr result (CountsRefusal cache.old cache.new) }
+        ensures total { AddsWork cache.old cache.new }
+        ensures blocks { GrowsBlocks self.now.nfa (search_of input.now) cache.old.blocks cache.new.blocks }
+        ensures early { IsTooLong self.now (search_of input.now) → cache.new ≡ refused_early cache.old }
+    {
+        let Cache {
+            scratch,
+            answered,
+            refused,
+            past_scans,
+            past_turns,
+            ..
+        } = cache;
+        past_scans.take(&mut scratch.scans);
+        scratch.visited.restart_turns(past_turns);
+        if self.is_too_long(input) {
+            unset(slots);
+            refused.tick();
+            return Err(SearchError::HaystackTooLong {
+                len: input.get_span().len(),
+            });
+        }
+        let Ok(half) = search(&self.nfa, &self.first, input, scratch, slots) else {
+            refused.tick();
+            return Err(SearchError::Memory);
+        };
+        answered.tick();
+        Ok(pattern_of(half))
+    }
+
+    /// The match that a search answers: the span between the two slots of its pattern. It is none where there is no
+    /// match, where the NFA writes one of the two slots nowhere on the way, or where the start lies behind the end.
+    ///
+    /// Errors are those of [`BoundedBacktracker::try_search_slots`].
+    pub fn try_find<'h>(
+        &self,
+        cache: &mut Cache,
+        input: Input<'h>,
+    ) -> Result<Option<Match>, SearchError>
+        ensures answer { IfOk result (λ found. IsMatchAnswer self.now.nfa LeftmostFirst false (search_of input.entry) (option_map found_of found)) }
+        ensures inside { IfOk result (λ found. IfSome found (λ m. IsInside (search_of input.entry) (found_of m))) }
+        ensures pattern { IfOk result (λ found. IfSome found (λ m. (found_of m).pattern < length self.now.nfa.patterns)) }
+
+        ensures too_long { IsErrOf result (SearchError.HaystackTooLong (span_len (search_of input.entry))) ↔ IsTooLong self.now (search_of input.entry) }
+        ensures errors { IfErr result (λ e. (e ≡ SearchError.Memory) ⊎ (e ≡ SearchError.HaystackTooLong (span_len (search_of input.entry)))) }
+
+        ensures work { OnOk result (IsWork self.now.nfa LeftmostFirst false (search_of input.entry) cache.new.scans cache.new.turns) }
+        ensures within { OnErr result (IsWithinScans self.now.nfa LeftmostFirst false (search_of input.entry) cache.new.scans) }
+        ensures scans { cache.new.scans ≤ scan_limit self.now.nfa (search_of input.entry) }
+        ensures turns { cache.new.turns ≤ cache.new.scans * ((1 + turn_weight self.now.nfa) * (span_len (search_of input.entry) + 1)) }
+        // It is counted once.
+        ensures answered { OnOk result (CountsAnswer cache.old cache.new) }
+        ensures refused { OnErr result (CountsRefusal cache.old cache.new) }
+        ensures total { AddsWork cache.old cache.new }
+        ensures blocks { GrowsBlocks self.now.nfa (search_of input.entry) cache.old.blocks cache.new.blocks }
+        ensures early { IsTooLong self.now (search_of input.entry) → cache.new ≡ refused_early cache.old }
+    {
+        let Cache {
+            scratch,
+            slots,
+            answered,
+            refused,
+            past_scans,
+            past_turns,
+        } = cache;
+        past_scans.take(&mut scratch.scans);
+        scratch.visited.restart_turns(past_turns);
+        if self.is_too_long(&input) {
+            refused.tick();
+            return Err(SearchError::HaystackTooLong {
+                len: input.get_span().len(),
+            });
+        }
+        let Ok(found) = self.find_with(scratch, slots, &input) else {
+            refused.tick();
+            return Err(SearchError::Memory);
+        };
+        answered.tick();
+        Ok(found)
+    }
+
+    /// The match of a search that is not too long, from slots of the cache.
+    fn find_with(
+        &self,
+        scratch: &mut Scratch,
+        slots: &mut Vec<Option<NonMaxUsize>>,
+        input: &Input<'_>,
+    ) -> Result<Option<Match>, Refused>
+        requires fits { length self.now.nfa.states * (span_len (search_of input.now) + 1) < 2 ^ 64 }
+        requires counted { scratch.old.scans ≡ 0 }
+        requires turned { scratch.old.visited.turns ≡ 0 }
+        ensures answer { IfOk result (λ found. IsMatchAnswer self.now.nfa LeftmostFirst false (search_of input.now) (option_map found_of found)) }
+        ensures inside { IfOk result (λ found. IfSome found (λ m. IsInside (search_of input.now) (found_of m))) }
+        ensures pattern { IfOk result (λ found. IfSome found (λ m. (found_of m).pattern < length self.now.nfa.patterns)) }
+        ensures work { OnOk result (IsWork self.now.nfa LeftmostFirst false (search_of input.now) scratch.new.scans scratch.new.visited.turns) }
+        ensures within { IsWithinScans self.now.nfa LeftmostFirst false (search_of input.now) scratch.new.scans }
+        ensures blocks { GrowsBlocks self.now.nfa (search_of input.now) (length scratch.old.visited.bits / 64) (length scratch.new.visited.bits / 64) }
+        ensures scans { scratch.new.scans ≤ scan_limit self.now.nfa (search_of input.now) }
+        ensures turns { scratch.new.visited.turns ≤ scratch.new.scans * scan_turns self.now.nfa (search_of input.now) }
+    {
+        let slot_len = self.nfa.group_info().implicit_slot_len();
+        grow(slots, slot_len)?;
+        let slots = &mut slots.as_mut_slice()[..slot_len];
+        let Some(half) = search(&self.nfa, &self.first, input, scratch, slots)? else {
+            return Ok(None);
+        };
+        Ok(Match::from_slots(half.pattern(), slots))
+    }
+
+    /// Whether a search finds a match.
+    ///
+    /// Errors are those of [`BoundedBacktracker::try_search_slots`].
+    pub fn try_is_match<'h>(&self, cache: &mut Cache, input: Input<'h>) -> Result<bool, SearchError>
+        ensures answer { IfOk result (λ found. IsFoundAnswer self.now.nfa LeftmostFirst false (search_of input.entry) found) }
+
+        ensures too_long { IsErrOf result (SearchError.HaystackTooLong (span_len (search_of input.entry))) ↔ IsTooLong self.now (search_of input.entry) }
+        ensures errors { IfErr result (λ e. (e ≡ SearchError.Memory) ⊎ (e ≡ SearchError.HaystackTooLong (span_len (search_of input.entry)))) }
+
+        ensures work { OnOk result (IsWork self.now.nfa LeftmostFirst false (search_of input.entry) cache.new.scans cache.new.turns) }
+        ensures within { OnErr result (IsWithinScans self.now.nfa LeftmostFirst false (search_of input.entry) cache.new.scans) }
+        ensures scans { cache.new.scans ≤ scan_limit self.now.nfa (search_of input.entry) }
+        ensures turns { cache.new.turns ≤ cache.new.scans * ((1 + turn_weight self.now.nfa) * (span_len (search_of input.entry) + 1)) }
+        // It is counted once.
+        ensures answered { OnOk result (CountsAnswer cache.old cache.new) }
+        ensures refused { OnErr result (CountsRefusal cache.old cache.new) }
+        ensures total { AddsWork cache.old cache.new }
+        ensures blocks { GrowsBlocks self.now.nfa (search_of input.entry) cache.old.blocks cache.new.blocks }
+        ensures early { IsTooLong self.now (search_of input.entry) → cache.new ≡ refused_early cache.old }
+    {
+        match self.try_search_slots(cache, &input, &mut [])? {
+            Some(_) => Ok(true),
+            None => Ok(false),
+        }
+    }
+}

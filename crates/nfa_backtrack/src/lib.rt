@@ -1,0 +1,22 @@
+//! A search that walks depth first, with a table of marks that bounds its work.
+//!
+//! A backtracker tries the alternatives of an NFA in order of preference, one start after another, and marks each pair
+//! of a state and a position that it has tried. No pair is walked from twice, so a search takes no more turns than the
+//! NFA has states and edges for each position of the span. The marks take memory in proportion to that, which is why a
+//! search of too long a span is refused ([`BoundedBacktracker::max_haystack_len`]).
+#![tactic(auto)]
+
+mod cache;
+mod config;
+mod engine;
+mod find_iter;
+mod frame;
+mod scratch;
+mod search;
+mod visited;
+mod walk;
+
+pub use cache::Cache;
+pub use config::{Builder, Config};
+pub use engine::{BoundedBacktracker, min_visited_capacity};
+pub use find_iter::TryFindMatches;

@@ -1,6 +1,0 @@
-use Rattle.std.proofs.Common.{refl}
-use Rattle.nfa_engine_parts.proofs.FirstLemmas.{IsFirstBytes-all}
-use Rattle.nfa_engine_parts.proofs.first_bytes.FirstBytes.new.Goals as goal
-
-pub returns-in-None : goal.returns-in-None
-returns-in-None c = IsFirstBytes-all c.args.nfa.now _ 256 refl

@@ -1,6 +1,0 @@
-use Rattle.std.proofs.Common.{◌≡◌, drop}
-use Rattle.nfa_search_base.specs.Paths.{first_target}
-use Rattle.nfa_engine_parts.proofs.transitions.sparse_target.Given as goal
-
-abbrev pub invariant-loop-trans : goal.invariant-loop-trans
-invariant-loop-trans l = first_target l.transitions l.byte ≡ first_target (drop l.trans-index l.transitions) l.byte

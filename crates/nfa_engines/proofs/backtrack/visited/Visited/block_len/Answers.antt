@@ -1,7 +1,0 @@
-use Rattle.std.proofs.Common.{ap, arith, length}
-use Rattle.nfa_engines.specs.Bits.{Marks}
-use Rattle.nfa_engines.proofs.BitLemmas.{length-bits_of}
-use Rattle.nfa_engines.proofs.backtrack.visited.Visited.block_len.Goals as goal
-
-pub returns : goal.returns
-returns c = omega (arith, length-bits_of c.self.inside.blocks.items, ap (λ (m : Marks). length m.bits) c.self.view_is, c.len.ensures)

@@ -1,9 +1,0 @@
-use Rattle.std.proofs.Common.{◌≡◌, []}
-use Rattle.nfa_engines.specs.Bits.{bits_of}
-use Rattle.nfa_engines.proofs.BitLemmas.{bits_of-nil}
-use Rattle.nfa_engines.proofs.backtrack.visited.Visited.new.Goals as goal
-
-pub returns : goal.returns
-returns c =
-    let bits : bits_of c.new.result.items ≡ [] = rw c.new.ensures.items bits_of-nil in
-    λ i. record { bits = bits i; turns = c.new-2.ensures i }

@@ -1,0 +1,422 @@
+-- What a marked search of an NFA's pairs answers, in the words of its contracts.
+use Rattle.std.proofs.Common.{◌≡◌, ℕ, zero, suc, ◌+◌, ◌-◌, ◌≤◌, ◌<◌, ◌⊎◌, ◌↔◌, inl, inr, Bool, true, false, List, [], ◌∷◌, map, length, replicate, get_or, refl, sym, ap, ◌∙◌, subst, arith, length-set, get_or-set_same, get_or-set_other}
+use Rattle.std.specs.Prelude.{Option, None, Some, not, cond, ◌==◌, ◌&&◌, ◌||◌, is_some, MatchBool}
+use Rattle.std.specs.List.{last_or, range_with_len}
+use Rattle.std.specs.Option.{option_or, option_map_or}
+use Rattle.std.proofs.lemmas.Bool.{cases_lt, eq-eqb, ne_eqb, lt-ltb, le-ltb, or_left, or_right, or_from}
+use Rattle.std.proofs.lemmas.Bool.Decides.{eqb_tells}
+use Rattle.std.proofs.lemmas.List.{ext_get_or, get_or-replicate, length-replicate}
+use Rattle.std.proofs.lemmas.List.FromFn.{length-map-range_with_len, get_or-map-range_with_len}
+use Rattle.regex_search_core.specs.Boundary.{IsBoundary}
+use Rattle.regex_search_core.specs.Search.{Search, is_anchored}
+use Rattle.regex_search_core.specs.declared.search.MatchKind.{MatchKind}
+use Rattle.regex_search_core.specs.declared.search.MatchKind.TheVariants.{All, LeftmostFirst}
+use Rattle.thompson_nfa.specs.Automaton.{Automaton, Node}
+use Rattle.thompson_nfa.specs.Automaton.Node.{ByteRange, Sparse, Dense, Look, Union, BinaryUnion, Capture, Fail, Match}
+use Rattle.nfa_paths.specs.Graphs.{Pair, In, ComesBefore, PathTo}
+use Rattle.nfa_paths.specs.FirstPaths.{Increasing}
+use Rattle.nfa_paths.specs.Exploring.{Slots, write, apply, Answer}
+use Rattle.nfa_paths.specs.Exploring.Item.{Explore}
+use Rattle.nfa_paths.specs.Paths.{pattern_of, slot_of, pairs_from, raised, span_len, node_at, is_match, IsMatch, capture, is_utf8_empty, start_state, edges_of, edges, start_count, starts, IsScanAnswer, last_of, slot_among, slot_row, EndsOnBoundary, IsWhole, SplitsCharacter, IsKeptAnswer, IsRestartedAnswer, IsSearchAnswer, IsWithinScans, scan_limit}
+use Rattle.nfa_paths.proofs.PathLemmas.{IsLeast-from_first}
+use Rattle.nfa_paths.proofs.SearchLemmas.{Answer-starts, found-Some}
+use Rattle.nfa_paths.proofs.PathToLemmas.{EndsWith-last, PathTo-along, found-end, ComesBefore-asymmetric, PathTo-order, IsLeast-none, IsLeast-first, IsFirstPath-unique, IsEarliestPath-unique, IsLastPath-unique, IsEarliestLastPath-unique}
+
+-- the starts
+
+-- the pairs from a position on lie at it or behind it
+pub pairs_from-ahead : (state at count : ℕ) (d : Pair) → In d (pairs_from state at count) → at ≤ d.1
+pairs_from-ahead state at zero d i = absurd i
+pairs_from-ahead state at (suc count) d i =
+    elim i [
+      | inl e ↦ let k : d.1 ≡ at = ap (λ x. x.1) e in omega arith
+      | inr later ↦ let k : at + 1 ≤ d.1 = pairs_from-ahead state (at + 1) count d later in omega arith
+    ]
+
+-- the pairs from a position on rise
+pub pairs_from-increase : (state at count : ℕ) → Increasing (pairs_from state at count)
+pairs_from-increase state at zero = tt
+pairs_from-increase state at (suc count) = (
+  λ d i. let k : at + 1 ≤ d.1 = pairs_from-ahead state (at + 1) count d i in omega arith,
+  pairs_from-increase state (at + 1) count,
+)
+
+-- the pairs up to a position: the first, and those behind it
+pub pairs_from-step : (state : ℕ) {at stop : ℕ} → at < stop → pairs_from state at (stop - at) ≡ (state, at) ∷ pairs_from state (at + 1) (stop - (at + 1))
+pairs_from-step state {at} {stop} less =
+    let e : stop - at ≡ suc (stop - (at + 1)) = omega arith in rw e refl
+
+-- past the last position there are none
+pub pairs_from-end : (state : ℕ) {at stop : ℕ} → stop ≤ at → pairs_from state at (stop - at) ≡ []
+pairs_from-end state {at} {stop} past = let e : stop - at ≡ 0 = omega arith in rw e refl
+
+module _ (nfa : Automaton) (x : Search) where
+  -- the starts rise
+  pub starts-increase : Increasing (starts nfa x)
+  starts-increase = of (start_state nfa x.anchored)
+    where
+      of : (o : Option ℕ) → Increasing (option_map_or (λ state. pairs_from state x.start (start_count nfa x)) o [])
+      of None = tt
+      of (Some state) = pairs_from-increase state x.start (start_count nfa x)
+
+  -- an unknown pattern starts nowhere
+  pub starts-unknown : start_state nfa x.anchored ≡ None → starts nfa x ≡ []
+  starts-unknown e = rw e refl
+
+  -- a span that is over holds no start
+  pub starts-none : x.end < x.start → starts nfa x ≡ []
+  starts-none past = of (start_state nfa x.anchored)
+    where
+      of : (o : Option ℕ) → option_map_or (λ state. pairs_from state x.start (start_count nfa x)) o [] ≡ []
+      of None = refl
+      of (Some state) = rw (lt-ltb x.end x.start past) refl
+
+  -- a bound search, or a bound NFA, starts at the first position alone
+  pub starts-bound : {state : ℕ} → start_state nfa x.anchored ≡ Some state → x.start ≤ x.end
+      → (is_anchored x.anchored ≡ true) ⊎ (nfa.anchored ≡ nfa.unanchored) → starts nfa x ≡ pairs_from state x.start (x.start + 1 - x.start)
+  starts-bound {state} e within bound =
+      let one : x.start + 1 - x.start ≡ 1 = omega arith in
+      rw (e, le-ltb x.end x.start within, either bound, one) refl
+    where
+      either : (is_anchored x.anchored ≡ true) ⊎ (nfa.anchored ≡ nfa.unanchored) → (is_anchored x.anchored || nfa.anchored == nfa.unanchored) ≡ true
+      either (inl a) = or_left (is_anchored x.anchored) (nfa.anchored == nfa.unanchored) a
+      either (inr f) = or_right (is_anchored x.anchored) (nfa.anchored == nfa.unanchored) (eq-eqb nfa.anchored nfa.unanchored f)
+
+  -- a search that is free starts at each position of its span, its end included
+  pub starts-free : {state : ℕ} → start_state nfa x.anchored ≡ Some state → x.start ≤ x.end
+      → is_anchored x.anchored ≡ false → ¬ (nfa.anchored ≡ nfa.unanchored) → starts nfa x ≡ pairs_from state x.start (x.end + 1 - x.start)
+  starts-free {state} e within free apart =
+      let all : x.end - x.start + 1 ≡ x.end + 1 - x.start = omega arith in
+      rw (e, le-ltb x.end x.start within, or_from (is_anchored x.anchored) (nfa.anchored == nfa.unanchored) free (ne_eqb nfa.anchored nfa.unanchored apart), all) refl
+
+-- the pairs
+
+-- a Match has no edges
+Match-edges : (nfa : Automaton) (x : Search) (n : Node) (p : ℕ) → is_some (pattern_of n) ≡ true → edges_of x n p ≡ []
+unfolding edges_of
+Match-edges nfa x (ByteRange t) p m = cc
+Match-edges nfa x (Sparse ts) p m = cc
+Match-edges nfa x (Dense targets) p m = cc
+Match-edges nfa x (Look look next) p m = cc
+Match-edges nfa x (Union alternates) p m = cc
+Match-edges nfa x (BinaryUnion a b) p m = cc
+Match-edges nfa x (Capture next slot) p m = cc
+Match-edges nfa x Fail p m = refl
+Match-edges nfa x (Match pattern) p m = refl
+
+-- and writes nothing
+Match-slot : (n : Node) → is_some (pattern_of n) ≡ true → slot_of n ≡ None
+Match-slot (ByteRange t) m = refl
+Match-slot (Sparse ts) m = refl
+Match-slot (Dense targets) m = refl
+Match-slot (Look look next) m = refl
+Match-slot (Union alternates) m = refl
+Match-slot (BinaryUnion a b) m = refl
+Match-slot (Capture next slot) m = cc
+Match-slot Fail m = refl
+Match-slot (Match pattern) m = refl
+
+-- a match leads nowhere
+pub IsMatch-edges : (nfa : Automaton) (x : Search) (v : Pair) → is_match nfa v ≡ true → edges nfa x v ≡ []
+IsMatch-edges nfa x v m = Match-edges nfa x (node_at nfa v.0) v.1 m
+
+-- a match writes nothing
+pub IsMatch-capture : (nfa : Automaton) (v : Pair) → is_match nfa v ≡ true → capture nfa v ≡ None
+IsMatch-capture nfa v m = Match-slot (node_at nfa v.0) m
+
+-- of two accepting paths, one comes before the other
+pub accepting_order : (nfa : Automaton) (x : Search) {m n : Pair} {p q : List Pair}
+    → PathTo (edges nfa x) (starts nfa x) m p → IsMatch nfa m → PathTo (edges nfa x) (starts nfa x) n q → IsMatch nfa n
+    → (p ≡ q) ⊎ (ComesBefore (edges nfa x) p q ⊎ ComesBefore (edges nfa x) q p)
+accepting_order nfa x w t v u = PathTo-order (edges nfa x) (starts nfa x) (is_match nfa) (IsMatch-edges nfa x) (starts-increase nfa x) w t v u
+
+-- and not the other way round too
+pub accepting_order-asymmetric : (nfa : Automaton) (x : Search) (p q : List Pair)
+    → ComesBefore (edges nfa x) p q → ComesBefore (edges nfa x) q p → ⊥
+accepting_order-asymmetric nfa x = ComesBefore-asymmetric (edges nfa x)
+
+-- the slots
+
+-- where a pair writes to the slot
+written : Option ℕ → ℕ → ℕ → Option ℕ
+written o at slot = cond (option_map_or (λ k. k == slot) o false) (Some at) None
+
+-- a write keeps the length
+length-write : (o : Option ℕ) (at : ℕ) (slots : Slots) → length (write o at slots) ≡ length slots
+length-write None at slots = refl
+length-write (Some k) at slots = length-set slots k (Some at)
+
+-- a slot after a write: what was written, or else what stood there
+get_or-write : (o : Option ℕ) (at : ℕ) (slots : Slots) (slot : ℕ) → slot < length slots
+    → get_or (write o at slots) slot None ≡ option_or (written o at slot) (get_or slots slot None)
+unfolding written
+get_or-write None at slots slot within = refl
+get_or-write (Some k) at slots slot within =
+    elim (eqb_tells k slot) [
+      | inl h ↦ rw (h.0, h.1) (get_or-set_same slots slot (Some at) None within)
+      | inr h ↦ rw h.0 (get_or-set_other slots k slot (Some at) None (λ e. h.1 (sym e)))
+    ]
+
+-- of three values the first that is there, however they are paired
+option_or-assoc : (a b c : Option ℕ) → option_or (option_or a b) c ≡ option_or a (option_or b c)
+option_or-assoc None b c = refl
+option_or-assoc (Some a) b c = refl
+
+-- nothing to fall back on
+option_or-None : (a : Option ℕ) → option_or a None ≡ a
+option_or-None None = refl
+option_or-None (Some a) = refl
+
+-- equal finds have equal parts
+pub same_parts : (f g : Pair × Slots) → Some f ≡ Some g → (f.0 ≡ g.0) × (f.1 ≡ g.1)
+same_parts f g e = let k : f ≡ g = cc in (ap (λ h. h.0) k, ap (λ h. h.1) k)
+
+-- a value is not none
+pub never_none : {A : Type 0} (a : A) → Some a ≡ None → ⊥
+never_none a e = cc
+
+-- empty slots add nothing
+get_or-empty : (count slot : ℕ) → slot < count → (a : Option ℕ) → option_or a (get_or (replicate count None) slot None) ≡ a
+get_or-empty count slot below a = rw (get_or-replicate {A = Option ℕ} count slot None None below) (option_or-None a)
+
+module _ (nfa : Automaton) where
+  -- a path's captures keep the length
+  length-apply : (p : List Pair) (slots : Slots) → length (apply (capture nfa) p slots) ≡ length slots
+  length-apply [] slots = refl
+  length-apply (v ∷ p) slots = length-apply p (write (capture nfa v) v.1 slots) ∙ length-write (capture nfa v) v.1 slots
+
+  -- the slot after a path: what the path wrote last, or else what stood there
+  get_or-apply : (p : List Pair) (slots : Slots) (slot : ℕ) → slot < length slots
+      → get_or (apply (capture nfa) p slots) slot None ≡ option_or (slot_among nfa p slot) (get_or slots slot None)
+  unfolding written
+  get_or-apply [] slots slot within = refl
+  get_or-apply (v ∷ p) slots slot within =
+      let later = get_or-apply p (write (capture nfa v) v.1 slots) slot (rw (length-write (capture nfa v) v.1 slots) within) in
+      later ∙ ap (option_or (slot_among nfa p slot)) (get_or-write (capture nfa v) v.1 slots slot within)
+      ∙ sym (option_or-assoc (slot_among nfa p slot) (written (capture nfa v) v.1 slot) (get_or slots slot None))
+
+  -- from empty slots a path's captures are its row
+  pub apply-slot_row : (count : ℕ) (p : List Pair) → apply (capture nfa) p (replicate count None) ≡ slot_row nfa count (Some p)
+  unfolding slot_row
+  apply-slot_row count p =
+      let long : length (apply (capture nfa) p (replicate count None)) ≡ count = length-apply p (replicate count None) ∙ length-replicate count None in
+      ext_get_or None (apply (capture nfa) p (replicate count None)) (map (slot_among nfa p) (range_with_len 0 count))
+      (long ∙ sym (length-map-range_with_len (slot_among nfa p) 0 count))
+      (λ slot within.
+      let below : slot < count = omega arith in
+      get_or-apply p (replicate count None) slot (rw length-replicate below) ∙ get_or-empty count slot below (slot_among nfa p slot)
+      ∙ sym (get_or-map-range_with_len (slot_among nfa p) 0 count slot slot None below (omega arith)))
+
+  module _ (x : Search) where
+    -- a search that finds nothing: there is no accepting path
+    pub scan_none : (total : ℕ) (slots : Slots) → Answer (edges nfa x) (is_match nfa) (capture nfa) total None [] (map Explore (starts nfa x)) slots None
+        → IsScanAnswer nfa x LeftmostFirst false None
+    scan_none total slots answer =
+        elim (Answer-starts (edges nfa x) (is_match nfa) (capture nfa) total (starts nfa x) slots None answer) [
+          | inl k ↦ absurd (found-Some (edges nfa x) (is_match nfa) (capture nfa) slots k.1.2.path k.2)
+          | inr k ↦
+              IsLeast-none (edges nfa x) (starts nfa x) (is_match nfa) (IsMatch-edges nfa x)
+              (IsLeast-from_first (edges nfa x) (is_match nfa) (starts nfa x) (starts-increase nfa x) None k.0)
+        ]
+
+    -- the first accepting path, which ends with v, with its slots, no longer than there were turns
+    pub record FindsPath (count total : ℕ) (v : Pair) (row : Slots) : Type 0 where
+      pub path : List Pair
+      pub answers : IsScanAnswer nfa x LeftmostFirst false (Some path)
+      pub ends : last_of path ≡ Some v
+      pub row_is : row ≡ slot_row nfa count (Some path)
+      pub short : length path ≤ total
+
+    -- what a search finds is the first accepting path's
+    pub scan_some : (count total : ℕ) (v : Pair) (row : Slots)
+        → Answer (edges nfa x) (is_match nfa) (capture nfa) total None [] (map Explore (starts nfa x)) (replicate count None) (Some (v, row))
+        → FindsPath count total v row
+    scan_some count total v row answer =
+        elim (Answer-starts (edges nfa x) (is_match nfa) (capture nfa) total (starts nfa x) (replicate count None) (Some (v, row)) answer) [
+          | inl k ↦
+              let first = IsLeast-first (edges nfa x) (starts nfa x) (is_match nfa) (IsMatch-edges nfa x) k.0
+              (IsLeast-from_first (edges nfa x) (is_match nfa) (starts nfa x) (starts-increase nfa x) (Some k.0) k.1) in
+              let both = same_parts (first.end, apply (capture nfa) k.0 (replicate count None)) (v, row)
+              (sym (found-end (capture nfa) first.end k.0 (replicate count None) first.path.ends) ∙ sym k.2) in
+              record {
+                path = k.0;
+                answers = first;
+                ends = EndsWith-last None first.end k.0 first.path.ends ∙ ap Some both.0;
+                row_is = sym both.1 ∙ apply-slot_row count k.0;
+                short = k.3;
+              }
+          | inr k ↦ absurd (never_none (v, row) k.1)
+        ]
+
+-- a path's end, and boundaries
+
+-- a path ends on a boundary where its last pair stands on one
+pub ends_on_boundary : (x : Search) (p : List Pair) {v : Pair} → last_of p ≡ Some v → EndsOnBoundary x p ↔ IsBoundary x.haystack v.1
+ends_on_boundary x [] e = absurd (never_none _ (sym e))
+ends_on_boundary x (w ∷ p) e = of w p e
+  where
+    of : (w : Pair) (p : List Pair) {v : Pair} → last_or (Some w) p ≡ Some v → EndsOnBoundary x (w ∷ p) ↔ IsBoundary x.haystack v.1
+    of w [] {v} e = let k : w.1 ≡ v.1 = ap (λ (z : Pair). z.1) (let same_pair : w ≡ v = cc in same_pair) in rw k (λ h. h, λ h. h)
+    of w (u ∷ p) e = of u p e
+
+-- raised starts
+
+-- a start raised by none
+pub raised-zero : (x : Search) → raised x 0 ≡ x
+raised-zero x = let e : x.start + 0 ≡ x.start = omega arith in ap (λ (s : ℕ). record x { start = s }) e
+
+-- a start raised once more
+pub raised-raised : (x : Search) (i : ℕ) → raised (raised x i) 1 ≡ raised x (i + 1)
+raised-raised x i = let e : x.start + i + 1 ≡ x.start + (i + 1) = omega arith in ap (λ (s : ℕ). record x { start = s }) e
+
+-- the edges are the same wherever the search starts
+pub edges-raised : (nfa : Automaton) (x : Search) (i : ℕ) (v : Pair) → edges nfa (raised x i) v ≡ edges nfa x v
+unfolding edges_of
+edges-raised nfa x i v = of (node_at nfa v.0)
+  where
+    of : (n : Node) → edges_of (raised x i) n v.1 ≡ edges_of x n v.1
+    of (ByteRange t) = refl
+    of (Sparse ts) = refl
+    of (Dense targets) = refl
+    of (Look look next) = refl
+    of (Union alternates) = refl
+    of (BinaryUnion a b) = refl
+    of (Capture next slot) = refl
+    of Fail = refl
+    of (Match pattern) = refl
+
+module _ (nfa : Automaton) where
+  -- a scan has one answer
+  pub scan_answer-unique : (x : Search) (kind : MatchKind) (earliest : Bool) (r s : Option (List Pair))
+      → IsScanAnswer nfa x kind earliest r → IsScanAnswer nfa x kind earliest s → r ≡ s
+  scan_answer-unique x LeftmostFirst false r s h k = IsFirstPath-unique (edges nfa x) (starts nfa x) (IsMatch nfa) r s h k
+  scan_answer-unique x LeftmostFirst true r s h k = IsEarliestPath-unique (edges nfa x) (starts nfa x) (IsMatch nfa) r s h k
+  scan_answer-unique x All false r s h k = IsLastPath-unique (edges nfa x) (starts nfa x) (IsMatch nfa) r s h k
+  scan_answer-unique x All true r s h k = IsEarliestLastPath-unique (edges nfa x) (starts nfa x) (IsMatch nfa) r s h k
+
+  -- the path that a scan answers with leads to a match
+  pub record LeadsToMatch (x : Search) (p : List Pair) : Type 0 where
+    pub end : Pair
+    pub path : PathTo (edges nfa x) (starts nfa x) end p
+    pub matches : IsMatch nfa end
+
+  -- the answer of a scan, of whichever kind, is a path to a match
+  pub scan_answer-leads : (x : Search) (kind : MatchKind) (earliest : Bool) (p : List Pair) → IsScanAnswer nfa x kind earliest (Some p) → LeadsToMatch x p
+  scan_answer-leads x LeftmostFirst false p h = record { end = h.end; path = h.path; matches = h.wanted }
+  scan_answer-leads x LeftmostFirst true p h = record { end = h.2.end; path = h.2.path; matches = h.2.wanted.wanted }
+  scan_answer-leads x All false p h =
+      record { end = h.2.end; path = PathTo-along (edges nfa x) (starts nfa x) h.2.first.wanted h.2.first.path; matches = h.2.wanted.wanted }
+  scan_answer-leads x All true p h =
+      record { end = h.2.end; path = PathTo-along (edges nfa x) (starts nfa x) h.2.first.wanted h.2.first.path; matches = h.2.wanted.wanted }
+
+  -- a scan with a path starts within its span
+  pub scan_answer-within : (x : Search) (kind : MatchKind) (earliest : Bool) (p : List Pair) → IsScanAnswer nfa x kind earliest (Some p) → x.start ≤ x.end
+  scan_answer-within x kind earliest p h =
+      let path = (scan_answer-leads x kind earliest p h).path in
+      elim (cases_lt x.end x.start) [ inl past ↦ absurd (rw (starts-none nfa x past) at path.among) | inr within ↦ within ]
+
+  module _ (kind : MatchKind) (earliest : Bool) where
+    -- a scan whose answer splits a character starts within its span
+    SplitsCharacter-within : {x : Search} → SplitsCharacter nfa kind earliest x → x.start ≤ x.end
+    SplitsCharacter-within {x} h = scan_answer-within x kind earliest h.path h.answers
+
+    -- as many scans split a character as starts are left, at most
+    skipped-bound : (x : Search) (n : ℕ) → ((i : ℕ) → i < n → SplitsCharacter nfa kind earliest (raised x i)) → n + 1 ≤ span_len x + 2
+    skipped-bound x zero skipped = omega arith
+    skipped-bound x (suc n) skipped =
+        let last : x.start + n ≤ x.end = SplitsCharacter-within (skipped n (omega arith)) in omega arith
+
+    -- a scan whose answer splits a character has no answer that is whole
+    SplitsCharacter-whole : (x : Search) (r : Option (List Pair)) → SplitsCharacter nfa kind earliest x → IsScanAnswer nfa x kind earliest r → IsWhole x r → ⊥
+    SplitsCharacter-whole x None h answers whole = never_none h.path (scan_answer-unique x kind earliest (Some h.path) None h.answers answers)
+    SplitsCharacter-whole x (Some p) h answers whole =
+        h.splits (subst (EndsOnBoundary x) (same_some p h.path (scan_answer-unique x kind earliest (Some p) (Some h.path) answers h.answers)) whole)
+      where
+        same_some : (p q : List Pair) → Some p ≡ Some q → p ≡ q
+        same_some p q e = cc
+
+    -- an anchored search has one answer
+    IsKeptAnswer-unique : (x : Search) (r s : Option (List Pair)) → IsKeptAnswer nfa kind earliest x r → IsKeptAnswer nfa kind earliest x s → r ≡ s
+    IsKeptAnswer-unique x None None h k = refl
+    IsKeptAnswer-unique x None (Some q) h k =
+        elim h [
+          | inl none ↦ scan_answer-unique x kind earliest None (Some q) none k.0
+          | inr split ↦ absurd (SplitsCharacter-whole x (Some q) split k.0 k.1)
+        ]
+    IsKeptAnswer-unique x (Some p) None h k =
+        elim k [
+          | inl none ↦ scan_answer-unique x kind earliest (Some p) None h.0 none
+          | inr split ↦ absurd (SplitsCharacter-whole x (Some p) split h.0 h.1)
+        ]
+    IsKeptAnswer-unique x (Some p) (Some q) h k = scan_answer-unique x kind earliest (Some p) (Some q) h.0 k.0
+
+    -- the restarts stop at the first scan that is whole
+    IsRestartedAnswer-first : (x : Search) (i j : ℕ) (r s : Option (List Pair))
+        → IsRestartedAnswer nfa kind earliest x i r → IsRestartedAnswer nfa kind earliest x j s → i < j → ⊥
+    IsRestartedAnswer-first x i j r s h k less = SplitsCharacter-whole (raised x i) r (k.skipped i less) h.answers h.whole
+
+    -- a search that restarts has one answer, after one number of restarts
+    IsRestartedAnswer-unique : (x : Search) (i j : ℕ) (r s : Option (List Pair))
+        → IsRestartedAnswer nfa kind earliest x i r → IsRestartedAnswer nfa kind earliest x j s → (i ≡ j) × (r ≡ s)
+    IsRestartedAnswer-unique x i j r s h k =
+        elim (cases_lt i j) [
+          | inl less ↦ absurd (IsRestartedAnswer-first x i j r s h k less)
+          | inr more ↦
+              elim (cases_lt j i) [
+                | inl less ↦ absurd (IsRestartedAnswer-first x j i s r k h less)
+                | inr same_count ↦
+                    let e : i ≡ j = omega arith in
+                    (e, scan_answer-unique (raised x j) kind earliest r s (subst (λ n. IsScanAnswer nfa (raised x n) kind earliest r) e h.answers) k.answers)
+              ]
+        ]
+
+    -- a search has one answer, after one number of restarts
+    pub search_answer-unique : (x : Search) (i j : ℕ) (r s : Option (List Pair))
+        → IsSearchAnswer nfa kind earliest x i r → IsSearchAnswer nfa kind earliest x j s → (i ≡ j) × (r ≡ s)
+    search_answer-unique x i j r s = of (is_utf8_empty nfa) (is_anchored x.anchored)
+      where
+        of : (b c : Bool)
+            → MatchBool b (MatchBool c ((i ≡ 0) × IsKeptAnswer nfa kind earliest x r) (IsRestartedAnswer nfa kind earliest x i r)) ((i ≡ 0) × IsScanAnswer nfa x kind earliest r)
+            → MatchBool b (MatchBool c ((j ≡ 0) × IsKeptAnswer nfa kind earliest x s) (IsRestartedAnswer nfa kind earliest x j s)) ((j ≡ 0) × IsScanAnswer nfa x kind earliest s)
+            → (i ≡ j) × (r ≡ s)
+        of true true h k = (h.0 ∙ sym k.0, IsKeptAnswer-unique x r s h.1 k.1)
+        of true false h k = IsRestartedAnswer-unique x i j r s h k
+        of false c h k = (h.0 ∙ sym k.0, scan_answer-unique x kind earliest r s h.1 k.1)
+
+    -- the scans of a search are within the limit
+    pub restarts_bound : (x : Search) (restarts : ℕ) (path : Option (List Pair)) → IsSearchAnswer nfa kind earliest x restarts path → restarts + 1 ≤ scan_limit nfa x
+    restarts_bound x restarts path = of (is_utf8_empty nfa) (is_anchored x.anchored)
+      where
+        of : (b c : Bool)
+            → MatchBool b (MatchBool c ((restarts ≡ 0) × IsKeptAnswer nfa kind earliest x path) (IsRestartedAnswer nfa kind earliest x restarts path)) ((restarts ≡ 0) × IsScanAnswer nfa x kind earliest path)
+            → restarts + 1 ≤ cond (b && not c) (span_len x + 2) 1
+        of true true h = let e : restarts ≡ 0 = h.0 in omega arith
+        of true false h = skipped-bound x restarts h.skipped
+        of false c h = let e : restarts ≡ 0 = h.0 in omega arith
+
+    -- one scan is within any answer's, and within the limit
+    pub one_scan-within : (x : Search) {scans : ℕ} → scans ≤ 1 → IsWithinScans nfa kind earliest x scans
+    one_scan-within x few restarts path answers = omega arith
+
+    module _ (x : Search) (empty : is_utf8_empty nfa ≡ true) (free : is_anchored x.anchored ≡ false) (k : ℕ)
+        (skipped : (i : ℕ) → i < k → SplitsCharacter nfa kind earliest (raised x i)) where
+      -- where k scans split a character, one more is no more than the answer takes
+      pub split-within_scans : IsWithinScans nfa kind earliest x (k + 1)
+      split-within_scans restarts path answers =
+          let restarted : IsRestartedAnswer nfa kind earliest x restarts path = rw (empty, free) at answers in
+          elim (cases_lt restarts k) [
+            | inl less ↦ absurd (SplitsCharacter-whole (raised x restarts) path (skipped restarts less) restarted.answers restarted.whole)
+            | inr more ↦ omega arith
+          ]
+
+      -- and within the limit
+      pub split-bound : k + 1 ≤ scan_limit nfa x
+      split-bound = rw (empty, free) (skipped-bound x k skipped)
+
+-- one scan is within the limit
+pub one_scan-bound : (nfa : Automaton) (x : Search) {scans : ℕ} → scans ≤ 1 → scans ≤ scan_limit nfa x
+one_scan-bound nfa x {scans} few = of (is_utf8_empty nfa && not (is_anchored x.anchored))
+  where
+    of : (b : Bool) → scans ≤ cond b (span_len x + 2) 1
+    of true = omega arith
+    of false = few

@@ -1,0 +1,132 @@
+-- What an input says of `earliest` changes no path: only the kind of answer that is asked for does. And whether there is a match.
+use Rattle.std.proofs.Common.{◌≡◌, ℕ, inl, inr, Bool, true, false, List, [], ◌∷◌, refl, subst}
+use Rattle.std.specs.Prelude.{Option, None, Some, is_some, not, MatchBool}
+use Rattle.std.proofs.lemmas.Bool.{cases_Bool}
+use Rattle.regex_search_core.specs.Search.{Search, is_anchored}
+use Rattle.regex_search_core.specs.declared.search.MatchKind.{MatchKind}
+use Rattle.regex_search_core.specs.declared.search.MatchKind.TheVariants.{All, LeftmostFirst}
+use Rattle.thompson_nfa.specs.Automaton.{Automaton, Node}
+use Rattle.thompson_nfa.specs.Automaton.Node.{ByteRange, Sparse, Dense, Look, Union, BinaryUnion, Capture, Fail, Match}
+use Rattle.nfa_paths.specs.Graphs.{Pair, IsFirstPath, IsEarliestPath, IsLastPath, IsEarliestLastPath}
+use Rattle.nfa_paths.specs.Paths.{raised, node_at, IsMatch, is_utf8_empty, edges_of, edges, starts, IsScanAnswer, EndsOnBoundary, IsWhole, SplitsCharacter, IsKeptAnswer, IsRestartedAnswer, IsSearchAnswer, IsFoundAnswer}
+use Rattle.nfa_paths.proofs.ExistenceLemmas.{is_match-agrees}
+
+-- the search, asked to be earliest or not
+abbrev pub asked : Search → Bool → Search
+asked x sooner = record x { earliest = sooner }
+
+-- the edges are the same
+edges-asked : (nfa : Automaton) (x : Search) (sooner : Bool) (v : Pair) → edges nfa (asked x sooner) v ≡ edges nfa x v
+unfolding edges_of
+edges-asked nfa x sooner v = of (node_at nfa v.0)
+  where
+    of : (n : Node) → edges_of (asked x sooner) n v.1 ≡ edges_of x n v.1
+    of (ByteRange t) = refl
+    of (Sparse ts) = refl
+    of (Dense targets) = refl
+    of (Look look next) = refl
+    of (Union alternates) = refl
+    of (BinaryUnion a b) = refl
+    of (Capture next slot) = refl
+    of Fail = refl
+    of (Match pattern) = refl
+
+module _ (nfa : Automaton) where
+  -- so is a scan's answer
+  pub scan_answer-asked : (x : Search) (sooner : Bool) (kind : MatchKind) (earliest : Bool) (r : Option (List Pair))
+      → IsScanAnswer nfa (asked x sooner) kind earliest r → IsScanAnswer nfa x kind earliest r
+  scan_answer-asked x sooner kind earliest r = of kind earliest
+    where
+      all : edges nfa (asked x sooner) ≡ edges nfa x
+      all = λ i v. edges-asked nfa x sooner v i
+
+      of : (kind : MatchKind) (earliest : Bool) → IsScanAnswer nfa (asked x sooner) kind earliest r → IsScanAnswer nfa x kind earliest r
+      of LeftmostFirst false = subst (λ es. IsFirstPath es (starts nfa x) (IsMatch nfa) r) all
+      of LeftmostFirst true = subst (λ es. IsEarliestPath es (starts nfa x) (IsMatch nfa) r) all
+      of All false = subst (λ es. IsLastPath es (starts nfa x) (IsMatch nfa) r) all
+      of All true = subst (λ es. IsEarliestLastPath es (starts nfa x) (IsMatch nfa) r) all
+
+  module _ (kind : MatchKind) (earliest : Bool) where
+    -- a path ends on a boundary of the same haystack
+    EndsOnBoundary-asked : (x : Search) (sooner : Bool) (p : List Pair) → EndsOnBoundary (asked x sooner) p → EndsOnBoundary x p
+    EndsOnBoundary-asked x sooner [] h = h
+    EndsOnBoundary-asked x sooner (v ∷ []) h = h
+    EndsOnBoundary-asked x sooner (v ∷ (w ∷ p)) h = EndsOnBoundary-asked x sooner (w ∷ p) h
+
+    -- and the other way round
+    EndsOnBoundary-unasked : (x : Search) (sooner : Bool) (p : List Pair) → EndsOnBoundary x p → EndsOnBoundary (asked x sooner) p
+    EndsOnBoundary-unasked x sooner [] h = h
+    EndsOnBoundary-unasked x sooner (v ∷ []) h = h
+    EndsOnBoundary-unasked x sooner (v ∷ (w ∷ p)) h = EndsOnBoundary-unasked x sooner (w ∷ p) h
+
+    -- an answer that splits a character
+    SplitsCharacter-asked : (x : Search) (sooner : Bool) → SplitsCharacter nfa kind earliest (asked x sooner) → SplitsCharacter nfa kind earliest x
+    SplitsCharacter-asked x sooner h = record {
+      path = h.path;
+      answers = scan_answer-asked x sooner kind earliest (Some h.path) h.answers;
+      splits = λ whole. h.splits (EndsOnBoundary-unasked x sooner h.path whole);
+    }
+
+    -- an answer of a search that keeps to its start
+    IsKeptAnswer-asked : (x : Search) (sooner : Bool) (r : Option (List Pair)) → IsKeptAnswer nfa kind earliest (asked x sooner) r → IsKeptAnswer nfa kind earliest x r
+    IsKeptAnswer-asked x sooner None h =
+        elim h [
+          | inl none ↦ inl (scan_answer-asked x sooner kind earliest None none)
+          | inr split ↦ inr (SplitsCharacter-asked x sooner split)
+        ]
+    IsKeptAnswer-asked x sooner (Some p) h = (scan_answer-asked x sooner kind earliest (Some p) h.0, EndsOnBoundary-asked x sooner p h.1)
+
+    -- an answer after restarts
+    IsRestartedAnswer-asked : (x : Search) (sooner : Bool) (n : ℕ) (r : Option (List Pair))
+        → IsRestartedAnswer nfa kind earliest (asked x sooner) n r → IsRestartedAnswer nfa kind earliest x n r
+    IsRestartedAnswer-asked x sooner n r h = record {
+      skipped = λ i below. SplitsCharacter-asked (raised x i) sooner (h.skipped i below);
+      answers = scan_answer-asked (raised x n) sooner kind earliest r h.answers;
+      whole = whole r h.whole;
+    }
+      where
+        whole : (r : Option (List Pair)) → IsWhole (asked x sooner) r → IsWhole x r
+        whole None w = w
+        whole (Some p) w = EndsOnBoundary-asked x sooner p w
+
+    -- so is a search's answer, and its restarts
+    pub search_answer-asked : (x : Search) (sooner : Bool) (n : ℕ) (r : Option (List Pair))
+        → IsSearchAnswer nfa kind earliest (asked x sooner) n r → IsSearchAnswer nfa kind earliest x n r
+    search_answer-asked x sooner n r = of (is_utf8_empty nfa) (is_anchored x.anchored)
+      where
+        of : (b c : Bool)
+            → MatchBool b (MatchBool c ((n ≡ 0) × IsKeptAnswer nfa kind earliest (asked x sooner) r) (IsRestartedAnswer nfa kind earliest (asked x sooner) n r))
+            ((n ≡ 0) × IsScanAnswer nfa (asked x sooner) kind earliest r)
+            → MatchBool b (MatchBool c ((n ≡ 0) × IsKeptAnswer nfa kind earliest x r) (IsRestartedAnswer nfa kind earliest x n r))
+            ((n ≡ 0) × IsScanAnswer nfa x kind earliest r)
+        of true true h = (h.0, IsKeptAnswer-asked x sooner r h.1)
+        of true false h = IsRestartedAnswer-asked x sooner n r h
+        of false c h = (h.0, scan_answer-asked x sooner kind earliest r h.1)
+
+  -- where a match may end anywhere, a scan's answer is the search's
+  scan_answer-search : (kind : MatchKind) (earliest : Bool) (x : Search) (r : Option (List Pair)) → is_utf8_empty nfa ≡ false
+      → IsScanAnswer nfa x kind earliest r → IsSearchAnswer nfa kind earliest x 0 r
+  scan_answer-search kind earliest x r anywhere h = rw anywhere (refl, h)
+
+  -- a search that is earliest wherever a match may end anywhere tells whether there is a match
+  pub found_answer-earliest : (kind : MatchKind) (x : Search) (n : ℕ) (p : Option (List Pair))
+      → IsSearchAnswer nfa kind (not (is_utf8_empty nfa)) x n p → IsFoundAnswer nfa kind false x (is_some p)
+  found_answer-earliest kind x n p h =
+      elim (cases_Bool (is_utf8_empty nfa)) [
+        | inl bound ↦ record {
+          restarts = n;
+          path = p;
+          answers = subst (λ b. IsSearchAnswer nfa kind (not b) x n p) bound h;
+          found_is = refl;
+        }
+        | inr anywhere ↦
+            let sooner : IsSearchAnswer nfa kind true x n p = subst (λ b. IsSearchAnswer nfa kind (not b) x n p) anywhere h in
+            let scan : (n ≡ 0) × IsScanAnswer nfa x kind true p = rw anywhere at sooner in
+            let meant = is_match-agrees nfa x kind anywhere p scan.1 in
+            record {
+              restarts = 0;
+              path = meant.0;
+              answers = scan_answer-search kind false x meant.0 anywhere meant.1;
+              found_is = meant.2;
+            }
+      ]

@@ -1,0 +1,132 @@
+-- Where finitely many pairs lead on, there is a first path to a set, or no path to it.
+use Rattle.std.proofs.Common.{◌≡◌, ℕ, zero, suc, ◌≤◌, ◌⊎◌, inl, inr, Bool, true, List, [], ◌∷◌, length, refl, sym, ap, ◌∙◌, arith}
+use Rattle.std.specs.Prelude.{Option, None, Some}
+use Rattle.std.proofs.lemmas.Bool.{cases_Bool}
+use Rattle.nfa_paths.specs.Graphs.{Pair, In, NoPath, IsFirstTo, IsFirstPath}
+use Rattle.nfa_paths.specs.FirstPaths.{IsFirst, FirstAmong, Increasing, IsLeast}
+use Rattle.nfa_paths.specs.Kinds.{Passes}
+use Rattle.nfa_paths.proofs.PathLemmas.{IsFirst-marked, IsFirst-dead, IsFirst-target, IsFirst-step, IsFirstOfAll-from_among, IsLeast-from_first}
+use Rattle.nfa_paths.proofs.PathToLemmas.{In-cases, IsFirstTo-along, IsLeast-none, IsLeast-first}
+use Rattle.nfa_paths.proofs.KindsLemmas.{test, test-true, true-test}
+
+-- the first path
+
+-- a list without one of its pairs
+record Without (v : Pair) (xs : List Pair) : Type 0 where
+  rest : List Pair
+  shorter : length xs ≡ suc (length rest)
+  covers : (x : Pair) → In x xs → (x ≡ v) ⊎ In x rest
+
+-- a pair that stands in a list can be taken out
+without : (v : Pair) (xs : List Pair) → In v xs → Without v xs
+without v [] i = absurd i
+without v (y ∷ xs) (inl here) =
+    record { rest = xs; shorter = refl; covers = λ x i. elim i [ inl e ↦ inl (e ∙ sym here) | inr j ↦ inr j ] }
+without v (y ∷ xs) (inr later) =
+    let w = without v xs later in
+    record {
+      rest = y ∷ w.rest;
+      shorter = ap suc w.shorter;
+      covers = λ x i.
+          elim i [
+            | inl e ↦ inr (inl e)
+            | inr j ↦ elim (w.covers x j) [ inl e ↦ inl e | inr k ↦ inr (inr k) ]
+          ];
+    }
+
+-- From the starts, which rise, only pairs at positions up to n are reached, and of these only the pairs of `all` lead on.
+pub record IsFinite (edges : Pair → List Pair) (starts all : List Pair) (n : ℕ) : Type 0 where
+  pub stays : (x y : Pair) → In y (edges x) → x.1 ≤ n → y.1 ≤ n
+  pub begins : (s : Pair) → In s starts → s.1 ≤ n
+  pub leads_on : (x : Pair) → x.1 ≤ n → In x all ⊎ (edges x ≡ [])
+  pub increase : Increasing starts
+
+module _ {edges : Pair → List Pair} {starts all : List Pair} {n : ℕ} (finite : IsFinite edges starts all n) where
+  module _ (target : Pair → Bool) where
+    -- the first path from a pair, or that there is none
+    abbrev FirstFrom : List Pair → Pair → Type 0
+    FirstFrom marks v = (r : Option (List Pair)) × IsFirst edges target marks v r
+
+    -- pairs tried in turn
+    first_among : (marks es : List Pair) → ((e : Pair) → In e es → FirstFrom marks e)
+        → (r : Option (List Pair)) × FirstAmong edges target marks es r
+    first_among marks [] each = (None, refl)
+    first_among marks (e ∷ es) each =
+        let here = each e (inl refl) in
+        let later = first_among marks es (λ d i. each d (inr i)) in
+        (elim here.0 as (λ r. IsFirst edges target marks e r → (r : Option (List Pair)) × FirstAmong edges target marks (e ∷ es) r) [
+          | None ↦ λ h. (later.0, inr (h, later.1))
+          | Some p ↦ λ h. (Some p, inl (p, h, refl))
+        ]) here.1
+
+    -- each pair that leads on is marked or among those left
+    abbrev Covers : List Pair → List Pair → Type 0
+    Covers left marks = (x : Pair) → x.1 ≤ n → In x marks ⊎ (In x left ⊎ (edges x ≡ []))
+
+    -- one more is marked, and no longer left
+    Covers-mark : (left marks : List Pair) (v : Pair) (w : Without v left) → Covers left marks → Covers w.rest (v ∷ marks)
+    Covers-mark left marks v w covers x h =
+        elim (covers x h) [
+          | inl m ↦ inl (inr m)
+          | inr c ↦
+              elim c [
+                | inl i ↦ elim (w.covers x i) [ inl e ↦ inl (inl e) | inr j ↦ inr (inl j) ]
+                | inr dead ↦ inr (inr dead)
+              ]
+        ]
+
+    -- a pair has a first path or none where that is so behind it
+    first_step : (left marks : List Pair) → Covers left marks → (v : Pair) → v.1 ≤ n
+        → (Without v left → (e : Pair) → In e (edges v) → FirstFrom (v ∷ marks) e) → FirstFrom marks v
+    first_step left marks covers v h behind =
+        elim (In-cases v marks) [
+          | inl m ↦ (None, IsFirst-marked edges target marks v m)
+          | inr free ↦
+              elim (cases_Bool (target v)) [
+                | inl t ↦ (Some (v ∷ []), IsFirst-target edges target marks v free t)
+                | inr plain ↦
+                    elim (covers v h) [
+                      | inl m ↦ absurd (free m)
+                      | inr c ↦
+                          elim c [
+                            | inl i ↦
+                                let r = first_among (v ∷ marks) (edges v) (behind (without v left i)) in
+                                (_, IsFirst-step edges target marks v free plain r.0 r.1)
+                            | inr dead ↦ (None, IsFirst-dead edges target marks v plain dead)
+                          ]
+                    ]
+              ]
+        ]
+
+    -- with so many pairs left, a pair has a first path or none
+    first_from : (size : ℕ) (left marks : List Pair) → length left ≡ size → Covers left marks → (v : Pair) → v.1 ≤ n → FirstFrom marks v
+    first_from zero left marks is covers v h = first_step left marks covers v h (λ w e i. absurd (no_rest w.shorter))
+      where
+        no_rest : {k : ℕ} → length left ≡ suc k → ⊥
+        no_rest s = omega arith
+    first_from (suc size) left marks is covers v h =
+        first_step left marks covers v h
+        (λ w e i. first_from size w.rest (v ∷ marks) (one_less w.shorter) (Covers-mark left marks v w covers) e (finite.stays v e i h))
+      where
+        one_less : {k : ℕ} → length left ≡ suc k → k ≡ size
+        one_less s = omega arith
+
+    -- the first path to a target from the starts, or that there is none
+    pub first_to : ((x : Pair) → target x ≡ true → edges x ≡ []) → (r : Option (List Pair)) × IsFirstPath edges starts (Passes target) r
+    first_to stops =
+        let r = first_among [] starts (λ s i. first_from (length all) all [] refl (λ x h. inr (finite.leads_on x h)) s (finite.begins s i)) in
+        (r.0, of r.0 (IsLeast-from_first edges target starts finite.increase r.0 (IsFirstOfAll-from_among edges target [] starts r.0 r.1)))
+      where
+        of : (r : Option (List Pair)) → IsLeast edges target starts r → IsFirstPath edges starts (Passes target) r
+        of None least = IsLeast-none edges starts target stops least
+        of (Some p) least = IsLeast-first edges starts target stops p least
+
+  -- the first path to a set that can be tested, whose pairs lead nowhere
+  pub first_in : (P : Pair → Type 0) → ((x : Pair) → P x ⊎ ¬ (P x)) → ((x : Pair) → P x → edges x ≡ [])
+      → NoPath edges starts P ⊎ ((p : List Pair) × IsFirstTo edges starts P p)
+  first_in P tell stops =
+      let r = first_to (λ x. test (tell x)) (λ x t. stops x (test-true (tell x) t)) in of r.0 r.1
+    where
+      of : (r : Option (List Pair)) → IsFirstPath edges starts (λ x. test (tell x) ≡ true) r → NoPath edges starts P ⊎ ((p : List Pair) × IsFirstTo edges starts P p)
+      of None none = inl (λ m p w h. none m p w (true-test (tell m) h))
+      of (Some p) first = inr (p, IsFirstTo-along edges starts (λ x. test (tell x) ≡ true) P (λ x. test-true (tell x)) (λ x. true-test (tell x)) first)

@@ -1,0 +1,197 @@
+-- The match of a search's answer lies in its span.
+use Rattle.std.proofs.Common.{◌∙◌, ◌≡◌, ℕ, ◌+◌, ◌*◌, ◌≤◌, inl, inr, Bool, true, false, List, [], ◌∷◌, map, refl, ap, sym, subst, MatchBool, arith}
+use Rattle.std.specs.Prelude.{◌<◌, length, replicate, All, IfSome, Option, None, Some, cond, nat_le, option_and_then, option_map, ◌==◌}
+use Rattle.std.specs.Option.{option_or, option_map_or}
+use Rattle.std.specs.List.{slice_get, range_with_len}
+use Rattle.std.proofs.lemmas.Bool.{cases_lt, le-leb, lt-leb}
+use Rattle.std.proofs.lemmas.Option.{slice_get-map}
+use Rattle.regex_search_core.specs.Found.{Found}
+use Rattle.regex_search_core.specs.Groups.{slot_count}
+use Rattle.regex_search_core.specs.Search.{Search, is_anchored}
+use Rattle.regex_search_core.specs.Slots.{offset_at, span_at, match_of}
+use Rattle.regex_search_core.specs.declared.search.MatchKind.{MatchKind}
+use Rattle.regex_search_core.specs.declared.search.Span.{Span}
+use Rattle.thompson_nfa.specs.Automaton.{Automaton, IsAutomaton}
+use Rattle.nfa_paths.specs.Graphs.{Pair, In, Linked, PathTo}
+use Rattle.nfa_paths.specs.Paths.{edges, starts, capture, raised, path_pattern, pattern_of, node_at, last_of, slot_among, slot_row, is_utf8_empty, IsScanAnswer, IsKeptAnswer, IsRestartedAnswer, IsSearchAnswer, IsAnswer, IsMatchAnswer}
+use Rattle.nfa_paths.proofs.AnswerLemmas.{scan_answer-leads, never_none}
+use Rattle.std.proofs.lemmas.List.Elements.{All-map, All-replicate}
+use Rattle.nfa_paths.proofs.PatternLemmas.{node-pattern}
+use Rattle.nfa_paths.proofs.ScanAnswerLemmas.{edges-onward, edges-within, starts-from, starts-within}
+
+-- the position lies in the span
+abbrev IsWithin : Search → ℕ → Type 0
+IsWithin x i = (x.start ≤ i) × (i ≤ x.end)
+
+-- the two offsets that make a match
+offsets : (slots : List (Option ℕ)) (p : ℕ) (f : Found) → match_of (Some p) slots ≡ Some f
+    → (offset_at slots (2 * p) ≡ Some f.start) × (offset_at slots (2 * p + 1) ≡ Some f.end) × (f.start ≤ f.end)
+offsets slots p f = of (offset_at slots (2 * p)) (offset_at slots (2 * p + 1))
+  where
+    spans : Option ℕ → Option ℕ → Option Span
+    spans a b = option_and_then (λ start. option_and_then (λ end. cond (nat_le start end) (Some (record { start = start; end = end })) None) b) a
+
+    made : Option Span → Option Found
+    made o = option_map (λ (s : Span). record { pattern = p; start = s.start; end = s.end }) o
+
+    of : (a b : Option ℕ) → made (spans a b) ≡ Some f → (a ≡ Some f.start) × (b ≡ Some f.end) × (f.start ≤ f.end)
+    of None b e = cc
+    of (Some start) None e = cc
+    of (Some start) (Some end) e =
+        elim (cases_lt end start) [
+          | inl past ↦ absurd (never_none _ (sym (rw (lt-leb start end past) at e)))
+          | inr ordered ↦
+              let is : Some (record { pattern = p; start = start; end = end }) ≡ Some f = rw (le-leb start end ordered) at e in
+              let found : record { pattern = p; start = start; end = end } ≡ f = cc in
+              (ap (λ (g : Found). Some g.start) found, ap (λ (g : Found). Some g.end) found, subst (λ (g : Found). g.start ≤ g.end) found ordered)
+        ]
+
+-- an offset of a row of values is one of the values
+offset-value : (f : ℕ → Option ℕ) (places : List ℕ) (i k : ℕ) → offset_at (map f places) i ≡ Some k → (j : ℕ) × (f j ≡ Some k)
+offset-value f places i k e = of (slice_get places i) (rw (slice_get-map f places i) at e)
+  where
+    of : (o : Option ℕ) → option_and_then (λ offset. offset) (option_map f o) ≡ Some k → (j : ℕ) × (f j ≡ Some k)
+    of None e = cc
+    of (Some j) e = (j, e)
+
+module _ (nfa : Automaton) where
+  module _ (x : Search) where
+    -- each pair of a linked list that begins in the span lies there
+    linked-within : (y : Pair) (p : List Pair) → Linked (edges nfa x) (y ∷ p) → IsWithin x y.1 → (w : Pair) → In w (y ∷ p) → IsWithin x w.1
+    linked-within y [] linked here w i = elim i [ inl e ↦ subst (λ (v : Pair). IsWithin x v.1) (sym e) here | inr never ↦ absurd never ]
+    linked-within y (z ∷ p) linked here w i =
+        elim i [
+          | inl e ↦ subst (λ (v : Pair). IsWithin x v.1) (sym e) here
+          | inr later ↦
+              let on : y.1 ≤ z.1 = edges-onward nfa x y z linked.0 in
+              let low : x.start ≤ z.1 = omega (arith, here.0) in
+              linked-within z p linked.1 (low, edges-within nfa x y z linked.0 here.1) w later
+        ]
+
+    -- each pair of a path lies in the span
+    path-within : (m : Pair) (p : List Pair) → PathTo (edges nfa x) (starts nfa x) m p → (w : Pair) → In w p → IsWithin x w.1
+    path-within m [] path w i = absurd i
+    path-within m (y ∷ p) path w i =
+        let start : IsWithin x path.start.1 = (starts-from nfa x path.start path.among, starts-within nfa x path.start path.among) in
+        linked-within y p path.linked (subst (λ (v : Pair). IsWithin x v.1) (sym path.head) start) w i
+
+    -- and so does each slot that it writes
+    slot-within : (p : List Pair) → ((w : Pair) → In w p → IsWithin x w.1) → (slot k : ℕ) → slot_among nfa p slot ≡ Some k → IsWithin x k
+    slot-within [] inside slot k e = cc
+    slot-within (v ∷ p) inside slot k e =
+        of (slot_among nfa p slot) (option_map_or (λ s. s == slot) (capture nfa v) false) (λ j. slot-within p (λ w i. inside w (inr i)) slot j) e
+      where
+        of : (o : Option ℕ) (b : Bool) → ((j : ℕ) → o ≡ Some j → IsWithin x j) → option_or o (cond b (Some v.1) None) ≡ Some k → IsWithin x k
+        of (Some j) b later e = later k e
+        of None true later e = let is : v.1 ≡ k = cc in subst (IsWithin x) is (inside v (inl refl))
+        of None false later e = cc
+
+    -- and the match that its slots make
+    row-within : (m : Pair) (p : List Pair) → PathTo (edges nfa x) (starts nfa x) m p → (count q : ℕ) (f : Found)
+        → match_of (Some q) (slot_row nfa count (Some p)) ≡ Some f → (x.start ≤ f.start) × (f.start ≤ f.end) × (f.end ≤ x.end)
+    unfolding slot_row
+    row-within m p path count q f e =
+        let at = offsets _ q f e in
+        let one = offset-value (slot_among nfa p) (range_with_len 0 count) (2 * q) f.start at.0 in
+        let two = offset-value (slot_among nfa p) (range_with_len 0 count) (2 * q + 1) f.end at.1 in
+        let start = slot-within p (path-within m p path) one.0 f.start one.1 in
+        let end = slot-within p (path-within m p path) two.0 f.end two.1 in
+        (start.0, at.2, end.1)
+
+  module _ (kind : MatchKind) (earliest : Bool) where
+    -- the path of a search's answer is that of a scan from the start or from further on
+    pub record Scanned (x : Search) (p : List Pair) : Type 0 where
+      pub from : Search
+      pub answers : IsScanAnswer nfa from kind earliest (Some p)
+      pub on : x.start ≤ from.start
+      pub end : from.end ≡ x.end
+
+    scanned : (x : Search) (restarts : ℕ) (p : List Pair) → IsSearchAnswer nfa kind earliest x restarts (Some p) → Scanned x p
+    scanned x restarts p =
+        elim (is_utf8_empty nfa) as (λ m. MatchBool m
+        (MatchBool (is_anchored x.anchored) ((restarts ≡ 0) × IsKeptAnswer nfa kind earliest x (Some p)) (IsRestartedAnswer nfa kind earliest x restarts (Some p)))
+        ((restarts ≡ 0) × IsScanAnswer nfa x kind earliest (Some p)) → Scanned x p) [
+          | true ↦
+              elim (is_anchored x.anchored) as (λ a. MatchBool a ((restarts ≡ 0) × IsKeptAnswer nfa kind earliest x (Some p)) (IsRestartedAnswer nfa kind earliest x restarts (Some p))
+              → Scanned x p) [
+                | true ↦ λ h. record { from = x; answers = h.1.0; on = omega arith; end = refl }
+                | false ↦ λ h. record { from = raised x restarts; answers = h.answers; on = omega arith; end = refl }
+              ]
+          | false ↦ λ h. record { from = x; answers = h.1; on = omega arith; end = refl }
+        ]
+
+    -- the match lies in the span
+    pub match-within : (x : Search) (f : Found) → IsMatchAnswer nfa kind earliest x (Some f) → (x.start ≤ f.start) × (f.start ≤ f.end) × (f.end ≤ x.end)
+    match-within x f a = of a.path a.answers a.found_is
+      where
+        some : (p : List Pair) (s : Scanned x p) (q : Option ℕ) → Some f ≡ match_of q (slot_row nfa (slot_count nfa.groups) (Some p))
+            → (x.start ≤ f.start) × (f.start ≤ f.end) × (f.end ≤ x.end)
+        some p s None e = cc
+        some p s (Some q) e =
+            let to = scan_answer-leads nfa s.from kind earliest p s.answers in
+            let k = row-within s.from to.end p to.path (slot_count nfa.groups) q f (sym e) in
+            let on : x.start ≤ s.from.start = s.on in
+            let end : s.from.end ≡ x.end = s.end in
+            (omega (arith, k.0), k.1, omega (arith, k.2))
+
+        of : (path : Option (List Pair)) → IsSearchAnswer nfa kind earliest x a.restarts path
+            → Some f ≡ match_of (option_and_then (path_pattern nfa) path) (slot_row nfa (slot_count nfa.groups) path)
+            → (x.start ≤ f.start) × (f.start ≤ f.end) × (f.end ≤ x.end)
+        of None answers e = cc
+        of (Some p) answers e = some p (scanned x a.restarts p answers) (path_pattern nfa p) e
+
+    -- what holds of the number that a slot has
+    if-some : (o : Option ℕ) (P : ℕ → Type 0) → ((k : ℕ) → o ≡ Some k → P k) → IfSome o P
+    if-some None P holds = tt
+    if-some (Some k) P holds = holds k refl
+
+    -- each slot of an answer is none, or lies in the span
+    pub slots-within : (x : Search) (pattern : Option ℕ) (slots : List (Option ℕ)) → IsAnswer nfa kind earliest x pattern slots
+        → All (λ o. IfSome o (λ k. (x.start ≤ k) × (k ≤ x.end))) slots
+    unfolding slot_row
+    slots-within x pattern slots a =
+        subst (All (λ o. IfSome o (λ k. (x.start ≤ k) × (k ≤ x.end)))) (sym a.slots_are) (of a.path a.answers)
+      where
+        some : (p : List Pair) (s : Scanned x p) (j k : ℕ) → slot_among nfa p j ≡ Some k → (x.start ≤ k) × (k ≤ x.end)
+        some p s j k e =
+            let to = scan_answer-leads nfa s.from kind earliest p s.answers in
+            let lies = slot-within s.from p (path-within s.from to.end p to.path) j k e in
+            let on : x.start ≤ s.from.start = s.on in
+            let end : s.from.end ≡ x.end = s.end in
+            (omega (arith, lies.0), omega (arith, lies.1))
+
+        of : (path : Option (List Pair)) → IsSearchAnswer nfa kind earliest x a.restarts path
+            → All (λ o. IfSome o (λ k. (x.start ≤ k) × (k ≤ x.end))) (slot_row nfa (length slots) path)
+        of None answers = All-replicate (λ o. IfSome o (λ k. (x.start ≤ k) × (k ≤ x.end))) (length slots) None tt
+        of (Some p) answers =
+            let s = scanned x a.restarts p answers in
+            All-map (λ o. IfSome o (λ k. (x.start ≤ k) × (k ≤ x.end))) (slot_among nfa p) (range_with_len 0 (length slots))
+            (λ i d below. if-some (slot_among nfa p _) (λ k. (x.start ≤ k) × (k ≤ x.end)) (λ k e. some p s _ k e))
+
+    path-pattern : IsAutomaton nfa → (p : List Pair) (q : ℕ) → path_pattern nfa p ≡ Some q → q < length nfa.patterns
+    path-pattern valid p q e = of (last_of p) e
+      where
+        of : (last : Option Pair) → option_and_then (λ (v : Pair). pattern_of (node_at nfa v.0)) last ≡ Some q → q < length nfa.patterns
+        of None e = cc
+        of (Some v) e = node-pattern nfa valid v.0 q e
+
+    among : IsAutomaton nfa → (path : Option (List Pair)) (q : ℕ) → option_and_then (path_pattern nfa) path ≡ Some q → q < length nfa.patterns
+    among valid None q e = cc
+    among valid (Some p) q e = path-pattern valid p q e
+
+    -- the pattern of an answer is one of the NFA's
+    pub pattern-within : IsAutomaton nfa → (x : Search) (pattern : Option ℕ) (slots : List (Option ℕ)) → IsAnswer nfa kind earliest x pattern slots
+        → IfSome pattern (λ q. q < length nfa.patterns)
+    pattern-within valid x pattern slots a = if-some pattern (λ q. q < length nfa.patterns) (λ q e. among valid a.path q (sym a.pattern_is ∙ e))
+
+    -- and so is that of a match
+    pub match-pattern : IsAutomaton nfa → (x : Search) (f : Found) → IsMatchAnswer nfa kind earliest x (Some f) → f.pattern < length nfa.patterns
+    match-pattern valid x f a = of (option_and_then (path_pattern nfa) a.path) refl a.found_is
+      where
+        of : (o : Option ℕ) → option_and_then (path_pattern nfa) a.path ≡ o → Some f ≡ match_of o (slot_row nfa (slot_count nfa.groups) a.path) → f.pattern < length nfa.patterns
+        of None is e = cc
+        of (Some q) is e = subst (λ (n : ℕ). n < length nfa.patterns) (same (span_at (slot_row nfa (slot_count nfa.groups) a.path) (2 * q)) e) (among valid a.path q is)
+          where
+            same : (o : Option Span) → Some f ≡ option_map (λ (s : Span). record { pattern = q; start = s.start; end = s.end }) o → q ≡ f.pattern
+            same None e = cc
+            same (Some s) e = let is : f ≡ record { pattern = q; start = s.start; end = s.end } = cc in sym (ap (λ (g : Found). g.pattern) is)

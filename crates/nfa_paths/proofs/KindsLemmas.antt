@@ -1,0 +1,419 @@
+-- What the front of a position says of the paths that end there.
+use Rattle.std.proofs.Common.{◌≡◌, ℕ, suc, ◌≤◌, ◌<◌, ◌⊎◌, ◌↔◌, inl, inr, Bool, true, false, List, [], ◌∷◌, ◌++◌, map, length, refl, sym, ap, ◌∙◌, subst, append_assoc, arith}
+use Rattle.std.specs.Prelude.{Option, None, Some}
+use Rattle.std.proofs.Math.Decide.{ℕ_discrete}
+use Rattle.std.proofs.lemmas.Bool.{cases_Bool}
+use Rattle.nfa_paths.specs.Graphs.{Pair, In, NoRepeats, ComesBefore, PathTo, NoPath, IsFirstTo, WantedAt, IsLastOfFirsts}
+use Rattle.nfa_paths.specs.FirstPaths.{Path, IsFirst}
+use Rattle.nfa_paths.specs.FirstPaths.Path.{stop, go}
+use Rattle.nfa_paths.specs.Exploring.{Slots, Found, Item, apply, found, Answer, AnswerBehind}
+use Rattle.nfa_paths.specs.Exploring.Item.{Explore, Restore, Load}
+use Rattle.nfa_paths.specs.Kinds.{Passes, MatchesAt, NoMatch, first_match, last_match, Scanned, IsFront}
+use Rattle.nfa_paths.proofs.PathLemmas.{same, IsFirst-target, IsLeast-from_first}
+use Rattle.nfa_paths.proofs.SearchLemmas.{Answer-starts, found-Some}
+use Rattle.nfa_paths.proofs.PathToLemmas.{found-end, IsFirstTo-along, IsFirstTo-unique, IsLeast-none, IsLeast-first}
+
+-- the answer of a front
+
+module _ (edges : Pair → List Pair) (target : Pair → Bool) (capture : Pair → Option ℕ) where
+  -- a path holds a target
+  Path-target : {v : Pair} {p : List Pair} → Path edges target v p → (x : Pair) × In x p × (target x ≡ true)
+  Path-target (stop {v = v} t) = (v, inl refl, t)
+  Path-target (go t e n h) = let r = Path-target h in (r.0, inr r.1, r.2)
+
+  module _ (e : ℕ) (onward : (x y : Pair) → In y (edges x) → x.1 ≤ y.1) (at : (x : Pair) → target x ≡ true → x.1 ≡ e) where
+    -- from a later position no target is reached
+    Path-later : {v : Pair} {p : List Pair} → Path edges target v p → e < v.1 → ⊥
+    Path-later (stop {v = v} t) l = let k : v.1 ≡ e = at v t in omega arith
+    Path-later (go {v = v} {w = w} t i n h) l = let k : v.1 ≤ w.1 = onward v w i in Path-later h (omega arith)
+
+    -- a pair at a later position has no path
+    IsFirst-later : (marks : List Pair) (v : Pair) → e < v.1 → IsFirst edges target marks v None
+    IsFirst-later marks v l p a = Path-later a.path l
+
+    -- a pair that rises and is no target
+    pub IsFirst-rises : (marks : List Pair) (v : Pair) → ((w : Pair) → In w (edges v) → e < w.1) → (target v ≡ true → ⊥) → IsFirst edges target marks v None
+    IsFirst-rises marks v rises plain p a = none a.path rises plain
+      where
+        none : {v : Pair} {p : List Pair} → Path edges target v p → ((w : Pair) → In w (edges v) → e < w.1) → (target v ≡ true → ⊥) → ⊥
+        none (stop t) r f = f t
+        none (go {w = w} t i n h) r f = Path-later h (r w i)
+
+    -- work at later positions alone finds nothing
+    Answer-later : (left : ℕ) (marks : List Pair) (work : List Item) (slots : Slots) → ((k : Pair) → In (Explore k) work → e < k.1)
+        → Answer edges target capture left None marks work slots None
+    unfolding Answer
+    Answer-later left marks [] slots l = refl
+    Answer-later left marks (Explore v ∷ rest) slots l = inr (IsFirst-later marks v (l v (inl refl)), Answer-later left marks rest slots (λ k i. l k (inr i)))
+    Answer-later left marks (Restore k old ∷ rest) slots l = Answer-later left marks rest _ (λ k i. l k (inr i))
+    Answer-later left marks (Load old ∷ rest) slots l = Answer-later left marks rest old (λ k i. l k (inr i))
+
+    module _ (left : ℕ) (marks : List Pair) (waiting : List Item) (slots : Slots) (later : (k : Pair) → In (Explore k) waiting → e < k.1) where
+      -- a front with no target
+      AnswerBehind-none : (front : List (Pair × Slots)) → ((a : Pair × Slots) → In a front → (w : Pair) → In w (edges a.0) → e < w.1)
+          → ((a : Pair × Slots) → In a front → target a.0 ≡ true → ⊥)
+          → AnswerBehind edges target capture left front None marks waiting slots None
+      unfolding AnswerBehind
+      AnswerBehind-none [] rises plain = Answer-later left marks waiting slots later
+      AnswerBehind-none (a ∷ front) rises plain =
+          inr (
+            IsFirst-rises [] a.0 (rises a (inl refl)) (plain a (inl refl)),
+            AnswerBehind-none front (λ b i. rises b (inr i)) (λ b i. plain b (inr i)),
+          )
+
+      -- the first target of a front
+      AnswerBehind-first : (before : List (Pair × Slots)) (a : Pair × Slots) (after : List (Pair × Slots))
+          → ((b : Pair × Slots) → In b before → (w : Pair) → In w (edges b.0) → e < w.1)
+          → ((b : Pair × Slots) → In b before → target b.0 ≡ true → ⊥) → target a.0 ≡ true
+          → AnswerBehind edges target capture left (before ++ a ∷ after) None marks waiting slots (found capture (a.0 ∷ []) a.1)
+      unfolding AnswerBehind
+      AnswerBehind-first [] a after rises plain t =
+          let short : length (a.0 ∷ []) ≤ suc left = omega arith in inl (a.0 ∷ [], IsFirst-target edges target [] a.0 (λ n. n) t, refl, short)
+      AnswerBehind-first (b ∷ before) a after rises plain t =
+          inr (
+            IsFirst-rises [] b.0 (rises b (inl refl)) (plain b (inl refl)),
+            AnswerBehind-first before a after (λ c i. rises c (inr i)) (λ c i. plain c (inr i)) t,
+          )
+
+-- lists
+
+-- what stands in the first of two lists
+pub In-append_left : {A : Type 0} (x : A) (xs ys : List A) → In x xs → In x (xs ++ ys)
+In-append_left x [] ys i = absurd i
+In-append_left x (y ∷ xs) ys i = elim i [ inl e ↦ inl e | inr j ↦ inr (In-append_left x xs ys j) ]
+
+-- what stands in the second of two lists
+pub In-append_right : {A : Type 0} (x : A) (xs ys : List A) → In x ys → In x (xs ++ ys)
+In-append_right x [] ys i = i
+In-append_right x (y ∷ xs) ys i = inr (In-append_right x xs ys i)
+
+-- what stands in two lists stands in one of them
+In-append : {A : Type 0} (x : A) (xs ys : List A) → In x (xs ++ ys) → In x xs ⊎ In x ys
+In-append x [] ys i = inr i
+In-append x (y ∷ xs) ys i = elim i [ inl e ↦ inl (inl e) | inr j ↦ elim (In-append x xs ys j) [ inl k ↦ inl (inr k) | inr k ↦ inr k ] ]
+
+-- an item's pair is among the pairs
+In-map : (a : Pair × Slots) (xs : List (Pair × Slots)) → In a xs → In a.0 (map (λ b. b.0) xs)
+In-map a [] i = i
+In-map a (x ∷ xs) i = elim i [ inl e ↦ inl (ap (λ b. b.0) e) | inr j ↦ inr (In-map a xs j) ]
+
+-- no pair twice: what stands before an item is another pair
+apart : (before : List (Pair × Slots)) (a : Pair × Slots) (after : List (Pair × Slots)) → NoRepeats (map (λ b. b.0) (before ++ a ∷ after))
+    → (b : Pair × Slots) → In b before → b.0 ≡ a.0 → ⊥
+apart [] a after n b i e = i
+apart (c ∷ before) a after n b i e =
+    elim i [
+      | inl here ↦
+          let same_pair : c.0 ≡ a.0 = ap (λ x. x.0) (sym here) ∙ e in
+          n.0 (rw same_pair (In-map a (before ++ a ∷ after) (In-append_right a before (a ∷ after) (inl refl))))
+      | inr later ↦ apart before a after n.1 b later e
+    ]
+
+-- the first item of a pair
+record Holds (m : Pair) (front : List (Pair × Slots)) : Type 0 where
+  before : List (Pair × Slots)
+  item : Pair × Slots
+  after : List (Pair × Slots)
+  split : front ≡ before ++ item ∷ after
+  plain : (b : Pair × Slots) → In b before → b.0 ≡ m → ⊥
+  is : item.0 ≡ m
+
+-- an item of the pair, or that there is none
+find : (m : Pair) (front : List (Pair × Slots)) → Holds m front ⊎ ((b : Pair × Slots) → In b front → b.0 ≡ m → ⊥)
+find m [] = inr (λ b i. absurd i)
+find m (a ∷ front) =
+    elim (same a.0 m) [
+      | inl e ↦ inl (record { before = []; item = a; after = front; split = refl; plain = λ b i. absurd i; is = e })
+      | inr n ↦
+          elim (find m front) [
+            | inl r ↦ inl (record {
+              before = a ∷ r.before;
+              item = r.item;
+              after = r.after;
+              split = ap (λ x. a ∷ x) r.split;
+              plain = λ b i e. elim i [ inl here ↦ n (rw here at e) | inr j ↦ r.plain b j e ];
+              is = r.is;
+            })
+            | inr none ↦ inr (λ b i e. elim i [ inl here ↦ n (rw here at e) | inr j ↦ none b j e ])
+          ]
+    ]
+
+-- a property that can be tested
+abbrev Tested : (Pair → Type 0) → Type 0
+Tested P = (x : Pair) → P x ⊎ ¬ (P x)
+
+-- whether a property that can be told holds
+pub test : {A : Type 0} → A ⊎ ¬ A → Bool
+test (inl a) = true
+test (inr n) = false
+
+-- where the test succeeds, the property holds
+pub test-true : {A : Type 0} (d : A ⊎ ¬ A) → test d ≡ true → A
+unfolding test
+test-true (inl a) e = a
+test-true (inr n) e = cc
+
+-- where the property holds, the test succeeds
+pub true-test : {A : Type 0} (d : A ⊎ ¬ A) → A → test d ≡ true
+unfolding test
+true-test (inl a) h = refl
+true-test (inr n) h = absurd (n h)
+
+module _ (edges : Pair → List Pair) (capture : Pair → Option ℕ) (starts : List Pair) (resting is_match : Pair → Bool) (slots : Slots) (turns : ℕ) where
+  module _ (shape : Scanned edges capture starts resting is_match) {front : List (Pair × Slots)} {e : ℕ}
+      (f : IsFront edges capture starts resting is_match slots turns front e)
+      (P : Pair → Type 0) (d : Tested P) (matches : (x : Pair) → P x → (is_match x ≡ true) × (x.1 ≡ e)) where
+    -- the set as a test
+    target : Pair → Bool
+    target x = test (d x)
+
+    -- a target is in the set
+    is_target : (x : Pair) → target x ≡ true → P x
+    unfolding target
+    is_target x = test-true (d x)
+
+    -- what is in the set is a target
+    target_is : (x : Pair) → P x → target x ≡ true
+    unfolding target
+    target_is x = true-test (d x)
+
+    -- targets are match pairs at e
+    at_matches : MatchesAt is_match e target
+    at_matches x t = matches x (is_target x t)
+
+    -- targets lead nowhere
+    stops : (x : Pair) → target x ≡ true → edges x ≡ []
+    stops x t = shape.leads_nowhere x (at_matches x t).0
+
+    -- targets lie at e
+    at_end : (x : Pair) → target x ≡ true → x.1 ≡ e
+    at_end x t = (at_matches x t).1
+
+    -- the edges of the front's pairs lead behind e
+    rising : (a : Pair × Slots) → In a front → (w : Pair) → In w (edges a.0) → e < w.1
+    rising a i w j = let r = f.rest a i in rw (← r.1) (shape.rises a.0 w r.0 j)
+
+    -- the front has no pair of the set: no path leads to one
+    pub IsFront-none : ((a : Pair × Slots) → In a front → P a.0 → ⊥) → NoPath edges starts P
+    IsFront-none plain m p w t =
+        let leads = f.leads target at_matches in
+        let answer = leads.1 None (AnswerBehind-none edges target capture e shape.onward at_end 0 leads.0 f.waiting f.current f.later front rising
+        (λ a i u. plain a i (is_target a.0 u))) in
+        elim (Answer-starts edges target capture turns starts slots None answer) [
+          | inl k ↦ absurd (found-Some edges target capture slots k.1.2.path k.2)
+          | inr k ↦ IsLeast-none edges starts target stops (IsLeast-from_first edges target starts shape.increasing None k.0) m p w (target_is m t)
+        ]
+
+    -- the first pair of the set in the front is the end of the first path to a pair of the set
+    pub IsFront-first : (before : List (Pair × Slots)) (a : Pair × Slots) (after : List (Pair × Slots)) → front ≡ before ++ a ∷ after
+        → ((b : Pair × Slots) → In b before → P b.0 → ⊥) → P a.0
+        → (p : List Pair) × (first : IsFirstTo edges starts P p) × (first.end ≡ a.0) × (found capture p slots ≡ Some a) × (length p ≤ turns)
+    IsFront-first before a after split plain t =
+        let leads = f.leads target at_matches in
+        let in_front : (b : Pair × Slots) → In b before → In b front = λ b i. rw split (In-append_left b before (a ∷ after) i) in
+        let behind = AnswerBehind-first edges target capture e shape.onward at_end 0 leads.0 f.waiting f.current f.later before a after
+        (λ b i. rising b (in_front b i)) (λ b i u. plain b i (is_target b.0 u)) (target_is a.0 t) in
+        let answer = leads.1 (found capture (a.0 ∷ []) a.1)
+        (subst (λ x. AnswerBehind edges target capture 0 x None leads.0 f.waiting f.current (found capture (a.0 ∷ []) a.1)) (sym split) behind) in
+        let wrote : found capture (a.0 ∷ []) a.1 ≡ Some a = rw (shape.writes_nothing a.0 (matches a.0 t).0) refl in
+        elim (Answer-starts edges target capture turns starts slots (found capture (a.0 ∷ []) a.1) answer) [
+          | inl k ↦
+              let first = IsFirstTo-along edges starts (λ x. target x ≡ true) P is_target target_is
+              (IsLeast-first edges starts target stops k.0 (IsLeast-from_first edges target starts shape.increasing (Some k.0) k.1)) in
+              let same_found : found capture k.0 slots ≡ Some a = sym k.2 ∙ wrote in
+              let end = found-end capture first.end k.0 slots first.path.ends in
+              let same_end : first.end ≡ a.0 = let both : Some (first.end, apply capture k.0 slots) ≡ Some a = sym end ∙ same_found in cc in
+              (k.0, first, same_end, same_found, k.3)
+          | inr k ↦ let never : Some a ≡ None = sym wrote ∙ k.1 in cc
+        ]
+
+-- the match pairs of a front
+
+module _ (is_match : Pair → Bool) where
+  -- a match pair of the list, with none before it
+  pub record FirstMatch (front : List (Pair × Slots)) (a : Pair × Slots) : Type 0 where
+    pub before : List (Pair × Slots)
+    pub after : List (Pair × Slots)
+    pub split : front ≡ before ++ a ∷ after
+    pub plain : (b : Pair × Slots) → In b before → is_match b.0 ≡ true → ⊥
+    pub matches : is_match a.0 ≡ true
+
+  -- the same with none after it
+  pub record LastMatch (front : List (Pair × Slots)) (a : Pair × Slots) : Type 0 where
+    pub before : List (Pair × Slots)
+    pub after : List (Pair × Slots)
+    pub split : front ≡ before ++ a ∷ after
+    pub plain : (b : Pair × Slots) → In b after → is_match b.0 ≡ true → ⊥
+    pub matches : is_match a.0 ≡ true
+
+  -- a test does not both fail and succeed
+  pub is_plain : (b : Bool) → b ≡ false → b ≡ true → ⊥
+  is_plain b f t = cc
+
+  -- a front's first match pair, or that there is none
+  pub first_match-is : (front : List (Pair × Slots))
+      → ((first_match is_match front ≡ None) × NoMatch is_match front) ⊎ ((a : Pair × Slots) × (first_match is_match front ≡ Some a) × FirstMatch front a)
+  first_match-is [] = inl (refl, λ b i. absurd i)
+  first_match-is (a ∷ front) =
+      elim (cases_Bool (is_match a.0)) [
+        | inl t ↦ inr (a, rw t refl, record { before = []; after = front; split = refl; plain = λ b i. absurd i; matches = t })
+        | inr f ↦
+            elim (first_match-is front) [
+              | inl none ↦ inl (rw f none.0, λ b i t. elim i [ inl e ↦ is_plain (is_match a.0) f (rw (← e) t) | inr j ↦ none.1 b j t ])
+              | inr some ↦
+                  let h = some.2 in
+                  inr (
+                    some.0,
+                    rw f some.1,
+                    record {
+                      before = a ∷ h.before;
+                      after = h.after;
+                      split = ap (λ x. a ∷ x) h.split;
+                      plain = λ b i t. elim i [ inl e ↦ is_plain (is_match a.0) f (rw (← e) t) | inr j ↦ h.plain b j t ];
+                      matches = h.matches;
+                    },
+                  )
+            ]
+      ]
+
+  -- a front's last match pair, or that there is none
+  pub last_match-is : (g : Found) (front : List (Pair × Slots))
+      → ((last_match is_match g front ≡ g) × NoMatch is_match front) ⊎ ((a : Pair × Slots) × (last_match is_match g front ≡ Some a) × LastMatch front a)
+  last_match-is g [] = inl (refl, λ b i. absurd i)
+  last_match-is g (a ∷ front) =
+      elim (cases_Bool (is_match a.0)) [
+        | inl t ↦
+            elim (last_match-is (Some a) front) [
+              | inl none ↦ inr (a, rw t none.0, record { before = []; after = front; split = refl; plain = none.1; matches = t })
+              | inr some ↦ inr (some.0, rw t some.1, later some.2)
+            ]
+        | inr f ↦
+            elim (last_match-is g front) [
+              | inl none ↦ inl (rw f none.0, λ b i t. elim i [ inl e ↦ is_plain (is_match a.0) f (rw (← e) t) | inr j ↦ none.1 b j t ])
+              | inr some ↦ inr (some.0, rw f some.1, later some.2)
+            ]
+      ]
+    where
+      later : {b : Pair × Slots} → LastMatch front b → LastMatch (a ∷ front) b
+      later h = record { before = a ∷ h.before; after = h.after; split = ap (λ x. a ∷ x) h.split; plain = h.plain; matches = h.matches }
+
+-- what one front says of the paths that end at its position
+
+module _ (edges : Pair → List Pair) (capture : Pair → Option ℕ) (starts : List Pair) (resting is_match : Pair → Bool) (slots : Slots) (turns : ℕ)
+    (shape : Scanned edges capture starts resting is_match) {front : List (Pair × Slots)} {e : ℕ}
+    (f : IsFront edges capture starts resting is_match slots turns front e) where
+  -- the match pairs at e can be told
+  here : Tested (WantedAt (Passes is_match) e)
+  here x =
+      elim (cases_Bool (is_match x)) [
+        | inl t ↦ elim (ℕ_discrete x.1 e) [ yes p ↦ inl (record { wanted = t; at = p }) | no n ↦ inr (λ h. n h.at) ]
+        | inr g ↦ inr (λ h. is_plain is_match (is_match x) g h.wanted)
+      ]
+
+  -- they are match pairs at e
+  here_matches : (x : Pair) → WantedAt (Passes is_match) e x → (is_match x ≡ true) × (x.1 ≡ e)
+  here_matches x h = (h.wanted, h.at)
+
+  -- no match pair in the front: no path ends at e
+  pub IsFront-no_match : NoMatch is_match front → NoPath edges starts (WantedAt (Passes is_match) e)
+  IsFront-no_match none = IsFront-none edges capture starts resting is_match slots turns shape f (WantedAt (Passes is_match) e) here here_matches (λ a i h. none a i h.wanted)
+
+  -- its first match pair is the end of the first path that ends at e
+  pub IsFront-first_match : (a : Pair × Slots) → FirstMatch is_match front a
+      → (p : List Pair) × (first : IsFirstTo edges starts (WantedAt (Passes is_match) e) p) × (first.end ≡ a.0) × (found capture p slots ≡ Some a) × (length p ≤ turns)
+  IsFront-first_match a m =
+      IsFront-first edges capture starts resting is_match slots turns shape f (WantedAt (Passes is_match) e) here here_matches m.before a m.after m.split
+      (λ b i h. m.plain b i h.wanted) (record { wanted = m.matches; at = (f.rest a (rw m.split (In-append_right a m.before (a ∷ m.after) (inl refl)))).1 })
+
+  -- whether a pair is this one
+  one : (m : Pair) → Tested (λ x. x ≡ m)
+  one m x = same x m
+
+  -- whether a pair is one of two
+  two : (m n : Pair) → Tested (λ x. (x ≡ m) ⊎ (x ≡ n))
+  two m n x =
+      elim (same x m) [
+        | inl h ↦ inl (inl h)
+        | inr h ↦ elim (same x n) [ inl k ↦ inl (inr k) | inr k ↦ inr (λ s. elim s [ inl a ↦ h a | inr b ↦ k b ]) ]
+      ]
+
+  -- a pair that is one wanted at e is a match pair at e
+  here_at : (m : Pair) → WantedAt (Passes is_match) e m → (x : Pair) → x ≡ m → (is_match x ≡ true) × (x.1 ≡ e)
+  here_at m h x eq = rw eq (h.wanted, h.at)
+
+  -- a match pair of the front is wanted at e
+  item_here : (a : Pair × Slots) → In a front → is_match a.0 ≡ true → WantedAt (Passes is_match) e a.0
+  item_here a i t = record { wanted = t; at = (f.rest a i).1 }
+
+  -- the match pairs of the front are those to which a path leads
+  pub IsFront-pairs : (m : Pair) → WantedAt (Passes is_match) e m
+      → ((p : List Pair) × PathTo edges starts m p) ↔ ((a : Pair × Slots) × In a front × (a.0 ≡ m))
+  IsFront-pairs m h = (
+    λ w.
+        elim (find m front) [
+          | inl r ↦ (r.item, rw r.split (In-append_right r.item r.before (r.item ∷ r.after) (inl refl)), r.is)
+          | inr none ↦ absurd (IsFront-none edges capture starts resting is_match slots turns shape f (λ x. x ≡ m) (one m) (here_at m h) none m w.0 w.1 refl)
+        ],
+    λ i.
+        elim (find m front) [
+          | inl r ↦
+              let first = IsFront-first edges capture starts resting is_match slots turns shape f (λ x. x ≡ m) (one m) (here_at m h) r.before r.item r.after r.split r.plain r.is in
+              (first.0, rw first.1.wanted at first.1.path)
+          | inr none ↦ absurd (none i.0 i.1 i.2)
+        ],
+  )
+
+  -- the first path to a pair that stands before another in the front comes before every path to that one
+  IsFront-order : (before : List (Pair × Slots)) (b : Pair × Slots) (after : List (Pair × Slots)) → front ≡ before ++ b ∷ after
+      → (m n : Pair) → WantedAt (Passes is_match) e m → WantedAt (Passes is_match) e n → b.0 ≡ m
+      → ((c : Pair × Slots) → In c before → c.0 ≡ m → ⊥) → ((c : Pair × Slots) → In c before → c.0 ≡ n → ⊥)
+      → (p : List Pair) → IsFirstTo edges starts (λ x. x ≡ m) p → (q : List Pair) → PathTo edges starts n q → (q ≡ p) ⊎ ComesBefore edges p q
+  IsFront-order before b after split m n h k eq not_m not_n p first q w =
+      let found_first = IsFront-first edges capture starts resting is_match slots turns shape f (λ x. (x ≡ m) ⊎ (x ≡ n)) (two m n)
+      (λ x s. elim s [ inl y ↦ here_at m h x y | inr y ↦ here_at n k x y ]) before b after split
+      (λ c i s. elim s [ inl y ↦ not_m c i y | inr y ↦ not_n c i y ]) (inl eq) in
+      let both = found_first.1 in
+      let to_m : IsFirstTo edges starts (λ x. x ≡ m) found_first.0 =
+      record { end = both.end; path = both.path; wanted = found_first.2 ∙ eq; first = λ d r v t. both.first d r v (inl t) } in
+      let same_path : found_first.0 ≡ p = IsFirstTo-unique edges starts (λ x. x ≡ m) found_first.0 p to_m first in
+      subst (λ x. (q ≡ x) ⊎ ComesBefore edges x q) same_path (both.first n q w (inr refl))
+
+  -- the first path to any match pair at e is p or comes before it, where p is that to the last match pair of the front
+  first_before : (a : Pair × Slots) (l : LastMatch is_match front a) → ((b : Pair × Slots) → In b l.before → b.0 ≡ a.0 → ⊥)
+      → (p : List Pair) → IsFirstTo edges starts (λ x. x ≡ a.0) p
+      → (m : Pair) (q : List Pair) → WantedAt (Passes is_match) e m → IsFirstTo edges starts (λ x. x ≡ m) q → (q ≡ p) ⊎ ComesBefore edges q p
+  first_before a l before_a p first m q h k =
+      elim (same m a.0) [
+        | inl eq ↦ inl (IsFirstTo-unique edges starts (λ x. x ≡ a.0) q p (subst (λ y. IsFirstTo edges starts (λ x. x ≡ y) q) eq k) first)
+        | inr other ↦
+            elim (find m l.before) [
+              | inl r ↦
+                  let joined : front ≡ r.before ++ r.item ∷ (r.after ++ a ∷ l.after) =
+                  l.split ∙ ap (λ x. x ++ a ∷ l.after) r.split ∙ append_assoc r.before (r.item ∷ r.after) (a ∷ l.after) in
+                  elim (IsFront-order r.before r.item (r.after ++ a ∷ l.after) joined m a.0 h (item_here a (rw l.split (In-append_right a l.before (a ∷ l.after) (inl refl))) l.matches)
+                  r.is r.plain (λ c i. before_a c (rw r.split (In-append_left c r.before (r.item ∷ r.after) i))) q k p (rw first.wanted at first.path)) [
+                    | inl eq ↦ inl (sym eq)
+                    | inr c ↦ inr c
+                  ]
+              | inr none ↦
+                  let i = (IsFront-pairs m h).0 (q, rw k.wanted at k.path) in
+                  elim (In-append i.0 l.before (a ∷ l.after) (subst (λ x. In i.0 x) l.split i.1)) [
+                    | inl j ↦ absurd (none i.0 j i.2)
+                    | inr j ↦
+                        elim j [
+                          | inl eq ↦ absurd (other (sym i.2 ∙ ap (λ x. x.0) eq))
+                          | inr later ↦ absurd (l.plain i.0 later (rw i.2 h.wanted))
+                        ]
+                  ]
+            ]
+      ]
+
+  -- its last match pair is the end of the last of the first paths to the match pairs at e
+  pub IsFront-last_match : (a : Pair × Slots) → LastMatch is_match front a
+      → (p : List Pair) × (last : IsLastOfFirsts edges starts (Passes is_match) e p) × (last.end ≡ a.0) × (found capture p slots ≡ Some a) × (length p ≤ turns)
+  IsFront-last_match a l =
+      let in_front : In a front = rw l.split (In-append_right a l.before (a ∷ l.after) (inl refl)) in
+      let wanted = item_here a in_front l.matches in
+      let before_a : (b : Pair × Slots) → In b l.before → b.0 ≡ a.0 → ⊥ = apart l.before a l.after (subst (λ x. NoRepeats (map (λ (c : Pair × Slots). c.0) x)) l.split f.once) in
+      let first = IsFront-first edges capture starts resting is_match slots turns shape f (λ x. x ≡ a.0) (one a.0) (here_at a.0 wanted) l.before a l.after l.split before_a refl in
+      (first.0, record { end = a.0; wanted = wanted; first = first.1; last = λ m q h k. first_before a l before_a first.0 first.1 m q h k }, refl, first.3, first.4)

@@ -1,0 +1,373 @@
+-- The first accepting path, and what marks change of it.
+use Rattle.std.proofs.Common.{◌≡◌, ◌<◌, ◌⊎◌, inl, inr, ◌↔◌, Bool, true, false, List, [], ◌∷◌, ◌++◌, refl, sym, ap, ◌∙◌, subst}
+use Rattle.std.specs.Prelude.{Option, None, Some}
+use Rattle.std.specs.Option.{option_map}
+use Rattle.std.proofs.Math.Decide.{ℕ_discrete}
+use Rattle.nfa_paths.specs.Graphs.{Pair, In, Earlier, BeforeAfter, Before}
+use Rattle.nfa_paths.specs.FirstPaths.{Path, Accepts, IsFirst, FirstAmong, IsFirstOfAll, Increasing, IsLeast}
+use Rattle.nfa_paths.specs.FirstPaths.Path.{stop, go}
+use Rattle.nfa_paths.specs.Graphs.{HeadIs, NoRepeats, Linked}
+use Rattle.nfa_paths.specs.FirstPaths.{StopsAtTarget}
+
+-- two pairs are one, or they differ
+pub same : (a b : Pair) → (a ≡ b) ⊎ ¬ (a ≡ b)
+same a b =
+    elim (ℕ_discrete a.0 b.0) [
+      | yes p ↦
+          elim (ℕ_discrete a.1 b.1) [ yes q ↦ inl (λ i. (p i, q i)) | no n ↦ inr (λ e. n (ap (λ x. x.1) e)) ]
+      | no n ↦ inr (λ e. n (ap (λ x. x.0) e))
+    ]
+
+-- the order
+
+-- nothing stands before itself
+Earlier-irreflexive : (es : List Pair) (a : Pair) → Earlier es a a → ⊥
+Earlier-irreflexive [] a h = h
+Earlier-irreflexive (e ∷ es) a h = elim h.1 [ inl here ↦ h.0 here | inr later ↦ Earlier-irreflexive es a later ]
+
+-- of two pairs one alone stands before the other
+Earlier-asymmetric : (es : List Pair) (a b : Pair) → Earlier es a b → Earlier es b a → ⊥
+Earlier-asymmetric [] a b h k = h
+Earlier-asymmetric (e ∷ es) a b h k =
+    elim h.1 [
+      | inl here ↦ k.0 here
+      | inr later ↦ elim k.1 [ inl there ↦ h.0 there | inr after ↦ Earlier-asymmetric es a b later after ]
+    ]
+
+-- of two different pairs of a list, one stands before the other
+pub Earlier-total : (es : List Pair) (a b : Pair) → ¬ (a ≡ b) → In a es → In b es → Earlier es a b ⊎ Earlier es b a
+Earlier-total [] a b apart i j = absurd i
+Earlier-total (e ∷ es) a b apart i j =
+    elim (same e a) [
+      | inl ea ↦ inl (λ eb. apart (sym ea ∙ eb), inl ea)
+      | inr na ↦
+          elim (same e b) [
+            | inl eb ↦ inr (na, inl eb)
+            | inr nb ↦
+                elim i [
+                  | inl ae ↦ absurd (na (sym ae))
+                  | inr k ↦
+                      elim j [
+                        | inl be ↦ absurd (nb (sym be))
+                        | inr l ↦ elim (Earlier-total es a b apart k l) [ inl x ↦ inl (nb, inr x) | inr x ↦ inr (na, inr x) ]
+                      ]
+                ]
+          ]
+    ]
+
+-- what stands earlier in a rising list is at a smaller position
+pub Earlier-increasing : (es : List Pair) (a b : Pair) → Increasing es → Earlier es a b → In b es → a.1 < b.1
+Earlier-increasing [] a b rise h i = absurd i
+Earlier-increasing (e ∷ es) a b rise h (inl here) = absurd (h.0 (sym here))
+Earlier-increasing (e ∷ es) a b rise h (inr later) =
+    elim h.1 [ inl first ↦ rw (← first) (rise.0 b later) | inr after ↦ Earlier-increasing es a b rise.1 after later ]
+
+module _ (edges : Pair → List Pair) where
+  -- of two lists that follow a pair, one alone is before the other
+  BeforeAfter-asymmetric : (v : Pair) (p q : List Pair) → BeforeAfter edges v p q → BeforeAfter edges v q p → ⊥
+  BeforeAfter-asymmetric v [] q h k = h
+  BeforeAfter-asymmetric v (a ∷ p) [] h k = h
+  BeforeAfter-asymmetric v (a ∷ p) (b ∷ q) h k =
+      elim h [
+        | inl less ↦
+            elim k [
+              | inl more ↦ Earlier-asymmetric (edges v) a b less more
+              | inr e ↦ Earlier-irreflexive (edges v) a (rw e.0 at less)
+            ]
+        | inr e ↦
+            elim k [
+              | inl more ↦ Earlier-irreflexive (edges v) b (rw e.0 at more)
+              | inr d ↦ BeforeAfter-asymmetric a p q e.1 (subst (λ x. BeforeAfter edges x q p) (sym e.0) d.1)
+            ]
+      ]
+
+  -- of two lists, one alone is before the other
+  pub Before-asymmetric : (p q : List Pair) → Before edges p q → Before edges q p → ⊥
+  Before-asymmetric [] q h k = h
+  Before-asymmetric (x ∷ p) [] h k = h
+  Before-asymmetric (x ∷ p) (y ∷ q) h k =
+      BeforeAfter-asymmetric x p q h.1 (subst (λ z. BeforeAfter edges z q p) (sym h.0) k.1)
+
+module _ (edges : Pair → List Pair) (target : Pair → Bool) where
+  -- paths
+
+  -- a path holds its first pair
+  Path-head : {v : Pair} {p : List Pair} → Path edges target v p → In v p
+  Path-head (stop t) = inl refl
+  Path-head (go t e n h) = inl refl
+
+  -- what stands in a path has a path of its own in it
+  Path-suffix : {u v : Pair} {p : List Pair} → Path edges target v p → In u p
+      → (q : List Pair) × Path edges target u q × ((x : Pair) → In x q → In x p)
+  Path-suffix {u} (stop {v = v} t) i = (v ∷ [], elim i [ inl e ↦ rw e (stop t) | inr never ↦ absurd never ], λ x h. h)
+  Path-suffix {u} (go {v = v} {p = p} t e n h) i =
+      elim i [
+        | inl here ↦ (v ∷ p, rw here (go t e n h), λ x h. h)
+        | inr later ↦ let r = Path-suffix h later in (r.0, r.1, λ x j. inr (r.2 x j))
+      ]
+
+  -- a path in plain words
+  Path-words : {v : Pair} {p : List Pair} → Path edges target v p → HeadIs v p × NoRepeats p × Linked edges p × StopsAtTarget target p
+  Path-words (stop t) = (refl, (λ i. i, tt), tt, t)
+  Path-words (go t e n (stop u)) = let r = Path-words (stop u) in (refl, (n, r.1), (e, r.2), (t, r.3))
+  Path-words (go t e n (go u f m h)) = let r = Path-words (go u f m h) in (refl, (n, r.1), (e, r.2), (t, r.3))
+
+  -- a list that the plain words describe is a path
+  Path-from_words : (v : Pair) (p : List Pair) → HeadIs v p → NoRepeats p → Linked edges p → StopsAtTarget target p → Path edges target v p
+  Path-from_words v [] h n l s = absurd h
+  Path-from_words v (x ∷ []) h n l s = rw (← h) (stop s)
+  Path-from_words v (x ∷ (y ∷ p)) h n l s = rw (← h) (go s.0 l.0 n.0 (Path-from_words y (y ∷ p) refl n.1 l.1 s.1))
+
+  -- a path, and the plain words for it
+  pub Path-plain : (v : Pair) (p : List Pair) → Path edges target v p ↔ (HeadIs v p × NoRepeats p × Linked edges p × StopsAtTarget target p)
+  Path-plain v p = (λ h. Path-words h, λ w. Path-from_words v p w.0 w.1 w.2 w.3)
+
+  -- the order of two paths behind v
+  Before-cons : {v w x : Pair} {p q : List Pair} → Path edges target w p → Path edges target x q
+      → Earlier (edges v) w x ⊎ Before edges p q → Before edges (v ∷ p) (v ∷ q)
+  Before-cons (stop t) (stop u) h = (refl, h)
+  Before-cons (stop t) (go u e n k) h = (refl, h)
+  Before-cons (go t e n k) (stop u) h = (refl, h)
+  Before-cons (go t e n k) (go u f m l) h = (refl, h)
+
+  -- of two paths from one pair, one is before the other
+  pub Before-total : {v : Pair} {p q : List Pair} → Path edges target v p → Path edges target v q
+      → (p ≡ q) ⊎ (Before edges p q ⊎ Before edges q p)
+  Before-total (stop t) (stop u) = inl refl
+  Before-total (stop t) (go u e n k) = cc
+  Before-total (go t e n k) (stop u) = cc
+  Before-total (go {v = v} {w = a} {p = p} t e n k) (go {w = b} {p = q} u f m l) =
+      elim (same a b) [
+        | inl eq ↦
+            elim (Before-total k (rw (← eq) at l)) [
+              | inl s ↦ inl (ap (λ x. v ∷ x) s)
+              | inr s ↦ inr (elim s [ inl x ↦ inl (Before-cons k l (inr x)) | inr x ↦ inr (Before-cons l k (inr x)) ])
+            ]
+        | inr apart ↦
+            inr (elim (Earlier-total (edges v) a b apart e f) [ inl x ↦ inl (Before-cons k l (inl x)) | inr x ↦ inr (Before-cons l k (inl x)) ])
+      ]
+
+  -- a marked pair has no path
+  pub IsFirst-marked : (marks : List Pair) (v : Pair) → In v marks → IsFirst edges target marks v None
+  IsFirst-marked marks v m p a = a.clear v (Path-head a.path) m
+
+  -- a pair with no edge that is no target, marked or not
+  pub IsFirst-dead : (marks : List Pair) (v : Pair) → target v ≡ false → edges v ≡ [] → IsFirst edges target marks v None
+  IsFirst-dead marks v plain leads p a = never a.path plain leads
+    where
+      never : {u : Pair} {q : List Pair} → Path edges target u q → target u ≡ false → edges u ≡ [] → ⊥
+      never (stop t) f l = cc
+      never (go t e n h) f l = absurd (rw l at e)
+
+  -- an unmarked target is its own first path
+  pub IsFirst-target : (marks : List Pair) (v : Pair) → ¬ (In v marks) → target v ≡ true
+      → IsFirst edges target marks v (Some (v ∷ []))
+  IsFirst-target marks v free t = (record { path = stop t; clear = λ x i. elim i [ inl e ↦ rw e free | inr never ↦ absurd never ] }, λ q a. only a.path t)
+    where
+      only : {u : Pair} {q : List Pair} → Path edges target u q → target u ≡ true → (q ≡ u ∷ []) ⊎ Before edges (u ∷ []) q
+      only (stop t) u = inl refl
+      only (go t e n h) u = cc
+
+  -- the first that is found among several starts is the first of all
+  pub IsFirstOfAll-from_among : (marks es : List Pair) (r : Option (List Pair)) → FirstAmong edges target marks es r
+      → IsFirstOfAll edges target marks es r
+  IsFirstOfAll-from_among marks [] None e = λ d i. absurd i
+  IsFirstOfAll-from_among marks [] (Some p) e = cc
+  IsFirstOfAll-from_among marks (e ∷ es) r (inl h) =
+      rw h.2 (
+        e,
+        inl refl,
+        h.1.0,
+        λ d q i a.
+            elim (same e d) [
+              | inl here ↦ elim (h.1.1 q (rw here a)) [ inl k ↦ inl k | inr k ↦ inr (inr k) ]
+              | inr other ↦ inr (inl (other, inl refl))
+            ],
+      )
+  IsFirstOfAll-from_among marks (e ∷ es) None (inr h) =
+      λ d i. elim i [ inl here ↦ rw here h.0 | inr later ↦ IsFirstOfAll-from_among marks es None h.1 d later ]
+  IsFirstOfAll-from_among marks (e ∷ es) (Some p) (inr h) =
+      let f = IsFirstOfAll-from_among marks es (Some p) h.1 in (
+        f.0,
+        inr f.1,
+        f.2,
+        λ d q i a.
+            elim (same e d) [
+              | inl here ↦ absurd (h.0 q (rw here a))
+              | inr other ↦
+                  elim i [
+                    | inl here ↦ absurd (other (sym here))
+                    | inr later ↦
+                        elim (f.3 d q later a)
+                        [ inl k ↦ inl k | inr k ↦ elim k [ inl l ↦ inr (inl (other, inr l)) | inr l ↦ inr (inr l) ] ]
+                  ]
+            ],
+      )
+
+  -- one step along the edges of an unmarked pair that is no target
+  module _ (marks : List Pair) (v : Pair) (free : ¬ (In v marks)) (plain : target v ≡ false) where
+    -- a path from v goes on from one of its edges, clear of v
+    Accepts-rest : (q : List Pair) → Accepts edges target marks v q
+        → (w : Pair) × (p : List Pair) × In w (edges v) × Accepts edges target (v ∷ marks) w p × (q ≡ v ∷ p)
+    Accepts-rest q a = rest a.path plain a.clear
+      where
+        rest : {u : Pair} {q : List Pair} → Path edges target u q → target u ≡ false → ((x : Pair) → In x q → In x marks → ⊥)
+            → (w : Pair) × (p : List Pair) × In w (edges u) × Accepts edges target (u ∷ marks) w p × (q ≡ u ∷ p)
+        rest (stop t) f c = cc
+        rest (go {w = w} {p = p} t e n h) f c = (w, p, e, record { path = h; clear = λ x i m. elim m [ inl here ↦ n (rw here at i) | inr old ↦ c x (inr i) old ] }, refl)
+
+    -- the first path goes on by the first edge that has one
+    pub IsFirst-step : (r : Option (List Pair)) → FirstAmong edges target (v ∷ marks) (edges v) r
+        → IsFirst edges target marks v (option_map (λ p. v ∷ p) r)
+    IsFirst-step None f =
+        λ q a. let s = Accepts-rest q a in IsFirstOfAll-from_among (v ∷ marks) (edges v) None f s.0 s.2 s.1 s.3
+    IsFirst-step (Some p) f =
+        let b = IsFirstOfAll-from_among (v ∷ marks) (edges v) (Some p) f in (
+          record {
+            path = go plain b.1 (λ i. b.2.clear v i (inl refl)) b.2.path;
+            clear = λ x i m. elim i [ inl here ↦ free (rw here at m) | inr later ↦ b.2.clear x later (inr m) ];
+          },
+          λ q a.
+              let s = Accepts-rest q a in
+              rw s.4
+              (elim (b.3 s.0 s.1 s.2 s.3) [ inl e ↦ inl (ap (λ t. v ∷ t) e) | inr k ↦ inr (Before-cons b.2.path s.3.path k) ]),
+        )
+
+  -- marks with the same paths
+  IsFirst-along : (m n : List Pair) (v : Pair) → ((p : List Pair) → Accepts edges target m v p → Accepts edges target n v p)
+      → ((p : List Pair) → Accepts edges target n v p → Accepts edges target m v p)
+      → (r : Option (List Pair)) → IsFirst edges target m v r → IsFirst edges target n v r
+  IsFirst-along m n v to back None f = λ p a. f p (back p a)
+  IsFirst-along m n v to back (Some p) f = (to p f.0, λ q a. f.1 q (back q a))
+
+  -- marking a pair that leads to no target changes no other pair's first path
+  pub IsFirst-mark : (marks : List Pair) (v : Pair) → IsFirst edges target marks v None
+      → (k : Pair) (r : Option (List Pair)) → IsFirst edges target (v ∷ marks) k r ↔ IsFirst edges target marks k r
+  IsFirst-mark marks v none k r =
+      (IsFirst-along (v ∷ marks) marks k fewer more r, IsFirst-along marks (v ∷ marks) k more fewer r)
+    where
+      fewer : (p : List Pair) → Accepts edges target (v ∷ marks) k p → Accepts edges target marks k p
+      fewer p a = record { path = a.path; clear = λ x i m. a.clear x i (inr m) }
+
+      more : (p : List Pair) → Accepts edges target marks k p → Accepts edges target (v ∷ marks) k p
+      more p a = record {
+        path = a.path;
+        clear = λ x i m.
+            elim m [
+              | inl here ↦
+                  let s = Path-suffix a.path (rw here at i) in
+                  none s.0 (record { path = s.1; clear = λ y j. a.clear y (s.2 y j) })
+              | inr old ↦ a.clear x i old
+            ];
+      }
+
+  -- marks behind a set that no edge leaves
+  module _ (ahead : Pair → Type 0) (closed : (x y : Pair) → ahead x → In y (edges x) → ahead y) where
+    -- a path from a pair ahead stays ahead
+    Path-ahead : {v : Pair} {p : List Pair} → Path edges target v p → ahead v → (x : Pair) → In x p → ahead x
+    Path-ahead (stop t) a x i = elim i [ inl here ↦ rw here a | inr never ↦ absurd never ]
+    Path-ahead (go {v = v} {w = w} t e n h) a x i =
+        elim i [ inl here ↦ rw here a | inr later ↦ Path-ahead h (closed v w a e) x later ]
+
+    -- marks that agree on what is ahead
+    pub IsFirst-ahead : (m n : List Pair) → ((x : Pair) → ahead x → In x m → In x n) → ((x : Pair) → ahead x → In x n → In x m)
+        → (k : Pair) → ahead k → (r : Option (List Pair)) → IsFirst edges target m k r → IsFirst edges target n k r
+    IsFirst-ahead m n to back k a =
+        IsFirst-along m n k (λ p h. record { path = h.path; clear = λ x i j. h.clear x i (back x (Path-ahead h.path a x i) j) })
+        (λ p h. record { path = h.path; clear = λ x i j. h.clear x i (to x (Path-ahead h.path a x i) j) })
+
+    -- marks that are not ahead do not matter to a pair that is
+    pub IsFirst-behind : (n marks : List Pair) → ((x : Pair) → In x n → ahead x → ⊥)
+        → (k : Pair) → ahead k → (r : Option (List Pair)) → IsFirst edges target (n ++ marks) k r ↔ IsFirst edges target marks k r
+    IsFirst-behind n marks past k a r =
+        (IsFirst-ahead (n ++ marks) marks (left n past) (λ x b i. right n x i) k a r, IsFirst-ahead marks (n ++ marks) (λ x b i. right n x i) (left n past) k a r)
+      where
+        left : (n : List Pair) → ((x : Pair) → In x n → ahead x → ⊥) → (x : Pair) → ahead x → In x (n ++ marks) → In x marks
+        left [] past x b i = i
+        left (y ∷ n) past x b i =
+            elim i [ inl here ↦ absurd (past x (inl here) b) | inr later ↦ left n (λ z j. past z (inr j)) x b later ]
+
+        right : (n : List Pair) (x : Pair) → In x marks → In x (n ++ marks)
+        right [] x i = i
+        right (y ∷ n) x i = inr (right n x i)
+
+    -- a pair that is left for pairs ahead of every mark, and is itself unmarked
+    pub IsFirst-resting : (marks : List Pair) (v : Pair) → ¬ (In v marks) → ((w : Pair) → In w (edges v) → ahead w)
+        → ((x : Pair) → In x marks → ahead x → ⊥)
+        → (r : Option (List Pair)) → IsFirst edges target [] v r ↔ IsFirst edges target marks v r
+    IsFirst-resting marks v free leaves past r =
+        (IsFirst-along [] marks v all none r, IsFirst-along marks [] v none all r)
+      where
+        clear_of : {u : Pair} {p : List Pair} → Path edges target u p → ¬ (In u marks) → ((w : Pair) → In w (edges u) → ahead w)
+            → (x : Pair) → In x p → In x marks → ⊥
+        clear_of (stop t) f l x i m = elim i [ inl here ↦ f (rw here at m) | inr never ↦ absurd never ]
+        clear_of (go {w = w} t e n h) f l x i m =
+            elim i [ inl here ↦ f (rw here at m) | inr later ↦ past x m (Path-ahead h (l w e) x later) ]
+
+        all : (p : List Pair) → Accepts edges target [] v p → Accepts edges target marks v p
+        all p a = record { path = a.path; clear = clear_of a.path free leaves }
+
+        none : (p : List Pair) → Accepts edges target marks v p → Accepts edges target [] v p
+        none p a = record { path = a.path; clear = λ x i m. absurd m }
+
+  -- there is one first path
+  pub IsFirst-unique : (marks : List Pair) (v : Pair) (r s : Option (List Pair))
+      → IsFirst edges target marks v r → IsFirst edges target marks v s → r ≡ s
+  IsFirst-unique marks v None None f g = refl
+  IsFirst-unique marks v None (Some q) f g = absurd (f q g.0)
+  IsFirst-unique marks v (Some p) None f g = absurd (g p f.0)
+  IsFirst-unique marks v (Some p) (Some q) f g =
+      elim (g.1 p f.0) [
+        | inl e ↦ ap Some e
+        | inr k ↦ elim (f.1 q g.0) [ inl e ↦ ap Some (sym e) | inr l ↦ absurd (Before-asymmetric edges p q l k) ]
+      ]
+
+  -- of two paths that differ behind their heads, the heads are one
+  Before-heads : {v w : Pair} {p q : List Pair} → Path edges target v p → Path edges target w q → Before edges p q → v ≡ w
+  Before-heads (stop t) (stop u) h = h.0
+  Before-heads (stop t) (go u e n k) h = h.0
+  Before-heads (go t e n k) (stop u) h = h.0
+  Before-heads (go t e n k) (go u f m l) h = h.0
+
+  -- there is one first path from several starts
+  pub IsFirstOfAll-unique : (marks es : List Pair) (r s : Option (List Pair))
+      → IsFirstOfAll edges target marks es r → IsFirstOfAll edges target marks es s → r ≡ s
+  IsFirstOfAll-unique marks es None None f g = refl
+  IsFirstOfAll-unique marks es None (Some q) f g = absurd (f g.0 g.1 q g.2)
+  IsFirstOfAll-unique marks es (Some p) None f g = absurd (g f.0 f.1 p f.2)
+  IsFirstOfAll-unique marks es (Some p) (Some q) f g =
+      elim (f.3 g.0 q g.1 g.2) [
+        | inl e ↦ ap Some (sym e)
+        | inr k ↦
+            elim (g.3 f.0 p f.1 f.2) [
+              | inl e ↦ ap Some e
+              | inr l ↦
+                  elim k [
+                    | inl less ↦
+                        elim l [
+                          | inl more ↦ absurd (Earlier-asymmetric es f.0 g.0 less more)
+                          | inr after ↦ absurd (Earlier-irreflexive es f.0 (rw (Before-heads g.2.path f.2.path after) at less))
+                        ]
+                    | inr before ↦
+                        elim l [
+                          | inl more ↦ absurd (Earlier-irreflexive es g.0 (rw (Before-heads f.2.path g.2.path before) at more))
+                          | inr after ↦ absurd (Before-asymmetric edges p q before after)
+                        ]
+                  ]
+            ]
+      ]
+
+  -- where the starts rise, the first start is that at the smallest position
+  pub IsLeast-from_first : (starts : List Pair) → Increasing starts → (r : Option (List Pair))
+      → IsFirstOfAll edges target [] starts r → IsLeast edges target starts r
+  IsLeast-from_first starts rise None f = f
+  IsLeast-from_first starts rise (Some p) f = (
+    f.0,
+    f.1,
+    f.2,
+    λ d q i a.
+        elim (f.3 d q i a) [
+          | inl e ↦ inr (inl e)
+          | inr k ↦ elim k [ inl l ↦ inl (Earlier-increasing starts f.0 d rise l i) | inr l ↦ inr (inr l) ]
+        ],
+  )

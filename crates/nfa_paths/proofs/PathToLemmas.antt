@@ -1,0 +1,304 @@
+-- Paths from the starts in plain words: which comes first, and that each kind of scan has one answer.
+use Rattle.std.proofs.Common.{◌≡◌, ℕ, ◌≤◌, ◌<◌, ◌⊎◌, inl, inr, Bool, true, false, List, [], ◌∷◌, ◌++◌, refl, sym, ap, subst, arith}
+use Rattle.std.specs.Prelude.{Option, None, Some}
+use Rattle.std.specs.List.{last_or}
+use Rattle.nfa_paths.specs.Graphs.{Pair, In, Before, ComesBefore, HeadIs, NoRepeats, Linked, EndsWith, WantedAt, PathTo, NoPath, IsFirstTo, IsEnd, IsLeastEnd, IsGreatestEnd, IsLastOfFirsts, IsFirstPath, IsEarliestPath, IsLastPath, IsEarliestLastPath}
+use Rattle.nfa_paths.specs.FirstPaths.{Accepts, IsLeast, StopsAtTarget, Increasing}
+use Rattle.nfa_paths.specs.Exploring.{Slots, apply, found}
+use Rattle.nfa_paths.proofs.PathLemmas.{same, Before-asymmetric, Before-total, Earlier-increasing, Earlier-total, Path-plain}
+
+-- a test that cannot succeed fails
+pub is_false : (b : Bool) → (b ≡ true → ⊥) → b ≡ false
+is_false true h = absurd (h refl)
+is_false false h = refl
+
+-- the end of a path
+
+-- the pair that a list ends with is its last
+pub EndsWith-last : (o : Option Pair) (m : Pair) (p : List Pair) → EndsWith m p → last_or o p ≡ Some m
+EndsWith-last o m [] e = absurd e
+EndsWith-last o m (x ∷ []) e = ap Some e
+EndsWith-last o m (x ∷ (y ∷ p)) e = EndsWith-last (Some x) m (y ∷ p) e
+
+-- where targets lead nowhere, a linked list that ends with a target holds no other one
+EndsWith-stops : (edges : Pair → List Pair) (target : Pair → Bool) → ((x : Pair) → target x ≡ true → edges x ≡ [])
+    → (m : Pair) (p : List Pair) → Linked edges p → EndsWith m p → target m ≡ true → StopsAtTarget target p
+EndsWith-stops edges target stops m [] l e t = absurd e
+EndsWith-stops edges target stops m (x ∷ []) l e t = rw e t
+EndsWith-stops edges target stops m (x ∷ (y ∷ p)) l e t =
+    (is_false (target x) (λ u. rw (stops x u) at l.0), EndsWith-stops edges target stops m (y ∷ p) l.1 e t)
+
+-- a list that stops at a target ends with one
+StopsAtTarget-ends : (target : Pair → Bool) (p : List Pair) → StopsAtTarget target p → (m : Pair) × EndsWith m p × (target m ≡ true)
+StopsAtTarget-ends target [] s = absurd s
+StopsAtTarget-ends target (x ∷ []) s = (x, refl, s)
+StopsAtTarget-ends target (x ∷ (y ∷ p)) s = StopsAtTarget-ends target (y ∷ p) s.1
+
+-- what is found along a list is its last pair, with the slots there
+pub found-end : (capture : Pair → Option ℕ) (m : Pair) (p : List Pair) (slots : Slots) → EndsWith m p → found capture p slots ≡ Some (m, apply capture p slots)
+found-end capture m p slots e = rw (EndsWith-last None m p e) refl
+
+-- the order
+
+-- no two lists come before each other
+pub ComesBefore-asymmetric : (edges : Pair → List Pair) (p q : List Pair) → ComesBefore edges p q → ComesBefore edges q p → ⊥
+ComesBefore-asymmetric edges [] q h k = h
+ComesBefore-asymmetric edges (x ∷ p) [] h k = h
+ComesBefore-asymmetric edges (x ∷ p) (y ∷ q) (inl h) (inl k) = omega arith
+ComesBefore-asymmetric edges (x ∷ p) (y ∷ q) (inl h) (inr k) = let e : y.1 ≡ x.1 = ap (λ z. z.1) k.0 in omega arith
+ComesBefore-asymmetric edges (x ∷ p) (y ∷ q) (inr h) (inl k) = let e : x.1 ≡ y.1 = ap (λ z. z.1) h.0 in omega arith
+ComesBefore-asymmetric edges (x ∷ p) (y ∷ q) (inr h) (inr k) = Before-asymmetric edges (x ∷ p) (y ∷ q) h k
+
+module _ (edges : Pair → List Pair) where
+  -- the order of two lists from that of their starts
+  ComesBefore-heads : (e d : Pair) (p q : List Pair) → HeadIs e p → HeadIs d q → (e.1 < d.1) ⊎ ((q ≡ p) ⊎ Before edges p q)
+      → (q ≡ p) ⊎ ComesBefore edges p q
+  ComesBefore-heads e d [] q h k r = absurd h
+  ComesBefore-heads e d (x ∷ p) [] h k r = absurd k
+  ComesBefore-heads e d (x ∷ p) (y ∷ q) h k r =
+      elim r [ inl less ↦ inr (inl (rw (h, k) less)) | inr s ↦ elim s [ inl eq ↦ inl eq | inr b ↦ inr (inr b) ] ]
+
+  -- a list that starts at a smaller position comes first
+  ComesBefore-less : (e d : Pair) (p q : List Pair) → HeadIs e p → HeadIs d q → e.1 < d.1 → ComesBefore edges p q
+  ComesBefore-less e d [] q h k less = absurd h
+  ComesBefore-less e d (x ∷ p) [] h k less = absurd k
+  ComesBefore-less e d (x ∷ p) (y ∷ q) h k less = inl (rw (h, k) less)
+
+  -- of two lists with one head, the order is that of the edges
+  ComesBefore-same : (p q : List Pair) → Before edges p q → ComesBefore edges p q
+  ComesBefore-same [] q b = b
+  ComesBefore-same (x ∷ p) [] b = b
+  ComesBefore-same (x ∷ p) (y ∷ q) b = inr b
+
+-- paths grow
+
+-- a pair stands in a list, or not
+pub In-cases : (x : Pair) (p : List Pair) → In x p ⊎ ¬ (In x p)
+In-cases x [] = inr (λ i. i)
+In-cases x (y ∷ p) =
+    elim (same x y) [
+      | inl e ↦ inl (inl e)
+      | inr n ↦ elim (In-cases x p) [ inl i ↦ inl (inr i) | inr m ↦ inr (λ i. elim i [ inl e ↦ n e | inr j ↦ m j ]) ]
+    ]
+
+module _ (edges : Pair → List Pair) where
+  -- a list of a path's shape, from s to w, of pairs of p
+  record Leads (s w : Pair) (p : List Pair) : Type 0 where
+    along : List Pair
+    head : HeadIs s along
+    once : NoRepeats along
+    linked : Linked edges along
+    ends : EndsWith w along
+    within : (z : Pair) → In z along → In z p
+
+  -- one more pair at the head
+  Leads-cons : {y w : Pair} {p : List Pair} (x : Pair) → In y (edges x) → ¬ (In x p) → Leads y w p → Leads x w (x ∷ p)
+  Leads-cons {y} {w} {p} x i n h = of h.along h.head h.once h.linked h.ends h.within
+    where
+      of : (q : List Pair) → HeadIs y q → NoRepeats q → Linked edges q → EndsWith w q → ((z : Pair) → In z q → In z p) → Leads x w (x ∷ p)
+      of [] head once linked ends within = absurd head
+      of (z ∷ q) head once linked ends within = record {
+        along = x ∷ (z ∷ q);
+        head = refl;
+        once = (λ j. n (within x j), once);
+        linked = (rw head i, linked);
+        ends = ends;
+        within = λ u j. elim j [ inl e ↦ inl e | inr k ↦ inr (within u k) ];
+      }
+
+  -- a path up to one of its pairs
+  Leads-up_to : (s w : Pair) (p : List Pair) → HeadIs s p → NoRepeats p → Linked edges p → In w p → Leads s w p
+  Leads-up_to s w [] head once linked i = absurd head
+  Leads-up_to s w (x ∷ p) head once linked (inl here) =
+      record { along = x ∷ []; head = head; once = (λ j. j, tt); linked = tt; ends = sym here; within = λ z j. elim j [ inl e ↦ inl e | inr never ↦ absurd never ] }
+  Leads-up_to s w (x ∷ []) head once linked (inr later) = absurd later
+  Leads-up_to s w (x ∷ (y ∷ p)) head once linked (inr later) =
+      subst (λ z. Leads z w (x ∷ (y ∷ p))) head (Leads-cons x linked.0 once.0 (Leads-up_to y w (y ∷ p) refl once.1 linked.1 later))
+
+  -- a path with one more pair behind it
+  Leads-behind : (s v w : Pair) (p : List Pair) → HeadIs s p → NoRepeats p → Linked edges p → EndsWith v p → In w (edges v) → ¬ (In w p) → Leads s w (p ++ w ∷ [])
+  Leads-behind s v w [] head once linked ends i n = absurd head
+  Leads-behind s v w (x ∷ []) head once linked ends i n = record {
+    along = x ∷ (w ∷ []);
+    head = head;
+    once = (λ j. elim j [ inl e ↦ n (inl (sym e)) | inr never ↦ never ], (λ j. j, tt));
+    linked = (rw ends i, tt);
+    ends = refl;
+    within = λ z j. j;
+  }
+  Leads-behind s v w (x ∷ (y ∷ p)) head once linked ends i n =
+      let rest = Leads-behind y v w (y ∷ p) refl once.1 linked.1 ends i (λ j. n (inr j)) in
+      subst (λ z. Leads z w (x ∷ (y ∷ (p ++ w ∷ [])))) head (Leads-cons x linked.0 (apart (y ∷ p) once.0) rest)
+    where
+      apart : (q : List Pair) → ¬ (In x q) → ¬ (In x (q ++ w ∷ []))
+      apart [] m j = elim j [ inl e ↦ n (inl (sym e)) | inr never ↦ never ]
+      apart (z ∷ q) m j = elim j [ inl e ↦ m (inl e) | inr k ↦ apart q (λ l. m (inr l)) k ]
+
+module _ (edges : Pair → List Pair) (starts : List Pair) where
+  -- some path leads to the pair
+  pub record IsReachable (m : Pair) : Type 0 where
+    pub along : List Pair
+    pub path : PathTo edges starts m along
+
+  -- a start is reached
+  pub IsReachable-start : (s : Pair) → In s starts → IsReachable s
+  IsReachable-start s i = record {
+    along = s ∷ [];
+    path = record { start = s; among = i; head = refl; once = (λ j. j, tt); linked = tt; ends = refl };
+  }
+
+  -- what a reached pair leads to is reached: where the pair stands in the path already, by the path up to there
+  pub IsReachable-step : (v w : Pair) → IsReachable v → In w (edges v) → IsReachable w
+  IsReachable-step v w h i =
+      elim (In-cases w h.along) [
+        | inl j ↦ of (Leads-up_to edges h.path.start w h.along h.path.head h.path.once h.path.linked j)
+        | inr n ↦ of (Leads-behind edges h.path.start v w h.along h.path.head h.path.once h.path.linked h.path.ends i n)
+      ]
+    where
+      of : {p : List Pair} → Leads edges h.path.start w p → IsReachable w
+      of l = record {
+        along = l.along;
+        path = record { start = h.path.start; among = h.path.among; head = l.head; once = l.once; linked = l.linked; ends = l.ends };
+      }
+
+module _ (edges : Pair → List Pair) (starts : List Pair) where
+  -- a path to the same pair, under another name
+  pub PathTo-along : {m n : Pair} {p : List Pair} → m ≡ n → PathTo edges starts m p → PathTo edges starts n p
+  PathTo-along {p = p} e w = subst (λ x. PathTo edges starts x p) e w
+
+  -- sets with the same pairs
+  pub IsFirstTo-along : (P Q : Pair → Type 0) → ((x : Pair) → P x → Q x) → ((x : Pair) → Q x → P x) → {p : List Pair}
+      → IsFirstTo edges starts P p → IsFirstTo edges starts Q p
+  IsFirstTo-along P Q to back h = record { end = h.end; path = h.path; wanted = to h.end h.wanted; first = λ m q w t. h.first m q w (back m t) }
+
+  -- the paths to targets that lead nowhere, in plain words
+  module _ (target : Pair → Bool) (stops : (x : Pair) → target x ≡ true → edges x ≡ []) where
+    -- a path to a target, as the search knows it
+    pub PathTo-accepts : {m : Pair} {p : List Pair} (w : PathTo edges starts m p) → target m ≡ true → Accepts edges target [] w.start p
+    PathTo-accepts {m} {p} w t = record {
+      path = (Path-plain edges target w.start p).1 (w.head, w.once, w.linked, EndsWith-stops edges target stops m p w.linked w.ends t);
+      clear = λ x i n. n;
+    }
+
+    -- of two paths to targets, one comes before the other
+    pub PathTo-order : Increasing starts → {m n : Pair} {p q : List Pair}
+        → PathTo edges starts m p → target m ≡ true → PathTo edges starts n q → target n ≡ true
+        → (p ≡ q) ⊎ (ComesBefore edges p q ⊎ ComesBefore edges q p)
+    PathTo-order rise {m} {n} {p} {q} w t v u =
+        elim (same w.start v.start) [
+          | inl e ↦
+              let a = PathTo-accepts w t in
+              let b = subst (λ x. Accepts edges target [] x q) (sym e) (PathTo-accepts v u) in
+              elim (Before-total edges target a.path b.path) [
+                | inl eq ↦ inl eq
+                | inr s ↦ inr (elim s [ inl k ↦ inl (ComesBefore-same edges p q k) | inr k ↦ inr (ComesBefore-same edges q p k) ])
+              ]
+          | inr apart ↦
+              inr (elim (Earlier-total starts w.start v.start apart w.among v.among) [
+                | inl k ↦ inl (ComesBefore-less edges w.start v.start p q w.head v.head (Earlier-increasing starts w.start v.start rise k v.among))
+                | inr k ↦ inr (ComesBefore-less edges v.start w.start q p v.head w.head (Earlier-increasing starts v.start w.start rise k w.among))
+              ])
+        ]
+
+  module _ (target : Pair → Bool) where
+    -- an accepting path from one of the starts, in plain words
+    Accepts-path_to : (e : Pair) (p : List Pair) → In e starts → Accepts edges target [] e p → (m : Pair) × PathTo edges starts m p × (target m ≡ true)
+    Accepts-path_to e p i a =
+        let words = (Path-plain edges target e p).0 a.path in
+        let end = StopsAtTarget-ends target p words.3 in
+        (end.0, record { start = e; among = i; head = words.0; once = words.1; linked = words.2; ends = end.1 }, end.2)
+
+    -- where a search finds none, no path leads to a target
+    pub IsLeast-none : ((x : Pair) → target x ≡ true → edges x ≡ []) → IsLeast edges target starts None → NoPath edges starts (λ m. target m ≡ true)
+    IsLeast-none stops none m p w t = none w.start w.among p (PathTo-accepts target stops w t)
+
+    -- the path that a search finds is the first to a target
+    pub IsLeast-first : ((x : Pair) → target x ≡ true → edges x ≡ []) → (p : List Pair) → IsLeast edges target starts (Some p)
+        → IsFirstTo edges starts (λ m. target m ≡ true) p
+    IsLeast-first stops p least =
+        let end = Accepts-path_to least.0 p least.1 least.2 in
+        record {
+          end = end.0;
+          path = end.1;
+          wanted = end.2;
+          first = λ m q w t.
+              ComesBefore-heads edges least.0 w.start p q ((Path-plain edges target least.0 p).0 least.2.path).0 w.head
+              (least.3 w.start q w.among (PathTo-accepts target stops w t));
+        }
+
+  -- one answer of each kind
+
+  -- two lists of which each is the other or comes before it are one
+  one_of : (p q : List Pair) → (q ≡ p) ⊎ ComesBefore edges p q → (p ≡ q) ⊎ ComesBefore edges q p → p ≡ q
+  one_of p q (inl e) k = sym e
+  one_of p q (inr h) (inl e) = e
+  one_of p q (inr h) (inr k) = absurd (ComesBefore-asymmetric edges p q h k)
+
+  -- there is one first path to a set
+  pub IsFirstTo-unique : (P : Pair → Type 0) (p q : List Pair) → IsFirstTo edges starts P p → IsFirstTo edges starts P q → p ≡ q
+  IsFirstTo-unique P p q h k = one_of p q (h.first k.end q k.path k.wanted) (k.first h.end p h.path h.wanted)
+
+  -- there is one last of the first paths
+  pub IsLastOfFirsts-unique : (P : Pair → Type 0) (e : ℕ) (p q : List Pair)
+      → IsLastOfFirsts edges starts P e p → IsLastOfFirsts edges starts P e q → p ≡ q
+  IsLastOfFirsts-unique P e p q h k = last_of (h.last k.end q k.wanted k.first) (k.last h.end p h.wanted h.first)
+    where
+      last_of : (q ≡ p) ⊎ ComesBefore edges q p → (p ≡ q) ⊎ ComesBefore edges p q → p ≡ q
+      last_of (inl e) k = sym e
+      last_of (inr h) (inl e) = e
+      last_of (inr h) (inr k) = absurd (ComesBefore-asymmetric edges p q k h)
+
+  module _ (P : Pair → Type 0) where
+    -- there is one least end
+    pub IsLeastEnd-unique : (e d : ℕ) → IsLeastEnd edges starts P e → IsLeastEnd edges starts P d → e ≡ d
+    IsLeastEnd-unique e d h k =
+        let a : e ≤ k.is_end.end.1 = h.least k.is_end.end k.is_end.along k.is_end.path k.is_end.wanted in
+        let b : d ≤ h.is_end.end.1 = k.least h.is_end.end h.is_end.along h.is_end.path h.is_end.wanted in
+        let c : h.is_end.end.1 ≡ e = h.is_end.at in
+        let l : k.is_end.end.1 ≡ d = k.is_end.at in
+        omega arith
+
+    -- there is one greatest end
+    pub IsGreatestEnd-unique : (e d : ℕ) → IsGreatestEnd edges starts P e → IsGreatestEnd edges starts P d → e ≡ d
+    IsGreatestEnd-unique e d h k =
+        let a : k.is_end.end.1 ≤ e = h.greatest k.is_end.end k.is_end.along k.is_end.path k.is_end.wanted in
+        let b : h.is_end.end.1 ≤ d = k.greatest h.is_end.end h.is_end.along h.is_end.path h.is_end.wanted in
+        let c : h.is_end.end.1 ≡ e = h.is_end.at in
+        let l : k.is_end.end.1 ≡ d = k.is_end.at in
+        omega arith
+
+    -- where there is an end there is a path
+    IsEnd-some : (e : ℕ) → IsEnd edges starts P e → NoPath edges starts P → ⊥
+    IsEnd-some e h none = none h.end h.along h.path h.wanted
+
+    -- there is one first path, or none
+    pub IsFirstPath-unique : (r s : Option (List Pair)) → IsFirstPath edges starts P r → IsFirstPath edges starts P s → r ≡ s
+    IsFirstPath-unique None None h k = refl
+    IsFirstPath-unique None (Some q) h k = absurd (h k.end q k.path k.wanted)
+    IsFirstPath-unique (Some p) None h k = absurd (k h.end p h.path h.wanted)
+    IsFirstPath-unique (Some p) (Some q) h k = ap Some (IsFirstTo-unique P p q h k)
+
+    -- there is one earliest path, or none
+    pub IsEarliestPath-unique : (r s : Option (List Pair)) → IsEarliestPath edges starts P r → IsEarliestPath edges starts P s → r ≡ s
+    IsEarliestPath-unique None None h k = refl
+    IsEarliestPath-unique None (Some q) h k = absurd (IsEnd-some k.0 k.1.is_end h)
+    IsEarliestPath-unique (Some p) None h k = absurd (IsEnd-some h.0 h.1.is_end k)
+    IsEarliestPath-unique (Some p) (Some q) h k =
+        ap Some (IsFirstTo-unique (WantedAt P k.0) p q
+        (subst (λ x. IsFirstTo edges starts (WantedAt P x) p) (IsLeastEnd-unique h.0 k.0 h.1 k.1) h.2) k.2)
+
+    -- there is one last path, or none
+    pub IsLastPath-unique : (r s : Option (List Pair)) → IsLastPath edges starts P r → IsLastPath edges starts P s → r ≡ s
+    IsLastPath-unique None None h k = refl
+    IsLastPath-unique None (Some q) h k = absurd (IsEnd-some k.0 k.1.is_end h)
+    IsLastPath-unique (Some p) None h k = absurd (IsEnd-some h.0 h.1.is_end k)
+    IsLastPath-unique (Some p) (Some q) h k =
+        ap Some (IsLastOfFirsts-unique P k.0 p q (subst (λ x. IsLastOfFirsts edges starts P x p) (IsGreatestEnd-unique h.0 k.0 h.1 k.1) h.2) k.2)
+
+    -- there is one earliest last path, or none
+    pub IsEarliestLastPath-unique : (r s : Option (List Pair)) → IsEarliestLastPath edges starts P r → IsEarliestLastPath edges starts P s → r ≡ s
+    IsEarliestLastPath-unique None None h k = refl
+    IsEarliestLastPath-unique None (Some q) h k = absurd (IsEnd-some k.0 k.1.is_end h)
+    IsEarliestLastPath-unique (Some p) None h k = absurd (IsEnd-some h.0 h.1.is_end k)
+    IsEarliestLastPath-unique (Some p) (Some q) h k =
+        ap Some (IsLastOfFirsts-unique P k.0 p q (subst (λ x. IsLastOfFirsts edges starts P x p) (IsLeastEnd-unique h.0 k.0 h.1 k.1) h.2) k.2)

@@ -1,0 +1,205 @@
+-- What an accepting path tells of its pattern and its slots.
+use Rattle.std.proofs.Common.{◌≡◌, ℕ, zero, suc, ◌+◌, ◌*◌, ◌<◌, ◌≤◌, ◌==◌, inl, inr, List, [], ◌∷◌, ◌++◌, length, map, take, get_or, replicate, refl, ap, sym, ◌∙◌, arith}
+use Rattle.std.specs.Prelude.{Option, Some, None, true, false, Bool, MatchBool, option_and_then, is_some, if◌then◌else◌}
+use Rattle.std.specs.List.{range_with_len}
+use Rattle.std.specs.Option.{option_map_or}
+use Rattle.std.proofs.lemmas.Bool.{cases_lt}
+use Rattle.std.proofs.lemmas.Bool.Decides.{eqb_tells}
+use Rattle.std.proofs.lemmas.List.FromFn.{length-map-range_with_len, get_or-map-range_with_len, map-range_with_len_more, take-map-range_with_len}
+use Rattle.std.proofs.lemmas.Option.{slice_get-get_or}
+use Rattle.std.proofs.lemmas.List.{get_or_past, replicate-append-replicate, append_assoc, append-nil, take-replicate}
+use Rattle.regex_search_core.specs.Groups.{slot_count}
+use Rattle.regex_search_core.specs.Search.{Search, is_anchored}
+use Rattle.regex_search_core.specs.Slots.{offset_at, match_of}
+use Rattle.regex_search_core.specs.declared.search.MatchKind.{MatchKind}
+use Rattle.thompson_nfa.specs.Automaton.{Automaton, Node, IsAutomaton, PatternBelow, SlotBelow}
+use Rattle.thompson_nfa.specs.Automaton.Node.{ByteRange, Sparse, Dense, Look, Union, BinaryUnion, Capture, Fail, Match}
+use Rattle.nfa_paths.specs.Graphs.{Pair}
+use Rattle.nfa_paths.specs.Paths.{raised, pattern_of, slot_of, node_at, capture, is_utf8_empty, path_pattern, last_of, slot_among, slot_row, IsScanAnswer, IsKeptAnswer, IsRestartedAnswer, IsSearchAnswer, IsAnswer, IsFoundAnswer}
+use Rattle.nfa_paths.specs.Exploring.{Slots}
+use Rattle.nfa_paths.proofs.AnswerLemmas.{scan_answer-leads}
+use Rattle.nfa_paths.proofs.PathToLemmas.{EndsWith-last}
+
+-- a Match has a pattern
+some-pattern : (node : Node) → is_some (pattern_of node) ≡ true → (k : ℕ) × (pattern_of node ≡ Some k)
+some-pattern (Match pattern) e = (pattern, refl)
+some-pattern (ByteRange trans) e = cc
+some-pattern (Sparse ts) e = cc
+some-pattern (Dense targets) e = cc
+some-pattern (Look look next) e = cc
+some-pattern (Union alternates) e = cc
+some-pattern (BinaryUnion alt1 alt2) e = cc
+some-pattern (Capture next slot) e = cc
+some-pattern Fail e = cc
+
+-- and one that is in range
+below-pattern : (n k : ℕ) (node : Node) → pattern_of node ≡ Some k → PatternBelow n node → k < n
+below-pattern n k (Match pattern) e below = let same : pattern ≡ k = cc in rw (← same) below
+below-pattern n k (ByteRange trans) e below = cc
+below-pattern n k (Sparse ts) e below = cc
+below-pattern n k (Dense targets) e below = cc
+below-pattern n k (Look look next) e below = cc
+below-pattern n k (Union alternates) e below = cc
+below-pattern n k (BinaryUnion alt1 alt2) e below = cc
+below-pattern n k (Capture next slot) e below = cc
+below-pattern n k Fail e below = cc
+
+-- a Capture's slot is in range
+below-slot : (n k : ℕ) (node : Node) → slot_of node ≡ Some k → SlotBelow n node → k < n
+below-slot n k (Capture next slot) e below = let same : slot ≡ k = cc in rw (← same) below
+below-slot n k (ByteRange trans) e below = cc
+below-slot n k (Sparse ts) e below = cc
+below-slot n k (Dense targets) e below = cc
+below-slot n k (Look look next) e below = cc
+below-slot n k (Union alternates) e below = cc
+below-slot n k (BinaryUnion alt1 alt2) e below = cc
+below-slot n k (Match pattern) e below = cc
+below-slot n k Fail e below = cc
+
+-- where nothing is written, what stood there stays
+unwritten : (o : Option ℕ) (i at : ℕ) → ((k : ℕ) → o ≡ Some k → k < i) → (if option_map_or (λ k. k == i) o false then Some at else None) ≡ None
+unwritten None i at below = refl
+unwritten (Some k) i at below =
+    let less = below k refl in
+    elim (eqb_tells k i) [ inl e ↦ absurd (let same = e.1 in omega arith) | inr e ↦ rw e.0 refl ]
+
+module _ (nfa : Automaton) where
+  -- a state's pattern is one of the NFA's
+  pub node-pattern : IsAutomaton nfa → (q k : ℕ) → pattern_of (node_at nfa q) ≡ Some k → k < length nfa.patterns
+  unfolding node_at
+  node-pattern valid q k e =
+      elim (cases_lt q (length nfa.states)) [
+        | inl inside ↦ below-pattern (length nfa.patterns) k (get_or nfa.states q Fail) e (valid.patterns q Fail inside)
+        | inr past ↦ let fail : get_or nfa.states q Fail ≡ Fail = get_or_past nfa.states q Fail past in absurd (let f = rw fail at e in cc)
+      ]
+
+  -- and so is its slot
+  node-slot : IsAutomaton nfa → (q k : ℕ) → slot_of (node_at nfa q) ≡ Some k → k < slot_count nfa.groups
+  unfolding node_at
+  node-slot valid q k e =
+      elim (cases_lt q (length nfa.states)) [
+        | inl inside ↦ below-slot (slot_count nfa.groups) k (get_or nfa.states q Fail) e (valid.slots q Fail inside)
+        | inr past ↦ let fail : get_or nfa.states q Fail ≡ Fail = get_or_past nfa.states q Fail past in absurd (let f = rw fail at e in cc)
+      ]
+
+  -- no path writes a slot past the NFA's
+  slot_among-past : IsAutomaton nfa → (p : List Pair) (i : ℕ) → slot_count nfa.groups ≤ i → slot_among nfa p i ≡ None
+  slot_among-past valid [] i past = refl
+  slot_among-past valid (v ∷ p) i past =
+      let none = unwritten (capture nfa v) i v.1 (λ k e. let less = node-slot valid v.0 k e in omega arith) in
+      rw (slot_among-past valid p i past, none) refl
+
+  -- so those of a row are none
+  pub slot_row-more : IsAutomaton nfa → (width more : ℕ) → slot_count nfa.groups ≤ width → (path : Option (List Pair))
+      → slot_row nfa (width + more) path ≡ slot_row nfa width path ++ replicate more None
+  unfolding slot_row
+  slot_row-more valid width more all None = sym (replicate-append-replicate width more None)
+  slot_row-more valid width zero all (Some p) =
+      let none : width + 0 ≡ width = omega arith in
+      ap (λ n. map (slot_among nfa p) (range_with_len 0 n)) none ∙ sym (append-nil (map (slot_among nfa p) (range_with_len 0 width)))
+  slot_row-more valid width (suc more) all (Some p) =
+      let next : width + suc more ≡ width + more + 1 = omega arith in
+      let last : 0 + (width + more) ≡ width + more = omega arith in
+      let past : slot_count nfa.groups ≤ width + more = omega arith in
+      let one : more + 1 ≡ suc more = omega arith in
+      ap (λ n. map (slot_among nfa p) (range_with_len 0 n)) next ∙ map-range_with_len_more (slot_among nfa p) 0 (width + more) (width + more) last
+      ∙ ap (λ l. l ++ slot_among nfa p (width + more) ∷ []) (slot_row-more valid width more all (Some p))
+      ∙ ap (λ o. (map (slot_among nfa p) (range_with_len 0 width) ++ replicate more None) ++ o ∷ []) (slot_among-past valid p (width + more) past)
+      ∙ append_assoc (map (slot_among nfa p) (range_with_len 0 width)) (replicate more None) (None ∷ [])
+      ∙ ap (λ l. map (slot_among nfa p) (range_with_len 0 width) ++ l) (replicate-append-replicate more 1 None ∙ ap (λ n. replicate n None) one)
+
+  pattern-within : IsAutomaton nfa → (p : List Pair) (k : ℕ) → path_pattern nfa p ≡ Some k → k < length nfa.patterns
+  pattern-within valid p k =
+      elim (last_of p) as (λ o. option_and_then (λ v. pattern_of (node_at nfa v.0)) o ≡ Some k → k < length nfa.patterns) [
+        | None ↦ λ e. cc
+        | Some v ↦ λ e. node-pattern valid v.0 k e
+      ]
+
+  -- an offset of a path's row
+  offset_at-slot_row : (p : List Pair) (count i : ℕ) → i < count → offset_at (slot_row nfa count (Some p)) i ≡ slot_among nfa p i
+  unfolding slot_row
+  offset_at-slot_row p count i inside =
+      let h : i < length (map (slot_among nfa p) (range_with_len 0 count)) = rw (length-map-range_with_len (slot_among nfa p) 0 count) inside in
+      rw (slice_get-get_or (map (slot_among nfa p) (range_with_len 0 count)) i None h)
+      (get_or-map-range_with_len (slot_among nfa p) 0 count i i None inside (omega arith))
+
+  -- rows that have the pattern's two slots give one match
+  match-along : (r s : Slots) (k : ℕ) → offset_at r (2 * k) ≡ offset_at s (2 * k) → offset_at r (2 * k + 1) ≡ offset_at s (2 * k + 1)
+      → match_of (Some k) r ≡ match_of (Some k) s
+  match-along r s k start end = rw (start, end) refl
+
+  match-row : IsAutomaton nfa → (p : List Pair) (k : ℕ) → path_pattern nfa p ≡ Some k
+      → match_of (Some k) (slot_row nfa (2 * length nfa.groups) (Some p)) ≡ match_of (Some k) (slot_row nfa (slot_count nfa.groups) (Some p))
+  match-row valid p k pattern =
+      let small = pattern-within valid p k pattern in
+      elim valid.groups [
+        | inl all ↦
+            let low : 2 * k < 2 * length nfa.groups = omega arith in
+            let high : 2 * k + 1 < 2 * length nfa.groups = omega arith in
+            let low' : 2 * k < slot_count nfa.groups = omega arith in
+            let high' : 2 * k + 1 < slot_count nfa.groups = omega arith in
+            match-along _ _ k (offset_at-slot_row p _ (2 * k) low ∙ sym (offset_at-slot_row p _ (2 * k) low'))
+            (offset_at-slot_row p _ (2 * k + 1) high ∙ sym (offset_at-slot_row p _ (2 * k + 1) high'))
+        | inr none ↦ ap (λ n. match_of (Some k) (slot_row nfa n (Some p))) (no_groups nfa.groups none)
+      ]
+    where
+      no_groups : (groups : List (List (Option (List ℕ)))) → length groups ≡ 0 → 2 * length groups ≡ slot_count groups
+      no_groups [] e = refl
+      no_groups (g ∷ gs) e = absurd (omega arith)
+
+  -- a row that has all patterns' slots gives the path's match
+  pub match-along-path : IsAutomaton nfa → (k : ℕ) (slots : Slots) → length slots ≡ 2 * length nfa.groups → (path : Option (List Pair))
+      → Some k ≡ option_and_then (path_pattern nfa) path → slots ≡ slot_row nfa (length slots) path
+      → match_of (Some k) slots ≡ match_of (option_and_then (path_pattern nfa) path) (slot_row nfa (slot_count nfa.groups) path)
+  match-along-path valid k slots size None e row = cc
+  match-along-path valid k slots size (Some p) e row =
+      ap (match_of (Some k)) (row ∙ ap (λ n. slot_row nfa n (Some p)) size) ∙ match-row valid p k (sym e)
+      ∙ ap (λ o. match_of o (slot_row nfa (slot_count nfa.groups) (Some p))) e
+
+  -- a shorter row of a path is the beginning of a longer one
+  pub slot_row-take : (k n : ℕ) (path : Option (List Pair)) → k ≤ n → take k (slot_row nfa n path) ≡ slot_row nfa k path
+  unfolding slot_row
+  slot_row-take k n None less = take-replicate k n None less
+  slot_row-take k n (Some p) less = take-map-range_with_len (slot_among nfa p) 0 n k less
+
+module _ (nfa : Automaton) (kind : MatchKind) (earliest : Bool) where
+  -- the pattern of an accepting path
+  scan-pattern : (y : Search) (p : List Pair) → IsScanAnswer nfa y kind earliest (Some p) → (k : ℕ) × (path_pattern nfa p ≡ Some k)
+  scan-pattern y p answer =
+      let to = scan_answer-leads nfa y kind earliest p answer in
+      let last = EndsWith-last None to.end p to.path.ends in
+      let some = some-pattern (node_at nfa to.end.0) to.matches in
+      (some.0, rw last some.1)
+
+  -- every search that has a path has a pattern
+  search-pattern : (x : Search) (restarts : ℕ) (p : List Pair) → IsSearchAnswer nfa kind earliest x restarts (Some p)
+      → (k : ℕ) × (path_pattern nfa p ≡ Some k)
+  search-pattern x restarts p =
+      elim (is_utf8_empty nfa) as (λ m. MatchBool m
+      (MatchBool (is_anchored x.anchored) ((restarts ≡ 0) × IsKeptAnswer nfa kind earliest x (Some p)) (IsRestartedAnswer nfa kind earliest x restarts (Some p)))
+      ((restarts ≡ 0) × IsScanAnswer nfa x kind earliest (Some p)) → (k : ℕ) × (path_pattern nfa p ≡ Some k)) [
+        | true ↦
+            elim (is_anchored x.anchored) as (λ a. MatchBool a ((restarts ≡ 0) × IsKeptAnswer nfa kind earliest x (Some p)) (IsRestartedAnswer nfa kind earliest x restarts (Some p))
+            → (k : ℕ) × (path_pattern nfa p ≡ Some k)) [
+              | true ↦ λ h. scan-pattern x p h.1.0
+              | false ↦ λ h. scan-pattern (raised x restarts) p h.answers
+            ]
+        | false ↦ λ h. scan-pattern x p h.1
+      ]
+
+  -- a search that has no pattern has no path, and one that has a pattern has a path
+  found-none : (x : Search) (slots : Slots) → IsAnswer nfa kind earliest x None slots → IsFoundAnswer nfa kind earliest x false
+  found-none x slots a = record { restarts = a.restarts; path = a.path; answers = a.answers; found_is = none a.path a.answers a.pattern_is }
+    where
+      none : (path : Option (List Pair)) → IsSearchAnswer nfa kind earliest x a.restarts path → None ≡ option_and_then (path_pattern nfa) path
+          → false ≡ is_some path
+      none None answers e = refl
+      none (Some p) answers e = let some = search-pattern x a.restarts p answers in absurd (let k = some.1 in cc)
+
+  pub found-of : (x : Search) (slots : Slots) (pattern : Option ℕ) → IsAnswer nfa kind earliest x pattern slots → IsFoundAnswer nfa kind earliest x (is_some pattern)
+  found-of x slots None a = found-none x slots a
+  found-of x slots (Some k) a = record { restarts = a.restarts; path = a.path; answers = a.answers; found_is = some a.path a.pattern_is }
+    where
+      some : (path : Option (List Pair)) → Some k ≡ option_and_then (path_pattern nfa) path → true ≡ is_some path
+      some None e = cc
+      some (Some p) e = refl

@@ -1,0 +1,257 @@
+-- An NFA's pairs as what a scan goes over, and what a scan finds as the answer that its contract means.
+use Rattle.std.proofs.Common.{◌≡◌, ℕ, zero, suc, ◌+◌, ◌-◌, ◌≤◌, ◌<◌, ◌⊎◌, inl, inr, Bool, true, false, List, [], ◌∷◌, map, length, replicate, refl, sym, ap, ◌∙◌, arith}
+use Rattle.std.specs.Prelude.{Option, None, Some, cond, nat_lt, option_and_then, option_map, option_to_list}
+use Rattle.std.specs.Option.{option_map_or}
+use Rattle.std.proofs.lemmas.Bool.{cases_Bool, cases_lt, ltb-true}
+use Rattle.regex_search_core.specs.Search.{Search}
+use Rattle.regex_search_core.specs.declared.search.MatchKind.{MatchKind}
+use Rattle.regex_search_core.specs.declared.search.MatchKind.TheVariants.{All, LeftmostFirst}
+use Rattle.thompson_nfa.specs.Automaton.{Automaton, Node}
+use Rattle.thompson_nfa.specs.Automaton.Node.{ByteRange, Sparse, Dense, Look, Union, BinaryUnion, Capture, Fail, Match}
+use Rattle.thompson_nfa.specs.Looks.{look_holds}
+use Rattle.nfa_paths.specs.Graphs.{Pair, In, NoPath}
+use Rattle.nfa_paths.specs.Exploring.{Slots, Found, apply, Answer, seeds}
+use Rattle.nfa_paths.specs.Exploring.Item.{Explore, Load}
+use Rattle.nfa_paths.specs.Kinds.{IsFoundBy, found_along, NoneBefore, LastBefore, EndsBefore, first_match, last_match, Scanned, IsFront, rests, is_resting}
+use Rattle.nfa_paths.specs.Paths.{target_on, pairs_from, node_at, is_match, IsMatch, capture, start_state, byte_at, edges_of, edges, start_count, starts, IsScanAnswer, last_of, slot_row}
+use Rattle.nfa_paths.proofs.PathToLemmas.{EndsWith-last, found-end}
+use Rattle.nfa_paths.proofs.AnswerLemmas.{pairs_from-ahead, starts-increase, starts-none, IsMatch-edges, IsMatch-capture, apply-slot_row, scan_answer-leads, never_none, same_parts}
+use Rattle.nfa_paths.proofs.ScanLemmas.{EndsBefore-within, IsEarliestPath-found, IsEarliestLastPath-found, LastBefore-end, IsFirstPath-found}
+
+-- the edges
+
+module _ (nfa : Automaton) (x : Search) where
+  -- a byte that is read lies before the end of the span
+  byte_at-within : (p b : ℕ) → byte_at x p ≡ Some b → p < x.end
+  byte_at-within p b e =
+      elim (cases_Bool (nat_lt p x.end)) [
+        | inl t ↦ ltb-true p x.end t
+        | inr f ↦ absurd (never_none _ (sym (rw f at e)))
+      ]
+
+  -- an edge over a byte leads to the next position, within the span
+  byte_edge : (p : ℕ) (on : ℕ → Option ℕ) (y : Pair)
+      → In y (option_to_list (option_and_then (λ b. option_map (λ next. (next, p + 1)) (on b)) (byte_at x p))) → (y.1 ≡ p + 1) × (p < x.end)
+  byte_edge p on y = of (byte_at x p) (λ b. byte_at-within p b)
+    where
+      over : (o : Option ℕ) → In y (option_to_list (option_map (λ next. (next, p + 1)) o)) → y.1 ≡ p + 1
+      over None i = absurd i
+      over (Some next) i = elim i [ inl e ↦ ap (λ z. z.1) e | inr never ↦ absurd never ]
+
+      of : (o : Option ℕ) → ((b : ℕ) → o ≡ Some b → p < x.end)
+          → In y (option_to_list (option_and_then (λ b. option_map (λ next. (next, p + 1)) (on b)) o)) → (y.1 ≡ p + 1) × (p < x.end)
+      of None within i = absurd i
+      of (Some b) within i = (over (on b) i, within b refl)
+
+  -- an edge over no byte stays at its position
+  stays : (p : ℕ) (targets : List ℕ) (y : Pair) → In y (map (λ next. (next, p)) targets) → y.1 ≡ p
+  stays p [] y i = absurd i
+  stays p (t ∷ targets) y i = elim i [ inl e ↦ ap (λ z. z.1) e | inr later ↦ stays p targets y later ]
+
+  -- an edge stays at its position, where the state does not rest, or leads to the next one within the span
+  pub edges_of-next : (n : Node) (p : ℕ) (y : Pair) → In y (edges_of x n p) → ((rests n ≡ false) × (y.1 ≡ p)) ⊎ ((y.1 ≡ p + 1) × (p < x.end))
+  unfolding edges_of
+  edges_of-next (ByteRange t) p y i = inr (byte_edge p (target_on (ByteRange t)) y i)
+  edges_of-next (Sparse ts) p y i = inr (byte_edge p (target_on (Sparse ts)) y i)
+  edges_of-next (Dense targets) p y i = inr (byte_edge p (target_on (Dense targets)) y i)
+  edges_of-next (Look look next) p y i = inl (refl, of (look_holds look x.haystack p) i)
+    where
+      of : (b : Bool) → In y (cond b ((next, p) ∷ []) []) → y.1 ≡ p
+      of true i = elim i [ inl e ↦ ap (λ z. z.1) e | inr never ↦ absurd never ]
+      of false i = absurd i
+  edges_of-next (Union alternates) p y i = inl (refl, stays p alternates y i)
+  edges_of-next (BinaryUnion a b) p y i = inl (refl, stays p (a ∷ b ∷ []) y i)
+  edges_of-next (Capture next slot) p y i = inl (refl, stays p (next ∷ []) y i)
+  edges_of-next Fail p y i = absurd i
+  edges_of-next (Match pattern) p y i = absurd i
+
+  -- positions never fall along an edge
+  pub edges-onward : (v y : Pair) → In y (edges nfa x v) → v.1 ≤ y.1
+  edges-onward v y i =
+      elim (edges_of-next (node_at nfa v.0) v.1 y i) [
+        | inl h ↦ let e : y.1 ≡ v.1 = h.1 in omega arith
+        | inr h ↦ let e : y.1 ≡ v.1 + 1 = h.0 in omega arith
+      ]
+
+  -- they rise at a resting pair
+  pub edges-rise : (v y : Pair) → is_resting nfa v ≡ true → In y (edges nfa x v) → v.1 < y.1
+  edges-rise v y r i =
+      elim (edges_of-next (node_at nfa v.0) v.1 y i) [
+        | inl h ↦ absurd (apart (rests (node_at nfa v.0)) r h.0)
+        | inr h ↦ let e : y.1 ≡ v.1 + 1 = h.0 in omega arith
+      ]
+    where
+      apart : (b : Bool) → b ≡ true → b ≡ false → ⊥
+      apart b t f = cc
+
+  -- and stay within the span
+  pub edges-within : (v y : Pair) → In y (edges nfa x v) → v.1 ≤ x.end → y.1 ≤ x.end
+  edges-within v y i within =
+      elim (edges_of-next (node_at nfa v.0) v.1 y i) [
+        | inl h ↦ let e : y.1 ≡ v.1 = h.1 in omega arith
+        | inr h ↦ let e : y.1 ≡ v.1 + 1 = h.0 in let l : v.1 < x.end = h.1 in omega arith
+      ]
+
+  -- a set of matches, all or some, as what a scan is for
+  pub Scanned-matches : (wanted : Pair → Bool) → ((v : Pair) → wanted v ≡ true → is_match nfa v ≡ true)
+      → Scanned (edges nfa x) (capture nfa) (starts nfa x) (is_resting nfa) wanted
+  Scanned-matches wanted some = record {
+    onward = edges-onward;
+    rises = edges-rise;
+    leads_nowhere = λ v w. IsMatch-edges nfa x v (some v w);
+    writes_nothing = λ v w. IsMatch-capture nfa v (some v w);
+    increasing = starts-increase nfa x;
+  }
+
+  -- the starts lie at the span's start or behind it
+  pub starts-from : (s : Pair) → In s (starts nfa x) → x.start ≤ s.1
+  starts-from s = of (start_state nfa x.anchored)
+    where
+      of : (o : Option ℕ) → In s (option_map_or (λ state. pairs_from state x.start (start_count nfa x)) o []) → x.start ≤ s.1
+      of None i = absurd i
+      of (Some state) i = pairs_from-ahead state x.start (start_count nfa x) s i
+
+  -- and not behind its end
+  pub starts-within : (s : Pair) → In s (starts nfa x) → s.1 ≤ x.end
+  starts-within s i =
+      elim (cases_lt x.end x.start) [
+        | inl past ↦ absurd (rw (starts-none nfa x past) at i)
+        | inr within ↦ of within (start_state nfa x.anchored) i
+      ]
+    where
+      below : (state at count : ℕ) → In s (pairs_from state at count) → s.1 < at + count
+      below state at zero i = absurd i
+      below state at (suc count) i =
+          elim i [
+            | inl e ↦ let k : s.1 ≡ at = ap (λ z. z.1) e in omega arith
+            | inr later ↦ let k : s.1 < at + 1 + count = below state (at + 1) count later in omega arith
+          ]
+
+      few : x.start ≤ x.end → (a b : Bool) → x.start + cond a 0 (cond b 1 (x.end - x.start + 1)) ≤ x.end + 1
+      few within true b = omega arith
+      few within false true = omega arith
+      few within false false = omega arith
+
+      of : x.start ≤ x.end → (o : Option ℕ) → In s (option_map_or (λ state. pairs_from state x.start (start_count nfa x)) o []) → s.1 ≤ x.end
+      of within None i = absurd i
+      of within (Some state) i =
+          let k : s.1 < x.start + start_count nfa x = below state x.start (start_count nfa x) i in
+          let l : x.start + start_count nfa x ≤ x.end + 1 = few within _ _ in
+          omega arith
+
+  -- every path ends within the span
+  pub EndsBefore-span : (wanted : Pair → Bool) → EndsBefore (edges nfa x) (starts nfa x) wanted (x.end + 1)
+  EndsBefore-span wanted = EndsBefore-within (edges nfa x) (starts nfa x) wanted x.end edges-within starts-within
+
+-- the starts that wait
+
+-- a pair that waits to be explored is one of the list
+pub Explore-among : (k : Pair) (es : List Pair) → In (Explore k) (map Explore es) → In k es
+Explore-among k [] i = absurd i
+Explore-among k (e ∷ es) i = elim i [ inl here ↦ inl (let h : k ≡ e = cc in h) | inr later ↦ inr (Explore-among k es later) ]
+
+-- so it is where the slots are loaded behind each
+pub Explore-among_seeds : (k : Pair) (slots : Slots) (es : List Pair) → In (Explore k) (seeds slots es) → In k es
+unfolding seeds
+Explore-among_seeds k slots [] i = absurd i
+Explore-among_seeds k slots (e ∷ es) i =
+    elim i [
+      | inl here ↦ inl (let h : k ≡ e = cc in h)
+      | inr later ↦ elim later [ inl load ↦ absurd (no_load k slots load) | inr more ↦ inr (Explore-among_seeds k slots es more) ]
+    ]
+  where
+    no_load : (k : Pair) (slots : Slots) → Explore k ≡ Load slots → ⊥
+    no_load k slots e = cc
+
+-- the starts that wait behind a position
+pub seeds-later : (slots : Slots) (state at count : ℕ) (k : Pair) → In (Explore k) (seeds slots (pairs_from state (at + 1) count)) → at < k.1
+seeds-later slots state at count k i =
+    let l : at + 1 ≤ k.1 = pairs_from-ahead state (at + 1) count k (Explore-among_seeds k slots (pairs_from state (at + 1) count) i) in omega arith
+
+-- the answers
+
+-- the path of a scan's answer, of whichever kind, which ends with v, with its slots, no longer than there were turns
+pub record FindsAnswer (nfa : Automaton) (x : Search) (kind : MatchKind) (earliest : Bool) (count turns : ℕ) (v : Pair) (row : Slots) : Type 0 where
+  pub path : List Pair
+  pub answers : IsScanAnswer nfa x kind earliest (Some path)
+  pub ends : last_of path ≡ Some v
+  pub row_is : row ≡ slot_row nfa count (Some path)
+  pub short : length path ≤ turns
+
+module _ (nfa : Automaton) (x : Search) (kind : MatchKind) (earliest : Bool) where
+  -- nothing was found: the scan has no answer
+  pub IsFoundBy-none : (turns : ℕ) (slots : Slots) → IsFoundBy (capture nfa) slots (IsScanAnswer nfa x kind earliest) turns None
+      → IsScanAnswer nfa x kind earliest None
+  IsFoundBy-none turns slots h = of h.path h.meant h.leads
+    where
+      of : (o : Option (List Pair)) → IsScanAnswer nfa x kind earliest o → found_along (capture nfa) o slots ≡ None → IsScanAnswer nfa x kind earliest None
+      of None meant leads = meant
+      of (Some p) meant leads =
+          let to = scan_answer-leads nfa x kind earliest p meant in
+          absurd (never_none (to.end, apply (capture nfa) p slots) (sym (found-end (capture nfa) to.end p slots to.path.ends) ∙ leads))
+
+  -- a pair was found: it ends the scan's answer
+  pub IsFoundBy-some : (count turns : ℕ) (v : Pair) (row : Slots)
+      → IsFoundBy (capture nfa) (replicate count None) (IsScanAnswer nfa x kind earliest) turns (Some (v, row))
+      → FindsAnswer nfa x kind earliest count turns v row
+  IsFoundBy-some count turns v row h = of h.path h.meant h.leads h.short
+    where
+      of : (o : Option (List Pair)) → IsScanAnswer nfa x kind earliest o → found_along (capture nfa) o (replicate count None) ≡ Some (v, row)
+          → option_map_or length o 0 ≤ turns → FindsAnswer nfa x kind earliest count turns v row
+      of None meant leads short = absurd (never_none (v, row) (sym leads))
+      of (Some p) meant leads short =
+          let to = scan_answer-leads nfa x kind earliest p meant in
+          let both = same_parts (to.end, apply (capture nfa) p (replicate count None)) (v, row)
+          (sym (found-end (capture nfa) to.end p (replicate count None) to.path.ends) ∙ leads) in
+          record {
+            path = p;
+            answers = meant;
+            ends = EndsWith-last None to.end p to.path.ends ∙ ap Some both.0;
+            row_is = sym both.1 ∙ apply-slot_row nfa count p;
+            short = short;
+          }
+
+-- each kind from what the scan knows of its positions
+
+module _ (nfa : Automaton) (x : Search) where
+  -- where no path to a match is left to end, no kind of scan has an answer
+  pub scan_answer-none : (kind : MatchKind) (earliest : Bool) {e : ℕ} → NoneBefore (edges nfa x) (starts nfa x) (is_match nfa) e
+      → EndsBefore (edges nfa x) (starts nfa x) (is_match nfa) e → IsScanAnswer nfa x kind earliest None
+  scan_answer-none kind earliest {e} none ends =
+      of kind earliest (λ m p w t. none m p w (record { wanted = t; before = ends m p w t }))
+    where
+      of : (kind : MatchKind) (earliest : Bool) → NoPath (edges nfa x) (starts nfa x) (IsMatch nfa) → IsScanAnswer nfa x kind earliest None
+      of LeftmostFirst false h = h
+      of LeftmostFirst true h = h
+      of All false h = h
+      of All true h = h
+
+module _ (nfa : Automaton) (x : Search) (slots : Slots) where
+  -- the search for any match finds the first path
+  pub scan_first-found : (turns : ℕ) (g : Found) → Answer (edges nfa x) (is_match nfa) (capture nfa) turns None [] (map Explore (starts nfa x)) slots g
+      → IsFoundBy (capture nfa) slots (IsScanAnswer nfa x LeftmostFirst false) turns g
+  scan_first-found turns g answer =
+      IsFirstPath-found (edges nfa x) (capture nfa) (starts nfa x) (is_resting nfa) (is_match nfa) slots (Scanned-matches nfa x (is_match nfa) (λ v m. m)) turns g answer
+
+  -- the first front with a match has the earliest path
+  pub scan_earliest-found : {turns e : ℕ} {front : List (Pair × Slots)} → NoneBefore (edges nfa x) (starts nfa x) (is_match nfa) e
+      → IsFront (edges nfa x) (capture nfa) (starts nfa x) (is_resting nfa) (is_match nfa) slots turns front e
+      → (a : Pair × Slots) → first_match (is_match nfa) front ≡ Some a
+      → IsFoundBy (capture nfa) slots (IsScanAnswer nfa x LeftmostFirst true) turns (Some a)
+  scan_earliest-found none f a is =
+      IsEarliestPath-found (edges nfa x) (capture nfa) (starts nfa x) (is_resting nfa) (is_match nfa) slots (Scanned-matches nfa x (is_match nfa) (λ v m. m)) none f a is
+
+  -- and the earliest last path
+  pub scan_earliest_last-found : {turns e : ℕ} {front : List (Pair × Slots)} → NoneBefore (edges nfa x) (starts nfa x) (is_match nfa) e
+      → IsFront (edges nfa x) (capture nfa) (starts nfa x) (is_resting nfa) (is_match nfa) slots turns front e
+      → (a : Pair × Slots) → last_match (is_match nfa) None front ≡ Some a
+      → IsFoundBy (capture nfa) slots (IsScanAnswer nfa x All true) turns (Some a)
+  scan_earliest_last-found none f a is =
+      IsEarliestLastPath-found (edges nfa x) (capture nfa) (starts nfa x) (is_resting nfa) (is_match nfa) slots (Scanned-matches nfa x (is_match nfa) (λ v m. m)) none f a is
+
+  -- once every path has ended, what was found last is the last path's
+  pub scan_last-found : {turns e : ℕ} {g : Found} → LastBefore (edges nfa x) (capture nfa) (starts nfa x) (is_match nfa) slots e turns g
+      → EndsBefore (edges nfa x) (starts nfa x) (is_match nfa) e
+      → IsFoundBy (capture nfa) slots (IsScanAnswer nfa x All false) turns g
+  scan_last-found so_far ends =
+      LastBefore-end (edges nfa x) (capture nfa) (starts nfa x) (is_resting nfa) (is_match nfa) slots (Scanned-matches nfa x (is_match nfa) (λ v m. m)) so_far ends

@@ -1,0 +1,177 @@
+-- The steps of the search, forwards, as a loop takes them.
+use Rattle.std.proofs.Common.{◌≡◌, ℕ, suc, ◌+◌, ◌≤◌, arith, ◌⊎◌, ◌↔◌, inl, inr, Bool, true, false, List, [], ◌∷◌, ◌++◌, map, length, get_or, set, refl}
+use Rattle.std.specs.Prelude.{Option, None, Some}
+use Rattle.nfa_paths.specs.Graphs.{Pair, In}
+use Rattle.nfa_paths.specs.Exploring.{Slots, Found, Item, write, Answer, AnswerBehind, round, seeds, Searching}
+use Rattle.nfa_paths.specs.Exploring.Item.{Explore, Restore, Load}
+use Rattle.nfa_paths.proofs.SearchLemmas.{Answer-more, Answer-seeds, Answer-restore, Answer-load, Answer-marked, Answer-target, Answer-plain, Answer-write, Answer-unkept, Answer-end, AnswerBehind-along, AnswerBehind-keep, AnswerBehind-round}
+
+module _ (edges : Pair → List Pair) (target : Pair → Bool) (capture : Pair → Option ℕ) where
+  -- nothing is seen yet
+  pub Searching-start : (Seen : Pair → Type 0) (otherwise : Found) (work : List Item) (slots : Slots) → ((x : Pair) → Seen x → ⊥)
+      → Searching edges target capture (λ g total. Answer edges target capture total otherwise [] work slots g) Seen 0 [] otherwise work slots
+  unfolding AnswerBehind
+  Searching-start Seen otherwise work slots fresh = record {
+    marks = [];
+    agrees = λ x. (λ i. absurd i, λ s. absurd (fresh x s));
+    leads = λ g left total e. Answer-more edges target capture left total (omega arith) otherwise [] work slots g;
+  }
+
+  -- nothing is seen yet, and each start has its slots loaded
+  pub Searching-seeds : (Seen : Pair → Type 0) (otherwise : Found) (starts : List Pair) (slots current : Slots) → ((x : Pair) → Seen x → ⊥)
+      → Searching edges target capture (λ g total. Answer edges target capture total otherwise [] (map Explore starts) slots g) Seen 0 [] otherwise (Load slots ∷ seeds slots starts) current
+  unfolding Answer AnswerBehind
+  Searching-seeds Seen otherwise starts slots current fresh = record {
+    marks = [];
+    agrees = λ x. (λ i. absurd i, λ s. absurd (fresh x s));
+    leads = λ g left total e h.
+        Answer-more edges target capture left total (omega arith) otherwise [] (map Explore starts) slots g
+        (Answer-seeds edges target capture left otherwise [] starts slots g h);
+  }
+
+  -- nothing is left to do, and nothing was put aside
+  pub Searching-done : {goal : Found → ℕ → Type 0} {Seen : Pair → Type 0} {spent : ℕ} {otherwise : Found} {slots : Slots}
+      → Searching edges target capture goal Seen spent [] otherwise [] slots → goal otherwise spent
+  unfolding Answer AnswerBehind
+  Searching-done {spent = spent} s = s.leads _ 0 spent (omega arith) refl
+
+  module _ {goal : Found → ℕ → Type 0} {Seen : Pair → Type 0} {spent : ℕ} {front : List (Pair × Slots)} {otherwise : Found} where
+    module _ {rest : List Item} {slots : Slots} where
+      -- a slot is restored
+      pub Searching-restore : {k : ℕ} {old : Option ℕ} → Searching edges target capture goal Seen spent front otherwise (Restore k old ∷ rest) slots
+          → Searching edges target capture goal Seen spent front otherwise rest (set slots k old)
+      Searching-restore {k} {old} s = record {
+        marks = s.marks;
+        agrees = s.agrees;
+        leads = λ g left total e h.
+            s.leads g left total e
+            (AnswerBehind-along edges target capture front left left (omega arith) otherwise otherwise s.marks s.marks rest (Restore k old ∷ rest) (set slots k old) slots g
+            (Answer-restore edges target capture left otherwise s.marks k old rest slots g).0 h);
+      }
+
+      -- slots are loaded
+      pub Searching-load : {old : Slots} → Searching edges target capture goal Seen spent front otherwise (Load old ∷ rest) slots
+          → Searching edges target capture goal Seen spent front otherwise rest old
+      Searching-load {old} s = record {
+        marks = s.marks;
+        agrees = s.agrees;
+        leads = λ g left total e h.
+            s.leads g left total e
+            (AnswerBehind-along edges target capture front left left (omega arith) otherwise otherwise s.marks s.marks rest (Load old ∷ rest) old slots g
+            (Answer-load edges target capture left otherwise s.marks old rest slots g).0 h);
+      }
+
+  module _ {goal : Found → ℕ → Type 0} {Seen : Pair → Type 0} {spent : ℕ} {front : List (Pair × Slots)} {otherwise : Found} {v : Pair} {rest : List Item} {slots : Slots}
+      (s : Searching edges target capture goal Seen spent front otherwise (Explore v ∷ rest) slots) where
+    -- a turn that finds its pair marked
+    pub Searching-marked : Seen v → Searching edges target capture goal Seen (spent + 1) front otherwise rest slots
+    Searching-marked seen = record {
+      marks = s.marks;
+      agrees = s.agrees;
+      leads = λ g left total e h.
+          s.leads g (suc left) total (omega arith)
+          (AnswerBehind-along edges target capture front left (suc left) (omega arith) otherwise otherwise s.marks s.marks rest (Explore v ∷ rest) slots slots g
+          (Answer-marked edges target capture left otherwise s.marks v rest slots g ((s.agrees v).1 seen)) h);
+    }
+
+    -- with nothing put aside
+    pub Searching-found : ¬ (Seen v) → target v ≡ true → front ≡ [] → goal (Some (v, write (capture v) v.1 slots)) (spent + 1)
+    unfolding AnswerBehind
+    Searching-found fresh t e =
+        s.leads _ 1 (spent + 1) refl
+        (rw e (Answer-target edges target capture 0 otherwise s.marks v rest slots _ (λ i. fresh ((s.agrees v).0 i)) t refl))
+
+    module _ {After : Pair → Type 0} (fresh : ¬ (Seen v)) (adds : (x : Pair) → After x ↔ ((x ≡ v) ⊎ Seen x)) where
+      -- the pair is unmarked
+      free : ¬ (In v s.marks)
+      free i = fresh ((s.agrees v).0 i)
+
+      -- the marks with the pair are those that are seen after
+      grows : (x : Pair) → In x (v ∷ s.marks) ↔ After x
+      grows x = (
+        λ i. (adds x).1 (elim i [ inl e ↦ inl e | inr m ↦ inr ((s.agrees x).0 m) ]),
+        λ a. elim ((adds x).0 a) [ inl e ↦ inl e | inr m ↦ inr ((s.agrees x).1 m) ],
+      )
+
+      -- v is marked and gives way to `next`
+      Searching-next : (next : List Item) (after : Slots)
+          → ((left : ℕ) (g : Found) → Answer edges target capture left otherwise (v ∷ s.marks) next after g
+          → Answer edges target capture (suc left) otherwise s.marks (Explore v ∷ rest) slots g)
+          → Searching edges target capture goal After (spent + 1) front otherwise next after
+      Searching-next next after back = record {
+        marks = v ∷ s.marks;
+        agrees = grows;
+        leads = λ g left total e h.
+            s.leads g (suc left) total (omega arith)
+            (AnswerBehind-along edges target capture front left (suc left) (omega arith) otherwise otherwise (v ∷ s.marks) s.marks next (Explore v ∷ rest) after slots g
+            (back left g) h);
+      }
+
+      -- a pair that writes nothing gives way to its edges
+      pub Searching-plain : target v ≡ false → (es : List Pair) → edges v ≡ es → capture v ≡ None
+          → Searching edges target capture goal After (spent + 1) front otherwise (map Explore es ++ rest) slots
+      Searching-plain plain es leads e =
+          Searching-next (map Explore es ++ rest) slots
+          (λ left g. Answer-plain edges target capture left otherwise s.marks v rest slots g free plain es leads e)
+
+      -- a pair that writes to a slot, which is restored below its edges
+      pub Searching-write : target v ≡ false → (es : List Pair) → edges v ≡ es → (k : ℕ) → capture v ≡ Some k
+          → Searching edges target capture goal After (spent + 1) front otherwise (map Explore es ++ Restore k (get_or slots k None) ∷ rest) (set slots k (Some v.1))
+      Searching-write plain es leads k e =
+          Searching-next (map Explore es ++ Restore k (get_or slots k None) ∷ rest) (set slots k (Some v.1))
+          (λ left g. Answer-write edges target capture left otherwise s.marks v rest slots g free plain es leads k e)
+
+      -- a pair that writes to a slot that is not kept
+      pub Searching-unkept : target v ≡ false → (es : List Pair) → edges v ≡ es → (k : ℕ) → capture v ≡ Some k → length slots ≤ k
+          → Searching edges target capture goal After (spent + 1) front otherwise (map Explore es ++ rest) slots
+      Searching-unkept plain es leads k e past =
+          Searching-next (map Explore es ++ rest) slots
+          (λ left g. Answer-unkept edges target capture left otherwise s.marks v rest slots g free plain es leads k e past)
+
+      -- a pair with no edge is dropped
+      pub Searching-end : target v ≡ false → edges v ≡ [] → Searching edges target capture goal After (spent + 1) front otherwise rest slots
+      Searching-end plain leads =
+          Searching-next rest slots (λ left g. Answer-end edges target capture left otherwise s.marks v rest slots g free plain leads)
+
+      -- a target, where pairs were put aside
+      pub Searching-target : target v ≡ true
+          → Searching edges target capture goal After (spent + 1) front (Some (v, write (capture v) v.1 slots)) [] slots
+      unfolding Answer
+      Searching-target t = record {
+        marks = v ∷ s.marks;
+        agrees = grows;
+        leads = λ g left total e h.
+            s.leads g (suc left) total (omega arith)
+            (AnswerBehind-along edges target capture front left (suc left) (omega arith) (Some (v, write (capture v) v.1 slots)) otherwise (v ∷ s.marks) s.marks [] (Explore v ∷ rest) slots slots g
+            (Answer-target edges target capture left otherwise s.marks v rest slots g free t) h);
+      }
+
+      -- a pair whose edges lead ahead of all that is seen is put aside
+      pub Searching-keep : (ahead : Pair → Type 0) → ((x y : Pair) → ahead x → In y (edges x) → ahead y)
+          → ((w : Pair) → In w (edges v) → ahead w) → ((x : Pair) → Seen x → ahead x → ⊥)
+          → Searching edges target capture goal After (spent + 1) (front ++ (v, slots) ∷ []) otherwise rest slots
+      Searching-keep ahead closed leaves past = record {
+        marks = v ∷ s.marks;
+        agrees = grows;
+        leads = λ g left total e h.
+            s.leads g (suc left) total (omega arith)
+            (AnswerBehind-keep edges target capture ahead closed left front otherwise s.marks v rest slots g free leaves
+            (λ x i. past x ((s.agrees x).0 i)) h);
+      }
+
+  -- the next position
+  pub Searching-round : {goal : Found → ℕ → Type 0} {Seen After : Pair → Type 0} {spent : ℕ} {front : List (Pair × Slots)} {otherwise : Found} {waiting : List Item} {slots old : Slots}
+      → Searching edges target capture goal Seen spent front otherwise (Load old ∷ waiting) slots
+      → (ahead : Pair → Type 0) → ((x y : Pair) → ahead x → In y (edges x) → ahead y)
+      → ((a : Pair × Slots) → In a front → (target a.0 ≡ false) × (capture a.0 ≡ None) × (ahead a.0 → ⊥) × ((w : Pair) → In w (edges a.0) → ahead w))
+      → ((k : Pair) → In (Explore k) waiting → ahead k) → ((x : Pair) → Seen x → ahead x → ⊥) → ((x : Pair) → After x → ⊥)
+      → (after : Slots) → Searching edges target capture goal After spent [] otherwise (round edges front (Load old ∷ waiting)) after
+  unfolding AnswerBehind
+  Searching-round {front = front} {otherwise} {waiting} {slots} {old} s ahead closed rests comes past fresh after = record {
+    marks = [];
+    agrees = λ x. (λ i. absurd i, λ a. absurd (fresh x a));
+    leads = λ g left total e h.
+        s.leads g left total e
+        (AnswerBehind-round edges target capture ahead closed left front otherwise s.marks waiting slots old after g rests comes
+        (λ x i. past x ((s.agrees x).0 i)) h);
+  }

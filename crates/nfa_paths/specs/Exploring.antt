@@ -1,0 +1,70 @@
+-- What is left to do in a depth first search, and the answer that it leads to.
+use Rattle.std.specs.Prelude.{◌≡◌, ℕ, suc, ◌+◌, ◌≤◌, ◌⊎◌, ◌↔◌, Bool, List, [], ◌∷◌, Option, None, Some, slice_set, map, ◌++◌, length}
+use Rattle.std.specs.List.{last_or}
+use Rattle.std.specs.Option.{option_map}
+use Rattle.nfa_paths.specs.Graphs.{Pair, In}
+use Rattle.nfa_paths.specs.FirstPaths.{IsFirst}
+
+-- slots, each with a position or none
+abbrev pub Slots : Type 0
+Slots = List (Option ℕ)
+
+-- what a search finds: the pair that it ends with, and the slots there
+abbrev pub Found : Type 0
+Found = Option (Pair × Slots)
+
+-- an item of work: a pair to explore, a slot to restore, or slots to load
+pub data Item : Type 0 where
+  Explore : Pair → Item
+  Restore : ℕ → Option ℕ → Item
+  Load : Slots → Item
+
+-- a pair writes its position
+abbrev pub write : Option ℕ → ℕ → Slots → Slots
+write None at slots = slots
+write (Some k) at slots = slice_set slots k (Some at)
+
+module _ (capture : Pair → Option ℕ) where
+  -- the slots after the captures of the pairs, in order
+  abbrev pub apply : List Pair → Slots → Slots
+  apply [] slots = slots
+  apply (v ∷ p) slots = apply p (write (capture v) v.1 slots)
+
+  -- what is found along a list: its last pair, and the slots there
+  abbrev pub found : List Pair → Slots → Found
+  found p slots = option_map (λ e. (e, apply p slots)) (last_or None p)
+
+-- what was put aside, as the work of the next position, above what waits
+unfoldable pub round : (Pair → List Pair) → List (Pair × Slots) → List Item → List Item
+round edges [] waiting = waiting
+round edges (a ∷ front) waiting = Load a.1 ∷ (map Explore (edges a.0) ++ round edges front waiting)
+
+-- the starts, each with the slots to load behind it
+unfoldable pub seeds : Slots → List Pair → List Item
+seeds slots [] = []
+seeds slots (s ∷ starts) = Explore s ∷ Load slots ∷ seeds slots starts
+
+module _ (edges : Pair → List Pair) (target : Pair → Bool) (capture : Pair → Option ℕ) where
+  -- The first explored pair from which a path is left has the answer. If there is none, it is `otherwise`.
+  -- A turn tries to mark one pair, and `left` turns are left: as many as the pairs of the answer's path, or more.
+  unfoldable pub Answer : ℕ → Found → List Pair → List Item → Slots → Found → Type 0
+  Answer left otherwise marks [] slots g = g ≡ otherwise
+  Answer left otherwise marks (Explore v ∷ rest) slots g =
+      ((p : List Pair) × IsFirst edges target marks v (Some p) × (g ≡ found capture p slots) × (length p ≤ left))
+      ⊎ (IsFirst edges target marks v None × Answer left otherwise marks rest slots g)
+  Answer left otherwise marks (Restore k old ∷ rest) slots g = Answer left otherwise marks rest (slice_set slots k old) g
+  Answer left otherwise marks (Load old ∷ rest) slots g = Answer left otherwise marks rest old g
+
+  -- the same behind pairs that were put aside, each with its slots, after its turn
+  unfoldable pub AnswerBehind : ℕ → List (Pair × Slots) → Found → List Pair → List Item → Slots → Found → Type 0
+  AnswerBehind left [] otherwise marks work slots g = Answer left otherwise marks work slots g
+  AnswerBehind left (a ∷ front) otherwise marks work slots g =
+      ((p : List Pair) × IsFirst edges target [] a.0 (Some p) × (g ≡ found capture p a.1) × (length p ≤ suc left))
+      ⊎ (IsFirst edges target [] a.0 None × AnswerBehind left front otherwise marks work slots g)
+
+  -- A search under way, in the form that a loop keeps: some list holds just the pairs that are `Seen`, and whatever is the answer
+  -- from here on meets `goal`, with the number of turns when the search ends. `spent` turns were taken.
+  pub record Searching (goal : Found → ℕ → Type 0) (Seen : Pair → Type 0) (spent : ℕ) (front : List (Pair × Slots)) (otherwise : Found) (work : List Item) (slots : Slots) : Type 0 where
+    pub marks : List Pair
+    pub agrees : (x : Pair) → In x marks ↔ Seen x
+    pub leads : (g : Found) (left total : ℕ) → spent + left ≡ total → AnswerBehind left front otherwise marks work slots g → goal g total

@@ -1,0 +1,149 @@
+-- What a search that goes position by position finds, for each kind of scan, and what it keeps at a position.
+use Rattle.std.specs.Prelude.{◌≡◌, ℕ, ◌≤◌, ◌<◌, Bool, true, false, cond, List, [], ◌∷◌, map, length, Option, None, Some}
+use Rattle.std.specs.Option.{option_map_or}
+use Rattle.thompson_nfa.specs.Automaton.{Automaton, Node}
+use Rattle.thompson_nfa.specs.Automaton.Node.{ByteRange, Sparse, Dense, Look, Union, BinaryUnion, Capture, Fail, Match}
+use Rattle.nfa_paths.specs.Graphs.{Pair, In, NoRepeats, WantedAt, PathTo, NoPath, IsLastOfFirsts, IsLastPath}
+use Rattle.nfa_paths.specs.FirstPaths.{Increasing}
+use Rattle.nfa_paths.specs.Exploring.{Slots, Found, Item, found, Answer, AnswerBehind, Searching}
+use Rattle.nfa_paths.specs.Exploring.Item.{Explore}
+use Rattle.nfa_paths.specs.Paths.{node_at}
+
+-- the pair passes the test
+abbrev pub Passes : (Pair → Bool) → Pair → Type 0
+Passes test m = test m ≡ true
+
+-- wanted, and at a position before e
+pub record WantedBefore (Wanted : Pair → Type 0) (e : ℕ) (m : Pair) : Type 0 where
+  pub wanted : Wanted m
+  pub before : m.1 < e
+
+-- the last of the first paths to the wanted pairs at e, or that no path leads to one
+abbrev pub IsLastAt : (Pair → List Pair) → List Pair → (Pair → Type 0) → ℕ → Option (List Pair) → Type 0
+IsLastAt edges starts Wanted e None = NoPath edges starts (WantedAt Wanted e)
+IsLastAt edges starts Wanted e (Some p) = IsLastOfFirsts edges starts Wanted e p
+
+-- what is found along a path, if there is one
+abbrev pub found_along : (Pair → Option ℕ) → Option (List Pair) → Slots → Found
+found_along capture None slots = None
+found_along capture (Some p) slots = found capture p slots
+
+-- the found pair and slots are those of the path that is meant, which has no more pairs than there were turns
+pub record IsFoundBy (capture : Pair → Option ℕ) (slots : Slots) (Meant : Option (List Pair) → Type 0) (turns : ℕ) (g : Found) : Type 0 where
+  pub path : Option (List Pair)
+  pub meant : Meant path
+  pub leads : found_along capture path slots ≡ g
+  pub short : option_map_or length path 0 ≤ turns
+
+-- a path leads to a wanted pair of pattern k
+pub record IsReached (edges : Pair → List Pair) (starts : List Pair) (Wanted : Pair → Type 0) (pattern : Pair → Option ℕ) (k : ℕ) : Type 0 where
+  pub end : Pair
+  pub along : List Pair
+  pub path : PathTo edges starts end along
+  pub wanted : Wanted end
+  pub pattern_is : pattern end ≡ Some k
+
+-- no path to a match pair ends before e
+abbrev pub NoneBefore : (Pair → List Pair) → List Pair → (Pair → Bool) → ℕ → Type 0
+NoneBefore edges starts is_match e = NoPath edges starts (WantedBefore (Passes is_match) e)
+
+-- g is what the last of the first paths that end before e finds: of those with the greatest end
+abbrev pub LastBefore : (Pair → List Pair) → (Pair → Option ℕ) → List Pair → (Pair → Bool) → Slots → ℕ → ℕ → Found → Type 0
+LastBefore edges capture starts is_match slots e turns g = IsFoundBy capture slots (IsLastPath edges starts (WantedBefore (Passes is_match) e)) turns g
+
+-- a path to a match pair of pattern k ends before e
+abbrev pub ReachedBefore : (Pair → List Pair) → List Pair → (Pair → Bool) → (Pair → Option ℕ) → ℕ → ℕ → Type 0
+ReachedBefore edges starts is_match pattern e k = IsReached edges starts (WantedBefore (Passes is_match) e) pattern k
+
+-- every path to a match pair ends before e
+abbrev pub EndsBefore : (Pair → List Pair) → List Pair → (Pair → Bool) → ℕ → Type 0
+EndsBefore edges starts is_match e = (m : Pair) (p : List Pair) → PathTo edges starts m p → is_match m ≡ true → m.1 < e
+
+-- the first match pair of a front, with its slots
+abbrev pub first_match : (Pair → Bool) → List (Pair × Slots) → Found
+first_match is_match [] = None
+first_match is_match (a ∷ front) = cond (is_match a.0) (Some a) (first_match is_match front)
+
+-- the items of a front before its first match pair
+abbrev pub before_match : (Pair → Bool) → List (Pair × Slots) → List (Pair × Slots)
+before_match is_match [] = []
+before_match is_match (a ∷ front) = cond (is_match a.0) [] (a ∷ before_match is_match front)
+
+-- what waits behind a front, if it has no match pair
+abbrev pub behind_match : Found → List Item → List Item
+behind_match None waiting = waiting
+behind_match (Some a) waiting = []
+
+-- its last match pair, or what was found before
+abbrev pub last_match : (Pair → Bool) → Found → List (Pair × Slots) → Found
+last_match is_match g [] = g
+last_match is_match g (a ∷ front) = last_match is_match (cond (is_match a.0) (Some a) g) front
+
+-- a front with no match pair
+abbrev pub NoMatch : (Pair → Bool) → List (Pair × Slots) → Type 0
+NoMatch is_match front = (b : Pair × Slots) → In b front → is_match b.0 ≡ true → ⊥
+
+-- the front holds a match pair of pattern k
+pub record HoldsMatch (is_match : Pair → Bool) (pattern : Pair → Option ℕ) (k : ℕ) (front : List (Pair × Slots)) : Type 0 where
+  pub item : Pair × Slots
+  pub among : In item front
+  pub matches : is_match item.0 ≡ true
+  pub pattern_is : pattern item.0 ≡ Some k
+
+-- What a scan goes over: positions never fall along an edge and rise at a resting pair, a match pair leads nowhere and writes
+-- nothing, and the starts rise.
+pub record Scanned (edges : Pair → List Pair) (capture : Pair → Option ℕ) (starts : List Pair) (resting is_match : Pair → Bool) : Type 0 where
+  pub onward : (x y : Pair) → In y (edges x) → x.1 ≤ y.1
+  pub rises : (x y : Pair) → resting x ≡ true → In y (edges x) → x.1 < y.1
+  pub leads_nowhere : (x : Pair) → is_match x ≡ true → edges x ≡ []
+  pub writes_nothing : (x : Pair) → is_match x ≡ true → capture x ≡ None
+  pub increasing : Increasing starts
+
+-- a set of match pairs at position e
+abbrev pub MatchesAt : (Pair → Bool) → ℕ → (Pair → Bool) → Type 0
+MatchesAt is_match e target = (x : Pair) → target x ≡ true → (is_match x ≡ true) × (x.1 ≡ e)
+
+-- a set of match pairs at position e or behind it
+abbrev pub MatchesFrom : (Pair → Bool) → ℕ → (Pair → Bool) → Type 0
+MatchesFrom is_match e target = (x : Pair) → target x ≡ true → (is_match x ≡ true) × (e ≤ x.1)
+
+-- `front` holds the resting pairs that are reached at e, as the search finds them in `turns` turns, whichever match pairs at e it is for
+pub record IsFront (edges : Pair → List Pair) (capture : Pair → Option ℕ) (starts : List Pair) (resting is_match : Pair → Bool) (slots : Slots)
+    (turns : ℕ) (front : List (Pair × Slots)) (e : ℕ) : Type 0 where
+  pub waiting : List Item
+  pub current : Slots
+  pub rest : (a : Pair × Slots) → In a front → (resting a.0 ≡ true) × (a.0.1 ≡ e)
+  pub once : NoRepeats (map (λ a. a.0) front)
+  pub later : (k : Pair) → In (Explore k) waiting → e < k.1
+  pub leads : (target : Pair → Bool) → MatchesAt is_match e target
+      → (marks : List Pair)
+      × ((g : Found) → AnswerBehind edges target capture 0 front None marks waiting current g
+      → Answer edges target capture turns None [] (map Explore starts) slots g)
+
+-- nothing is left to explore at position e or behind it: whichever match pairs there the search is for, it finds none
+pub record IsOver (edges : Pair → List Pair) (capture : Pair → Option ℕ) (starts : List Pair) (is_match : Pair → Bool) (slots : Slots)
+    (turns e : ℕ) : Type 0 where
+  pub none : (target : Pair → Bool) → MatchesFrom is_match e target → Answer edges target capture turns None [] (map Explore starts) slots None
+
+-- A scan at position e, in the form that a loop keeps: the searches for every set of match pairs at e or behind it, all in one state,
+-- after `spent` turns.
+pub record Scanning (edges : Pair → List Pair) (capture : Pair → Option ℕ) (starts : List Pair) (is_match : Pair → Bool) (slots : Slots)
+    (e : ℕ) (Seen : Pair → Type 0) (spent : ℕ) (front : List (Pair × Slots)) (work : List Item) (current : Slots) : Type 0 where
+  pub searching : (target : Pair → Bool) → MatchesFrom is_match e target
+      → Searching edges target capture (λ g total. Answer edges target capture total None [] (map Explore starts) slots g) Seen spent front None work current
+
+-- a state whose edges lead to the next position or nowhere, and that writes nothing: a byte state, a Fail or a Match
+abbrev pub rests : Node → Bool
+rests (ByteRange trans) = true
+rests (Sparse transitions) = true
+rests (Dense targets) = true
+rests (Look look next) = false
+rests (Union alternates) = false
+rests (BinaryUnion alt1 alt2) = false
+rests (Capture next slot) = false
+rests Fail = true
+rests (Match pattern) = true
+
+-- the pair's state rests
+abbrev pub is_resting : Automaton → Pair → Bool
+is_resting nfa v = rests (node_at nfa v.0)

@@ -1,0 +1,16 @@
+pub mod Graphs
+pub mod Paths
+pub mod Overlaps
+pub mod Known
+pub mod FirstPaths
+pub mod Exploring
+pub mod Kinds
+pub mod Turns
+pub use Rattle.regex_search_core.specs.Boundary
+pub use Rattle.regex_search_core.specs.Found
+pub use Rattle.regex_search_core.specs.Groups
+pub use Rattle.regex_search_core.specs.Patterns
+pub use Rattle.regex_search_core.specs.Search
+pub use Rattle.regex_search_core.specs.Slots
+pub use Rattle.thompson_nfa.specs.Automaton
+pub use Rattle.thompson_nfa.specs.Looks

@@ -1,0 +1,111 @@
+-- What a search for the patterns of all matches, also of those that overlap, puts into a set of patterns.
+use Rattle.std.specs.Prelude.{◌≡◌, ◌↔◌, ◌⊎◌, ℕ, ◌<◌, ◌≤◌, Bool, true, false, List, length, Option, Some, None, slice_index_or}
+use Rattle.regex_search_core.specs.Boundary.{IsBoundary}
+use Rattle.regex_search_core.specs.PatternSets.{size_of_set}
+use Rattle.regex_search_core.specs.Search.{Search}
+use Rattle.regex_search_core.specs.declared.search.MatchKind.{MatchKind}
+use Rattle.regex_search_core.specs.declared.search.MatchKind.TheVariants.{All, LeftmostFirst}
+use Rattle.thompson_nfa.specs.Automaton.{Automaton}
+use Rattle.nfa_paths.specs.Graphs.{Pair, WantedAt, IsLeastEnd, IsFirstPath, IsEarliestPath}
+use Rattle.nfa_paths.specs.Kinds.{IsReached, WantedBefore}
+use Rattle.nfa_paths.specs.Paths.{node_at, pattern_of, is_utf8_empty, IsMatch, edges, starts, last_of}
+
+-- the set holds the pattern
+abbrev pub HoldsPattern : List Bool → ℕ → Type 0
+HoldsPattern set pattern = slice_index_or set pattern false ≡ true
+
+-- the pattern of the pair, if its state is a Match
+abbrev pub pattern_at : Automaton → Pair → Option ℕ
+pattern_at nfa v = pattern_of (node_at nfa v.0)
+
+module _ (nfa : Automaton) (x : Search) where
+  -- a match may end at the position: at any, or where empty matches are possible and text is UTF-8 at boundaries of characters alone
+  abbrev pub IsPermittedEnd : ℕ → Type 0
+  IsPermittedEnd at = is_utf8_empty nfa ≡ true → IsBoundary x.haystack at
+
+  -- a match that may end where it does
+  pub record IsPermitted (v : Pair) : Type 0 where
+    pub matches : IsMatch nfa v
+    pub ends : IsPermittedEnd v.1
+
+  -- such a match, of a pattern below the capacity
+  pub record IsHeld (capacity : ℕ) (v : Pair) : Type 0 where
+    pub permitted : IsPermitted v
+    pub pattern : ℕ
+    pub pattern_is : pattern_at nfa v ≡ Some pattern
+    pub below : pattern < capacity
+
+  -- some accepting path of the pattern ends at a pair that is wanted
+  abbrev pub IsPatternOf : (Pair → Type 0) → ℕ → Type 0
+  IsPatternOf Wanted pattern = IsReached (edges nfa x) (starts nfa x) Wanted (pattern_at nfa) pattern
+
+  -- the first accepting path with a permitted end, or that there is none
+  abbrev pub IsFirstPermitted : Option (List Pair) → Type 0
+  IsFirstPermitted = IsFirstPath (edges nfa x) (starts nfa x) IsPermitted
+
+  -- of the accepting paths with the least permitted end the first, or that there is none
+  abbrev pub IsEarliestPermitted : Option (List Pair) → Type 0
+  IsEarliestPermitted = IsEarliestPath (edges nfa x) (starts nfa x) IsPermitted
+
+  -- The pattern is meant by `All`: some accepting path of it has a permitted end. With `earliest` that end is the least one of
+  -- those of all patterns below the capacity.
+  abbrev pub IsMeantByAll : Bool → ℕ → ℕ → Type 0
+  IsMeantByAll false capacity pattern = IsPatternOf IsPermitted pattern
+  IsMeantByAll true capacity pattern = (e : ℕ) × IsLeastEnd (edges nfa x) (starts nfa x) (IsHeld capacity) e × IsPatternOf (WantedAt IsPermitted e) pattern
+
+  -- the set holds the pattern of the path, and else only patterns of accepting paths with a permitted end before that of the path
+  pub record HoldsUpTo (path : List Pair) (set : List Bool) : Type 0 where
+    pub end : Pair
+    pub ends : last_of path ≡ Some end
+    pub pattern : ℕ
+    pub pattern_is : pattern_at nfa end ≡ Some pattern
+    pub holds : HoldsPattern set pattern
+    pub others : (k : ℕ) → HoldsPattern set k → (k ≡ pattern) ⊎ IsPatternOf (WantedBefore IsPermitted end.1) k
+
+  -- the set holds the pattern of the path, and no other
+  pub record HoldsOnly (path : List Pair) (set : List Bool) : Type 0 where
+    pub end : Pair
+    pub ends : last_of path ≡ Some end
+    pub pattern : ℕ
+    pub pattern_is : pattern_at nfa end ≡ Some pattern
+    pub holds : (k : ℕ) → HoldsPattern set k ↔ (k ≡ pattern)
+
+  -- what the empty set becomes by the path that is meant, if there is one
+  abbrev pub HoldsPath : Bool → Option (List Pair) → List Bool → Type 0
+  HoldsPath earliest None set = size_of_set set ≡ 0
+  HoldsPath false (Some path) set = HoldsUpTo path set
+  HoldsPath true (Some path) set = HoldsOnly path set
+
+  -- the path that is meant by `LeftmostFirst`
+  abbrev pub IsMeantPath : Bool → Option (List Pair) → Type 0
+  IsMeantPath false path = IsFirstPermitted path
+  IsMeantPath true path = IsEarliestPermitted path
+
+  -- what `LeftmostFirst` makes of the empty set
+  pub record HoldsMeant (earliest : Bool) (set : List Bool) : Type 0 where
+    pub path : Option (List Pair)
+    pub meant : IsMeantPath earliest path
+    pub holds : HoldsPath earliest path set
+
+  -- what the set gains
+  pub record GainsAll (earliest : Bool) (old new : List Bool) : Type 0 where
+    pub gained : (k : ℕ) → HoldsPattern new k ↔ (HoldsPattern old k ⊎ ((k < length old) × IsMeantByAll earliest (length old) k))
+
+  pub record GainsFirst (earliest : Bool) (old new : List Bool) : Type 0 where
+    -- a set that holds a pattern gains none
+    pub full : 0 < size_of_set old → new ≡ old
+    -- with no room for each pattern it is open which of them the empty set gains
+    pub empty : size_of_set old ≡ 0 → length nfa.patterns ≤ length old → HoldsMeant earliest new
+
+  -- what it gains by the kind
+  abbrev pub Gains : MatchKind → Bool → List Bool → List Bool → Type 0
+  Gains All earliest old new = GainsAll earliest old new
+  Gains LeftmostFirst earliest old new = GainsFirst earliest old new
+
+  -- The set after is what the search makes of the set before. It keeps its capacity and loses nothing, and gains only patterns below its
+  -- capacity, each of an accepting path with a permitted end.
+  pub record IsOverlapResult (kind : MatchKind) (earliest : Bool) (old new : List Bool) : Type 0 where
+    pub capacity : length new ≡ length old
+    pub keeps : (k : ℕ) → HoldsPattern old k → HoldsPattern new k
+    pub sound : (k : ℕ) → HoldsPattern new k → HoldsPattern old k ⊎ ((k < length old) × IsPatternOf IsPermitted k)
+    pub gains : Gains kind earliest old new

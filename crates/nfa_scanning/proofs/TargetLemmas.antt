@@ -1,0 +1,100 @@
+-- Where a byte state leads.
+use Rattle.std.proofs.Common.{◌≡◌, ℕ, suc, zero, ◌+◌, ◌<◌, ◌≤◌, List, [], ◌∷◌, length, refl, arith}
+use Rattle.std.specs.Prelude.{Option, Some, None, true, false, Bool, All, IfSome, option_map, option_and_then, option_to_list, is_some, count_by, cond, nat_lt, if◌then◌else◌}
+use Rattle.std.specs.List.{slice_get}
+use borrow.Author.Tests.{ltb-true}
+use Rattle.std.proofs.lemmas.List.Sums.{sum_by-cons}
+use Rattle.regex_search_core.specs.Search.{Search}
+use Rattle.thompson_nfa.specs.Automaton.{Node, LeadsBelow}
+use Rattle.thompson_nfa.specs.Automaton.Node.{ByteRange, Sparse, Dense, Look, Union, BinaryUnion, Capture, Fail, Match}
+use Rattle.thompson_nfa.specs.declared.state.Transition.{Transition}
+use Rattle.nfa_paths.specs.Graphs.{Pair}
+use Rattle.nfa_paths.specs.Paths.{degree, edges_of, byte_at, target_on, first_target, holds_byte}
+use Rattle.nfa_paths.specs.Kinds.{rests}
+
+-- what a choice between something and nothing says
+then-some : {A : Type 0} (c : Bool) (a u : A) → (if c then Some a else None) ≡ Some u → (c ≡ true) × (a ≡ u)
+then-some true a u e = (refl, cc)
+then-some false a u e = cc
+
+then-true : {A : Type 0} (c : Bool) (o : Option A) (u : A) → (if c then o else None) ≡ Some u → c ≡ true
+then-true true o u e = refl
+then-true false o u e = cc
+
+pub byte_at-within : (x : Search) (p b : ℕ) → byte_at x p ≡ Some b → p < x.end
+byte_at-within x p b e = ltb-true p x.end (then-true (nat_lt p x.end) (slice_get x.haystack p) b e)
+
+first_target-below : (n b u : ℕ) (ts : List Transition) → All (λ t. t.next < n) ts → first_target ts b ≡ Some u → u < n
+first_target-below n b u [] below e = cc
+first_target-below n b u (t ∷ ts) below e =
+    let here : t.next < n = below 0 t (omega arith) in
+    let rest : All (λ t. t.next < n) ts = λ k d h. below (suc k) d (omega arith) in
+    (elim (holds_byte t b) as (λ h. (if h then Some t.next else first_target ts b) ≡ Some u → u < n) [
+      | true ↦ λ s. let same : t.next ≡ u = cc in rw (← same) here
+      | false ↦ λ s. first_target-below n b u ts rest s
+    ]) e
+
+first_target-some : (b u : ℕ) (ts : List Transition) → first_target ts b ≡ Some u → 1 ≤ length ts
+first_target-some b u [] e = cc
+first_target-some b u (t ∷ ts) e = omega arith
+
+dense-below : (n u : ℕ) (targets : List (Option ℕ)) (b : ℕ) → All (λ o. IfSome o (λ s. s < n)) targets
+    → option_and_then (λ t. t) (slice_get targets b) ≡ Some u → u < n
+dense-below n u [] b below e = cc
+dense-below n u (None ∷ targets) zero below e = cc
+dense-below n u (Some t ∷ targets) zero below e =
+    let here : t < n = below 0 (Some t) (omega arith) in
+    let same : t ≡ u = cc in rw (← same) here
+dense-below n u (o ∷ targets) (suc b) below e = dense-below n u targets b (λ k d h. below (suc k) d (omega arith)) e
+
+dense-some : (u : ℕ) (targets : List (Option ℕ)) (b : ℕ) → option_and_then (λ t. t) (slice_get targets b) ≡ Some u → 1 ≤ count_by is_some targets
+dense-some u [] b e = cc
+dense-some u (None ∷ targets) zero e = cc
+dense-some u (Some t ∷ targets) zero e = omega (arith, sum_by-cons (λ o. cond (is_some o) 1 0) (Some t) targets)
+dense-some u (o ∷ targets) (suc b) e = omega (arith, sum_by-cons (λ p. cond (is_some p) 1 0) o targets, dense-some u targets b e)
+
+-- a target is a state
+pub target-below : (n : ℕ) (node : Node) (b t : ℕ) → LeadsBelow n node → target_on node b ≡ Some t → t < n
+target-below n (ByteRange trans) b t leads e = rw (← (then-some (holds_byte trans b) trans.next t e).1) leads
+target-below n (Sparse ts) b t leads e = first_target-below n b t ts leads e
+target-below n (Dense targets) b t leads e = dense-below n t targets b leads e
+target-below n (Look look next) b t leads e = cc
+target-below n (Union alternates) b t leads e = cc
+target-below n (BinaryUnion alt1 alt2) b t leads e = cc
+target-below n (Capture next slot) b t leads e = cc
+target-below n Fail b t leads e = cc
+target-below n (Match pattern) b t leads e = cc
+
+-- and one of the state's edges
+pub target-degree : (node : Node) (b t : ℕ) → target_on node b ≡ Some t → 1 ≤ degree node
+target-degree (ByteRange trans) b t e = omega arith
+target-degree (Sparse ts) b t e = first_target-some b t ts e
+target-degree (Dense targets) b t e = dense-some t targets b e
+target-degree (Look look next) b t e = cc
+target-degree (Union alternates) b t e = cc
+target-degree (BinaryUnion alt1 alt2) b t e = cc
+target-degree (Capture next slot) b t e = cc
+target-degree Fail b t e = cc
+target-degree (Match pattern) b t e = cc
+
+-- a resting state has no more edges than its degree
+byte-edges : (node : Node) (at : ℕ) (byte : Option ℕ)
+    → length {A = Pair} (option_to_list (option_and_then (λ b. option_map (λ next. (next, at + 1)) (target_on node b)) byte)) ≤ degree node
+byte-edges node at None = omega arith
+byte-edges node at (Some b) =
+    (elim (target_on node b) as (λ o. target_on node b ≡ o → length {A = Pair} (option_to_list (option_map (λ next. (next, at + 1)) o)) ≤ degree node) [
+      | None ↦ λ none. omega arith
+      | Some t ↦ λ some. let k : 1 ≤ degree node = target-degree node b t some in k
+    ]) refl
+
+pub edges-degree : (x : Search) (node : Node) (at : ℕ) → rests node ≡ true → length (edges_of x node at) ≤ degree node
+unfolding edges_of
+edges-degree x (ByteRange trans) at r = byte-edges (ByteRange trans) at (byte_at x at)
+edges-degree x (Sparse ts) at r = byte-edges (Sparse ts) at (byte_at x at)
+edges-degree x (Dense targets) at r = byte-edges (Dense targets) at (byte_at x at)
+edges-degree x (Look look next) at r = cc
+edges-degree x (Union alternates) at r = cc
+edges-degree x (BinaryUnion alt1 alt2) at r = cc
+edges-degree x (Capture next slot) at r = cc
+edges-degree x Fail at r = omega arith
+edges-degree x (Match pattern) at r = omega arith

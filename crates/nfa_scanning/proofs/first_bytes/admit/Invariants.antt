@@ -1,0 +1,9 @@
+use Rattle.std.proofs.Common.{ℕ, ◌<◌, ◌≤◌}
+use Rattle.nfa_scanning.specs.FirstBytes.{Admits, Grows}
+use Rattle.nfa_scanning.proofs.first_bytes.admit.Given as goal
+
+abbrev pub invariant-loop-byte : goal.invariant-loop-byte
+invariant-loop-byte l = record {
+  grows : Grows l.fn.table l.table;
+  done : (b : ℕ) → l.trans.start ≤ b → b < l.byte → Admits l.table b;
+}

@@ -1,0 +1,195 @@
+//! The bytes that a match may begin with.
+//!
+//! From where an anchored search starts, some states are reached before a byte is read. Where none of them is a match
+//! and none reads the byte at a position, no match begins there, and a search passes the position over.
+ghost use Rattle.std.specs.Prelude.{◌≡◌, ℕ, ◌<◌, ◌≤◌, Some, true, false, slice_index, slice_index_or, All, IfSome};
+ghost use Rattle.thompson_nfa.specs.Automaton.{LeadsBelow, node_of};
+ghost use Rattle.thompson_nfa.specs.Automaton.Node.{Sparse, Dense};
+ghost use Rattle.nfa_paths.specs.Paths.{holds_byte, target_on};
+ghost use Rattle.nfa_scanning.specs.FirstBytes.{Admits, Grows, IsReached, Extends, AreBelow, Covers, IsFirstBytes};
+
+use regex_search_core::StateID;
+use std::fmt;
+use thompson_nfa::{NFA, State, Transition};
+
+/// How many states are followed at most.
+const LIMIT: usize = 64;
+
+/// Which bytes a match may begin with. No match begins with a byte that is refused; where that was not found out for
+/// lack of room, or where a match may be empty, no byte is refused.
+#[derive(Clone, Copy)]
+pub struct FirstBytes {
+    /// Whether a match may begin with a byte, at the byte's place.
+    pub may_begin: [bool; 256],
+}
+
+// The table would hide all else that is shown beside it.
+impl fmt::Debug for FirstBytes {
+    fn fmt<W: fmt::Write>(&self, f: &mut fmt::Formatter<W>) -> fmt::Result {
+        f.debug_struct("FirstBytes").finish_non_exhaustive()
+    }
+}
+
+impl FirstBytes {
+    /// The bytes that a match of the NFA may begin with.
+    pub fn new(nfa: &NFA) -> FirstBytes
+        ensures { IsFirstBytes nfa.now result.may_begin }
+    {
+        match follow_all(nfa) {
+            Some(first) => first,
+            None => FirstBytes {
+                may_begin: [true; 256],
+            },
+        }
+    }
+
+    /// Whether no match begins with the byte.
+    #[inline(always)]
+    pub fn refuses(&self, byte: u8) -> bool
+        ensures refused { result ≡ true → slice_index_or self.now.may_begin byte true ≡ false }
+        ensures admitted { result ≡ false → slice_index_or self.now.may_begin byte true ≡ true }
+    {
+        !self.may_begin[byte as usize]
+    }
+}
+
+/// The states that were reached before a byte is read: the first `len` of these.
+#[derive(Drop)]
+struct Reached {
+    states: [StateID; LIMIT],
+    len: usize,
+}
+
+impl Reached {
+    /// Whether the state was reached.
+    fn has(&self, sid: StateID) -> bool
+        requires { self.now.len ≤ 64 }
+        ensures { result ≡ true → IsReached self.now sid }
+    {
+        for place in 0..self.len {
+            if self.states[place] == sid {
+                return true;
+            }
+        }
+        false
+    }
+
+    /// Reaches the state, and says whether there was room for it.
+    fn add(&mut self, sid: StateID) -> bool
+        requires { self.old.len ≤ 64 }
+        ensures room { self.new.len ≤ 64 }
+        ensures extends { Extends self.old self.new }
+        ensures added { result ≡ true → IsReached self.new sid }
+        ensures below { (n : ℕ) → sid < n → AreBelow n self.old → AreBelow n self.new }
+    {
+        if self.has(sid) {
+            return true;
+        }
+        if self.len >= LIMIT {
+            return false;
+        }
+        self.states[self.len] = sid;
+        self.len += 1;
+        true
+    }
+
+    /// Reaches each of the states, and says whether there was room for them.
+    fn add_all(&mut self, sids: &[StateID]) -> bool
+        requires { self.old.len ≤ 64 }
+        ensures room { self.new.len ≤ 64 }
+        ensures extends { Extends self.old self.new }
+        ensures added { result ≡ true → All (IsReached self.new) sids.now }
+        ensures below { (n : ℕ) → All (λ s. s < n) sids.now → AreBelow n self.old → AreBelow n self.new }
+    {
+        for i in 0..sids.len() {
+            if !self.add(sids[i]) {
+                return false;
+            }
+        }
+        true
+    }
+}
+
+/// Lets the bytes of the transition through.
+fn admit(table: &mut [bool; 256], trans: &Transition)
+    ensures grows { Grows table.old table.new }
+    ensures admits { (b : ℕ) → holds_byte trans.now b ≡ true → Admits table.new b }
+{
+    for byte in trans.start as usize..trans.end as usize + 1 {
+        table[byte] = true;
+    }
+}
+
+/// Lets the bytes of the transitions through.
+fn admit_all(table: &mut [bool; 256], transitions: &[Transition])
+    ensures grows { Grows table.old table.new }
+    ensures admits { (b t : ℕ) → target_on (Sparse transitions.now) b ≡ Some t → Admits table.new b }
+{
+    for i in 0..transitions.len() {
+        admit(table, &transitions[i]);
+    }
+}
+
+/// Lets the bytes through that have a target.
+fn admit_targets(table: &mut [bool; 256], targets: &[Option<StateID>])
+    ensures grows { Grows table.old table.new }
+    ensures admits { (b t : ℕ) → target_on (Dense targets.now) b ≡ Some t → Admits table.new b }
+{
+    for byte in 0..256 {
+        if let Some(Some(_)) = targets.get(byte) {
+            table[byte] = true;
+        }
+    }
+}
+
+/// Reaches the states that the state leads to without a byte, and lets the bytes through that it reads. False where the
+/// state is a match, or where there was no room.
+fn follow(state: &State, reached: &mut Reached, table: &mut [bool; 256]) -> bool
+    requires { reached.old.len ≤ 64 }
+    ensures room { reached.new.len ≤ 64 }
+    ensures extends { Extends reached.old reached.new }
+    ensures grows { Grows table.old table.new }
+    ensures covers { result ≡ true → Covers reached.new table.new (node_of state.now) }
+    ensures below { (n : ℕ) → LeadsBelow n (node_of state.now) → AreBelow n reached.old → AreBelow n reached.new }
+{
+    match state {
+        State::ByteRange { trans } => {
+            admit(table, trans);
+            true
+        }
+        State::Sparse(transitions) => {
+            admit_all(table, transitions);
+            true
+        }
+        State::Dense(targets) => {
+            admit_targets(table, targets);
+            true
+        }
+        State::Look { next, .. } => reached.add(*next),
+        State::Union { alternates } => reached.add_all(alternates),
+        State::BinaryUnion { alt1, alt2 } => reached.add(*alt1) && reached.add(*alt2),
+        State::Capture { next, .. } => reached.add(*next),
+        State::Fail => true,
+        State::Match { .. } => false,
+    }
+}
+
+/// Follows all that is reached before a byte is read: none where a match is reached, or where there is no room.
+fn follow_all(nfa: &NFA) -> Option<FirstBytes>
+    ensures { IfSome result (λ first. IsFirstBytes nfa.now first.may_begin) }
+{
+    let mut reached = Reached {
+        states: [nfa.start_anchored(); LIMIT],
+        len: 1,
+    };
+    let mut table = [false; 256];
+    let mut done = 0;
+    while done < reached.len {
+        let state = nfa.state(reached.states[done]);
+        if !follow(state, &mut reached, &mut table) {
+            return None;
+        }
+        done += 1;
+    }
+    Some(FirstBytes { may_begin: table })
+}
