@@ -1,10 +1,10 @@
 -- An engine above two others as a value, and which of the two a search is for.
-use Rattle.std.specs.Prelude.{◌≡◌, ◌⊎◌, ℕ, Bool, true, false, ◌&&◌, not, nat_le, MatchBool, Option, Some}
+use Rattle.std.specs.Prelude.{◌≡◌, ◌⊎◌, ◌+◌, ◌*◌, ◌≤◌, ℕ, Bool, true, false, ◌&&◌, not, nat_le, MatchBool, Option, Some}
 use Rattle.regex_search_core.specs.Search.{Search}
 use Rattle.regex_search_core.specs.declared.search.MatchKind.{MatchKind}
 use Rattle.regex_search_core.specs.declared.search.MatchKind.TheVariants.{All, LeftmostFirst}
 use Rattle.thompson_nfa.specs.Automaton.{Automaton}
-use Rattle.nfa_paths.specs.Paths.{span_len}
+use Rattle.nfa_paths.specs.Paths.{span_len, scan_limit, turn_weight}
 use Rattle.nfa_search_base.specs.Walks.{Walk, shifted}
 use Rattle.nfa_backtrack.specs.Backtrack.{Backtracker, Work, AddsWork, CountsAnswer, CountsRefusal, max_haystack_len_of}
 use Rattle.nfa_pikevm.specs.Engines.{Pike, PikeCache, AddsWork as AddsPikeWork, Fits, SameNumbers, kind_of, refitted}
@@ -40,29 +40,41 @@ is_leftmost_first All = false
 abbrev pub is_for_backtracker : Choosing → Search → Bool
 is_for_backtracker c x = is_leftmost_first (kind_in c) && (not x.earliest && nat_le (span_len x) (max_haystack_len_of (backtracker_of c)))
 
--- the backtracker answered, and the PikeVM was not asked
-pub record BacktrackerRan (old new : Choosing) : Type 0 where
-  pub counts : CountsAnswer old.back new.back
-  pub work : AddsWork old.back new.back
-  pub ran : new.ran ≡ Some engine.Backtracker
-  pub pike : new.pike ≡ old.pike
+-- the scans and turns of a search of x are within its bounds
+pub record IsBounded (nfa : Automaton) (x : Search) (scanned turned : ℕ) : Type 0 where
+  pub scans : scanned ≤ scan_limit nfa x
+  pub turns : turned ≤ scanned * ((1 + turn_weight nfa) * (span_len x + 1))
 
--- the backtracker was asked and refused, and the PikeVM answered
-pub record PikeStoodIn (old new : Choosing) : Type 0 where
-  pub counts : CountsRefusal old.back new.back
-  pub tried : AddsWork old.back new.back
-  pub work : AddsPikeWork old.pike new.pike
-  pub ran : new.ran ≡ Some engine.PikeVM
+module _ (x : Search) where
+  -- the backtracker answered, and the PikeVM was not asked
+  pub record BacktrackerRan (old new : Choosing) : Type 0 where
+    pub counts : CountsAnswer old.back new.back
+    pub work : AddsWork old.back new.back
+    pub bounded : IsBounded old.nfa x new.back.scans new.back.turns
+    pub ran : new.ran ≡ Some engine.Backtracker
+    pub pike : new.pike ≡ old.pike
 
--- the PikeVM answered, and the backtracker was not asked
-pub record PikeRan (old new : Choosing) : Type 0 where
-  pub back : new.back ≡ old.back
-  pub work : AddsPikeWork old.pike new.pike
-  pub ran : new.ran ≡ Some engine.PikeVM
+  -- the backtracker was asked and refused, and the PikeVM answered
+  pub record PikeStoodIn (old new : Choosing) : Type 0 where
+    pub counts : CountsRefusal old.back new.back
+    pub tried : AddsWork old.back new.back
+    pub tried_within : IsBounded old.nfa x new.back.scans new.back.turns
+    pub work : AddsPikeWork old.pike new.pike
+    pub bounded : IsBounded old.nfa x new.pike.scans new.pike.turns
+    pub ran : new.ran ≡ Some engine.PikeVM
+
+  -- the PikeVM answered, and the backtracker was not asked
+  pub record PikeRan (old new : Choosing) : Type 0 where
+    pub back : new.back ≡ old.back
+    pub work : AddsPikeWork old.pike new.pike
+    pub bounded : IsBounded old.nfa x new.pike.scans new.pike.turns
+    pub ran : new.ran ≡ Some engine.PikeVM
 
 -- which engine ran, by the rule
 abbrev pub RunsByRule : Choosing → Search → Choosing → Type 0
-RunsByRule old x new = MatchBool (is_for_backtracker old x) (BacktrackerRan old new ⊎ PikeStoodIn old new) (PikeRan old new)
+RunsByRule old x new = MatchBool (is_for_backtracker old x)
+    (BacktrackerRan x old new ⊎ PikeStoodIn x old new)
+    (PikeRan x old new)
 
 -- one search, or a second one from one byte further on
 abbrev pub AsksOnceOrTwice : Choosing → Walk → Choosing → Type 0

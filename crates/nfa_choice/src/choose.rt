@@ -118,6 +118,27 @@ impl Choice {
         self.ran
     }
 
+    /// The NFA that this searches for.
+    pub fn get_nfa(&self) -> &NFA
+        ensures { result.now ≡ self.now.nfa }
+    {
+        self.back.get_nfa()
+    }
+
+    /// The configuration of the backtracker.
+    pub fn get_backtrack_config(&self) -> &backtrack::Config
+        ensures { result.now ≡ self.now.visited_capacity }
+    {
+        self.back.get_config()
+    }
+
+    /// The configuration of the PikeVM.
+    pub fn get_pikevm_config(&self) -> &pikevm::Config
+        ensures { result.now ≡ self.now.match_kind }
+    {
+        self.pike.get_config()
+    }
+
     /// Whether the search is one for the backtracker.
     fn is_for_backtracker(&self, input: &Input<'_>) -> bool
         ensures { result ≡ is_for_backtracker self.now (search_of input.now) }
