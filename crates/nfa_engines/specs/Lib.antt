@@ -4,6 +4,7 @@ pub use Rattle.nfa_paths.specs.Paths
 pub use Rattle.nfa_paths.specs.Overlaps
 pub use Rattle.nfa_search_base.specs.Lists
 pub use Rattle.nfa_search_base.specs.Walks
+pub use Rattle.nfa_pikevm.specs.Engines
 pub use Rattle.regex_search_core.specs.Boundary
 pub use Rattle.regex_search_core.specs.Found
 pub use Rattle.regex_search_core.specs.Groups

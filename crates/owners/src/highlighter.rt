@@ -1,0 +1,41 @@
+//! A user of the engine that never fails.
+
+use nfa_choice::choose::Choice;
+use nfa_engines::error::SearchError;
+use nfa_engines::{backtrack, pikevm};
+use regex_search_core::Input;
+use std::alloc::Global;
+use thompson_nfa::NFA;
+
+/// Counts what stands in matches of an NFA that may change.
+#[derive(Drop)]
+pub struct Highlighter {
+    choice: Choice,
+}
+
+impl Highlighter {
+    /// Counts matches of this NFA. The error is that a growth was refused.
+    pub fn new(alloc: Global, nfa: NFA) -> Result<Highlighter, SearchError> {
+        let choice = Choice::new(
+            alloc,
+            nfa,
+            backtrack::Config::new(),
+            pikevm::Config::new(),
+        )?;
+        Ok(Highlighter { choice })
+    }
+
+    /// Counts matches of this NFA from here on. After a refusal it counts those of the old one.
+    pub fn look_for(&mut self, nfa: NFA) -> Result<(), SearchError> {
+        self.choice.replace(nfa)
+    }
+
+    /// How many bytes of the text stand in matches.
+    pub fn marked(&mut self, text: &[u8]) -> usize {
+        let mut marked = 0usize;
+        for found in self.choice.find_iter(Input::new(text)) {
+            marked = marked.saturating_add(found.end() - found.start());
+        }
+        marked
+    }
+}

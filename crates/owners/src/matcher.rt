@@ -1,0 +1,28 @@
+//! A user of one engine, which keeps the cache that fits it.
+ghost use Rattle.nfa_engines.specs.Engines.{Fits};
+
+use nfa_engines::error::SearchError;
+use nfa_engines::pikevm::{Cache, PikeVM};
+use regex_search_core::{Input, Match};
+use std::alloc::Global;
+
+/// A PikeVM with a cache of its own.
+#[derive(Drop)]
+pub struct Matcher {
+    vm: PikeVM,
+    cache: Cache,
+    ghost fits: { Fits cache vm.nfa },
+}
+
+impl Matcher {
+    /// A cache is made for the PikeVM. The error is that a growth was refused.
+    pub fn new(alloc: Global, vm: PikeVM) -> Result<Matcher, SearchError> {
+        let cache = vm.create_cache(alloc)?;
+        Ok(Matcher { vm, cache })
+    }
+
+    /// The first match in the text.
+    pub fn find(&mut self, text: &[u8]) -> Option<Match> {
+        self.vm.find(&mut self.cache, Input::new(text))
+    }
+}
