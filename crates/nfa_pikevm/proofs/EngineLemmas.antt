@@ -1,6 +1,6 @@
 -- From what a search comes to, to what its callers are told.
 use Rattle.std.proofs.Common.{◌≡◌, ℕ, ◌+◌, ◌*◌, ◌≤◌, min, inl, inr, List, [], ◌∷◌, ◌++◌, length, refl, ap, sym, ◌∙◌, arith, length-append}
-use Rattle.std.specs.Prelude.{Option, Some, None, Bool, option_map, option_and_then, IfSome, All, ◌<◌}
+use Rattle.std.specs.Prelude.{Option, Some, None, Bool, option_map, option_and_then, IfSome, IfNone, All, ◌<◌}
 use Rattle.std.proofs.lemmas.Bool.{cases_lt}
 use Rattle.std.proofs.lemmas.List.{append-nil}
 use Rattle.regex_search_core.specs.Found.{Found, found_of, half_found_of}
@@ -16,7 +16,7 @@ use Rattle.thompson_nfa.specs.Automaton.{Automaton, IsAutomaton}
 use Rattle.nfa_paths.specs.Graphs.{Pair}
 use Rattle.nfa_paths.specs.Paths.{path_pattern, slot_row, IsAnswer, IsMatchAnswer, IsWork}
 use Rattle.nfa_paths.specs.Exploring.{Slots}
-use Rattle.nfa_paths.proofs.PatternLemmas.{slot_row-more, match-along-path}
+use Rattle.nfa_paths.proofs.PatternLemmas.{slot_row-more, match-along-path, slots-unset}
 use Rattle.nfa_paths.proofs.InsideLemmas.{match-within, match-pattern, slots-within, pattern-within}
 use Rattle.nfa_pikevm.specs.Scans.{blank, Searched}
 use Rattle.nfa_search_base.specs.Lists.{IsInside, IsSlotInside}
@@ -87,3 +87,9 @@ module _ (nfa : Automaton) (kind : MatchKind) (earliest : Bool) where
         → IfSome r (λ p. number_of p < length nfa.patterns)
     slots-pattern valid None slots a = tt
     slots-pattern valid (Some p) slots a = pattern-within nfa kind earliest valid x (Some (number_of p)) slots a
+
+    -- after no match no slot is set
+    pub slots-none : (n : ℕ) (pattern : Option ℕ) (slots : List (Option ℕ)) → IsAnswer nfa kind earliest x pattern slots
+        → length slots ≡ n → IfNone pattern (slots ≡ blank n)
+    slots-none n None slots a size = slots-unset nfa kind earliest x slots a ∙ ap blank size
+    slots-none n (Some p) slots a size = tt

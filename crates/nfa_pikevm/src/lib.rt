@@ -8,6 +8,7 @@
 
 mod active;
 mod cache;
+mod captures;
 mod closure;
 mod config;
 mod engine;

@@ -1,0 +1,19 @@
+-- After no match no slot of the captures is set.
+use Rattle.std.proofs.Common.{arith, length}
+use Rattle.std.proofs.lemmas.Grind.{common_steps}
+use Rattle.regex_search_core.specs.Search.{search_of}
+use Rattle.nfa_pikevm.specs.Engines.{kind_of}
+use Rattle.nfa_pikevm.proofs.EngineLemmas.{slots-none}
+use Rattle.nfa_pikevm.proofs.engine.PikeVM.search.Goals as goal
+
+pub returns-clause-answer : goal.returns-clause-answer
+returns-clause-answer c = grind (arith, common_steps)
+
+pub returns-clause-size : goal.returns-clause-size
+returns-clause-size c = grind (arith, common_steps)
+
+pub returns-clause-none : goal.returns-clause-none
+returns-clause-none c =
+    let vm = c.args.self.now in
+    let x = search_of c.args.input.now in
+    slots-none vm.nfa (kind_of vm) x.earliest x (length c.args.captures.now.slots) _ _ (returns-clause-answer c) (returns-clause-size c)

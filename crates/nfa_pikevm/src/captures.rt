@@ -1,0 +1,64 @@
+//! The searches that fill a value of captures.
+ghost use Rattle.std.specs.Prelude.{◌≡◌, ◌+◌, ◌*◌, ◌<◌, ◌≤◌, None, length, replicate, IfSome, IfNone, All};
+ghost use Rattle.regex_search_core.specs.Search.{search_of};
+ghost use Rattle.nfa_paths.specs.Paths.{span_len, turn_weight, scan_limit, IsAnswer, IsWork};
+ghost use Rattle.nfa_search_base.specs.Lists.{IsSlotInside};
+ghost use Rattle.nfa_pikevm.specs.Engines.{AddsWork, Fits, SameNumbers, kind_of};
+
+use crate::cache::Cache;
+use crate::engine::PikeVM;
+use regex_search_core::{Captures, Input};
+
+impl PikeVM {
+    /// Searches, and leaves what it finds in the captures: the pattern, and in each slot that they have what
+    /// [`PikeVM::search_slots`] puts there. After no match no pattern and no slot is set. The groups of the captures
+    /// stay, whichever NFA they are of.
+    ///
+    /// The caller owes a cache that fits. A search leaves its numbers as they are.
+    pub fn search(&self, cache: &mut Cache, input: &Input<'_>, captures: &mut Captures)
+        requires { Fits cache.old self.now.nfa }
+        ensures answer { let x = search_of input.now in
+            IsAnswer self.now.nfa (kind_of self.now) x.earliest x captures.new.pattern captures.new.slots }
+        ensures groups { captures.new.groups ≡ captures.old.groups }
+        ensures size { length captures.new.slots ≡ length captures.old.slots }
+        ensures none { IfNone captures.new.pattern (captures.new.slots ≡ replicate (length captures.old.slots) None) }
+        ensures pattern { IfSome captures.new.pattern (λ p. p < length self.now.nfa.patterns) }
+        ensures inside { All (IsSlotInside (search_of input.now)) captures.new.slots }
+
+        ensures numbers { SameNumbers cache.old cache.new }
+        ensures total { AddsWork cache.old cache.new }
+
+        ensures work { let x = search_of input.now in
+            IsWork self.now.nfa (kind_of self.now) x.earliest x cache.new.scans cache.new.turns }
+        ensures scans { cache.new.scans ≤ scan_limit self.now.nfa (search_of input.now) }
+        ensures turns { cache.new.turns ≤ cache.new.scans * ((1 + turn_weight self.now.nfa) * (span_len (search_of input.now) + 1)) }
+    {
+        let slots = captures.slots_mut();
+        let pattern = self.search_slots(cache, input, slots);
+        captures.set_pattern(pattern);
+    }
+
+    /// Searches as [`PikeVM::search`] does, with an input of its own.
+    ///
+    /// The caller owes a cache that fits. A search leaves its numbers as they are.
+    pub fn captures<'h>(&self, cache: &mut Cache, input: Input<'h>, captures: &mut Captures)
+        requires { Fits cache.old self.now.nfa }
+        ensures answer { let x = search_of input.entry in
+            IsAnswer self.now.nfa (kind_of self.now) x.earliest x captures.new.pattern captures.new.slots }
+        ensures groups { captures.new.groups ≡ captures.old.groups }
+        ensures size { length captures.new.slots ≡ length captures.old.slots }
+        ensures none { IfNone captures.new.pattern (captures.new.slots ≡ replicate (length captures.old.slots) None) }
+        ensures pattern { IfSome captures.new.pattern (λ p. p < length self.now.nfa.patterns) }
+        ensures inside { All (IsSlotInside (search_of input.entry)) captures.new.slots }
+
+        ensures numbers { SameNumbers cache.old cache.new }
+        ensures total { AddsWork cache.old cache.new }
+
+        ensures work { let x = search_of input.entry in
+            IsWork self.now.nfa (kind_of self.now) x.earliest x cache.new.scans cache.new.turns }
+        ensures scans { cache.new.scans ≤ scan_limit self.now.nfa (search_of input.entry) }
+        ensures turns { cache.new.turns ≤ cache.new.scans * ((1 + turn_weight self.now.nfa) * (span_len (search_of input.entry) + 1)) }
+    {
+        self.search(cache, &input, captures);
+    }
+}
