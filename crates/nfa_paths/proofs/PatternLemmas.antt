@@ -196,6 +196,16 @@ module _ (nfa : Automaton) (kind : MatchKind) (earliest : Bool) where
       none None answers e = refl
       none (Some p) answers e = let some = search-pattern x a.restarts p answers in absurd (let k = some.1 in cc)
 
+  -- and no slot that is set
+  pub slots-unset : (x : Search) (slots : Slots) → IsAnswer nfa kind earliest x None slots → slots ≡ replicate (length slots) None
+  unfolding slot_row
+  slots-unset x slots a = a.slots_are ∙ none a.path a.answers a.pattern_is
+    where
+      none : (path : Option (List Pair)) → IsSearchAnswer nfa kind earliest x a.restarts path → None ≡ option_and_then (path_pattern nfa) path
+          → slot_row nfa (length slots) path ≡ replicate (length slots) None
+      none None answers e = refl
+      none (Some p) answers e = let some = search-pattern x a.restarts p answers in absurd (let k = some.1 in cc)
+
   pub found-of : (x : Search) (slots : Slots) (pattern : Option ℕ) → IsAnswer nfa kind earliest x pattern slots → IsFoundAnswer nfa kind earliest x (is_some pattern)
   found-of x slots None a = found-none x slots a
   found-of x slots (Some k) a = record { restarts = a.restarts; path = a.path; answers = a.answers; found_is = some a.path a.pattern_is }
