@@ -1,4 +1,4 @@
-ghost use Rattle.std.specs.Prelude.{◌≡◌, ◌↔◌, ◌⊎◌, ◌+◌, ◌*◌, ◌/◌, ◌<◌, ◌≤◌, ◌^◌, None, Ok, length, vec_len, replicate, option_map, IfOk, OnOk, IfErr, OnErr, IsErrOf, IsOkUnless, IsTrue, false, IfSome};
+ghost use Rattle.std.specs.Prelude.{◌≡◌, ◌↔◌, ◌⊎◌, ◌+◌, ◌*◌, ◌/◌, ◌<◌, ◌≤◌, ◌^◌, None, Ok, length, vec_len, replicate, option_map, All, IfOk, OnOk, IfErr, OnErr, IsErrOf, IsOkUnless, IsTrue, false, IfSome};
 ghost use Rattle.regex_search_core.specs.Search.{search_of};
 ghost use Rattle.regex_search_core.specs.Groups.{slot_count};
 ghost use Rattle.regex_search_core.specs.Patterns.{number_of};
@@ -8,14 +8,14 @@ ghost use Rattle.thompson_nfa.specs.Simple.{always, never};
 ghost use Rattle.nfa_paths.specs.Paths.{span_len, turn_weight, scan_limit, IsAnswer, IsMatchAnswer, IsFoundAnswer, IsWork, IsWithinScans};
 ghost use Rattle.nfa_backtrack.specs.Walk.{scan_turns};
 ghost use Rattle.nfa_backtrack.specs.Backtrack.{IsTooLong, AddsWork, CountsAnswer, CountsRefusal, GrowsBlocks, refused_early, unused, capacity_of, rounded_bits, max_haystack_len_of, min_capacity_of};
-ghost use Rattle.nfa_search_base.specs.Lists.{IsInside};
+ghost use Rattle.nfa_search_base.specs.Lists.{IsInside, IsSlotInside};
 
 use crate::cache::Cache;
 use crate::config::{Builder, Config};
 use crate::scratch::Scratch;
 use crate::search::{search, unset};
-use nfa_search_base::error::SearchError;
 use nfa_scanning::first_bytes::FirstBytes;
+use nfa_search_base::error::SearchError;
 use regex_search_core::{Captures, HalfMatch, Input, Match, NonMaxUsize, PatternID, Refused};
 use std::alloc::Global;
 use std::marker::Model;
@@ -224,6 +224,8 @@ impl BoundedBacktracker {
     ) -> Result<Option<PatternID>, SearchError>
         ensures answer { IfOk result (λ pattern. IsAnswer self.now.nfa LeftmostFirst false (search_of input.now) (option_map number_of pattern) slots.new) }
         ensures cleared { OnErr result (slots.new ≡ replicate (length slots.old) None) }
+        ensures pattern { IfOk result (λ pattern. IfSome pattern (λ p. number_of p < length self.now.nfa.patterns)) }
+        ensures inside { All (IsSlotInside (search_of input.now)) slots.new }
 
         ensures too_long { IsErrOf result (SearchError.HaystackTooLong (span_len (search_of input.now))) ↔ IsTooLong self.now (search_of input.now) }
         ensures errors { IfErr result (λ e. (e ≡ SearchError.Memory) ⊎ (e ≡ SearchError.HaystackTooLong (span_len (search_of input.now)))) }

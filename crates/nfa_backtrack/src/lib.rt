@@ -7,6 +7,7 @@
 #![tactic(auto)]
 
 mod cache;
+mod captures;
 mod config;
 mod engine;
 mod find_iter;

@@ -1,4 +1,5 @@
 ghost use Rattle.std.specs.Prelude.{◌≡◌, ℕ, ◌+◌, ◌-◌, ◌*◌, ◌/◌, ◌^◌, ◌<◌, ◌≤◌, [], None, Some, true, false, length, replicate, IfOk, IfSome, IfNone, OnErr};
+ghost use Rattle.regex_search_core.specs.Found.{half_found_of};
 ghost use Rattle.regex_search_core.specs.Search.{search_of, is_anchored};
 ghost use Rattle.regex_search_core.specs.declared.search.MatchKind.TheVariants.{LeftmostFirst};
 ghost use Rattle.nfa_paths.specs.Paths.{span_len, start_state, starts, pairs_from, is_utf8_empty, scan_limit, IsWithinScans};
@@ -207,6 +208,7 @@ pub fn search(
     requires turned { scratch.old.visited.turns ≡ 0 }
     ensures answer { IfOk result (λ half. Searched nfa.now (search_of input.now) half slots.new scratch.new.scans scratch.new.visited.turns) }
     ensures refused { OnErr result (slots.new ≡ replicate (length slots.old) None) }
+    ensures pattern { IfOk result (λ half. IfSome half (λ h. (half_found_of h).pattern < length nfa.now.patterns)) }
     ensures within { IsWithinScans nfa.now LeftmostFirst false (search_of input.now) scratch.new.scans }
     ensures blocks { GrowsBlocks nfa.now (search_of input.now) (length scratch.old.visited.bits / 64) (length scratch.new.visited.bits / 64) }
     ensures scans { scratch.new.scans ≤ scan_limit nfa.now (search_of input.now) }

@@ -1,0 +1,104 @@
+//! Searches that fill captures.
+ghost use Rattle.std.specs.Prelude.{◌≡◌, ◌↔◌, ◌⊎◌, ◌+◌, ◌*◌, ◌<◌, ◌≤◌, None, length, replicate, false, All, IfErr};
+ghost use Rattle.std.specs.Prelude.{IfSome, IfNone, IsErrOf, OnErr, OnOk};
+ghost use Rattle.regex_search_core.specs.Search.{search_of};
+ghost use Rattle.regex_search_core.specs.declared.search.MatchKind.TheVariants.{LeftmostFirst};
+ghost use Rattle.nfa_paths.specs.Paths.{span_len, turn_weight, scan_limit, IsAnswer, IsWork, IsWithinScans};
+ghost use Rattle.nfa_backtrack.specs.Backtrack.{IsTooLong, AddsWork, CountsAnswer, CountsRefusal, GrowsBlocks};
+ghost use Rattle.nfa_backtrack.specs.Backtrack.{refused_early};
+ghost use Rattle.nfa_search_base.specs.Lists.{IsSlotInside};
+
+use crate::cache::Cache;
+use crate::engine::BoundedBacktracker;
+use nfa_search_base::error::SearchError;
+use regex_search_core::{Captures, Input};
+
+impl BoundedBacktracker {
+    /// Searches, and fills captures: their pattern is the one that matched, and their slots get the offsets that
+    /// [`BoundedBacktracker::try_search_slots`] gives as many slots. Their groups stay. After no match and after an
+    /// error they show no match: no pattern, and no slot set.
+    ///
+    /// Any captures may be handed in, those of another NFA too, with any number of slots. Errors are those of
+    /// [`BoundedBacktracker::try_search_slots`].
+    pub fn try_search(
+        &self,
+        cache: &mut Cache,
+        input: &Input<'_>,
+        captures: &mut Captures,
+    ) -> Result<(), SearchError>
+        ensures answer { OnOk result (IsAnswer self.now.nfa LeftmostFirst false (search_of input.now)
+            captures.new.pattern captures.new.slots) }
+        ensures unmatched { IfNone captures.new.pattern
+            (captures.new.slots ≡ replicate (length captures.old.slots) None) }
+        ensures cleared { OnErr result (captures.new.pattern ≡ None) }
+        ensures groups { captures.new.groups ≡ captures.old.groups }
+        ensures count { length captures.new.slots ≡ length captures.old.slots }
+        ensures pattern { IfSome captures.new.pattern (λ p. p < length self.now.nfa.patterns) }
+        ensures inside { All (IsSlotInside (search_of input.now)) captures.new.slots }
+
+        ensures too_long { IsErrOf result (SearchError.HaystackTooLong (span_len (search_of input.now)))
+            ↔ IsTooLong self.now (search_of input.now) }
+        ensures errors { IfErr result (λ e. (e ≡ SearchError.Memory)
+            ⊎ (e ≡ SearchError.HaystackTooLong (span_len (search_of input.now)))) }
+
+        // What was done for it: exactly one scan more than restarts, within stated bounds.
+        ensures work { OnOk result (IsWork self.now.nfa LeftmostFirst false (search_of input.now)
+            cache.new.scans cache.new.turns) }
+        ensures within { OnErr result (IsWithinScans self.now.nfa LeftmostFirst false (search_of input.now)
+            cache.new.scans) }
+        ensures scans { cache.new.scans ≤ scan_limit self.now.nfa (search_of input.now) }
+        ensures turns { cache.new.turns
+            ≤ cache.new.scans * ((1 + turn_weight self.now.nfa) * (span_len (search_of input.now) + 1)) }
+        // It is counted once.
+        ensures answered { OnOk result (CountsAnswer cache.old cache.new) }
+        ensures refused { OnErr result (CountsRefusal cache.old cache.new) }
+        ensures total { AddsWork cache.old cache.new }
+        ensures blocks { GrowsBlocks self.now.nfa (search_of input.now) cache.old.blocks cache.new.blocks }
+        ensures early { IsTooLong self.now (search_of input.now) → cache.new ≡ refused_early cache.old }
+    {
+        captures.set_pattern(None);
+        let pattern = self.try_search_slots(cache, input, captures.slots_mut())?;
+        captures.set_pattern(pattern);
+        Ok(())
+    }
+
+    /// Searches, and fills captures, as [`BoundedBacktracker::try_search`] does.
+    pub fn try_captures<'h>(
+        &self,
+        cache: &mut Cache,
+        input: Input<'h>,
+        captures: &mut Captures,
+    ) -> Result<(), SearchError>
+        ensures answer { OnOk result (IsAnswer self.now.nfa LeftmostFirst false (search_of input.entry)
+            captures.new.pattern captures.new.slots) }
+        ensures unmatched { IfNone captures.new.pattern
+            (captures.new.slots ≡ replicate (length captures.old.slots) None) }
+        ensures cleared { OnErr result (captures.new.pattern ≡ None) }
+        ensures groups { captures.new.groups ≡ captures.old.groups }
+        ensures count { length captures.new.slots ≡ length captures.old.slots }
+        ensures pattern { IfSome captures.new.pattern (λ p. p < length self.now.nfa.patterns) }
+        ensures inside { All (IsSlotInside (search_of input.entry)) captures.new.slots }
+
+        ensures too_long { IsErrOf result (SearchError.HaystackTooLong (span_len (search_of input.entry)))
+            ↔ IsTooLong self.now (search_of input.entry) }
+        ensures errors { IfErr result (λ e. (e ≡ SearchError.Memory)
+            ⊎ (e ≡ SearchError.HaystackTooLong (span_len (search_of input.entry)))) }
+
+        // What was done for it: exactly one scan more than restarts, within stated bounds.
+        ensures work { OnOk result (IsWork self.now.nfa LeftmostFirst false (search_of input.entry)
+            cache.new.scans cache.new.turns) }
+        ensures within { OnErr result (IsWithinScans self.now.nfa LeftmostFirst false (search_of input.entry)
+            cache.new.scans) }
+        ensures scans { cache.new.scans ≤ scan_limit self.now.nfa (search_of input.entry) }
+        ensures turns { cache.new.turns
+            ≤ cache.new.scans * ((1 + turn_weight self.now.nfa) * (span_len (search_of input.entry) + 1)) }
+        // It is counted once.
+        ensures answered { OnOk result (CountsAnswer cache.old cache.new) }
+        ensures refused { OnErr result (CountsRefusal cache.old cache.new) }
+        ensures total { AddsWork cache.old cache.new }
+        ensures blocks { GrowsBlocks self.now.nfa (search_of input.entry) cache.old.blocks cache.new.blocks }
+        ensures early { IsTooLong self.now (search_of input.entry) → cache.new ≡ refused_early cache.old }
+    {
+        self.try_search(cache, &input, captures)
+    }
+}
