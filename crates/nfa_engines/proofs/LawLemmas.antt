@@ -1,7 +1,8 @@
 -- What follows for slots from a search having one answer.
-use Rattle.std.proofs.Common.{◌≡◌, ℕ, ◌+◌, ◌-◌, ◌≤◌, ◌∙◌, Bool, List, ◌++◌, length, take, drop, replicate, sym, ap, arith}
+use Rattle.std.proofs.Common.{◌≡◌, ℕ, ◌+◌, ◌-◌, ◌≤◌, ◌∙◌, Bool, List, ◌++◌, length, take, drop, replicate, sym, ap}
+use Rattle.std.proofs.Common.{arith}
 use Rattle.std.specs.Prelude.{Option, None, option_and_then}
-use Rattle.std.proofs.Math.Seq.{drop-append_seam}
+use Rattle.std.proofs.Math.Seq.{drop-append_seam, take-length}
 use Rattle.std.proofs.lemmas.List.{length-take-le}
 use Rattle.regex_search_core.specs.Groups.{slot_count}
 use Rattle.regex_search_core.specs.Search.{Search}
@@ -12,15 +13,25 @@ use Rattle.nfa_paths.proofs.AnswerLemmas.{search_answer-unique}
 use Rattle.nfa_paths.proofs.PatternLemmas.{slot_row-more, slot_row-take}
 
 module _ (nfa : Automaton) (x : Search) (kind : MatchKind) (earliest : Bool) where
-  pub fewer-slots : (p q : Option ℕ) (s t : List (Option ℕ)) → IsAnswer nfa kind earliest x p s → IsAnswer nfa kind earliest x q t → length s ≤ length t
+  pub fewer-slots : (p q : Option ℕ) (s t : List (Option ℕ)) → IsAnswer nfa kind earliest x p s
+      → IsAnswer nfa kind earliest x q t → length s ≤ length t
       → (p ≡ q) × (s ≡ take (length s) t)
   fewer-slots p q s t h k less =
-      let one = (search_answer-unique nfa kind earliest x h.restarts k.restarts h.path k.path h.answers k.answers).1 in (
-        h.pattern_is ∙ ap (λ path. option_and_then (path_pattern nfa) path) one ∙ sym k.pattern_is,
-        h.slots_are ∙ ap (slot_row nfa (length s)) one ∙ sym (slot_row-take nfa (length s) (length t) k.path less) ∙ ap (take (length s)) (sym k.slots_are),
+      let one = search_answer-unique nfa kind earliest x h.restarts k.restarts h.path k.path h.answers k.answers in (
+        h.pattern_is ∙ ap (λ path. option_and_then (path_pattern nfa) path) one.1 ∙ sym k.pattern_is,
+        h.slots_are ∙ ap (slot_row nfa (length s)) one.1
+            ∙ sym (slot_row-take nfa (length s) (length t) k.path less) ∙ ap (take (length s)) (sym k.slots_are),
       )
 
-  pub slots-past : (p : Option ℕ) (s : List (Option ℕ)) → IsAutomaton nfa → IsAnswer nfa kind earliest x p s → slot_count nfa.groups ≤ length s
+  pub same-slots : (p q : Option ℕ) (s t : List (Option ℕ)) → IsAnswer nfa kind earliest x p s
+      → IsAnswer nfa kind earliest x q t → length s ≡ length t
+      → (p ≡ q) × (s ≡ t)
+  same-slots p q s t h k same =
+      let one = fewer-slots p q s t h k (omega arith) in
+      (one.0, one.1 ∙ ap (λ n. take n t) same ∙ take-length t)
+
+  pub slots-past : (p : Option ℕ) (s : List (Option ℕ)) → IsAutomaton nfa → IsAnswer nfa kind earliest x p s
+      → slot_count nfa.groups ≤ length s
       → drop (slot_count nfa.groups) s ≡ replicate (length s - slot_count nfa.groups) None
   slots-past p s valid h many =
       let w = slot_count nfa.groups in
@@ -32,4 +43,5 @@ module _ (nfa : Automaton) (x : Search) (kind : MatchKind) (earliest : Bool) whe
       -- the row is the beginning of the slots, so it is as long as the NFA has slots
       let first : take w s ≡ row = ap (take w) h.slots_are ∙ slot_row-take nfa w (length s) h.path many in
       let long : length row ≡ w = ap length (sym first) ∙ length-take-le w s many in
-      ap (drop w) split ∙ ap (λ n. drop n (row ++ replicate k None)) (sym long) ∙ drop-append_seam row (replicate k None)
+      ap (drop w) split ∙ ap (λ n. drop n (row ++ replicate k None)) (sym long)
+      ∙ drop-append_seam row (replicate k None)

@@ -1,1 +1,5 @@
+pub mod CapacityLemmas
+pub mod GapLemmas
+pub mod IterationLemmas
 pub mod LawLemmas
+pub mod OneLemmas

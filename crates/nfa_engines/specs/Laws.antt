@@ -1,11 +1,15 @@
--- Laws that users of the searches rely on, over the definitions alone.
-use Rattle.std.specs.Prelude.{◌≡◌, ℕ, ◌⊎◌, ◌-◌, ◌≤◌, Bool, false, List, Option, None, is_some, length, take, drop, replicate}
+-- Laws of scans, of searches and of their answers, over the definitions alone.
+use Rattle.std.specs.Prelude.{◌≡◌, ℕ, ◌⊎◌, ◌-◌, ◌≤◌, Bool, false, List, Option, None, is_some, length, take, drop}
+use Rattle.std.specs.Prelude.{replicate}
 use Rattle.regex_search_core.specs.Groups.{slot_count}
 use Rattle.regex_search_core.specs.Search.{Search}
 use Rattle.regex_search_core.specs.declared.search.MatchKind.{MatchKind}
 use Rattle.thompson_nfa.specs.Automaton.{Automaton, IsAutomaton}
 use Rattle.nfa_paths.specs.Graphs.{Pair, PathTo, ComesBefore}
+use Rattle.regex_search_core.specs.Found.{Found}
+use Rattle.regex_search_core.specs.declared.search.MatchKind.TheVariants.{LeftmostFirst}
 use Rattle.nfa_paths.specs.Paths.{edges, starts, IsMatch, is_utf8_empty, IsScanAnswer, IsSearchAnswer, IsAnswer}
+use Rattle.nfa_paths.specs.Paths.{IsFoundAnswer, IsMatchAnswer}
 
 -- two answers of one scan are one
 abbrev pub OneScanAnswer : Type 0
@@ -66,7 +70,8 @@ AnswersAgree =
 abbrev pub FewerSlots : Type 0
 FewerSlots =
     (nfa : Automaton) (x : Search) (kind : MatchKind) (earliest : Bool) (p q : Option ℕ) (s t : List (Option ℕ))
-    → IsAnswer nfa kind earliest x p s → IsAnswer nfa kind earliest x q t → length s ≤ length t → (p ≡ q) × (s ≡ take (length s) t)
+    → IsAnswer nfa kind earliest x p s → IsAnswer nfa kind earliest x q t → length s ≤ length t
+    → (p ≡ q) × (s ≡ take (length s) t)
 
 -- the slots of an answer past those of the NFA are none
 abbrev pub SlotsPastAreNone : Type 0
@@ -74,3 +79,28 @@ SlotsPastAreNone =
     (nfa : Automaton) (x : Search) (kind : MatchKind) (earliest : Bool) (p : Option ℕ) (s : List (Option ℕ))
     → IsAutomaton nfa → IsAnswer nfa kind earliest x p s → slot_count nfa.groups ≤ length s
     → drop (slot_count nfa.groups) s ≡ replicate (length s - slot_count nfa.groups) None
+
+-- two matches of one search are one
+abbrev pub OneMatch : Type 0
+OneMatch =
+    (nfa : Automaton) (x : Search) (kind : MatchKind) (earliest : Bool) (a b : Option Found)
+    → IsMatchAnswer nfa kind earliest x a → IsMatchAnswer nfa kind earliest x b → a ≡ b
+
+-- whether a search finds something has one answer
+abbrev pub OneFound : Type 0
+OneFound =
+    (nfa : Automaton) (x : Search) (kind : MatchKind) (earliest : Bool) (a b : Bool)
+    → IsFoundAnswer nfa kind earliest x a → IsFoundAnswer nfa kind earliest x b → a ≡ b
+
+-- a search finds something exactly where it has a pattern
+abbrev pub FoundIsPattern : Type 0
+FoundIsPattern =
+    (nfa : Automaton) (x : Search) (kind : MatchKind) (earliest : Bool)
+    (p : Option ℕ) (s : List (Option ℕ)) (found : Bool)
+    → IsAnswer nfa kind earliest x p s → IsFoundAnswer nfa kind earliest x found → found ≡ is_some p
+
+-- a search of the kind finds something exactly where a leftmost first search does
+abbrev pub FoundAsLeftmost : MatchKind → Type 0
+FoundAsLeftmost kind =
+    (nfa : Automaton) (x : Search) (found other : Bool)
+    → IsFoundAnswer nfa kind false x found → IsFoundAnswer nfa LeftmostFirst false x other → found ≡ other

@@ -1,14 +1,41 @@
+pub mod CapacityLaws
+pub mod GapLaws
+pub mod IterationLaws
 pub mod Laws
+pub mod SetLaws
+pub use Rattle.nfa_backtrack.specs.Backtrack
+pub use Rattle.nfa_backtrack.specs.Finding as BacktrackFinding
+pub use Rattle.nfa_backtrack.specs.FindMatches as BacktrackFindMatches
+pub use Rattle.nfa_backtrack.specs.Runs as BacktrackRuns
+pub use Rattle.nfa_pikevm.specs.Engines
+pub use Rattle.nfa_pikevm.specs.Finding as PikeVMFinding
+pub use Rattle.nfa_pikevm.specs.FindMatches as PikeVMFindMatches
+pub use Rattle.nfa_pikevm.specs.Runs as PikeVMRuns
 pub use Rattle.nfa_paths.specs.Graphs
-pub use Rattle.nfa_paths.specs.Paths
+pub use Rattle.nfa_paths.specs.Known
 pub use Rattle.nfa_paths.specs.Overlaps
+pub use Rattle.nfa_paths.specs.Paths
+pub use Rattle.nfa_search_base.specs.Asking
+pub use Rattle.nfa_search_base.specs.Catching
+pub use Rattle.nfa_search_base.specs.Finders
+pub use Rattle.nfa_search_base.specs.Items
 pub use Rattle.nfa_search_base.specs.Lists
+pub use Rattle.nfa_search_base.specs.Searchers
+pub use Rattle.nfa_search_base.specs.Serving
+pub use Rattle.nfa_search_base.specs.Skipping
+pub use Rattle.nfa_search_base.specs.Steps
+pub use Rattle.nfa_search_base.specs.Stored
 pub use Rattle.nfa_search_base.specs.Walks
 pub use Rattle.nfa_pikevm.specs.Engines
 pub use Rattle.regex_search_core.specs.Boundary
 pub use Rattle.regex_search_core.specs.Found
 pub use Rattle.regex_search_core.specs.Groups
+pub use Rattle.regex_search_core.specs.PatternSets
 pub use Rattle.regex_search_core.specs.Patterns
 pub use Rattle.regex_search_core.specs.Search
 pub use Rattle.regex_search_core.specs.Slots
+pub use Rattle.regex_search_core.specs.declared.search.Anchored
+pub use Rattle.regex_search_core.specs.declared.search.MatchKind
 pub use Rattle.thompson_nfa.specs.Automaton
+pub use Rattle.thompson_nfa.specs.Looks
+pub use Rattle.thompson_nfa.specs.Simple

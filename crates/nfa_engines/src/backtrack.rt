@@ -1,3 +1,5 @@
 //! A search that walks depth first, with a table of marks that bounds its work, by the public names of its crate.
 
-pub use nfa_backtrack::{BoundedBacktracker, Builder, Cache, Config, TryFindMatches, min_visited_capacity};
+pub use nfa_backtrack::{
+    BoundedBacktracker, Builder, Cache, Config, TryFindMatches, min_visited_capacity,
+};

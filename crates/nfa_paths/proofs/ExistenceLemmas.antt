@@ -96,7 +96,7 @@ module _ (nfa : Automaton) where
     scan_answer-exists All true = earliest_last_path_exists pairs_finite (is_match nfa) (IsMatch-edges nfa x) matches_in
 
     -- a scan that answers none, of whichever kind, says that no path leads to a match
-    scan_answer-none : (kind : MatchKind) (earliest : Bool) → IsScanAnswer nfa x kind earliest None → NoPath (edges nfa x) (starts nfa x) (IsMatch nfa)
+    pub scan_answer-none : (kind : MatchKind) (earliest : Bool) → IsScanAnswer nfa x kind earliest None → NoPath (edges nfa x) (starts nfa x) (IsMatch nfa)
     scan_answer-none LeftmostFirst false h = h
     scan_answer-none LeftmostFirst true h = h
     scan_answer-none All false h = h

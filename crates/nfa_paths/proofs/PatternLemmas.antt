@@ -21,7 +21,7 @@ use Rattle.nfa_paths.proofs.AnswerLemmas.{scan_answer-leads}
 use Rattle.nfa_paths.proofs.PathToLemmas.{EndsWith-last}
 
 -- a Match has a pattern
-some-pattern : (node : Node) → is_some (pattern_of node) ≡ true → (k : ℕ) × (pattern_of node ≡ Some k)
+pub some-pattern : (node : Node) → is_some (pattern_of node) ≡ true → (k : ℕ) × (pattern_of node ≡ Some k)
 some-pattern (Match pattern) e = (pattern, refl)
 some-pattern (ByteRange trans) e = cc
 some-pattern (Sparse ts) e = cc
@@ -83,7 +83,7 @@ module _ (nfa : Automaton) where
       ]
 
   -- no path writes a slot past the NFA's
-  slot_among-past : IsAutomaton nfa → (p : List Pair) (i : ℕ) → slot_count nfa.groups ≤ i → slot_among nfa p i ≡ None
+  pub slot_among-past : IsAutomaton nfa → (p : List Pair) (i : ℕ) → slot_count nfa.groups ≤ i → slot_among nfa p i ≡ None
   slot_among-past valid [] i past = refl
   slot_among-past valid (v ∷ p) i past =
       let none = unwritten (capture nfa v) i v.1 (λ k e. let less = node-slot valid v.0 k e in omega arith) in
@@ -116,7 +116,7 @@ module _ (nfa : Automaton) where
       ]
 
   -- an offset of a path's row
-  offset_at-slot_row : (p : List Pair) (count i : ℕ) → i < count → offset_at (slot_row nfa count (Some p)) i ≡ slot_among nfa p i
+  pub offset_at-slot_row : (p : List Pair) (count i : ℕ) → i < count → offset_at (slot_row nfa count (Some p)) i ≡ slot_among nfa p i
   unfolding slot_row
   offset_at-slot_row p count i inside =
       let h : i < length (map (slot_among nfa p) (range_with_len 0 count)) = rw (length-map-range_with_len (slot_among nfa p) 0 count) inside in

@@ -1,0 +1,57 @@
+-- The calls that ask one iteration give matches whose ends go up, and only so many.
+use Rattle.std.proofs.Common.{◌≡◌, ℕ, ◌+◌, ◌-◌, ◌<◌, ◌≤◌, ◌⊎◌, inl, inr, List, [], ◌∷◌, length, Bool, refl, subst, sym}
+use Rattle.std.proofs.Common.{ap, ◌∙◌, arith}
+use Rattle.std.specs.Prelude.{Option, None, Some}
+use Rattle.std.specs.Option.{ForSome}
+use Rattle.regex_search_core.specs.Search.{Search}
+use Rattle.regex_search_core.specs.declared.search.Span.{Span}
+use Rattle.nfa_paths.specs.Paths.{span_len}
+use Rattle.nfa_search_base.specs.Walks.{Answer, Walk, fresh, after, shifted, repeats, place_of, ends_left, ComesAfter}
+use Rattle.nfa_search_base.specs.Walks.{LeavesFewer, Advances}
+use Rattle.nfa_search_base.proofs.StepLemmas.{chosen}
+use Rattle.nfa_engines.specs.IterationLaws.{IsCall, AreCalls, places_of, EndsRise}
+
+-- a step that gives its match behind the last one and leaves fewer ends is a call
+pub call-of-step : {S X : Type 0} (span : X → Span) (asks : S → Search → Answer X → S → Type 0)
+    (s : S) (w : Walk) (r : Answer X) (s' : S) (w' : Walk)
+    → Advances span asks s w r s' w' → ComesAfter w (place_of span r) → LeavesFewer w (place_of span r) w'
+    → IsCall w (place_of span r) w'
+call-of-step span asks s w r s' w' step rises fewer = record {
+  rises = rises;
+  fewer = fewer;
+  moves = elim (chosen (repeats w (place_of span step.answer)) step.rest) [ inl p ↦ inr p.1.1 | inr p ↦ inl p.1.2 ];
+}
+
+-- a call that gave a match leaves its end as the last one
+call-last : (w : Walk) (p : Span) (w' : Walk) → IsCall w (Some p) w' → w'.last ≡ Some p.end
+call-last w p w' call = elim call.moves [ inl e ↦ ap (λ (v : Walk). v.last) e | inr e ↦ ap (λ (v : Walk). v.last) e ]
+
+-- and one that gave none leaves the last end
+none-last : (w w' : Walk) → IsCall w None w' → w'.last ≡ w.last
+none-last w w' call = elim call.moves [ inl e ↦ ap (λ (v : Walk). v.last) e | inr e ↦ ap (λ (v : Walk). v.last) e ]
+
+-- the ends go up
+pub ends-rise : (w : Walk) (calls : List (Option Span × Walk)) → AreCalls w calls → EndsRise w.last (places_of calls)
+ends-rise w [] are = tt
+ends-rise w ((Some p, w') ∷ calls) are =
+    let rest = ends-rise w' calls are.1 in
+    (are.0.rises, subst (λ (o : Option ℕ). EndsRise o (places_of calls)) (call-last w p w' are.0) rest)
+ends-rise w ((None, w') ∷ calls) are =
+    subst (λ (o : Option ℕ). EndsRise o (places_of calls)) (none-last w w' are.0) (ends-rise w' calls are.1)
+
+-- each match takes an end of those that are left
+pub few-matches : (w : Walk) (calls : List (Option Span × Walk)) → AreCalls w calls
+    → length (places_of calls) ≤ ends_left w
+few-matches w [] are = omega arith
+few-matches w ((Some p, w') ∷ calls) are =
+    let less : ends_left w' < ends_left w = are.0.fewer in
+    let rest : length (places_of calls) ≤ ends_left w' = few-matches w' calls are.1 in
+    omega arith
+few-matches w ((None, w') ∷ calls) are =
+    let less : ends_left w' ≤ ends_left w = are.0.fewer in
+    let rest : length (places_of calls) ≤ ends_left w' = few-matches w' calls are.1 in
+    omega arith
+
+-- before the first call there are as many as the span has bytes, and one more
+pub first-ends : (x : Search) → ends_left (fresh x) ≤ span_len x + 1
+first-ends x = omega arith

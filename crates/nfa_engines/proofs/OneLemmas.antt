@@ -1,0 +1,59 @@
+-- What a search finds, and the set that it makes of a set, is one.
+use Rattle.std.proofs.Common.{◌≡◌, ℕ, ◌∙◌, ◌↔◌, ◌⊎◌, ◌≤◌, inl, inr, Bool, true, false, List, length, refl, sym, ap}
+use Rattle.std.proofs.Common.{arith}
+use Rattle.std.specs.Prelude.{Option, is_some}
+use Rattle.std.proofs.lemmas.List.{ext_get_or}
+use Rattle.regex_search_core.specs.Search.{Search}
+use Rattle.regex_search_core.specs.declared.search.MatchKind.{MatchKind}
+use Rattle.regex_search_core.specs.declared.search.MatchKind.TheVariants.{All}
+use Rattle.thompson_nfa.specs.Automaton.{Automaton, IsAutomaton}
+use Rattle.nfa_paths.specs.Overlaps.{HoldsPattern, IsPermitted, IsPatternOf, IsOverlapResult}
+use Rattle.nfa_paths.specs.Paths.{IsAnswer, IsFoundAnswer}
+use Rattle.nfa_paths.proofs.AnswerLemmas.{search_answer-unique}
+use Rattle.nfa_paths.proofs.PatternLemmas.{node-pattern, found-of}
+
+-- two tests that tell each other are one
+same-test : (a b : Bool) → (a ≡ true → b ≡ true) → (b ≡ true → a ≡ true) → a ≡ b
+same-test true b f g = sym (f refl)
+same-test false true f g = g refl
+same-test false false f g = refl
+
+module _ (nfa : Automaton) (x : Search) where
+  -- whether a search finds something has one answer
+  pub found-unique : (kind : MatchKind) (earliest : Bool) (a b : Bool) → IsFoundAnswer nfa kind earliest x a
+      → IsFoundAnswer nfa kind earliest x b → a ≡ b
+  found-unique kind earliest a b h k =
+      let one = search_answer-unique nfa kind earliest x h.restarts k.restarts h.path k.path h.answers k.answers in
+      h.found_is ∙ ap is_some one.1 ∙ sym k.found_is
+
+  -- and it is whether the search has a pattern
+  pub found-pattern : (kind : MatchKind) (earliest : Bool) (p : Option ℕ) (s : List (Option ℕ)) (found : Bool)
+      → IsAnswer nfa kind earliest x p s → IsFoundAnswer nfa kind earliest x found → found ≡ is_some p
+  found-pattern kind earliest p s found answer h =
+      found-unique kind earliest found (is_some p) h (found-of nfa kind earliest x s p answer)
+
+  -- under `All` a search makes one set of a set
+  pub set-unique : (earliest : Bool) (old new other : List Bool) → IsOverlapResult nfa x All earliest old new
+      → IsOverlapResult nfa x All earliest old other
+      → new ≡ other
+  set-unique earliest old new other h k =
+      ext_get_or false new other (h.capacity ∙ sym k.capacity)
+      (λ i within.
+      let one = h.gains.gained i in
+      let two = k.gains.gained i in
+      same-test _ _ (λ t. two.1 (one.0 t)) (λ t. one.1 (two.0 t)))
+
+  -- where the set has room for each pattern, its capacity leaves none out
+  pub set-complete : (old new : List Bool) → IsAutomaton nfa → length nfa.patterns ≤ length old
+      → IsOverlapResult nfa x All false old new
+      → (k : ℕ) → HoldsPattern new k ↔ (HoldsPattern old k ⊎ IsPatternOf nfa x (IsPermitted nfa x) k)
+  set-complete old new valid room h k = (
+    λ t. elim ((h.gains.gained k).0 t) [ inl had ↦ inl had | inr gains ↦ inr gains.1 ],
+    λ s.
+        elim s [
+          | inl had ↦ (h.gains.gained k).1 (inl had)
+          | inr reached ↦
+              let below = node-pattern nfa valid reached.end.0 k reached.pattern_is in
+              (h.gains.gained k).1 (inr (omega arith, reached))
+        ],
+  )

@@ -1,0 +1,43 @@
+-- The law that no match is passed over, over the definitions alone.
+use Rattle.std.specs.Prelude.{◌≡◌, ◌↔◌, ℕ, ◌+◌, ◌*◌, ◌≤◌, Bool, false, List, Option, None, Some, IfSome}
+use Rattle.regex_search_core.specs.Found.{Found}
+use Rattle.regex_search_core.specs.Search.{Search}
+use Rattle.regex_search_core.specs.declared.search.MatchKind.{MatchKind}
+use Rattle.thompson_nfa.specs.Automaton.{Automaton, IsAutomaton}
+use Rattle.nfa_paths.specs.Graphs.{Pair, HeadIs, PathTo, NoPath}
+use Rattle.nfa_paths.specs.Paths.{edges, starts, is_utf8_empty, IsMatch, IsMatchAnswer, path_pattern, slot_among}
+
+-- the path writes where it starts and where it ends into the two slots of its pattern
+pub record WritesItsEnds (nfa : Automaton) (end : Pair) (p : List Pair) : Type 0 where
+  pub start : Pair
+  pub head : HeadIs start p
+  pub pattern : ℕ
+  pub pattern_is : path_pattern nfa p ≡ Some pattern
+  pub start_slot : slot_among nfa p (2 * pattern) ≡ Some start.1
+  pub end_slot : slot_among nfa p (2 * pattern + 1) ≡ Some end.1
+
+-- each accepting path of the search does
+abbrev pub PathsWriteTheirEnds : Automaton → Search → Type 0
+PathsWriteTheirEnds nfa x =
+    (end : Pair) (p : List Pair) → PathTo (edges nfa x) (starts nfa x) end p → IsMatch nfa end → WritesItsEnds nfa end p
+
+-- then there is no match exactly where there is no accepting path
+abbrev pub NoneIsNoPath : MatchKind → Bool → Type 0
+NoneIsNoPath kind earliest =
+    (nfa : Automaton) (x : Search) (found : Option Found) → IsAutomaton nfa → is_utf8_empty nfa ≡ false
+    → PathsWriteTheirEnds nfa x
+    → IsMatchAnswer nfa kind earliest x found → (found ≡ None) ↔ NoPath (edges nfa x) (starts nfa x) (IsMatch nfa)
+
+-- the match starts not after the start of any accepting path
+abbrev pub StartsBeforePaths : Automaton → Search → Found → Type 0
+StartsBeforePaths nfa x m =
+    (start end : Pair) (p : List Pair) → HeadIs start p → PathTo (edges nfa x) (starts nfa x) end p → IsMatch nfa end
+    → m.start ≤ start.1
+
+-- and no accepting path starts before the match
+abbrev pub NoneStartsBefore : MatchKind → Bool → Type 0
+NoneStartsBefore kind earliest =
+    (nfa : Automaton) (x : Search) (found : Option Found) → IsAutomaton nfa → is_utf8_empty nfa ≡ false
+    → PathsWriteTheirEnds nfa x
+    → IsMatchAnswer nfa kind earliest x found
+    → IfSome found (StartsBeforePaths nfa x)
