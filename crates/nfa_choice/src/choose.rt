@@ -1,4 +1,4 @@
-ghost use Rattle.std.specs.Prelude.{◌≡◌, None, Some, Ok, false, option_map, IfOk, OnOk, OnErr, IsOkUnless};
+ghost use Rattle.std.specs.Prelude.{◌≡◌, length, None, Some, Ok, false, option_map, IfOk, OnOk, OnErr, IsOkUnless};
 ghost use Rattle.regex_search_core.specs.Search.{search_of};
 ghost use Rattle.regex_search_core.specs.Patterns.{number_of};
 ghost use Rattle.regex_search_core.specs.Found.{found_of};
@@ -13,7 +13,7 @@ pub use find_iter::ChoiceMatches;
 use nfa_engines::backtrack::{self, BoundedBacktracker};
 use nfa_engines::error::SearchError;
 use nfa_engines::pikevm::{self, PikeVM};
-use regex_search_core::{Input, Match, MatchKind, NonMaxUsize, PatternID};
+use regex_search_core::{Captures, Input, Match, MatchKind, NonMaxUsize, PatternID};
 use std::alloc::Global;
 use std::marker::Model;
 use thompson_nfa::NFA;
@@ -170,6 +170,27 @@ impl Choice {
         }
         self.ran = Some(Engine::PikeVM);
         self.pike.search_slots(&mut self.pike_cache, input, slots)
+    }
+
+    /// Searches, and fills captures: their pattern is the one that matched, and their slots get what
+    /// [`Choice::search_slots`] gives as many slots. Their groups stay. After no match they show none: no pattern, and no
+    /// slot set. Any captures may be handed in, those of another NFA too.
+    pub fn search(&mut self, input: &Input<'_>, captures: &mut Captures)
+        ensures answer { IsAnswer self.old.nfa (kind_in self.old) (search_of input.now).earliest (search_of input.now)
+            captures.new.pattern captures.new.slots }
+        ensures groups { captures.new.groups ≡ captures.old.groups }
+        ensures count { length captures.new.slots ≡ length captures.old.slots }
+        ensures runs { RunsByRule self.old (search_of input.now) self.new }
+        ensures keeps { KeepsEngines self.old self.new }
+    {
+        if self.is_for_backtracker(input) {
+            if let Ok(()) = self.back.try_search(&mut self.back_cache, input, captures) {
+                self.ran = Some(Engine::Backtracker);
+                return;
+            }
+        }
+        self.ran = Some(Engine::PikeVM);
+        self.pike.search(&mut self.pike_cache, input, captures);
     }
 
     /// The match that a search answers.

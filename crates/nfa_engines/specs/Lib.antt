@@ -26,7 +26,6 @@ pub use Rattle.nfa_search_base.specs.Skipping
 pub use Rattle.nfa_search_base.specs.Steps
 pub use Rattle.nfa_search_base.specs.Stored
 pub use Rattle.nfa_search_base.specs.Walks
-pub use Rattle.nfa_pikevm.specs.Engines
 pub use Rattle.regex_search_core.specs.Boundary
 pub use Rattle.regex_search_core.specs.Found
 pub use Rattle.regex_search_core.specs.Groups
