@@ -196,19 +196,15 @@ module _ (nfa : Automaton) (kind : MatchKind) (earliest : Bool) where
       none None answers e = refl
       none (Some p) answers e = let some = search-pattern x a.restarts p answers in absurd (let k = some.1 in cc)
 
-  -- of no path every slot is none
-  slot_row-none : (count : ℕ) → slot_row nfa count None ≡ replicate count None
-  unfolding slot_row
-  slot_row-none count = refl
-
-  -- after no match no slot is set
+  -- and no slot that is set
   pub slots-unset : (x : Search) (slots : Slots) → IsAnswer nfa kind earliest x None slots → slots ≡ replicate (length slots) None
-  slots-unset x slots a = a.slots_are ∙ unset a.path a.answers a.pattern_is
+  unfolding slot_row
+  slots-unset x slots a = a.slots_are ∙ none a.path a.answers a.pattern_is
     where
-      unset : (path : Option (List Pair)) → IsSearchAnswer nfa kind earliest x a.restarts path → None ≡ option_and_then (path_pattern nfa) path
+      none : (path : Option (List Pair)) → IsSearchAnswer nfa kind earliest x a.restarts path → None ≡ option_and_then (path_pattern nfa) path
           → slot_row nfa (length slots) path ≡ replicate (length slots) None
-      unset None answers e = slot_row-none (length slots)
-      unset (Some p) answers e = let some = search-pattern x a.restarts p answers in absurd (let k = some.1 in cc)
+      none None answers e = refl
+      none (Some p) answers e = let some = search-pattern x a.restarts p answers in absurd (let k = some.1 in cc)
 
   pub found-of : (x : Search) (slots : Slots) (pattern : Option ℕ) → IsAnswer nfa kind earliest x pattern slots → IsFoundAnswer nfa kind earliest x (is_some pattern)
   found-of x slots None a = found-none x slots a
