@@ -4,18 +4,17 @@ use Rattle.std.specs.Prelude.{Option, None, Some, cond, option_map}
 use Rattle.std.specs.List.{last_or}
 use Rattle.std.proofs.Math.Decide.{ℕ_discrete}
 use Rattle.std.proofs.lemmas.Bool.{cases_Bool, cases_lt, lt-ltb, le-ltb}
-use Rattle.std.proofs.lemmas.List.{get_or_past}
 use Rattle.std.proofs.lemmas.List.Sums.{sum_by-cons, count_by-le-length}
 use Rattle.regex_search_core.specs.PatternSets.{with_pattern, size_of_set}
 use Rattle.regex_search_core.specs.Search.{Search}
 use Rattle.regex_search_core.specs.declared.search.MatchKind.TheVariants.{All, LeftmostFirst}
-use Rattle.thompson_nfa.specs.Automaton.{Automaton, Node, PatternBelow, ArePatternsWithin}
+use Rattle.thompson_nfa.specs.Automaton.{Automaton, Node}
 use Rattle.thompson_nfa.specs.Automaton.Node.{ByteRange, Sparse, Dense, Look, Union, BinaryUnion, Capture, Fail, Match}
 use Rattle.nfa_paths.specs.Graphs.{Pair, In, PathTo, NoPath, IsFirstPath, IsFirstTo, IsLeastEnd, WantedAt}
 use Rattle.nfa_paths.specs.Exploring.{Slots, Found, Item, found, apply, round, Answer, AnswerBehind}
 use Rattle.nfa_paths.specs.Exploring.Item.{Explore, Restore, Load}
 use Rattle.nfa_paths.specs.Kinds.{Passes, WantedBefore, IsReached, NoneBefore, ReachedBefore, EndsBefore, HoldsMatch, found_along, first_match, before_match, MatchesFrom, Scanned, IsFront, Scanning, rests, is_resting}
-use Rattle.nfa_paths.specs.Paths.{node_at, pattern_of, slot_of, capture, edges, starts}
+use Rattle.nfa_paths.specs.Paths.{node_at, slot_of, capture, edges, starts}
 use Rattle.nfa_paths.specs.Overlaps.{HoldsPattern, pattern_at, IsPermitted, IsHeld, IsPatternOf, IsMeantPath, HoldsPath, GainsAll, IsOverlapResult}
 use Rattle.nfa_paths.proofs.PathLemmas.{same, IsFirst-target, IsLeast-from_first}
 use Rattle.nfa_paths.proofs.SearchLemmas.{Answer-starts, AnswerBehind-round}
@@ -50,6 +49,30 @@ full-gains nfa x earliest set full = record {
   sound = λ k h. inl h;
   gains = record { gained = λ k. (λ h. inl h, λ s. elim s [ inl o ↦ o | inr w ↦ full-holds set full k w.0 ]) };
 }
+
+-- with room for none the first match gains none
+pub first-gains : (nfa : Automaton) (x : Search) (earliest : Bool) (set : List Bool) → size_of_set set ≡ length set → size_of_set set ≡ 0
+    → IsOverlapResult nfa x LeftmostFirst earliest set set
+first-gains nfa x earliest set full empty = record {
+  capacity = refl;
+  keeps = λ k h. h;
+  sound = λ k h. inl h;
+  gains = record {
+    full = λ some. refl;
+    empty = λ e. record { path = None; meant = of earliest; holds = still earliest };
+  };
+}
+  where
+    none : NoPath (edges nfa x) (starts nfa x) (IsHeld nfa x (length set))
+    none m p w h = let below : h.pattern < length set = h.below in absurd (omega arith)
+
+    of : (b : Bool) → IsMeantPath nfa x b (length set) None
+    of false = none
+    of true = none
+
+    still : (b : Bool) → HoldsPath nfa x b None set
+    still false = empty
+    still true = empty
 
 -- a set of no pattern holds none
 pub size-none : (set : List Bool) → size_of_set set ≡ 0 → (k : ℕ) → HoldsPattern set k → ⊥
@@ -104,28 +127,9 @@ pub IsReached-along : {edges : Pair → List Pair} {starts : List Pair} {P Q : P
     → ((v : Pair) → P v → Q v) → IsReached edges starts P pattern k → IsReached edges starts Q pattern k
 IsReached-along to r = record { end = r.end; along = r.along; path = r.path; wanted = to r.end r.wanted; pattern_is = r.pattern_is }
 
--- a Match's pattern is one of the NFA's
-pub pattern-below : (nfa : Automaton) (v : Pair) (k : ℕ) → ArePatternsWithin nfa → pattern_at nfa v ≡ Some k → k < length nfa.patterns
-unfolding node_at
-pattern-below nfa v k within is =
-    elim (cases_lt v.0 (length nfa.states)) [
-      | inl less ↦ of (node_at nfa v.0) (within v.0 Fail less) is
-      | inr past ↦
-          let none : node_at nfa v.0 ≡ Fail = get_or_past nfa.states v.0 Fail past in
-          let never : pattern_of Fail ≡ Some k = rw none at is in
-          cc
-    ]
-  where
-    of : (n : Node) → PatternBelow (length nfa.patterns) n → pattern_of n ≡ Some k → k < length nfa.patterns
-    of (ByteRange t) below e = cc
-    of (Sparse ts) below e = cc
-    of (Dense targets) below e = cc
-    of (Look look next) below e = cc
-    of (Union alternates) below e = cc
-    of (BinaryUnion a b) below e = cc
-    of (Capture next slot) below e = cc
-    of Fail below e = cc
-    of (Match pattern) below e = let same : pattern ≡ k = cc in rw (← same) below
+-- two numbers that an option holds are one
+same_number : (m n : ℕ) → Some m ≡ Some n → m ≡ n
+same_number m n e = cc
 
 -- the pairs that work is to explore
 unfoldable pub heads : List Item → List Pair
@@ -167,30 +171,38 @@ module _ (edges : Pair → List Pair) (target : Pair → Bool) (capture : Pair �
   AnswerBehind-drop left (b ∷ before) after m n old work slots current g (inr h) =
       elim (AnswerBehind-drop left before after m n old work slots current g h.1) [ inl e ↦ inl e | inr k ↦ inr (inr (h.0, k)) ]
 
-module _ (nfa : Automaton) (x : Search) (wants : Pair → Bool) (tells : (v : Pair) → (wants v ≡ true) ↔ IsPermitted nfa x v) where
+-- The set before is `old`: wanted is what it has room for.
+module _ (nfa : Automaton) (x : Search) (old : List Bool) (wants : Pair → Bool) (tells : (v : Pair) → (wants v ≡ true) ↔ IsHeld nfa x (length old) v) where
   -- what the search goes over
   pub wanted-shape : Scanned (edges nfa x) (capture nfa) (starts nfa x) (is_resting nfa) wants
-  wanted-shape = Scanned-matches nfa x wants (λ v w. ((tells v).0 w).matches)
+  wanted-shape = Scanned-matches nfa x wants (λ v w. ((tells v).0 w).permitted.matches)
 
-  -- an accepting path with a permitted end, by the test
-  wanted_at : (e : ℕ) (v : Pair) → WantedAt (Passes wants) e v → WantedAt (IsPermitted nfa x) e v
+  -- a match that counts, by the test
+  wanted_at : (e : ℕ) (v : Pair) → WantedAt (Passes wants) e v → WantedAt (IsHeld nfa x (length old)) e v
   wanted_at e v w = record { wanted = (tells v).0 w.wanted; at = w.at }
 
-  permitted_at : (e : ℕ) (v : Pair) → WantedAt (IsPermitted nfa x) e v → WantedAt (Passes wants) e v
-  permitted_at e v w = record { wanted = (tells v).1 w.wanted; at = w.at }
+  held_at : (e : ℕ) (v : Pair) → WantedAt (IsHeld nfa x (length old)) e v → WantedAt (Passes wants) e v
+  held_at e v w = record { wanted = (tells v).1 w.wanted; at = w.at }
+
+  permitted_at : (e : ℕ) (v : Pair) → WantedAt (Passes wants) e v → WantedAt (IsPermitted nfa x) e v
+  permitted_at e v w = record { wanted = ((tells v).0 w.wanted).permitted; at = w.at }
+
+  -- a permitted match counts where its pattern is below the capacity
+  counts : {k : ℕ} → k < length old → (v : Pair) → IsPermitted nfa x v → pattern_at nfa v ≡ Some k → wants v ≡ true
+  counts {k} less v may is = (tells v).1 (record { permitted = may; pattern = k; pattern_is = is; below = less })
 
   -- a pattern that is reached before e is one of an accepting path with a permitted end
   reached-sound : {e k : ℕ} → ReachedBefore (edges nfa x) (starts nfa x) wants (pattern_at nfa) e k → IsPatternOf nfa x (IsPermitted nfa x) k
-  reached-sound = IsReached-along (λ v w. (tells v).0 w.wanted)
+  reached-sound = IsReached-along (λ v w. ((tells v).0 w.wanted).permitted)
 
   -- The set of `All` at position e: it gained the patterns below its capacity that are reached before e.
-  pub record GainsBefore (e : ℕ) (old new : List Bool) : Type 0 where
+  pub record GainsBefore (e : ℕ) (new : List Bool) : Type 0 where
     pub capacity : length new ≡ length old
     pub gained : (k : ℕ) → HoldsPattern new k
         ↔ (HoldsPattern old k ⊎ ((k < length old) × ReachedBefore (edges nfa x) (starts nfa x) wants (pattern_at nfa) e k))
 
-  pub GainsBefore-start : (set : List Bool) → GainsBefore x.start set set
-  GainsBefore-start set = record {
+  pub GainsBefore-start : GainsBefore x.start old
+  GainsBefore-start = record {
     capacity = refl;
     gained = λ k. (
       λ h. inl h,
@@ -207,10 +219,10 @@ module _ (nfa : Automaton) (x : Search) (wants : Pair → Bool) (tells : (v : Pa
         ↔ (ReachedBefore (edges nfa x) (starts nfa x) wants (pattern_at nfa) e k ⊎ HoldsMatch wants (pattern_at nfa) k front)
     reached-step k = ReachedBefore-step (edges nfa x) (capture nfa) (starts nfa x) (is_resting nfa) wants slots wanted-shape (pattern_at nfa) k f
 
-    pub GainsBefore-step : {old mid new : List Bool} → GainsBefore e old mid → length new ≡ length mid
+    pub GainsBefore-step : {mid new : List Bool} → GainsBefore e mid → length new ≡ length mid
         → ((k : ℕ) → HoldsPattern new k ↔ (HoldsPattern mid k ⊎ ((k < length mid) × HoldsMatch wants (pattern_at nfa) k front)))
-        → GainsBefore (e + 1) old new
-    GainsBefore-step {old} {mid} {new} g size put = record {
+        → GainsBefore (e + 1) new
+    GainsBefore-step {mid} {new} g size put = record {
       capacity = size ∙ g.capacity;
       gained = λ k. (
         λ h.
@@ -231,9 +243,9 @@ module _ (nfa : Automaton) (x : Search) (wants : Pair → Bool) (tells : (v : Pa
     }
 
   -- where every path has ended it gained all
-  pub GainsBefore-end : {e : ℕ} {old new : List Bool} → GainsBefore e old new → EndsBefore (edges nfa x) (starts nfa x) wants e
+  pub GainsBefore-end : {e : ℕ} {new : List Bool} → GainsBefore e new → EndsBefore (edges nfa x) (starts nfa x) wants e
       → IsOverlapResult nfa x All false old new
-  GainsBefore-end {e} {old} {new} g ends = record {
+  GainsBefore-end {e} {new} g ends = record {
     capacity = g.capacity;
     keeps = λ k h. (g.gained k).1 (inl h);
     sound = λ k h. elim ((g.gained k).0 h) [ inl o ↦ inl o | inr w ↦ inr (w.0, reached-sound w.1) ];
@@ -248,7 +260,7 @@ module _ (nfa : Automaton) (x : Search) (wants : Pair → Bool) (tells : (v : Pa
                   (inr (
                     w.0,
                     (ReachedBefore-end (edges nfa x) (capture nfa) (starts nfa x) (is_resting nfa) wants [] wanted-shape (pattern_at nfa) k ends).1
-                        (IsReached-along (λ v p. (tells v).1 p) w.1),
+                        (record { end = w.1.end; along = w.1.along; path = w.1.path; wanted = counts w.0 w.1.end w.1.wanted w.1.pattern_is; pattern_is = w.1.pattern_is }),
                   ))
             ],
       );
@@ -256,8 +268,8 @@ module _ (nfa : Automaton) (x : Search) (wants : Pair → Bool) (tells : (v : Pa
   }
 
   -- a full set gains no more
-  pub GainsBefore-full : {e : ℕ} {old new : List Bool} → GainsBefore e old new → size_of_set new ≡ length new → IsOverlapResult nfa x All false old new
-  GainsBefore-full {e} {old} {new} g full = record {
+  pub GainsBefore-full : {e : ℕ} {new : List Bool} → GainsBefore e new → size_of_set new ≡ length new → IsOverlapResult nfa x All false old new
+  GainsBefore-full {e} {new} g full = record {
     capacity = g.capacity;
     keeps = λ k h. (g.gained k).1 (inl h);
     sound = λ k h. elim ((g.gained k).0 h) [ inl o ↦ inl o | inr w ↦ inr (w.0, reached-sound w.1) ];
@@ -269,68 +281,76 @@ module _ (nfa : Automaton) (x : Search) (wants : Pair → Bool) (tells : (v : Pa
     };
   }
 
-  -- no pattern below n is reached before e
-  pub record NoneHeld (e n : ℕ) : Type 0 where
-    pub none : (k : ℕ) → k < n → ReachedBefore (edges nfa x) (starts nfa x) wants (pattern_at nfa) e k → ⊥
+  -- no pattern below the capacity is reached before e
+  pub record NoneHeld (e : ℕ) : Type 0 where
+    pub none : (k : ℕ) → k < length old → ReachedBefore (edges nfa x) (starts nfa x) wants (pattern_at nfa) e k → ⊥
 
-  pub NoneHeld-start : (n : ℕ) → NoneHeld x.start n
-  NoneHeld-start n = record {
+  pub NoneHeld-start : NoneHeld x.start
+  NoneHeld-start = record {
     none = λ k less r. ReachedBefore-start (edges nfa x) (capture nfa) (starts nfa x) (is_resting nfa) wants [] wanted-shape (pattern_at nfa) k x.start (starts-from nfa x) r;
   }
 
   module _ {slots : Slots} {turns e : ℕ} {front : List (Pair × Slots)} (f : IsFront (edges nfa x) (capture nfa) (starts nfa x) (is_resting nfa) wants slots turns front e) where
-    pub NoneHeld-step : {n : ℕ} → NoneHeld e n → ((k : ℕ) → k < n → HoldsMatch wants (pattern_at nfa) k front → ⊥) → NoneHeld (e + 1) n
+    pub NoneHeld-step : NoneHeld e → ((k : ℕ) → k < length old → HoldsMatch wants (pattern_at nfa) k front → ⊥) → NoneHeld (e + 1)
     NoneHeld-step none plain = record {
       none = λ k less r. elim ((reached-step f k).0 r) [ inl before ↦ none.none k less before | inr here ↦ plain k less here ];
     }
 
     -- what is reached at e, by the front
-    reached-here : (k : ℕ) → IsPatternOf nfa x (WantedAt (IsPermitted nfa x) e) k ↔ HoldsMatch wants (pattern_at nfa) k front
-    reached-here k =
-        let at = IsReached-at (edges nfa x) (capture nfa) (starts nfa x) (is_resting nfa) wants slots wanted-shape (pattern_at nfa) k f in
-        (λ r. at.0 (IsReached-along (permitted_at e) r), λ h. IsReached-along (wanted_at e) (at.1 h))
+    reached-here : (k : ℕ) → k < length old → IsPatternOf nfa x (WantedAt (IsPermitted nfa x) e) k ↔ HoldsMatch wants (pattern_at nfa) k front
+    reached-here k less =
+        let at = IsReached-at (edges nfa x) (capture nfa) (starts nfa x) (is_resting nfa) wants slots wanted-shape (pattern_at nfa) k f in (
+          λ r. at.0 (record {
+            end = r.end;
+            along = r.along;
+            path = r.path;
+            wanted = record { wanted = counts less r.end r.wanted.wanted r.pattern_is; at = r.wanted.at };
+            pattern_is = r.pattern_is;
+          }),
+          λ h. IsReached-along (permitted_at e) (at.1 h),
+        )
 
     -- the first front with a match of a pattern below the capacity stands at the least end
-    held-least : {n : ℕ} → NoneHeld e n → (k : ℕ) → k < n → HoldsMatch wants (pattern_at nfa) k front → IsLeastEnd (edges nfa x) (starts nfa x) (IsHeld nfa x n) e
+    held-least : NoneHeld e → (k : ℕ) → k < length old → HoldsMatch wants (pattern_at nfa) k front
+        → IsLeastEnd (edges nfa x) (starts nfa x) (IsHeld nfa x (length old)) e
     held-least none k less here =
-        let r = (reached-here k).1 here in
+        let r = (reached-here k less).1 here in
         record {
           is_end = record { end = r.end; along = r.along; path = r.path; wanted = record { permitted = r.wanted.wanted; pattern = k; pattern_is = r.pattern_is; below = less }; at = r.wanted.at };
           least = λ m p w h.
               elim (cases_lt m.1 e) [
                 | inl before ↦
                     absurd (none.none h.pattern h.below
-                    (record { end = m; along = p; path = w; wanted = record { wanted = (tells m).1 h.permitted; before = before }; pattern_is = h.pattern_is }))
+                    (record { end = m; along = p; path = w; wanted = record { wanted = (tells m).1 h; before = before }; pattern_is = h.pattern_is }))
                 | inr more ↦ more
               ];
         }
 
-    pub NoneHeld-found : {old new : List Bool} → NoneHeld e (length old) → (k : ℕ) → k < length old → HoldsMatch wants (pattern_at nfa) k front
+    pub NoneHeld-found : {new : List Bool} → NoneHeld e → (k : ℕ) → k < length old → HoldsMatch wants (pattern_at nfa) k front
         → length new ≡ length old
         → ((j : ℕ) → HoldsPattern new j ↔ (HoldsPattern old j ⊎ ((j < length old) × HoldsMatch wants (pattern_at nfa) j front)))
         → IsOverlapResult nfa x All true old new
-    NoneHeld-found {old} {new} none k less here size put = record {
+    NoneHeld-found {new} none k less here size put = record {
       capacity = size;
       keeps = λ j h. (put j).1 (inl h);
-      sound = λ j h. elim ((put j).0 h) [ inl o ↦ inl o | inr w ↦ inr (w.0, IsReached-along (λ v p. p.wanted) ((reached-here j).1 w.1)) ];
+      sound = λ j h. elim ((put j).0 h) [ inl o ↦ inl o | inr w ↦ inr (w.0, IsReached-along (λ v p. p.wanted) ((reached-here j w.0).1 w.1)) ];
       gains = record {
         gained = λ j. (
-          λ h. elim ((put j).0 h) [ inl o ↦ inl o | inr w ↦ inr (w.0, (e, held-least none k less here, (reached-here j).1 w.1)) ],
+          λ h. elim ((put j).0 h) [ inl o ↦ inl o | inr w ↦ inr (w.0, (e, held-least none k less here, (reached-here j w.0).1 w.1)) ],
           λ s.
               elim s [
                 | inl o ↦ (put j).1 (inl o)
                 | inr w ↦
                     let same : w.1.0 ≡ e = IsLeastEnd-unique (edges nfa x) (starts nfa x) (IsHeld nfa x (length old)) w.1.0 e w.1.1 (held-least none k less here) in
-                    (put j).1 (inr (w.0, (reached-here j).0 (subst (λ d. IsPatternOf nfa x (WantedAt (IsPermitted nfa x) d) j) same w.1.2)))
+                    (put j).1 (inr (w.0, (reached-here j w.0).0 (subst (λ d. IsPatternOf nfa x (WantedAt (IsPermitted nfa x) d) j) same w.1.2)))
               ],
         );
       };
     }
 
   -- where every path has ended nothing is gained
-  pub NoneHeld-end : {e : ℕ} {set : List Bool} → NoneHeld e (length set) → EndsBefore (edges nfa x) (starts nfa x) wants e
-      → IsOverlapResult nfa x All true set set
-  NoneHeld-end {e} {set} none ends = record {
+  pub NoneHeld-end : {e : ℕ} → NoneHeld e → EndsBefore (edges nfa x) (starts nfa x) wants e → IsOverlapResult nfa x All true old old
+  NoneHeld-end {e} none ends = record {
     capacity = refl;
     keeps = λ k h. h;
     sound = λ k h. inl h;
@@ -346,7 +366,7 @@ module _ (nfa : Automaton) (x : Search) (wants : Pair → Bool) (tells : (v : Pa
                     end = i.end;
                     along = i.along;
                     path = i.path;
-                    wanted = record { wanted = (tells i.end).1 i.wanted.permitted; before = ends i.end i.along i.path ((tells i.end).1 i.wanted.permitted) };
+                    wanted = record { wanted = (tells i.end).1 i.wanted; before = ends i.end i.along i.path ((tells i.end).1 i.wanted) };
                     pattern_is = i.wanted.pattern_is;
                   }))
             ],
@@ -357,37 +377,44 @@ module _ (nfa : Automaton) (x : Search) (wants : Pair → Bool) (tells : (v : Pa
   -- no accepting path has a permitted end
 
   module _ (none : NoPath (edges nfa x) (starts nfa x) (Passes wants)) where
-    never_permitted : NoPath (edges nfa x) (starts nfa x) (IsPermitted nfa x)
-    never_permitted m p w h = none m p w ((tells m).1 h)
+    never_held : NoPath (edges nfa x) (starts nfa x) (IsHeld nfa x (length old))
+    never_held m p w h = none m p w ((tells m).1 h)
 
-    pub All-none : (earliest : Bool) (set : List Bool) → IsOverlapResult nfa x All earliest set set
-    All-none earliest set = record {
+    pub All-none : (earliest : Bool) → IsOverlapResult nfa x All earliest old old
+    All-none earliest = record {
       capacity = refl;
       keeps = λ k h. h;
       sound = λ k h. inl h;
       gains = of earliest;
     }
       where
-        of : (b : Bool) → GainsAll nfa x b set set
-        of false = record { gained = λ k. (λ h. inl h, λ s. elim s [ inl o ↦ o | inr w ↦ absurd (never_permitted w.1.end w.1.along w.1.path w.1.wanted) ]) }
-        of true = record { gained = λ k. (λ h. inl h, λ s. elim s [ inl o ↦ o | inr w ↦ absurd (never_permitted w.1.2.end w.1.2.along w.1.2.path w.1.2.wanted.wanted) ]) }
+        of : (b : Bool) → GainsAll nfa x b old old
+        of false = record {
+          gained = λ k. (λ h. inl h, λ s. elim s [ inl o ↦ o | inr w ↦ absurd (none w.1.end w.1.along w.1.path (counts w.0 w.1.end w.1.wanted w.1.pattern_is)) ]);
+        }
+        of true = record {
+          gained = λ k. (
+            λ h. inl h,
+            λ s. elim s [ inl o ↦ o | inr w ↦ let i = w.1.2 in absurd (none i.end i.along i.path (counts w.0 i.end i.wanted.wanted i.pattern_is)) ],
+          );
+        }
 
-    pub First-none : (earliest : Bool) (set : List Bool) → size_of_set set ≡ 0 → IsOverlapResult nfa x LeftmostFirst earliest set set
-    First-none earliest set empty = record {
+    pub First-none : (earliest : Bool) → size_of_set old ≡ 0 → IsOverlapResult nfa x LeftmostFirst earliest old old
+    First-none earliest empty = record {
       capacity = refl;
       keeps = λ k h. h;
       sound = λ k h. inl h;
       gains = record {
         full = λ some. refl;
-        empty = λ e room. record { path = None; meant = of earliest; holds = still earliest };
+        empty = λ e. record { path = None; meant = of earliest; holds = still earliest };
       };
     }
       where
-        of : (b : Bool) → IsMeantPath nfa x b None
-        of false = never_permitted
-        of true = never_permitted
+        of : (b : Bool) → IsMeantPath nfa x b (length old) None
+        of false = never_held
+        of true = never_held
 
-        still : (b : Bool) → HoldsPath nfa x b None set
+        still : (b : Bool) → HoldsPath nfa x b None old
         still false = empty
         still true = empty
 
@@ -397,7 +424,7 @@ module _ (nfa : Automaton) (x : Search) (wants : Pair → Bool) (tells : (v : Pa
     capacity = refl;
     keeps = λ k h. h;
     sound = λ k h. inl h;
-    gains = record { full = λ h. refl; empty = λ e room. absurd (omega arith) };
+    gains = record { full = λ h. refl; empty = λ e. absurd (omega arith) };
   }
 
   -- the first wanted pair of a front
@@ -524,10 +551,10 @@ module _ (nfa : Automaton) (x : Search) (wants : Pair → Bool) (tells : (v : Pa
       In-middle (b ∷ before) a later = inr (In-middle before a later)
 
   -- the first front with a wanted pair: its first has the pattern of the earliest path
-  pub FirstAt-found : ArePatternsWithin nfa → {e k : ℕ} {a : Pair × Slots} {old new : List Bool} → NoneBefore (edges nfa x) (starts nfa x) wants e → FirstAt e a
+  pub FirstAt-found : {e k : ℕ} {a : Pair × Slots} {new : List Bool} → NoneBefore (edges nfa x) (starts nfa x) wants e → FirstAt e a
       → pattern_at nfa a.0 ≡ Some k → size_of_set old ≡ 0 → new ≡ with_pattern old k → IsOverlapResult nfa x LeftmostFirst true old new
-  FirstAt-found within {e} {k} {a} {old} {new} none f pattern_is empty put =
-      let w : WantedAt (IsPermitted nfa x) e f.first.end = wanted_at e f.first.end f.first.wanted in
+  FirstAt-found {e} {k} {a} {new} none f pattern_is empty put =
+      let w : WantedAt (IsHeld nfa x (length old)) e f.first.end = wanted_at e f.first.end f.first.wanted in
       let at_end : pattern_at nfa f.first.end ≡ Some k = rw f.is pattern_is in
       let only : (j : ℕ) → HoldsPattern new j → (j < length old) × (k ≡ j) =
       λ j h. elim ((holds-with old k j).0 (rw put at h)) [ inl o ↦ absurd (size-none old empty j o) | inr b ↦ b ] in
@@ -537,11 +564,11 @@ module _ (nfa : Automaton) (x : Search) (wants : Pair → Bool) (tells : (v : Pa
         sound = λ j h.
             inr (
               (only j h).0,
-              record { end = f.first.end; along = f.path; path = f.first.path; wanted = w.wanted; pattern_is = rw (← (only j h).1) at_end },
+              record { end = f.first.end; along = f.path; path = f.first.path; wanted = w.wanted.permitted; pattern_is = rw (← (only j h).1) at_end },
             );
         gains = record {
           full = λ some. absurd (omega arith);
-          empty = λ no room. record {
+          empty = λ no. record {
             path = Some f.path;
             meant = (
               e,
@@ -549,7 +576,7 @@ module _ (nfa : Automaton) (x : Search) (wants : Pair → Bool) (tells : (v : Pa
                 is_end = record { end = f.first.end; along = f.path; path = f.first.path; wanted = w.wanted; at = w.at };
                 least = λ m p v h. elim (cases_lt m.1 e) [ inl less ↦ absurd (none m p v (record { wanted = (tells m).1 h; before = less })) | inr more ↦ more ];
               },
-              IsFirstTo-along (edges nfa x) (starts nfa x) (WantedAt (Passes wants) e) (WantedAt (IsPermitted nfa x) e) (wanted_at e) (permitted_at e) f.first,
+              IsFirstTo-along (edges nfa x) (starts nfa x) (WantedAt (Passes wants) e) (WantedAt (IsHeld nfa x (length old)) e) (wanted_at e) (held_at e) f.first,
             );
             holds = record {
               end = f.first.end;
@@ -559,7 +586,7 @@ module _ (nfa : Automaton) (x : Search) (wants : Pair → Bool) (tells : (v : Pa
               holds = λ j. (
                 λ h. sym (only j h).1,
                 λ same_pattern.
-                    let below : k < length nfa.patterns = pattern-below nfa a.0 k within pattern_is in
+                    let below : k < length old = subst (λ n. n < length old) (same_number w.wanted.pattern k (sym w.wanted.pattern_is ∙ at_end)) w.wanted.below in
                     rw put ((holds-with old k j).1 (inr (let l : j < length old = omega arith in l, sym same_pattern))),
               );
             };
@@ -632,19 +659,19 @@ module _ (nfa : Automaton) (x : Search) (wants : Pair → Bool) (tells : (v : Pa
         In-middle (b ∷ before) a later = inr (In-middle before a later)
 
     -- the next position, from a part of the front and some of what waits
-    module _ (kept : List (Pair × Slots)) (old : Slots) (waiting : List Item) (among : (b : Pair × Slots) → In b kept → In b front)
+    module _ (kept : List (Pair × Slots)) (loaded : Slots) (waiting : List Item) (among : (b : Pair × Slots) → In b kept → In b front)
         (comes : (k : Pair) → In (Explore k) waiting → e < k.1)
         (drops : (target : Pair → Bool) (marks : List Pair) (left : ℕ) (g : Found)
-        → AnswerBehind (edges nfa x) target (capture nfa) left kept None marks (Load old ∷ waiting) written g
+        → AnswerBehind (edges nfa x) target (capture nfa) left kept None marks (Load loaded ∷ waiting) written g
         → (g ≡ None) ⊎ AnswerBehind (edges nfa x) target (capture nfa) left front None marks work written g) where
-      Sound-next : Sound (e + 1) (heads (round (edges nfa x) kept (Load old ∷ waiting)))
+      Sound-next : Sound (e + 1) (heads (round (edges nfa x) kept (Load loaded ∷ waiting)))
       Sound-next = record {
         reaches = λ target at left slots g a.
-            let other = heads-Answer (edges nfa x) target (capture nfa) left [] (round (edges nfa x) kept (Load old ∷ waiting)) [] slots g a in
+            let other = heads-Answer (edges nfa x) target (capture nfa) left [] (round (edges nfa x) kept (Load loaded ∷ waiting)) [] slots g a in
             let lead = s.leads target (λ v t. (at v t).0) in
             let behind = AnswerBehind-round (edges nfa x) target (capture nfa) (λ v. e < v.1)
             (λ v y ahead i. let k : v.1 ≤ y.1 = edges-onward nfa x v y i in let l : e < v.1 = ahead in omega arith)
-            left kept None lead.0 waiting written old [] other.0
+            left kept None lead.0 waiting written loaded [] other.0
             (λ b i.
             let r = rests_at b (among b i) in (
               is_false (target b.0) (λ t. let k : e + 1 ≤ b.0.1 = (at b.0 t).1 in let l : b.0.1 ≡ e = r.1 in omega arith),
@@ -665,24 +692,24 @@ module _ (nfa : Automaton) (x : Search) (wants : Pair → Bool) (tells : (v : Pa
       }
 
   -- nothing is dropped
-  pub Sound-round : {e : ℕ} {pairs : List Pair} {front : List (Pair × Slots)} {written old : Slots} {waiting : List Item}
-      → Sound e pairs → Searched e pairs front (Load old ∷ waiting) written
+  pub Sound-round : {e : ℕ} {pairs : List Pair} {front : List (Pair × Slots)} {written loaded : Slots} {waiting : List Item}
+      → Sound e pairs → Searched e pairs front (Load loaded ∷ waiting) written
       → ((b : Pair × Slots) → In b front → (is_resting nfa b.0 ≡ true) × (b.0.1 ≡ e)) → ((k : Pair) → In (Explore k) waiting → e < k.1)
-      → Sound (e + 1) (heads (round (edges nfa x) front (Load old ∷ waiting)))
-  Sound-round {front = front} {old = old} {waiting = waiting} sound s rests_at comes =
-      Sound-next sound s rests_at front old waiting (λ b i. i) comes (λ target marks left g h. inr h)
+      → Sound (e + 1) (heads (round (edges nfa x) front (Load loaded ∷ waiting)))
+  Sound-round {front = front} {loaded = loaded} {waiting = waiting} sound s rests_at comes =
+      Sound-next sound s rests_at front loaded waiting (λ b i. i) comes (λ target marks left g h. inr h)
 
   -- what is behind the first wanted pair is dropped
-  pub Sound-cut : {e : ℕ} {pairs : List Pair} {front : List (Pair × Slots)} {work : List Item} {written : Slots} (old : Slots)
+  pub Sound-cut : {e : ℕ} {pairs : List Pair} {front : List (Pair × Slots)} {work : List Item} {written : Slots} (loaded : Slots)
       → Sound e pairs → Searched e pairs front work written
       → ((b : Pair × Slots) → In b front → (is_resting nfa b.0 ≡ true) × (b.0.1 ≡ e))
-      → Sound (e + 1) (heads (round (edges nfa x) (before_match wants front) (Load old ∷ [])))
-  Sound-cut {front = front} {work} {written} old sound s rests_at =
+      → Sound (e + 1) (heads (round (edges nfa x) (before_match wants front) (Load loaded ∷ [])))
+  Sound-cut {front = front} {work} {written} loaded sound s rests_at =
       let cut = before_match-split front in
-      Sound-next sound s rests_at (before_match wants front) old [] (λ b i. rw cut.1 (In-append_left b (before_match wants front) cut.0 i))
+      Sound-next sound s rests_at (before_match wants front) loaded [] (λ b i. rw cut.1 (In-append_left b (before_match wants front) cut.0 i))
       (λ k i. absurd i)
       (λ target marks left g h.
-      rw cut.1 (AnswerBehind-drop (edges nfa x) target (capture nfa) left (before_match wants front) cut.0 marks marks old work written written g h))
+      rw cut.1 (AnswerBehind-drop (edges nfa x) target (capture nfa) left (before_match wants front) cut.0 marks marks loaded work written written g h))
     where
       before_match-split : (front : List (Pair × Slots)) → (after : List (Pair × Slots)) × (front ≡ before_match wants front ++ after)
       before_match-split [] = ([], refl)
@@ -697,7 +724,7 @@ module _ (nfa : Automaton) (x : Search) (wants : Pair → Bool) (tells : (v : Pa
       In-append_left b (c ∷ xs) ys i = elim i [ inl h ↦ inl h | inr j ↦ inr (In-append_left b xs ys j) ]
 
   -- The set of LeftmostFirst after a match that dropped what is behind it: it holds its pattern, and else only those of ends before it.
-  pub record UpToMatch (e : ℕ) (v : Pair) (old new : List Bool) : Type 0 where
+  pub record UpToMatch (e : ℕ) (v : Pair) (new : List Bool) : Type 0 where
     pub capacity : length new ≡ length old
     pub pattern : ℕ
     pub pattern_is : pattern_at nfa v ≡ Some pattern
@@ -709,13 +736,13 @@ module _ (nfa : Automaton) (x : Search) (wants : Pair → Bool) (tells : (v : Pa
     pub others : (k : ℕ) → HoldsPattern new k → (k ≡ pattern) ⊎ IsPatternOf nfa x (WantedBefore (IsPermitted nfa x) v.1) k
 
   -- the same, or that there was none yet
-  abbrev pub UpTo : ℕ → Found → List Bool → List Bool → Type 0
-  UpTo e None old new = new ≡ old
-  UpTo e (Some a) old new = UpToMatch e a.0 old new
+  abbrev pub UpTo : ℕ → Found → List Bool → Type 0
+  UpTo e None new = new ≡ old
+  UpTo e (Some a) new = UpToMatch e a.0 new
 
-  pub UpTo-next : (e : ℕ) (g : Found) (old new : List Bool) → UpTo e g old new → UpTo (e + 1) g old new
-  UpTo-next e None old new h = h
-  UpTo-next e (Some a) old new h = record {
+  pub UpTo-next : (e : ℕ) (g : Found) (new : List Bool) → UpTo e g new → UpTo (e + 1) g new
+  UpTo-next e None new h = h
+  UpTo-next e (Some a) new h = record {
     capacity = h.capacity;
     pattern = h.pattern;
     pattern_is = h.pattern_is;
@@ -728,10 +755,10 @@ module _ (nfa : Automaton) (x : Search) (wants : Pair → Bool) (tells : (v : Pa
   }
 
   -- one more match
-  pub UpTo-match : (e : ℕ) {k : ℕ} (g : Found) (a : Pair × Slots) (old mid new : List Bool) → size_of_set old ≡ 0 → UpTo e g old mid
+  pub UpTo-match : (e : ℕ) {k : ℕ} (g : Found) (a : Pair × Slots) (mid new : List Bool) → size_of_set old ≡ 0 → UpTo e g mid
       → (p : List Pair) × PathTo (edges nfa x) (starts nfa x) a.0 p × (wants a.0 ≡ true) × (a.0.1 ≡ e)
-      → pattern_at nfa a.0 ≡ Some k → new ≡ with_pattern mid k → UpTo (e + 1) (Some a) old new
-  UpTo-match e {k} g a old mid new empty so_far hit is put =
+      → pattern_at nfa a.0 ≡ Some k → new ≡ with_pattern mid k → UpTo (e + 1) (Some a) new
+  UpTo-match e {k} g a mid new empty so_far hit is put =
       let at : a.0.1 ≡ e = hit.3 in
       let size : length mid ≡ length old = capacity g so_far in
       record {
@@ -750,11 +777,11 @@ module _ (nfa : Automaton) (x : Search) (wants : Pair → Bool) (tells : (v : Pa
             ];
       }
     where
-      capacity : (g : Found) → UpTo e g old mid → length mid ≡ length old
+      capacity : (g : Found) → UpTo e g mid → length mid ≡ length old
       capacity None same_set = ap (λ (l : List Bool). length l) same_set
       capacity (Some b) h = h.capacity
 
-      earlier : (g : Found) → UpTo e g old mid → (j : ℕ) → HoldsPattern mid j → IsPatternOf nfa x (WantedBefore (IsPermitted nfa x) e) j
+      earlier : (g : Found) → UpTo e g mid → (j : ℕ) → HoldsPattern mid j → IsPatternOf nfa x (WantedBefore (IsPermitted nfa x) e) j
       earlier None same_set j h = absurd (size-none old empty j (rw same_set at h))
       earlier (Some b) u j h =
           elim (u.others j h) [
@@ -762,23 +789,23 @@ module _ (nfa : Automaton) (x : Search) (wants : Pair → Bool) (tells : (v : Pa
               end = b.0;
               along = u.along;
               path = u.path;
-              wanted = record { wanted = (tells b.0).0 u.wanted; before = u.before };
+              wanted = record { wanted = ((tells b.0).0 u.wanted).permitted; before = u.before };
               pattern_is = rw same_pattern u.pattern_is;
             }
             | inr r ↦ IsReached-along (λ v w. record { wanted = w.wanted; before = let k : v.1 < b.0.1 = w.before in let l : b.0.1 < e = u.before in omega arith }) r
           ]
 
   -- what the search comes to in the end
-  pub UpTo-end : ArePatternsWithin nfa → (e turns : ℕ) (slots : Slots) (g : Found) (old new : List Bool) → size_of_set old ≡ 0 → UpTo e g old new
+  pub UpTo-end : (e turns : ℕ) (slots : Slots) (g : Found) (new : List Bool) → size_of_set old ≡ 0 → UpTo e g new
       → Answer (edges nfa x) wants (capture nfa) turns None [] (map Explore (starts nfa x)) slots g
       → IsOverlapResult nfa x LeftmostFirst false old new
-  UpTo-end within e turns slots g old new empty so_far answer =
+  UpTo-end e turns slots g new empty so_far answer =
       let h = IsFirstPath-found (edges nfa x) (capture nfa) (starts nfa x) (is_resting nfa) wants slots wanted-shape turns g answer in
       of g so_far h.path h.meant h.leads
     where
-      of : (g : Found) → UpTo e g old new → (o : Option (List Pair)) → IsFirstPath (edges nfa x) (starts nfa x) (Passes wants) o → found_along (capture nfa) o slots ≡ g
+      of : (g : Found) → UpTo e g new → (o : Option (List Pair)) → IsFirstPath (edges nfa x) (starts nfa x) (Passes wants) o → found_along (capture nfa) o slots ≡ g
           → IsOverlapResult nfa x LeftmostFirst false old new
-      of None same_set None none is = rw same_set (First-none none false old empty)
+      of None same_set None none is = rw same_set (First-none none false empty)
       of None same_set (Some p) first is =
           let end = found-end (capture nfa) first.end p slots first.path.ends in
           let never : Some (first.end, apply (capture nfa) p slots) ≡ None = sym end ∙ is in cc
@@ -786,7 +813,8 @@ module _ (nfa : Automaton) (x : Search) (wants : Pair → Bool) (tells : (v : Pa
       of (Some a) u (Some p) first is =
           let end = found-end (capture nfa) first.end p slots first.path.ends in
           let here : first.end ≡ a.0 = (same_parts (first.end, apply (capture nfa) p slots) a (sym end ∙ is)).0 in
-          let below : u.pattern < length nfa.patterns = pattern-below nfa a.0 u.pattern within u.pattern_is in
+          let held : IsHeld nfa x (length old) a.0 = (tells a.0).0 u.wanted in
+          let below : u.pattern < length old = subst (λ n. n < length old) (same_number held.pattern u.pattern (sym held.pattern_is ∙ u.pattern_is)) held.below in
           let at : pattern_at nfa first.end ≡ Some u.pattern = rw here u.pattern_is in
           record {
             capacity = u.capacity;
@@ -798,21 +826,21 @@ module _ (nfa : Automaton) (x : Search) (wants : Pair → Bool) (tells : (v : Pa
                   omega arith,
                   elim (u.others j h) [
                     | inl same_pattern ↦
-                        record { end = a.0; along = u.along; path = u.path; wanted = (tells a.0).0 u.wanted; pattern_is = rw same_pattern u.pattern_is }
+                        record { end = a.0; along = u.along; path = u.path; wanted = held.permitted; pattern_is = rw same_pattern u.pattern_is }
                     | inr r ↦ IsReached-along (λ v w. w.wanted) r
                   ],
                 );
             gains = record {
               full = λ some. absurd (omega arith);
-              empty = λ no room. record {
+              empty = λ no. record {
                 path = Some p;
-                meant = IsFirstTo-along (edges nfa x) (starts nfa x) (Passes wants) (IsPermitted nfa x) (λ v. (tells v).0) (λ v. (tells v).1) first;
+                meant = IsFirstTo-along (edges nfa x) (starts nfa x) (Passes wants) (IsHeld nfa x (length old)) (λ v. (tells v).0) (λ v. (tells v).1) first;
                 holds = record {
                   end = first.end;
                   ends = EndsWith-last None first.end p first.path.ends;
                   pattern = u.pattern;
                   pattern_is = at;
-                  holds = u.holds (omega arith);
+                  holds = u.holds below;
                   others = λ j h. rw here (u.others j h);
                 };
               };

@@ -1,5 +1,5 @@
 -- What a search for the patterns of all matches, also of those that overlap, puts into a set of patterns.
-use Rattle.std.specs.Prelude.{◌≡◌, ◌↔◌, ◌⊎◌, ℕ, ◌<◌, ◌≤◌, Bool, true, false, List, length, Option, Some, None, slice_index_or}
+use Rattle.std.specs.Prelude.{◌≡◌, ◌↔◌, ◌⊎◌, ℕ, ◌<◌, Bool, true, false, List, length, Option, Some, None, slice_index_or}
 use Rattle.regex_search_core.specs.Boundary.{IsBoundary}
 use Rattle.regex_search_core.specs.PatternSets.{size_of_set}
 use Rattle.regex_search_core.specs.Search.{Search}
@@ -39,13 +39,13 @@ module _ (nfa : Automaton) (x : Search) where
   abbrev pub IsPatternOf : (Pair → Type 0) → ℕ → Type 0
   IsPatternOf Wanted pattern = IsReached (edges nfa x) (starts nfa x) Wanted (pattern_at nfa) pattern
 
-  -- the first accepting path with a permitted end, or that there is none
-  abbrev pub IsFirstPermitted : Option (List Pair) → Type 0
-  IsFirstPermitted = IsFirstPath (edges nfa x) (starts nfa x) IsPermitted
+  -- the first accepting path with a permitted end, of a pattern below the capacity, or that there is none
+  abbrev pub IsFirstHeld : ℕ → Option (List Pair) → Type 0
+  IsFirstHeld capacity = IsFirstPath (edges nfa x) (starts nfa x) (IsHeld capacity)
 
-  -- of the accepting paths with the least permitted end the first, or that there is none
-  abbrev pub IsEarliestPermitted : Option (List Pair) → Type 0
-  IsEarliestPermitted = IsEarliestPath (edges nfa x) (starts nfa x) IsPermitted
+  -- of such paths with the least end the first, or that there is none
+  abbrev pub IsEarliestHeld : ℕ → Option (List Pair) → Type 0
+  IsEarliestHeld capacity = IsEarliestPath (edges nfa x) (starts nfa x) (IsHeld capacity)
 
   -- The pattern is meant by `All`: some accepting path of it has a permitted end. With `earliest` that end is the least one of
   -- those of all patterns below the capacity.
@@ -76,15 +76,16 @@ module _ (nfa : Automaton) (x : Search) where
   HoldsPath false (Some path) set = HoldsUpTo path set
   HoldsPath true (Some path) set = HoldsOnly path set
 
-  -- the path that is meant by `LeftmostFirst`
-  abbrev pub IsMeantPath : Bool → Option (List Pair) → Type 0
-  IsMeantPath false path = IsFirstPermitted path
-  IsMeantPath true path = IsEarliestPermitted path
+  -- The path that is meant by `LeftmostFirst`. Matches of patterns at or above the capacity do not count: with room for each
+  -- pattern of the NFA those are none.
+  abbrev pub IsMeantPath : Bool → ℕ → Option (List Pair) → Type 0
+  IsMeantPath false capacity path = IsFirstHeld capacity path
+  IsMeantPath true capacity path = IsEarliestHeld capacity path
 
-  -- what `LeftmostFirst` makes of the empty set
-  pub record HoldsMeant (earliest : Bool) (set : List Bool) : Type 0 where
+  -- what `LeftmostFirst` makes of the empty set of this capacity
+  pub record HoldsMeant (earliest : Bool) (capacity : ℕ) (set : List Bool) : Type 0 where
     pub path : Option (List Pair)
-    pub meant : IsMeantPath earliest path
+    pub meant : IsMeantPath earliest capacity path
     pub holds : HoldsPath earliest path set
 
   -- what the set gains
@@ -94,8 +95,7 @@ module _ (nfa : Automaton) (x : Search) where
   pub record GainsFirst (earliest : Bool) (old new : List Bool) : Type 0 where
     -- a set that holds a pattern gains none
     pub full : 0 < size_of_set old → new ≡ old
-    -- with no room for each pattern it is open which of them the empty set gains
-    pub empty : size_of_set old ≡ 0 → length nfa.patterns ≤ length old → HoldsMeant earliest new
+    pub empty : size_of_set old ≡ 0 → HoldsMeant earliest (length old) new
 
   -- what it gains by the kind
   abbrev pub Gains : MatchKind → Bool → List Bool → List Bool → Type 0

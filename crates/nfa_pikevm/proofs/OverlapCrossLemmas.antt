@@ -12,7 +12,7 @@ use Rattle.nfa_paths.specs.Kinds.{before_match}
 use Rattle.nfa_pikevm.specs.Rows.{Met, Active, items_of}
 use Rattle.nfa_pikevm.specs.States.{Front, moves, tasks, unmarked, Formed, Paid, Follows, Leads}
 use Rattle.nfa_pikevm.specs.Overlapping.{wants, Gathers, GoesPast, rowless, ArrivesInSet, CrossesInSet}
-use Rattle.nfa_pikevm.proofs.OverlapSetLemmas.{Gathers-none, Gathers-then, before-then}
+use Rattle.nfa_pikevm.proofs.OverlapSetLemmas.{Gathers-none, Gathers-then, Gathers-capacity, before-then}
 use Rattle.nfa_pikevm.proofs.RowLemmas.{active_of}
 use Rattle.nfa_pikevm.proofs.OverlapTurnLemmas.{moves-append, follows-then, follows-none, follows-load, follows-any}
 
@@ -46,13 +46,13 @@ tasks-load : (at : ℕ) (items : List (ℕ × Slots)) (old : Slots) (waiting : L
 tasks-load at [] old waiting = record { slots = old; rest = waiting; is = refl }
 tasks-load at (i ∷ items) old waiting = record { slots = i.1; rest = ToExplore (i.0, at) ∷ tasks at items (ToLoad old ∷ waiting); is = refl }
 
-module _ (nfa : Automaton) (x : Search) (at : ℕ) where
+module _ (nfa : Automaton) (x : Search) (at n : ℕ) where
   -- the position so far: some items are left
   pub record Crossing (past : Bool) (met : Met) (items left : List (ℕ × Slots)) (set : List Bool) (hit : Bool) (after : Met) (kept : List (ℕ × Slots)) (gathered : List Bool) : Type 0 where
     pub front : Front
     pub added : kept ≡ moves (edges nfa x) front
-    pub gathers : Gathers nfa past (wants nfa x) front set hit gathered
-    pub cut : past ≡ false → moves (edges nfa x) (before_match (wants nfa x) front) ≡ moves (edges nfa x) front
+    pub gathers : Gathers nfa past (wants nfa x n) front set hit gathered
+    pub cut : past ≡ false → moves (edges nfa x) (before_match (wants nfa x n) front) ≡ moves (edges nfa x) front
     pub formed : Formed nfa at after.bits front
     pub follows : (old : Slots) (waiting : List Item)
         → Follows nfa x at met [] (tasks at items (ToLoad old ∷ waiting)) [] after front (tasks at left (ToLoad old ∷ waiting)) []
@@ -62,7 +62,7 @@ module _ (nfa : Automaton) (x : Search) (at : ℕ) where
   Crossing-start past met items set kept none = record {
     front = [];
     added = none;
-    gathers = Gathers-none nfa (wants nfa x) past [] set (λ b i t. i);
+    gathers = Gathers-none nfa (wants nfa x n) past [] set (λ b i t. i);
     cut = λ off. refl;
     formed = record {
       here = All-nil _;
@@ -76,20 +76,26 @@ module _ (nfa : Automaton) (x : Search) (at : ℕ) where
 
   module _ (past : Bool) (met : Met) (items : List (ℕ × Slots)) (s : ℕ) (left : List (ℕ × Slots)) (set : List Bool) (hit : Bool) (middle : Met) (kept : List (ℕ × Slots)) (mid : List Bool)
       (now : Bool) (after : Met) (more : List (ℕ × Slots)) (gathered : List Bool) (whole : List (ℕ × Slots)) (next : whole ≡ (s, []) ∷ left)
-      (off : past ≡ false → hit ≡ false)
-      (a : Crossing past met items whole set hit middle kept mid) (b : ArrivesInSet nfa x at past s middle kept mid now after more gathered) where
+      (off : past ≡ false → hit ≡ false) (size : length set ≡ n)
+      (a : Crossing past met items whole set hit middle kept mid) (c : ArrivesInSet nfa x at past (length mid) s middle kept mid now after more gathered) where
+    -- what comes of the state, in terms of the capacity of the set before
+    b : ArrivesInSet nfa x at past n s middle kept mid now after more gathered
+    b =
+        let same : length mid ≡ n = Gathers-capacity nfa (wants nfa x n) past a.front set hit mid a.gathers ∙ size in
+        subst (λ m. ArrivesInSet nfa x at past m s middle kept mid now after more gathered) same c
+
     both_added : more ≡ moves (edges nfa x) (a.front ++ b.front)
     both_added = b.added ∙ ap (λ l. l ++ moves (edges nfa x) b.front) a.added ∙ sym (moves-append (edges nfa x) a.front b.front)
 
-    both_gather : Gathers nfa past (wants nfa x) (a.front ++ b.front) set (now || hit) gathered
-    both_gather = Gathers-then nfa (wants nfa x) past a.front b.front set mid gathered hit now off a.gathers b.gathers
+    both_gather : Gathers nfa past (wants nfa x n) (a.front ++ b.front) set (now || hit) gathered
+    both_gather = Gathers-then nfa (wants nfa x n) past a.front b.front set mid gathered hit now off a.gathers b.gathers
 
-    both_cut : past ≡ false → moves (edges nfa x) (before_match (wants nfa x) (a.front ++ b.front)) ≡ moves (edges nfa x) (a.front ++ b.front)
+    both_cut : past ≡ false → moves (edges nfa x) (before_match (wants nfa x n) (a.front ++ b.front)) ≡ moves (edges nfa x) (a.front ++ b.front)
     both_cut stops =
-        let first : Gathers nfa false (wants nfa x) a.front set false mid =
-        subst (λ h. Gathers nfa false (wants nfa x) a.front set h mid) (off stops) (subst (λ p. Gathers nfa p (wants nfa x) a.front set hit mid) stops a.gathers) in
-        rw (before-then nfa (wants nfa x) a.front b.front set mid first)
-        (moves-append (edges nfa x) a.front (before_match (wants nfa x) b.front)
+        let first : Gathers nfa false (wants nfa x n) a.front set false mid =
+        subst (λ h. Gathers nfa false (wants nfa x n) a.front set h mid) (off stops) (subst (λ p. Gathers nfa p (wants nfa x n) a.front set hit mid) stops a.gathers) in
+        rw (before-then nfa (wants nfa x n) a.front b.front set mid first)
+        (moves-append (edges nfa x) a.front (before_match (wants nfa x n) b.front)
         ∙ ap (λ l. moves (edges nfa x) a.front ++ l) (b.cut stops) ∙ sym (moves-append (edges nfa x) a.front b.front))
 
     -- the state's work, behind that of the states before it
@@ -131,12 +137,12 @@ module _ (nfa : Automaton) (x : Search) (at : ℕ) where
 
     -- or it ends there
     pub Crossing-stop : past ≡ false → now ≡ true → All (λ i. i.1 ≡ []) items → unmarked met ≡ met → Paid nfa met 0 [] (length items) after (length more) [] 0
-        → CrossesInSet nfa x at past met items set true after more gathered
+        → CrossesInSet nfa x at past n met items set true after more gathered
     Crossing-stop stops met_it rows same paid = record {
       front = a.front ++ b.front;
       rows = rows;
       added = both_added;
-      gathers = subst (λ h. Gathers nfa past (wants nfa x) (a.front ++ b.front) set h gathered) (ap (λ h. h || hit) met_it) both_gather;
+      gathers = subst (λ h. Gathers nfa past (wants nfa x n) (a.front ++ b.front) set h gathered) (ap (λ h. h || hit) met_it) both_gather;
       cut = both_cut;
       formed = b.formed a.front a.formed;
       paid = rw same paid;
@@ -154,7 +160,7 @@ module _ (nfa : Automaton) (x : Search) (at : ℕ) where
   pub Crossing-end : (past : Bool) (met : Met) (items left : List (ℕ × Slots)) (set : List Bool) (hit : Bool) (after : Met) (kept : List (ℕ × Slots)) (gathered : List Bool)
       → Crossing past met items left set hit after kept gathered → left ≡ [] → All (λ i. i.1 ≡ []) items → unmarked met ≡ met
       → Paid nfa met 0 [] (length items) after (length kept) [] 0
-      → CrossesInSet nfa x at past met items set hit after kept gathered
+      → CrossesInSet nfa x at past n met items set hit after kept gathered
   Crossing-end past met items left set hit after kept gathered a none rows same paid = record {
     front = a.front;
     rows = rows;
@@ -198,11 +204,11 @@ rowless-all n (s ∷ states) h =
     (rowless-all n states (All-tail (λ (i : ℕ × Slots). i.0 < n) (s, []) (rowless states) h))
 
 -- the same from marks that were taken away
-pub crosses-cleared : (nfa : Automaton) (x : Search) (at : ℕ) (past : Bool) (met cleared : Met) (items whole : List (ℕ × Slots)) (set : List Bool) (hit : Bool) (after : Met)
+pub crosses-cleared : (nfa : Automaton) (x : Search) (at : ℕ) (past : Bool) (n : ℕ) (met cleared : Met) (items whole : List (ℕ × Slots)) (set : List Bool) (hit : Bool) (after : Met)
     (kept : List (ℕ × Slots)) (gathered : List Bool) → cleared ≡ unmarked met → whole ≡ items
-    → CrossesInSet nfa x at past cleared items set hit after kept gathered → CrossesInSet nfa x at past met whole set hit after kept gathered
-crosses-cleared nfa x at past met cleared items whole set hit after kept gathered clear same c =
-    let e : unmarked cleared ≡ unmarked met = ap unmarked clear ∙ ap (λ n. record met { bits = replicate n false }) (length-replicate (length met.bits) false) in
+    → CrossesInSet nfa x at past n cleared items set hit after kept gathered → CrossesInSet nfa x at past n met whole set hit after kept gathered
+crosses-cleared nfa x at past n met cleared items whole set hit after kept gathered clear same c =
+    let e : unmarked cleared ≡ unmarked met = ap unmarked clear ∙ ap (λ k. record met { bits = replicate k false }) (length-replicate (length met.bits) false) in
     rw same (record {
       front = c.front;
       rows = c.rows;

@@ -7,6 +7,7 @@ use Rattle.std.proofs.lemmas.List.Elements.{All-nil, All-push}
 use Rattle.std.proofs.Math.Nat.{mul-le-mul_right}
 use Rattle.regex_search_core.specs.PatternSets.{size_of_set}
 use Rattle.regex_search_core.specs.Search.{Search}
+use Rattle.regex_search_core.specs.declared.search.MatchKind.{MatchKind}
 use Rattle.regex_search_core.specs.declared.search.MatchKind.TheVariants.{All as AllMatches, LeftmostFirst}
 use Rattle.thompson_nfa.specs.Automaton.{Automaton, IsAutomaton}
 use Rattle.nfa_paths.specs.Graphs.{Pair}
@@ -17,7 +18,7 @@ use Rattle.nfa_paths.specs.Overlaps.{HoldsPattern, IsOverlapResult}
 use Rattle.nfa_paths.proofs.ScanAnswerLemmas.{EndsBefore-span, starts-from}
 use Rattle.nfa_paths.proofs.ScanLemmas.{NoneBefore-start, NoneBefore-step, NoneBefore-end}
 use Rattle.nfa_paths.proofs.KindsLemmas.{first_match-is}
-use Rattle.nfa_paths.proofs.OverlapLemmas.{wanted-shape, GainsBefore, GainsBefore-start, GainsBefore-step, GainsBefore-end, GainsBefore-full, NoneHeld, NoneHeld-start, NoneHeld-step, NoneHeld-found, NoneHeld-end, FirstAt-front, FirstAt-found, First-none}
+use Rattle.nfa_paths.proofs.OverlapLemmas.{wanted-shape, GainsBefore, GainsBefore-start, GainsBefore-step, GainsBefore-end, GainsBefore-full, NoneHeld, NoneHeld-start, NoneHeld-step, NoneHeld-found, NoneHeld-end, FirstAt-front, FirstAt-found, First-none, full-gains, first-gains}
 use Rattle.nfa_pikevm.specs.Rows.{Met, Active}
 use Rattle.nfa_pikevm.specs.Scans.{joined, HasThreads, Sizes, AreSized, AreStarts, AreAt, IsPaidAt, scan_turns}
 use Rattle.nfa_pikevm.specs.Overlapping.{wants, Gathers, GathersAll, GathersFirst, GoesPast, CrossesInSet}
@@ -164,167 +165,170 @@ sets-same old new size same = ext_get_or false new old size (λ k less. of (get_
     of false true f g = g refl
     of false false f g = refl
 
-module _ (nfa : Automaton) (x : Search) where
+-- Of a scan, `old` is the set as it began.
+module _ (nfa : Automaton) (x : Search) (old : List Bool) where
   -- the states and the turns at a position
   pub record Stands (from : Starts) (at before : ℕ) (met : Met) (items : List (ℕ × Slots)) : Type 0 where
     pub states : AreAt nfa items
     pub paid : IsPaidAt nfa x at before met.turns (length items)
-    pub scans : ScansAt nfa x at from.state from.limit met items
+    pub scans : ScansAt nfa x old at from.state from.limit met items
 
   pub Stands-start : (from : Starts) → AreStarts nfa x from → (met : Met) (items : List (ℕ × Slots)) → items ≡ [] → Stands from x.start met.turns met items
   Stands-start from are met items none = record {
     states = rw none (record { states = All-nil _; few = omega arith });
     paid = paid-start nfa x met.turns items none;
-    scans = ScansAt-start nfa x from are met items none;
+    scans = ScansAt-start nfa x old from are met items none;
   }
 
   pub Stands-next : {from : Starts} {at before : ℕ} {past : Bool} {met : Met} {items : List (ℕ × Slots)} {set : List Bool} {hit : Bool} {after : Met} {kept : List (ℕ × Slots)} {new : List Bool}
-      → IsAutomaton nfa → x.start ≤ at → Stands from at before met items → CrossesInSet nfa x at past met (joined from 0 at items) set hit after kept new → GoesPast past hit
+      → IsAutomaton nfa → x.start ≤ at → Stands from at before met items → CrossesInSet nfa x at past (length old) met (joined from 0 at items) set hit after kept new → GoesPast past hit
       → Stands from (at + 1) before after kept
   Stands-next {from} {at} {before} {past} {met} {items} good low s c goes = record {
-    states = next-at nfa x c good;
-    paid = next-paid nfa x c refl low (paid-joined nfa x items from s.paid);
-    scans = ScansAt-next nfa x c from.state from.limit (ScansAt-join nfa x from at met items s.scans) goes;
+    states = next-at nfa x old c good;
+    paid = next-paid nfa x old c refl low (paid-joined nfa x items from s.paid);
+    scans = ScansAt-next nfa x old c from.state from.limit (ScansAt-join nfa x old from at met items s.scans) goes;
   }
 
   -- the turns and the states after the last position
   pub Stands-turns : {from : Starts} {at before : ℕ} {past : Bool} {met : Met} {items : List (ℕ × Slots)} {set : List Bool} {hit : Bool} {after : Met} {kept : List (ℕ × Slots)} {new : List Bool}
-      → x.start ≤ at → at ≤ x.end → Stands from at before met items → CrossesInSet nfa x at past met (joined from 0 at items) set hit after kept new
+      → x.start ≤ at → at ≤ x.end → Stands from at before met items → CrossesInSet nfa x at past (length old) met (joined from 0 at items) set hit after kept new
       → after.turns ≤ before + scan_turns nfa x
   Stands-turns {from} {at} {before} {past} {met} {items} low high s c =
-      paid-within nfa x (next-paid nfa x c refl low (paid-joined nfa x items from s.paid)) (omega arith) (omega arith)
+      paid-within nfa x (next-paid nfa x old c refl low (paid-joined nfa x items from s.paid)) (omega arith) (omega arith)
 
   -- the front of a position that was followed whole
   stands-front : {from : Starts} {at before : ℕ} {past : Bool} {met : Met} {items : List (ℕ × Slots)} {set : List Bool} {hit : Bool} {after : Met} {kept : List (ℕ × Slots)} {new : List Bool}
-      → Stands from at before met items → (c : CrossesInSet nfa x at past met (joined from 0 at items) set hit after kept new) → GoesPast past hit
-      → IsFront (edges nfa x) (capture nfa) (starts nfa x) (is_resting nfa) (wants nfa x) [] after.turns c.front at
-  stands-front {from} {at} {before} {past} {met} {items} s c goes = whole-front nfa x c from.state from.limit (ScansAt-join nfa x from at met items s.scans) goes
+      → Stands from at before met items → (c : CrossesInSet nfa x at past (length old) met (joined from 0 at items) set hit after kept new) → GoesPast past hit
+      → IsFront (edges nfa x) (capture nfa) (starts nfa x) (is_resting nfa) (wants nfa x (length old)) [] after.turns c.front at
+  stands-front {from} {at} {before} {past} {met} {items} s c goes = whole-front nfa x old c from.state from.limit (ScansAt-join nfa x old from at met items s.scans) goes
 
   -- all patterns
 
-  pub record AllAt (from : Starts) (at before : ℕ) (old : List Bool) (met : Met) (items : List (ℕ × Slots)) (new : List Bool) : Type 0 where
+  pub record AllAt (from : Starts) (at before : ℕ) (met : Met) (items : List (ℕ × Slots)) (new : List Bool) : Type 0 where
     pub stands : Stands from at before met items
-    pub gains : GainsBefore nfa x (wants nfa x) (wants-tells nfa x) at old new
+    pub gains : GainsBefore nfa x old (wants nfa x (length old)) (wants-tells nfa x (length old)) at new
 
-  pub All-next : {from : Starts} {at before : ℕ} {old : List Bool} {met : Met} {items : List (ℕ × Slots)} {mid : List Bool} {hit : Bool} {after : Met} {kept : List (ℕ × Slots)} {new : List Bool}
-      → IsAutomaton nfa → x.start ≤ at → AllAt from at before old met items mid → CrossesInSet nfa x at true met (joined from 0 at items) mid hit after kept new
-      → AllAt from (at + 1) before old after kept new
+  pub All-next : {from : Starts} {at before : ℕ} {met : Met} {items : List (ℕ × Slots)} {mid : List Bool} {hit : Bool} {after : Met} {kept : List (ℕ × Slots)} {new : List Bool}
+      → IsAutomaton nfa → x.start ≤ at → AllAt from at before met items mid → CrossesInSet nfa x at true (length old) met (joined from 0 at items) mid hit after kept new
+      → AllAt from (at + 1) before after kept new
   All-next good low a c = record {
     stands = Stands-next good low a.stands c (inl refl);
-    gains = GainsBefore-step nfa x (wants nfa x) (wants-tells nfa x) (stands-front a.stands c (inl refl)) a.gains c.gathers.capacity c.gathers.gained;
+    gains = GainsBefore-step nfa x old (wants nfa x (length old)) (wants-tells nfa x (length old)) (stands-front a.stands c (inl refl)) a.gains c.gathers.capacity c.gathers.gained;
   }
 
-  pub All-over : {from : Starts} {at before : ℕ} {old : List Bool} {met : Met} {items : List (ℕ × Slots)} {new : List Bool}
-      → AllAt from at before old met items new → joined from 0 at items ≡ [] → IsOverlapResult nfa x AllMatches false old new
-  All-over {from} {at} {before} {old} {met} {items} a none =
-      GainsBefore-end nfa x (wants nfa x) (wants-tells nfa x) a.gains (ScansAt-over nfa x from at met items a.stands.scans none)
+  pub All-over : {from : Starts} {at before : ℕ} {met : Met} {items : List (ℕ × Slots)} {new : List Bool}
+      → AllAt from at before met items new → joined from 0 at items ≡ [] → IsOverlapResult nfa x AllMatches false old new
+  All-over {from} {at} {before} {met} {items} a none =
+      GainsBefore-end nfa x old (wants nfa x (length old)) (wants-tells nfa x (length old)) a.gains (ScansAt-over nfa x old from at met items a.stands.scans none)
 
-  pub All-end : {from : Starts} {at before : ℕ} {old : List Bool} {met : Met} {items : List (ℕ × Slots)} {new : List Bool}
-      → AllAt from at before old met items new → at ≡ x.end + 1 → IsOverlapResult nfa x AllMatches false old new
+  pub All-end : {from : Starts} {at before : ℕ} {met : Met} {items : List (ℕ × Slots)} {new : List Bool}
+      → AllAt from at before met items new → at ≡ x.end + 1 → IsOverlapResult nfa x AllMatches false old new
   All-end {at = at} a last =
-      GainsBefore-end nfa x (wants nfa x) (wants-tells nfa x) a.gains (rw last (EndsBefore-span nfa x (wants nfa x)))
+      GainsBefore-end nfa x old (wants nfa x (length old)) (wants-tells nfa x (length old)) a.gains (rw last (EndsBefore-span nfa x (wants nfa x (length old))))
 
   -- a full set gains no more
-  pub All-full : {from : Starts} {at before : ℕ} {old : List Bool} {met : Met} {items : List (ℕ × Slots)} {new : List Bool}
-      → AllAt from at before old met items new → size_of_set new ≡ length new → IsOverlapResult nfa x AllMatches false old new
-  All-full a full = GainsBefore-full nfa x (wants nfa x) (wants-tells nfa x) a.gains full
+  pub All-full : {from : Starts} {at before : ℕ} {met : Met} {items : List (ℕ × Slots)} {new : List Bool}
+      → AllAt from at before met items new → size_of_set new ≡ length new → IsOverlapResult nfa x AllMatches false old new
+  All-full a full = GainsBefore-full nfa x old (wants nfa x (length old)) (wants-tells nfa x (length old)) a.gains full
 
   -- the least end
 
   -- no match was met yet: with `past` none of a pattern below the capacity
-  abbrev pub NoneMet : Bool → ℕ → ℕ → Type 0
-  NoneMet true at n = NoneHeld nfa x (wants nfa x) (wants-tells nfa x) at n
-  NoneMet false at n = NoneBefore (edges nfa x) (starts nfa x) (wants nfa x) at
+  abbrev pub NoneMet : Bool → ℕ → Type 0
+  NoneMet true at = NoneHeld nfa x old (wants nfa x (length old)) (wants-tells nfa x (length old)) at
+  NoneMet false at = NoneBefore (edges nfa x) (starts nfa x) (wants nfa x (length old)) at
 
-  pub record EarliestAt (past : Bool) (from : Starts) (at before : ℕ) (old : List Bool) (met : Met) (items : List (ℕ × Slots)) (new : List Bool) : Type 0 where
+  pub record EarliestAt (past : Bool) (from : Starts) (at before : ℕ) (met : Met) (items : List (ℕ × Slots)) (new : List Bool) : Type 0 where
     pub stands : Stands from at before met items
     pub still : new ≡ old
-    pub none : NoneMet past at (length old)
+    pub none : NoneMet past at
 
-  pub Earliest-start : (past : Bool) (from : Starts) → AreStarts nfa x from → (met : Met) (items : List (ℕ × Slots)) (set : List Bool) → items ≡ []
-      → EarliestAt past from x.start met.turns set met items set
-  Earliest-start past from are met items set none = record { stands = Stands-start from are met items none; still = refl; none = of past }
+  pub Earliest-start : (past : Bool) (from : Starts) → AreStarts nfa x from → (met : Met) (items : List (ℕ × Slots)) → items ≡ []
+      → EarliestAt past from x.start met.turns met items old
+  Earliest-start past from are met items none = record { stands = Stands-start from are met items none; still = refl; none = of past }
     where
-      of : (past : Bool) → NoneMet past x.start (length set)
-      of true = NoneHeld-start nfa x (wants nfa x) (wants-tells nfa x) (length set)
-      of false = NoneBefore-start (edges nfa x) (capture nfa) (starts nfa x) (is_resting nfa) (wants nfa x) [] (wanted-shape nfa x (wants nfa x) (wants-tells nfa x)) x.start (starts-from nfa x)
+      of : (past : Bool) → NoneMet past x.start
+      of true = NoneHeld-start nfa x old (wants nfa x (length old)) (wants-tells nfa x (length old))
+      of false = NoneBefore-start (edges nfa x) (capture nfa) (starts nfa x) (is_resting nfa) (wants nfa x (length old)) [] (wanted-shape nfa x old (wants nfa x (length old)) (wants-tells nfa x (length old))) x.start (starts-from nfa x)
 
   -- what was not met at a position
-  unmet : (past : Bool) {at : ℕ} {front : List (Pair × Slots)} {turns : ℕ} (old new : List Bool) → NoneMet past at (length old)
-      → IsFront (edges nfa x) (capture nfa) (starts nfa x) (is_resting nfa) (wants nfa x) [] turns front at → Gathers nfa past (wants nfa x) front old false new
-      → (new ≡ old) × NoneMet past (at + 1) (length old)
-  unmet true old new none f g = (
+  unmet : (past : Bool) {at : ℕ} {front : List (Pair × Slots)} {turns : ℕ} (new : List Bool) → NoneMet past at
+      → IsFront (edges nfa x) (capture nfa) (starts nfa x) (is_resting nfa) (wants nfa x (length old)) [] turns front at → Gathers nfa past (wants nfa x (length old)) front old false new
+      → (new ≡ old) × NoneMet past (at + 1)
+  unmet true new none f g = (
     sets-same old new g.capacity (λ k. (λ h. elim ((g.gained k).0 h) [ inl o ↦ o | inr w ↦ absurd (g.none refl k w.0 w.1) ], λ o. (g.gained k).1 (inl o))),
-    NoneHeld-step nfa x (wants nfa x) (wants-tells nfa x) f none (λ k less h. g.none refl k less h),
+    NoneHeld-step nfa x old (wants nfa x (length old)) (wants-tells nfa x (length old)) f none (λ k less h. g.none refl k less h),
   )
-  unmet false {at} {front} old new none f g =
-      elim (first_match-is (wants nfa x) front) [
+  unmet false {at} {front} new none f g =
+      elim (first_match-is (wants nfa x (length old)) front) [
         | inl lacks ↦
             let still : GathersFirst nfa None old false new = rw lacks.0 at g in (
               still.1,
-              NoneBefore-step (edges nfa x) (capture nfa) (starts nfa x) (is_resting nfa) (wants nfa x) [] (wanted-shape nfa x (wants nfa x) (wants-tells nfa x)) none f lacks.1,
+              NoneBefore-step (edges nfa x) (capture nfa) (starts nfa x) (is_resting nfa) (wants nfa x (length old)) [] (wanted-shape nfa x old (wants nfa x (length old)) (wants-tells nfa x (length old))) none f lacks.1,
             )
         | inr has ↦ let met : GathersFirst nfa (Some has.0) old false new = rw has.1 at g in let never : false ≡ true = met.0 in cc
       ]
 
-  pub Earliest-next : (past : Bool) {from : Starts} {at before : ℕ} {old : List Bool} {met : Met} {items : List (ℕ × Slots)} {mid : List Bool} {hit : Bool} {after : Met}
+  pub Earliest-next : (past : Bool) {from : Starts} {at before : ℕ} {met : Met} {items : List (ℕ × Slots)} {mid : List Bool} {hit : Bool} {after : Met}
       {kept : List (ℕ × Slots)} {new : List Bool}
-      → IsAutomaton nfa → x.start ≤ at → EarliestAt past from at before old met items mid → CrossesInSet nfa x at past met (joined from 0 at items) mid hit after kept new → hit ≡ false
-      → EarliestAt past from (at + 1) before old after kept new
-  Earliest-next past {at = at} {old = old} {mid = mid} {hit = hit} {new = new} good low a c off =
+      → IsAutomaton nfa → x.start ≤ at → EarliestAt past from at before met items mid → CrossesInSet nfa x at past (length old) met (joined from 0 at items) mid hit after kept new → hit ≡ false
+      → EarliestAt past from (at + 1) before after kept new
+  Earliest-next past {at = at} {mid = mid} {hit = hit} {new = new} good low a c off =
       let f = stands-front a.stands c (inr off) in
-      let g : Gathers nfa past (wants nfa x) c.front old false new =
-      subst (λ s. Gathers nfa past (wants nfa x) c.front s false new) a.still (subst (λ h. Gathers nfa past (wants nfa x) c.front mid h new) off c.gathers) in
-      let u = unmet past old new a.none f g in
+      let g : Gathers nfa past (wants nfa x (length old)) c.front old false new =
+      subst (λ s. Gathers nfa past (wants nfa x (length old)) c.front s false new) a.still (subst (λ h. Gathers nfa past (wants nfa x (length old)) c.front mid h new) off c.gathers) in
+      let u = unmet past new a.none f g in
       record { stands = Stands-next good low a.stands c (inr off); still = u.0; none = u.1 }
 
-  pub Earliest-found : (past : Bool) {from : Starts} {at before : ℕ} {old : List Bool} {met : Met} {items : List (ℕ × Slots)} {mid : List Bool} {hit : Bool} {after : Met}
+  pub Earliest-found : (past : Bool) {from : Starts} {at before : ℕ} {met : Met} {items : List (ℕ × Slots)} {mid : List Bool} {hit : Bool} {after : Met}
       {kept : List (ℕ × Slots)} {new : List Bool}
-      → IsAutomaton nfa → (past ≡ false → size_of_set old ≡ 0) → EarliestAt past from at before old met items mid
-      → CrossesInSet nfa x at past met (joined from 0 at items) mid hit after kept new → hit ≡ true
+      → IsAutomaton nfa → (past ≡ false → size_of_set old ≡ 0) → EarliestAt past from at before met items mid
+      → CrossesInSet nfa x at past (length old) met (joined from 0 at items) mid hit after kept new → hit ≡ true
       → IsOverlapResult nfa x (cond past AllMatches LeftmostFirst) true old new
-  Earliest-found true {old = old} {mid = mid} {new = new} good empty a c on =
+  Earliest-found true {mid = mid} {new = new} good empty a c on =
       let f = stands-front a.stands c (inl refl) in
-      let g : GathersAll nfa (wants nfa x) c.front old true new =
-      subst (λ s. GathersAll nfa (wants nfa x) c.front s true new) a.still (subst (λ h. GathersAll nfa (wants nfa x) c.front mid h new) on c.gathers) in
+      let g : GathersAll nfa (wants nfa x (length old)) c.front old true new =
+      subst (λ s. GathersAll nfa (wants nfa x (length old)) c.front s true new) a.still (subst (λ h. GathersAll nfa (wants nfa x (length old)) c.front mid h new) on c.gathers) in
       let held = g.some refl in
-      NoneHeld-found nfa x (wants nfa x) (wants-tells nfa x) f a.none held.0 held.1 held.2 g.capacity g.gained
-  Earliest-found false {from} {at} {before} {old} {met} {items} {mid} {hit} {after} {kept} {new} good empty a c on =
-      let g : Gathers nfa false (wants nfa x) c.front old true new =
-      subst (λ s. Gathers nfa false (wants nfa x) c.front s true new) a.still (subst (λ h. Gathers nfa false (wants nfa x) c.front mid h new) on c.gathers) in
-      elim (first_match-is (wants nfa x) c.front) [
+      NoneHeld-found nfa x old (wants nfa x (length old)) (wants-tells nfa x (length old)) f a.none held.0 held.1 held.2 g.capacity g.gained
+  Earliest-found false {from} {at} {before} {met} {items} {mid} {hit} {after} {kept} {new} good empty a c on =
+      let g : Gathers nfa false (wants nfa x (length old)) c.front old true new =
+      subst (λ s. Gathers nfa false (wants nfa x (length old)) c.front s true new) a.still (subst (λ h. Gathers nfa false (wants nfa x (length old)) c.front mid h new) on c.gathers) in
+      elim (first_match-is (wants nfa x (length old)) c.front) [
         | inl lacks ↦ let still : GathersFirst nfa None old true new = rw lacks.0 at g in let never : true ≡ false = still.0 in cc
         | inr has ↦
             let put : GathersFirst nfa (Some has.0) old true new = rw has.1 at g in
-            let s = lead-scan nfa x c from.state from.limit (ScansAt-join nfa x from at met items a.stands.scans) in
-            let first = FirstAt-front nfa x (wants nfa x) (wants-tells nfa x) s.1 (front-rests nfa x c) has.0 has.1 in
-            FirstAt-found nfa x (wants nfa x) (wants-tells nfa x) good.patterns a.none first put.1.1 (empty refl) put.1.2
+            let s = lead-scan nfa x old c from.state from.limit (ScansAt-join nfa x old from at met items a.stands.scans) in
+            let first = FirstAt-front nfa x old (wants nfa x (length old)) (wants-tells nfa x (length old)) s.1 (front-rests nfa x old c) has.0 has.1 in
+            FirstAt-found nfa x old (wants nfa x (length old)) (wants-tells nfa x (length old)) a.none first put.1.1 (empty refl) put.1.2
       ]
 
-  pub Earliest-end : (past : Bool) {from : Starts} {at before : ℕ} {old : List Bool} {met : Met} {items : List (ℕ × Slots)} {new : List Bool}
-      → (past ≡ false → size_of_set old ≡ 0) → EarliestAt past from at before old met items new → EndsBefore (edges nfa x) (starts nfa x) (wants nfa x) at
+  pub Earliest-end : (past : Bool) {from : Starts} {at before : ℕ} {met : Met} {items : List (ℕ × Slots)} {new : List Bool}
+      → (past ≡ false → size_of_set old ≡ 0) → EarliestAt past from at before met items new → EndsBefore (edges nfa x) (starts nfa x) (wants nfa x (length old)) at
       → IsOverlapResult nfa x (cond past AllMatches LeftmostFirst) true old new
-  Earliest-end true empty a ends = rw a.still (NoneHeld-end nfa x (wants nfa x) (wants-tells nfa x) a.none ends)
-  Earliest-end false {old = old} empty a ends =
+  Earliest-end true empty a ends = rw a.still (NoneHeld-end nfa x old (wants nfa x (length old)) (wants-tells nfa x (length old)) a.none ends)
+  Earliest-end false empty a ends =
       rw a.still
-      (First-none nfa x (wants nfa x) (wants-tells nfa x)
-      (NoneBefore-end (edges nfa x) (capture nfa) (starts nfa x) (is_resting nfa) (wants nfa x) [] (wanted-shape nfa x (wants nfa x) (wants-tells nfa x)) a.none ends) true old (empty refl))
+      (First-none nfa x old (wants nfa x (length old)) (wants-tells nfa x (length old))
+      (NoneBefore-end (edges nfa x) (capture nfa) (starts nfa x) (is_resting nfa) (wants nfa x (length old)) [] (wanted-shape nfa x old (wants nfa x (length old)) (wants-tells nfa x (length old))) a.none ends) true (empty refl))
 
 -- the items with the start that joined
 pub joined-items : (from : Starts) (at : ℕ) (curr after : Active) → after ≡ record curr { items = joined from curr.width at curr.items } → curr.width ≡ 0 → after.items ≡ joined from 0 at curr.items
 joined-items from at curr after e none = ap (λ (z : Active). z.items) e ∙ joined-width from curr.width at curr.items none
 
 -- what the position came to, from the items before the start joined
-pub crosses-joined : {nfa : Automaton} {x : Search} {at : ℕ} {past : Bool} {met1 : Met} {items1 : List (ℕ × Slots)} {set : List Bool} {hit : Bool} {after : Met} {kept : List (ℕ × Slots)} {new : List Bool}
-    (met : Met) (items : List (ℕ × Slots)) → met1 ≡ met → items1 ≡ items → CrossesInSet nfa x at past met1 items1 set hit after kept new → CrossesInSet nfa x at past met items set hit after kept new
-crosses-joined {nfa} {x} {at} {past} {met1} {items1} {set} {hit} {after} {kept} {new} met items m i c =
-    subst (λ j. CrossesInSet nfa x at past met j set hit after kept new) i (subst (λ n. CrossesInSet nfa x at past n items1 set hit after kept new) m c)
+pub crosses-joined : {nfa : Automaton} {x : Search} {at : ℕ} {past : Bool} {m : ℕ} {met1 : Met} {items1 : List (ℕ × Slots)} {set : List Bool} {hit : Bool} {after : Met} {kept : List (ℕ × Slots)} {new : List Bool}
+    (n : ℕ) (met : Met) (items : List (ℕ × Slots)) → m ≡ n → met1 ≡ met → items1 ≡ items → CrossesInSet nfa x at past m met1 items1 set hit after kept new
+    → CrossesInSet nfa x at past n met items set hit after kept new
+crosses-joined {nfa} {x} {at} {past} {m} {met1} {items1} {set} {hit} {after} {kept} {new} n met items size same i c =
+    subst (λ j. CrossesInSet nfa x at past n met j set hit after kept new) i
+    (subst (λ o. CrossesInSet nfa x at past n o items1 set hit after kept new) same (subst (λ k. CrossesInSet nfa x at past k met1 items1 set hit after kept new) size c))
 
 pub All-start : (nfa : Automaton) (x : Search) (from : Starts) → AreStarts nfa x from → (met : Met) (items : List (ℕ × Slots)) (set : List Bool) → items ≡ []
-    → AllAt nfa x from x.start met.turns set met items set
+    → AllAt nfa x set from x.start met.turns met items set
 All-start nfa x from are met items set none = record {
-  stands = Stands-start nfa x from are met items none;
-  gains = GainsBefore-start nfa x (wants nfa x) (wants-tells nfa x) set;
+  stands = Stands-start nfa x set from are met items none;
+  gains = GainsBefore-start nfa x set (wants nfa x (length set)) (wants-tells nfa x (length set));
 }
 
 -- the sizes of threads that were set up
@@ -340,3 +344,9 @@ sizes-set_up {size} {met} {frames} {curr} {next} curr1 next1 met1 frames1 s c n 
       curr_cells = ap (λ (z : Active). z.cells) c ∙ s.curr_cells;
       next_cells = ap (λ (z : Active). z.cells) n ∙ s.next_cells;
     })
+
+-- a set with no room gains nothing
+pub full-result : (nfa : Automaton) (x : Search) (kind : MatchKind) (earliest : Bool) (set : List Bool) → size_of_set set ≡ length set
+    → (kind ≡ LeftmostFirst → size_of_set set ≡ 0) → IsOverlapResult nfa x kind earliest set set
+full-result nfa x AllMatches earliest set full empty = full-gains nfa x earliest set full
+full-result nfa x LeftmostFirst earliest set full empty = first-gains nfa x earliest set full (empty refl)

@@ -172,162 +172,164 @@ module _ (nfa : Automaton) (x : Search) where
         (Answer-seeds (edges nfa x) target (capture nfa) left None [] from [] g h);
   }
 
-  -- the scan for each wanted pair, at a position where it has followed no state yet
-  pub record ScansAt (at state limit : ℕ) (met : Met) (items : List (ℕ × Slots)) : Type 0 where
-    pub scanning : Scanning (edges nfa x) (capture nfa) (starts nfa x) (wants nfa x) [] at (SeenAt at (unmarked met).bits) met.turns []
-        (tasks at items (ToLoad [] ∷ starts_from 0 state at limit)) []
+  -- with a set that was `old` when the scan began
+  module _ (old : List Bool) where
+    -- the scan for each wanted pair, at a position where it has followed no state yet
+    pub record ScansAt (at state limit : ℕ) (met : Met) (items : List (ℕ × Slots)) : Type 0 where
+      pub scanning : Scanning (edges nfa x) (capture nfa) (starts nfa x) (wants nfa x (length old)) [] at (SeenAt at (unmarked met).bits) met.turns []
+          (tasks at items (ToLoad [] ∷ starts_from 0 state at limit)) []
 
-  pub ScansAt-start : (from : Starts) → AreStarts nfa x from → (met : Met) (items : List (ℕ × Slots)) → items ≡ [] → ScansAt x.start from.state from.limit met items
-  ScansAt-start from are met items none = record {
-    scanning = rw (none, are.all) (record {
-      searching = λ target ok. fresh-search target x.start met (pairs_from from.state x.start (from.limit - x.start));
-    });
-  }
+    pub ScansAt-start : (from : Starts) → AreStarts nfa x from → (met : Met) (items : List (ℕ × Slots)) → items ≡ [] → ScansAt x.start from.state from.limit met items
+    ScansAt-start from are met items none = record {
+      scanning = rw (none, are.all) (record {
+        searching = λ target ok. fresh-search target x.start met (pairs_from from.state x.start (from.limit - x.start));
+      });
+    }
 
-  -- with the start that joined
-  pub ScansAt-join : (from : Starts) (at : ℕ) (met : Met) (items : List (ℕ × Slots)) → ScansAt at from.state from.limit met items
-      → Scanning (edges nfa x) (capture nfa) (starts nfa x) (wants nfa x) [] at (SeenAt at (unmarked met).bits) met.turns []
-      (tasks at (joined from 0 at items) (ToLoad [] ∷ starts_from 0 from.state (at + 1) from.limit)) []
-  ScansAt-join from at met items s =
-      subst (λ w. Scanning (edges nfa x) (capture nfa) (starts nfa x) (wants nfa x) [] at (SeenAt at (unmarked met).bits) met.turns [] w []) (sym (joined-work from at items)) s.scanning
+    -- with the start that joined
+    pub ScansAt-join : (from : Starts) (at : ℕ) (met : Met) (items : List (ℕ × Slots)) → ScansAt at from.state from.limit met items
+        → Scanning (edges nfa x) (capture nfa) (starts nfa x) (wants nfa x (length old)) [] at (SeenAt at (unmarked met).bits) met.turns []
+        (tasks at (joined from 0 at items) (ToLoad [] ∷ starts_from 0 from.state (at + 1) from.limit)) []
+    ScansAt-join from at met items s =
+        subst (λ w. Scanning (edges nfa x) (capture nfa) (starts nfa x) (wants nfa x (length old)) [] at (SeenAt at (unmarked met).bits) met.turns [] w []) (sym (joined-work from at items)) s.scanning
 
-  -- no state and no start is left: every path has ended
-  pub ScansAt-over : (from : Starts) (at : ℕ) (met : Met) (items : List (ℕ × Slots)) → ScansAt at from.state from.limit met items → joined from 0 at items ≡ []
-      → EndsBefore (edges nfa x) (starts nfa x) (wants nfa x) at
-  unfolding seeds
-  ScansAt-over from at met items s none =
-      let two : (items ≡ []) × (from.limit ≤ at) = parts none in
-      let work : tasks at items (ToLoad [] ∷ starts_from 0 from.state at from.limit) ≡ ToLoad [] ∷ [] =
-      ap (λ i. tasks at i (ToLoad [] ∷ starts_from 0 from.state at from.limit)) two.0 ∙ ap (λ ps. ToLoad [] ∷ seeds [] ps) (pairs_from-end from.state two.1) in
-      let left : Scanning (edges nfa x) (capture nfa) (starts nfa x) (wants nfa x) [] at (SeenAt at (unmarked met).bits) met.turns [] (ToLoad [] ∷ []) [] =
-      subst (λ w. Scanning (edges nfa x) (capture nfa) (starts nfa x) (wants nfa x) [] at (SeenAt at (unmarked met).bits) met.turns [] w []) work s.scanning in
-      EndsBefore-over (edges nfa x) (capture nfa) (starts nfa x) (is_resting nfa) (wants nfa x) [] (wanted-shape nfa x (wants nfa x) (wants-tells nfa x)) at
-      (Scanning-over (edges nfa x) (capture nfa) (starts nfa x) (wants nfa x) [] (Scanning-load (edges nfa x) (capture nfa) (starts nfa x) (wants nfa x) [] left))
-    where
-      parts : joined from 0 at items ≡ [] → (items ≡ []) × (from.limit ≤ at)
-      parts e =
-          elim (cases_lt at from.limit) [
-            | inl less ↦ let never : items ++ (from.state, []) ∷ [] ≡ [] = rw (lt-ltb at from.limit less) at e in absurd (some items never)
-            | inr past ↦ (let none : items ≡ [] = rw (le-ltb at from.limit past) at e in none, past)
-          ]
-        where
-          some : (xs : List (ℕ × Slots)) → xs ++ (from.state, []) ∷ [] ≡ [] → ⊥
-          some [] e = cc
-          some (y ∷ xs) e = cc
-
-  -- one position
-
-  module _ {at : ℕ} {past : Bool} {met : Met} {items : List (ℕ × Slots)} {set : List Bool} {hit : Bool} {after : Met} {kept : List (ℕ × Slots)} {gathered : List Bool}
-      (c : CrossesInSet nfa x at past met items set hit after kept gathered) where
-    pub front-rests : (b : Pair × Slots) → In b c.front → (is_resting nfa b.0 ≡ true) × (b.0.1 ≡ at)
-    front-rests b i = (
-      all-in (λ (a : Pair × Slots). rests (node_at nfa a.0.0) ≡ true) c.front b c.formed.resting i,
-      all-in (λ (a : Pair × Slots). a.0.1 ≡ at) c.front b c.formed.here i,
-    )
-
-    -- edges of the front lead to the next position
-    pub front-edges : (b : Pair × Slots) → In b c.front → (v : Pair) → In v (edges nfa x b.0) → v.1 ≡ at + 1
-    front-edges b i v j =
-        let r = front-rests b i in
-        elim (edges_of-next nfa x (node_at nfa b.0.0) b.0.1 v j) [
-          | inl stays ↦ let never : true ≡ false = sym r.0 ∙ stays.0 in cc
-          | inr goes ↦ goes.0 ∙ ap (λ n. n + 1) r.1
-        ]
-
-    pub front-leaves : (b : Pair × Slots) → In b c.front → (capture nfa b.0 ≡ None) × (b.0.1 ≡ at) × ((w : Pair) → In w (edges nfa x b.0) → at < w.1)
-    front-leaves b i =
-        let r = front-rests b i in (
-          resting-capture nfa x (wants nfa x) (wants-tells nfa x) b.0 r.0,
-          r.1,
-          λ w j. let e : w.1 ≡ at + 1 = front-edges b i w j in omega arith,
-        )
-
-    -- past the end of the span no state is kept
-    pub kept-none : x.end ≤ at → kept ≡ []
-    kept-none past_end = c.added ∙ of c.front (λ b i v j. front-edges b i v j) (λ b i. (front-rests b i).1)
+    -- no state and no start is left: every path has ended
+    pub ScansAt-over : (from : Starts) (at : ℕ) (met : Met) (items : List (ℕ × Slots)) → ScansAt at from.state from.limit met items → joined from 0 at items ≡ []
+        → EndsBefore (edges nfa x) (starts nfa x) (wants nfa x (length old)) at
+    unfolding seeds
+    ScansAt-over from at met items s none =
+        let two : (items ≡ []) × (from.limit ≤ at) = parts none in
+        let work : tasks at items (ToLoad [] ∷ starts_from 0 from.state at from.limit) ≡ ToLoad [] ∷ [] =
+        ap (λ i. tasks at i (ToLoad [] ∷ starts_from 0 from.state at from.limit)) two.0 ∙ ap (λ ps. ToLoad [] ∷ seeds [] ps) (pairs_from-end from.state two.1) in
+        let left : Scanning (edges nfa x) (capture nfa) (starts nfa x) (wants nfa x (length old)) [] at (SeenAt at (unmarked met).bits) met.turns [] (ToLoad [] ∷ []) [] =
+        subst (λ w. Scanning (edges nfa x) (capture nfa) (starts nfa x) (wants nfa x (length old)) [] at (SeenAt at (unmarked met).bits) met.turns [] w []) work s.scanning in
+        EndsBefore-over (edges nfa x) (capture nfa) (starts nfa x) (is_resting nfa) (wants nfa x (length old)) [] (wanted-shape nfa x old (wants nfa x (length old)) (wants-tells nfa x (length old))) at
+        (Scanning-over (edges nfa x) (capture nfa) (starts nfa x) (wants nfa x (length old)) [] (Scanning-load (edges nfa x) (capture nfa) (starts nfa x) (wants nfa x (length old)) [] left))
       where
-        of : (front : Front) → ((b : Pair × Slots) → In b front → (v : Pair) → In v (edges nfa x b.0) → v.1 ≡ at + 1) → ((b : Pair × Slots) → In b front → b.0.1 ≡ at)
-            → moves (edges nfa x) front ≡ []
-        of [] on here = refl
-        of (b ∷ front) on here =
-            let none : edges nfa x b.0 ≡ [] =
-            empty (edges nfa x b.0)
-            (λ v i.
-            let e : v.1 ≡ at + 1 = on b (inl refl) v i in
-            elim (edges_of-next nfa x (node_at nfa b.0.0) b.0.1 v i) [
-              | inl stays ↦ let s : v.1 ≡ b.0.1 = stays.1 in let h : b.0.1 ≡ at = here b (inl refl) in omega arith
-              | inr goes ↦ let l : b.0.1 < x.end = goes.1 in let h : b.0.1 ≡ at = here b (inl refl) in omega arith
-            ]) in
-            rw none (of front (λ d i. on d (inr i)) (λ d i. here d (inr i)))
+        parts : joined from 0 at items ≡ [] → (items ≡ []) × (from.limit ≤ at)
+        parts e =
+            elim (cases_lt at from.limit) [
+              | inl less ↦ let never : items ++ (from.state, []) ∷ [] ≡ [] = rw (lt-ltb at from.limit less) at e in absurd (some items never)
+              | inr past ↦ (let none : items ≡ [] = rw (le-ltb at from.limit past) at e in none, past)
+            ]
           where
-            empty : (vs : List Pair) → ((v : Pair) → In v vs → ⊥) → vs ≡ []
-            empty [] h = refl
-            empty (v ∷ vs) h = absurd (h v (inl refl))
+            some : (xs : List (ℕ × Slots)) → xs ++ (from.state, []) ∷ [] ≡ [] → ⊥
+            some [] e = cc
+            some (y ∷ xs) e = cc
 
-    -- the states that are kept
-    pub next-at : IsAutomaton nfa → AreAt nfa kept
-    next-at good = record {
-      states = rw c.added (moves-below good at after.bits c.front c.formed);
-      few =
-          let none : marked_sum (map one_of nfa.states) (unmarked met).bits ≡ 0 = marked_sum-clear (map one_of nfa.states) (length met.bits) in
-          let most : marked_sum (map one_of nfa.states) after.bits ≤ sum (map one_of nfa.states) = marked_sum-le (map one_of nfa.states) after.bits in
-          let all : sum (map one_of nfa.states) ≡ length nfa.states = sum-ones nfa.states in
-          omega (arith, c.paid.entered);
-    }
+    -- one position
 
-    -- and the turns
-    pub next-paid : {before turns : ℕ} → met.turns ≡ turns → x.start ≤ at → turns + length items ≤ before + (at - x.start) * (1 + turn_weight nfa) + 1
-        → IsPaidAt nfa x (at + 1) before after.turns (length kept)
-    next-paid {before} {turns} same low bound = record {
-      bound =
-          let n : ℕ = at - x.start in
-          let w : ℕ = turn_weight nfa in
-          let steps : at + 1 - x.start ≡ n + 1 = omega arith in
-          let none : marked_sum (map degree nfa.states) (unmarked met).bits ≡ 0 = marked_sum-clear (map degree nfa.states) (length met.bits) in
-          let most : marked_sum (map degree nfa.states) after.bits ≤ sum (map degree nfa.states) = marked_sum-le (map degree nfa.states) after.bits in
-          let all : sum (map degree nfa.states) ≡ turn_weight nfa = sum-map degree nfa.states in
-          let more : (n + 1) * (1 + turn_weight nfa) ≡ n * (1 + turn_weight nfa) + (1 + turn_weight nfa) = omega arith in
-          rw steps (omega (arith, c.paid.tried));
-    }
+    module _ {at : ℕ} {past : Bool} {met : Met} {items : List (ℕ × Slots)} {set : List Bool} {hit : Bool} {after : Met} {kept : List (ℕ × Slots)} {gathered : List Bool}
+        (c : CrossesInSet nfa x at past (length old) met items set hit after kept gathered) where
+      pub front-rests : (b : Pair × Slots) → In b c.front → (is_resting nfa b.0 ≡ true) × (b.0.1 ≡ at)
+      front-rests b i = (
+        all-in (λ (a : Pair × Slots). rests (node_at nfa a.0.0) ≡ true) c.front b c.formed.resting i,
+        all-in (λ (a : Pair × Slots). a.0.1 ≡ at) c.front b c.formed.here i,
+      )
 
-    module _ (state limit : ℕ) (s : Scanning (edges nfa x) (capture nfa) (starts nfa x) (wants nfa x) [] at (SeenAt at (unmarked met).bits) met.turns []
-        (tasks at items (ToLoad [] ∷ starts_from 0 state (at + 1) limit)) []) where
-      -- the front is that of the scan, up to where it was followed
-      pub lead-scan : (l : Leads nfa x at (unmarked met) [] (tasks at items (ToLoad [] ∷ starts_from 0 state (at + 1) limit)) [] (GoesPast past hit) after c.front (ToLoad [] ∷ starts_from 0 state (at + 1) limit))
-          × Scanning (edges nfa x) (capture nfa) (starts nfa x) (wants nfa x) [] at (SeenAt at after.bits) after.turns c.front l.left l.written
-      lead-scan =
-          let l = c.leads [] (starts_from 0 state (at + 1) limit) in (
-            l,
-            record { searching = λ target ok. l.follows.leads target (λ v t. wants-match nfa x v (ok v t).0) (starts nfa x) [] None (s.searching target ok) },
+      -- edges of the front lead to the next position
+      pub front-edges : (b : Pair × Slots) → In b c.front → (v : Pair) → In v (edges nfa x b.0) → v.1 ≡ at + 1
+      front-edges b i v j =
+          let r = front-rests b i in
+          elim (edges_of-next nfa x (node_at nfa b.0.0) b.0.1 v j) [
+            | inl stays ↦ let never : true ≡ false = sym r.0 ∙ stays.0 in cc
+            | inr goes ↦ goes.0 ∙ ap (λ n. n + 1) r.1
+          ]
+
+      pub front-leaves : (b : Pair × Slots) → In b c.front → (capture nfa b.0 ≡ None) × (b.0.1 ≡ at) × ((w : Pair) → In w (edges nfa x b.0) → at < w.1)
+      front-leaves b i =
+          let r = front-rests b i in (
+            resting-capture nfa x old (wants nfa x (length old)) (wants-tells nfa x (length old)) b.0 r.0,
+            r.1,
+            λ w j. let e : w.1 ≡ at + 1 = front-edges b i w j in omega arith,
           )
 
-      waits-later : (k : Pair) → In (ToExplore k) (starts_from 0 state (at + 1) limit) → at < k.1
-      waits-later k i = seeds-later [] state at (limit - (at + 1)) k i
+      -- past the end of the span no state is kept
+      pub kept-none : x.end ≤ at → kept ≡ []
+      kept-none past_end = c.added ∙ of c.front (λ b i v j. front-edges b i v j) (λ b i. (front-rests b i).1)
+        where
+          of : (front : Front) → ((b : Pair × Slots) → In b front → (v : Pair) → In v (edges nfa x b.0) → v.1 ≡ at + 1) → ((b : Pair × Slots) → In b front → b.0.1 ≡ at)
+              → moves (edges nfa x) front ≡ []
+          of [] on here = refl
+          of (b ∷ front) on here =
+              let none : edges nfa x b.0 ≡ [] =
+              empty (edges nfa x b.0)
+              (λ v i.
+              let e : v.1 ≡ at + 1 = on b (inl refl) v i in
+              elim (edges_of-next nfa x (node_at nfa b.0.0) b.0.1 v i) [
+                | inl stays ↦ let s : v.1 ≡ b.0.1 = stays.1 in let h : b.0.1 ≡ at = here b (inl refl) in omega arith
+                | inr goes ↦ let l : b.0.1 < x.end = goes.1 in let h : b.0.1 ≡ at = here b (inl refl) in omega arith
+              ]) in
+              rw none (of front (λ d i. on d (inr i)) (λ d i. here d (inr i)))
+            where
+              empty : (vs : List Pair) → ((v : Pair) → In v vs → ⊥) → vs ≡ []
+              empty [] h = refl
+              empty (v ∷ vs) h = absurd (h v (inl refl))
 
-      -- where all of it was followed
-      module _ (goes : GoesPast past hit) where
-        whole-scan : (written : Slots)
-            × Scanning (edges nfa x) (capture nfa) (starts nfa x) (wants nfa x) [] at (SeenAt at after.bits) after.turns c.front (ToLoad [] ∷ starts_from 0 state (at + 1) limit) written
-        whole-scan =
-            let l = lead-scan in (
-              l.0.written,
-              subst (λ w. Scanning (edges nfa x) (capture nfa) (starts nfa x) (wants nfa x) [] at (SeenAt at after.bits) after.turns c.front w l.0.written) (l.0.whole goes) l.1,
+      -- the states that are kept
+      pub next-at : IsAutomaton nfa → AreAt nfa kept
+      next-at good = record {
+        states = rw c.added (moves-below good at after.bits c.front c.formed);
+        few =
+            let none : marked_sum (map one_of nfa.states) (unmarked met).bits ≡ 0 = marked_sum-clear (map one_of nfa.states) (length met.bits) in
+            let most : marked_sum (map one_of nfa.states) after.bits ≤ sum (map one_of nfa.states) = marked_sum-le (map one_of nfa.states) after.bits in
+            let all : sum (map one_of nfa.states) ≡ length nfa.states = sum-ones nfa.states in
+            omega (arith, c.paid.entered);
+      }
+
+      -- and the turns
+      pub next-paid : {before turns : ℕ} → met.turns ≡ turns → x.start ≤ at → turns + length items ≤ before + (at - x.start) * (1 + turn_weight nfa) + 1
+          → IsPaidAt nfa x (at + 1) before after.turns (length kept)
+      next-paid {before} {turns} same low bound = record {
+        bound =
+            let n : ℕ = at - x.start in
+            let w : ℕ = turn_weight nfa in
+            let steps : at + 1 - x.start ≡ n + 1 = omega arith in
+            let none : marked_sum (map degree nfa.states) (unmarked met).bits ≡ 0 = marked_sum-clear (map degree nfa.states) (length met.bits) in
+            let most : marked_sum (map degree nfa.states) after.bits ≤ sum (map degree nfa.states) = marked_sum-le (map degree nfa.states) after.bits in
+            let all : sum (map degree nfa.states) ≡ turn_weight nfa = sum-map degree nfa.states in
+            let more : (n + 1) * (1 + turn_weight nfa) ≡ n * (1 + turn_weight nfa) + (1 + turn_weight nfa) = omega arith in
+            rw steps (omega (arith, c.paid.tried));
+      }
+
+      module _ (state limit : ℕ) (s : Scanning (edges nfa x) (capture nfa) (starts nfa x) (wants nfa x (length old)) [] at (SeenAt at (unmarked met).bits) met.turns []
+          (tasks at items (ToLoad [] ∷ starts_from 0 state (at + 1) limit)) []) where
+        -- the front is that of the scan, up to where it was followed
+        pub lead-scan : (l : Leads nfa x at (unmarked met) [] (tasks at items (ToLoad [] ∷ starts_from 0 state (at + 1) limit)) [] (GoesPast past hit) after c.front (ToLoad [] ∷ starts_from 0 state (at + 1) limit))
+            × Scanning (edges nfa x) (capture nfa) (starts nfa x) (wants nfa x (length old)) [] at (SeenAt at after.bits) after.turns c.front l.left l.written
+        lead-scan =
+            let l = c.leads [] (starts_from 0 state (at + 1) limit) in (
+              l,
+              record { searching = λ target ok. l.follows.leads target (λ v t. wants-match nfa x (length old) v (ok v t).0) (starts nfa x) [] None (s.searching target ok) },
             )
 
-        pub whole-front : IsFront (edges nfa x) (capture nfa) (starts nfa x) (is_resting nfa) (wants nfa x) [] after.turns c.front at
-        whole-front =
-            Scanning-front (edges nfa x) (capture nfa) (starts nfa x) (wants nfa x) [] whole-scan.1 front-rests c.formed.once
-            (λ k i. elim i [ inl never ↦ absurd (no_load k never) | inr j ↦ waits-later k j ])
-          where
-            no_load : (k : Pair) → ToExplore k ≡ ToLoad [] → ⊥
-            no_load k e = cc
+        waits-later : (k : Pair) → In (ToExplore k) (starts_from 0 state (at + 1) limit) → at < k.1
+        waits-later k i = seeds-later [] state at (limit - (at + 1)) k i
 
-        pub ScansAt-next : ScansAt (at + 1) state limit after kept
-        ScansAt-next = record {
-          scanning =
-              let next = Scanning-round (edges nfa x) (capture nfa) (starts nfa x) (wants nfa x) [] whole-scan.1 (edges-onward nfa x) front-leaves waits-later
-              (λ v h. let e : v.1 ≡ at = h.here in omega arith) (unseen (at + 1) after) [] in
-              rw c.added (record {
-                searching = λ target ok. round-tasks target (at + 1) c.front [] (starts_from 0 state (at + 1) limit) [] [] front-edges (next.searching target ok);
-              });
-        }
+        -- where all of it was followed
+        module _ (goes : GoesPast past hit) where
+          whole-scan : (written : Slots)
+              × Scanning (edges nfa x) (capture nfa) (starts nfa x) (wants nfa x (length old)) [] at (SeenAt at after.bits) after.turns c.front (ToLoad [] ∷ starts_from 0 state (at + 1) limit) written
+          whole-scan =
+              let l = lead-scan in (
+                l.0.written,
+                subst (λ w. Scanning (edges nfa x) (capture nfa) (starts nfa x) (wants nfa x (length old)) [] at (SeenAt at after.bits) after.turns c.front w l.0.written) (l.0.whole goes) l.1,
+              )
+
+          pub whole-front : IsFront (edges nfa x) (capture nfa) (starts nfa x) (is_resting nfa) (wants nfa x (length old)) [] after.turns c.front at
+          whole-front =
+              Scanning-front (edges nfa x) (capture nfa) (starts nfa x) (wants nfa x (length old)) [] whole-scan.1 front-rests c.formed.once
+              (λ k i. elim i [ inl never ↦ absurd (no_load k never) | inr j ↦ waits-later k j ])
+            where
+              no_load : (k : Pair) → ToExplore k ≡ ToLoad [] → ⊥
+              no_load k e = cc
+
+          pub ScansAt-next : ScansAt (at + 1) state limit after kept
+          ScansAt-next = record {
+            scanning =
+                let next = Scanning-round (edges nfa x) (capture nfa) (starts nfa x) (wants nfa x (length old)) [] whole-scan.1 (edges-onward nfa x) front-leaves waits-later
+                (λ v h. let e : v.1 ≡ at = h.here in omega arith) (unseen (at + 1) after) [] in
+                rw c.added (record {
+                  searching = λ target ok. round-tasks target (at + 1) c.front [] (starts_from 0 state (at + 1) limit) [] [] front-edges (next.searching target ok);
+                });
+          }

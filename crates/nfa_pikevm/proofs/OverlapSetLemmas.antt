@@ -1,6 +1,6 @@
 -- What is put into a set of patterns at a position.
 use Rattle.std.proofs.Common.{◌≡◌, ℕ, ◌<◌, ◌⊎◌, ◌↔◌, inl, inr, Bool, true, false, List, [], ◌∷◌, ◌++◌, length, refl, sym, ap, ◌∙◌, arith}
-use Rattle.std.specs.Prelude.{None, Some, not, ◌&&◌, ◌||◌, nat_lt}
+use Rattle.std.specs.Prelude.{Option, None, Some, not, ◌&&◌, ◌||◌, nat_lt}
 use Rattle.std.proofs.lemmas.Bool.{cases_Bool, cases_lt, lt-ltb, le-ltb}
 use Rattle.std.proofs.lemmas.Bool.Decides.{nat_tests}
 use Rattle.regex_search_core.specs.Boundary.{IsBoundary}
@@ -11,10 +11,10 @@ use Rattle.nfa_paths.specs.Graphs.{Pair, In}
 use Rattle.nfa_paths.specs.Paths.{node_at, pattern_of, is_match, is_utf8_empty}
 use Rattle.nfa_paths.specs.Exploring.{Slots, Found}
 use Rattle.nfa_paths.specs.Kinds.{HoldsMatch, NoMatch, first_match, before_match}
-use Rattle.nfa_paths.specs.Overlaps.{pattern_at, IsPermittedEnd, IsPermitted}
+use Rattle.nfa_paths.specs.Overlaps.{pattern_at, IsPermittedEnd, IsHeld}
 use Rattle.nfa_paths.proofs.OverlapLemmas.{holds-with, length-with}
 use Rattle.nfa_pikevm.specs.States.{Front}
-use Rattle.nfa_pikevm.specs.Overlapping.{is_boundary, permits, wants, GathersFirst, Gathers}
+use Rattle.nfa_pikevm.specs.Overlapping.{is_boundary, permits, is_below, wants, GathersFirst, Gathers}
 
 -- whether a position is a boundary
 boundary-to : (haystack : List ℕ) (i : ℕ) → is_boundary haystack i ≡ true → IsBoundary haystack i
@@ -47,34 +47,39 @@ module _ (nfa : Automaton) (x : Search) where
       back true h = boundary-from x.haystack at (h refl)
       back false h = refl
 
-  -- the test of a pair
-  pub wants-tells : (v : Pair) → (wants nfa x v ≡ true) ↔ IsPermitted nfa x v
-  unfolding wants
-  wants-tells v = (
-    λ t. let both = parts (is_match nfa v) (permits nfa x v.1) t in record { matches = both.0; ends = (permits-tells v.1).0 both.1 },
-    λ h. let m : is_match nfa v ≡ true = h.matches in rw m ((permits-tells v.1).1 h.ends),
-  )
-    where
-      parts : (b c : Bool) → (b && c) ≡ true → (b ≡ true) × (c ≡ true)
-      parts true c t = (refl, t)
-      parts false c t = cc
+  module _ (n : ℕ) where
+    -- the test of a pair
+    pub wants-tells : (v : Pair) → (wants nfa x n v ≡ true) ↔ IsHeld nfa x n v
+    unfolding wants
+    wants-tells v = (
+      λ t. let both = parts (permits nfa x v.1) (is_below n (pattern_at nfa v)) t in of (pattern_at nfa v) refl ((permits-tells v.1).0 both.0) both.1,
+      λ h.
+          let p : permits nfa x v.1 ≡ true = (permits-tells v.1).1 h.permitted.ends in
+          let is : pattern_at nfa v ≡ Some h.pattern = h.pattern_is in
+          let less : nat_lt h.pattern n ≡ true = lt-ltb h.pattern n h.below in
+          rw (p, is) less,
+    )
+      where
+        parts : (b c : Bool) → (b && c) ≡ true → (b ≡ true) × (c ≡ true)
+        parts true c t = (refl, t)
+        parts false c t = cc
 
-  pub wants-match : (v : Pair) → wants nfa x v ≡ true → is_match nfa v ≡ true
-  wants-match v t = ((wants-tells v).0 t).matches
+        of : (o : Option ℕ) → pattern_at nfa v ≡ o → IsPermittedEnd nfa x v.1 → is_below n o ≡ true → IsHeld nfa x n v
+        of None e ends t = cc
+        of (Some k) e ends t = record {
+          permitted = record { matches = rw e refl; ends = ends };
+          pattern = k;
+          pattern_is = e;
+          below = elim (cases_lt k n) [ inl less ↦ less | inr more ↦ let f : nat_lt k n ≡ false = le-ltb k n more in cc ];
+        }
 
-  -- a match at a position that permits it
-  pub wants-here : (s at : ℕ) (k : ℕ) → pattern_of (node_at nfa s) ≡ Some k → permits nfa x at ≡ true → wants nfa x (s, at) ≡ true
-  unfolding wants
-  wants-here s at k is permitted = rw (is, permitted) refl
+    pub wants-match : (v : Pair) → wants nfa x n v ≡ true → is_match nfa v ≡ true
+    wants-match v t = ((wants-tells v).0 t).permitted.matches
 
-  -- at another position none is wanted
-  pub wants-nowhere : (v : Pair) (at : ℕ) → v.1 ≡ at → permits nfa x at ≡ false → wants nfa x v ≡ true → ⊥
-  unfolding wants
-  wants-nowhere v at here off t = of (is_match nfa v) (permits nfa x v.1) (rw here off) t
-    where
-      of : (b c : Bool) → c ≡ false → (b && c) ≡ true → ⊥
-      of true c f t = cc
-      of false c f t = cc
+    -- the test of a match of this pattern
+    pub wants-here : (s at : ℕ) (k : ℕ) → pattern_of (node_at nfa s) ≡ Some k → wants nfa x n (s, at) ≡ (permits nfa x at && nat_lt k n)
+    unfolding wants
+    wants-here s at k is = rw is refl
 
 -- what is put into the set
 
@@ -105,17 +110,17 @@ module _ (nfa : Automaton) (wanted : Pair → Bool) where
         | inr f ↦ rw f (ap (λ l. a ∷ l) (before-none front (λ b i. plain b (inr i))))
       ]
 
-  -- one wanted pair
-  pub Gathers-one : (past : Bool) (a : Pair × Slots) (k : ℕ) (set : List Bool) → wanted a.0 ≡ true → pattern_at nfa a.0 ≡ Some k
-      → Gathers nfa past wanted (a ∷ []) set (not past || nat_lt k (length set)) (with_pattern set k)
-  Gathers-one true a k set t is = record {
+  -- one wanted pair, of a pattern that the set has room for
+  pub Gathers-one : (past : Bool) (a : Pair × Slots) (k : ℕ) (set : List Bool) → wanted a.0 ≡ true → pattern_at nfa a.0 ≡ Some k → k < length set
+      → Gathers nfa past wanted (a ∷ []) set true (with_pattern set k)
+  Gathers-one true a k set t is room = record {
     capacity = length-with set k;
     gained = λ j. (
       λ h. elim ((holds-with set k j).0 h) [ inl o ↦ inl o | inr b ↦ inr (b.0, rw (← b.1) here) ],
       λ s. elim s [ inl o ↦ (holds-with set k j).1 (inl o) | inr b ↦ (holds-with set k j).1 (inr (b.0, only j b.1)) ],
     );
-    some = λ e. (k, below e, here);
-    none = λ e j less h. let same_pattern : k ≡ j = only j h in absurd (above e (omega arith));
+    some = λ e. (k, room, here);
+    none = λ never. cc;
   }
     where
       here : HoldsMatch wanted (pattern_at nfa) k (a ∷ [])
@@ -127,13 +132,17 @@ module _ (nfa : Automaton) (wanted : Pair → Bool) where
             | inl e ↦ let at : pattern_at nfa a.0 ≡ Some j = rw (← e) h.pattern_is in let both : Some k ≡ Some j = sym is ∙ at in cc
             | inr never ↦ absurd never
           ]
+  Gathers-one false a k set t is room = rw t (refl, (k, is, refl))
 
-      below : nat_lt k (length set) ≡ true → k < length set
-      below e = elim (cases_lt k (length set)) [ inl less ↦ less | inr more ↦ let f : nat_lt k (length set) ≡ false = le-ltb k (length set) more in cc ]
-
-      above : nat_lt k (length set) ≡ false → k < length set → ⊥
-      above e less = let f : nat_lt k (length set) ≡ true = lt-ltb k (length set) less in cc
-  Gathers-one false a k set t is = rw t (refl, (k, is, refl))
+  -- the set keeps its capacity
+  pub Gathers-capacity : (past : Bool) (front : Front) (old : List Bool) (met : Bool) (new : List Bool) → Gathers nfa past wanted front old met new
+      → length new ≡ length old
+  Gathers-capacity true front old met new g = g.capacity
+  Gathers-capacity false front old met new g = of (first_match wanted front) g
+    where
+      of : (o : Found) → GathersFirst nfa o old met new → length new ≡ length old
+      of None h = ap (λ (l : List Bool). length l) h.1
+      of (Some a) h = ap (λ (l : List Bool). length l) h.1.2 ∙ length-with old h.1.0
 
   -- a pair that stands in two lists
   in-left : (b : Pair × Slots) (f g : Front) → In b f → In b (f ++ g)

@@ -1,6 +1,7 @@
 -- What a turn comes to, and the turns of one state and of all states at a position, for a set of patterns. Rows have no slots.
-use Rattle.std.proofs.Common.{◌≡◌, ℕ, ◌≤◌, ◌⊎◌, inl, inr, Bool, true, false, List, [], ◌∷◌, ◌++◌, length, map, take, refl, sym, ap, ◌∙◌, subst, arith, append_assoc, append-nil}
-use Rattle.std.specs.Prelude.{Option, None, Some, not, ◌&&◌, ◌||◌, nat_lt, All}
+use Rattle.std.proofs.Common.{◌≡◌, ℕ, ◌<◌, ◌≤◌, ◌⊎◌, inl, inr, Bool, true, false, List, [], ◌∷◌, ◌++◌, length, map, take, refl, sym, ap, ◌∙◌, subst, arith, append_assoc, append-nil}
+use Rattle.std.specs.Prelude.{Option, None, Some, ◌&&◌, ◌||◌, nat_lt, All}
+use Rattle.std.proofs.lemmas.Bool.{cases_lt, le-ltb}
 use Rattle.std.proofs.lemmas.List.{take-take}
 use Rattle.std.proofs.lemmas.List.Elements.{All-take}
 use Rattle.regex_search_core.specs.PatternSets.{with_pattern}
@@ -22,7 +23,7 @@ use Rattle.nfa_pikevm.specs.Overlapping.{permits, wants, Gathers, AdvancesInSet,
 use Rattle.nfa_pikevm.specs.declared.closure.Turn.{Turn}
 use Rattle.nfa_pikevm.specs.declared.closure.Turn.TheVariants.{On, Matched, Over}
 use Rattle.nfa_pikevm.specs.declared.frame.FollowEpsilon.{FollowEpsilon}
-use Rattle.nfa_pikevm.proofs.OverlapSetLemmas.{wants-match, wants-here, wants-nowhere, Gathers-none, Gathers-one, Gathers-then, before-none, before-then}
+use Rattle.nfa_pikevm.proofs.OverlapSetLemmas.{wants-match, wants-here, Gathers-none, Gathers-one, Gathers-then, Gathers-capacity, before-none, before-then}
 
 -- no slots
 pub no-slots : (row : Slots) → length row ≡ 0 → row ≡ []
@@ -65,182 +66,194 @@ module _ (nfa : Automaton) (x : Search) (at : ℕ) where
     };
   }
 
-  -- what a turn puts into the set
-  pub record TurnInSet (past : Bool) (front : Front) (set : List Bool) (hit : Bool) (gathered : List Bool) (now : Bool) : Type 0 where
-    pub found : Bool
-    pub gathers : Gathers nfa past (wants nfa x) front set found gathered
-    pub cut : moves (edges nfa x) (before_match (wants nfa x) front) ≡ moves (edges nfa x) front
-    pub now_is : now ≡ (found || hit)
+  -- with a set of capacity n
+  module _ (n : ℕ) where
+    -- what a turn puts into the set
+    pub record TurnInSet (past : Bool) (front : Front) (set : List Bool) (hit : Bool) (gathered : List Bool) (now : Bool) : Type 0 where
+      pub found : Bool
+      pub gathers : Gathers nfa past (wants nfa x n) front set found gathered
+      pub cut : moves (edges nfa x) (before_match (wants nfa x n) front) ≡ moves (edges nfa x) front
+      pub now_is : now ≡ (found || hit)
 
-  -- no match
-  pub turn-plain : (past : Bool) (front : Front) (set : List Bool) (hit : Bool) (gathered : List Bool) (now : Bool) → NoMatch (is_match nfa) front
-      → gathered ≡ set → now ≡ hit → TurnInSet past front set hit gathered now
-  turn-plain past front set hit gathered now plain same_set same_hit =
-      let none : NoMatch (wants nfa x) front = λ b i t. plain b i (wants-match nfa x b.0 t) in
-      record {
-        found = false;
-        gathers = rw same_set (Gathers-none nfa (wants nfa x) past front set none);
-        cut = ap (moves (edges nfa x)) (before-none nfa (wants nfa x) front none);
-        now_is = same_hit;
+    -- no match
+    pub turn-plain : (past : Bool) (front : Front) (set : List Bool) (hit : Bool) (gathered : List Bool) (now : Bool) → NoMatch (is_match nfa) front
+        → gathered ≡ set → now ≡ hit → TurnInSet past front set hit gathered now
+    turn-plain past front set hit gathered now plain same_set same_hit =
+        let none : NoMatch (wants nfa x n) front = λ b i t. plain b i (wants-match nfa x n b.0 t) in
+        record {
+          found = false;
+          gathers = rw same_set (Gathers-none nfa (wants nfa x n) past front set none);
+          cut = ap (moves (edges nfa x)) (before-none nfa (wants nfa x n) front none);
+          now_is = same_hit;
+        }
+
+    -- a match
+    pub turn-matched : (past counts : Bool) (s : ℕ) (written : Slots) (k : ℕ) (set : List Bool) (hit : Bool) (gathered : List Bool) (now : Bool)
+        → pattern_of (node_at nfa s) ≡ Some k → counts ≡ (permits nfa x at && nat_lt k n) → length set ≡ n
+        → (counts ≡ false → gathered ≡ set) → (counts ≡ true → gathered ≡ with_pattern set k) → now ≡ (counts || hit)
+        → TurnInSet past (((s, at), written) ∷ []) set hit gathered now
+    turn-matched past false s written k set hit gathered now is counts size dead put met =
+        let off : wants nfa x n (s, at) ≡ false = wants-here nfa x n s at k is ∙ sym counts in
+        let none : NoMatch (wants nfa x n) (((s, at), written) ∷ []) =
+        λ b i t. let same : b.0 ≡ (s, at) = here b i in let never : wants nfa x n (s, at) ≡ true = rw (← same) t in absurd (let e = off in cc) in
+        record {
+          found = false;
+          gathers = rw (dead refl) (Gathers-none nfa (wants nfa x n) past (((s, at), written) ∷ []) set none);
+          cut = ap (moves (edges nfa x)) (before-none nfa (wants nfa x n) (((s, at), written) ∷ []) none);
+          now_is = met;
+        }
+      where
+        here : (b : Pair × Slots) → In b (((s, at), written) ∷ []) → b.0 ≡ (s, at)
+        here b i = elim i [ inl e ↦ ap (λ (a : Pair × Slots). a.0) e | inr never ↦ absurd never ]
+    turn-matched past true s written k set hit gathered now is counts size dead put met =
+        let t : wants nfa x n (s, at) ≡ true = wants-here nfa x n s at k is ∙ sym counts in
+        let matches : is_match nfa (s, at) ≡ true = rw is refl in
+        let none : edges nfa x (s, at) ≡ [] = IsMatch-edges nfa x (s, at) matches in
+        let room : k < n = below (permits nfa x at) (sym counts) in
+        record {
+          found = true;
+          gathers = rw (put refl) (Gathers-one nfa (wants nfa x n) past ((s, at), written) k set t is (omega arith));
+          cut = rw (t, none) refl;
+          now_is = met;
+        }
+      where
+        below : (p : Bool) → (p && nat_lt k n) ≡ true → k < n
+        below true e = elim (cases_lt k n) [ inl less ↦ less | inr more ↦ let f : nat_lt k n ≡ false = le-ltb k n more in cc ]
+        below false e = cc
+
+    -- what a turn comes to
+
+    module _ (past : Bool) (s : ℕ) (met : Met) (items : List (ℕ × Slots)) (stack : List FollowEpsilon) (set : List Bool) (hit : Bool) (turn : Turn) (after : Met)
+        (kept : List (ℕ × Slots)) (above : List FollowEpsilon) (written : Slots) (gathered : List Bool) (now : Bool)
+        (e : Enters nfa x at s met items stack [] turn after kept above written) (empty : length written ≡ 0)
+        (t : TurnInSet past e.front set hit gathered now) where
+      turn-follows : (on : Option ℕ) → state_on turn ≡ on → (before : Front) (old : Slots) (work : List Item)
+          → Follows nfa x at met before (ToExplore (s, at) ∷ work_onto at stack (ToLoad old ∷ work)) [] after (before ++ e.front) (with_state at on (work_onto at above (ToLoad old ∷ work))) []
+      turn-follows on is before old work =
+          subst (λ o. Follows nfa x at met before (ToExplore (s, at) ∷ work_onto at stack (ToLoad old ∷ work)) [] after (before ++ e.front) (with_state at o (work_onto at above (ToLoad old ∷ work))) []) is
+          (subst (λ r. Follows nfa x at met before (ToExplore (s, at) ∷ work_onto at stack (ToLoad old ∷ work)) [] after (before ++ e.front) (with_state at (state_on turn) (work_onto at above (ToLoad old ∷ work))) r)
+          (no-slots written empty) (e.follows before old work))
+
+      pub advances-on : (on : Option ℕ) → state_on turn ≡ on → AdvancesInSet nfa x at past n s met items stack set hit on after kept above gathered now
+      advances-on on is = record {
+        front = e.front;
+        found = t.found;
+        added = e.added;
+        gathers = t.gathers;
+        cut = t.cut;
+        now_is = t.now_is;
+        formed = e.formed;
+        follows = turn-follows on is;
       }
 
-  -- a match
-  pub turn-matched : (past permitted : Bool) (s : ℕ) (written : Slots) (k : ℕ) (set : List Bool) (hit : Bool) (gathered : List Bool) (now : Bool)
-      → pattern_of (node_at nfa s) ≡ Some k → permitted ≡ permits nfa x at
-      → (permitted ≡ false → gathered ≡ set) → (permitted ≡ true → gathered ≡ with_pattern set k)
-      → now ≡ ((permitted && (not past || nat_lt k (length set))) || hit)
-      → TurnInSet past (((s, at), written) ∷ []) set hit gathered now
-  turn-matched past false s written k set hit gathered now is permitted dead put met =
-      let none : NoMatch (wants nfa x) (((s, at), written) ∷ []) =
-      λ b i t. wants-nowhere nfa x b.0 at (here b i) (sym permitted) t in
-      record {
-        found = false;
-        gathers = rw (dead refl) (Gathers-none nfa (wants nfa x) past (((s, at), written) ∷ []) set none);
-        cut = ap (moves (edges nfa x)) (before-none nfa (wants nfa x) (((s, at), written) ∷ []) none);
-        now_is = met;
-      }
-    where
-      here : (b : Pair × Slots) → In b (((s, at), written) ∷ []) → b.0.1 ≡ at
-      here b i = elim i [ inl e ↦ ap (λ (a : Pair × Slots). a.0.1) e | inr never ↦ absurd never ]
-  turn-matched past true s written k set hit gathered now is permitted dead put met =
-      let t = wants-here nfa x s at k is (sym permitted) in
-      let matches : is_match nfa (s, at) ≡ true = rw is refl in
-      let none : edges nfa x (s, at) ≡ [] = IsMatch-edges nfa x (s, at) matches in
-      record {
-        found = not past || nat_lt k (length set);
-        gathers = rw (put refl) (Gathers-one nfa (wants nfa x) past ((s, at), written) k set t is);
-        cut = rw (t, none) refl;
-        now_is = met;
+      pub advances-resumed : (on : Option ℕ) (left : List FollowEpsilon) (row : Slots) → length row ≡ 0 → state_on turn ≡ None
+          → ((front : Front) (work : List Item) → Follows nfa x at after front (work_onto at above work) [] after front (with_state at on (work_onto at left work)) row)
+          → AdvancesInSet nfa x at past n s met items stack set hit on after kept left gathered now
+      advances-resumed on left row short is resumed = record {
+        front = e.front;
+        found = t.found;
+        added = e.added;
+        gathers = t.gathers;
+        cut = t.cut;
+        now_is = t.now_is;
+        formed = e.formed;
+        follows = λ before old work.
+            follows-then (turn-follows None is before old work)
+            (subst (λ r. Follows nfa x at after (before ++ e.front) (work_onto at above (ToLoad old ∷ work)) [] after (before ++ e.front) (with_state at on (work_onto at left (ToLoad old ∷ work))) r)
+            (no-slots row short) (resumed (before ++ e.front) (ToLoad old ∷ work)));
       }
 
-  -- what a turn comes to
+    -- what was met, by the turn
+    module _ (past : Bool) (s : ℕ) (written : Slots) (set : List Bool) (hit : Bool) (gathered : List Bool) (now : Bool) (turn : Turn) (front : Front)
+        (met : IsMet nfa x (s, at) written turn front) where
+      pub turn-on : (on : ℕ) → turn ≡ On on → gathered ≡ set → now ≡ hit → TurnInSet past front set hit gathered now
+      turn-on on is = turn-plain past front set hit gathered now (rw is at met)
 
-  module _ (past : Bool) (s : ℕ) (met : Met) (items : List (ℕ × Slots)) (stack : List FollowEpsilon) (set : List Bool) (hit : Bool) (turn : Turn) (after : Met)
-      (kept : List (ℕ × Slots)) (above : List FollowEpsilon) (written : Slots) (gathered : List Bool) (now : Bool)
-      (e : Enters nfa x at s met items stack [] turn after kept above written) (empty : length written ≡ 0)
-      (t : TurnInSet past e.front set hit gathered now) where
-    turn-follows : (on : Option ℕ) → state_on turn ≡ on → (before : Front) (old : Slots) (work : List Item)
-        → Follows nfa x at met before (ToExplore (s, at) ∷ work_onto at stack (ToLoad old ∷ work)) [] after (before ++ e.front) (with_state at on (work_onto at above (ToLoad old ∷ work))) []
-    turn-follows on is before old work =
-        subst (λ o. Follows nfa x at met before (ToExplore (s, at) ∷ work_onto at stack (ToLoad old ∷ work)) [] after (before ++ e.front) (with_state at o (work_onto at above (ToLoad old ∷ work))) []) is
-        (subst (λ r. Follows nfa x at met before (ToExplore (s, at) ∷ work_onto at stack (ToLoad old ∷ work)) [] after (before ++ e.front) (with_state at (state_on turn) (work_onto at above (ToLoad old ∷ work))) r)
-        (no-slots written empty) (e.follows before old work))
+      pub turn-over : turn ≡ Over → gathered ≡ set → now ≡ hit → TurnInSet past front set hit gathered now
+      turn-over is = turn-plain past front set hit gathered now (rw is at met)
 
-    pub advances-on : (on : Option ℕ) → state_on turn ≡ on → AdvancesInSet nfa x at past s met items stack set hit on after kept above gathered now
-    advances-on on is = record {
-      front = e.front;
-      found = t.found;
-      added = e.added;
-      gathers = t.gathers;
-      cut = t.cut;
-      now_is = t.now_is;
-      formed = e.formed;
-      follows = turn-follows on is;
+      pub turn-match : (pattern : PatternID) (permitted : Bool) → turn ≡ Matched pattern → permitted ≡ permits nfa x at → length set ≡ n
+          → ((permitted && nat_lt (number_of pattern) n) ≡ false → gathered ≡ set)
+          → ((permitted && nat_lt (number_of pattern) n) ≡ true → gathered ≡ with_pattern set (number_of pattern))
+          → now ≡ ((permitted && nat_lt (number_of pattern) n) || hit)
+          → TurnInSet past front set hit gathered now
+      turn-match pattern permitted is may size dead put noted =
+          let m : (front ≡ ((s, at), written) ∷ []) × (pattern_of (node_at nfa s) ≡ Some (number_of pattern)) = rw is at met in
+          rw m.0 (turn-matched past (permitted && nat_lt (number_of pattern) n) s written (number_of pattern) set hit gathered now m.1
+          (ap (λ p. p && nat_lt (number_of pattern) n) may) size dead put noted)
+
+    -- the turns of one state so far
+
+    pub record Arriving (past : Bool) (s : ℕ) (met : Met) (items : List (ℕ × Slots)) (set : List Bool) (hit : Bool) (on : Option ℕ) (after : Met)
+        (kept : List (ℕ × Slots)) (above : List FollowEpsilon) (gathered : List Bool) : Type 0 where
+      pub front : Front
+      pub added : kept ≡ items ++ moves (edges nfa x) front
+      pub gathers : Gathers nfa past (wants nfa x n) front set hit gathered
+      pub cut : past ≡ false → moves (edges nfa x) (before_match (wants nfa x n) front) ≡ moves (edges nfa x) front
+      pub formed : (before : Front) → Formed nfa at met.bits before → Formed nfa at after.bits (before ++ front)
+      pub follows : (before : Front) (old : Slots) (work : List Item)
+          → Follows nfa x at met before (ToExplore (s, at) ∷ ToLoad old ∷ work) []
+          after (before ++ front) (with_state at on (work_onto at above (ToLoad old ∷ work))) []
+
+    pub Arriving-start : (past : Bool) (s : ℕ) (met : Met) (items : List (ℕ × Slots)) (set : List Bool) → Arriving past s met items set false (Some s) met items [] set
+    Arriving-start past s met items set = record {
+      front = [];
+      added = rw append-nil refl;
+      gathers = Gathers-none nfa (wants nfa x n) past [] set (λ b i t. i);
+      cut = λ off. refl;
+      formed = λ before f. rw append-nil f;
+      follows = λ before old work. rw append-nil (follows-none met before (ToExplore (s, at) ∷ ToLoad old ∷ work) []);
     }
 
-    pub advances-resumed : (on : Option ℕ) (left : List FollowEpsilon) (row : Slots) → length row ≡ 0 → state_on turn ≡ None
-        → ((front : Front) (work : List Item) → Follows nfa x at after front (work_onto at above work) [] after front (with_state at on (work_onto at left work)) row)
-        → AdvancesInSet nfa x at past s met items stack set hit on after kept left gathered now
-    advances-resumed on left row short is resumed = record {
-      front = e.front;
-      found = t.found;
-      added = e.added;
-      gathers = t.gathers;
-      cut = t.cut;
-      now_is = t.now_is;
-      formed = e.formed;
-      follows = λ before old work.
-          follows-then (turn-follows None is before old work)
-          (subst (λ r. Follows nfa x at after (before ++ e.front) (work_onto at above (ToLoad old ∷ work)) [] after (before ++ e.front) (with_state at on (work_onto at left (ToLoad old ∷ work))) r)
-          (no-slots row short) (resumed (before ++ e.front) (ToLoad old ∷ work)));
+    pub Arriving-step : (past : Bool) (s : ℕ) (met : Met) (items : List (ℕ × Slots)) (set : List Bool) (hit : Bool) (sid : ℕ) (middle : Met)
+        (kept : List (ℕ × Slots)) (stack : List FollowEpsilon) (mid : List Bool) (on : Option ℕ) (after : Met) (more : List (ℕ × Slots)) (above : List FollowEpsilon) (gathered : List Bool) (now : Bool)
+        → (past ≡ false → hit ≡ false) → length set ≡ n
+        → Arriving past s met items set hit (Some sid) middle kept stack mid → AdvancesInSet nfa x at past (length mid) sid middle kept stack mid hit on after more above gathered now
+        → Arriving past s met items set now on after more above gathered
+    Arriving-step past s met items set hit sid middle kept stack mid on after more above gathered now off size a c =
+        let same : length mid ≡ n = Gathers-capacity nfa (wants nfa x n) past a.front set hit mid a.gathers ∙ size in
+        let b = subst (λ m. AdvancesInSet nfa x at past m sid middle kept stack mid hit on after more above gathered now) same c in
+        record {
+          front = a.front ++ b.front;
+          added = b.added ∙ ap (λ l. l ++ moves (edges nfa x) b.front) a.added ∙ append_assoc items (moves (edges nfa x) a.front) (moves (edges nfa x) b.front)
+              ∙ ap (λ l. items ++ l) (sym (moves-append (edges nfa x) a.front b.front));
+          gathers = subst (λ h. Gathers nfa past (wants nfa x n) (a.front ++ b.front) set h gathered) (sym b.now_is)
+              (Gathers-then nfa (wants nfa x n) past a.front b.front set mid gathered hit b.found off a.gathers b.gathers);
+          cut = λ no.
+              let first : Gathers nfa false (wants nfa x n) a.front set false mid =
+              subst (λ h. Gathers nfa false (wants nfa x n) a.front set h mid) (off no) (subst (λ b. Gathers nfa b (wants nfa x n) a.front set hit mid) no a.gathers) in
+              rw (before-then nfa (wants nfa x n) a.front b.front set mid first)
+              (moves-append (edges nfa x) a.front (before_match (wants nfa x n) b.front)
+              ∙ ap (λ l. moves (edges nfa x) a.front ++ l) b.cut ∙ sym (moves-append (edges nfa x) a.front b.front));
+          formed = λ before f. subst (λ l. Formed nfa at after.bits l) (append_assoc before a.front b.front) (b.formed (before ++ a.front) (a.formed before f));
+          follows = λ before old work.
+              subst (λ l. Follows nfa x at met before (ToExplore (s, at) ∷ ToLoad old ∷ work) [] after l (with_state at on (work_onto at above (ToLoad old ∷ work))) [])
+              (append_assoc before a.front b.front)
+              (follows-then (a.follows before old work) (b.follows (before ++ a.front) old work));
+        }
+
+    pub Arriving-end : (past : Bool) (s : ℕ) (met : Met) (items : List (ℕ × Slots)) (set : List Bool) (hit : Bool) (after : Met) (kept : List (ℕ × Slots))
+        (top : ℕ) (frames : List FollowEpsilon) (gathered : List Bool) → Arriving past s met items set hit None after kept (take top frames) gathered
+        → (top ≡ 0) ⊎ ((past ≡ false) × (hit ≡ true)) → Paid nfa met (length items) [] 1 after (length kept) [] 0
+        → ArrivesInSet nfa x at past n s met items set hit after kept gathered
+    Arriving-end past s met items set hit after kept top frames gathered a over paid = record {
+      front = a.front;
+      added = a.added;
+      gathers = a.gathers;
+      cut = a.cut;
+      formed = a.formed;
+      paid = paid;
+      leads = λ before old work. record {
+        left = work_onto at (take top frames) (ToLoad old ∷ work);
+        written = [];
+        follows = a.follows before old work;
+        whole = λ goes.
+            elim over [
+              | inl none ↦ ap (λ n. work_onto at (take n frames) (ToLoad old ∷ work)) none
+              | inr stopped ↦ absurd (elim goes [ inl p ↦ let never : true ≡ false = sym p ∙ stopped.0 in cc | inr h ↦ let never : true ≡ false = sym stopped.1 ∙ h in cc ])
+            ];
+      };
     }
-
-  -- what was met, by the turn
-  module _ (past : Bool) (s : ℕ) (written : Slots) (set : List Bool) (hit : Bool) (gathered : List Bool) (now : Bool) (turn : Turn) (front : Front)
-      (met : IsMet nfa x (s, at) written turn front) where
-    pub turn-on : (on : ℕ) → turn ≡ On on → gathered ≡ set → now ≡ hit → TurnInSet past front set hit gathered now
-    turn-on on is = turn-plain past front set hit gathered now (rw is at met)
-
-    pub turn-over : turn ≡ Over → gathered ≡ set → now ≡ hit → TurnInSet past front set hit gathered now
-    turn-over is = turn-plain past front set hit gathered now (rw is at met)
-
-    pub turn-match : (pattern : PatternID) (permitted : Bool) → turn ≡ Matched pattern → permitted ≡ permits nfa x at
-        → (permitted ≡ false → gathered ≡ set) → (permitted ≡ true → gathered ≡ with_pattern set (number_of pattern))
-        → now ≡ ((permitted && (not past || nat_lt (number_of pattern) (length set))) || hit)
-        → TurnInSet past front set hit gathered now
-    turn-match pattern permitted is may dead put noted =
-        let m : (front ≡ ((s, at), written) ∷ []) × (pattern_of (node_at nfa s) ≡ Some (number_of pattern)) = rw is at met in
-        rw m.0 (turn-matched past permitted s written (number_of pattern) set hit gathered now m.1 may dead put noted)
-
-  -- the turns of one state so far
-
-  pub record Arriving (past : Bool) (s : ℕ) (met : Met) (items : List (ℕ × Slots)) (set : List Bool) (hit : Bool) (on : Option ℕ) (after : Met)
-      (kept : List (ℕ × Slots)) (above : List FollowEpsilon) (gathered : List Bool) : Type 0 where
-    pub front : Front
-    pub added : kept ≡ items ++ moves (edges nfa x) front
-    pub gathers : Gathers nfa past (wants nfa x) front set hit gathered
-    pub cut : past ≡ false → moves (edges nfa x) (before_match (wants nfa x) front) ≡ moves (edges nfa x) front
-    pub formed : (before : Front) → Formed nfa at met.bits before → Formed nfa at after.bits (before ++ front)
-    pub follows : (before : Front) (old : Slots) (work : List Item)
-        → Follows nfa x at met before (ToExplore (s, at) ∷ ToLoad old ∷ work) []
-        after (before ++ front) (with_state at on (work_onto at above (ToLoad old ∷ work))) []
-
-  pub Arriving-start : (past : Bool) (s : ℕ) (met : Met) (items : List (ℕ × Slots)) (set : List Bool) → Arriving past s met items set false (Some s) met items [] set
-  Arriving-start past s met items set = record {
-    front = [];
-    added = rw append-nil refl;
-    gathers = Gathers-none nfa (wants nfa x) past [] set (λ b i t. i);
-    cut = λ off. refl;
-    formed = λ before f. rw append-nil f;
-    follows = λ before old work. rw append-nil (follows-none met before (ToExplore (s, at) ∷ ToLoad old ∷ work) []);
-  }
-
-  pub Arriving-step : (past : Bool) (s : ℕ) (met : Met) (items : List (ℕ × Slots)) (set : List Bool) (hit : Bool) (sid : ℕ) (middle : Met)
-      (kept : List (ℕ × Slots)) (stack : List FollowEpsilon) (mid : List Bool) (on : Option ℕ) (after : Met) (more : List (ℕ × Slots)) (above : List FollowEpsilon) (gathered : List Bool) (now : Bool)
-      → (past ≡ false → hit ≡ false)
-      → Arriving past s met items set hit (Some sid) middle kept stack mid → AdvancesInSet nfa x at past sid middle kept stack mid hit on after more above gathered now
-      → Arriving past s met items set now on after more above gathered
-  Arriving-step past s met items set hit sid middle kept stack mid on after more above gathered now off a b = record {
-    front = a.front ++ b.front;
-    added = b.added ∙ ap (λ l. l ++ moves (edges nfa x) b.front) a.added ∙ append_assoc items (moves (edges nfa x) a.front) (moves (edges nfa x) b.front)
-        ∙ ap (λ l. items ++ l) (sym (moves-append (edges nfa x) a.front b.front));
-    gathers = subst (λ h. Gathers nfa past (wants nfa x) (a.front ++ b.front) set h gathered) (sym b.now_is)
-        (Gathers-then nfa (wants nfa x) past a.front b.front set mid gathered hit b.found off a.gathers b.gathers);
-    cut = λ no.
-        let first : Gathers nfa false (wants nfa x) a.front set false mid =
-        subst (λ h. Gathers nfa false (wants nfa x) a.front set h mid) (off no) (subst (λ b. Gathers nfa b (wants nfa x) a.front set hit mid) no a.gathers) in
-        rw (before-then nfa (wants nfa x) a.front b.front set mid first)
-        (moves-append (edges nfa x) a.front (before_match (wants nfa x) b.front)
-        ∙ ap (λ l. moves (edges nfa x) a.front ++ l) b.cut ∙ sym (moves-append (edges nfa x) a.front b.front));
-    formed = λ before f. subst (λ l. Formed nfa at after.bits l) (append_assoc before a.front b.front) (b.formed (before ++ a.front) (a.formed before f));
-    follows = λ before old work.
-        subst (λ l. Follows nfa x at met before (ToExplore (s, at) ∷ ToLoad old ∷ work) [] after l (with_state at on (work_onto at above (ToLoad old ∷ work))) [])
-        (append_assoc before a.front b.front)
-        (follows-then (a.follows before old work) (b.follows (before ++ a.front) old work));
-  }
-
-  pub Arriving-end : (past : Bool) (s : ℕ) (met : Met) (items : List (ℕ × Slots)) (set : List Bool) (hit : Bool) (after : Met) (kept : List (ℕ × Slots))
-      (top : ℕ) (frames : List FollowEpsilon) (gathered : List Bool) → Arriving past s met items set hit None after kept (take top frames) gathered
-      → (top ≡ 0) ⊎ ((past ≡ false) × (hit ≡ true)) → Paid nfa met (length items) [] 1 after (length kept) [] 0
-      → ArrivesInSet nfa x at past s met items set hit after kept gathered
-  Arriving-end past s met items set hit after kept top frames gathered a over paid = record {
-    front = a.front;
-    added = a.added;
-    gathers = a.gathers;
-    cut = a.cut;
-    formed = a.formed;
-    paid = paid;
-    leads = λ before old work. record {
-      left = work_onto at (take top frames) (ToLoad old ∷ work);
-      written = [];
-      follows = a.follows before old work;
-      whole = λ goes.
-          elim over [
-            | inl none ↦ ap (λ n. work_onto at (take n frames) (ToLoad old ∷ work)) none
-            | inr stopped ↦ absurd (elim goes [ inl p ↦ let never : true ≡ false = sym p ∙ stopped.0 in cc | inr h ↦ let never : true ≡ false = sym stopped.1 ∙ h in cc ])
-          ];
-    };
-  }
 
 -- what one more turn costs
 pub Paid-then : {nfa : Automaton} {a : Met} {ka : ℕ} {b : Met} {kb : ℕ} {sb : List FollowEpsilon} {c : Met} {kc : ℕ} {sc : List FollowEpsilon} {t : ℕ}

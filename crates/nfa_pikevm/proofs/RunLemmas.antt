@@ -64,6 +64,7 @@ yields-more : (xs : List Match) (s t u : FindMatches) (i : Match) → Yields fin
 yields-more [] s t u i ran st = (u, subst (λ (q : FindMatches). find_steps q (Some i) u) (sym ran) st, refl)
 yields-more (x ∷ xs) s t u i ran st = (ran.0, ran.1, yields-more xs ran.0 t u i ran.2 st)
 
+
 no-more : (xs more : List Found) → xs ≡ xs ++ more → length more ≡ 0
 no-more xs more e = omega (arith, ap length e, length-append xs more)
 
@@ -126,10 +127,9 @@ module _ (vm : Pike) where
       of (Ok (Some f)) step gives ends =
           let is : Ok (found_of m) ≡ Ok f = some-same (item m) (Ok f) gives in
           let same : found_of m ≡ f = ok-same' (found_of m) f is in
-          let k = advance w (Some f) (find_walk t) (rw (at.engine, at.walk) at step) in (
-            subst (λ (g : Found). IsNext vm.nfa (kind_of vm) w.at.earliest w (Some g)) (sym same) k.0,
-            record { engine = turn.engine ∙ at.engine; walk = subst (λ (g : Found). find_walk t ≡ past w g) (sym same) k.1; going = ends },
-          )
+          let k = advance w (Some f) (find_walk t) (rw (at.engine, at.walk) at step) in
+          (subst (λ (g : Found). IsNext vm.nfa (kind_of vm) w.at.earliest w (Some g)) (sym same) k.0,
+           record { engine = turn.engine ∙ at.engine; walk = subst (λ (g : Found). find_walk t ≡ past w g) (sym same) k.1; going = ends })
       of (Ok None) step gives ends = cc
       of (Err e) step gives ends = let is : Ok (found_of m) ≡ Err e = some-same (item m) (Err e) gives in cc
 
@@ -171,10 +171,9 @@ module _ (vm : Pike) where
     unfolding YieldsRun
     runs-give = λ p seen from.
         let begun : IsAt (fresh x) p.from = subst (λ (q : FindMatches). IsAt (fresh x) q) (sym from) start in
-        let ran = p.gave.0 in (
-          record { come = so-far p.items (fresh x) p.from ran.0 begun ran.1 },
-          λ whole. let over = ran.2 whole in record { come = and-last p.items (fresh x) p.from ran.0 over.0 begun ran.1 over.1 },
-        )
+        let ran = p.gave.0 in
+        (record { come = so-far p.items (fresh x) p.from ran.0 begun ran.1 },
+         λ whole. let over = ran.2 whole in record { come = and-last p.items (fresh x) p.from ran.0 over.0 begun ran.1 over.1 })
 
     pub runs-apart : RunsApart x s
     runs-apart = λ p seen from. let k = matches-apart vm.nfa (kind_of vm) x.earliest x (map found_of p.items) (runs-give p seen from).0 in (k, all-inside x None p.items k)

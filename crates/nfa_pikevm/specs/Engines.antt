@@ -1,9 +1,10 @@
 -- A PikeVM and its cache as values, and when a cache fits.
-use Rattle.std.specs.Prelude.{◌≡◌, ℕ, ◌+◌, ◌-◌, ◌*◌, ◌^◌, ◌≤◌, max, min, Option, length, unwrap_or}
+use Rattle.std.specs.Prelude.{◌≡◌, ℕ, ◌+◌, ◌-◌, ◌*◌, ◌^◌, ◌≤◌, max, min, Bool, List, Option, length, unwrap_or, nat_lt, if◌then◌else◌}
 use Rattle.std.specs.List.{sum_by}
 use Rattle.regex_search_core.specs.Groups.{slot_count}
+use Rattle.regex_search_core.specs.PatternSets.{size_of_set}
 use Rattle.regex_search_core.specs.declared.search.MatchKind.{MatchKind}
-use Rattle.regex_search_core.specs.declared.search.MatchKind.TheVariants.{LeftmostFirst}
+use Rattle.regex_search_core.specs.declared.search.MatchKind.TheVariants.{All, LeftmostFirst}
 use Rattle.thompson_nfa.specs.Automaton.{Automaton, Node}
 use Rattle.thompson_nfa.specs.Automaton.Node.{ByteRange, Sparse, Dense, Look, Union, BinaryUnion, Capture, Fail, Match}
 
@@ -43,6 +44,12 @@ pub record PikeCache : Type 0 where
   pub turns : ℕ
   pub all_scans : ℕ
   pub all_turns : ℕ
+
+-- How many scans a search for the patterns of all matches makes: one, or none where the first match alone is meant and the set holds
+-- a pattern.
+abbrev pub overlap_scans : MatchKind → List Bool → ℕ
+overlap_scans All set = 1
+overlap_scans LeftmostFirst set = if nat_lt 0 (size_of_set set) then 0 else 1
 
 -- the scans and turns of the new search are the only ones that were added to those of all
 pub record AddsWork (old new : PikeCache) : Type 0 where

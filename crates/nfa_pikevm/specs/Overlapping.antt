@@ -4,7 +4,7 @@ use Rattle.regex_search_core.specs.PatternSets.{with_pattern}
 use Rattle.regex_search_core.specs.Search.{Search}
 use Rattle.thompson_nfa.specs.Automaton.{Automaton}
 use Rattle.nfa_paths.specs.Graphs.{Pair}
-use Rattle.nfa_paths.specs.Paths.{edges, is_match, is_utf8_empty}
+use Rattle.nfa_paths.specs.Paths.{edges, is_utf8_empty}
 use Rattle.nfa_paths.specs.Exploring.{Slots, Found, Item}
 use Rattle.nfa_paths.specs.Exploring.Item.{Explore as ToExplore, Load as ToLoad}
 use Rattle.nfa_paths.specs.Kinds.{HoldsMatch, first_match, before_match}
@@ -22,9 +22,14 @@ is_boundary haystack i =
 unfoldable pub permits : Automaton → Search → ℕ → Bool
 permits nfa x at = not (is_utf8_empty nfa) || is_boundary x.haystack at
 
--- whether the pair is a match that may end where it does
-unfoldable pub wants : Automaton → Search → Pair → Bool
-wants nfa x v = is_match nfa v && permits nfa x v.1
+-- whether there is a number, and it is below n
+abbrev pub is_below : ℕ → Option ℕ → Bool
+is_below n None = false
+is_below n (Some k) = nat_lt k n
+
+-- whether the pair is a match that may end where it does, of a pattern that a set of this capacity has room for
+unfoldable pub wants : Automaton → Search → ℕ → Pair → Bool
+wants nfa x capacity v = permits nfa x v.1 && is_below capacity (pattern_at nfa v)
 
 -- Each pattern below the capacity of which the front holds a wanted pair is put into the set, and it is told whether there is one.
 pub record GathersAll (nfa : Automaton) (wanted : Pair → Bool) (front : Front) (old : List Bool) (met : Bool) (new : List Bool) : Type 0 where
@@ -52,15 +57,15 @@ abbrev pub rowless : List ℕ → List (ℕ × Slots)
 rowless states = map (λ s. (s, [])) states
 
 module _ (nfa : Automaton) (x : Search) where
-  -- What comes of a turn that tries to enter a state, and of what was put off where it leads nowhere: the front that it adds, and
+  -- Of a set of capacity n: what comes of a turn that tries to enter a state, and of what was put off where it leads nowhere: the front that it adds, and
   -- what of it is put into the set.
-  pub record AdvancesInSet (at : ℕ) (past : Bool) (s : ℕ) (met : Met) (items : List (ℕ × Slots)) (stack : List FollowEpsilon) (set : List Bool) (hit : Bool)
+  pub record AdvancesInSet (at : ℕ) (past : Bool) (n : ℕ) (s : ℕ) (met : Met) (items : List (ℕ × Slots)) (stack : List FollowEpsilon) (set : List Bool) (hit : Bool)
       (on : Option ℕ) (after : Met) (kept : List (ℕ × Slots)) (above : List FollowEpsilon) (gathered : List Bool) (now : Bool) : Type 0 where
     pub front : Front
     pub found : Bool
     pub added : kept ≡ items ++ moves (edges nfa x) front
-    pub gathers : Gathers nfa past (wants nfa x) front set found gathered
-    pub cut : moves (edges nfa x) (before_match (wants nfa x) front) ≡ moves (edges nfa x) front
+    pub gathers : Gathers nfa past (wants nfa x n) front set found gathered
+    pub cut : moves (edges nfa x) (before_match (wants nfa x n) front) ≡ moves (edges nfa x) front
     pub now_is : now ≡ (found || hit)
     pub formed : (before : Front) → Formed nfa at met.bits before → Formed nfa at after.bits (before ++ front)
     pub follows : (before : Front) (old : Slots) (work : List Item)
@@ -68,25 +73,25 @@ module _ (nfa : Automaton) (x : Search) where
         after (before ++ front) (with_state at on (work_onto at above (ToLoad old ∷ work))) []
 
   -- The same of all that a state leads to up to the position's next byte.
-  pub record ArrivesInSet (at : ℕ) (past : Bool) (s : ℕ) (met : Met) (items : List (ℕ × Slots)) (set : List Bool)
+  pub record ArrivesInSet (at : ℕ) (past : Bool) (n : ℕ) (s : ℕ) (met : Met) (items : List (ℕ × Slots)) (set : List Bool)
       (hit : Bool) (after : Met) (kept : List (ℕ × Slots)) (gathered : List Bool) : Type 0 where
     pub front : Front
     pub added : kept ≡ items ++ moves (edges nfa x) front
-    pub gathers : Gathers nfa past (wants nfa x) front set hit gathered
-    pub cut : past ≡ false → moves (edges nfa x) (before_match (wants nfa x) front) ≡ moves (edges nfa x) front
+    pub gathers : Gathers nfa past (wants nfa x n) front set hit gathered
+    pub cut : past ≡ false → moves (edges nfa x) (before_match (wants nfa x n) front) ≡ moves (edges nfa x) front
     pub formed : (before : Front) → Formed nfa at met.bits before → Formed nfa at after.bits (before ++ front)
     pub paid : Paid nfa met (length items) [] 1 after (length kept) [] 0
     pub leads : (before : Front) (old : Slots) (work : List Item)
         → Leads nfa x at met before (ToExplore (s, at) ∷ ToLoad old ∷ work) [] (GoesPast past hit) after (before ++ front) (ToLoad old ∷ work)
 
   -- The same of all states at a position, where none was marked before. They have rows of no slots.
-  pub record CrossesInSet (at : ℕ) (past : Bool) (met : Met) (items : List (ℕ × Slots)) (set : List Bool)
+  pub record CrossesInSet (at : ℕ) (past : Bool) (n : ℕ) (met : Met) (items : List (ℕ × Slots)) (set : List Bool)
       (hit : Bool) (after : Met) (kept : List (ℕ × Slots)) (gathered : List Bool) : Type 0 where
     pub front : Front
     pub rows : All (λ i. i.1 ≡ []) items
     pub added : kept ≡ moves (edges nfa x) front
-    pub gathers : Gathers nfa past (wants nfa x) front set hit gathered
-    pub cut : past ≡ false → moves (edges nfa x) (before_match (wants nfa x) front) ≡ moves (edges nfa x) front
+    pub gathers : Gathers nfa past (wants nfa x n) front set hit gathered
+    pub cut : past ≡ false → moves (edges nfa x) (before_match (wants nfa x n) front) ≡ moves (edges nfa x) front
     pub formed : Formed nfa at after.bits front
     pub paid : Paid nfa (unmarked met) 0 [] (length items) after (length kept) [] 0
     pub leads : (old : Slots) (waiting : List Item)

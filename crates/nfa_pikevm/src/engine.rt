@@ -6,7 +6,7 @@ ghost use Rattle.regex_search_core.specs.Found.{found_of};
 ghost use Rattle.thompson_nfa.specs.Simple.{always, never};
 ghost use Rattle.nfa_paths.specs.Overlaps.{IsOverlapResult};
 ghost use Rattle.nfa_paths.specs.Paths.{span_len, turn_weight, scan_limit, is_utf8_empty, IsAnswer, IsMatchAnswer, IsFoundAnswer, IsWork};
-ghost use Rattle.nfa_pikevm.specs.Engines.{AddsWork, Fits, SameNumbers, kind_of, cache_for, refitted};
+ghost use Rattle.nfa_pikevm.specs.Engines.{AddsWork, Fits, SameNumbers, kind_of, cache_for, refitted, overlap_scans};
 ghost use Rattle.nfa_pikevm.specs.Scans.{HaveRoom, SameSizes, scan_turns, Serves, Sizes, AreSized};
 ghost use Rattle.nfa_search_base.specs.Lists.{IsInside, IsSlotInside};
 
@@ -316,8 +316,8 @@ impl PikeVM {
     /// With the kind `All` it gains every pattern that matches somewhere in the span; with `earliest`, those whose
     /// matches end where the first of them does. With `LeftmostFirst` a set that holds a pattern gains nothing; an
     /// empty one gains the pattern of the first match, and maybe some of matches that end before it; with `earliest`,
-    /// that of the first match that ends alone. That is where its capacity is at least the number of patterns; with
-    /// less it is open which it gains. A match ends on a boundary where the NFA asks for it.
+    /// that of the first match that ends alone. A match ends on a boundary where the NFA asks for it; matches of
+    /// patterns that the set has no room for do not count.
     ///
     /// The caller owes a cache that fits. A search leaves its numbers as they are.
     pub fn which_overlapping_matches(
@@ -332,7 +332,8 @@ impl PikeVM {
         ensures numbers { SameNumbers cache.old cache.new }
         ensures total { AddsWork cache.old cache.new }
 
-        ensures scans { cache.new.scans ≤ 1 }
+        // One scan, or none where the first match alone is meant and the set holds a pattern.
+        ensures scans { cache.new.scans ≡ overlap_scans (kind_of self.now) patterns.old }
         ensures turns { cache.new.turns ≤ cache.new.scans * ((1 + turn_weight self.now.nfa) * (span_len (search_of input.now) + 1)) }
     {
         let Cache {

@@ -1,4 +1,4 @@
-ghost use Rattle.std.specs.Prelude.{◌≡◌, ◌⊎◌, ◌+◌, ◌<◌, ◌≤◌, [], None, true, false, length, take, replicate, All, nat_lt, not, ◌||◌, ◌&&◌, cond};
+ghost use Rattle.std.specs.Prelude.{◌≡◌, ◌⊎◌, ◌+◌, ◌*◌, ◌<◌, ◌≤◌, [], None, true, false, length, take, replicate, All, nat_lt, not, ◌||◌, ◌&&◌, cond};
 ghost use Rattle.regex_search_core.specs.PatternSets.{with_pattern, size_of_set};
 ghost use Rattle.regex_search_core.specs.Patterns.{number_of};
 ghost use Rattle.regex_search_core.specs.Search.{search_of};
@@ -8,6 +8,7 @@ ghost use Rattle.nfa_paths.specs.Overlaps.{IsOverlapResult};
 ghost use Rattle.nfa_paths.specs.Paths.{byte_at};
 ghost use Rattle.nfa_pikevm.specs.States.{IsBelow, IsWithin, HasRoom, Paid, tries_of};
 ghost use Rattle.nfa_pikevm.specs.Scans.{HaveRoom, HaveRows, SameSizes, AreStarts, scan_turns};
+ghost use Rattle.nfa_pikevm.specs.Engines.{overlap_scans};
 ghost use Rattle.nfa_pikevm.specs.Overlapping.{permits, rowless, AdvancesInSet, ArrivesInSet, CrossesInSet};
 
 use crate::active::{ActiveStates, Parts};
@@ -30,8 +31,9 @@ fn permits(nfa: &NFA, input: &Input<'_>, at: usize) -> bool
     !(nfa.has_empty() && nfa.is_utf8()) || input.is_char_boundary(at)
 }
 
-/// Puts the pattern of a match into the set, where the match may end at its position, and notes that it was met: with
-/// `past_match` where it is below the set's capacity. Answers whether the position ends with it.
+/// Puts the pattern of a match into the set, where the match may end at its position and the set has room for the
+/// pattern, and notes that it was met. Another match does not count. Answers whether the position ends with it: without
+/// `past_match` it does.
 #[inline(always)]
 fn gather(
     pattern: PatternID,
@@ -40,23 +42,24 @@ fn gather(
     patterns: &mut PatternSet,
     met: &mut bool,
 ) -> bool
-    ensures stops { result ≡ (permitted && not past_match) }
-    ensures dead { permitted ≡ false → patterns.new ≡ patterns.old }
-    ensures put { permitted ≡ true → patterns.new ≡ with_pattern patterns.old (number_of pattern) }
-    ensures met { met.new ≡ ((permitted && (not past_match || nat_lt (number_of pattern) (length patterns.old))) || met.old) }
+    ensures stops { result ≡ ((permitted && nat_lt (number_of pattern) (length patterns.old)) && not past_match) }
+    ensures dead { (permitted && nat_lt (number_of pattern) (length patterns.old)) ≡ false → patterns.new ≡ patterns.old }
+    ensures put { (permitted && nat_lt (number_of pattern) (length patterns.old)) ≡ true
+        → patterns.new ≡ with_pattern patterns.old (number_of pattern) }
+    ensures met { met.new ≡ ((permitted && nat_lt (number_of pattern) (length patterns.old)) || met.old) }
 {
     if !permitted {
         return false;
     }
-    let held = patterns.try_insert(pattern).is_some();
-    if held || !past_match {
-        *met = true;
+    if patterns.try_insert(pattern).is_none() {
+        return false;
     }
+    *met = true;
     !past_match
 }
 
-/// One turn, and where it leads nowhere the state that was put off last. The pattern of a match that may end here is put
-/// into the set; without `past_match` the position ends with the first one.
+/// One turn, and where it leads nowhere the state that was put off last. The pattern of a match that counts is put into
+/// the set; without `past_match` the position ends with the first one.
 #[inline(always)]
 fn advance_to_set(
     nfa: &NFA,
@@ -90,7 +93,7 @@ fn advance_to_set(
     ensures over { result ≡ None → (top.new ≡ 0) ⊎ ((past_match ≡ false) × (met.new ≡ true)) }
     ensures stops { past_match ≡ false → met.new ≡ true → (met.old ≡ true) ⊎ (result ≡ None) }
     ensures paid { Paid nfa.now seen.old (length next.old.items) (take top.old frames.old) 1 seen.new (length next.new.items) (take top.new frames.new) (tries_of result) }
-    ensures advances { AdvancesInSet nfa.now (search_of input.now) at past_match sid seen.old next.old.items (take top.old frames.old) patterns.old met.old result seen.new next.new.items (take top.new frames.new) patterns.new met.new }
+    ensures advances { AdvancesInSet nfa.now (search_of input.now) at past_match (length patterns.old) sid seen.old next.old.items (take top.old frames.old) patterns.old met.old result seen.new next.new.items (take top.new frames.new) patterns.new met.new }
 {
     match enter(nfa, input, at, byte, sid, frames, top, seen, next, &mut []) {
         Turn::On(on) => return Some(on),
@@ -105,8 +108,8 @@ fn advance_to_set(
 }
 
 /// Follows all that the root leads to at the position without reading a byte, each state in its turn, and keeps what
-/// the byte leads to. The patterns of the matches that may end here are put into the set; without `past_match` it stops
-/// at the first one. Answers whether one was met: with `past_match` one below the set's capacity.
+/// the byte leads to. The patterns of the matches that count are put into the set; without `past_match` it stops at the
+/// first one. Answers whether one was met.
 #[inline(always)]
 fn follow_to_set(
     nfa: &NFA,
@@ -129,7 +132,7 @@ fn follow_to_set(
     requires width { next.old.width ≡ 0 }
     ensures size { length seen.new.bits ≡ length seen.old.bits }
     ensures same { next.new ≡ record next.old { items = next.new.items } }
-    ensures arrives { ArrivesInSet nfa.now (search_of input.now) at past_match root seen.old next.old.items patterns.old result seen.new next.new.items patterns.new }
+    ensures arrives { ArrivesInSet nfa.now (search_of input.now) at past_match (length patterns.old) root seen.old next.old.items patterns.old result seen.new next.new.items patterns.new }
 {
     let mut top = 0;
     let mut sid = root;
@@ -163,7 +166,7 @@ fn cross_states_to_set(
     requires width { next.old.width ≡ 0 }
     ensures size { length seen.new.bits ≡ length seen.old.bits }
     ensures same { next.new ≡ record next.old { items = next.new.items } }
-    ensures crosses { CrossesInSet nfa.now (search_of input.now) at past_match seen.old (rowless kept.now) patterns.old result seen.new next.new.items patterns.new }
+    ensures crosses { CrossesInSet nfa.now (search_of input.now) at past_match (length patterns.old) seen.old (rowless kept.now) patterns.old result seen.new next.new.items patterns.new }
 {
     let byte = byte_at(input, at);
     let permitted = permits(nfa, input, at);
@@ -181,8 +184,8 @@ fn cross_states_to_set(
     met
 }
 
-/// Follows the states at the position, and keeps what its byte leads to for the next one. Answers whether a match was
-/// met: with `past_match` one below the set's capacity.
+/// Follows the states at the position, and keeps what its byte leads to for the next one. Answers whether a match that
+/// counts was met.
 fn cross_to_set(
     nfa: &NFA,
     input: &Input<'_>,
@@ -200,7 +203,7 @@ fn cross_to_set(
     ensures curr { threads.new.curr ≡ record threads.old.curr { items = threads.new.curr.items } }
     ensures next { threads.new.next ≡ record threads.old.next { items = threads.new.next.items } }
     ensures frames { length threads.new.frames.items ≡ length threads.old.frames.items }
-    ensures crosses { CrossesInSet nfa.now (search_of input.now) at past_match threads.old.seen threads.old.curr.items patterns.old result threads.new.seen threads.new.next.items patterns.new }
+    ensures crosses { CrossesInSet nfa.now (search_of input.now) at past_match (length patterns.old) threads.old.seen threads.old.curr.items patterns.old result threads.new.seen threads.new.next.items patterns.new }
 {
     let Threads {
         frames,
@@ -255,8 +258,7 @@ fn overlap_all(
     }
 }
 
-/// The patterns of the matches with the least end: of the first one, or with `past_match` of all of them below the set's
-/// capacity.
+/// The patterns of the matches that count and have the least end: of the first one, or with `past_match` of all.
 fn overlap_earliest(
     nfa: &NFA,
     input: &Input<'_>,
@@ -277,9 +279,6 @@ fn overlap_earliest(
     ensures turns { threads.new.seen.turns ≤ threads.old.seen.turns + scan_turns nfa.now (search_of input.now) }
     ensures gains { IsOverlapResult nfa.now (search_of input.now) (cond past_match AllMatches LeftmostFirst) true patterns.old patterns.new }
 {
-    if past_match && patterns.is_full() {
-        return;
-    }
     for at in input.start()..input.end() + 1 {
         join(starts, at, threads);
         if threads.curr.is_empty() {
@@ -359,7 +358,8 @@ fn overlap_from(
     }
 }
 
-/// Puts the patterns of the matches that the kind means, also of those that overlap, into the set, in one scan at most.
+/// Puts the patterns of the matches that the kind means, also of those that overlap, into the set, in one scan. There is
+/// none where the first match alone is meant and the set holds a pattern.
 pub fn overlap(
     nfa: &NFA,
     kind: MatchKind,
@@ -370,16 +370,21 @@ pub fn overlap(
 )
     requires serves { HaveRoom nfa.now 0 threads.old }
     ensures result { IsOverlapResult nfa.now (search_of input.now) kind (search_of input.now).earliest patterns.old patterns.new }
-    ensures scans { ((scans.new ≡ scans.old) × (threads.new.seen.turns ≡ threads.old.seen.turns)) ⊎ (scans.new ≡ scans.old + 1) }
+    ensures scans { scans.new ≡ scans.old + overlap_scans kind patterns.old }
     ensures serves { HaveRoom nfa.now 0 threads.new }
     ensures sizes { SameSizes threads.old threads.new }
-    ensures turns { threads.new.seen.turns ≤ threads.old.seen.turns + scan_turns nfa.now (search_of input.now) }
+    ensures turns { threads.new.seen.turns
+        ≤ threads.old.seen.turns + overlap_scans kind patterns.old * scan_turns nfa.now (search_of input.now) }
 {
     if !kind.continue_past_first_match() && !patterns.is_empty() {
         return;
     }
     scans.tick();
     if input.is_done() {
+        return;
+    }
+    // A full set gains nothing, and so does one with no room.
+    if patterns.is_full() {
         return;
     }
     let Some(state) = start_state(nfa, input) else {

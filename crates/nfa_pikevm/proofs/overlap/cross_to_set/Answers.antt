@@ -13,5 +13,5 @@ cross_states_to_set-requires-clause-states c =
 pub returns-clause-crosses : goal.returns-clause-crosses
 returns-clause-crosses c =
     let same = kept-rowless c.deref.result.now.width c.deref.result.now.len c.deref.result.now.kept.items c.deref.result.now.rows.items c.args.threads.now.curr (rw (← c.deref.ensures) at c.curr.view_is) c.requires.room.curr_width in
-    crosses-cleared c.args.nfa.now (search_of c.args.input.now) c.args.at c.args.past_match c.args.threads.now.seen c.clear.new.self _ _ _ _ _ _ _
+    crosses-cleared c.args.nfa.now (search_of c.args.input.now) c.args.at c.args.past_match (length c.args.patterns.now) c.args.threads.now.seen c.clear.new.self _ _ _ _ _ _ _
     c.clear.ensures (same ∙ ap (λ k. rowless (take c.deref.result.now.len k)) (sym c.as_slice.ensures.value)) c.cross_states_to_set.ensures.crosses

@@ -13,7 +13,7 @@ loop-at-init c = record {
 
 pub returns-then-is_full-clause-gains : goal.returns-then-is_full-clause-gains
 returns-then-is_full-clause-gains c =
-    All-full c.args.nfa.now (search_of c.args.input.now) c.loop-at.invariant.so_far (c.is_full.ensures.0 c.if-is_full.true)
+    All-full c.args.nfa.now (search_of c.args.input.now) c.args.patterns.now c.loop-at.invariant.so_far (c.is_full.ensures.0 c.if-is_full.true)
 
 pub returns-then-is_empty-clause-sizes : goal.returns-then-is_empty-clause-sizes
 returns-then-is_empty-clause-sizes c = λ size s.
@@ -22,7 +22,7 @@ returns-then-is_empty-clause-sizes c = λ size s.
 pub returns-then-is_empty-clause-gains : goal.returns-then-is_empty-clause-gains
 returns-then-is_empty-clause-gains c =
     let items = joined-items c.args.starts.now c.loop-at.at c.loop-at.threads.curr c.join.new.threads.curr c.join.ensures.curr c.loop-at.invariant.keeps.room.curr_width in
-    All-over c.args.nfa.now (search_of c.args.input.now) c.loop-at.invariant.so_far (sym items ∙ no-items c.join.new.threads.curr.items (c.is_empty.ensures.0 c.if-is_empty.true))
+    All-over c.args.nfa.now (search_of c.args.input.now) c.args.patterns.now c.loop-at.invariant.so_far (sym items ∙ no-items c.join.new.threads.curr.items (c.is_empty.ensures.0 c.if-is_empty.true))
 
 pub cross_to_set-requires-clause-states : goal.cross_to_set-requires-clause-states
 cross_to_set-requires-clause-states c =
@@ -32,7 +32,7 @@ cross_to_set-requires-clause-states c =
 pub loop-at-preserved : goal.loop-at-preserved
 loop-at-preserved c =
     let items = joined-items c.args.starts.now c.loop-at.at c.loop-at.threads.curr c.join.new.threads.curr c.join.ensures.curr c.loop-at.invariant.keeps.room.curr_width in
-    let crosses = crosses-joined c.loop-at.threads.seen _ c.join.ensures.seen items c.cross_to_set.ensures.crosses in
+    let crosses = crosses-joined (length c.args.patterns.now) c.loop-at.threads.seen _ c.loop-at.invariant.so_far.gains.capacity c.join.ensures.seen items c.cross_to_set.ensures.crosses in
     record {
       low = omega arith;
       keeps = Keeps-next c.loop-at.threads.seen _ c.loop-at.threads.curr c.loop-at.threads.next c.join.new.threads.curr c.cross_to_set.new.threads.curr c.cross_to_set.new.threads.next _ _ _ _ _
@@ -42,9 +42,9 @@ loop-at-preserved c =
           (ap (λ (m : Met). length m.bits) c.move_on.ensures.seen ∙ c.cross_to_set.ensures.size ∙ ap (λ (m : Met). length m.bits) c.join.ensures.seen)
           (ap (λ l. length l) c.move_on.ensures.frames ∙ c.cross_to_set.ensures.frames ∙ ap (λ l. length l) c.join.ensures.frames);
       so_far = rw (c.move_on.ensures.seen, c.move_on.ensures.curr)
-          (All-next c.args.nfa.now (search_of c.args.input.now) c.requires.valid c.loop-at.invariant.low c.loop-at.invariant.so_far crosses);
+          (All-next c.args.nfa.now (search_of c.args.input.now) c.args.patterns.now c.requires.valid c.loop-at.invariant.low c.loop-at.invariant.so_far crosses);
     }
 
 pub returns-clause-gains : goal.returns-clause-gains
 returns-clause-gains c =
-    All-end c.args.nfa.now (search_of c.args.input.now) c.loop-at.invariant.so_far (omega (arith, c.end-at-end.ensures.value, c.loop-at-test.false))
+    All-end c.args.nfa.now (search_of c.args.input.now) c.args.patterns.now c.loop-at.invariant.so_far (omega (arith, c.end-at-end.ensures.value, c.loop-at-test.false))

@@ -1,6 +1,5 @@
-use Rattle.std.proofs.Common.{◌≡◌, ◌∙◌, ◌+◌, true, ap, sym, arith, length}
+use Rattle.std.proofs.Common.{◌≡◌, ◌∙◌, ◌+◌, Bool, List, ap, sym, arith, length}
 use Rattle.regex_search_core.specs.Search.{search_of}
-use Rattle.nfa_paths.proofs.OverlapLemmas.{full-gains}
 use Rattle.nfa_paths.proofs.ScanAnswerLemmas.{EndsBefore-span}
 use Rattle.nfa_pikevm.specs.Rows.{Met, Active}
 use Rattle.nfa_pikevm.specs.Overlapping.{wants}
@@ -13,12 +12,8 @@ loop-at-init c = record {
   low = omega (arith, c.start-at.ensures);
   keeps = Keeps-start _ _ _ _ _ c.requires.room c.requires.next;
   so_far = rw c.start-at.ensures
-      (Earliest-start c.args.nfa.now (search_of c.args.input.now) c.args.past_match c.args.starts.now c.requires.starts c.args.threads.now.seen c.args.threads.now.curr.items c.args.patterns.now c.requires.curr);
+      (Earliest-start c.args.nfa.now (search_of c.args.input.now) c.args.patterns.now c.args.past_match c.args.starts.now c.requires.starts c.args.threads.now.seen c.args.threads.now.curr.items c.requires.curr);
 }
-
-pub returns-then-is_full-clause-gains : goal.returns-then-is_full-clause-gains
-returns-then-is_full-clause-gains c =
-    rw c.if-past_match.true (full-gains c.args.nfa.now (search_of c.args.input.now) true c.args.patterns.now (c.is_full.ensures.0 c.if-is_full.true))
 
 pub returns-then-is_empty-clause-sizes : goal.returns-then-is_empty-clause-sizes
 returns-then-is_empty-clause-sizes c = λ size s.
@@ -27,8 +22,8 @@ returns-then-is_empty-clause-sizes c = λ size s.
 pub returns-then-is_empty-clause-gains : goal.returns-then-is_empty-clause-gains
 returns-then-is_empty-clause-gains c =
     let items = joined-items c.args.starts.now c.loop-at.at c.loop-at.threads.curr c.join.new.threads.curr c.join.ensures.curr c.loop-at.invariant.keeps.room.curr_width in
-    Earliest-end c.args.nfa.now (search_of c.args.input.now) c.args.past_match c.requires.empty c.loop-at.invariant.so_far
-    (ScansAt-over c.args.nfa.now (search_of c.args.input.now) c.args.starts.now c.loop-at.at c.loop-at.threads.seen c.loop-at.threads.curr.items c.loop-at.invariant.so_far.stands.scans
+    Earliest-end c.args.nfa.now (search_of c.args.input.now) c.args.patterns.now c.args.past_match c.requires.empty c.loop-at.invariant.so_far
+    (ScansAt-over c.args.nfa.now (search_of c.args.input.now) c.args.patterns.now c.args.starts.now c.loop-at.at c.loop-at.threads.seen c.loop-at.threads.curr.items c.loop-at.invariant.so_far.stands.scans
     (sym items ∙ no-items c.join.new.threads.curr.items (c.is_empty.ensures.0 c.if-is_empty.true)))
 
 pub cross_to_set-met-requires-clause-states : goal.cross_to_set-met-requires-clause-states
@@ -48,20 +43,20 @@ returns-then-met-clause-sizes c =
 pub returns-then-met-clause-turns : goal.returns-then-met-clause-turns
 returns-then-met-clause-turns c =
     let items = joined-items c.args.starts.now c.loop-at.at c.loop-at.threads.curr c.join.new.threads.curr c.join.ensures.curr c.loop-at.invariant.keeps.room.curr_width in
-    let crosses = crosses-joined c.loop-at.threads.seen _ c.join.ensures.seen items c.cross_to_set-met.ensures.crosses in
+    let crosses = crosses-joined (length c.args.patterns.now) c.loop-at.threads.seen _ (ap (λ (l : List Bool). length l) c.loop-at.invariant.so_far.still) c.join.ensures.seen items c.cross_to_set-met.ensures.crosses in
     rw c.move_on.ensures.seen
-    (Stands-turns c.args.nfa.now (search_of c.args.input.now) c.loop-at.invariant.low (omega (arith, c.end-at-end.ensures.value, c.loop-at-test.true)) c.loop-at.invariant.so_far.stands crosses)
+    (Stands-turns c.args.nfa.now (search_of c.args.input.now) c.args.patterns.now c.loop-at.invariant.low (omega (arith, c.end-at-end.ensures.value, c.loop-at-test.true)) c.loop-at.invariant.so_far.stands crosses)
 
 pub returns-then-met-clause-gains : goal.returns-then-met-clause-gains
 returns-then-met-clause-gains c =
     let items = joined-items c.args.starts.now c.loop-at.at c.loop-at.threads.curr c.join.new.threads.curr c.join.ensures.curr c.loop-at.invariant.keeps.room.curr_width in
-    let crosses = crosses-joined c.loop-at.threads.seen _ c.join.ensures.seen items c.cross_to_set-met.ensures.crosses in
-    Earliest-found c.args.nfa.now (search_of c.args.input.now) c.args.past_match c.requires.valid c.requires.empty c.loop-at.invariant.so_far crosses c.if-met.true
+    let crosses = crosses-joined (length c.args.patterns.now) c.loop-at.threads.seen _ (ap (λ (l : List Bool). length l) c.loop-at.invariant.so_far.still) c.join.ensures.seen items c.cross_to_set-met.ensures.crosses in
+    Earliest-found c.args.nfa.now (search_of c.args.input.now) c.args.patterns.now c.args.past_match c.requires.valid c.requires.empty c.loop-at.invariant.so_far crosses c.if-met.true
 
 pub loop-at-preserved : goal.loop-at-preserved
 loop-at-preserved c =
     let items = joined-items c.args.starts.now c.loop-at.at c.loop-at.threads.curr c.join.new.threads.curr c.join.ensures.curr c.loop-at.invariant.keeps.room.curr_width in
-    let crosses = crosses-joined c.loop-at.threads.seen _ c.join.ensures.seen items c.cross_to_set-met.ensures.crosses in
+    let crosses = crosses-joined (length c.args.patterns.now) c.loop-at.threads.seen _ (ap (λ (l : List Bool). length l) c.loop-at.invariant.so_far.still) c.join.ensures.seen items c.cross_to_set-met.ensures.crosses in
     record {
       low = omega arith;
       keeps = Keeps-next c.loop-at.threads.seen _ c.loop-at.threads.curr c.loop-at.threads.next c.join.new.threads.curr c.cross_to_set-met.new.threads.curr c.cross_to_set-met.new.threads.next _ _ _ _ _
@@ -71,11 +66,11 @@ loop-at-preserved c =
           (ap (λ (m : Met). length m.bits) c.move_on.ensures.seen ∙ c.cross_to_set-met.ensures.size ∙ ap (λ (m : Met). length m.bits) c.join.ensures.seen)
           (ap (λ l. length l) c.move_on.ensures.frames ∙ c.cross_to_set-met.ensures.frames ∙ ap (λ l. length l) c.join.ensures.frames);
       so_far = rw (c.move_on.ensures.seen, c.move_on.ensures.curr)
-          (Earliest-next c.args.nfa.now (search_of c.args.input.now) c.args.past_match c.requires.valid c.loop-at.invariant.low c.loop-at.invariant.so_far crosses c.if-met.false);
+          (Earliest-next c.args.nfa.now (search_of c.args.input.now) c.args.patterns.now c.args.past_match c.requires.valid c.loop-at.invariant.low c.loop-at.invariant.so_far crosses c.if-met.false);
     }
 
 pub returns-clause-gains : goal.returns-clause-gains
 returns-clause-gains c =
     let last : c.loop-at.at ≡ (search_of c.args.input.now).end + 1 = omega (arith, c.end-at-end.ensures.value, c.loop-at-test.false) in
-    Earliest-end c.args.nfa.now (search_of c.args.input.now) c.args.past_match c.requires.empty c.loop-at.invariant.so_far
-    (rw last (EndsBefore-span c.args.nfa.now (search_of c.args.input.now) (wants c.args.nfa.now (search_of c.args.input.now))))
+    Earliest-end c.args.nfa.now (search_of c.args.input.now) c.args.patterns.now c.args.past_match c.requires.empty c.loop-at.invariant.so_far
+    (rw last (EndsBefore-span c.args.nfa.now (search_of c.args.input.now) (wants c.args.nfa.now (search_of c.args.input.now) (length c.args.patterns.now))))

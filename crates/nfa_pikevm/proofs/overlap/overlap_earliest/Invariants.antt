@@ -7,5 +7,5 @@ abbrev pub invariant-loop-at : goal.invariant-loop-at
 invariant-loop-at l = record {
   low : (search_of l.input).start ≤ l.at;
   keeps : Keeps l.nfa l.fn.threads.seen (length l.fn.threads.frames.items) l.fn.threads.curr l.fn.threads.next l.threads.seen (length l.threads.frames.items) l.threads.curr l.threads.next;
-  so_far : EarliestAt l.nfa (search_of l.input) l.past_match l.starts l.at l.fn.threads.seen.turns l.fn.patterns l.threads.seen l.threads.curr.items l.patterns;
+  so_far : EarliestAt l.nfa (search_of l.input) l.fn.patterns l.past_match l.starts l.at l.fn.threads.seen.turns l.threads.seen l.threads.curr.items l.patterns;
 }

@@ -3,7 +3,7 @@ use Rattle.regex_search_core.specs.Search.{search_of}
 use Rattle.nfa_pikevm.specs.Rows.{Met, Active}
 use Rattle.nfa_pikevm.proofs.OverlapScanLemmas.{kept-none}
 use Rattle.nfa_pikevm.proofs.OverlapLoopLemmas.{Keeps-start, Keeps-next, sizes-joined, joined-below, joined-items, crosses-joined, no-items}
-use Rattle.nfa_pikevm.proofs.OverlapFirstLemmas.{FirstWay-start, FirstWay-next, FirstWay-cut, FirstWay-over, FirstWay-end}
+use Rattle.nfa_pikevm.proofs.OverlapFirstLemmas.{FirstWay-capacity, FirstWay-start, FirstWay-next, FirstWay-cut, FirstWay-over, FirstWay-end}
 use Rattle.nfa_pikevm.proofs.overlap.overlap_first.Goals as goal
 use Rattle.nfa_pikevm.proofs.overlap.overlap_first.Goals.{then-met, else-met}
 
@@ -15,7 +15,7 @@ loop-at-init c = record {
   last = λ past. c.requires.curr;
   keeps = Keeps-start _ _ _ _ _ c.requires.room c.requires.next;
   so_far = rw c.start-at.ensures
-      (FirstWay-start c.args.nfa.now (search_of c.args.input.now) c.args.starts.now c.requires.starts c.args.threads.now.seen c.args.threads.now.curr.items c.args.patterns.now c.requires.curr);
+      (FirstWay-start c.args.nfa.now (search_of c.args.input.now) c.args.patterns.now c.args.starts.now c.requires.starts c.args.threads.now.seen c.args.threads.now.curr.items c.requires.curr);
 }
 
 pub returns-then-is_empty-clause-sizes : goal.returns-then-is_empty-clause-sizes
@@ -25,7 +25,7 @@ returns-then-is_empty-clause-sizes c = λ size s.
 pub returns-then-is_empty-clause-gains : goal.returns-then-is_empty-clause-gains
 returns-then-is_empty-clause-gains c =
     let items = joined-items c.loop-at.joining c.loop-at.at c.loop-at.threads.curr c.join.new.threads.curr c.join.ensures.curr c.loop-at.invariant.keeps.room.curr_width in
-    FirstWay-over c.args.nfa.now (search_of c.args.input.now) c.requires.valid c.requires.empty c.loop-at.invariant.so_far
+    FirstWay-over c.args.nfa.now (search_of c.args.input.now) c.args.patterns.now c.requires.valid c.requires.empty c.loop-at.invariant.so_far
     (sym items ∙ no-items c.join.new.threads.curr.items (c.is_empty.ensures.0 c.if-is_empty.true))
 
 pub cross_to_set-met-requires-clause-states : goal.cross_to_set-met-requires-clause-states
@@ -36,12 +36,12 @@ cross_to_set-met-requires-clause-states c =
 pub loop-at-preserved : goal.loop-at-preserved
 loop-at-preserved c =
     let items = joined-items c.loop-at.joining c.loop-at.at c.loop-at.threads.curr c.join.new.threads.curr c.join.ensures.curr c.loop-at.invariant.keeps.room.curr_width in
-    let crosses = crosses-joined c.loop-at.threads.seen _ c.join.ensures.seen items c.cross_to_set-met.ensures.crosses in
+    let crosses = crosses-joined (length c.args.patterns.now) c.loop-at.threads.seen _ (FirstWay-capacity c.args.nfa.now (search_of c.args.input.now) c.args.patterns.now c.loop-at.invariant.so_far) c.join.ensures.seen items c.cross_to_set-met.ensures.crosses in
     record {
       low = omega arith;
       state = elim c.if-met.branch [ then-met w ↦ rw w.joining-is c.loop-at.invariant.state | else-met w ↦ rw w.joining-is c.loop-at.invariant.state ];
       limit = elim c.if-met.branch [ then-met w ↦ rw w.joining-is (omega arith) | else-met w ↦ rw w.joining-is c.loop-at.invariant.limit ];
-      last = λ past. rw c.move_on.ensures.curr (kept-none c.args.nfa.now (search_of c.args.input.now) crosses (omega arith));
+      last = λ past. rw c.move_on.ensures.curr (kept-none c.args.nfa.now (search_of c.args.input.now) c.args.patterns.now crosses (omega arith));
       keeps = Keeps-next c.loop-at.threads.seen _ c.loop-at.threads.curr c.loop-at.threads.next c.join.new.threads.curr c.cross_to_set-met.new.threads.curr c.cross_to_set-met.new.threads.next _ _ _ _ _
           c.loop-at.invariant.keeps c.join.ensures.curr c.cross_to_set-met.ensures.curr
           (c.cross_to_set-met.ensures.next ∙ ap (λ (n : Active). record n { items = c.cross_to_set-met.new.threads.next.items }) c.join.ensures.next)
@@ -52,15 +52,15 @@ loop-at-preserved c =
           (elim c.if-met.branch [
             | then-met w ↦
                 rw w.joining-is
-                (FirstWay-cut c.args.nfa.now (search_of c.args.input.now) c.requires.valid c.loop-at.invariant.low c.loop-at.invariant.so_far crosses c.requires.empty w.if-met.true)
+                (FirstWay-cut c.args.nfa.now (search_of c.args.input.now) c.args.patterns.now c.requires.valid c.loop-at.invariant.low c.loop-at.invariant.so_far crosses c.requires.empty w.if-met.true)
             | else-met w ↦
                 rw w.joining-is
-                (FirstWay-next c.args.nfa.now (search_of c.args.input.now) c.requires.valid c.loop-at.invariant.low c.loop-at.invariant.so_far crosses w.if-met.false)
+                (FirstWay-next c.args.nfa.now (search_of c.args.input.now) c.args.patterns.now c.requires.valid c.loop-at.invariant.low c.loop-at.invariant.so_far crosses w.if-met.false)
           ]);
     }
 
 pub returns-clause-gains : goal.returns-clause-gains
 returns-clause-gains c =
-    FirstWay-end c.args.nfa.now (search_of c.args.input.now) c.requires.valid c.requires.empty c.loop-at.invariant.so_far
+    FirstWay-end c.args.nfa.now (search_of c.args.input.now) c.args.patterns.now c.requires.valid c.requires.empty c.loop-at.invariant.so_far
     (c.loop-at.invariant.last (omega (arith, c.end-at-end.ensures.value, c.loop-at-test.false)))
     (omega (arith, c.loop-at.invariant.limit, c.end-at-end.ensures.value, c.loop-at-test.false))

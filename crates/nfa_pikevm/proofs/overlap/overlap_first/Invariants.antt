@@ -11,5 +11,5 @@ invariant-loop-at l = record {
   limit : l.joining.limit ≤ (search_of l.input).end + 1;
   last : (search_of l.input).end < l.at → l.threads.curr.items ≡ [];
   keeps : Keeps l.nfa l.fn.threads.seen (length l.fn.threads.frames.items) l.fn.threads.curr l.fn.threads.next l.threads.seen (length l.threads.frames.items) l.threads.curr l.threads.next;
-  so_far : FirstWay l.nfa (search_of l.input) l.joining l.at l.fn.threads.seen.turns l.fn.patterns l.threads.seen l.threads.curr.items l.patterns;
+  so_far : FirstWay l.nfa (search_of l.input) l.fn.patterns l.joining l.at l.fn.threads.seen.turns l.threads.seen l.threads.curr.items l.patterns;
 }
