@@ -3,3 +3,4 @@ pub mod GapLemmas
 pub mod IterationLemmas
 pub mod LawLemmas
 pub mod OneLemmas
+pub mod ListOfMatchesLemmas

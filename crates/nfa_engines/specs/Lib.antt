@@ -2,6 +2,7 @@ pub mod CapacityLaws
 pub mod GapLaws
 pub mod IterationLaws
 pub mod Laws
+pub mod ListLaws
 pub mod SetLaws
 pub use Rattle.nfa_backtrack.specs.Backtrack
 pub use Rattle.nfa_backtrack.specs.Finding as BacktrackFinding

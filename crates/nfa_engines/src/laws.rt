@@ -8,6 +8,8 @@ ghost use Rattle.nfa_engines.specs.Laws.{AnswersAgree, EveryScanHasAnAnswer, Eve
 ghost use Rattle.nfa_engines.specs.Laws.{FoundAsLeftmost, FoundIsPattern, OneFound, OneMatch, OneScanAnswer};
 ghost use Rattle.nfa_engines.specs.Laws.{OneSearchAnswer, PathsAreOrdered, PathsAreOrderedOnce, ScansAgree};
 ghost use Rattle.nfa_engines.specs.Laws.{SearchesAgree, SlotsPastAreNone};
+ghost use Rattle.nfa_engines.specs.ListLaws.{AtMostInList, EverySearchHasAList, ListAsLeftmost, MatchesAreApart};
+ghost use Rattle.nfa_engines.specs.ListLaws.{OneList};
 ghost use Rattle.nfa_engines.specs.SetLaws.{OneSet, SetHoldsEachPattern, SetIsComplete};
 
 /// A scan has one answer at most, of each match kind and `earliest`.
@@ -105,4 +107,19 @@ pub fn ends_increase()
 pub fn no_gap()
     ensures none { NoneIsNoPath LeftmostFirst false }
     ensures start { NoneStartsBefore LeftmostFirst false }
+{}
+
+/// A search has one list of its matches, and no other. So the list of a PikeVM that is asked for leftmost first
+/// matches, and not for the earliest, is that of a backtracker over the same NFA and input.
+pub fn one_list_of_matches()
+    ensures exists { EverySearchHasAList }
+    ensures one { OneList }
+    ensures engines { ListAsLeftmost LeftmostFirst }
+{}
+
+/// The first matches of a search, all of them or some, lie in its span and go up: each starts at or behind the end of
+/// the one before it, and ends behind that end. There are at most as many as the span has bytes, and one more.
+pub fn matches_are_apart()
+    ensures apart { MatchesAreApart }
+    ensures count { AtMostInList 1 }
 {}

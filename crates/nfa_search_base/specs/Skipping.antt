@@ -1,11 +1,13 @@
 -- the skipping of answers that split a character
-use Rattle.std.specs.Prelude.{◌≡◌, ℕ, ◌+◌, ◌-◌, ◌≤◌, nat_le, if◌then◌else◌, List, [], ◌∷◌, Option, None, Some, Result, Ok, Err}
+use Rattle.std.specs.Prelude.{◌≡◌, ℕ, ◌+◌, ◌-◌, ◌≤◌, nat_le, if◌then◌else◌, List, [], ◌∷◌, length, Option, None, Some}
+use Rattle.std.specs.Prelude.{Result, Ok, Err}
 use Rattle.std.specs.Fn.{Mut}
 use Rattle.std.specs.Borrow.{Bor}
 use Rattle.regex_search_core.specs.Boundary.{IsBoundary}
 use Rattle.regex_search_core.specs.Search.{Search}
 use Rattle.regex_search_core.specs.declared.search.Input.{Input}
-use Rattle.nfa_search_base.specs.Asking.{Asks}
+use Rattle.nfa_search_base.specs.Asking.{Asks, IsCallableOn}
+use Rattle.nfa_search_base.specs.Serving.{ServesOn}
 use Rattle.nfa_search_base.specs.declared.error.SearchError.{SearchError}
 
 -- what the finder answers: a value with its offset, none, or an error
@@ -60,6 +62,20 @@ module _ {T F : Type 0} (g : Mut F (Bor Input × Unit {0}) (Placed T)) where
     LeadsTo n r f [] last left = IsWhole haystack r × (last ≡ r) × (left ≡ f)
     LeadsTo n r f (a ∷ answers) last left =
         IsSplit haystack r × ((f' : F) × Answers f (moved (n + 1)) a f' × LeadsTo (n + 1) a f' answers last left)
+
+    -- From the answer r, of the search moved by n, and the finder f on, calls gave `answers`, and left the last of them
+    -- and a finder: each answer before the last splits a character.
+    abbrev pub Reaches : ℕ → Placed T → F → List (Placed T) → Placed T → F → Type 0
+    Reaches n r f [] last left = (last ≡ r) × (left ≡ f)
+    Reaches n r f (a ∷ answers) last left =
+        IsSplit haystack r × ((f' : F) × Answers f (moved (n + 1)) a f' × Reaches (n + 1) a f' answers last left)
+
+    -- The finder may be called where a call is made, and there alone: where the last answer splits a character and the
+    -- search can be moved once more. It answers with an offset in the span.
+    pub record ServesSkips (r : Placed T) (f : F) : Type 0 where
+      pub at : (answers : List (Placed T)) (last : Placed T) (left : F) (s : Search)
+          → Reaches 0 r f answers last left → IsSplit haystack last → moved (length answers + 1) ≡ Some s
+          → ServesOn (IsCallableOn g) (Asks g) IsPlacedIn left s
 
     -- from the finder f and the first answer r, the result is the first answer that splits no character
     pub record SkipsTo (r : Placed T) (f : F) (result : Result (Option T) SearchError) (left : F) : Type 0 where

@@ -7,8 +7,7 @@
 ghost use Rattle.std.specs.Prelude.{◌≡◌, Some, None, Ok, true, false};
 ghost use Rattle.regex_search_core.specs.Boundary.{IsBoundary};
 ghost use Rattle.regex_search_core.specs.Search.{search_of, is_anchored};
-ghost use Rattle.nfa_search_base.specs.Asking.{SameButStart, SameButEnd, ServesAlong};
-ghost use Rattle.nfa_search_base.specs.Skipping.{IsInSpan, IsPlacedIn, SkipsTo, raised, lowered};
+ghost use Rattle.nfa_search_base.specs.Skipping.{IsInSpan, IsPlacedIn, ServesSkips, SkipsTo, raised, lowered};
 
 use crate::asking::ask;
 use crate::error::SearchError;
@@ -23,7 +22,8 @@ use regex_search_core::Input;
 /// not moved: the finder is not called, and the answer is the value or none.
 ///
 /// The caller owes that `offset` lies in the input's span, and that the finder may be called on the
-/// inputs that differ from this one in their start alone, and answers offsets in their spans.
+/// inputs on which it is called, and answers offsets in their spans: on the first only where `offset`
+/// is not the edge of a character, on each further one only after such an answer.
 pub fn skip_splits_fwd<T: Drop, F>(
     input: &Input<'_>,
     init: T,
@@ -33,15 +33,52 @@ pub fn skip_splits_fwd<T: Drop, F>(
 where
     F: FnMut(&Input<'_>) -> Result<Option<(T, usize)>, SearchError>,
     requires offset { IsInSpan (search_of input.now) offset }
-    requires finder { is_anchored (search_of input.now).anchored ≡ false → ServesAlong F.FnMut SameButStart IsPlacedIn find (search_of input.now) }
-    ensures anchored_whole { is_anchored (search_of input.now).anchored ≡ true → IsBoundary (search_of input.now).haystack offset → result ≡ Ok (Some init) }
-    ensures anchored_split { is_anchored (search_of input.now).anchored ≡ true → ¬ (IsBoundary (search_of input.now).haystack offset) → result ≡ Ok None }
-    ensures skips { is_anchored (search_of input.now).anchored ≡ false → (left : F) × SkipsTo F.FnMut (search_of input.now).haystack (raised (search_of input.now)) (Ok (Some (init, offset))) find result left }
+    requires finder { is_anchored (search_of input.now).anchored ≡ false
+        → ServesSkips F.FnMut (search_of input.now).haystack
+        (raised (search_of input.now)) (Ok (Some (init, offset))) find }
+    ensures anchored_whole { is_anchored (search_of input.now).anchored ≡ true
+        → IsBoundary (search_of input.now).haystack offset
+        → result ≡ Ok (Some init) }
+    ensures anchored_split { is_anchored (search_of input.now).anchored ≡ true
+        → ¬ (IsBoundary (search_of input.now).haystack offset)
+        → result ≡ Ok None }
+    ensures skips { is_anchored (search_of input.now).anchored ≡ false
+        → (left : F)
+        × SkipsTo F.FnMut (search_of input.now).haystack
+        (raised (search_of input.now)) (Ok (Some (init, offset))) find result left }
+{
+    skip_splits_fwd_by_ref(input, init, offset, &mut find)
+}
+
+/// The same as [`skip_splits_fwd`], with a finder that is lent: it is left as its last call left it, and as it was
+/// where none was made.
+pub fn skip_splits_fwd_by_ref<T: Drop, F>(
+    input: &Input<'_>,
+    init: T,
+    offset: usize,
+    find: &mut F,
+) -> Result<Option<T>, SearchError>
+where
+    F: FnMut(&Input<'_>) -> Result<Option<(T, usize)>, SearchError>,
+    requires offset { IsInSpan (search_of input.now) offset }
+    requires finder { is_anchored (search_of input.now).anchored ≡ false
+        → ServesSkips F.FnMut (search_of input.now).haystack
+        (raised (search_of input.now)) (Ok (Some (init, offset))) find.old }
+    ensures anchored_whole { is_anchored (search_of input.now).anchored ≡ true
+        → IsBoundary (search_of input.now).haystack offset
+        → result ≡ Ok (Some init) }
+    ensures anchored_split { is_anchored (search_of input.now).anchored ≡ true
+        → ¬ (IsBoundary (search_of input.now).haystack offset)
+        → result ≡ Ok None }
+    ensures anchored_kept { is_anchored (search_of input.now).anchored ≡ true → find.new ≡ find.old }
+    ensures skips { is_anchored (search_of input.now).anchored ≡ false
+        → SkipsTo F.FnMut (search_of input.now).haystack
+        (raised (search_of input.now)) (Ok (Some (init, offset))) find.old result find.new }
 {
     if input.get_anchored().is_anchored() {
         return Ok(keep_whole(input, init, offset));
     }
-    skip_forward(*input, init, offset, &mut find)
+    skip_forward(*input, init, offset, find)
 }
 
 /// The first answer whose offset is the edge of a character, as the search moves back.
@@ -51,7 +88,7 @@ where
 /// none, without a call. An anchored search is not moved.
 ///
 /// The caller owes that `offset` lies in the input's span, and that the finder may be called on the
-/// inputs that differ from this one in their end alone, and answers offsets in their spans.
+/// inputs on which it is called, and answers offsets in their spans.
 pub fn skip_splits_rev<T: Drop, F>(
     input: &Input<'_>,
     init: T,
@@ -61,15 +98,52 @@ pub fn skip_splits_rev<T: Drop, F>(
 where
     F: FnMut(&Input<'_>) -> Result<Option<(T, usize)>, SearchError>,
     requires offset { IsInSpan (search_of input.now) offset }
-    requires finder { is_anchored (search_of input.now).anchored ≡ false → ServesAlong F.FnMut SameButEnd IsPlacedIn find (search_of input.now) }
-    ensures anchored_whole { is_anchored (search_of input.now).anchored ≡ true → IsBoundary (search_of input.now).haystack offset → result ≡ Ok (Some init) }
-    ensures anchored_split { is_anchored (search_of input.now).anchored ≡ true → ¬ (IsBoundary (search_of input.now).haystack offset) → result ≡ Ok None }
-    ensures skips { is_anchored (search_of input.now).anchored ≡ false → (left : F) × SkipsTo F.FnMut (search_of input.now).haystack (lowered (search_of input.now)) (Ok (Some (init, offset))) find result left }
+    requires finder { is_anchored (search_of input.now).anchored ≡ false
+        → ServesSkips F.FnMut (search_of input.now).haystack
+        (lowered (search_of input.now)) (Ok (Some (init, offset))) find }
+    ensures anchored_whole { is_anchored (search_of input.now).anchored ≡ true
+        → IsBoundary (search_of input.now).haystack offset
+        → result ≡ Ok (Some init) }
+    ensures anchored_split { is_anchored (search_of input.now).anchored ≡ true
+        → ¬ (IsBoundary (search_of input.now).haystack offset)
+        → result ≡ Ok None }
+    ensures skips { is_anchored (search_of input.now).anchored ≡ false
+        → (left : F)
+        × SkipsTo F.FnMut (search_of input.now).haystack
+        (lowered (search_of input.now)) (Ok (Some (init, offset))) find result left }
+{
+    skip_splits_rev_by_ref(input, init, offset, &mut find)
+}
+
+/// The same as [`skip_splits_rev`], with a finder that is lent: it is left as its last call left it, and as it was
+/// where none was made.
+pub fn skip_splits_rev_by_ref<T: Drop, F>(
+    input: &Input<'_>,
+    init: T,
+    offset: usize,
+    find: &mut F,
+) -> Result<Option<T>, SearchError>
+where
+    F: FnMut(&Input<'_>) -> Result<Option<(T, usize)>, SearchError>,
+    requires offset { IsInSpan (search_of input.now) offset }
+    requires finder { is_anchored (search_of input.now).anchored ≡ false
+        → ServesSkips F.FnMut (search_of input.now).haystack
+        (lowered (search_of input.now)) (Ok (Some (init, offset))) find.old }
+    ensures anchored_whole { is_anchored (search_of input.now).anchored ≡ true
+        → IsBoundary (search_of input.now).haystack offset
+        → result ≡ Ok (Some init) }
+    ensures anchored_split { is_anchored (search_of input.now).anchored ≡ true
+        → ¬ (IsBoundary (search_of input.now).haystack offset)
+        → result ≡ Ok None }
+    ensures anchored_kept { is_anchored (search_of input.now).anchored ≡ true → find.new ≡ find.old }
+    ensures skips { is_anchored (search_of input.now).anchored ≡ false
+        → SkipsTo F.FnMut (search_of input.now).haystack
+        (lowered (search_of input.now)) (Ok (Some (init, offset))) find.old result find.new }
 {
     if input.get_anchored().is_anchored() {
         return Ok(keep_whole(input, init, offset));
     }
-    skip_backward(*input, init, offset, &mut find)
+    skip_backward(*input, init, offset, find)
 }
 
 // The value, if its offset is an edge of a character.
@@ -94,8 +168,10 @@ fn skip_forward<T: Drop, F>(
 where
     F: FnMut(&Input<'_>) -> Result<Option<(T, usize)>, SearchError>,
     requires offset { IsInSpan (search_of input) offset }
-    requires finder { ServesAlong F.FnMut SameButStart IsPlacedIn find.old (search_of input) }
-    ensures { SkipsTo F.FnMut (search_of input.entry).haystack (raised (search_of input.entry)) (Ok (Some (init, offset))) find.old result find.new }
+    requires finder { ServesSkips F.FnMut (search_of input).haystack
+        (raised (search_of input)) (Ok (Some (init, offset))) find.old }
+    ensures { SkipsTo F.FnMut (search_of input.entry).haystack
+        (raised (search_of input.entry)) (Ok (Some (init, offset))) find.old result find.new }
 {
     let mut value = init;
     let mut place = offset;
@@ -124,8 +200,10 @@ fn skip_backward<T: Drop, F>(
 where
     F: FnMut(&Input<'_>) -> Result<Option<(T, usize)>, SearchError>,
     requires offset { IsInSpan (search_of input) offset }
-    requires finder { ServesAlong F.FnMut SameButEnd IsPlacedIn find.old (search_of input) }
-    ensures { SkipsTo F.FnMut (search_of input.entry).haystack (lowered (search_of input.entry)) (Ok (Some (init, offset))) find.old result find.new }
+    requires finder { ServesSkips F.FnMut (search_of input).haystack
+        (lowered (search_of input)) (Ok (Some (init, offset))) find.old }
+    ensures { SkipsTo F.FnMut (search_of input.entry).haystack
+        (lowered (search_of input.entry)) (Ok (Some (init, offset))) find.old result find.new }
 {
     let mut value = init;
     let mut place = offset;
@@ -169,15 +247,20 @@ mod tests {
 
     #[test]
     fn forward(rt: HostRuntime) {
-        for (anchored, fails, want, starts) in [
-            (Anchored::Yes, 9, Ok(None), 1),
-            (Anchored::No, 9, Ok(Some(43)), 1123),
-            (Anchored::No, 1, Err(ERROR), 11),
+        for (anchored, offset, fails, want, starts) in [
+            (Anchored::Yes, 1, 9, Ok(None), 1),
+            (Anchored::Yes, 0, 9, Ok(Some(41)), 1),
+            (Anchored::Yes, 3, 9, Ok(Some(41)), 1),
+            (Anchored::No, 0, 9, Ok(Some(41)), 1),
+            (Anchored::No, 3, 9, Ok(Some(41)), 1),
+            (Anchored::No, 1, 9, Ok(Some(43)), 1123),
+            (Anchored::No, 1, 1, Err(ERROR), 11),
         ] {
+            assert!(rt; offset <= SNOWMAN.len());
             let input = Input::new(SNOWMAN).anchored(anchored);
             // A 1, and after it the starts of the inputs that the calls were given.
             let mut seen = 1usize;
-            let found = skip_splits_fwd(&input, 41, 1, |input: &Input<'_>| {
+            let found = skip_splits_fwd(&input, 41, offset, |input: &Input<'_>| {
                 seen = seen.wrapping_mul(10).wrapping_add(input.start());
                 if input.start() == fails {
                     return Err(ERROR);
@@ -191,13 +274,19 @@ mod tests {
 
     #[test]
     fn backward(rt: HostRuntime) {
-        for (haystack, end, offset, place, fails, want, ends) in [
-            (SNOWMAN, 3, 2, 9, 9, Ok(Some(40)), 1210),
-            (SNOWMAN, 3, 2, 1, 1, Err(ERROR), 121),
-            (b"\x80", 0, 0, 9, 9, Ok(None), 1),
+        for (haystack, anchored, end, offset, place, fails, want, ends) in [
+            (SNOWMAN, Anchored::No, 3, 2, 9, 9, Ok(Some(40)), 1210),
+            (SNOWMAN, Anchored::No, 3, 2, 1, 1, Err(ERROR), 121),
+            (SNOWMAN, Anchored::No, 3, 3, 9, 9, Ok(Some(42)), 1),
+            (SNOWMAN, Anchored::No, 3, 0, 9, 9, Ok(Some(42)), 1),
+            (SNOWMAN, Anchored::Yes, 3, 2, 9, 9, Ok(None), 1),
+            (SNOWMAN, Anchored::Yes, 3, 3, 9, 9, Ok(Some(42)), 1),
+            (b"\x80", Anchored::No, 0, 0, 9, 9, Ok(None), 1),
         ] {
             assert!(rt; offset <= end && end <= haystack.len());
-            let input = Input::new(haystack).span(Span { start: 0, end });
+            let input = Input::new(haystack)
+                .span(Span { start: 0, end })
+                .anchored(anchored);
             // A 1, and after it the ends of the inputs that the calls were given.
             let mut seen = 1usize;
             let found = skip_splits_rev(&input, 42, offset, |input: &Input<'_>| {

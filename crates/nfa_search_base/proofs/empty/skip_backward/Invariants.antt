@@ -2,15 +2,18 @@ use Rattle.std.proofs.Common.{Some, Ok}
 use Rattle.regex_search_core.specs.Search.{search_of}
 use Rattle.nfa_search_base.specs.Asking.{SameButEnd}
 use Rattle.nfa_search_base.specs.Skipping.{IsInSpan, lowered}
-use Rattle.nfa_search_base.proofs.AskingLemmas.{same_end-self, same_end-then}
+use Rattle.nfa_search_base.proofs.AskingLemmas.{same_end-self}
 use Rattle.nfa_search_base.proofs.SkipLemmas.{HasCome}
 use Rattle.nfa_search_base.proofs.empty.skip_backward.Given as goal
 
 abbrev pub invariant-loop-input : goal.invariant-loop-input
 invariant-loop-input g l =
     IsInSpan (search_of l.input) l.place
-    × HasCome g.F.FnMut (search_of l.fn.input).haystack (lowered (search_of l.fn.input)) SameButEnd same_end-self same_end-then
-    (search_of l.fn.input) (Ok (Some (l.fn.init, l.fn.offset))) l.fn.find (search_of l.input) (Ok (Some (l.value, l.place))) l.find
+    × HasCome g.F.FnMut (search_of l.fn.input).haystack (lowered (search_of l.fn.input)) SameButEnd same_end-self
+    (search_of l.fn.input) (Ok (Some (l.fn.init, l.fn.offset))) l.fn.find (search_of l.input) (Ok (Some (
+      l.value,
+      l.place,
+    ))) l.find
 
 abbrev pub decreases-loop-input : goal.decreases-loop-input
 decreases-loop-input g l = l.input.span.end

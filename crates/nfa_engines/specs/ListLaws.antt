@@ -1,0 +1,39 @@
+-- Laws of the list of the matches of a search, over the definitions alone.
+use Rattle.std.specs.Prelude.{◌≡◌, ℕ, ◌+◌, ◌≤◌, Bool, false, List, length, None}
+use Rattle.regex_search_core.specs.Found.{Found}
+use Rattle.regex_search_core.specs.Search.{Search}
+use Rattle.regex_search_core.specs.declared.search.MatchKind.{MatchKind}
+use Rattle.regex_search_core.specs.declared.search.MatchKind.TheVariants.{LeftmostFirst}
+use Rattle.thompson_nfa.specs.Automaton.{Automaton}
+use Rattle.nfa_paths.specs.Paths.{span_len}
+use Rattle.nfa_search_base.specs.Lists.{AreApart, AreFirstMatches, AreMatches}
+
+-- two lists of the matches of a search are one
+abbrev pub OneList : Type 0
+OneList =
+    (nfa : Automaton) (x : Search) (kind : MatchKind) (earliest : Bool) (ms ns : List Found)
+    → AreMatches nfa kind earliest x ms → AreMatches nfa kind earliest x ns → ms ≡ ns
+
+-- a search has a list of its matches
+abbrev pub EverySearchHasAList : Type 0
+EverySearchHasAList =
+    (nfa : Automaton) (x : Search) (kind : MatchKind) (earliest : Bool)
+    → (ms : List Found) × AreMatches nfa kind earliest x ms
+
+-- the first matches of a search, all of them or some, lie in its span, in order, and do not overlap
+abbrev pub MatchesAreApart : Type 0
+MatchesAreApart =
+    (nfa : Automaton) (x : Search) (kind : MatchKind) (earliest : Bool) (ms : List Found)
+    → AreFirstMatches nfa kind earliest x ms → AreApart x None ms
+
+-- there are at most as many as the span has bytes, and so many more
+abbrev pub AtMostInList : ℕ → Type 0
+AtMostInList more =
+    (nfa : Automaton) (x : Search) (kind : MatchKind) (earliest : Bool) (ms : List Found)
+    → AreFirstMatches nfa kind earliest x ms → length ms ≤ span_len x + more
+
+-- a list of searches of the kind is that of leftmost first searches
+abbrev pub ListAsLeftmost : MatchKind → Type 0
+ListAsLeftmost kind =
+    (nfa : Automaton) (x : Search) (ms ns : List Found)
+    → AreMatches nfa kind false x ms → AreMatches nfa LeftmostFirst false x ns → ms ≡ ns
