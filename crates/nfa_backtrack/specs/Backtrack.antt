@@ -1,12 +1,9 @@
 -- A backtracker as a value, and how much it may try.
-use Rattle.std.specs.Prelude.{◌≡◌, ℕ, ◌+◌, ◌*◌, ◌/◌, ◌^◌, ◌-◌, ◌<◌, ◌≤◌, min, max, length, Option, unwrap_or}
+use Rattle.std.specs.Prelude.{◌≡◌, ℕ, ◌+◌, ◌*◌, ◌/◌, ◌-◌, ◌<◌, ◌≤◌, max, length, Option, unwrap_or}
 use Rattle.regex_search_core.specs.Search.{Search}
 use Rattle.thompson_nfa.specs.Automaton.{Automaton}
 use Rattle.nfa_paths.specs.Paths.{span_len}
-
--- a number that stops at the greatest `usize`
-abbrev pub saturated : ℕ → ℕ
-saturated n = min n (2 ^ 64 - 1)
+use Rattle.nfa_scanning.specs.Numbers.{saturated}
 
 -- an NFA, and how many bytes of marks were asked for, if any were
 pub record Backtracker : Type 0 where

@@ -1,6 +1,5 @@
 -- The walk of a backtracker in the words of its proof: its stack as work that is left, its marks as pairs that were seen.
-use Rattle.std.specs.Prelude.{◌≡◌, ◌↔◌, ℕ, ◌+◌, ◌-◌, ◌*◌, ◌^◌, ◌<◌, ◌≤◌, Bool, true, false, List, [], ◌∷◌, Option, None, Some, length, map, All, slice_index_or, slice_set, option_map, option_and_then}
-use Rattle.std.specs.Option.{option_map_or}
+use Rattle.std.specs.Prelude.{◌≡◌, ◌↔◌, ℕ, ◌+◌, ◌-◌, ◌*◌, ◌^◌, ◌<◌, ◌≤◌, Bool, true, false, List, [], ◌∷◌, Option, None, Some, length, map, All, slice_index_or, slice_set}
 use Rattle.std.specs.List.{sum_by}
 use Rattle.regex_search_core.specs.Search.{Search}
 use Rattle.regex_search_core.specs.Patterns.{number_of}
@@ -9,7 +8,8 @@ use Rattle.regex_search_core.specs.declared.search.HalfMatch.{HalfMatch}
 use Rattle.regex_search_core.specs.declared.search.MatchKind.TheVariants.{LeftmostFirst}
 use Rattle.thompson_nfa.specs.Automaton.{Automaton}
 use Rattle.nfa_paths.specs.Graphs.{Pair, In}
-use Rattle.nfa_paths.specs.Paths.{span_len, degree, node_at, pattern_of, edges, is_match, capture, last_of, path_pattern, slot_row, IsScanAnswer, IsSearchAnswer, turn_weight}
+use Rattle.nfa_paths.specs.Paths.{span_len, degree, node_at, pattern_of, edges, is_match, capture, IsScanAnswer}
+use Rattle.nfa_paths.specs.Restarts.{GivesPath}
 use Rattle.nfa_paths.specs.Exploring.{Slots, Found, Item, Answer}
 use Rattle.nfa_paths.specs.Exploring.Item.{Explore as ToExplore, Restore as ToRestore}
 use Rattle.nfa_paths.specs.Turns.{marked_sum, repeated}
@@ -188,31 +188,7 @@ module _ (nfa : Automaton) (x : Search) where
   Walks v (Some half) marks slots after marked written =
       (work : List Item) → EndsAt half marks (ToExplore v ∷ work) slots written marked.turns
 
-  -- the scan's answer is this path, of which the match and the slots are
-  pub record Finds (half : HalfMatch) (slots : Slots) (turns : ℕ) : Type 0 where
-    pub path : List Pair
-    pub state : ℕ
-    pub answers : IsScanAnswer nfa x LeftmostFirst false (Some path)
-    pub matches : pattern_of (node_at nfa state) ≡ Some (half_found_of half).pattern
-    pub ends : last_of path ≡ Some (state, (half_found_of half).offset)
-    pub row : slots ≡ slot_row nfa (length slots) (Some path)
-    pub short : length path ≤ turns
-
-  -- what a scan that took so many turns comes to
-  abbrev pub Scans : Option HalfMatch → Slots → ℕ → Type 0
-  Scans None slots turns = IsScanAnswer nfa x LeftmostFirst false None
-  Scans (Some half) slots turns = Finds half slots turns
-
-  -- the turns of one scan at most
-  abbrev pub scan_turns : ℕ
-  scan_turns = (1 + turn_weight nfa) * (span_len x + 1)
-
-  -- the search's answer is this, after so many scans and turns
-  pub record Searched (half : Option HalfMatch) (slots : Slots) (scans turns : ℕ) : Type 0 where
-    pub restarts : ℕ
-    pub path : Option (List Pair)
-    pub answers : IsSearchAnswer nfa LeftmostFirst false x restarts path
-    pub pattern_is : option_map (λ h. (half_found_of h).pattern) half ≡ option_and_then (path_pattern nfa) path
-    pub slots_are : slots ≡ slot_row nfa (length slots) path
-    pub scans_are : scans ≡ restarts + 1
-    pub turns_reach : option_map_or length path 0 ≤ turns
+  -- what the search from all starts comes to, in so many turns
+  abbrev pub StartsGive : Option HalfMatch → Slots → ℕ → Type 0
+  StartsGive None slots turns = IsScanAnswer nfa x LeftmostFirst false None
+  StartsGive (Some half) slots turns = GivesPath nfa LeftmostFirst false x half slots turns

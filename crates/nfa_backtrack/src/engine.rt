@@ -6,14 +6,14 @@ ghost use Rattle.regex_search_core.specs.Found.{found_of, half_found_of};
 ghost use Rattle.regex_search_core.specs.declared.search.MatchKind.TheVariants.{LeftmostFirst};
 ghost use Rattle.thompson_nfa.specs.Simple.{always, never};
 ghost use Rattle.nfa_paths.specs.Paths.{span_len, turn_weight, scan_limit, IsAnswer, IsMatchAnswer, IsFoundAnswer, IsWork, IsWithinScans};
-ghost use Rattle.nfa_backtrack.specs.Walk.{scan_turns};
+ghost use Rattle.nfa_paths.specs.Restarts.{scan_turns};
 ghost use Rattle.nfa_backtrack.specs.Backtrack.{IsTooLong, AddsWork, CountsAnswer, CountsRefusal, GrowsBlocks, refused_early, unused, capacity_of, rounded_bits, max_haystack_len_of, min_capacity_of};
 ghost use Rattle.nfa_search_base.specs.Lists.{IsInside, IsSlotInside};
 
 use crate::cache::Cache;
 use crate::config::{Builder, Config};
 use crate::scratch::Scratch;
-use crate::search::{search, unset};
+use crate::search::unset;
 use nfa_scanning::first_bytes::FirstBytes;
 use nfa_search_base::error::SearchError;
 use regex_search_core::{Captures, HalfMatch, Input, Match, NonMaxUsize, PatternID, Refused};
@@ -28,8 +28,8 @@ use thompson_nfa::{BuildError, NFA};
 #[derive(Debug, Drop)]
 pub struct BoundedBacktracker {
     config: Config,
-    first: FirstBytes,
-    nfa: NFA,
+    pub(super) first: FirstBytes,
+    pub(super) nfa: NFA,
 }
 
 impl Model for BoundedBacktracker {
@@ -259,7 +259,7 @@ impl BoundedBacktracker {
                 len: input.get_span().len(),
             });
         }
-        let Ok(half) = search(&self.nfa, &self.first, input, scratch, slots) else {
+        let Ok(half) = self.search(input, scratch, slots) else {
             refused.tick();
             return Err(SearchError::Memory);
         };
@@ -340,7 +340,7 @@ impl BoundedBacktracker {
         let slot_len = self.nfa.group_info().implicit_slot_len();
         grow(slots, slot_len)?;
         let slots = &mut slots.as_mut_slice()[..slot_len];
-        let Some(half) = search(&self.nfa, &self.first, input, scratch, slots)? else {
+        let Some(half) = self.search(input, scratch, slots)? else {
             return Ok(None);
         };
         Ok(Match::from_slots(half.pattern(), slots))

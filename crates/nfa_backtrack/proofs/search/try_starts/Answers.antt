@@ -6,7 +6,7 @@ use Rattle.nfa_paths.specs.Exploring.Item.{Explore}
 use Rattle.nfa_paths.proofs.AnswerLemmas.{pairs_from-step, pairs_from-end}
 use Rattle.nfa_backtrack.proofs.PassLemmas.{Follows-first, Follows-pass}
 use Rattle.nfa_backtrack.proofs.WalkLemmas.{Follows-then, Follows-ends, Ends-none, EndsAt-along}
-use Rattle.nfa_backtrack.proofs.ScanLemmas.{Scans-none, Scans-some, turns-all, turns-bound}
+use Rattle.nfa_backtrack.proofs.ScanLemmas.{starts-none, starts-some, turns-all, turns-bound}
 use Rattle.nfa_backtrack.proofs.search.try_starts.Goals as goal
 
 pub returns-in_err-half-clause-turns : goal.returns-in_err-half-clause-turns
@@ -27,7 +27,7 @@ returns-in-Some-2-clause-answer c =
     let rest = map Explore (pairs_from c.in-Some.sid (c.loop-at.at + 1) (c.start_limit-limit.result - (c.loop-at.at + 1))) in
     let size : length c.walk.new.slots ≡ length c.args.slots.now = c.walk.auto.slots ∙ c.loop-at.auto.slots in
     let unset : c.args.slots.now ≡ replicate (length c.walk.new.slots) None = c.requires.unset ∙ ap (λ n. replicate n None) (sym size) in
-    Scans-some c.args.nfa.now (search_of c.args.input.now) c.args.visited.now c.requires.clear c.args.slots.now _ c.in-Some-2.half c.walk.new.slots unset
+    starts-some c.args.nfa.now (search_of c.args.input.now) c.args.visited.now c.requires.clear c.args.slots.now _ c.in-Some-2.half c.walk.new.slots unset
     (EndsAt-along c.args.nfa.now (search_of c.args.input.now) follows (walks rest))
 
 pub loop-at-init : goal.loop-at-init
@@ -75,5 +75,5 @@ pub returns-clause-answer : goal.returns-clause-answer
 returns-clause-answer c =
     let over : c.start_limit-limit.result ≤ c.loop-at.at = c.loop-at-test.false in
     let follows = rw (pairs_from-end c.in-Some.sid over) at c.loop-at.invariant.follows in
-    Scans-none c.args.nfa.now (search_of c.args.input.now) c.args.visited.now c.requires.clear c.args.slots.now c.loop-at.visited.turns
+    starts-none c.args.nfa.now (search_of c.args.input.now) c.args.visited.now c.requires.clear c.args.slots.now c.loop-at.visited.turns
     (Follows-ends c.args.nfa.now (search_of c.args.input.now) follows (Ends-none c.args.nfa.now (search_of c.args.input.now) c.loop-at.visited c.loop-at.slots))
