@@ -1,6 +1,7 @@
 -- From what a search comes to, to what its callers are told.
 use Rattle.std.proofs.Common.{◌≡◌, ℕ, [], ◌∷◌, arith, length, refl, ap, ◌∙◌}
-use Rattle.std.specs.Prelude.{Option, Some, None, Result, Ok, Err, false, option_map, ◌<◌, replicate, All, IfOk, IfSome, IfNone}
+use Rattle.std.specs.Prelude.{Option, Some, None, Result, Ok, Err, false, option_map, ◌<◌, replicate, All, IfOk, IfSome}
+use Rattle.std.specs.Prelude.{IfNone}
 use Rattle.std.specs.List.{refill}
 use Rattle.regex_search_core.specs.Found.{half_found_of, found_of}
 use Rattle.regex_search_core.specs.Search.{Search}
@@ -37,7 +38,8 @@ pub unmatched-slots : (nfa : Automaton) (x : Search) (pattern : Option ℕ) (slo
     → length slots ≡ n → length written ≡ length slots → IsAnswer nfa LeftmostFirst false x pattern written
     → IfNone pattern (refill (length slots) slots written ≡ replicate n None)
 unmatched-slots nfa x None slots written n size whole a =
-    refill-whole slots written whole ∙ slots-unset nfa LeftmostFirst false x written a ∙ ap (λ k. replicate k None) (whole ∙ size)
+    refill-whole slots written whole ∙ slots-unset nfa LeftmostFirst false x written a ∙ ap (λ k. replicate k None)
+    (whole ∙ size)
 unmatched-slots nfa x (Some p) slots written n size whole a = tt
 
 -- what callers learn of the numbers in a match
@@ -52,7 +54,8 @@ module _ (nfa : Automaton) (x : Search) where
   inside-of (Some m) h =
       let k = match-within nfa LeftmostFirst false x (found_of m) h in record { from = k.0; ordered = k.1; to = k.2 }
 
-  pub pattern-of : IsAutomaton nfa → (r : Option Match) → IsMatchAnswer nfa LeftmostFirst false x (option_map found_of r)
+  pub pattern-of : IsAutomaton nfa → (r : Option Match)
+      → IsMatchAnswer nfa LeftmostFirst false x (option_map found_of r)
       → IfSome r (λ m. (found_of m).pattern < length nfa.patterns)
   pattern-of valid None h = tt
   pattern-of valid (Some m) h = match-pattern nfa LeftmostFirst false valid x (found_of m) h

@@ -25,11 +25,13 @@ module _ (nfa : Automaton) (x : Search) where
 
   module _ (marks : Marks) (clear : marks.bits ≡ replicate (length marks.bits) false) (slots : Slots) (turns : ℕ) where
     -- all starts were tried, and nothing was found
-    pub starts-none : Ends nfa x marks (map Explore (starts nfa x)) slots None turns → IsScanAnswer nfa x LeftmostFirst false None
+    pub starts-none : Ends nfa x marks (map Explore (starts nfa x)) slots None turns
+        → IsScanAnswer nfa x LeftmostFirst false None
     unfolding WalkAnswer
     starts-none e =
         let g = e.grows in
-        scan_none nfa x (turns - marks.turns) slots (e.answer (turns - marks.turns) (omega arith) [] (fresh marks.bits clear))
+        scan_none nfa x (turns - marks.turns) slots
+        (e.answer (turns - marks.turns) (omega arith) [] (fresh marks.bits clear))
 
     -- a match was found
     pub starts-some : (half : HalfMatch) (written : Slots) → slots ≡ replicate (length written) None
@@ -38,17 +40,28 @@ module _ (nfa : Automaton) (x : Search) where
     unfolding WalkAnswer
     starts-some half written unset e =
         let g = e.ends.grows in
-        let found = scan_some nfa x (length written) (turns - marks.turns) (e.state, (half_found_of half).offset) written
+        let found = scan_some nfa x (length written) (turns - marks.turns) (e.state, (half_found_of half).offset)
+        written
         (rw unset at (e.ends.answer (turns - marks.turns) (omega arith) [] (fresh marks.bits clear))) in
-        record { path = found.path; state = e.state; answers = found.answers; matches = e.matches; ends = found.ends; row = found.row_is; short = found.short }
+        record {
+          path = found.path;
+          state = e.state;
+          answers = found.answers;
+          matches = e.matches;
+          ends = found.ends;
+          row = found.row_is;
+          short = found.short;
+        }
 
   -- the turns of a scan
 
-  pub turns-all : (tried turns before : ℕ) (bits : List Bool) → tried ≤ span_len x + 1 → turns ≤ before + tried + marked_sum (weights nfa x) bits
+  pub turns-all : (tried turns before : ℕ) (bits : List Bool) → tried ≤ span_len x + 1 → turns
+      ≤ before + tried + marked_sum (weights nfa x) bits
       → turns ≤ before + scan_turns nfa x
   turns-all tried turns before bits few h = omega (arith, marked_sum-le (weights nfa x) bits, sum-weights nfa x)
 
-  pub turns-bound : (tried turns after before : ℕ) (bits : List Bool) → tried ≤ span_len x → turns ≤ before + tried + marked_sum (weights nfa x) bits
+  pub turns-bound : (tried turns after before : ℕ) (bits : List Bool) → tried ≤ span_len x → turns
+      ≤ before + tried + marked_sum (weights nfa x) bits
       → after + marked_sum (weights nfa x) bits ≤ turns + 1 + sum (weights nfa x) → after ≤ before + scan_turns nfa x
   turns-bound tried turns after before bits few h k = omega (arith, sum-weights nfa x)
 
@@ -63,7 +76,8 @@ module _ (nfa : Automaton) (x : Search) where
       record { room = room'; fits = fits' }
 
 -- so it has after some restarts, where there are as many marks as before
-pub room-after : (nfa : Automaton) (x y : Search) (i : ℕ) (bits after : List Bool) → length after ≡ length bits → y ≡ raised x i
+pub room-after : (nfa : Automaton) (x y : Search) (i : ℕ) (bits after : List Bool) → length after ≡ length bits → y
+    ≡ raised x i
     → HasRoom nfa x bits → HasRoom nfa y after
 room-after nfa x y i bits after same is room =
     let raised_room = HasRoom-raised nfa x bits i room in

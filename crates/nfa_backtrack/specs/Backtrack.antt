@@ -25,7 +25,17 @@ pub record Work : Type 0 where
 
 -- a cache that has made no search and holds nothing
 abbrev pub unused : Work
-unused = record { scans = 0; turns = 0; frames = 0; blocks = 0; slots = 0; answered = 0; refused = 0; all_scans = 0; all_turns = 0 }
+unused = record {
+  scans = 0;
+  turns = 0;
+  frames = 0;
+  blocks = 0;
+  slots = 0;
+  answered = 0;
+  refused = 0;
+  all_scans = 0;
+  all_turns = 0;
+}
 
 -- one search more was answered
 pub record CountsAnswer (old new : Work) : Type 0 where
@@ -67,7 +77,8 @@ rounded_bits bytes = saturated (64 * ((saturated (8 * bytes) + 63) / 64))
 abbrev pub capacity_of : Backtracker → ℕ
 capacity_of e = rounded_bits (unwrap_or e.visited_capacity default_capacity)
 
--- The length of the longest span that a search may have, where there is a bit for each state; else 0, and no search may be made.
+-- The length of the longest span that a search may have, where there is a bit for each state; else 0, and no search
+-- may be made.
 abbrev pub max_haystack_len_of : Backtracker → ℕ
 max_haystack_len_of e = capacity_of e / length e.nfa.states - 1
 

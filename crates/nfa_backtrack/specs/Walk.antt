@@ -1,5 +1,7 @@
--- The walk of a backtracker in the words of its proof: its stack as work that is left, its marks as pairs that were seen.
-use Rattle.std.specs.Prelude.{◌≡◌, ◌↔◌, ℕ, ◌+◌, ◌-◌, ◌*◌, ◌^◌, ◌<◌, ◌≤◌, Bool, true, false, List, [], ◌∷◌, Option, None, Some, length, map, All, slice_index_or, slice_set}
+-- The walk of a backtracker in the words of its proof: its stack as work that is left, its marks as pairs that were
+-- seen.
+use Rattle.std.specs.Prelude.{◌≡◌, ◌↔◌, ℕ, ◌+◌, ◌-◌, ◌*◌, ◌^◌, ◌<◌, ◌≤◌, Bool, true, false, List, [], ◌∷◌, Option, None}
+use Rattle.std.specs.Prelude.{Some, length, map, All, slice_index_or, slice_set}
 use Rattle.std.specs.List.{sum_by}
 use Rattle.regex_search_core.specs.Search.{Search}
 use Rattle.regex_search_core.specs.Patterns.{number_of}
@@ -61,7 +63,8 @@ work_onto (f ∷ fs) work = work_onto fs (item_of f ∷ work)
 
 -- what comes of taking a frame up: a place to search on from, or a slot that has its old value again
 abbrev pub Unwinds : Frame → Slots → Option Place → Slots → Type 0
-Unwinds (Step sid at row) slots place after = (place ≡ Some (record { sid = sid; at = at; row = row })) × (after ≡ slots)
+Unwinds (Step sid at row) slots place after = (place ≡ Some (record { sid = sid; at = at; row = row }))
+    × (after ≡ slots)
 Unwinds (Restore slot offset) slots place after = (place ≡ None) × (after ≡ slice_set slots slot (Some offset))
 Unwinds (Clear slot) slots place after = (place ≡ None) × (after ≡ slice_set slots slot None)
 
@@ -86,7 +89,8 @@ tries_of_turn (Ended half) = 0
 tries_of_turn Over = 0
 
 module _ (nfa : Automaton) (x : Search) where
-  -- the place is one of the NFA's states, in the span, and its row is as far from the first as its position from the start
+  -- the place is one of the NFA's states, in the span, and its row is as far from the first as its position from the
+  -- start
   pub record IsPlace (place : Place) : Type 0 where
     pub state : place.sid < length nfa.states
     pub from : x.start ≤ place.at
@@ -133,13 +137,31 @@ module _ (nfa : Automaton) (x : Search) where
       (seen : List Pair) → Agrees bits seen
       → Answer (edges nfa x) (is_match nfa) (capture nfa) left None seen work slots g
 
+  -- the turn at v marked it
+  pub record Taken (v : Pair) (marks marked : Marks) : Type 0 where
+    pub state : v.0 < length nfa.states
+    pub from : x.start ≤ v.1
+    pub to : v.1 ≤ x.end
+    pub inside : bit_of v < length marks.bits
+    pub clear : slice_index_or marks.bits (bit_of v) true ≡ false
+    pub set : marked.bits ≡ slice_set marks.bits (bit_of v) true
+    pub counted : marked.turns ≡ marks.turns + 1
+
+  -- the turn at v found it marked
+  pub record WasMarked (v : Pair) (marks marked : Marks) : Type 0 where
+    pub marked_before : IsMarked marks.bits v
+    pub same : marked.bits ≡ marks.bits
+    pub counted : marked.turns ≡ marks.turns + 1
+
   -- What a step pushed is paid for by what it marked. `in_hand` is 1 where it goes on at a place.
-  pub record Paid (count : ℕ) (stack : List Frame) (bits : List Bool) (after : List Frame) (marked : List Bool) (in_hand : ℕ) : Type 0 where
+  pub record Paid (count : ℕ) (stack : List Frame) (bits : List Bool) (after : List Frame) (marked : List Bool)
+      (in_hand : ℕ) : Type 0 where
     pub within : All (IsWithin count) after
     pub tried : sum_by tries after + in_hand + marked_sum weights bits ≤ sum_by tries stack + marked_sum weights marked
 
   -- The answer from the state after is the answer from the state before.
-  pub record Follows (marks : Marks) (work : List Item) (slots : Slots) (after : Marks) (work_after : List Item) (slots_after : Slots) : Type 0 where
+  pub record Follows (marks : Marks) (work : List Item) (slots : Slots) (after : Marks) (work_after : List Item)
+      (slots_after : Slots) : Type 0 where
     pub grows : marks.turns ≤ after.turns
     pub back : (left more : ℕ) (g : Found) → marks.turns + more ≡ after.turns + left
         → WalkAnswer left after.bits work_after slots_after g → WalkAnswer more marks.bits work slots g
@@ -153,15 +175,18 @@ module _ (nfa : Automaton) (x : Search) where
   abbrev pub Goes : Pair → Move → List Frame → Marks → Slots → List Frame → Marks → Slots → Type 0
   Goes v (Go place) stack marks slots after marked written =
       IsPlace place
-      × ((work : List Item) → Follows marks (ToExplore v ∷ work_onto stack work) slots marked (ToExplore (pair_of place) ∷ work_onto after work) written)
+      × ((work : List Item) → Follows marks (ToExplore v ∷ work_onto stack work) slots marked
+      (ToExplore (pair_of place) ∷ work_onto after work) written)
   Goes v Stuck stack marks slots after marked written =
-      (work : List Item) → Follows marks (ToExplore v ∷ work_onto stack work) slots marked (work_onto after work) written
+      (work : List Item) → Follows marks (ToExplore v ∷ work_onto stack work) slots marked (work_onto after work)
+      written
   Goes v (Matched pattern) stack marks slots after marked written =
       (pattern_of (node_at nfa v.0) ≡ Some (number_of pattern))
       × ((work : List Item) → Ends marks (ToExplore v ∷ work_onto stack work) slots (Some (v, written)) marked.turns)
 
   -- the search ends at a match: its state is of the pattern, and this is where it ends
-  pub record EndsAt (half : HalfMatch) (marks : Marks) (work : List Item) (slots : Slots) (written : Slots) (turns : ℕ) : Type 0 where
+  pub record EndsAt (half : HalfMatch) (marks : Marks) (work : List Item) (slots : Slots) (written : Slots) (turns : ℕ)
+      : Type 0 where
     pub state : ℕ
     pub matches : pattern_of (node_at nfa state) ≡ Some (half_found_of half).pattern
     pub ends : Ends marks work slots (Some ((state, (half_found_of half).offset), written)) turns
@@ -170,14 +195,16 @@ module _ (nfa : Automaton) (x : Search) where
   abbrev pub Advances : Pair → Turn → List Frame → Marks → Slots → List Frame → Marks → Slots → Type 0
   Advances v (On place) stack marks slots after marked written =
       IsPlace place
-      × ((work : List Item) → Follows marks (ToExplore v ∷ work_onto stack work) slots marked (ToExplore (pair_of place) ∷ work_onto after work) written)
+      × ((work : List Item) → Follows marks (ToExplore v ∷ work_onto stack work) slots marked
+      (ToExplore (pair_of place) ∷ work_onto after work) written)
   Advances v (Ended half) stack marks slots after marked written =
       (work : List Item) → EndsAt half marks (ToExplore v ∷ work_onto stack work) slots written marked.turns
   Advances v Over stack marks slots after marked written =
       (after ≡ []) × ((work : List Item) → Follows marks (ToExplore v ∷ work_onto stack work) slots marked work written)
 
   -- nothing was found at v, and what was tried is paid for
-  pub record Fails (v : Pair) (marks : Marks) (slots : Slots) (after : List Frame) (marked : Marks) (written : Slots) : Type 0 where
+  pub record Fails (v : Pair) (marks : Marks) (slots : Slots) (after : List Frame) (marked : Marks) (written : Slots) :
+      Type 0 where
     pub empty : after ≡ []
     pub follows : (work : List Item) → Follows marks (ToExplore v ∷ work) slots marked work written
     pub spent : marked.turns + marked_sum weights marks.bits ≤ marks.turns + 1 + marked_sum weights marked.bits

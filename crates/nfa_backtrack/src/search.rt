@@ -1,5 +1,6 @@
 //! A search: a scan and, while its answer ends inside a character, further scans.
-ghost use Rattle.std.specs.Prelude.{◌≡◌, ℕ, ◌+◌, ◌-◌, ◌*◌, ◌/◌, ◌^◌, ◌<◌, ◌≤◌, [], None, Some, false, length, replicate};
+ghost use Rattle.std.specs.Prelude.{◌≡◌, ℕ, ◌+◌, ◌-◌, ◌*◌, ◌/◌, ◌^◌, ◌<◌, ◌≤◌, [], None, Some, false, length};
+ghost use Rattle.std.specs.Prelude.{replicate};
 ghost use Rattle.std.specs.Prelude.{IfOk, IfSome, OnErr};
 ghost use Rattle.regex_search_core.specs.Found.{half_found_of};
 ghost use Rattle.regex_search_core.specs.Search.{search_of};
@@ -11,9 +12,8 @@ ghost use Rattle.nfa_backtrack.specs.Backtrack.{GrowsBlocks};
 ghost use Rattle.nfa_backtrack.specs.Walk.{pair_of, HasRoom, IsPlace, StartsGive};
 
 use crate::engine::BoundedBacktracker;
-use crate::frame::{Frame, Place};
+use crate::frame::Place;
 use crate::scratch::Scratch;
-use crate::visited::Visited;
 use crate::walk::walk;
 use nfa_scanning::first_bytes::FirstBytes;
 use nfa_scanning::starts::{may_end_at, next_start, skip_limit, start_limit, start_state};
@@ -45,19 +45,19 @@ fn try_starts(
     nfa: &NFA,
     first: &FirstBytes,
     input: &Input<'_>,
-    stack: &mut Vec<Frame>,
-    visited: &mut Visited,
+    scratch: &mut Scratch,
     slots: &mut [Option<NonMaxUsize>],
 ) -> Result<Option<HalfMatch>, Refused>
     requires first { IsFirstBytes nfa.now first.now.may_begin }
-    requires room { HasRoom nfa.now (search_of input.now) visited.old.bits }
-    requires clear { visited.old.bits ≡ replicate (length visited.old.bits) false }
-    requires empty { stack.old.items ≡ [] }
+    requires room { HasRoom nfa.now (search_of input.now) scratch.old.visited.bits }
+    requires clear { scratch.old.visited.bits ≡ replicate (length scratch.old.visited.bits) false }
+    requires empty { scratch.old.stack.items ≡ [] }
     requires unset { slots.old ≡ replicate (length slots.old) None }
-    ensures size { length visited.new.bits ≡ length visited.old.bits }
-    ensures turns { visited.new.turns ≤ visited.old.turns + scan_turns nfa.now (search_of input.now) }
+    ensures scans { scratch.new.scans ≡ scratch.old.scans }
+    ensures size { length scratch.new.visited.bits ≡ length scratch.old.visited.bits }
+    ensures turns { scratch.new.visited.turns ≤ scratch.old.visited.turns + scan_turns nfa.now (search_of input.now) }
     ensures answer { IfOk result (λ half. StartsGive nfa.now (search_of input.now) half slots.new
-        (visited.new.turns - visited.old.turns)) }
+        (scratch.new.visited.turns - scratch.old.visited.turns)) }
 {
     if input.is_done() {
         return Ok(None);
@@ -70,7 +70,7 @@ fn try_starts(
     let mut at = next_start(first, input, input.start(), stop);
     while at < limit {
         let place = place_of(nfa, input, sid, at);
-        if let Some(half) = walk(nfa, input, place, stack, visited, slots)? {
+        if let Some(half) = walk(nfa, input, place, scratch, slots)? {
             return Ok(Some(half));
         }
         at = next_start(first, input, at + 1, stop);
@@ -99,8 +99,7 @@ fn scan(
     unset(slots);
     scratch.stack.clear();
     scratch.visited.clear();
-    let Scratch { stack, visited, .. } = scratch;
-    match try_starts(nfa, first, input, stack, visited, slots) {
+    match try_starts(nfa, first, input, scratch, slots) {
         Ok(Some(half)) => Ok(Some(half)),
         Ok(None) => {
             unset(slots);

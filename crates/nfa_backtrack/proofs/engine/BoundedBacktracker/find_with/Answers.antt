@@ -27,10 +27,12 @@ returns-clause-answer c =
       ap length c.group_info.ensures.value,
     )) in
     match-some c.args.self.now.nfa LeftmostFirst false (search_of c.args.input.now) valid c.in-Some.half
-    (number_of c.pattern.result) c.pattern.ensures size (rw c.in-Some.is at c.in_ok-half.ensures.answer) _ c.from_slots.ensures
+    (number_of c.pattern.result) c.pattern.ensures size (rw c.in-Some.is at c.in_ok-half.ensures.answer) _
+    c.from_slots.ensures
 
 pub returns-clause-inside : goal.returns-clause-inside
-returns-clause-inside c = inside-of c.args.self.now.nfa (search_of c.args.input.now) c.from_slots.result (returns-clause-answer c)
+returns-clause-inside c = inside-of c.args.self.now.nfa (search_of c.args.input.now) c.from_slots.result
+    (returns-clause-answer c)
 
 pub returns-clause-pattern : goal.returns-clause-pattern
 returns-clause-pattern c =

@@ -10,4 +10,5 @@ pub returns-clause-pattern : goal.returns-clause-pattern
 returns-clause-pattern c =
     let same = ap (λ (e : Backtracker). e.nfa) c.self.view_is in
     let valid : IsAutomaton c.args.self.now.nfa = rw (← same) c.states.ensures.valid in
-    pattern-of-search c.args.self.now.nfa (search_of c.args.input.now) _ _ _ valid c.search_from.result c.search_from.ensures.answer
+    pattern-of-search c.args.self.now.nfa (search_of c.args.input.now) _ _ _ valid c.search_from.result
+    c.search_from.ensures.answer

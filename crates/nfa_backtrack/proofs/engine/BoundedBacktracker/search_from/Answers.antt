@@ -10,62 +10,74 @@ use Rattle.nfa_backtrack.proofs.engine.BoundedBacktracker.search_from.Goals as g
 
 pub returns-in_err-half-clause-within : goal.returns-in_err-half-clause-within
 returns-in_err-half-clause-within c =
-    rw c.scan.ensures.scans (scans-within c.args.self.now.nfa LeftmostFirst false (search_of c.args.input.now) (search_of c.loop-half.search) _ _
+    rw c.scan.ensures.scans (scans-within c.args.self.now.nfa LeftmostFirst false (search_of c.args.input.now)
+    (search_of c.loop-half.search) _ _
     c.loop-half.invariant.restarts)
 
 pub returns-in_err-half-clause-scans : goal.returns-in_err-half-clause-scans
 returns-in_err-half-clause-scans c =
-    rw c.scan.ensures.scans (scans-bound c.args.self.now.nfa LeftmostFirst false (search_of c.args.input.now) (search_of c.loop-half.search) _ _
+    rw c.scan.ensures.scans (scans-bound c.args.self.now.nfa LeftmostFirst false (search_of c.args.input.now)
+    (search_of c.loop-half.search) _ _
     c.loop-half.invariant.restarts)
 
 pub returns-in_err-half-clause-turns : goal.returns-in_err-half-clause-turns
 returns-in_err-half-clause-turns c =
-    rw c.scan.ensures.scans (turns-after c.args.self.now.nfa LeftmostFirst false (search_of c.args.input.now) (search_of c.loop-half.search) _ _
+    rw c.scan.ensures.scans (turns-after c.args.self.now.nfa LeftmostFirst false (search_of c.args.input.now)
+    (search_of c.loop-half.search) _ _
     c.loop-half.invariant.restarts _ c.scan.ensures.turns)
 
 pub returns-in_default-clause-within : goal.returns-in_default-clause-within
 returns-in_default-clause-within c =
-    rw c.scan.ensures.scans (scans-within c.args.self.now.nfa LeftmostFirst false (search_of c.args.input.now) (search_of c.loop-half.search) _ _
+    rw c.scan.ensures.scans (scans-within c.args.self.now.nfa LeftmostFirst false (search_of c.args.input.now)
+    (search_of c.loop-half.search) _ _
     c.loop-half.invariant.restarts)
 
 pub returns-in_default-clause-scans : goal.returns-in_default-clause-scans
 returns-in_default-clause-scans c =
-    rw c.scan.ensures.scans (scans-bound c.args.self.now.nfa LeftmostFirst false (search_of c.args.input.now) (search_of c.loop-half.search) _ _
+    rw c.scan.ensures.scans (scans-bound c.args.self.now.nfa LeftmostFirst false (search_of c.args.input.now)
+    (search_of c.loop-half.search) _ _
     c.loop-half.invariant.restarts)
 
 pub returns-in_default-clause-turns : goal.returns-in_default-clause-turns
 returns-in_default-clause-turns c =
-    rw c.scan.ensures.scans (turns-after c.args.self.now.nfa LeftmostFirst false (search_of c.args.input.now) (search_of c.loop-half.search) _ _
+    rw c.scan.ensures.scans (turns-after c.args.self.now.nfa LeftmostFirst false (search_of c.args.input.now)
+    (search_of c.loop-half.search) _ _
     c.loop-half.invariant.restarts _ c.scan.ensures.turns)
 
 pub returns-then-may_end_at-clause-within : goal.returns-then-may_end_at-clause-within
 returns-then-may_end_at-clause-within c =
-    rw c.scan.ensures.scans (scans-within c.args.self.now.nfa LeftmostFirst false (search_of c.args.input.now) (search_of c.loop-half.search) _ _
+    rw c.scan.ensures.scans (scans-within c.args.self.now.nfa LeftmostFirst false (search_of c.args.input.now)
+    (search_of c.loop-half.search) _ _
     c.loop-half.invariant.restarts)
 
 pub returns-then-may_end_at-clause-scans : goal.returns-then-may_end_at-clause-scans
 returns-then-may_end_at-clause-scans c =
-    rw c.scan.ensures.scans (scans-bound c.args.self.now.nfa LeftmostFirst false (search_of c.args.input.now) (search_of c.loop-half.search) _ _
+    rw c.scan.ensures.scans (scans-bound c.args.self.now.nfa LeftmostFirst false (search_of c.args.input.now)
+    (search_of c.loop-half.search) _ _
     c.loop-half.invariant.restarts)
 
 pub returns-then-may_end_at-clause-turns : goal.returns-then-may_end_at-clause-turns
 returns-then-may_end_at-clause-turns c =
-    rw c.scan.ensures.scans (turns-after c.args.self.now.nfa LeftmostFirst false (search_of c.args.input.now) (search_of c.loop-half.search) _ _
+    rw c.scan.ensures.scans (turns-after c.args.self.now.nfa LeftmostFirst false (search_of c.args.input.now)
+    (search_of c.loop-half.search) _ _
     c.loop-half.invariant.restarts _ c.scan.ensures.turns)
 
 pub returns-then-is_anchored-clause-within : goal.returns-then-is_anchored-clause-within
 returns-then-is_anchored-clause-within c =
-    rw c.scan.ensures.scans (scans-within c.args.self.now.nfa LeftmostFirst false (search_of c.args.input.now) (search_of c.loop-half.search) _ _
+    rw c.scan.ensures.scans (scans-within c.args.self.now.nfa LeftmostFirst false (search_of c.args.input.now)
+    (search_of c.loop-half.search) _ _
     c.loop-half.invariant.restarts)
 
 pub returns-then-is_anchored-clause-scans : goal.returns-then-is_anchored-clause-scans
 returns-then-is_anchored-clause-scans c =
-    rw c.scan.ensures.scans (scans-bound c.args.self.now.nfa LeftmostFirst false (search_of c.args.input.now) (search_of c.loop-half.search) _ _
+    rw c.scan.ensures.scans (scans-bound c.args.self.now.nfa LeftmostFirst false (search_of c.args.input.now)
+    (search_of c.loop-half.search) _ _
     c.loop-half.invariant.restarts)
 
 pub returns-then-is_anchored-clause-turns : goal.returns-then-is_anchored-clause-turns
 returns-then-is_anchored-clause-turns c =
-    rw c.scan.ensures.scans (turns-after c.args.self.now.nfa LeftmostFirst false (search_of c.args.input.now) (search_of c.loop-half.search) _ _
+    rw c.scan.ensures.scans (turns-after c.args.self.now.nfa LeftmostFirst false (search_of c.args.input.now)
+    (search_of c.loop-half.search) _ _
     c.loop-half.invariant.restarts _ c.scan.ensures.turns)
 
 pub returns-in_default-clause-answer : goal.returns-in_default-clause-answer
@@ -105,7 +117,8 @@ set_start-requires c =
 pub loop-half-init : goal.loop-half-init
 loop-half-init c =
     record {
-      restarts = rw c.requires.counted (restarts-begin c.args.self.now.nfa LeftmostFirst false (search_of c.args.input.now) _ c.requires.turned);
+      restarts = rw c.requires.counted
+          (restarts-begin c.args.self.now.nfa LeftmostFirst false (search_of c.args.input.now) _ c.requires.turned);
       size = refl;
     }
 
@@ -117,9 +130,11 @@ loop-half-preserved c =
     let free = rw (c.is_anchored.ensures, c.get_anchored.ensures) at c.if-is_anchored.false in
     record {
       restarts = rw c.scan.ensures.scans
-          (restarted c.args.self.now.nfa LeftmostFirst false (search_of c.args.input.now) (search_of c.loop-half.search) _ _
+          (restarted c.args.self.now.nfa LeftmostFirst false (search_of c.args.input.now) (search_of c.loop-half.search)
+          _ _
           c.loop-half.invariant.restarts
-          c.in-Some.half _ _ _ _ _ finds mode free off c.scan.ensures.turns (ap (λ n. n + 1) c.start-start.ensures) c.set_start.ensures);
+          c.in-Some.half _ _ _ _ _ finds mode free off c.scan.ensures.turns (ap (λ n. n + 1) c.start-start.ensures)
+          c.set_start.ensures);
       size = c.scan.ensures.size ∙ c.loop-half.invariant.size;
     }
 
