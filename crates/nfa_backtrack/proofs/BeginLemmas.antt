@@ -7,7 +7,7 @@ use Rattle.thompson_nfa.specs.Automaton.{Automaton}
 use Rattle.thompson_nfa.specs.Automaton.Node.{Capture}
 use Rattle.nfa_paths.specs.Exploring.{Item, Slots}
 use Rattle.nfa_paths.specs.Turns.{marked_sum}
-use Rattle.nfa_backtrack.specs.Begin.{kept_onto, IsPutBack, GoesOn}
+use Rattle.nfa_backtrack.specs.Begin.{kept_onto, IsPutBack, BeginsAt}
 use Rattle.nfa_backtrack.specs.Bits.{Marks}
 use Rattle.nfa_backtrack.specs.Walk.{pair_of, weights, IsPlace, Follows, Taken}
 use Rattle.nfa_backtrack.specs.declared.frame.Place.{Place}
@@ -21,13 +21,13 @@ module _ (nfa : Automaton) (x : Search) where
   Follows-put_back m work (Some k) slots after h = rw h (Follows-restore nfa x m work slots k None)
 
   -- a Capture that writes a slot without an offset
-  pub GoesOn-write : {place : Place} {m n : Marks} → Taken nfa x (pair_of place) m n → IsPlace nfa x place
+  pub BeginsAt-write : {place : Place} {m n : Marks} → Taken nfa x (pair_of place) m n → IsPlace nfa x place
       → (next slot : ℕ)
       → slice_get nfa.states place.sid ≡ Some (Capture next slot) → next < length nfa.states
       → (slots : Slots) → slot < length slots → get_or slots slot None ≡ None
-      → GoesOn nfa x (pair_of place) (record { place = record place { sid = next }; slot = Some slot }) m slots n
+      → BeginsAt nfa x (pair_of place) (record { place = record place { sid = next }; slot = Some slot }) m slots n
       (set slots slot (Some place.at))
-  GoesOn-write {place} {m} {n} t p next slot is below slots within unset =
+  BeginsAt-write {place} {m} {n} t p next slot is below slots within unset =
       let put = ap (marked_sum (weights nfa x)) t.set in
       let more = marked_sum-weights nfa x m.bits place.sid place.at (Capture next slot) t.state t.from t.to is
       t.clear in

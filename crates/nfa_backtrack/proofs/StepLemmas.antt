@@ -21,7 +21,7 @@ use Rattle.nfa_paths.specs.Exploring.{Item, Slots}
 use Rattle.nfa_paths.specs.Exploring.Item.{Explore, Restore}
 use Rattle.nfa_scanning.proofs.TargetLemmas.{byte_at-within, target-below, target-degree}
 use Rattle.nfa_backtrack.specs.Bits.{Marks}
-use Rattle.nfa_backtrack.specs.Walk.{pair_of, item_of, work_onto, restoring, move_of, tries, tries_of_move, bit_of}
+use Rattle.nfa_backtrack.specs.Walk.{pair_of, work_item, work_onto, restoring, move_of, tries, tries_of_move, bit_of}
 use Rattle.nfa_backtrack.specs.Walk.{HasRoom, IsPlace, IsWithin, Paid, Follows, Ends, Goes, Taken, WasMarked}
 use Rattle.nfa_backtrack.specs.declared.frame.Place.{Place}
 use Rattle.nfa_backtrack.specs.declared.frame.Frame.{Frame}
@@ -113,9 +113,9 @@ none-nil (x ∷ xs) e = cc
 
 -- frames as work
 pub work_onto-push : (fs : List Frame) (f : Frame) (work : List Item) → work_onto (fs ++ f ∷ []) work
-    ≡ item_of f ∷ work_onto fs work
+    ≡ work_item f ∷ work_onto fs work
 work_onto-push [] f work = refl
-work_onto-push (g ∷ fs) f work = work_onto-push fs f (item_of g ∷ work)
+work_onto-push (g ∷ fs) f work = work_onto-push fs f (work_item g ∷ work)
 
 -- the alternatives that are put off, the earliest on top
 abbrev pub put : ℕ → ℕ → List ℕ → List Frame
@@ -158,9 +158,9 @@ module _ (nfa : Automaton) (x : Search) (count : ℕ) where
       (record { state = here; from = from; to = to; row = is }))
 
 -- a frame that puts a slot back
-pub item_of-restoring : (slot : ℕ) (old : Option ℕ) → item_of (restoring slot old) ≡ Restore slot old
-item_of-restoring slot None = refl
-item_of-restoring slot (Some offset) = refl
+pub work_item-restoring : (slot : ℕ) (old : Option ℕ) → work_item (restoring slot old) ≡ Restore slot old
+work_item-restoring slot None = refl
+work_item-restoring slot (Some offset) = refl
 
 pub IsWithin-restoring : (nfa : Automaton) (x : Search) (count slot : ℕ) (old : Option ℕ) → slot < count
     → IsWithin nfa x count (restoring slot old)
@@ -334,7 +334,7 @@ module _ {nfa : Automaton} {x : Search} {s at : ℕ} {m n : Marks} (t : Taken nf
     Goes-write =
         rw (
           work_onto-push stack (restoring slot (get_or slots slot None)) work,
-          item_of-restoring slot
+          work_item-restoring slot
               (get_or slots slot None),
         )
         (Follows-write nfa x m s at (work_onto stack work) slots n t.counted t.state t.from t.inside t.clear t.set next

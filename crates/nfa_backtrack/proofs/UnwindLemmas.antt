@@ -8,7 +8,7 @@ use Rattle.regex_search_core.specs.Search.{Search}
 use Rattle.thompson_nfa.specs.Automaton.{Automaton}
 use Rattle.nfa_paths.specs.Exploring.{Item, Slots}
 use Rattle.nfa_backtrack.specs.Bits.{Marks}
-use Rattle.nfa_backtrack.specs.Walk.{item_of, work_onto, tries, tries_of_place, with_place, HasSlot, Unwinds, IsPlaceOr}
+use Rattle.nfa_backtrack.specs.Walk.{work_item, work_onto, tries, tries_of_place, with_place, HasSlot, Unwinds, IsPlaceOr}
 use Rattle.nfa_backtrack.specs.Walk.{IsWithin, Follows}
 use Rattle.nfa_backtrack.specs.declared.frame.Place.{Place}
 use Rattle.nfa_backtrack.specs.declared.frame.Frame.{Frame}
@@ -21,7 +21,7 @@ module _ (nfa : Automaton) (x : Search) where
   Follows-unwind : (marks : Marks) (work : List Item) (frame : Frame) (slots : Slots) (place : Option Place)
       (after : Slots)
       → Unwinds frame slots place after
-      → Follows nfa x marks (item_of frame ∷ work) slots marks (with_place place work) after
+      → Follows nfa x marks (work_item frame ∷ work) slots marks (with_place place work) after
   Follows-unwind marks work (Step sid at row) slots place after u = rw (u.0, u.1) (Follows-none nfa x marks _ slots)
   Follows-unwind marks work (Restore slot offset) slots place after u = rw (u.0, u.1)
       (Follows-restore nfa x marks work slots slot (Some offset))

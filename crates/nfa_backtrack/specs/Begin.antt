@@ -23,7 +23,7 @@ IsPutBack (Some slot) slots after = after ≡ slice_set slots slot None
 
 module _ (nfa : Automaton) (x : Search) where
   -- a walk from v goes on there, and what was tried is paid for
-  pub record GoesOn (v : Pair) (begun : Begun) (marks : Marks) (slots : Slots) (marked : Marks) (written : Slots) : Type
+  pub record BeginsAt (v : Pair) (begun : Begun) (marks : Marks) (slots : Slots) (marked : Marks) (written : Slots) : Type
       0 where
     pub place : IsPlace nfa x begun.place
     pub slot : ForSome begun.slot (λ k. k < length written)
@@ -36,4 +36,4 @@ module _ (nfa : Automaton) (x : Search) where
   -- what comes of the first turn, if one was taken
   abbrev pub Begins : Pair → Option Begun → Marks → Slots → Marks → Slots → Type 0
   Begins v None marks slots marked written = Fails nfa x v marks slots [] marked written
-  Begins v (Some begun) marks slots marked written = GoesOn v begun marks slots marked written
+  Begins v (Some begun) marks slots marked written = BeginsAt v begun marks slots marked written

@@ -29,10 +29,10 @@ abbrev pub pair_of : Place → Pair
 pair_of place = (place.sid, place.at)
 
 -- what a frame leaves to do
-abbrev pub item_of : Frame → Item
-item_of (Step sid at row) = ToExplore (sid, at)
-item_of (Restore slot offset) = ToRestore slot (Some offset)
-item_of (Clear slot) = ToRestore slot None
+abbrev pub work_item : Frame → Item
+work_item (Step sid at row) = ToExplore (sid, at)
+work_item (Restore slot offset) = ToRestore slot (Some offset)
+work_item (Clear slot) = ToRestore slot None
 
 -- what puts the slot back to its old value
 abbrev pub restoring : ℕ → Option ℕ → Frame
@@ -59,7 +59,7 @@ HasSlot count (Clear slot) = slot < count
 -- the frames of a stack, the top first, above some work
 abbrev pub work_onto : List Frame → List Item → List Item
 work_onto [] work = work
-work_onto (f ∷ fs) work = work_onto fs (item_of f ∷ work)
+work_onto (f ∷ fs) work = work_onto fs (work_item f ∷ work)
 
 -- what comes of taking a frame up: a place to search on from, or a slot that has its old value again
 abbrev pub Unwinds : Frame → Slots → Option Place → Slots → Type 0

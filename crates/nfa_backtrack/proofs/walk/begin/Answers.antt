@@ -2,7 +2,7 @@
 use Rattle.std.proofs.Common.{arith, refl}
 use Rattle.regex_search_core.specs.Search.{search_of}
 use Rattle.nfa_backtrack.proofs.WalkLemmas.{Follows-marked}
-use Rattle.nfa_backtrack.proofs.BeginLemmas.{GoesOn-write}
+use Rattle.nfa_backtrack.proofs.BeginLemmas.{BeginsAt-write}
 use Rattle.nfa_backtrack.proofs.walk.begin.Goals as goal
 
 pub returns-then-not-mark-clause-begins : goal.returns-then-not-mark-clause-begins
@@ -25,5 +25,5 @@ returns-else-not-mark-clause-begins c =
     let below = rw c.in-Capture.is at c.state_at.ensures.leads in
     let unset = c.is_unset.ensures c.if-not-is_unset.false in
     rw (c.to.ensures, c.write.ensures)
-    (GoesOn-write c.args.nfa.now (search_of c.args.input.now) t c.requires.place c.in-Capture.next c.in-Capture.slot is
+    (BeginsAt-write c.args.nfa.now (search_of c.args.input.now) t c.requires.place c.in-Capture.next c.in-Capture.slot is
     below c.args.slots.now unset.0 unset.1)
