@@ -1,62 +1,30 @@
 -- From what a search comes to, to what its callers are told.
-use Rattle.std.proofs.Common.{◌≡◌, ℕ, ◌*◌, [], ◌∷◌, arith, length, refl, ap, ◌∙◌}
-use Rattle.std.specs.Prelude.{Option, Some, None, Result, Ok, Err, false, option_and_then, option_map, ◌<◌, replicate, All, IfOk, IfSome, IfNone}
-use Rattle.std.proofs.lemmas.List.Elements.{All-replicate}
+use Rattle.std.proofs.Common.{◌≡◌, ℕ, [], ◌∷◌, arith, length, refl, ap, ◌∙◌}
+use Rattle.std.specs.Prelude.{Option, Some, None, Result, Ok, Err, false, option_map, ◌<◌, replicate, All, IfOk, IfSome}
+use Rattle.std.specs.Prelude.{IfNone}
 use Rattle.std.specs.List.{refill}
-use Rattle.regex_search_core.specs.Found.{Found, half_found_of, found_of}
-use Rattle.regex_search_core.specs.declared.search.Match.{Match}
-use Rattle.nfa_search_base.specs.Lists.{IsInside, IsSlotInside}
-use Rattle.nfa_paths.proofs.InsideLemmas.{match-within, match-pattern, slots-within, pattern-within}
+use Rattle.regex_search_core.specs.Found.{half_found_of, found_of}
 use Rattle.regex_search_core.specs.Search.{Search}
-use Rattle.regex_search_core.specs.Slots.{match_of}
 use Rattle.regex_search_core.specs.declared.refused.Refused.{Refused}
 use Rattle.regex_search_core.specs.declared.search.HalfMatch.{HalfMatch}
+use Rattle.regex_search_core.specs.declared.search.Match.{Match}
 use Rattle.regex_search_core.specs.declared.search.MatchKind.TheVariants.{LeftmostFirst}
 use Rattle.thompson_nfa.specs.Automaton.{Automaton, IsAutomaton}
-use Rattle.nfa_paths.specs.Paths.{path_pattern, IsAnswer, IsMatchAnswer, IsWork}
+use Rattle.nfa_paths.specs.Paths.{IsAnswer, IsMatchAnswer}
 use Rattle.nfa_paths.specs.Exploring.{Slots}
-use Rattle.nfa_paths.proofs.PatternLemmas.{match-along-path, slots-unset}
-use Rattle.nfa_backtrack.specs.Walk.{Searched}
-
-module _ (nfa : Automaton) where
-  module _ (x : Search) {slots : Slots} {scans turns : ℕ} where
-    -- the pattern and the slots
-    pub answer-of : (half : Option HalfMatch) (k : Option ℕ) → k ≡ option_map (λ h. (half_found_of h).pattern) half → Searched nfa x half slots scans turns
-        → IsAnswer nfa LeftmostFirst false x k slots
-    answer-of half k is s = record { restarts = s.restarts; path = s.path; answers = s.answers; pattern_is = is ∙ s.pattern_is; slots_are = s.slots_are }
-
-    -- its pattern is one of the NFA's
-    pub pattern-of-half : IsAutomaton nfa → (half : Option HalfMatch) → Searched nfa x half slots scans turns
-        → IfSome half (λ h. (half_found_of h).pattern < length nfa.patterns)
-    pattern-of-half valid None s = tt
-    pattern-of-half valid (Some h) s =
-        pattern-within nfa LeftmostFirst false valid x (Some (half_found_of h).pattern) slots (answer-of (Some h) (Some (half_found_of h).pattern) refl s)
-
-    -- the work
-    pub work : (half : Option HalfMatch) → Searched nfa x half slots scans turns → IsWork nfa LeftmostFirst false x scans turns
-    work half s = record { restarts = s.restarts; path = s.path; answers = s.answers; scans_are = s.scans_are; turns_reach = s.turns_reach }
-
-    -- the match
-    pub match-none : Searched nfa x None slots scans turns → IsMatchAnswer nfa LeftmostFirst false x None
-    match-none s = record { restarts = s.restarts; path = s.path; answers = s.answers; found_is = rw (← s.pattern_is) refl }
-
-    pub match-some : IsAutomaton nfa → (half : HalfMatch) (k : ℕ) → k ≡ (half_found_of half).pattern → length slots ≡ 2 * length nfa.groups
-        → (s : Searched nfa x (Some half) slots scans turns)
-        → (found : Option Found) → found ≡ match_of (Some k) slots → IsMatchAnswer nfa LeftmostFirst false x found
-    match-some valid half k is size s found leads = record {
-      restarts = s.restarts;
-      path = s.path;
-      answers = s.answers;
-      found_is =
-          let pattern : Some k ≡ option_and_then (path_pattern nfa) s.path = ap Some is ∙ s.pattern_is in
-          leads ∙ match-along-path nfa valid k slots size s.path pattern s.slots_are;
-    }
+use Rattle.nfa_paths.specs.Restarts.{SearchGives}
+use Rattle.nfa_paths.proofs.InsideLemmas.{match-within, match-pattern, slots-within}
+use Rattle.nfa_paths.proofs.PatternLemmas.{slots-unset}
+use Rattle.nfa_paths.proofs.RestartLemmas.{pattern-among}
+use Rattle.nfa_search_base.specs.Lists.{IsInside, IsSlotInside}
 
 -- the pattern that a search answers is one of the NFA's
-pub pattern-of-search : (nfa : Automaton) (x : Search) (slots : Slots) (scans turns : ℕ) → IsAutomaton nfa → (r : Result (Option HalfMatch) Refused)
-    → IfOk r (λ half. Searched nfa x half slots scans turns) → IfOk r (λ half. IfSome half (λ h. (half_found_of h).pattern < length nfa.patterns))
+pub pattern-of-search : (nfa : Automaton) (x : Search) (slots : Slots) (scans turns : ℕ) → IsAutomaton nfa
+    → (r : Result (Option HalfMatch) Refused)
+    → IfOk r (λ half. SearchGives nfa LeftmostFirst false x half slots scans turns)
+    → IfOk r (λ half. IfSome half (λ h. (half_found_of h).pattern < length nfa.patterns))
 pattern-of-search nfa x slots scans turns valid (Err e) s = tt
-pattern-of-search nfa x slots scans turns valid (Ok half) s = pattern-of-half nfa x valid half s
+pattern-of-search nfa x slots scans turns valid (Ok half) s = pattern-among nfa LeftmostFirst false x valid half s
 
 -- slots that are written whole are what was written
 refill-whole : (slots written : Slots) → length written ≡ length slots → refill (length slots) slots written ≡ written
@@ -66,25 +34,28 @@ refill-whole (k ∷ slots) [] size = absurd (omega arith)
 refill-whole (k ∷ slots) (w ∷ written) size = ap (λ l. w ∷ l) (refill-whole slots written (omega arith))
 
 -- captures whose slots an answer without a match wrote
-pub unmatched-slots : (nfa : Automaton) (x : Search) (pattern : Option ℕ) (slots written : Slots) (n : ℕ) → length slots ≡ n → length written ≡ length slots
-    → IsAnswer nfa LeftmostFirst false x pattern written → IfNone pattern (refill (length slots) slots written ≡ replicate n None)
+pub unmatched-slots : (nfa : Automaton) (x : Search) (pattern : Option ℕ) (slots written : Slots) (n : ℕ)
+    → length slots ≡ n → length written ≡ length slots → IsAnswer nfa LeftmostFirst false x pattern written
+    → IfNone pattern (refill (length slots) slots written ≡ replicate n None)
 unmatched-slots nfa x None slots written n size whole a =
-    refill-whole slots written whole ∙ slots-unset nfa LeftmostFirst false x written a ∙ ap (λ k. replicate k None) (whole ∙ size)
+    refill-whole slots written whole ∙ slots-unset nfa LeftmostFirst false x written a ∙ ap (λ k. replicate k None)
+    (whole ∙ size)
 unmatched-slots nfa x (Some p) slots written n size whole a = tt
-
--- slots that are unset lie in any span
-pub unset-inside : (x : Search) (slots : Slots) (n : ℕ) → slots ≡ replicate n None → All (IsSlotInside x) slots
-unset-inside x slots n unset = rw unset (All-replicate (IsSlotInside x) n None tt)
 
 -- what callers learn of the numbers in a match
 module _ (nfa : Automaton) (x : Search) where
-  pub slots-inside : (pattern : Option ℕ) (slots : Slots) → IsAnswer nfa LeftmostFirst false x pattern slots → All (IsSlotInside x) slots
+  pub slots-inside : (pattern : Option ℕ) (slots : Slots) → IsAnswer nfa LeftmostFirst false x pattern slots
+      → All (IsSlotInside x) slots
   slots-inside pattern slots a = slots-within nfa LeftmostFirst false x pattern slots a
 
-  pub inside-of : (r : Option Match) → IsMatchAnswer nfa LeftmostFirst false x (option_map found_of r) → IfSome r (λ m. IsInside x (found_of m))
+  pub inside-of : (r : Option Match) → IsMatchAnswer nfa LeftmostFirst false x (option_map found_of r)
+      → IfSome r (λ m. IsInside x (found_of m))
   inside-of None h = tt
-  inside-of (Some m) h = let k = match-within nfa LeftmostFirst false x (found_of m) h in record { from = k.0; ordered = k.1; to = k.2 }
+  inside-of (Some m) h =
+      let k = match-within nfa LeftmostFirst false x (found_of m) h in record { from = k.0; ordered = k.1; to = k.2 }
 
-  pub pattern-of : IsAutomaton nfa → (r : Option Match) → IsMatchAnswer nfa LeftmostFirst false x (option_map found_of r) → IfSome r (λ m. (found_of m).pattern < length nfa.patterns)
+  pub pattern-of : IsAutomaton nfa → (r : Option Match)
+      → IsMatchAnswer nfa LeftmostFirst false x (option_map found_of r)
+      → IfSome r (λ m. (found_of m).pattern < length nfa.patterns)
   pattern-of valid None h = tt
   pattern-of valid (Some m) h = match-pattern nfa LeftmostFirst false valid x (found_of m) h

@@ -1,3 +1,4 @@
+-- The lemmas of the backtracker.
 pub mod BitLemmas
 pub mod PassLemmas
 pub mod WalkLemmas

@@ -1,5 +1,6 @@
 -- What each kind of state leads to, after the turn that marked its place.
-use Rattle.std.proofs.Common.{◌≡◌, ℕ, suc, ◌+◌, ◌-◌, ◌*◌, ◌^◌, ◌<◌, ◌≤◌, List, [], ◌∷◌, ◌++◌, length, get_or, set, map, reverse, drop, refl, ap, sym, ◌∙◌, arith, append_assoc, append-nil, Fits, w64}
+use Rattle.std.proofs.Common.{◌≡◌, ℕ, suc, ◌+◌, ◌-◌, ◌*◌, ◌^◌, ◌<◌, ◌≤◌, List, [], ◌∷◌, ◌++◌, length, get_or, set, map}
+use Rattle.std.proofs.Common.{reverse, drop, refl, ap, sym, ◌∙◌, arith, append_assoc, append-nil, Fits, w64}
 use Rattle.std.specs.Prelude.{Option, Some, None, true, false, Bool, All, option_map, option_and_then, option_to_list}
 use Rattle.std.specs.List.{slice_get, sum_by}
 use Rattle.std.proofs.lemmas.Nat.{mul-add-lt}
@@ -20,14 +21,17 @@ use Rattle.nfa_paths.specs.Exploring.{Item, Slots}
 use Rattle.nfa_paths.specs.Exploring.Item.{Explore, Restore}
 use Rattle.nfa_scanning.proofs.TargetLemmas.{byte_at-within, target-below, target-degree}
 use Rattle.nfa_backtrack.specs.Bits.{Marks}
-use Rattle.nfa_backtrack.specs.Walk.{pair_of, item_of, work_onto, restoring, move_of, tries, tries_of_move, bit_of, HasRoom, IsPlace, IsWithin, Paid, Follows, Ends, Goes}
+use Rattle.nfa_backtrack.specs.Walk.{pair_of, work_item, work_onto, restoring, move_of, tries, tries_of_move, bit_of}
+use Rattle.nfa_backtrack.specs.Walk.{HasRoom, IsPlace, IsWithin, Paid, Follows, Ends, Goes, Taken, WasMarked}
 use Rattle.nfa_backtrack.specs.declared.frame.Place.{Place}
 use Rattle.nfa_backtrack.specs.declared.frame.Frame.{Frame}
 use Rattle.nfa_backtrack.specs.declared.frame.Frame.TheVariants.{Step}
-use Rattle.nfa_backtrack.proofs.WalkLemmas.{node_at-get, bit_of-within, marked_sum-weights, Follows-plain, Follows-write, Follows-unkept, Ends-match}
+use Rattle.nfa_backtrack.proofs.WalkLemmas.{node_at-get, bit_of-within, marked_sum-weights, Follows-plain}
+use Rattle.nfa_backtrack.proofs.WalkLemmas.{Follows-write, Follows-unkept, Ends-match}
 
 -- the states that the code holds are those of the NFA
-pub same_size : (nfa : Automaton) (states : List State) → map node_of states ≡ nfa.states → length states ≡ length nfa.states
+pub same_size : (nfa : Automaton) (states : List State) → map node_of states ≡ nfa.states → length states
+    ≡ length nfa.states
 same_size nfa states nodes = rw (← nodes, length-map) refl
 
 -- a place's bit, as the code computes it, and what fits a `usize`
@@ -46,7 +50,8 @@ module _ (nfa : Automaton) (x : Search) (place : Place) (is_place : IsPlace nfa 
     Fits-bit sid is = rw (is_place.row, is) (let k = lies in let f = room.fits in omega arith)
 
 -- the row of the next position
-row-next : (nfa : Automaton) (x : Search) (at row states : ℕ) → x.start ≤ at → row ≡ (at - x.start) * length nfa.states → states ≡ length nfa.states
+row-next : (nfa : Automaton) (x : Search) (at row states : ℕ) → x.start ≤ at → row ≡ (at - x.start) * length nfa.states
+    → states ≡ length nfa.states
     → row + states ≡ (at + 1 - x.start) * length nfa.states
 row-next nfa x at row states from is wide =
     let e : at + 1 - x.start ≡ suc (at - x.start) = omega arith in
@@ -56,7 +61,8 @@ row-next nfa x at row states from is wide =
     one-more k n = grind arith
 
 -- a row ends in the table
-pub Fits-row : (nfa : Automaton) (x : Search) (place : Place) (bits : List Bool) → IsPlace nfa x place → HasRoom nfa x bits
+pub Fits-row : (nfa : Automaton) (x : Search) (place : Place) (bits : List Bool) → IsPlace nfa x place
+    → HasRoom nfa x bits
     → (states : ℕ) → states ≡ length nfa.states → place.row + states ≤ 2 ^ 64 - 1
 Fits-row nfa x place bits p room states wide =
     let f = p.from in let t = p.to in
@@ -69,16 +75,8 @@ Fits-row nfa x place bits p room states wide =
     row-le k m n le = grind arith
 
 -- the turn at a place marked it
-pub record Taken (nfa : Automaton) (x : Search) (v : Pair) (marks marked : Marks) : Type 0 where
-  pub state : v.0 < length nfa.states
-  pub from : x.start ≤ v.1
-  pub to : v.1 ≤ x.end
-  pub inside : bit_of nfa x v < length marks.bits
-  pub clear : get_or marks.bits (bit_of nfa x v) true ≡ false
-  pub set : marked.bits ≡ set marks.bits (bit_of nfa x v) true
-  pub counted : marked.turns ≡ marks.turns + 1
-
-pub Taken-place : (nfa : Automaton) (x : Search) (place : Place) (marks marked : Marks) (bit : ℕ) → bit ≡ bit_of nfa x (pair_of place)
+pub Taken-place : (nfa : Automaton) (x : Search) (place : Place) (marks marked : Marks) (bit : ℕ) → bit
+    ≡ bit_of nfa x (pair_of place)
     → IsPlace nfa x place → HasRoom nfa x marks.bits → marked.turns ≡ marks.turns + 1
     → (get_or marks.bits bit true ≡ false) × (marked.bits ≡ set marks.bits bit true)
     → Taken nfa x (pair_of place) marks marked
@@ -92,6 +90,18 @@ Taken-place nfa x place marks marked bit is p room counted fresh = record {
   counted = counted;
 }
 
+-- it found it marked
+pub WasMarked-place : (nfa : Automaton) (x : Search) (place : Place) (marks marked : Marks) (bit : ℕ) → bit
+    ≡ bit_of nfa x (pair_of place)
+    → IsPlace nfa x place → marked.turns ≡ marks.turns + 1 → (get_or marks.bits bit false ≡ true)
+    × (marked.bits ≡ marks.bits)
+    → WasMarked nfa x (pair_of place) marks marked
+WasMarked-place nfa x place marks marked bit is p counted seen = record {
+  marked_before = record { state = p.state; from = p.from; set = rw is at seen.0 };
+  same = seen.1;
+  counted = counted;
+}
+
 -- the first of a list that is not empty
 pub first-drop : (xs : List ℕ) (f : ℕ) → slice_get xs 0 ≡ Some f → xs ≡ f ∷ drop 1 xs
 first-drop [] f e = cc
@@ -102,49 +112,58 @@ none-nil [] e = refl
 none-nil (x ∷ xs) e = cc
 
 -- frames as work
-pub work_onto-push : (fs : List Frame) (f : Frame) (work : List Item) → work_onto (fs ++ f ∷ []) work ≡ item_of f ∷ work_onto fs work
+pub work_onto-push : (fs : List Frame) (f : Frame) (work : List Item) → work_onto (fs ++ f ∷ []) work
+    ≡ work_item f ∷ work_onto fs work
 work_onto-push [] f work = refl
-work_onto-push (g ∷ fs) f work = work_onto-push fs f (item_of g ∷ work)
+work_onto-push (g ∷ fs) f work = work_onto-push fs f (work_item g ∷ work)
 
 -- the alternatives that are put off, the earliest on top
 abbrev pub put : ℕ → ℕ → List ℕ → List Frame
 put at row es = map (λ s. Step s at row) (reverse es)
 
-pub put-cons : (stack : List Frame) (at row e : ℕ) (es : List ℕ) → stack ++ put at row (e ∷ es) ≡ (stack ++ put at row es) ++ Step e at row ∷ []
+pub put-cons : (stack : List Frame) (at row e : ℕ) (es : List ℕ) → stack ++ put at row (e ∷ es)
+    ≡ (stack ++ put at row es) ++ Step e at row ∷ []
 put-cons stack at row e es =
-    ap (λ t. stack ++ map (λ s. Step s at row) t) (reverse_onto es e []) ∙ ap (λ t. stack ++ t) (map_push (λ s. Step s at row) (reverse es) e)
+    ap (λ t. stack ++ map (λ s. Step s at row) t) (reverse_onto es e []) ∙ ap (λ t. stack ++ t)
+    (map_push (λ s. Step s at row) (reverse es) e)
     ∙ sym (append_assoc stack (put at row es) (Step e at row ∷ []))
 
 pub work_onto-put : (stack : List Frame) (at row : ℕ) (es : List ℕ) (work : List Item)
     → work_onto (stack ++ put at row es) work ≡ map Explore (map (λ n. (n, at)) es) ++ work_onto stack work
 work_onto-put stack at row [] work = rw append-nil refl
 work_onto-put stack at row (e ∷ es) work =
-    ap (λ t. work_onto t work) (put-cons stack at row e es) ∙ work_onto-push (stack ++ put at row es) (Step e at row) work
+    ap (λ t. work_onto t work) (put-cons stack at row e es) ∙ work_onto-push (stack ++ put at row es) (Step e at row)
+    work
     ∙ ap (λ t. Explore (e, at) ∷ t) (work_onto-put stack at row es work)
 
-pub tries-put : (stack : List Frame) (at row : ℕ) (es : List ℕ) → sum_by tries (stack ++ put at row es) ≡ sum_by tries stack + length es
+pub tries-put : (stack : List Frame) (at row : ℕ) (es : List ℕ) → sum_by tries (stack ++ put at row es)
+    ≡ sum_by tries stack + length es
 tries-put stack at row [] = rw append-nil (omega arith)
 tries-put stack at row (e ∷ es) =
     ap (sum_by tries) (put-cons stack at row e es) ∙ sum_by_push tries (stack ++ put at row es) (Step e at row)
     ∙ (let k = tries-put stack at row es in omega arith)
 
 module _ (nfa : Automaton) (x : Search) (count : ℕ) where
-  pub within-put : (stack : List Frame) (at row : ℕ) → x.start ≤ at → at ≤ x.end → row ≡ (at - x.start) * length nfa.states → (es : List ℕ)
-      → All (IsWithin nfa x count) stack → All (λ s. s < length nfa.states) es → All (IsWithin nfa x count) (stack ++ put at row es)
+  pub within-put : (stack : List Frame) (at row : ℕ) → x.start ≤ at → at ≤ x.end → row
+      ≡ (at - x.start) * length nfa.states → (es : List ℕ)
+      → All (IsWithin nfa x count) stack → All (λ s. s < length nfa.states) es
+      → All (IsWithin nfa x count) (stack ++ put at row es)
   within-put stack at row from to is [] fits below = rw append-nil fits
   within-put stack at row from to is (e ∷ es) fits below =
       let here : e < length nfa.states = below 0 e (omega arith) in
       let rest : All (λ s. s < length nfa.states) es = λ k d h. below (suc k) d (omega arith) in
       rw (put-cons stack at row e es)
-      (All-push (IsWithin nfa x count) (stack ++ put at row es) (Step e at row) (within-put stack at row from to is es fits rest)
+      (All-push (IsWithin nfa x count) (stack ++ put at row es) (Step e at row)
+      (within-put stack at row from to is es fits rest)
       (record { state = here; from = from; to = to; row = is }))
 
 -- a frame that puts a slot back
-pub item_of-restoring : (slot : ℕ) (old : Option ℕ) → item_of (restoring slot old) ≡ Restore slot old
-item_of-restoring slot None = refl
-item_of-restoring slot (Some offset) = refl
+pub work_item-restoring : (slot : ℕ) (old : Option ℕ) → work_item (restoring slot old) ≡ Restore slot old
+work_item-restoring slot None = refl
+work_item-restoring slot (Some offset) = refl
 
-pub IsWithin-restoring : (nfa : Automaton) (x : Search) (count slot : ℕ) (old : Option ℕ) → slot < count → IsWithin nfa x count (restoring slot old)
+pub IsWithin-restoring : (nfa : Automaton) (x : Search) (count slot : ℕ) (old : Option ℕ) → slot < count
+    → IsWithin nfa x count (restoring slot old)
 IsWithin-restoring nfa x count slot None h = h
 IsWithin-restoring nfa x count slot (Some offset) h = h
 
@@ -157,14 +176,16 @@ pub target-tries : (node : Node) (place : Place) (states : ℕ) (byte : Option �
     → tries_of_move (move_of (option_and_then (target_on node) byte) place states) ≤ degree node
 target-tries node place states None = omega arith
 target-tries node place states (Some b) =
-    (elim (target_on node b) as (λ o. ((t : ℕ) → o ≡ Some t → 1 ≤ degree node) → tries_of_move (move_of o place states) ≤ degree node) [
+    (elim (target_on node b) as (λ o. ((t : ℕ) → o ≡ Some t → 1 ≤ degree node) → tries_of_move (move_of o place states)
+    ≤ degree node) [
       | None ↦ λ some. omega arith
       | Some t ↦ λ some. some t refl
     ]) (target-degree node b)
 
 module _ {nfa : Automaton} {x : Search} {s at : ℕ} {m n : Marks} (t : Taken nfa x (s, at) m n) where
   -- what is pushed is paid for by the state's degree
-  pub Paid-step : (node : Node) → slice_get nfa.states s ≡ Some node → (count : ℕ) (stack after : List Frame) (in_hand : ℕ)
+  pub Paid-step : (node : Node) → slice_get nfa.states s ≡ Some node
+      → (count : ℕ) (stack after : List Frame) (in_hand : ℕ)
       → All (IsWithin nfa x count) after → sum_by tries after + in_hand ≤ sum_by tries stack + degree node
       → Paid nfa x count stack m.bits after n.bits in_hand
   Paid-step node is count stack after in_hand within tried = record {
@@ -176,19 +197,23 @@ module _ {nfa : Automaton} {x : Search} {s at : ℕ} {m n : Marks} (t : Taken nf
       → All (IsWithin nfa x count) stack → in_hand ≤ degree node → Paid nfa x count stack m.bits stack n.bits in_hand
   Paid-same node is count stack in_hand within few = Paid-step node is count stack stack in_hand within (omega arith)
 
-  pub Paid-push : (node : Node) → slice_get nfa.states s ≡ Some node → (count : ℕ) (stack : List Frame) (f : Frame) (in_hand : ℕ)
+  pub Paid-push : (node : Node) → slice_get nfa.states s ≡ Some node
+      → (count : ℕ) (stack : List Frame) (f : Frame) (in_hand : ℕ)
       → All (IsWithin nfa x count) stack → IsWithin nfa x count f → tries f + in_hand ≤ degree node
       → Paid nfa x count stack m.bits (stack ++ f ∷ []) n.bits in_hand
   Paid-push node is count stack f in_hand within fits few =
-      Paid-step node is count stack (stack ++ f ∷ []) in_hand (All-push (IsWithin nfa x count) stack f within fits) (omega (arith, sum_by_push tries stack f))
+      Paid-step node is count stack (stack ++ f ∷ []) in_hand (All-push (IsWithin nfa x count) stack f within fits)
+      (omega (arith, sum_by_push tries stack f))
 
-  pub Paid-put : (alternates : List ℕ) → slice_get nfa.states s ≡ Some (Union alternates) → (count : ℕ) (stack : List Frame) (f : ℕ)
+  pub Paid-put : (alternates : List ℕ) → slice_get nfa.states s ≡ Some (Union alternates)
+      → (count : ℕ) (stack : List Frame) (f : ℕ)
       → slice_get alternates 0 ≡ Some f → (row : ℕ) → row ≡ (at - x.start) * length nfa.states
       → All (IsWithin nfa x count) stack → All (λ q. q < length nfa.states) alternates
       → Paid nfa x count stack m.bits (stack ++ put at row (drop 1 alternates)) n.bits 1
   Paid-put alternates is count stack f first row placed within below =
       let split = first-drop alternates f first in
-      let rest : All (λ q. q < length nfa.states) (drop 1 alternates) = λ k d h. (rw split at below) (suc k) d (omega arith) in
+      let rest : All (λ q. q < length nfa.states) (drop 1 alternates) = λ k d h. (rw split at below) (suc k) d
+      (omega arith) in
       Paid-step (Union alternates) is count stack (stack ++ put at row (drop 1 alternates)) 1
       (within-put nfa x count stack at row t.from t.to placed (drop 1 alternates) within rest)
       (omega (arith, tries-put stack at row (drop 1 alternates), ap length split))
@@ -198,96 +223,135 @@ module _ {nfa : Automaton} {x : Search} {s at : ℕ} {m n : Marks} (t : Taken nf
       → (es : List Pair) → edges_of x node at ≡ es → (rest : List Item) (slots : Slots)
       → Follows nfa x m (Explore (s, at) ∷ rest) slots n (map Explore es ++ rest) slots
   Goes-edges node is plain writes es leads rest slots =
-      Follows-plain nfa x m s at rest slots n t.counted t.state t.from t.inside t.clear t.set node is plain writes es leads
+      Follows-plain nfa x m s at rest slots n t.counted t.state t.from t.inside t.clear t.set node is plain writes es
+      leads
 
   -- a byte state, at a place with its row
-  module _ (row : ℕ) (placed : row ≡ (at - x.start) * length nfa.states) (states : ℕ) (wide : states ≡ length nfa.states) where
-    Goes-target : (node : Node) → slice_get nfa.states s ≡ Some node → pattern_of node ≡ None → slot_of node ≡ None → LeadsBelow (length nfa.states) node
-        → edges_of x node at ≡ option_to_list (option_and_then (λ b. option_map (λ next. (next, at + 1)) (target_on node b)) (byte_at x at))
+  module _ (row : ℕ) (placed : row ≡ (at - x.start) * length nfa.states) (states : ℕ)
+      (wide : states ≡ length nfa.states) where
+    Goes-target : (node : Node) → slice_get nfa.states s ≡ Some node → pattern_of node ≡ None → slot_of node ≡ None
+        → LeadsBelow (length nfa.states) node
+        → edges_of x node at ≡ option_to_list
+        (option_and_then (λ b. option_map (λ next. (next, at + 1)) (target_on node b)) (byte_at x at))
         → (byte : Option ℕ) → byte ≡ byte_at x at → (stack : List Frame) (slots : Slots)
-        → Goes nfa x (s, at) (move_of (option_and_then (target_on node) byte) (record { sid = s; at = at; row = row }) states) stack m slots stack n slots
+        → Goes nfa x (s, at) (move_of (option_and_then (target_on node) byte) (record { sid = s; at = at; row = row })
+        states) stack m slots stack n slots
     Goes-target node is plain writes below leads None e stack slots = λ work.
         Goes-edges node is plain writes [] (leads ∙ rw (← e) refl) (work_onto stack work) slots
     Goes-target node is plain writes below leads (Some b) e stack slots =
-        (elim (target_on node b) as (λ o. target_on node b ≡ o → Goes nfa x (s, at) (move_of o (record { sid = s; at = at; row = row }) states) stack m slots stack n slots) [
-          | None ↦ λ none. λ work. Goes-edges node is plain writes [] (leads ∙ rw (← e, none) refl) (work_onto stack work) slots
+        (elim (target_on node b) as (λ o. target_on node b ≡ o
+        → Goes nfa x (s, at) (move_of o (record { sid = s; at = at; row = row }) states) stack m slots stack n
+        slots) [
+          | None ↦ λ none. λ work. Goes-edges node is plain writes [] (leads ∙ rw (← e, none) refl)
+              (work_onto stack work) slots
           | Some q ↦ λ some.
               let f = t.from in let inside = byte_at-within x at b (sym e) in
               let state : q < length nfa.states = target-below (length nfa.states) node b q below some in
               let from : x.start ≤ at + 1 = omega arith in
               let to : at + 1 ≤ x.end = omega arith in (
                 record { state = state; from = from; to = to; row = row-next nfa x at row states t.from placed wide },
-                λ work. Goes-edges node is plain writes ((q, at + 1) ∷ []) (leads ∙ rw (← e, some) refl) (work_onto stack work) slots,
+                λ work. Goes-edges node is plain writes ((q, at + 1) ∷ []) (leads ∙ rw (← e, some) refl)
+                    (work_onto stack work) slots,
               )
         ]) refl
 
     -- the three kinds of byte states
-    pub Goes-range : (trans : Transition) → slice_get nfa.states s ≡ Some (ByteRange trans) → LeadsBelow (length nfa.states) (ByteRange trans)
+    pub Goes-range : (trans : Transition) → slice_get nfa.states s ≡ Some (ByteRange trans)
+        → LeadsBelow (length nfa.states) (ByteRange trans)
         → (byte : Option ℕ) → byte ≡ byte_at x at → (stack : List Frame) (slots : Slots)
-        → Goes nfa x (s, at) (move_of (option_and_then (target_on (ByteRange trans)) byte) (record { sid = s; at = at; row = row }) states) stack m slots stack n slots
+        → Goes nfa x (s, at) (move_of (option_and_then (target_on (ByteRange trans)) byte)
+        (record { sid = s; at = at; row = row }) states) stack m slots stack n slots
     unfolding edges_of
     Goes-range trans is below = Goes-target (ByteRange trans) is refl refl below refl
 
-    pub Goes-sparse : (ts : List Transition) → slice_get nfa.states s ≡ Some (Sparse ts) → LeadsBelow (length nfa.states) (Sparse ts)
+    pub Goes-sparse : (ts : List Transition) → slice_get nfa.states s ≡ Some (Sparse ts)
+        → LeadsBelow (length nfa.states) (Sparse ts)
         → (byte : Option ℕ) → byte ≡ byte_at x at → (stack : List Frame) (slots : Slots)
-        → Goes nfa x (s, at) (move_of (option_and_then (target_on (Sparse ts)) byte) (record { sid = s; at = at; row = row }) states) stack m slots stack n slots
+        → Goes nfa x (s, at) (move_of (option_and_then (target_on (Sparse ts)) byte)
+        (record { sid = s; at = at; row = row }) states) stack m slots stack n slots
     unfolding edges_of
     Goes-sparse ts is below = Goes-target (Sparse ts) is refl refl below refl
 
-    pub Goes-dense : (targets : List (Option ℕ)) → slice_get nfa.states s ≡ Some (Dense targets) → LeadsBelow (length nfa.states) (Dense targets)
+    pub Goes-dense : (targets : List (Option ℕ)) → slice_get nfa.states s ≡ Some (Dense targets)
+        → LeadsBelow (length nfa.states) (Dense targets)
         → (byte : Option ℕ) → byte ≡ byte_at x at → (stack : List Frame) (slots : Slots)
-        → Goes nfa x (s, at) (move_of (option_and_then (target_on (Dense targets)) byte) (record { sid = s; at = at; row = row }) states) stack m slots stack n slots
+        → Goes nfa x (s, at) (move_of (option_and_then (target_on (Dense targets)) byte)
+        (record { sid = s; at = at; row = row }) states) stack m slots stack n slots
     unfolding edges_of
     Goes-dense targets is below = Goes-target (Dense targets) is refl refl below refl
 
   -- an assertion
-  module _ (look : looks.Look) (next : ℕ) (is : slice_get nfa.states s ≡ Some (Look look next)) (rest : List Item) (slots : Slots) where
-    pub Goes-look : look_holds look x.haystack at ≡ true → Follows nfa x m (Explore (s, at) ∷ rest) slots n (Explore (next, at) ∷ rest) slots
+  module _ (look : looks.Look) (next : ℕ) (is : slice_get nfa.states s ≡ Some (Look look next)) (rest : List Item)
+      (slots : Slots) where
+    pub Goes-look : look_holds look x.haystack at ≡ true
+        → Follows nfa x m (Explore (s, at) ∷ rest) slots n (Explore (next, at) ∷ rest) slots
     unfolding edges_of
     Goes-look holds = Goes-edges (Look look next) is refl refl ((next, at) ∷ []) (rw holds refl) rest slots
 
-    pub Goes-no_look : look_holds look x.haystack at ≡ false → Follows nfa x m (Explore (s, at) ∷ rest) slots n rest slots
+    pub Goes-no_look : look_holds look x.haystack at ≡ false
+        → Follows nfa x m (Explore (s, at) ∷ rest) slots n rest slots
     unfolding edges_of
     Goes-no_look fails = Goes-edges (Look look next) is refl refl [] (rw fails refl) rest slots
 
   -- alternatives
   module _ (alternates : List ℕ) (is : slice_get nfa.states s ≡ Some (Union alternates)) (slots : Slots) where
     pub Goes-union : (f : ℕ) → slice_get alternates 0 ≡ Some f → (stack : List Frame) (work : List Item)
-        → (row : ℕ) → Follows nfa x m (Explore (s, at) ∷ work_onto stack work) slots n (Explore (f, at) ∷ work_onto (stack ++ put at row (drop 1 alternates)) work) slots
+        → (row : ℕ) → Follows nfa x m (Explore (s, at) ∷ work_onto stack work) slots n
+        (Explore (f, at) ∷ work_onto (stack ++ put at row (drop 1 alternates)) work) slots
     unfolding edges_of
     Goes-union f first stack work row =
         let split = first-drop alternates f first in
         rw (work_onto-put stack at row (drop 1 alternates) work)
-        (Goes-edges (Union alternates) is refl refl ((f, at) ∷ map (λ q. (q, at)) (drop 1 alternates)) (ap (map (λ q. (q, at))) split) (work_onto stack work) slots)
+        (Goes-edges (Union alternates) is refl refl ((f, at) ∷ map (λ q. (q, at)) (drop 1 alternates))
+        (ap (map (λ q. (q, at))) split) (work_onto stack work) slots)
 
-    pub Goes-no_union : slice_get alternates 0 ≡ None → (rest : List Item) → Follows nfa x m (Explore (s, at) ∷ rest) slots n rest slots
+    pub Goes-no_union : slice_get alternates 0 ≡ None → (rest : List Item)
+        → Follows nfa x m (Explore (s, at) ∷ rest) slots n rest slots
     unfolding edges_of
-    Goes-no_union none rest = Goes-edges (Union alternates) is refl refl [] (ap (map (λ q. (q, at))) (none-nil alternates none)) rest slots
+    Goes-no_union none rest = Goes-edges (Union alternates) is refl refl []
+        (ap (map (λ q. (q, at))) (none-nil alternates none)) rest slots
 
-  pub Goes-both : (alt1 alt2 : ℕ) → slice_get nfa.states s ≡ Some (BinaryUnion alt1 alt2) → (slots : Slots) (stack : List Frame) (work : List Item) (row : ℕ)
-      → Follows nfa x m (Explore (s, at) ∷ work_onto stack work) slots n (Explore (alt1, at) ∷ work_onto (stack ++ Step alt2 at row ∷ []) work) slots
+  pub Goes-both : (alt1 alt2 : ℕ) → slice_get nfa.states s ≡ Some (BinaryUnion alt1 alt2)
+      → (slots : Slots) (stack : List Frame) (work : List Item) (row : ℕ)
+      → Follows nfa x m (Explore (s, at) ∷ work_onto stack work) slots n
+      (Explore (alt1, at) ∷ work_onto (stack ++ Step alt2 at row ∷ []) work) slots
   unfolding edges_of
   Goes-both alt1 alt2 is slots stack work row =
       rw (work_onto-push stack (Step alt2 at row) work)
       (Goes-edges (BinaryUnion alt1 alt2) is refl refl ((alt1, at) ∷ (alt2, at) ∷ []) refl (work_onto stack work) slots)
 
-  pub Goes-fail : slice_get nfa.states s ≡ Some Fail → (rest : List Item) (slots : Slots) → Follows nfa x m (Explore (s, at) ∷ rest) slots n rest slots
+  pub Goes-fail : slice_get nfa.states s ≡ Some Fail → (rest : List Item) (slots : Slots)
+      → Follows nfa x m (Explore (s, at) ∷ rest) slots n rest slots
   unfolding edges_of
   Goes-fail is rest slots = Goes-edges Fail is refl refl [] refl rest slots
 
   -- a Capture, whose slot is tracked or is not
-  module _ (next slot : ℕ) (is : slice_get nfa.states s ≡ Some (Capture next slot)) (slots : Slots) (stack : List Frame) (work : List Item) where
+  module _ (next slot : ℕ) (is : slice_get nfa.states s ≡ Some (Capture next slot)) (slots : Slots) (stack : List Frame)
+      (work : List Item) where
     pub Goes-write : Follows nfa x m (Explore (s, at) ∷ work_onto stack work) slots n
-        (Explore (next, at) ∷ work_onto (stack ++ restoring slot (get_or slots slot None) ∷ []) work) (set slots slot (Some at))
+        (Explore (next, at) ∷ work_onto (stack ++ restoring slot (get_or slots slot None) ∷ []) work)
+        (set slots slot (Some at))
     Goes-write =
-        rw (work_onto-push stack (restoring slot (get_or slots slot None)) work, item_of-restoring slot (get_or slots slot None))
-        (Follows-write nfa x m s at (work_onto stack work) slots n t.counted t.state t.from t.inside t.clear t.set next slot is)
+        rw (
+          work_onto-push stack (restoring slot (get_or slots slot None)) work,
+          work_item-restoring slot
+              (get_or slots slot None),
+        )
+        (Follows-write nfa x m s at (work_onto stack work) slots n t.counted t.state t.from t.inside t.clear t.set next
+        slot is)
 
-    pub Goes-unkept : length slots ≤ slot → Follows nfa x m (Explore (s, at) ∷ work_onto stack work) slots n (Explore (next, at) ∷ work_onto stack work) slots
-    Goes-unkept past = Follows-unkept nfa x m s at (work_onto stack work) slots n t.counted t.state t.from t.inside t.clear t.set next slot is past
+    pub Goes-unkept : length slots ≤ slot
+        → Follows nfa x m (Explore (s, at) ∷ work_onto stack work) slots n (Explore (next, at) ∷ work_onto stack work)
+        slots
+    Goes-unkept past = Follows-unkept nfa x m s at (work_onto stack work) slots n t.counted t.state t.from t.inside
+        t.clear t.set next slot is past
 
   -- a match
   pub Goes-match : (pattern : ℕ) → slice_get nfa.states s ≡ Some (Match pattern) → (rest : List Item) (slots : Slots)
-      → (pattern_of (node_at nfa s) ≡ Some pattern) × Ends nfa x m (Explore (s, at) ∷ rest) slots (Some ((s, at), slots)) n.turns
-  Goes-match pattern is rest slots =
-      (rw (node_at-get nfa x s (Match pattern) is) refl, Ends-match nfa x m s at rest slots n t.counted t.state t.from t.inside t.clear t.set pattern is)
+      → (pattern_of (node_at nfa s) ≡ Some pattern)
+      × Ends nfa x m (Explore (s, at) ∷ rest) slots (Some ((s, at), slots)) n.turns
+  Goes-match pattern is rest slots = (
+    rw (node_at-get nfa x s (Match pattern) is) refl,
+    Ends-match nfa x m s at rest slots n t.counted t.state t.from
+        t.inside t.clear t.set pattern is,
+  )

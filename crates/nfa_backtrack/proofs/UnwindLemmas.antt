@@ -8,7 +8,8 @@ use Rattle.regex_search_core.specs.Search.{Search}
 use Rattle.thompson_nfa.specs.Automaton.{Automaton}
 use Rattle.nfa_paths.specs.Exploring.{Item, Slots}
 use Rattle.nfa_backtrack.specs.Bits.{Marks}
-use Rattle.nfa_backtrack.specs.Walk.{item_of, work_onto, tries, tries_of_place, with_place, HasSlot, Unwinds, IsPlaceOr, IsWithin, Follows}
+use Rattle.nfa_backtrack.specs.Walk.{work_item, work_onto, tries, tries_of_place, with_place, HasSlot, Unwinds, IsPlaceOr}
+use Rattle.nfa_backtrack.specs.Walk.{IsWithin, Follows}
 use Rattle.nfa_backtrack.specs.declared.frame.Place.{Place}
 use Rattle.nfa_backtrack.specs.declared.frame.Frame.{Frame}
 use Rattle.nfa_backtrack.specs.declared.frame.Frame.TheVariants.{Step, Restore, Clear}
@@ -17,18 +18,24 @@ use Rattle.nfa_backtrack.proofs.StepLemmas.{work_onto-push}
 
 module _ (nfa : Automaton) (x : Search) where
   -- a frame that is taken up
-  Follows-unwind : (marks : Marks) (work : List Item) (frame : Frame) (slots : Slots) (place : Option Place) (after : Slots)
-      → Unwinds frame slots place after → Follows nfa x marks (item_of frame ∷ work) slots marks (with_place place work) after
+  Follows-unwind : (marks : Marks) (work : List Item) (frame : Frame) (slots : Slots) (place : Option Place)
+      (after : Slots)
+      → Unwinds frame slots place after
+      → Follows nfa x marks (work_item frame ∷ work) slots marks (with_place place work) after
   Follows-unwind marks work (Step sid at row) slots place after u = rw (u.0, u.1) (Follows-none nfa x marks _ slots)
-  Follows-unwind marks work (Restore slot offset) slots place after u = rw (u.0, u.1) (Follows-restore nfa x marks work slots slot (Some offset))
-  Follows-unwind marks work (Clear slot) slots place after u = rw (u.0, u.1) (Follows-restore nfa x marks work slots slot None)
+  Follows-unwind marks work (Restore slot offset) slots place after u = rw (u.0, u.1)
+      (Follows-restore nfa x marks work slots slot (Some offset))
+  Follows-unwind marks work (Clear slot) slots place after u = rw (u.0, u.1)
+      (Follows-restore nfa x marks work slots slot None)
 
-  pub Follows-unwound : (marks : Marks) (work : List Item) (whole stack popped : List Frame) (frame : Frame) (entry slots : Slots) (place : Option Place) (after : Slots)
+  pub Follows-unwound : (marks : Marks) (work : List Item) (whole stack popped : List Frame) (frame : Frame)
+      (entry slots : Slots) (place : Option Place) (after : Slots)
       → stack ≡ popped ++ frame ∷ [] → Unwinds frame slots place after
       → Follows nfa x marks (work_onto whole work) entry marks (work_onto stack work) slots
       → Follows nfa x marks (work_onto whole work) entry marks (with_place place (work_onto popped work)) after
   Follows-unwound marks work whole stack popped frame entry slots place after pop u f =
-      Follows-then nfa x (rw (pop, work_onto-push popped frame work) at f) (Follows-unwind marks (work_onto popped work) frame slots place after u)
+      Follows-then nfa x (rw (pop, work_onto-push popped frame work) at f)
+      (Follows-unwind marks (work_onto popped work) frame slots place after u)
 
   IsWithin-place : (count : ℕ) (frame : Frame) (slots : Slots) (place : Option Place) (after : Slots)
       → Unwinds frame slots place after → IsWithin nfa x count frame → IsPlaceOr nfa x place
@@ -36,7 +43,8 @@ module _ (nfa : Automaton) (x : Search) where
   IsWithin-place count (Restore slot offset) slots place after u fits = rw u.0 tt
   IsWithin-place count (Clear slot) slots place after u fits = rw u.0 tt
 
-  pub within-unwound : (count : ℕ) (stack popped : List Frame) (frame : Frame) (slots : Slots) (place : Option Place) (after : Slots)
+  pub within-unwound : (count : ℕ) (stack popped : List Frame) (frame : Frame) (slots : Slots) (place : Option Place)
+      (after : Slots)
       → stack ≡ popped ++ frame ∷ [] → Unwinds frame slots place after → All (IsWithin nfa x count) stack
       → All (IsWithin nfa x count) popped × IsPlaceOr nfa x place
   within-unwound count stack popped frame slots place after pop u fits =
@@ -52,7 +60,8 @@ module _ (nfa : Automaton) (x : Search) where
   pub all-HasSlot : (count : ℕ) (stack : List Frame) → All (IsWithin nfa x count) stack → All (HasSlot count) stack
   all-HasSlot count stack fits = λ k d h. HasSlot-within count _ (fits k d h)
 
-tries-unwind : (frame : Frame) (slots : Slots) (place : Option Place) (after : Slots) → Unwinds frame slots place after → tries frame ≡ tries_of_place place
+tries-unwind : (frame : Frame) (slots : Slots) (place : Option Place) (after : Slots) → Unwinds frame slots place after
+    → tries frame ≡ tries_of_place place
 tries-unwind (Step sid at row) slots place after u = rw u.0 refl
 tries-unwind (Restore slot offset) slots place after u = rw u.0 refl
 tries-unwind (Clear slot) slots place after u = rw u.0 refl
@@ -70,7 +79,8 @@ slots-unwound stack popped frame slots place after pop u fits =
     let both = All-pop (HasSlot (length slots)) stack popped (Some frame) pop fits in
     rw (length-unwind frame slots place after u) both.0
   where
-    length-unwind : (frame : Frame) (slots : Slots) (place : Option Place) (after : Slots) → Unwinds frame slots place after → length after ≡ length slots
+    length-unwind : (frame : Frame) (slots : Slots) (place : Option Place) (after : Slots)
+        → Unwinds frame slots place after → length after ≡ length slots
     length-unwind (Step sid at row) slots place after u = rw u.1 refl
     length-unwind (Restore slot offset) slots place after u = rw (u.1, length-set) refl
     length-unwind (Clear slot) slots place after u = rw (u.1, length-set) refl

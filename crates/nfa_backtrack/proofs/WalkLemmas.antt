@@ -1,5 +1,6 @@
 -- The steps of a walk, one for each kind of state.
-use Rattle.std.proofs.Common.{◌≡◌, ℕ, suc, zero, ◌+◌, ◌-◌, ◌*◌, ◌<◌, ◌≤◌, ◌⊎◌, inl, inr, List, [], ◌∷◌, ◌++◌, length, get_or, set, map, replicate, refl, ap, ◌∙◌, arith}
+use Rattle.std.proofs.Common.{◌≡◌, ℕ, suc, zero, ◌+◌, ◌-◌, ◌*◌, ◌<◌, ◌≤◌, ◌⊎◌, inl, inr, List, [], ◌∷◌, ◌++◌, length}
+use Rattle.std.proofs.Common.{get_or, set, map, replicate, refl, ap, ◌∙◌, arith}
 use Rattle.std.specs.Prelude.{Option, Some, None, true, false, Bool, sum}
 use Rattle.std.specs.List.{slice_get}
 use Rattle.std.proofs.Math.Decide.{ℕ_discrete}
@@ -12,11 +13,13 @@ use Rattle.regex_search_core.specs.Search.{Search}
 use Rattle.thompson_nfa.specs.Automaton.{Automaton, Node}
 use Rattle.thompson_nfa.specs.Automaton.Node.{Capture, Fail, Match}
 use Rattle.nfa_paths.specs.Graphs.{Pair, In}
-use Rattle.nfa_paths.specs.Paths.{span_len, degree, node_at, pattern_of, slot_of, edges, edges_of, is_match, capture, turn_weight}
+use Rattle.nfa_paths.specs.Paths.{span_len, degree, node_at, pattern_of, slot_of, edges, edges_of, is_match, capture}
+use Rattle.nfa_paths.specs.Paths.{turn_weight}
 use Rattle.nfa_paths.specs.Exploring.{Item, Slots, Found, Answer}
 use Rattle.nfa_paths.specs.Exploring.Item.{Explore, Restore}
 use Rattle.nfa_paths.specs.Turns.{marked_sum, repeated}
-use Rattle.nfa_paths.proofs.SearchLemmas.{Answer-none, Answer-restore, Answer-marked, Answer-target, Answer-plain, Answer-write, Answer-unkept}
+use Rattle.nfa_paths.proofs.SearchLemmas.{Answer-none, Answer-restore, Answer-marked, Answer-target, Answer-plain}
+use Rattle.nfa_paths.proofs.SearchLemmas.{Answer-write, Answer-unkept}
 use Rattle.nfa_paths.proofs.TurnLemmas.{marked_sum-set, sum-repeated, get_or-repeated}
 use Rattle.nfa_backtrack.specs.Bits.{Marks}
 use Rattle.regex_search_core.specs.declared.search.HalfMatch.{HalfMatch}
@@ -29,29 +32,38 @@ module _ (nfa : Automaton) (x : Search) where
   node_at-get s node is = get_or_from_slice_get nfa.states s node Fail is
 
   -- the bit of a place lies in the table
-  pub bit_of-within : (bits : List Bool) (s at : ℕ) → HasRoom nfa x bits → s < length nfa.states → x.start ≤ at → at ≤ x.end
+  pub bit_of-within : (bits : List Bool) (s at : ℕ) → HasRoom nfa x bits → s < length nfa.states → x.start
+      ≤ at → at ≤ x.end
       → bit_of nfa x (s, at) < length bits
   bit_of-within bits s at room state from to =
       let lt : at - x.start < span_len x + 1 = omega arith in
-      let k = mul-add-lt (at - x.start) (length nfa.states) s (span_len x + 1) lt state in let h = room.room in omega arith
+      let k = mul-add-lt (at - x.start) (length nfa.states) s (span_len x + 1) lt state in let h = room.room in omega
+      arith
 
   -- marking a pair adds its state's degree
-  pub marked_sum-weights : (bits : List Bool) (s at : ℕ) (node : Node) → s < length nfa.states → x.start ≤ at → at ≤ x.end
+  pub marked_sum-weights : (bits : List Bool) (s at : ℕ) (node : Node) → s < length nfa.states → x.start
+      ≤ at → at ≤ x.end
       → slice_get nfa.states s ≡ Some node → get_or bits (bit_of nfa x (s, at)) true ≡ false
-      → marked_sum (weights nfa x) (set bits (bit_of nfa x (s, at)) true) ≡ marked_sum (weights nfa x) bits + degree node
+      → marked_sum (weights nfa x) (set bits (bit_of nfa x (s, at)) true)
+      ≡ marked_sum (weights nfa x) bits + degree node
   unfolding weights
   marked_sum-weights bits s at node state from to is clear =
       let here : at - x.start < span_len x + 1 = omega arith in
-      let one = get_or-repeated (span_len x + 1) (map degree nfa.states) (at - x.start) s 0 here (rw length-map state) in
-      let w : get_or (map degree nfa.states) s 0 ≡ degree node = get_or_from_slice_get (map degree nfa.states) s (degree node) 0 (rw (slice_get-map degree nfa.states s, is) refl) in
-      let e : get_or (repeated (span_len x + 1) (map degree nfa.states)) (bit_of nfa x (s, at)) 0 ≡ degree node = rw length-map at one ∙ w in
+      let one = get_or-repeated (span_len x + 1) (map degree nfa.states) (at - x.start) s 0 here
+      (rw length-map state) in
+      let w : get_or (map degree nfa.states) s 0
+      ≡ degree node = get_or_from_slice_get (map degree nfa.states) s (degree node) 0
+      (rw (slice_get-map degree nfa.states s, is) refl) in
+      let e : get_or (repeated (span_len x + 1) (map degree nfa.states)) (bit_of nfa x (s, at)) 0
+      ≡ degree node = rw length-map at one ∙ w in
       marked_sum-set (repeated (span_len x + 1) (map degree nfa.states)) bits (bit_of nfa x (s, at)) clear
       ∙ ap (λ k. marked_sum (repeated (span_len x + 1) (map degree nfa.states)) bits + k) e
 
   -- all of them together
   pub sum-weights : sum (weights nfa x) ≡ (span_len x + 1) * turn_weight nfa
   unfolding weights
-  sum-weights = sum-repeated (span_len x + 1) (map degree nfa.states) ∙ ap (λ k. (span_len x + 1) * k) (sum-map degree nfa.states)
+  sum-weights = sum-repeated (span_len x + 1) (map degree nfa.states) ∙ ap (λ k. (span_len x + 1) * k)
+      (sum-map degree nfa.states)
 
   -- no pair is marked in a table of clear bits
   pub IsMarked-clear : (n : ℕ) (v : Pair) → IsMarked nfa x (replicate n false) v → ⊥
@@ -63,7 +75,8 @@ module _ (nfa : Automaton) (x : Search) where
       never (suc n) (suc k) e = never n k e
 
   -- setting a pair's bit marks it and no other
-  pub IsMarked-set : (bits : List Bool) (s at : ℕ) → s < length nfa.states → x.start ≤ at → bit_of nfa x (s, at) < length bits
+  pub IsMarked-set : (bits : List Bool) (s at : ℕ) → s < length nfa.states → x.start
+      ≤ at → bit_of nfa x (s, at) < length bits
       → (v : Pair) → (IsMarked nfa x (set bits (bit_of nfa x (s, at)) true) v → (v ≡ (s, at)) ⊎ IsMarked nfa x bits v)
       × ((v ≡ (s, at)) ⊎ IsMarked nfa x bits v → IsMarked nfa x (set bits (bit_of nfa x (s, at)) true) v)
   IsMarked-set bits s at state from inside v = (
@@ -73,22 +86,41 @@ module _ (nfa : Automaton) (x : Search) where
               let both = same_from_place (v.1 - x.start) v.0 (at - x.start) s (length nfa.states) m.state state e in
               let same : v.1 ≡ at = let f = m.from in let d = both.0 in omega arith in
               inl (λ i. (both.1 i, same i))
-          | no n ↦ inr (record { state = m.state; from = m.from; set = rw (get_or-set_other bits (bit_of nfa x (s, at)) (bit_of nfa x v) true false n) at m.set })
+          | no n ↦ inr (record {
+            state = m.state;
+            from = m.from;
+            set = rw (get_or-set_other bits (bit_of nfa x (s, at)) (bit_of nfa x v) true false n) at m.set;
+          })
         ],
     λ m.
         elim m [
-          | inl e ↦ rw e (record { state = state; from = from; set = get_or-set_same bits (bit_of nfa x (s, at)) true false inside })
+          | inl e ↦ rw e (record {
+            state = state;
+            from = from;
+            set = get_or-set_same bits (bit_of nfa x (s, at)) true
+                false inside;
+          })
           | inr old ↦
               elim (ℕ_discrete (bit_of nfa x v) (bit_of nfa x (s, at))) [
-                | yes e ↦ record { state = old.state; from = old.from; set = rw (e, get_or-set_same bits (bit_of nfa x (s, at)) true false inside) refl }
-                | no n ↦ record { state = old.state; from = old.from; set = rw (get_or-set_other bits (bit_of nfa x (s, at)) (bit_of nfa x v) true false n) old.set }
+                | yes e ↦ record {
+                  state = old.state;
+                  from = old.from;
+                  set = rw (e, get_or-set_same bits (bit_of nfa x (s, at)) true false inside) refl;
+                }
+                | no n ↦ record {
+                  state = old.state;
+                  from = old.from;
+                  set = rw (get_or-set_other bits (bit_of nfa x (s, at)) (bit_of nfa x v) true false n) old.set;
+                }
               ]
         ],
   )
 
-  module _ (marks : Marks) (s at : ℕ) (rest : List Item) (slots : Slots) (after : Marks) (counted : after.turns ≡ marks.turns + 1) where
+  module _ (marks : Marks) (s at : ℕ) (rest : List Item) (slots : Slots) (after : Marks)
+      (counted : after.turns ≡ marks.turns + 1) where
     -- a turn that finds its pair marked
-    pub Follows-marked : s < length nfa.states → x.start ≤ at → get_or marks.bits (bit_of nfa x (s, at)) false ≡ true → after.bits ≡ marks.bits
+    pub Follows-marked : s < length nfa.states → x.start ≤ at → get_or marks.bits (bit_of nfa x (s, at)) false ≡ true
+        → after.bits ≡ marks.bits
         → Follows nfa x marks (Explore (s, at) ∷ rest) slots after rest slots
     unfolding WalkAnswer
     Follows-marked state from seen same = record {
@@ -101,11 +133,13 @@ module _ (nfa : Automaton) (x : Search) where
     }
 
     module _ (state : s < length nfa.states) (from : x.start ≤ at) (inside : bit_of nfa x (s, at) < length marks.bits)
-        (clear : get_or marks.bits (bit_of nfa x (s, at)) true ≡ false) (marked : after.bits ≡ set marks.bits (bit_of nfa x (s, at)) true) where
+        (clear : get_or marks.bits (bit_of nfa x (s, at)) true ≡ false)
+        (marked : after.bits ≡ set marks.bits (bit_of nfa x (s, at)) true) where
       free : (pairs : List Pair) → Agrees nfa x marks.bits pairs → ¬ (In (s, at) pairs)
       free pairs agrees i =
           let m = (agrees (s, at)).0 i in
-          let e : get_or marks.bits (bit_of nfa x (s, at)) false ≡ false = get_or_default marks.bits (bit_of nfa x (s, at)) false true inside ∙ clear in
+          let e : get_or marks.bits (bit_of nfa x (s, at)) false
+          ≡ false = get_or_default marks.bits (bit_of nfa x (s, at)) false true inside ∙ clear in
           absurd (cc (m.set, e))
 
       grown : (pairs : List Pair) → Agrees nfa x marks.bits pairs → Agrees nfa x after.bits ((s, at) ∷ pairs)
@@ -140,26 +174,31 @@ module _ (nfa : Automaton) (x : Search) where
             let one : left ≡ suc 0 = omega arith in
             let node = node_at-get s (Match pattern) is in
             rw one
-            (Answer-target (edges nfa x) (is_match nfa) (capture nfa) 0 None pairs (s, at) rest slots _ (free pairs agrees) (rw node refl) (rw node refl));
+            (Answer-target (edges nfa x) (is_match nfa) (capture nfa) 0 None pairs (s, at) rest slots _
+            (free pairs agrees) (rw node refl) (rw node refl));
       }
 
       -- a state that writes nothing gives way to its edges
-      pub Follows-plain : (node : Node) → slice_get nfa.states s ≡ Some node → pattern_of node ≡ None → slot_of node ≡ None
+      pub Follows-plain : (node : Node) → slice_get nfa.states s ≡ Some node → pattern_of node ≡ None → slot_of node
+          ≡ None
           → (es : List Pair) → edges_of x node at ≡ es
           → Follows nfa x marks (Explore (s, at) ∷ rest) slots after (map Explore es ++ rest) slots
       Follows-plain node is plain writes es leads =
           let n = node_at-get s node is in
           Follows-taken (map Explore es ++ rest) slots
-          (λ left pairs g f. Answer-plain (edges nfa x) (is_match nfa) (capture nfa) left None pairs (s, at) rest slots g f (rw (n, plain) refl) es (rw n leads) (rw (n, writes) refl))
+          (λ left pairs g f. Answer-plain (edges nfa x) (is_match nfa) (capture nfa) left None pairs (s, at) rest slots
+          g f (rw (n, plain) refl) es (rw n leads) (rw (n, writes) refl))
 
       -- a Capture writes its slot, which is restored below its edge
       pub Follows-write : (next slot : ℕ) → slice_get nfa.states s ≡ Some (Capture next slot)
-          → Follows nfa x marks (Explore (s, at) ∷ rest) slots after (Explore (next, at) ∷ Restore slot (get_or slots slot None) ∷ rest) (set slots slot (Some at))
+          → Follows nfa x marks (Explore (s, at) ∷ rest) slots after
+          (Explore (next, at) ∷ Restore slot (get_or slots slot None) ∷ rest) (set slots slot (Some at))
       unfolding edges_of
       Follows-write next slot is =
           let n = node_at-get s (Capture next slot) is in
           Follows-taken (Explore (next, at) ∷ Restore slot (get_or slots slot None) ∷ rest) (set slots slot (Some at))
-          (λ left pairs g f. Answer-write (edges nfa x) (is_match nfa) (capture nfa) left None pairs (s, at) rest slots g f (rw n refl) ((next, at) ∷ []) (rw n refl) slot (rw n refl))
+          (λ left pairs g f. Answer-write (edges nfa x) (is_match nfa) (capture nfa) left None pairs (s, at) rest slots
+          g f (rw n refl) ((next, at) ∷ []) (rw n refl) slot (rw n refl))
 
       -- a Capture of a slot that is not tracked
       pub Follows-unkept : (next slot : ℕ) → slice_get nfa.states s ≡ Some (Capture next slot) → length slots ≤ slot
@@ -168,7 +207,8 @@ module _ (nfa : Automaton) (x : Search) where
       Follows-unkept next slot is past =
           let n = node_at-get s (Capture next slot) is in
           Follows-taken (Explore (next, at) ∷ rest) slots
-          (λ left pairs g f. Answer-unkept (edges nfa x) (is_match nfa) (capture nfa) left None pairs (s, at) rest slots g f (rw n refl) ((next, at) ∷ []) (rw n refl) slot (rw n refl) past)
+          (λ left pairs g f. Answer-unkept (edges nfa x) (is_match nfa) (capture nfa) left None pairs (s, at) rest slots
+          g f (rw n refl) ((next, at) ∷ []) (rw n refl) slot (rw n refl) past)
 
   -- steps one after another
   module _ {m : Marks} {w : List Item} {s : Slots} where
@@ -177,7 +217,8 @@ module _ (nfa : Automaton) (x : Search) where
       Follows-then {o = o} k = let p = f.grows in let q = k.grows in record {
         grows = omega arith;
         back = λ left more g e h.
-            f.back (left + (o.turns - n.turns)) more g (omega arith) (k.back left (left + (o.turns - n.turns)) g (omega arith) h);
+            f.back (left + (o.turns - n.turns)) more g (omega arith)
+            (k.back left (left + (o.turns - n.turns)) g (omega arith) h);
       }
 
       pub Follows-ends : {g : Found} {turns : ℕ} → Ends nfa x n y t g turns → Ends nfa x m w s g turns
@@ -200,7 +241,8 @@ module _ (nfa : Automaton) (x : Search) where
     grows = omega arith;
     back = λ left more g e h pairs agrees.
         let same : more ≡ left = omega arith in
-        rw same ((Answer-restore (edges nfa x) (is_match nfa) (capture nfa) left None pairs k old w s g).0 (h pairs agrees));
+        rw same ((Answer-restore (edges nfa x) (is_match nfa) (capture nfa) left None pairs k old w s g).0
+        (h pairs agrees));
   }
 
   -- nothing is left
@@ -212,6 +254,7 @@ module _ (nfa : Automaton) (x : Search) where
   }
 
   -- steps before the end
-  pub EndsAt-along : {half : HalfMatch} {m : Marks} {w : List Item} {s : Slots} {n : Marks} {y : List Item} {t written : Slots} {turns : ℕ}
+  pub EndsAt-along : {half : HalfMatch} {m : Marks} {w : List Item} {s : Slots} {n : Marks} {y : List Item}
+      {t written : Slots} {turns : ℕ}
       → Follows nfa x m w s n y t → EndsAt nfa x half n y t written turns → EndsAt nfa x half m w s written turns
   EndsAt-along f e = record { state = e.state; matches = e.matches; ends = Follows-ends f e.ends }

@@ -1,12 +1,9 @@
 -- A backtracker as a value, and how much it may try.
-use Rattle.std.specs.Prelude.{◌≡◌, ℕ, ◌+◌, ◌*◌, ◌/◌, ◌^◌, ◌-◌, ◌<◌, ◌≤◌, min, max, length, Option, unwrap_or}
+use Rattle.std.specs.Prelude.{◌≡◌, ℕ, ◌+◌, ◌*◌, ◌/◌, ◌-◌, ◌<◌, ◌≤◌, max, length, Option, unwrap_or}
 use Rattle.regex_search_core.specs.Search.{Search}
 use Rattle.thompson_nfa.specs.Automaton.{Automaton}
 use Rattle.nfa_paths.specs.Paths.{span_len}
-
--- a number that stops at the greatest `usize`
-abbrev pub saturated : ℕ → ℕ
-saturated n = min n (2 ^ 64 - 1)
+use Rattle.nfa_scanning.specs.Numbers.{saturated}
 
 -- an NFA, and how many bytes of marks were asked for, if any were
 pub record Backtracker : Type 0 where
@@ -28,7 +25,17 @@ pub record Work : Type 0 where
 
 -- a cache that has made no search and holds nothing
 abbrev pub unused : Work
-unused = record { scans = 0; turns = 0; frames = 0; blocks = 0; slots = 0; answered = 0; refused = 0; all_scans = 0; all_turns = 0 }
+unused = record {
+  scans = 0;
+  turns = 0;
+  frames = 0;
+  blocks = 0;
+  slots = 0;
+  answered = 0;
+  refused = 0;
+  all_scans = 0;
+  all_turns = 0;
+}
 
 -- one search more was answered
 pub record CountsAnswer (old new : Work) : Type 0 where
@@ -70,7 +77,8 @@ rounded_bits bytes = saturated (64 * ((saturated (8 * bytes) + 63) / 64))
 abbrev pub capacity_of : Backtracker → ℕ
 capacity_of e = rounded_bits (unwrap_or e.visited_capacity default_capacity)
 
--- The length of the longest span that a search may have, where there is a bit for each state; else 0, and no search may be made.
+-- The length of the longest span that a search may have, where there is a bit for each state; else 0, and no search
+-- may be made.
 abbrev pub max_haystack_len_of : Backtracker → ℕ
 max_haystack_len_of e = capacity_of e / length e.nfa.states - 1
 

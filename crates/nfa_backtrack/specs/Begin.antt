@@ -23,13 +23,17 @@ IsPutBack (Some slot) slots after = after ≡ slice_set slots slot None
 
 module _ (nfa : Automaton) (x : Search) where
   -- a walk from v goes on there, and what was tried is paid for
-  pub record GoesOn (v : Pair) (begun : Begun) (marks : Marks) (slots : Slots) (marked : Marks) (written : Slots) : Type 0 where
+  pub record BeginsAt (v : Pair) (begun : Begun) (marks : Marks) (slots : Slots) (marked : Marks) (written : Slots) : Type
+      0 where
     pub place : IsPlace nfa x begun.place
     pub slot : ForSome begun.slot (λ k. k < length written)
-    pub follows : (work : List Item) → Follows nfa x marks (ToExplore v ∷ work) slots marked (ToExplore (pair_of begun.place) ∷ kept_onto begun.slot work) written
-    pub spent : marked.turns + marked_sum (weights nfa x) marks.bits ≤ marks.turns + marked_sum (weights nfa x) marked.bits
+    pub follows : (work : List Item)
+        → Follows nfa x marks (ToExplore v ∷ work) slots marked
+        (ToExplore (pair_of begun.place) ∷ kept_onto begun.slot work) written
+    pub spent : marked.turns + marked_sum (weights nfa x) marks.bits
+        ≤ marks.turns + marked_sum (weights nfa x) marked.bits
 
   -- what comes of the first turn, if one was taken
   abbrev pub Begins : Pair → Option Begun → Marks → Slots → Marks → Slots → Type 0
   Begins v None marks slots marked written = Fails nfa x v marks slots [] marked written
-  Begins v (Some begun) marks slots marked written = GoesOn v begun marks slots marked written
+  Begins v (Some begun) marks slots marked written = BeginsAt v begun marks slots marked written

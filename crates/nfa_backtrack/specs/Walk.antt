@@ -1,6 +1,7 @@
--- The walk of a backtracker in the words of its proof: its stack as work that is left, its marks as pairs that were seen.
-use Rattle.std.specs.Prelude.{◌≡◌, ◌↔◌, ℕ, ◌+◌, ◌-◌, ◌*◌, ◌^◌, ◌<◌, ◌≤◌, Bool, true, false, List, [], ◌∷◌, Option, None, Some, length, map, All, slice_index_or, slice_set, option_map, option_and_then}
-use Rattle.std.specs.Option.{option_map_or}
+-- The walk of a backtracker in the words of its proof: its stack as work that is left, its marks as pairs that were
+-- seen.
+use Rattle.std.specs.Prelude.{◌≡◌, ◌↔◌, ℕ, ◌+◌, ◌-◌, ◌*◌, ◌^◌, ◌<◌, ◌≤◌, Bool, true, false, List, [], ◌∷◌, Option, None}
+use Rattle.std.specs.Prelude.{Some, length, map, All, slice_index_or, slice_set}
 use Rattle.std.specs.List.{sum_by}
 use Rattle.regex_search_core.specs.Search.{Search}
 use Rattle.regex_search_core.specs.Patterns.{number_of}
@@ -9,7 +10,8 @@ use Rattle.regex_search_core.specs.declared.search.HalfMatch.{HalfMatch}
 use Rattle.regex_search_core.specs.declared.search.MatchKind.TheVariants.{LeftmostFirst}
 use Rattle.thompson_nfa.specs.Automaton.{Automaton}
 use Rattle.nfa_paths.specs.Graphs.{Pair, In}
-use Rattle.nfa_paths.specs.Paths.{span_len, degree, node_at, pattern_of, edges, is_match, capture, last_of, path_pattern, slot_row, IsScanAnswer, IsSearchAnswer, turn_weight}
+use Rattle.nfa_paths.specs.Paths.{span_len, degree, node_at, pattern_of, edges, is_match, capture, IsScanAnswer}
+use Rattle.nfa_paths.specs.Restarts.{GivesPath}
 use Rattle.nfa_paths.specs.Exploring.{Slots, Found, Item, Answer}
 use Rattle.nfa_paths.specs.Exploring.Item.{Explore as ToExplore, Restore as ToRestore}
 use Rattle.nfa_paths.specs.Turns.{marked_sum, repeated}
@@ -27,10 +29,10 @@ abbrev pub pair_of : Place → Pair
 pair_of place = (place.sid, place.at)
 
 -- what a frame leaves to do
-abbrev pub item_of : Frame → Item
-item_of (Step sid at row) = ToExplore (sid, at)
-item_of (Restore slot offset) = ToRestore slot (Some offset)
-item_of (Clear slot) = ToRestore slot None
+abbrev pub work_item : Frame → Item
+work_item (Step sid at row) = ToExplore (sid, at)
+work_item (Restore slot offset) = ToRestore slot (Some offset)
+work_item (Clear slot) = ToRestore slot None
 
 -- what puts the slot back to its old value
 abbrev pub restoring : ℕ → Option ℕ → Frame
@@ -57,11 +59,12 @@ HasSlot count (Clear slot) = slot < count
 -- the frames of a stack, the top first, above some work
 abbrev pub work_onto : List Frame → List Item → List Item
 work_onto [] work = work
-work_onto (f ∷ fs) work = work_onto fs (item_of f ∷ work)
+work_onto (f ∷ fs) work = work_onto fs (work_item f ∷ work)
 
 -- what comes of taking a frame up: a place to search on from, or a slot that has its old value again
 abbrev pub Unwinds : Frame → Slots → Option Place → Slots → Type 0
-Unwinds (Step sid at row) slots place after = (place ≡ Some (record { sid = sid; at = at; row = row })) × (after ≡ slots)
+Unwinds (Step sid at row) slots place after = (place ≡ Some (record { sid = sid; at = at; row = row }))
+    × (after ≡ slots)
 Unwinds (Restore slot offset) slots place after = (place ≡ None) × (after ≡ slice_set slots slot (Some offset))
 Unwinds (Clear slot) slots place after = (place ≡ None) × (after ≡ slice_set slots slot None)
 
@@ -86,7 +89,8 @@ tries_of_turn (Ended half) = 0
 tries_of_turn Over = 0
 
 module _ (nfa : Automaton) (x : Search) where
-  -- the place is one of the NFA's states, in the span, and its row is as far from the first as its position from the start
+  -- the place is one of the NFA's states, in the span, and its row is as far from the first as its position from the
+  -- start
   pub record IsPlace (place : Place) : Type 0 where
     pub state : place.sid < length nfa.states
     pub from : x.start ≤ place.at
@@ -133,13 +137,31 @@ module _ (nfa : Automaton) (x : Search) where
       (seen : List Pair) → Agrees bits seen
       → Answer (edges nfa x) (is_match nfa) (capture nfa) left None seen work slots g
 
+  -- the turn at v marked it
+  pub record Taken (v : Pair) (marks marked : Marks) : Type 0 where
+    pub state : v.0 < length nfa.states
+    pub from : x.start ≤ v.1
+    pub to : v.1 ≤ x.end
+    pub inside : bit_of v < length marks.bits
+    pub clear : slice_index_or marks.bits (bit_of v) true ≡ false
+    pub set : marked.bits ≡ slice_set marks.bits (bit_of v) true
+    pub counted : marked.turns ≡ marks.turns + 1
+
+  -- the turn at v found it marked
+  pub record WasMarked (v : Pair) (marks marked : Marks) : Type 0 where
+    pub marked_before : IsMarked marks.bits v
+    pub same : marked.bits ≡ marks.bits
+    pub counted : marked.turns ≡ marks.turns + 1
+
   -- What a step pushed is paid for by what it marked. `in_hand` is 1 where it goes on at a place.
-  pub record Paid (count : ℕ) (stack : List Frame) (bits : List Bool) (after : List Frame) (marked : List Bool) (in_hand : ℕ) : Type 0 where
+  pub record Paid (count : ℕ) (stack : List Frame) (bits : List Bool) (after : List Frame) (marked : List Bool)
+      (in_hand : ℕ) : Type 0 where
     pub within : All (IsWithin count) after
     pub tried : sum_by tries after + in_hand + marked_sum weights bits ≤ sum_by tries stack + marked_sum weights marked
 
   -- The answer from the state after is the answer from the state before.
-  pub record Follows (marks : Marks) (work : List Item) (slots : Slots) (after : Marks) (work_after : List Item) (slots_after : Slots) : Type 0 where
+  pub record Follows (marks : Marks) (work : List Item) (slots : Slots) (after : Marks) (work_after : List Item)
+      (slots_after : Slots) : Type 0 where
     pub grows : marks.turns ≤ after.turns
     pub back : (left more : ℕ) (g : Found) → marks.turns + more ≡ after.turns + left
         → WalkAnswer left after.bits work_after slots_after g → WalkAnswer more marks.bits work slots g
@@ -153,15 +175,18 @@ module _ (nfa : Automaton) (x : Search) where
   abbrev pub Goes : Pair → Move → List Frame → Marks → Slots → List Frame → Marks → Slots → Type 0
   Goes v (Go place) stack marks slots after marked written =
       IsPlace place
-      × ((work : List Item) → Follows marks (ToExplore v ∷ work_onto stack work) slots marked (ToExplore (pair_of place) ∷ work_onto after work) written)
+      × ((work : List Item) → Follows marks (ToExplore v ∷ work_onto stack work) slots marked
+      (ToExplore (pair_of place) ∷ work_onto after work) written)
   Goes v Stuck stack marks slots after marked written =
-      (work : List Item) → Follows marks (ToExplore v ∷ work_onto stack work) slots marked (work_onto after work) written
+      (work : List Item) → Follows marks (ToExplore v ∷ work_onto stack work) slots marked (work_onto after work)
+      written
   Goes v (Matched pattern) stack marks slots after marked written =
       (pattern_of (node_at nfa v.0) ≡ Some (number_of pattern))
       × ((work : List Item) → Ends marks (ToExplore v ∷ work_onto stack work) slots (Some (v, written)) marked.turns)
 
   -- the search ends at a match: its state is of the pattern, and this is where it ends
-  pub record EndsAt (half : HalfMatch) (marks : Marks) (work : List Item) (slots : Slots) (written : Slots) (turns : ℕ) : Type 0 where
+  pub record EndsAt (half : HalfMatch) (marks : Marks) (work : List Item) (slots : Slots) (written : Slots) (turns : ℕ)
+      : Type 0 where
     pub state : ℕ
     pub matches : pattern_of (node_at nfa state) ≡ Some (half_found_of half).pattern
     pub ends : Ends marks work slots (Some ((state, (half_found_of half).offset), written)) turns
@@ -170,14 +195,16 @@ module _ (nfa : Automaton) (x : Search) where
   abbrev pub Advances : Pair → Turn → List Frame → Marks → Slots → List Frame → Marks → Slots → Type 0
   Advances v (On place) stack marks slots after marked written =
       IsPlace place
-      × ((work : List Item) → Follows marks (ToExplore v ∷ work_onto stack work) slots marked (ToExplore (pair_of place) ∷ work_onto after work) written)
+      × ((work : List Item) → Follows marks (ToExplore v ∷ work_onto stack work) slots marked
+      (ToExplore (pair_of place) ∷ work_onto after work) written)
   Advances v (Ended half) stack marks slots after marked written =
       (work : List Item) → EndsAt half marks (ToExplore v ∷ work_onto stack work) slots written marked.turns
   Advances v Over stack marks slots after marked written =
       (after ≡ []) × ((work : List Item) → Follows marks (ToExplore v ∷ work_onto stack work) slots marked work written)
 
   -- nothing was found at v, and what was tried is paid for
-  pub record Fails (v : Pair) (marks : Marks) (slots : Slots) (after : List Frame) (marked : Marks) (written : Slots) : Type 0 where
+  pub record Fails (v : Pair) (marks : Marks) (slots : Slots) (after : List Frame) (marked : Marks) (written : Slots) :
+      Type 0 where
     pub empty : after ≡ []
     pub follows : (work : List Item) → Follows marks (ToExplore v ∷ work) slots marked work written
     pub spent : marked.turns + marked_sum weights marks.bits ≤ marks.turns + 1 + marked_sum weights marked.bits
@@ -188,31 +215,7 @@ module _ (nfa : Automaton) (x : Search) where
   Walks v (Some half) marks slots after marked written =
       (work : List Item) → EndsAt half marks (ToExplore v ∷ work) slots written marked.turns
 
-  -- the scan's answer is this path, of which the match and the slots are
-  pub record Finds (half : HalfMatch) (slots : Slots) (turns : ℕ) : Type 0 where
-    pub path : List Pair
-    pub state : ℕ
-    pub answers : IsScanAnswer nfa x LeftmostFirst false (Some path)
-    pub matches : pattern_of (node_at nfa state) ≡ Some (half_found_of half).pattern
-    pub ends : last_of path ≡ Some (state, (half_found_of half).offset)
-    pub row : slots ≡ slot_row nfa (length slots) (Some path)
-    pub short : length path ≤ turns
-
-  -- what a scan that took so many turns comes to
-  abbrev pub Scans : Option HalfMatch → Slots → ℕ → Type 0
-  Scans None slots turns = IsScanAnswer nfa x LeftmostFirst false None
-  Scans (Some half) slots turns = Finds half slots turns
-
-  -- the turns of one scan at most
-  abbrev pub scan_turns : ℕ
-  scan_turns = (1 + turn_weight nfa) * (span_len x + 1)
-
-  -- the search's answer is this, after so many scans and turns
-  pub record Searched (half : Option HalfMatch) (slots : Slots) (scans turns : ℕ) : Type 0 where
-    pub restarts : ℕ
-    pub path : Option (List Pair)
-    pub answers : IsSearchAnswer nfa LeftmostFirst false x restarts path
-    pub pattern_is : option_map (λ h. (half_found_of h).pattern) half ≡ option_and_then (path_pattern nfa) path
-    pub slots_are : slots ≡ slot_row nfa (length slots) path
-    pub scans_are : scans ≡ restarts + 1
-    pub turns_reach : option_map_or length path 0 ≤ turns
+  -- what the search from all starts comes to, in so many turns
+  abbrev pub StartsGive : Option HalfMatch → Slots → ℕ → Type 0
+  StartsGive None slots turns = IsScanAnswer nfa x LeftmostFirst false None
+  StartsGive (Some half) slots turns = GivesPath nfa LeftmostFirst false x half slots turns

@@ -1,3 +1,4 @@
+//! What a backtracker writes while it searches, and keeps for the next search.
 ghost use Rattle.std.specs.Prelude.{◌≡◌, IfOk, IsOkUnless};
 ghost use Rattle.nfa_backtrack.specs.Backtrack.{unused, memory_of};
 
@@ -35,7 +36,17 @@ impl Model for Cache {
 
     ghost Value = { Work };
 
-    ghost view = { λ c. record { scans = c.scratch.scans; turns = c.scratch.visited.turns; frames = length c.scratch.stack.items; blocks = length c.scratch.visited.bits / 64; slots = length c.slots.items; answered = c.answered; refused = c.refused; all_scans = c.past_scans + c.scratch.scans; all_turns = c.past_turns + c.scratch.visited.turns } };
+    ghost view = { λ c. record {
+      scans = c.scratch.scans;
+      turns = c.scratch.visited.turns;
+      frames = length c.scratch.stack.items;
+      blocks = length c.scratch.visited.bits / 64;
+      slots = length c.slots.items;
+      answered = c.answered;
+      refused = c.refused;
+      all_scans = c.past_scans + c.scratch.scans;
+      all_turns = c.past_turns + c.scratch.visited.turns;
+    } };
 }
 
 impl Cache {

@@ -1,19 +1,25 @@
-ghost use Rattle.std.specs.Prelude.{◌≡◌, ◌↔◌, ◌⊎◌, ◌+◌, ◌*◌, ◌/◌, ◌<◌, ◌≤◌, ◌^◌, None, Ok, length, vec_len, replicate, option_map, All, IfOk, OnOk, IfErr, OnErr, IsErrOf, IsOkUnless, IsTrue, false, IfSome};
+//! The backtracker: its makers, what it shows, and its searches.
+ghost use Rattle.std.specs.Prelude.{◌≡◌, ◌↔◌, ◌⊎◌, ◌+◌, ◌*◌, ◌/◌, ◌<◌, ◌≤◌, ◌^◌, None, Ok, length, vec_len, replicate};
+ghost use Rattle.std.specs.Prelude.{option_map, All, IfOk, OnOk, IfErr, OnErr, IsErrOf, IsOkUnless, IsTrue, false};
+ghost use Rattle.std.specs.Prelude.{IfSome};
 ghost use Rattle.regex_search_core.specs.Search.{search_of};
 ghost use Rattle.regex_search_core.specs.Groups.{slot_count};
 ghost use Rattle.regex_search_core.specs.Patterns.{number_of};
 ghost use Rattle.regex_search_core.specs.Found.{found_of, half_found_of};
 ghost use Rattle.regex_search_core.specs.declared.search.MatchKind.TheVariants.{LeftmostFirst};
 ghost use Rattle.thompson_nfa.specs.Simple.{always, never};
-ghost use Rattle.nfa_paths.specs.Paths.{span_len, turn_weight, scan_limit, IsAnswer, IsMatchAnswer, IsFoundAnswer, IsWork, IsWithinScans};
-ghost use Rattle.nfa_backtrack.specs.Walk.{scan_turns};
-ghost use Rattle.nfa_backtrack.specs.Backtrack.{IsTooLong, AddsWork, CountsAnswer, CountsRefusal, GrowsBlocks, refused_early, unused, capacity_of, rounded_bits, max_haystack_len_of, min_capacity_of};
+ghost use Rattle.nfa_paths.specs.Paths.{span_len, turn_weight, scan_limit, IsAnswer, IsMatchAnswer, IsFoundAnswer};
+ghost use Rattle.nfa_paths.specs.Paths.{IsWork, IsWithinScans};
+ghost use Rattle.nfa_paths.specs.Restarts.{scan_turns};
+ghost use Rattle.nfa_backtrack.specs.Backtrack.{IsTooLong, AddsWork, CountsAnswer, CountsRefusal, GrowsBlocks};
+ghost use Rattle.nfa_backtrack.specs.Backtrack.{refused_early, unused, capacity_of, rounded_bits, max_haystack_len_of};
+ghost use Rattle.nfa_backtrack.specs.Backtrack.{min_capacity_of};
 ghost use Rattle.nfa_search_base.specs.Lists.{IsInside, IsSlotInside};
 
 use crate::cache::Cache;
 use crate::config::{Builder, Config};
 use crate::scratch::Scratch;
-use crate::search::{search, unset};
+use crate::search::unset;
 use nfa_scanning::first_bytes::FirstBytes;
 use nfa_search_base::error::SearchError;
 use regex_search_core::{Captures, HalfMatch, Input, Match, NonMaxUsize, PatternID, Refused};
@@ -28,8 +34,8 @@ use thompson_nfa::{BuildError, NFA};
 #[derive(Debug, Drop)]
 pub struct BoundedBacktracker {
     config: Config,
-    first: FirstBytes,
-    nfa: NFA,
+    pub(super) first: FirstBytes,
+    pub(super) nfa: NFA,
 }
 
 impl Model for BoundedBacktracker {
@@ -222,19 +228,25 @@ impl BoundedBacktracker {
         input: &Input<'_>,
         slots: &mut [Option<NonMaxUsize>],
     ) -> Result<Option<PatternID>, SearchError>
-        ensures answer { IfOk result (λ pattern. IsAnswer self.now.nfa LeftmostFirst false (search_of input.now) (option_map number_of pattern) slots.new) }
+        ensures answer { IfOk result (λ pattern. IsAnswer self.now.nfa LeftmostFirst false (search_of input.now)
+            (option_map number_of pattern) slots.new) }
         ensures cleared { OnErr result (slots.new ≡ replicate (length slots.old) None) }
         ensures pattern { IfOk result (λ pattern. IfSome pattern (λ p. number_of p < length self.now.nfa.patterns)) }
         ensures inside { All (IsSlotInside (search_of input.now)) slots.new }
 
-        ensures too_long { IsErrOf result (SearchError.HaystackTooLong (span_len (search_of input.now))) ↔ IsTooLong self.now (search_of input.now) }
-        ensures errors { IfErr result (λ e. (e ≡ SearchError.Memory) ⊎ (e ≡ SearchError.HaystackTooLong (span_len (search_of input.now)))) }
+        ensures too_long { IsErrOf result (SearchError.HaystackTooLong (span_len (search_of input.now)))
+            ↔ IsTooLong self.now (search_of input.now) }
+        ensures errors { IfErr result (λ e. (e ≡ SearchError.Memory)
+            ⊎ (e ≡ SearchError.HaystackTooLong (span_len (search_of input.now)))) }
 
         // What was done for it: exactly one scan more than restarts, within stated bounds.
-        ensures work { OnOk result (IsWork self.now.nfa LeftmostFirst false (search_of input.now) cache.new.scans cache.new.turns) }
-        ensures within { OnErr result (IsWithinScans self.now.nfa LeftmostFirst false (search_of input.now) cache.new.scans) }
+        ensures work { OnOk result (IsWork self.now.nfa LeftmostFirst false (search_of input.now) cache.new.scans
+            cache.new.turns) }
+        ensures within { OnErr result (IsWithinScans self.now.nfa LeftmostFirst false (search_of input.now)
+            cache.new.scans) }
         ensures scans { cache.new.scans ≤ scan_limit self.now.nfa (search_of input.now) }
-        ensures turns { cache.new.turns ≤ cache.new.scans * ((1 + turn_weight self.now.nfa) * (span_len (search_of input.now) + 1)) }
+        ensures turns { cache.new.turns
+            ≤ cache.new.scans * ((1 + turn_weight self.now.nfa) * (span_len (search_of input.now) + 1)) }
         // It is counted once.
         ensures answered { OnOk result (CountsAnswer cache.old cache.new) }
         ensures refused { OnErr result (CountsRefusal cache.old cache.new) }
@@ -259,7 +271,7 @@ impl BoundedBacktracker {
                 len: input.get_span().len(),
             });
         }
-        let Ok(half) = search(&self.nfa, &self.first, input, scratch, slots) else {
+        let Ok(half) = self.search(input, scratch, slots) else {
             refused.tick();
             return Err(SearchError::Memory);
         };
@@ -276,17 +288,24 @@ impl BoundedBacktracker {
         cache: &mut Cache,
         input: Input<'h>,
     ) -> Result<Option<Match>, SearchError>
-        ensures answer { IfOk result (λ found. IsMatchAnswer self.now.nfa LeftmostFirst false (search_of input.entry) (option_map found_of found)) }
+        ensures answer { IfOk result (λ found. IsMatchAnswer self.now.nfa LeftmostFirst false (search_of input.entry)
+            (option_map found_of found)) }
         ensures inside { IfOk result (λ found. IfSome found (λ m. IsInside (search_of input.entry) (found_of m))) }
-        ensures pattern { IfOk result (λ found. IfSome found (λ m. (found_of m).pattern < length self.now.nfa.patterns)) }
+        ensures pattern { IfOk result (λ found. IfSome found
+            (λ m. (found_of m).pattern < length self.now.nfa.patterns)) }
 
-        ensures too_long { IsErrOf result (SearchError.HaystackTooLong (span_len (search_of input.entry))) ↔ IsTooLong self.now (search_of input.entry) }
-        ensures errors { IfErr result (λ e. (e ≡ SearchError.Memory) ⊎ (e ≡ SearchError.HaystackTooLong (span_len (search_of input.entry)))) }
+        ensures too_long { IsErrOf result (SearchError.HaystackTooLong (span_len (search_of input.entry)))
+            ↔ IsTooLong self.now (search_of input.entry) }
+        ensures errors { IfErr result (λ e. (e ≡ SearchError.Memory)
+            ⊎ (e ≡ SearchError.HaystackTooLong (span_len (search_of input.entry)))) }
 
-        ensures work { OnOk result (IsWork self.now.nfa LeftmostFirst false (search_of input.entry) cache.new.scans cache.new.turns) }
-        ensures within { OnErr result (IsWithinScans self.now.nfa LeftmostFirst false (search_of input.entry) cache.new.scans) }
+        ensures work { OnOk result (IsWork self.now.nfa LeftmostFirst false (search_of input.entry) cache.new.scans
+            cache.new.turns) }
+        ensures within { OnErr result (IsWithinScans self.now.nfa LeftmostFirst false (search_of input.entry)
+            cache.new.scans) }
         ensures scans { cache.new.scans ≤ scan_limit self.now.nfa (search_of input.entry) }
-        ensures turns { cache.new.turns ≤ cache.new.scans * ((1 + turn_weight self.now.nfa) * (span_len (search_of input.entry) + 1)) }
+        ensures turns { cache.new.turns
+            ≤ cache.new.scans * ((1 + turn_weight self.now.nfa) * (span_len (search_of input.entry) + 1)) }
         // It is counted once.
         ensures answered { OnOk result (CountsAnswer cache.old cache.new) }
         ensures refused { OnErr result (CountsRefusal cache.old cache.new) }
@@ -328,19 +347,23 @@ impl BoundedBacktracker {
         requires fits { length self.now.nfa.states * (span_len (search_of input.now) + 1) < 2 ^ 64 }
         requires counted { scratch.old.scans ≡ 0 }
         requires turned { scratch.old.visited.turns ≡ 0 }
-        ensures answer { IfOk result (λ found. IsMatchAnswer self.now.nfa LeftmostFirst false (search_of input.now) (option_map found_of found)) }
+        ensures answer { IfOk result (λ found. IsMatchAnswer self.now.nfa LeftmostFirst false (search_of input.now)
+            (option_map found_of found)) }
         ensures inside { IfOk result (λ found. IfSome found (λ m. IsInside (search_of input.now) (found_of m))) }
-        ensures pattern { IfOk result (λ found. IfSome found (λ m. (found_of m).pattern < length self.now.nfa.patterns)) }
-        ensures work { OnOk result (IsWork self.now.nfa LeftmostFirst false (search_of input.now) scratch.new.scans scratch.new.visited.turns) }
+        ensures pattern { IfOk result (λ found. IfSome found
+            (λ m. (found_of m).pattern < length self.now.nfa.patterns)) }
+        ensures work { OnOk result (IsWork self.now.nfa LeftmostFirst false (search_of input.now) scratch.new.scans
+            scratch.new.visited.turns) }
         ensures within { IsWithinScans self.now.nfa LeftmostFirst false (search_of input.now) scratch.new.scans }
-        ensures blocks { GrowsBlocks self.now.nfa (search_of input.now) (length scratch.old.visited.bits / 64) (length scratch.new.visited.bits / 64) }
+        ensures blocks { GrowsBlocks self.now.nfa (search_of input.now) (length scratch.old.visited.bits / 64)
+            (length scratch.new.visited.bits / 64) }
         ensures scans { scratch.new.scans ≤ scan_limit self.now.nfa (search_of input.now) }
         ensures turns { scratch.new.visited.turns ≤ scratch.new.scans * scan_turns self.now.nfa (search_of input.now) }
     {
         let slot_len = self.nfa.group_info().implicit_slot_len();
         grow(slots, slot_len)?;
         let slots = &mut slots.as_mut_slice()[..slot_len];
-        let Some(half) = search(&self.nfa, &self.first, input, scratch, slots)? else {
+        let Some(half) = self.search(input, scratch, slots)? else {
             return Ok(None);
         };
         Ok(Match::from_slots(half.pattern(), slots))
@@ -350,15 +373,21 @@ impl BoundedBacktracker {
     ///
     /// Errors are those of [`BoundedBacktracker::try_search_slots`].
     pub fn try_is_match<'h>(&self, cache: &mut Cache, input: Input<'h>) -> Result<bool, SearchError>
-        ensures answer { IfOk result (λ found. IsFoundAnswer self.now.nfa LeftmostFirst false (search_of input.entry) found) }
+        ensures answer { IfOk result (λ found. IsFoundAnswer self.now.nfa LeftmostFirst false (search_of input.entry)
+            found) }
 
-        ensures too_long { IsErrOf result (SearchError.HaystackTooLong (span_len (search_of input.entry))) ↔ IsTooLong self.now (search_of input.entry) }
-        ensures errors { IfErr result (λ e. (e ≡ SearchError.Memory) ⊎ (e ≡ SearchError.HaystackTooLong (span_len (search_of input.entry)))) }
+        ensures too_long { IsErrOf result (SearchError.HaystackTooLong (span_len (search_of input.entry)))
+            ↔ IsTooLong self.now (search_of input.entry) }
+        ensures errors { IfErr result (λ e. (e ≡ SearchError.Memory)
+            ⊎ (e ≡ SearchError.HaystackTooLong (span_len (search_of input.entry)))) }
 
-        ensures work { OnOk result (IsWork self.now.nfa LeftmostFirst false (search_of input.entry) cache.new.scans cache.new.turns) }
-        ensures within { OnErr result (IsWithinScans self.now.nfa LeftmostFirst false (search_of input.entry) cache.new.scans) }
+        ensures work { OnOk result (IsWork self.now.nfa LeftmostFirst false (search_of input.entry) cache.new.scans
+            cache.new.turns) }
+        ensures within { OnErr result (IsWithinScans self.now.nfa LeftmostFirst false (search_of input.entry)
+            cache.new.scans) }
         ensures scans { cache.new.scans ≤ scan_limit self.now.nfa (search_of input.entry) }
-        ensures turns { cache.new.turns ≤ cache.new.scans * ((1 + turn_weight self.now.nfa) * (span_len (search_of input.entry) + 1)) }
+        ensures turns { cache.new.turns
+            ≤ cache.new.scans * ((1 + turn_weight self.now.nfa) * (span_len (search_of input.entry) + 1)) }
         // It is counted once.
         ensures answered { OnOk result (CountsAnswer cache.old cache.new) }
         ensures refused { OnErr result (CountsRefusal cache.old cache.new) }

@@ -1,3 +1,4 @@
+//! A place in a search, and what is left to do there.
 ghost use Rattle.std.specs.Prelude.{◌≡◌};
 
 use regex_search_core::{NonMaxUsize, StateID};

@@ -1,3 +1,4 @@
+//! The stack, the marks and the count of scans of one search.
 use crate::frame::Frame;
 use crate::visited::Visited;
 use nfa_scanning::counter::Counter;

@@ -1,18 +1,22 @@
-ghost use Rattle.std.specs.Prelude.{◌≡◌, ℕ, ◌+◌, ◌-◌, ◌*◌, ◌/◌, ◌^◌, ◌<◌, ◌≤◌, [], None, Some, true, false, length, replicate, IfOk, IfSome, IfNone, OnErr};
+//! A search: a scan and, while its answer ends inside a character, further scans.
+ghost use Rattle.std.specs.Prelude.{◌≡◌, ℕ, ◌+◌, ◌-◌, ◌*◌, ◌/◌, ◌^◌, ◌<◌, ◌≤◌, [], None, Some, false, length};
+ghost use Rattle.std.specs.Prelude.{replicate};
+ghost use Rattle.std.specs.Prelude.{IfOk, IfSome, OnErr};
 ghost use Rattle.regex_search_core.specs.Found.{half_found_of};
-ghost use Rattle.regex_search_core.specs.Search.{search_of, is_anchored};
+ghost use Rattle.regex_search_core.specs.Search.{search_of};
 ghost use Rattle.regex_search_core.specs.declared.search.MatchKind.TheVariants.{LeftmostFirst};
-ghost use Rattle.nfa_paths.specs.Paths.{span_len, start_state, starts, pairs_from, is_utf8_empty, scan_limit, IsWithinScans};
+ghost use Rattle.nfa_paths.specs.Paths.{span_len, start_state, starts, pairs_from, scan_limit, IsWithinScans};
+ghost use Rattle.nfa_paths.specs.Restarts.{scan_turns, AreUnset, ScanGives, SearchGives};
 ghost use Rattle.nfa_scanning.specs.FirstBytes.{IsFirstBytes};
 ghost use Rattle.nfa_backtrack.specs.Backtrack.{GrowsBlocks};
-ghost use Rattle.nfa_backtrack.specs.Walk.{pair_of, HasRoom, IsPlace, Scans, Searched, scan_turns};
+ghost use Rattle.nfa_backtrack.specs.Walk.{pair_of, HasRoom, IsPlace, StartsGive};
 
-use crate::frame::{Frame, Place};
+use crate::engine::BoundedBacktracker;
+use crate::frame::Place;
 use crate::scratch::Scratch;
-use crate::visited::Visited;
 use crate::walk::walk;
 use nfa_scanning::first_bytes::FirstBytes;
-use nfa_scanning::starts::{next_start, skip_limit, start_limit, start_state};
+use nfa_scanning::starts::{may_end_at, next_start, skip_limit, start_limit, start_state};
 use regex_search_core::{HalfMatch, Input, NonMaxUsize, Refused, StateID};
 use thompson_nfa::NFA;
 
@@ -41,18 +45,19 @@ fn try_starts(
     nfa: &NFA,
     first: &FirstBytes,
     input: &Input<'_>,
-    stack: &mut Vec<Frame>,
-    visited: &mut Visited,
+    scratch: &mut Scratch,
     slots: &mut [Option<NonMaxUsize>],
 ) -> Result<Option<HalfMatch>, Refused>
     requires first { IsFirstBytes nfa.now first.now.may_begin }
-    requires room { HasRoom nfa.now (search_of input.now) visited.old.bits }
-    requires clear { visited.old.bits ≡ replicate (length visited.old.bits) false }
-    requires empty { stack.old.items ≡ [] }
+    requires room { HasRoom nfa.now (search_of input.now) scratch.old.visited.bits }
+    requires clear { scratch.old.visited.bits ≡ replicate (length scratch.old.visited.bits) false }
+    requires empty { scratch.old.stack.items ≡ [] }
     requires unset { slots.old ≡ replicate (length slots.old) None }
-    ensures size { length visited.new.bits ≡ length visited.old.bits }
-    ensures turns { visited.new.turns ≤ visited.old.turns + scan_turns nfa.now (search_of input.now) }
-    ensures answer { IfOk result (λ half. Scans nfa.now (search_of input.now) half slots.new (visited.new.turns - visited.old.turns)) }
+    ensures scans { scratch.new.scans ≡ scratch.old.scans }
+    ensures size { length scratch.new.visited.bits ≡ length scratch.old.visited.bits }
+    ensures turns { scratch.new.visited.turns ≤ scratch.old.visited.turns + scan_turns nfa.now (search_of input.now) }
+    ensures answer { IfOk result (λ half. StartsGive nfa.now (search_of input.now) half slots.new
+        (scratch.new.visited.turns - scratch.old.visited.turns)) }
 {
     if input.is_done() {
         return Ok(None);
@@ -65,7 +70,7 @@ fn try_starts(
     let mut at = next_start(first, input, input.start(), stop);
     while at < limit {
         let place = place_of(nfa, input, sid, at);
-        if let Some(half) = walk(nfa, input, place, stack, visited, slots)? {
+        if let Some(half) = walk(nfa, input, place, scratch, slots)? {
             return Ok(Some(half));
         }
         at = next_start(first, input, at + 1, stop);
@@ -86,16 +91,15 @@ fn scan(
     ensures scans { scratch.new.scans ≡ scratch.old.scans + 1 }
     ensures size { length scratch.new.visited.bits ≡ length scratch.old.visited.bits }
     ensures turns { scratch.new.visited.turns ≤ scratch.old.visited.turns + scan_turns nfa.now (search_of input.now) }
-    ensures answer { IfOk result (λ half. Scans nfa.now (search_of input.now) half slots.new (scratch.new.visited.turns - scratch.old.visited.turns)) }
-    ensures none { IfOk result (λ half. IfNone half (slots.new ≡ replicate (length slots.old) None)) }
+    ensures answer { IfOk result (λ half. ScanGives nfa.now LeftmostFirst false (search_of input.now) half slots.new
+        (scratch.new.visited.turns - scratch.old.visited.turns)) }
     ensures refused { OnErr result (slots.new ≡ replicate (length slots.old) None) }
 {
     scratch.scans.tick();
     unset(slots);
     scratch.stack.clear();
     scratch.visited.clear();
-    let Scratch { stack, visited, .. } = scratch;
-    match try_starts(nfa, first, input, stack, visited, slots) {
+    match try_starts(nfa, first, input, scratch, slots) {
         Ok(Some(half)) => Ok(Some(half)),
         Ok(None) => {
             unset(slots);
@@ -108,122 +112,92 @@ fn scan(
     }
 }
 
-/// A search whose scan is its answer.
-fn search_once(
-    nfa: &NFA,
-    first: &FirstBytes,
-    input: &Input<'_>,
-    scratch: &mut Scratch,
-    slots: &mut [Option<NonMaxUsize>],
-) -> Result<Option<HalfMatch>, Refused>
-    requires first { IsFirstBytes nfa.now first.now.may_begin }
-    requires room { HasRoom nfa.now (search_of input.now) scratch.old.visited.bits }
-    requires counted { scratch.old.scans ≡ 0 }
-    requires turned { scratch.old.visited.turns ≡ 0 }
-    requires mode { is_utf8_empty nfa.now ≡ false }
-    ensures answer { IfOk result (λ half. Searched nfa.now (search_of input.now) half slots.new scratch.new.scans scratch.new.visited.turns) }
-    ensures refused { OnErr result (slots.new ≡ replicate (length slots.old) None) }
-    ensures size { length scratch.new.visited.bits ≡ length scratch.old.visited.bits }
-    ensures scans { scratch.new.scans ≡ 1 }
-    ensures turns { scratch.new.visited.turns ≤ scan_turns nfa.now (search_of input.now) }
-{
-    scan(nfa, first, input, scratch, slots)
-}
-
-/// An anchored search whose answer counts only if it ends on a boundary.
-fn search_kept(
-    nfa: &NFA,
-    first: &FirstBytes,
-    input: &Input<'_>,
-    scratch: &mut Scratch,
-    slots: &mut [Option<NonMaxUsize>],
-) -> Result<Option<HalfMatch>, Refused>
-    requires first { IsFirstBytes nfa.now first.now.may_begin }
-    requires room { HasRoom nfa.now (search_of input.now) scratch.old.visited.bits }
-    requires counted { scratch.old.scans ≡ 0 }
-    requires turned { scratch.old.visited.turns ≡ 0 }
-    requires mode { is_utf8_empty nfa.now ≡ true }
-    requires anchored { is_anchored (search_of input.now).anchored ≡ true }
-    ensures answer { IfOk result (λ half. Searched nfa.now (search_of input.now) half slots.new scratch.new.scans scratch.new.visited.turns) }
-    ensures refused { OnErr result (slots.new ≡ replicate (length slots.old) None) }
-    ensures size { length scratch.new.visited.bits ≡ length scratch.old.visited.bits }
-    ensures scans { scratch.new.scans ≡ 1 }
-    ensures turns { scratch.new.visited.turns ≤ scan_turns nfa.now (search_of input.now) }
-{
-    let Some(half) = scan(nfa, first, input, scratch, slots)? else {
-        return Ok(None);
-    };
-    if input.is_char_boundary(half.offset()) {
-        return Ok(Some(half));
+impl BoundedBacktracker {
+    /// One scan of this engine.
+    #[inline(always)]
+    fn scan(
+        &self,
+        input: &Input<'_>,
+        scratch: &mut Scratch,
+        slots: &mut [Option<NonMaxUsize>],
+    ) -> Result<Option<HalfMatch>, Refused>
+        requires { HasRoom self.now.nfa (search_of input.now) scratch.old.visited.bits }
+        ensures scans { scratch.new.scans ≡ scratch.old.scans + 1 }
+        ensures size { length scratch.new.visited.bits ≡ length scratch.old.visited.bits }
+        ensures turns { scratch.new.visited.turns
+            ≤ scratch.old.visited.turns + scan_turns self.now.nfa (search_of input.now) }
+        ensures answer { IfOk result (λ half. ScanGives self.now.nfa LeftmostFirst false (search_of input.now) half
+            slots.new (scratch.new.visited.turns - scratch.old.visited.turns)) }
+        ensures refused { OnErr result (slots.new ≡ replicate (length slots.old) None) }
+    {
+        scan(&self.nfa, &self.first, input, scratch, slots)
     }
-    unset(slots);
-    Ok(None)
-}
 
-/// Scans again, each time from one byte further on, while the answer ends inside a character.
-fn search_whole(
-    nfa: &NFA,
-    first: &FirstBytes,
-    input: &Input<'_>,
-    scratch: &mut Scratch,
-    slots: &mut [Option<NonMaxUsize>],
-) -> Result<Option<HalfMatch>, Refused>
-    requires first { IsFirstBytes nfa.now first.now.may_begin }
-    requires room { HasRoom nfa.now (search_of input.now) scratch.old.visited.bits }
-    requires counted { scratch.old.scans ≡ 0 }
-    requires turned { scratch.old.visited.turns ≡ 0 }
-    requires mode { is_utf8_empty nfa.now ≡ true }
-    requires anchored { is_anchored (search_of input.now).anchored ≡ false }
-    ensures answer { IfOk result (λ half. Searched nfa.now (search_of input.now) half slots.new scratch.new.scans scratch.new.visited.turns) }
-    ensures refused { OnErr result (slots.new ≡ replicate (length slots.old) None) }
-    ensures within { IsWithinScans nfa.now LeftmostFirst false (search_of input.now) scratch.new.scans }
-    ensures size { length scratch.new.visited.bits ≡ length scratch.old.visited.bits }
-    ensures scans { scratch.new.scans ≤ scan_limit nfa.now (search_of input.now) }
-    ensures turns { scratch.new.visited.turns ≤ scratch.new.scans * scan_turns nfa.now (search_of input.now) }
-{
-    let mut search = *input;
-    loop {
-        let Some(half) = scan(nfa, first, &search, scratch, slots)? else {
-            return Ok(None);
-        };
-        if input.is_char_boundary(half.offset()) {
-            return Ok(Some(half));
+    /// Scans and, while the answer ends inside a character, scans again, each time from one byte further on. Only an
+    /// NFA that matches the empty text and whose matches are whole characters has such answers; an anchored search is
+    /// over with the first.
+    fn search_from(
+        &self,
+        input: &Input<'_>,
+        scratch: &mut Scratch,
+        slots: &mut [Option<NonMaxUsize>],
+    ) -> Result<Option<HalfMatch>, Refused>
+        requires room { HasRoom self.now.nfa (search_of input.now) scratch.old.visited.bits }
+        requires counted { scratch.old.scans ≡ 0 }
+        requires turned { scratch.old.visited.turns ≡ 0 }
+        ensures answer { IfOk result (λ half. SearchGives self.now.nfa LeftmostFirst false (search_of input.now) half
+            slots.new scratch.new.scans scratch.new.visited.turns) }
+        ensures refused { OnErr result (slots.new ≡ replicate (length slots.old) None) }
+        ensures within { IsWithinScans self.now.nfa LeftmostFirst false (search_of input.now) scratch.new.scans }
+        ensures size { length scratch.new.visited.bits ≡ length scratch.old.visited.bits }
+        ensures scans { scratch.new.scans ≤ scan_limit self.now.nfa (search_of input.now) }
+        ensures turns { scratch.new.visited.turns
+            ≤ scratch.new.scans * scan_turns self.now.nfa (search_of input.now) }
+    {
+        let mut search = *input;
+        loop {
+            let Some(half) = self.scan(&search, scratch, slots)? else {
+                return Ok(None);
+            };
+            if may_end_at(self.get_nfa(), input, half.offset()) {
+                return Ok(Some(half));
+            }
+            if input.get_anchored().is_anchored() {
+                unset(slots);
+                return Ok(None);
+            }
+            let start = search.start() + 1;
+            search.set_start(start);
         }
-        let start = search.start() + 1;
-        search.set_start(start);
     }
-}
 
-/// The answer of a search that is not too long.
-pub fn search(
-    nfa: &NFA,
-    first: &FirstBytes,
-    input: &Input<'_>,
-    scratch: &mut Scratch,
-    slots: &mut [Option<NonMaxUsize>],
-) -> Result<Option<HalfMatch>, Refused>
-    requires first { IsFirstBytes nfa.now first.now.may_begin }
-    requires fits { length nfa.now.states * (span_len (search_of input.now) + 1) < 2 ^ 64 }
-    requires counted { scratch.old.scans ≡ 0 }
-    requires turned { scratch.old.visited.turns ≡ 0 }
-    ensures answer { IfOk result (λ half. Searched nfa.now (search_of input.now) half slots.new scratch.new.scans scratch.new.visited.turns) }
-    ensures refused { OnErr result (slots.new ≡ replicate (length slots.old) None) }
-    ensures pattern { IfOk result (λ half. IfSome half (λ h. (half_found_of h).pattern < length nfa.now.patterns)) }
-    ensures within { IsWithinScans nfa.now LeftmostFirst false (search_of input.now) scratch.new.scans }
-    ensures blocks { GrowsBlocks nfa.now (search_of input.now) (length scratch.old.visited.bits / 64) (length scratch.new.visited.bits / 64) }
-    ensures scans { scratch.new.scans ≤ scan_limit nfa.now (search_of input.now) }
-    ensures turns { scratch.new.visited.turns ≤ scratch.new.scans * scan_turns nfa.now (search_of input.now) }
-{
-    let pairs = nfa.states().len() * (input.get_span().len() + 1);
-    if let Err(refused) = scratch.visited.reserve(pairs) {
-        unset(slots);
-        return Err(refused);
-    }
-    if !(nfa.has_empty() && nfa.is_utf8()) {
-        search_once(nfa, first, input, scratch, slots)
-    } else if input.get_anchored().is_anchored() {
-        search_kept(nfa, first, input, scratch, slots)
-    } else {
-        search_whole(nfa, first, input, scratch, slots)
+    /// The answer of a search that is not too long.
+    pub(super) fn search(
+        &self,
+        input: &Input<'_>,
+        scratch: &mut Scratch,
+        slots: &mut [Option<NonMaxUsize>],
+    ) -> Result<Option<HalfMatch>, Refused>
+        requires fits { length self.now.nfa.states * (span_len (search_of input.now) + 1) < 2 ^ 64 }
+        requires counted { scratch.old.scans ≡ 0 }
+        requires turned { scratch.old.visited.turns ≡ 0 }
+        ensures answer { IfOk result (λ half. SearchGives self.now.nfa LeftmostFirst false (search_of input.now) half
+            slots.new scratch.new.scans scratch.new.visited.turns) }
+        ensures refused { OnErr result (slots.new ≡ replicate (length slots.old) None) }
+        ensures pattern { IfOk result (λ half. IfSome half (λ h.
+            (half_found_of h).pattern < length self.now.nfa.patterns)) }
+        ensures within { IsWithinScans self.now.nfa LeftmostFirst false (search_of input.now) scratch.new.scans }
+        ensures blocks { GrowsBlocks self.now.nfa (search_of input.now) (length scratch.old.visited.bits / 64)
+            (length scratch.new.visited.bits / 64) }
+        ensures scans { scratch.new.scans ≤ scan_limit self.now.nfa (search_of input.now) }
+        ensures turns { scratch.new.visited.turns
+            ≤ scratch.new.scans * scan_turns self.now.nfa (search_of input.now) }
+    {
+        let pairs = self.nfa.states().len() * (input.get_span().len() + 1);
+        if let Err(refused) = scratch.visited.reserve(pairs) {
+            unset(slots);
+            return Err(refused);
+        }
+        self.search_from(input, scratch, slots)
     }
 }

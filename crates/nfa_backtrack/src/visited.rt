@@ -1,4 +1,6 @@
-ghost use Rattle.std.specs.Prelude.{◌≡◌, ℕ, ◌+◌, ◌/◌, ◌<◌, ◌≤◌, max, [], true, false, length, replicate, slice_index, slice_index_or, slice_set, IfOk, OnOk};
+//! The marks of a search, one bit for each pair of a state and a position.
+ghost use Rattle.std.specs.Prelude.{◌≡◌, ℕ, ◌+◌, ◌/◌, ◌<◌, ◌≤◌, max, [], true, false, length, replicate, slice_index};
+ghost use Rattle.std.specs.Prelude.{slice_index_or, slice_set, IfOk, OnOk};
 
 use nfa_scanning::counter::Counter;
 use regex_search_core::Refused;
@@ -103,8 +105,10 @@ impl Visited {
     pub fn insert(&mut self, bit: usize) -> bool
         requires { bit < length self.old.bits }
         ensures turns { self.new.turns ≡ self.old.turns + 1 }
-        ensures fresh { result ≡ true → (slice_index_or self.old.bits bit true ≡ false) × (self.new.bits ≡ slice_set self.old.bits bit true) }
-        ensures seen { result ≡ false → (slice_index_or self.old.bits bit false ≡ true) × (self.new.bits ≡ self.old.bits) }
+        ensures fresh { result ≡ true → (slice_index_or self.old.bits bit true ≡ false)
+            × (self.new.bits ≡ slice_set self.old.bits bit true) }
+        ensures seen { result ≡ false → (slice_index_or self.old.bits bit false ≡ true)
+            × (self.new.bits ≡ self.old.bits) }
     {
         self.turns.tick();
         let index = bit / BLOCK_BITS;

@@ -1,4 +1,7 @@
-ghost use Rattle.std.specs.Prelude.{◌≡◌, ◌+◌, ◌*◌, ◌<◌, ◌≤◌, [], ◌∷◌, ◌++◌, None, Some, true, List, length, map, reverse, drop, slice_get, slice_index_or, slice_set, All, IfOk, OnOk, option_and_then, sum};
+//! A walk: the search from one start, turn by turn, past what is marked.
+ghost use Rattle.std.specs.Prelude.{◌≡◌, ◌+◌, ◌*◌, ◌<◌, ◌≤◌, [], ◌∷◌, ◌++◌, None, Some, true, false, List, length, map};
+ghost use Rattle.std.specs.Prelude.{reverse, drop, slice_get, slice_index_or, slice_set, All, IfOk, OnOk};
+ghost use Rattle.std.specs.Prelude.{option_and_then, sum};
 ghost use Rattle.std.specs.List.{sum_by};
 ghost use Rattle.std.specs.Option.{ForSome};
 ghost use Rattle.regex_search_core.specs.Search.{search_of};
@@ -11,10 +14,14 @@ ghost use Rattle.nfa_paths.specs.Exploring.{Item};
 ghost use Rattle.nfa_paths.specs.Turns.{marked_sum};
 ghost use Rattle.nfa_backtrack.specs.Begin.{Begins, IsPutBack};
 ghost use Rattle.nfa_backtrack.specs.Bits.{Marks};
-ghost use Rattle.nfa_backtrack.specs.Walk.{pair_of, work_onto, restoring, move_of, tries, tries_of_move, tries_of_place, tries_of_turn, with_place, HasSlot, Unwinds, IsPlace, IsPlaceOr, IsWithin, HasRoom, Paid, Follows, Goes, Advances, Walks, weights};
+ghost use Rattle.nfa_backtrack.specs.Walk.{pair_of, work_onto, restoring, move_of, tries, tries_of_move};
+ghost use Rattle.nfa_backtrack.specs.Walk.{tries_of_place, tries_of_turn, with_place, HasSlot, Unwinds, IsPlace};
+ghost use Rattle.nfa_backtrack.specs.Walk.{IsPlaceOr, IsWithin, HasRoom, Paid, Follows, Goes, Advances, Walks, weights};
+ghost use Rattle.nfa_backtrack.specs.Walk.{Taken, WasMarked};
 ghost use Rattle.nfa_backtrack.specs.declared.frame.Frame.TheVariants.{Step};
 
 use crate::frame::{Frame, Place};
+use crate::scratch::Scratch;
 use crate::visited::Visited;
 use nfa_scanning::transitions::{byte_at, dense_target, range_target, sparse_target};
 use regex_search_core::{HalfMatch, Input, NonMaxUsize, PatternID, Refused, StateID};
@@ -82,7 +89,8 @@ fn assertion_holds(look: Look, haystack: &[u8], at: usize) -> bool
 
 /// Puts off all alternatives but the first, the earliest on top.
 fn put_off(stack: &mut Vec<Frame>, alternates: &[StateID], place: Place) -> Result<(), Refused>
-    ensures { OnOk result (stack.new.items ≡ stack.old.items ++ map (λ sid. Step sid place.at place.row) (reverse (drop 1 alternates.now))) }
+    ensures { OnOk result (stack.new.items
+        ≡ stack.old.items ++ map (λ sid. Step sid place.at place.row) (reverse (drop 1 alternates.now))) }
 {
     let mut left = alternates.len();
     while left > 1 {
@@ -102,7 +110,8 @@ fn save(
 ) -> Result<(), Refused>
     requires slot { slot < length slots.old }
     requires at { at < usize.MAX }
-    ensures stack { OnOk result (stack.new.items ≡ stack.old.items ++ restoring slot (slice_index_or slots.old slot None) ∷ []) }
+    ensures stack { OnOk result (stack.new.items
+        ≡ stack.old.items ++ restoring slot (slice_index_or slots.old slot None) ∷ []) }
     ensures slots { OnOk result (slots.new ≡ slice_set slots.old slot (Some at)) }
 {
     push_restoring(stack, slot, slots[slot])?;
@@ -138,6 +147,19 @@ pub struct Begun {
     slot: Option<usize>,
 }
 
+/// Tries to mark the place, and says whether it was not marked before. This is one turn.
+#[inline(always)]
+fn mark(nfa: &NFA, input: &Input<'_>, place: Place, visited: &mut Visited) -> bool
+    requires place { IsPlace nfa.now (search_of input.now) place }
+    requires room { HasRoom nfa.now (search_of input.now) visited.old.bits }
+    ensures turns { visited.new.turns ≡ visited.old.turns + 1 }
+    ensures size { length visited.new.bits ≡ length visited.old.bits }
+    ensures taken { result ≡ true → Taken nfa.now (search_of input.now) (pair_of place) visited.old visited.new }
+    ensures seen { result ≡ false → WasMarked nfa.now (search_of input.now) (pair_of place) visited.old visited.new }
+{
+    visited.insert(place.row + place.sid.as_usize())
+}
+
 /// One turn: tries to mark the place, and says where it leads.
 #[inline(always)]
 fn step(
@@ -145,22 +167,24 @@ fn step(
     states: &[State],
     input: &Input<'_>,
     place: Place,
-    stack: &mut Vec<Frame>,
-    visited: &mut Visited,
+    scratch: &mut Scratch,
     slots: &mut [Option<NonMaxUsize>],
 ) -> Result<Move, Refused>
     requires states { map node_of states.now ≡ nfa.now.states }
     requires valid { IsAutomaton nfa.now }
     requires place { IsPlace nfa.now (search_of input.now) place }
-    requires room { HasRoom nfa.now (search_of input.now) visited.old.bits }
-    requires within { All (IsWithin nfa.now (search_of input.now) (length slots.old)) stack.old.items }
-    ensures turns { visited.new.turns ≡ visited.old.turns + 1 }
-    ensures size { length visited.new.bits ≡ length visited.old.bits }
-    ensures paid { IfOk result (λ move. Paid nfa.now (search_of input.now) (length slots.old) stack.old.items visited.old.bits stack.new.items visited.new.bits (tries_of_move move)) }
-    ensures goes { IfOk result (λ move. Goes nfa.now (search_of input.now) (pair_of place) move stack.old.items visited.old slots.old stack.new.items visited.new slots.new) }
+    requires room { HasRoom nfa.now (search_of input.now) scratch.old.visited.bits }
+    requires within { All (IsWithin nfa.now (search_of input.now) (length slots.old)) scratch.old.stack.items }
+    ensures turns { scratch.new.visited.turns ≡ scratch.old.visited.turns + 1 }
+    ensures scans { scratch.new.scans ≡ scratch.old.scans }
+    ensures size { length scratch.new.visited.bits ≡ length scratch.old.visited.bits }
+    ensures paid { IfOk result (λ move. Paid nfa.now (search_of input.now) (length slots.old) scratch.old.stack.items
+        scratch.old.visited.bits scratch.new.stack.items scratch.new.visited.bits (tries_of_move move)) }
+    ensures goes { IfOk result (λ move. Goes nfa.now (search_of input.now) (pair_of place) move scratch.old.stack.items
+        scratch.old.visited slots.old scratch.new.stack.items scratch.new.visited slots.new) }
 {
-    let Place { sid, at, row } = place;
-    if !visited.insert(row + sid.as_usize()) {
+    let Place { sid, at, .. } = place;
+    if !mark(nfa, input, place, &mut scratch.visited) {
         return Ok(Move::Stuck);
     }
     match state_at(nfa, states, sid) {
@@ -187,18 +211,18 @@ fn step(
             let Some(first) = alternates.first() else {
                 return Ok(Move::Stuck);
             };
-            put_off(stack, alternates, place)?;
+            put_off(&mut scratch.stack, alternates, place)?;
             Ok(Move::Go(place.to(*first)))
         }
         State::BinaryUnion { alt1, alt2 } => {
             // Read before the stack is written: the compiler then reads each arm's target in its arm.
             let preferred = place.to(*alt1);
-            stack.push(place.later(*alt2))?;
+            scratch.stack.push(place.later(*alt2))?;
             Ok(Move::Go(preferred))
         }
         State::Capture { next, slot } => {
             if *slot < slots.len() {
-                save(stack, slots, *slot, at)?;
+                save(&mut scratch.stack, slots, *slot, at)?;
             }
             Ok(Move::Go(place.to(*next)))
         }
@@ -230,8 +254,11 @@ fn unwind(frame: Frame, slots: &mut [Option<NonMaxUsize>]) -> Option<Place>
 #[inline(always)]
 fn resume(stack: &mut Vec<Frame>, slots: &mut [Option<NonMaxUsize>]) -> Option<Place>
     requires { All (HasSlot (length slots.old)) stack.old.items }
-    ensures follows { (nfa : Automaton) (x : Search) (marks : Marks) (work : List Item) → Follows nfa x marks (work_onto stack.old.items work) slots.old marks (with_place result (work_onto stack.new.items work)) slots.new }
-    ensures within { (nfa : Automaton) (x : Search) → All (IsWithin nfa x (length slots.old)) stack.old.items → All (IsWithin nfa x (length slots.old)) stack.new.items × IsPlaceOr nfa x result }
+    ensures follows { (nfa : Automaton) (x : Search) (marks : Marks) (work : List Item)
+        → Follows nfa x marks (work_onto stack.old.items work) slots.old marks
+        (with_place result (work_onto stack.new.items work)) slots.new }
+    ensures within { (nfa : Automaton) (x : Search) → All (IsWithin nfa x (length slots.old)) stack.old.items
+        → All (IsWithin nfa x (length slots.old)) stack.new.items × IsPlaceOr nfa x result }
     ensures tried { sum_by tries stack.new.items + tries_of_place result ≡ sum_by tries stack.old.items }
     ensures over { result ≡ None → stack.new.items ≡ [] }
 {
@@ -250,25 +277,28 @@ fn advance(
     states: &[State],
     input: &Input<'_>,
     place: Place,
-    stack: &mut Vec<Frame>,
-    visited: &mut Visited,
+    scratch: &mut Scratch,
     slots: &mut [Option<NonMaxUsize>],
 ) -> Result<Turn, Refused>
     requires states { map node_of states.now ≡ nfa.now.states }
     requires valid { IsAutomaton nfa.now }
     requires place { IsPlace nfa.now (search_of input.now) place }
-    requires room { HasRoom nfa.now (search_of input.now) visited.old.bits }
-    requires within { All (IsWithin nfa.now (search_of input.now) (length slots.old)) stack.old.items }
-    ensures turns { visited.new.turns ≡ visited.old.turns + 1 }
-    ensures size { length visited.new.bits ≡ length visited.old.bits }
-    ensures paid { IfOk result (λ turn. Paid nfa.now (search_of input.now) (length slots.old) stack.old.items visited.old.bits stack.new.items visited.new.bits (tries_of_turn turn)) }
-    ensures advances { IfOk result (λ turn. Advances nfa.now (search_of input.now) (pair_of place) turn stack.old.items visited.old slots.old stack.new.items visited.new slots.new) }
+    requires room { HasRoom nfa.now (search_of input.now) scratch.old.visited.bits }
+    requires within { All (IsWithin nfa.now (search_of input.now) (length slots.old)) scratch.old.stack.items }
+    ensures turns { scratch.new.visited.turns ≡ scratch.old.visited.turns + 1 }
+    ensures scans { scratch.new.scans ≡ scratch.old.scans }
+    ensures size { length scratch.new.visited.bits ≡ length scratch.old.visited.bits }
+    ensures paid { IfOk result (λ turn. Paid nfa.now (search_of input.now) (length slots.old) scratch.old.stack.items
+        scratch.old.visited.bits scratch.new.stack.items scratch.new.visited.bits (tries_of_turn turn)) }
+    ensures advances { IfOk result
+        (λ turn. Advances nfa.now (search_of input.now) (pair_of place) turn scratch.old.stack.items scratch.old.visited
+        slots.old scratch.new.stack.items scratch.new.visited slots.new) }
 {
     let at = place.at;
-    match step(nfa, states, input, place, stack, visited, slots)? {
+    match step(nfa, states, input, place, scratch, slots)? {
         Move::Go(next) => Ok(Turn::On(next)),
         Move::Matched(pattern) => Ok(Turn::Ended(HalfMatch::new(pattern, at))),
-        Move::Stuck => match resume(stack, slots) {
+        Move::Stuck => match resume(&mut scratch.stack, slots) {
             Some(next) => Ok(Turn::On(next)),
             None => Ok(Turn::Over),
         },
@@ -305,14 +335,15 @@ fn begin(
     requires place { IsPlace nfa.now (search_of input.now) place }
     requires room { HasRoom nfa.now (search_of input.now) visited.old.bits }
     ensures size { length visited.new.bits ≡ length visited.old.bits }
-    ensures begins { Begins nfa.now (search_of input.now) (pair_of place) result visited.old slots.old visited.new slots.new }
+    ensures begins { Begins nfa.now (search_of input.now) (pair_of place) result visited.old slots.old visited.new
+        slots.new }
 {
     match state_at(nfa, nfa.states(), place.sid) {
         State::Capture { next, slot } => {
             if !is_unset(slots, *slot) {
                 return Some(Begun { place, slot: None });
             }
-            if !visited.insert(place.row + place.sid.as_usize()) {
+            if !mark(nfa, input, place, visited) {
                 return None;
             }
             write(slots, *slot, place.at);
@@ -343,20 +374,22 @@ pub fn walk(
     nfa: &NFA,
     input: &Input<'_>,
     start: Place,
-    stack: &mut Vec<Frame>,
-    visited: &mut Visited,
+    scratch: &mut Scratch,
     slots: &mut [Option<NonMaxUsize>],
 ) -> Result<Option<HalfMatch>, Refused>
     requires place { IsPlace nfa.now (search_of input.now) start }
-    requires room { HasRoom nfa.now (search_of input.now) visited.old.bits }
-    requires empty { stack.old.items ≡ [] }
-    ensures size { length visited.new.bits ≡ length visited.old.bits }
-    ensures bounded { visited.new.turns + marked_sum (weights nfa.now (search_of input.now)) visited.old.bits ≤ visited.old.turns + 1 + sum (weights nfa.now (search_of input.now)) }
-    ensures walks { IfOk result (λ half. Walks nfa.now (search_of input.now) (pair_of start) half visited.old slots.old stack.new.items visited.new slots.new) }
+    requires room { HasRoom nfa.now (search_of input.now) scratch.old.visited.bits }
+    requires empty { scratch.old.stack.items ≡ [] }
+    ensures scans { scratch.new.scans ≡ scratch.old.scans }
+    ensures size { length scratch.new.visited.bits ≡ length scratch.old.visited.bits }
+    ensures bounded { scratch.new.visited.turns + marked_sum (weights nfa.now (search_of input.now))
+        scratch.old.visited.bits ≤ scratch.old.visited.turns + 1 + sum (weights nfa.now (search_of input.now)) }
+    ensures walks { IfOk result (λ half. Walks nfa.now (search_of input.now) (pair_of start) half scratch.old.visited
+        slots.old scratch.new.stack.items scratch.new.visited slots.new) }
 {
-    match begin(nfa, input, start, visited, slots) {
+    match begin(nfa, input, start, &mut scratch.visited, slots) {
         None => Ok(None),
-        Some(begun) => match walk_on(nfa, input, begun.place, stack, visited, slots)? {
+        Some(begun) => match walk_on(nfa, input, begun.place, scratch, slots)? {
             Some(half) => Ok(Some(half)),
             None => {
                 put_back(begun.slot, slots);
@@ -372,23 +405,25 @@ fn walk_on(
     nfa: &NFA,
     input: &Input<'_>,
     start: Place,
-    stack: &mut Vec<Frame>,
-    visited: &mut Visited,
+    scratch: &mut Scratch,
     slots: &mut [Option<NonMaxUsize>],
 ) -> Result<Option<HalfMatch>, Refused>
     requires place { IsPlace nfa.now (search_of input.now) start }
-    requires room { HasRoom nfa.now (search_of input.now) visited.old.bits }
-    requires empty { stack.old.items ≡ [] }
-    ensures size { length visited.new.bits ≡ length visited.old.bits }
-    ensures bounded { visited.new.turns + marked_sum (weights nfa.now (search_of input.now)) visited.old.bits ≤ visited.old.turns + 1 + sum (weights nfa.now (search_of input.now)) }
-    ensures walks { IfOk result (λ half. Walks nfa.now (search_of input.now) (pair_of start) half visited.old slots.old stack.new.items visited.new slots.new) }
+    requires room { HasRoom nfa.now (search_of input.now) scratch.old.visited.bits }
+    requires empty { scratch.old.stack.items ≡ [] }
+    ensures scans { scratch.new.scans ≡ scratch.old.scans }
+    ensures size { length scratch.new.visited.bits ≡ length scratch.old.visited.bits }
+    ensures bounded { scratch.new.visited.turns + marked_sum (weights nfa.now (search_of input.now))
+        scratch.old.visited.bits ≤ scratch.old.visited.turns + 1 + sum (weights nfa.now (search_of input.now)) }
+    ensures walks { IfOk result (λ half. Walks nfa.now (search_of input.now) (pair_of start) half scratch.old.visited
+        slots.old scratch.new.stack.items scratch.new.visited slots.new) }
 {
     // Both are read at each place. Held here, and not behind a reference, they need not be read again after each write.
     let states = nfa.states();
     let own_input = *input;
     let mut place = start;
     loop {
-        match advance(nfa, states, &own_input, place, stack, visited, slots)? {
+        match advance(nfa, states, &own_input, place, scratch, slots)? {
             Turn::On(next) => place = next,
             Turn::Ended(half) => return Ok(Some(half)),
             Turn::Over => return Ok(None),

@@ -16,3 +16,4 @@ pub mod InsideLemmas
 pub mod KnownLemmas
 pub mod OverlapLemmas
 pub mod TurnLemmas
+pub mod RestartLemmas

@@ -2,6 +2,7 @@ pub mod Graphs
 pub mod Paths
 pub mod Overlaps
 pub mod Known
+pub mod Restarts
 pub mod FirstPaths
 pub mod Exploring
 pub mod Kinds

@@ -1,3 +1,4 @@
+-- The lemmas on bytes, targets and counters.
 mod Made
 pub mod FirstLemmas
 pub mod TargetLemmas

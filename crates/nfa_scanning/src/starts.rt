@@ -1,8 +1,9 @@
-//! Where a search starts, and which starts it passes over.
-ghost use Rattle.std.specs.Prelude.{◌≡◌, ℕ, ◌+◌, ◌-◌, ◌<◌, ◌≤◌, Some, length, IfSome};
+//! Where a search starts, which starts it passes over, and where its answer may end.
+ghost use Rattle.std.specs.Prelude.{◌≡◌, ℕ, ◌+◌, ◌-◌, ◌<◌, ◌≤◌, Some, true, false, length, IfSome};
+ghost use Rattle.regex_search_core.specs.Boundary.{IsBoundary};
 ghost use Rattle.regex_search_core.specs.Search.{search_of};
 ghost use Rattle.thompson_nfa.specs.Automaton.{IsAutomaton};
-ghost use Rattle.nfa_paths.specs.Paths.{start_state, start_count, starts, pairs_from};
+ghost use Rattle.nfa_paths.specs.Paths.{start_state, start_count, starts, pairs_from, is_utf8_empty};
 ghost use Rattle.nfa_scanning.specs.FirstBytes.{IsRefused};
 
 use crate::first_bytes::FirstBytes;
@@ -66,4 +67,21 @@ pub fn next_start(first: &FirstBytes, input: &Input<'_>, from: usize, stop: usiz
         at += 1;
     }
     at
+}
+
+/// Whether an answer counts only if it ends on the boundary of a character: the NFA matches the empty text, and its
+/// matches are to be whole characters.
+pub fn is_utf8_empty(nfa: &NFA) -> bool
+    ensures { result ≡ is_utf8_empty nfa.now }
+{
+    nfa.has_empty() && nfa.is_utf8()
+}
+
+/// Whether an answer that ends at the position counts.
+pub fn may_end_at(nfa: &NFA, input: &Input<'_>, at: usize) -> bool
+    ensures counts { result ≡ true → is_utf8_empty nfa.now ≡ true → IsBoundary (search_of input.now).haystack at }
+    ensures splits { result ≡ false → is_utf8_empty nfa.now ≡ true }
+    ensures inside { result ≡ false → ¬ (IsBoundary (search_of input.now).haystack at) }
+{
+    !is_utf8_empty(nfa) || input.is_char_boundary(at)
 }

@@ -1,3 +1,4 @@
+-- At each start the answer from there is the answer from all starts, and the turns so far are bounded.
 use Rattle.std.proofs.Common.{◌≡◌, ◌+◌, ◌-◌, ◌≤◌, [], length, map}
 use Rattle.regex_search_core.specs.Search.{search_of}
 use Rattle.nfa_paths.specs.Paths.{starts, pairs_from}
@@ -8,13 +9,17 @@ use Rattle.nfa_backtrack.proofs.search.try_starts.Given as goal
 
 abbrev pub invariant-loop-at : goal.invariant-loop-at
 invariant-loop-at l = record {
-  follows : Follows l.nfa (search_of l.input) l.fn.visited (map Explore (starts l.nfa (search_of l.input))) l.fn.slots
-      l.visited (map Explore (pairs_from l.sid l.at (l.limit - l.at))) l.slots;
+  follows : Follows l.nfa (search_of l.input) l.fn.scratch.visited (map Explore (starts l.nfa (search_of l.input)))
+      l.fn.slots
+      l.scratch.visited (map Explore (pairs_from l.sid l.at (l.limit - l.at))) l.slots;
   low : (search_of l.input).start ≤ l.at;
   high : l.at ≤ (search_of l.input).end + 1;
-  size : length l.visited.bits ≡ length l.fn.visited.bits;
-  empty : l.stack.items ≡ [];
-  tried : l.visited.turns ≤ l.fn.visited.turns + (l.at - (search_of l.input).start) + marked_sum (weights l.nfa (search_of l.input)) l.visited.bits;
+  scans : l.scratch.scans ≡ l.fn.scratch.scans;
+  size : length l.scratch.visited.bits ≡ length l.fn.scratch.visited.bits;
+  empty : l.scratch.stack.items ≡ [];
+  tried : l.scratch.visited.turns
+      ≤ l.fn.scratch.visited.turns + (l.at - (search_of l.input).start) + marked_sum (weights l.nfa (search_of l.input))
+      l.scratch.visited.bits;
 }
 
 abbrev pub decreases-loop-at : goal.decreases-loop-at

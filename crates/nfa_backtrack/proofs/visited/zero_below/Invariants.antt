@@ -1,3 +1,4 @@
+-- The blocks so far are zero, the others as they were.
 use Rattle.std.proofs.Common.{◌≡◌, ℕ, ◌<◌, ◌≤◌, get_or}
 use Rattle.nfa_backtrack.proofs.visited.zero_below.Given as goal
 

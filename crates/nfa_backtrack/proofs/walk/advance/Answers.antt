@@ -1,3 +1,4 @@
+-- A turn that leads nowhere takes up what was put off last.
 use Rattle.std.proofs.Common.{◌∙◌, ap, arith, refl, sym}
 use Rattle.std.specs.Prelude.{Some}
 use Rattle.regex_search_core.specs.Found.{HalfFound}
@@ -22,11 +23,18 @@ pub returns-in-Some-clause-advances : goal.returns-in-Some-clause-advances
 returns-in-Some-clause-advances c =
     let paid = rw c.in-Stuck.is at c.in_ok-next.ensures.paid in
     let within = rw c.step.auto.slots at (c.in-Some.ensures.within c.args.nfa.now (search_of c.args.input.now)) in
-    let goes = rw c.in-Stuck.is at c.in_ok-next.ensures.goes in
-    ((within paid.within).1, λ work. Follows-then c.args.nfa.now (search_of c.args.input.now) (goes work) (c.in-Some.ensures.follows c.args.nfa.now (search_of c.args.input.now) c.step.new.visited work))
+    let goes = rw c.in-Stuck.is at c.in_ok-next.ensures.goes in (
+      (within paid.within).1,
+      λ work. Follows-then c.args.nfa.now (search_of c.args.input.now) (goes work)
+          (c.in-Some.ensures.follows c.args.nfa.now (search_of c.args.input.now) c.step.new.scratch.visited work),
+    )
 
 pub returns-in-None-clause-advances : goal.returns-in-None-clause-advances
 returns-in-None-clause-advances c =
     let goes = rw c.in-Stuck.is at c.in_ok-next.ensures.goes in
-    let over = c.in-None.ensures.over refl in
-    (over, λ work. Follows-then c.args.nfa.now (search_of c.args.input.now) (goes work) (rw over at (c.in-None.ensures.follows c.args.nfa.now (search_of c.args.input.now) c.step.new.visited work)))
+    let over = c.in-None.ensures.over refl in (
+      over,
+      λ work. Follows-then c.args.nfa.now (search_of c.args.input.now) (goes work)
+          (rw over at (c.in-None.ensures.follows c.args.nfa.now (search_of c.args.input.now) c.step.new.scratch.visited
+          work)),
+    )

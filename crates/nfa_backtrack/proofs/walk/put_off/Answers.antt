@@ -1,4 +1,6 @@
-use Rattle.std.proofs.Common.{◌≡◌, ◌≤◌, ◌++◌, ◌∙◌, ℕ, suc, zero, List, [], ◌∷◌, length, map, drop, reverse, refl, ap, arith}
+-- All alternatives but the first are put off.
+use Rattle.std.proofs.Common.{◌≡◌, ◌≤◌, ◌++◌, ◌∙◌, ℕ, suc, zero, List, [], ◌∷◌, length, map, drop, reverse, refl, ap}
+use Rattle.std.proofs.Common.{arith}
 use Rattle.nfa_backtrack.specs.declared.frame.Frame.TheVariants.{Step}
 use Rattle.nfa_backtrack.proofs.walk.put_off.Goals as goal
 
@@ -12,4 +14,5 @@ drop-low xs (suc (suc left)) low none = absurd (omega arith)
 pub returns : goal.returns
 returns c =
     c.loop-left.invariant.pushed
-    ∙ ap (λ es. c.args.stack.now.items ++ map (λ sid. Step sid c.args.place.at c.args.place.row) (reverse es)) (drop-low c.args.alternates.now c.loop-left.left c.loop-left-test.false c.loop-left.invariant.none)
+    ∙ ap (λ es. c.args.stack.now.items ++ map (λ sid. Step sid c.args.place.at c.args.place.row) (reverse es))
+    (drop-low c.args.alternates.now c.loop-left.left c.loop-left-test.false c.loop-left.invariant.none)

@@ -1,3 +1,4 @@
+-- The alternatives that were put off so far, the earliest on top.
 use Rattle.std.proofs.Common.{◌≡◌, ◌≤◌, ◌++◌, length, map, drop, reverse}
 use Rattle.nfa_backtrack.specs.declared.frame.Frame.TheVariants.{Step}
 use Rattle.nfa_backtrack.proofs.walk.put_off.Given as goal
@@ -6,7 +7,8 @@ abbrev pub invariant-loop-left : goal.invariant-loop-left
 invariant-loop-left l = record {
   inside : l.left ≤ length l.alternates;
   none : l.left ≡ 0 → length l.alternates ≡ 0;
-  pushed : l.stack.items ≡ l.fn.stack.items ++ map (λ sid. Step sid l.place.at l.place.row) (reverse (drop l.left l.alternates));
+  pushed : l.stack.items ≡ l.fn.stack.items ++ map (λ sid. Step sid l.place.at l.place.row)
+      (reverse (drop l.left l.alternates));
 }
 
 abbrev pub decreases-loop-left : goal.decreases-loop-left

@@ -1,3 +1,4 @@
+-- While frames are taken up, the answer stays what it was.
 use Rattle.std.proofs.Common.{◌≡◌, List, length}
 use Rattle.std.specs.Prelude.{All, vec_len}
 use Rattle.std.specs.List.{sum_by}
@@ -13,7 +14,8 @@ invariant-loop-frame l = record {
   slots : All (HasSlot (length l.slots)) l.stack.items;
   follows : (nfa : Automaton) (x : Search) (marks : Marks) (work : List Item)
       → Follows nfa x marks (work_onto l.fn.stack.items work) l.fn.slots marks (work_onto l.stack.items work) l.slots;
-  within : (nfa : Automaton) (x : Search) → All (IsWithin nfa x (length l.fn.slots)) l.fn.stack.items → All (IsWithin nfa x (length l.fn.slots)) l.stack.items;
+  within : (nfa : Automaton) (x : Search) → All (IsWithin nfa x (length l.fn.slots)) l.fn.stack.items
+      → All (IsWithin nfa x (length l.fn.slots)) l.stack.items;
   tried : sum_by tries l.stack.items ≡ sum_by tries l.fn.stack.items;
 }
 

@@ -1,3 +1,4 @@
+-- At each turn of a walk the answer from there is the answer of the walk, and what waits is paid for.
 use Rattle.std.proofs.Common.{◌≡◌, ◌+◌, ◌-◌, ◌≤◌, ◌∷◌, List, length, sum}
 use Rattle.std.specs.Prelude.{All}
 use Rattle.std.specs.List.{sum_by}
@@ -11,14 +12,20 @@ use Rattle.nfa_backtrack.proofs.walk.walk_on.Given as goal
 abbrev pub invariant-loop-next : goal.invariant-loop-next
 invariant-loop-next l = record {
   place : IsPlace l.nfa (search_of l.input) l.place;
-  size : length l.visited.bits ≡ length l.fn.visited.bits;
-  within : All (IsWithin l.nfa (search_of l.input) (length l.fn.slots)) l.stack.items;
-  follows : (work : List Item) → Follows l.nfa (search_of l.input) l.fn.visited (Explore (pair_of l.fn.start) ∷ work) l.fn.slots l.visited (Explore (pair_of l.place) ∷ work_onto l.stack.items work) l.slots;
-  tried : l.visited.turns + sum_by tries l.stack.items + 1 + marked_sum (weights l.nfa (search_of l.input)) l.fn.visited.bits
-      ≤ l.fn.visited.turns + 1 + marked_sum (weights l.nfa (search_of l.input)) l.visited.bits;
+  scans : l.scratch.scans ≡ l.fn.scratch.scans;
+  size : length l.scratch.visited.bits ≡ length l.fn.scratch.visited.bits;
+  within : All (IsWithin l.nfa (search_of l.input) (length l.fn.slots)) l.scratch.stack.items;
+  follows : (work : List Item) → Follows l.nfa (search_of l.input) l.fn.scratch.visited
+      (Explore (pair_of l.fn.start) ∷ work) l.fn.slots l.scratch.visited
+      (Explore (pair_of l.place) ∷ work_onto l.scratch.stack.items work) l.slots;
+  tried : l.scratch.visited.turns + sum_by tries l.scratch.stack.items + 1 + marked_sum
+      (weights l.nfa (search_of l.input)) l.fn.scratch.visited.bits
+      ≤ l.fn.scratch.visited.turns + 1 + marked_sum (weights l.nfa (search_of l.input)) l.scratch.visited.bits;
 }
 
 -- the places that wait, and the weight of what is not marked yet
 abbrev pub decreases-loop-next : goal.decreases-loop-next
 decreases-loop-next l =
-    sum_by tries l.stack.items + (sum (weights l.nfa (search_of l.input)) - marked_sum (weights l.nfa (search_of l.input)) l.visited.bits)
+    sum_by tries l.scratch.stack.items
+    + (sum (weights l.nfa (search_of l.input)) - marked_sum (weights l.nfa (search_of l.input))
+    l.scratch.visited.bits)

@@ -1,3 +1,4 @@
+-- The bytes so far are let through.
 use Rattle.std.proofs.Common.{ℕ, ◌<◌, ◌≤◌}
 use Rattle.nfa_scanning.specs.FirstBytes.{Admits, Grows}
 use Rattle.nfa_scanning.proofs.first_bytes.admit.Given as goal

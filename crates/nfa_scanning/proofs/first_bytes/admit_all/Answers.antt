@@ -1,3 +1,4 @@
+-- The bytes of each transition are let through.
 use Rattle.std.proofs.Common.{arith}
 use Rattle.nfa_scanning.proofs.FirstLemmas.{admits-first}
 use Rattle.nfa_scanning.proofs.first_bytes.admit_all.Goals as goal

@@ -1,3 +1,4 @@
+-- The transitions so far are let through.
 use Rattle.std.proofs.Common.{◌≡◌, ℕ, ◌<◌, get_or, true}
 use Rattle.thompson_nfa.specs.declared.state.Transition.{Transition}
 use Rattle.nfa_paths.specs.Paths.{holds_byte}

@@ -1,3 +1,4 @@
+-- What a state leads to without a byte is reached, and what it reads is let through.
 use Rattle.nfa_scanning.proofs.first_bytes.follow.Goals as goal
 
 pub returns-then-add-clause-below : goal.returns-then-add-clause-below

@@ -1,3 +1,4 @@
+-- Where all that is reached was followed, the table has the bytes that a match may begin with.
 use Rattle.std.proofs.Common.{◌<◌, arith}
 use Rattle.nfa_scanning.proofs.FirstLemmas.{IsReached-extends, covers-step, covers-all, IsFirstBytes-covered}
 use Rattle.nfa_scanning.proofs.first_bytes.follow_all.Goals as goal

@@ -1,3 +1,4 @@
+-- The states so far are followed, and all that were reached are states of the NFA.
 use Rattle.std.proofs.Common.{ℕ, ◌-◌, ◌<◌, ◌≤◌, get_or, length}
 use Rattle.nfa_paths.specs.Paths.{node_at}
 use Rattle.nfa_scanning.specs.FirstBytes.{IsReached, AreBelow, Covers}

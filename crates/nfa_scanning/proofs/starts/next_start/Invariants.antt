@@ -1,3 +1,4 @@
+-- The positions so far are passed over.
 use Rattle.std.proofs.Common.{◌≡◌, ℕ, ◌+◌, ◌-◌, ◌<◌, ◌≤◌}
 use Rattle.regex_search_core.specs.Search.{search_of}
 use Rattle.nfa_scanning.specs.FirstBytes.{IsRefused}

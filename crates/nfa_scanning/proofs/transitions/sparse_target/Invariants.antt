@@ -1,3 +1,4 @@
+-- No transition so far holds the byte.
 use Rattle.std.proofs.Common.{◌≡◌, drop}
 use Rattle.nfa_paths.specs.Paths.{first_target}
 use Rattle.nfa_scanning.proofs.transitions.sparse_target.Given as goal

@@ -1,17 +1,23 @@
+-- The match of a search, its pattern, and where it lies.
+use Rattle.std.specs.Prelude.{false}
 use Rattle.std.proofs.Common.{◌≡◌, ◌∙◌, ◌*◌, ap, arith, length}
 use Rattle.std.proofs.lemmas.List.{length-take}
 use Rattle.regex_search_core.specs.Patterns.{number_of}
 use Rattle.regex_search_core.specs.Search.{search_of}
+use Rattle.regex_search_core.specs.declared.search.MatchKind.TheVariants.{LeftmostFirst}
 use Rattle.thompson_nfa.specs.Automaton.{IsAutomaton}
+use Rattle.nfa_paths.proofs.RestartLemmas.{match-some}
 use Rattle.nfa_backtrack.specs.Backtrack.{Backtracker}
-use Rattle.nfa_backtrack.proofs.EngineLemmas.{match-some, inside-of, pattern-of}
+use Rattle.nfa_backtrack.proofs.EngineLemmas.{inside-of, pattern-of}
 use Rattle.nfa_backtrack.proofs.engine.BoundedBacktracker.find_with.Goals as goal
 
 pub returns-clause-answer : goal.returns-clause-answer
 returns-clause-answer c =
     let same = ap (λ (e : Backtracker). e.nfa) c.self.view_is in
-    let size : length c.search.new.slots ≡ 2 * length c.self.inside.nfa.groups =
-    c.search.auto.slots
+    let valid : IsAutomaton c.args.self.now.nfa = rw (← same) c.group_info.ensures.valid in
+    let size : length c.search.new.slots ≡ 2 * length c.args.self.now.nfa.groups =
+    rw (← same)
+    (c.search.auto.slots
     ∙ omega (
       arith,
       length-take c.implicit_slot_len-slot_len.result c.as_mut_slice.result.now,
@@ -19,13 +25,14 @@ returns-clause-answer c =
       c.in_ok-grow.ensures,
       c.implicit_slot_len-slot_len.ensures,
       ap length c.group_info.ensures.value,
-    ) in
-    rw (← same)
-    (match-some c.self.inside.nfa (search_of c.args.input.now) c.group_info.ensures.valid c.in-Some.half (number_of c.pattern.result) c.pattern.ensures size
-    (rw c.in-Some.is at c.in_ok-half.ensures.answer) _ c.from_slots.ensures)
+    )) in
+    match-some c.args.self.now.nfa LeftmostFirst false (search_of c.args.input.now) valid c.in-Some.half
+    (number_of c.pattern.result) c.pattern.ensures size (rw c.in-Some.is at c.in_ok-half.ensures.answer) _
+    c.from_slots.ensures
 
 pub returns-clause-inside : goal.returns-clause-inside
-returns-clause-inside c = inside-of c.args.self.now.nfa (search_of c.args.input.now) c.from_slots.result (returns-clause-answer c)
+returns-clause-inside c = inside-of c.args.self.now.nfa (search_of c.args.input.now) c.from_slots.result
+    (returns-clause-answer c)
 
 pub returns-clause-pattern : goal.returns-clause-pattern
 returns-clause-pattern c =

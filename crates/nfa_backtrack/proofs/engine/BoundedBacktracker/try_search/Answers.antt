@@ -12,4 +12,5 @@ returns-clause-unmatched c =
     rw c.set_pattern-2.ensures
     (unmatched-slots c.args.self.now.nfa (search_of c.args.input.now) (option_map number_of c.in_ok-pattern.pattern)
     c.set_pattern.new.self.slots c.try_search_slots.new.slots (length c.args.captures.now.slots)
-    (ap (λ (k : Captured). length k.slots) c.set_pattern.ensures) (c.try_search_slots.auto.slots ∙ ap length c.slots_mut.ensures.value) c.in_ok-pattern.ensures.answer)
+    (ap (λ (k : Captured). length k.slots) c.set_pattern.ensures)
+    (c.try_search_slots.auto.slots ∙ ap length c.slots_mut.ensures.value) c.in_ok-pattern.ensures.answer)

@@ -1,3 +1,4 @@
+-- After a clearing no mark is set.
 use Rattle.std.proofs.Common.{refl, ap, ◌≡◌, ◌∙◌, false, length, replicate}
 use Rattle.std.specs.Vec.{with_items}
 use Rattle.std.proofs.lemmas.List.{with_items_is}
@@ -13,6 +14,7 @@ returns c =
     (c.zero_below.auto.blocks ∙ ap length c.as_mut_slice.ensures.value) c.self.invariant.1 c.zero_below.ensures.below
     (λ i h. c.zero_below.ensures.others i h ∙ rw c.as_mut_slice.ensures.value refl) in
     let size = c.zero_below.auto.blocks ∙ c.as_mut_slice.ensures.len in
-    let bits : bits_of (with_items c.self.inside.blocks c.zero_below.new.blocks).items ≡ replicate (length c.args.self.now.bits) false =
+    let bits : bits_of (with_items c.self.inside.blocks c.zero_below.new.blocks).items
+    ≡ replicate (length c.args.self.now.bits) false =
     ap bits_of (with_items_is c.self.inside.blocks c.zero_below.new.blocks size) ∙ rw (← old) zeroed in
     λ i. record { bits = bits i; turns = turns i }

@@ -1,3 +1,4 @@
+-- A new table has no marks.
 use Rattle.std.proofs.Common.{◌≡◌, []}
 use Rattle.nfa_backtrack.specs.Bits.{bits_of}
 use Rattle.nfa_backtrack.proofs.BitLemmas.{bits_of-nil}

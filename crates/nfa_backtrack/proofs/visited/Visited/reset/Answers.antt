@@ -1,3 +1,4 @@
+-- After a reset there is no block.
 use Rattle.std.proofs.Common.{ap, ◌≡◌, []}
 use Rattle.nfa_backtrack.specs.Bits.{Marks, bits_of}
 use Rattle.nfa_backtrack.proofs.BitLemmas.{bits_of-nil}

@@ -1,3 +1,4 @@
+-- A counter of the same count can be made.
 use Rattle.std.proofs.Common.{ℕ, [], ◌∷◌, refl}
 use Rattle.std.proofs.raw_atomic.Walks.{proved}
 use mir.Syntax.{named}

@@ -1,3 +1,4 @@
+-- A counter of no count can be made, since it takes no bytes.
 use Rattle.std.proofs.Common.{[], ◌∷◌, refl}
 use Rattle.std.proofs.raw_atomic.Walks.{proved}
 use contract.Running.{tables}

@@ -1,3 +1,4 @@
+-- Where not all was followed, every byte is let through.
 use Rattle.std.proofs.Common.{refl}
 use Rattle.nfa_scanning.proofs.FirstLemmas.{IsFirstBytes-all}
 use Rattle.nfa_scanning.proofs.first_bytes.FirstBytes.new.Goals as goal

@@ -1,3 +1,4 @@
+-- Each of the states was reached.
 use Rattle.std.proofs.Common.{◌≡◌, ◌∙◌, ◌<◌, length, get_or, below_more, subst, sym}
 use Rattle.std.proofs.lemmas.List.{get_or_default}
 use Rattle.nfa_scanning.specs.FirstBytes.{IsReached}

@@ -1,3 +1,4 @@
+-- The states so far were reached.
 use Rattle.std.proofs.Common.{ℕ, ◌<◌, ◌≤◌, get_or}
 use Rattle.std.specs.Prelude.{All}
 use Rattle.nfa_scanning.specs.FirstBytes.{IsReached, Extends, AreBelow}

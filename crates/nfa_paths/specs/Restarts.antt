@@ -1,0 +1,54 @@
+-- What a scan and a search come to, whichever engine makes them: the match, the slots, and how much was done for it.
+use Rattle.std.specs.Prelude.{◌≡◌, ℕ, ◌+◌, ◌*◌, ◌<◌, ◌≤◌, Bool, true, false, List, Option, None, Some}
+use Rattle.std.specs.Prelude.{length, replicate, option_map, option_and_then}
+use Rattle.std.specs.Option.{option_map_or}
+use Rattle.regex_search_core.specs.Found.{half_found_of}
+use Rattle.regex_search_core.specs.Search.{Search, is_anchored}
+use Rattle.regex_search_core.specs.declared.search.HalfMatch.{HalfMatch}
+use Rattle.regex_search_core.specs.declared.search.MatchKind.{MatchKind}
+use Rattle.thompson_nfa.specs.Automaton.{Automaton}
+use Rattle.nfa_paths.specs.Graphs.{Pair}
+use Rattle.nfa_paths.specs.Exploring.{Slots}
+use Rattle.nfa_paths.specs.Paths.{span_len, turn_weight, raised, node_at, pattern_of, last_of, path_pattern, slot_row}
+use Rattle.nfa_paths.specs.Paths.{is_utf8_empty, IsScanAnswer, IsSearchAnswer, SplitsCharacter}
+
+-- the turns of one scan at most
+abbrev pub scan_turns : Automaton → Search → ℕ
+scan_turns nfa x = (1 + turn_weight nfa) * (span_len x + 1)
+
+-- no slot is set
+abbrev pub AreUnset : Slots → Type 0
+AreUnset slots = slots ≡ replicate (length slots) None
+
+module _ (nfa : Automaton) (kind : MatchKind) (earliest : Bool) (x : Search) where
+  -- the scan's answer is this path, of which the match and the slots are
+  pub record GivesPath (half : HalfMatch) (slots : Slots) (turns : ℕ) : Type 0 where
+    pub path : List Pair
+    pub state : ℕ
+    pub answers : IsScanAnswer nfa x kind earliest (Some path)
+    pub matches : pattern_of (node_at nfa state) ≡ Some (half_found_of half).pattern
+    pub ends : last_of path ≡ Some (state, (half_found_of half).offset)
+    pub row : slots ≡ slot_row nfa (length slots) (Some path)
+    pub short : length path ≤ turns
+
+  -- what a scan comes to, in so many turns
+  abbrev pub ScanGives : Option HalfMatch → Slots → ℕ → Type 0
+  ScanGives None slots turns = IsScanAnswer nfa x kind earliest None × AreUnset slots
+  ScanGives (Some half) slots turns = GivesPath half slots turns
+
+  -- what a search comes to, in so many scans and turns
+  pub record SearchGives (half : Option HalfMatch) (slots : Slots) (scans turns : ℕ) : Type 0 where
+    pub restarts : ℕ
+    pub path : Option (List Pair)
+    pub answers : IsSearchAnswer nfa kind earliest x restarts path
+    pub pattern_is : option_map (λ h. (half_found_of h).pattern) half ≡ option_and_then (path_pattern nfa) path
+    pub slots_are : slots ≡ slot_row nfa (length slots) path
+    pub scans_are : scans ≡ restarts + 1
+    pub turns_reach : option_map_or length path 0 ≤ turns
+
+  -- A search that is not over: it scans y next, after so many scans, each of which had its answer end inside a character.
+  pub record Restarts (y : Search) (scans turns : ℕ) : Type 0 where
+    pub is : y ≡ raised x scans
+    pub split : (i : ℕ) → i < scans → SplitsCharacter nfa kind earliest (raised x i)
+    pub free : 0 < scans → (is_utf8_empty nfa ≡ true) × (is_anchored x.anchored ≡ false)
+    pub turned : turns ≤ scans * scan_turns nfa x
