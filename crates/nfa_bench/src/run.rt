@@ -1,4 +1,5 @@
-ghost use Rattle.std.specs.Prelude.{◌≤◌, IfOk};
+ghost use Rattle.std.specs.Prelude.{◌≡◌, ◌≤◌, IfOk};
+ghost use Rattle.nfa_bench.specs.Stops.{ending};
 
 use nfa_engines::backtrack::BoundedBacktracker;
 use nfa_engines::error::SearchError;
@@ -127,8 +128,10 @@ enum Stop {
 }
 
 impl Stop {
+    /// The status to end with.
     fn status(&self) -> u8
-        ensures { result ≤ 2 }
+        ensures status { result ≡ (ending self.now).1 }
+        ensures known { result ≤ 2 }
     {
         match self {
             Stop::Usage | Stop::UnknownName => MISUSED,
@@ -138,6 +141,10 @@ impl Stop {
 }
 
 impl fmt::Display for Stop {
+    ghost use Rattle.nfa_bench.specs.Stops.{ending};
+
+    ghost output = { λ stop. (ending stop).0 };
+
     fn fmt<W: fmt::Write>(&self, f: &mut fmt::Formatter<W>) -> fmt::Result {
         match self {
             Stop::Usage => f.write_str("usage: nfa-bench back|pike NAME HAYSTACK"),
@@ -150,6 +157,11 @@ impl fmt::Display for Stop {
 }
 
 impl From<BuildError> for Stop {
+    ghost use Rattle.std.specs.Prelude.{◌≡◌};
+    ghost use Rattle.nfa_bench.specs.declared.run.Stop.TheVariants as stop;
+
+    ghost from_gives = { λ _ gives. gives ≡ stop.Memory };
+
     // The samples are well formed, so only memory can be wanting.
     fn from(_: BuildError) -> Stop {
         Stop::Memory
@@ -157,6 +169,11 @@ impl From<BuildError> for Stop {
 }
 
 impl From<SearchError> for Stop {
+    ghost use Rattle.std.specs.Prelude.{◌≡◌};
+    ghost use Rattle.nfa_bench.specs.Stops.{stop_of};
+
+    ghost from_gives = { λ error gives. gives ≡ stop_of error };
+
     fn from(error: SearchError) -> Stop {
         match error {
             SearchError::HaystackTooLong { len } => Stop::TooLong { len },

@@ -1,0 +1,22 @@
+use Rattle.std.proofs.Common.{lit<}
+use Rattle.nfa_samples.specs.Names.{sample_names}
+use Rattle.nfa_samples.proofs.NameLemmas.{found-among, error-among}
+use Rattle.nfa_samples.proofs.sample.Goals as goal
+
+pub returns-in-empty_bytes-clause-none : goal.returns-in-empty_bytes-clause-none
+returns-in-empty_bytes-clause-none c =
+    found-among c.some-in-empty_bytes.result 11 c.args.name.now sample_names (lit< tt) c.in-empty_bytes.is
+    c.some-in-empty_bytes.ensures.made
+
+pub returns-in-empty_bytes-clause-known : goal.returns-in-empty_bytes-clause-known
+returns-in-empty_bytes-clause-known c =
+    error-among c.some-in-empty_bytes.result 11 c.args.name.now sample_names (lit< tt) c.in-empty_bytes.is
+
+pub returns-in-a_star_bytes-clause-none : goal.returns-in-a_star_bytes-clause-none
+returns-in-a_star_bytes-clause-none c =
+    found-among c.some-in-a_star_bytes.result 14 c.args.name.now sample_names (lit< tt) c.in-a_star_bytes.is
+    c.some-in-a_star_bytes.ensures.made
+
+pub returns-in-a_star_bytes-clause-known : goal.returns-in-a_star_bytes-clause-known
+returns-in-a_star_bytes-clause-known c =
+    error-among c.some-in-a_star_bytes.result 14 c.args.name.now sample_names (lit< tt) c.in-a_star_bytes.is
