@@ -1,5 +1,5 @@
 -- A search has a list of its matches, and few of them.
-use Rattle.std.proofs.Common.{◌≡◌, ℕ, ◌+◌, ◌-◌, ◌<◌, ◌≤◌, Bool, List, [], ◌∷◌, length, refl, arith}
+use Rattle.std.proofs.Common.{ℕ, ◌+◌, ◌-◌, ◌<◌, ◌≤◌, Bool, List, [], ◌∷◌, length, refl, arith}
 use Rattle.std.specs.Prelude.{Option, None, Some, option_and_then}
 use Rattle.regex_search_core.specs.Found.{Found}
 use Rattle.regex_search_core.specs.Groups.{slot_count}
@@ -10,7 +10,6 @@ use Rattle.thompson_nfa.specs.Automaton.{Automaton}
 use Rattle.nfa_paths.specs.Paths.{path_pattern, slot_row, span_len}
 use Rattle.nfa_paths.proofs.ExistenceLemmas.{search_answer-exists}
 use Rattle.nfa_search_base.specs.Lists.{AreApart, AreMatches}
-use Rattle.nfa_search_base.specs.Items.{greedy, matches_in}
 use Rattle.nfa_search_base.proofs.ListLemmas.{matches-greedy}
 
 module _ (nfa : Automaton) (kind : MatchKind) (earliest : Bool) where

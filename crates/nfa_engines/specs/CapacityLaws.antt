@@ -1,5 +1,5 @@
 -- Laws of the lengths that a backtracker refuses, over the definitions alone.
-use Rattle.std.specs.Prelude.{◌≡◌, ℕ, ◌+◌, ◌*◌, ◌^◌, ◌<◌, ◌≤◌, length, unwrap_or}
+use Rattle.std.specs.Prelude.{ℕ, ◌+◌, ◌*◌, ◌^◌, ◌<◌, ◌≤◌, length, unwrap_or}
 use Rattle.regex_search_core.specs.Search.{Search}
 use Rattle.nfa_paths.specs.Paths.{span_len}
 use Rattle.nfa_backtrack.specs.Backtrack.{Backtracker, IsTooLong, capacity_of, default_capacity, max_haystack_len_of}

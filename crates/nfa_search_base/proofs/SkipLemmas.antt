@@ -7,7 +7,8 @@ use Rattle.std.specs.Fn.{Mut}
 use Rattle.std.specs.Borrow.{Bor}
 use Rattle.regex_search_core.specs.Search.{Search, search_of}
 use Rattle.regex_search_core.specs.declared.search.Input.{Input}
-use Rattle.nfa_search_base.specs.Asking.{Asks, SameButStart, SameButEnd}
+use Rattle.nfa_search_base.specs.Asking.{Asks, IsCallableOn, SameButStart, SameButEnd, ServesAlong}
+use Rattle.nfa_search_base.specs.Serving.{LeadsOn}
 use Rattle.nfa_search_base.specs.declared.error.SearchError.{SearchError}
 use Rattle.nfa_search_base.specs.Skipping.{Placed, value_of, IsPlacedIn, IsSplit, IsWhole, raised, lowered, Answers}
 use Rattle.nfa_search_base.specs.Skipping.{LeadsTo, Reaches, ServesSkips, SkipsTo}
@@ -129,6 +130,41 @@ module _ {T F : Type 0} (g : Mut F (Bor Input × Unit {0}) (Placed T))
         leads = Reaches-whole 0 r0 f0 come.answers r f whole come.reached;
         gives = gives;
       }
+
+module _ {T F : Type 0} (g : Mut F (Bor Input × Unit {0}) (Placed T))
+    (haystack : List ℕ) (moved : ℕ → Option Search) (Same : Search → Search → Type 0) (s : Search)
+    (like : (n : ℕ) (u : Search) → moved n ≡ Some u → Same s u) where
+  -- after none, which splits no character, there is no call
+  none-ends : (n : ℕ) (r : Placed T) (f : F) (answers : List (Placed T)) (last : Placed T) (left : F) → r ≡ Ok None
+      → Reaches g haystack moved n r f answers last left → IsSplit haystack last → ⊥
+  none-ends n r f [] last left is reaches split =
+      subst (λ (p : Placed T). IsSplit haystack p) is (subst (λ (p : Placed T). IsSplit haystack p) reaches.0 split)
+  none-ends n r f (a ∷ answers) last left is reaches split = subst (λ (p : Placed T). IsSplit haystack p) is reaches.0
+
+  -- the calls that are made are calls on searches like s
+  calls-like : (n : ℕ) (r : Placed T) (f : F) (answers : List (Placed T)) (last : Placed T) (left : F)
+      → Reaches g haystack moved n r f answers last left → IsSplit haystack last
+      → (calls : List (Search × Placed T)) × LeadsOn (IsCallableOn g) (Asks g) Same s f calls left
+  calls-like n r f [] last left reaches split = ([], sym reaches.1)
+  calls-like n r f (a ∷ answers) last left reaches split =
+      of (moved (n + 1)) (λ u at. like (n + 1) u at) reaches.1.1
+      (calls-like (n + 1) a reaches.1.0 answers last left reaches.1.2 split)
+    where
+      of : (o : Option Search) → ((u : Search) → o ≡ Some u → Same s u) → Answers g f o a reaches.1.0
+          → (calls : List (Search × Placed T)) × LeadsOn (IsCallableOn g) (Asks g) Same s reaches.1.0 calls left
+          → (calls : List (Search × Placed T)) × LeadsOn (IsCallableOn g) (Asks g) Same s f calls left
+      of None same answered rest =
+          absurd (none-ends (n + 1) a reaches.1.0 answers last left answered.0 reaches.1.2 split)
+      of (Some u) same answered rest = ((u, a) ∷ rest.0, (reaches.1.0, (same u refl, answered), rest.1))
+
+  -- a finder that may be called on each search like s may be called where a call is made
+  pub ServesSkips-along : (r : Placed T) (f : F) → ServesAlong g Same IsPlacedIn f s
+      → ServesSkips g haystack moved r f
+  ServesSkips-along r f serves = record {
+    at = λ answers last left u reaches split at.
+        let made = calls-like 0 r f answers last left reaches split in
+        serves.at made.0 left u made.1 (like (length answers + 1) u at);
+  }
 
 -- the search one further up
 pub raised-next : (s t u : Search) (n : ℕ) → raised s n ≡ Some t

@@ -1,4 +1,4 @@
-use Rattle.std.proofs.Common.{arith, length, unwrap_or, ◌*◌, ◌+◌, ◌≤◌}
+use Rattle.std.proofs.Common.{arith, length, unwrap_or, ◌*◌, ◌+◌}
 use Rattle.nfa_paths.specs.Paths.{span_len}
 use Rattle.nfa_backtrack.specs.Backtrack.{capacity_of, default_capacity}
 use Rattle.nfa_engines.proofs.CapacityLemmas.{bits-reach, longest-fits, longer-exceeds}
