@@ -1,13 +1,15 @@
-ghost use Rattle.std.specs.Prelude.{◌≡◌, Some};
+//! Iteration over the matches of an input.
+ghost use Rattle.std.specs.Prelude.{◌≡◌, Ok, Some};
 ghost use Rattle.std.specs.Option.{ForSome};
-ghost use Rattle.nfa_search_base.specs.Searchers.{walk_of};
-ghost use Rattle.nfa_backtrack.specs.Finding.{IsKnown};
+ghost use Rattle.regex_search_core.specs.Search.{search_of};
+ghost use Rattle.nfa_search_base.specs.Stored.{steps_walk};
+ghost use Rattle.nfa_backtrack.specs.Finding.{IsKnownFrom};
 
 use crate::cache::Cache;
 use crate::engine::BoundedBacktracker;
 use nfa_search_base::error::SearchError;
-use nfa_search_base::iter::{Offered, Searcher};
-use regex_search_core::{Input, Match};
+use nfa_search_base::iter::{Searcher, Searches, Steps};
+use regex_search_core::{Input, Match, Span};
 
 /// The matches of an input that do not overlap, from left to right: what [`BoundedBacktracker::try_find_iter`] gives.
 ///
@@ -15,26 +17,28 @@ use regex_search_core::{Input, Match};
 /// good after the last match and after the error.
 #[derive(Debug, Drop)]
 pub struct TryFindMatches<'r, 'c, 'h> {
-    engine: &'r BoundedBacktracker,
     cache: &'c mut Cache,
-    searcher: Searcher<'h>,
-    // What the next search would answer, if the last one told it: an empty match where the input starts.
+    steps: Steps<'h, Finder<'r>>,
+    ghost knows: { IsKnownFrom steps.asker.engine.now (steps_walk steps).at steps.asker.known },
+}
+
+// A backtracker that answers the searches of one iteration.
+#[derive(Debug, Drop)]
+struct Finder<'r> {
+    engine: &'r BoundedBacktracker,
+    // What the last search found, if it is empty and lies where the search began: it answers a search from there too.
     known: Option<Match>,
-    done: bool,
-    ghost knows: { IsKnown engine.now (walk_of searcher).at known },
 }
 
 impl BoundedBacktracker {
-    ghost use Rattle.std.specs.Prelude.{◌≡◌, ◌≤◌, false, Option, Ok};
-    ghost use Rattle.regex_search_core.specs.Found.{Found, found_of};
-    ghost use Rattle.regex_search_core.specs.Search.{Search, search_of};
-    ghost use Rattle.nfa_search_base.specs.Asking.{SameButStart};
-    ghost use Rattle.nfa_search_base.specs.Finders.{answer_by, match_place};
-    ghost use Rattle.nfa_search_base.specs.Searchers.{walk_of, OfferGives, IsDone};
-    ghost use Rattle.nfa_search_base.specs.Walks.{fresh, after, span_of, Advances, ComesAfter, IsPast, LeavesFewer, LiesIn};
-    ghost use Rattle.nfa_backtrack.specs.Finding.{Finds, IsFindOf, IsKnown, GivesMatches, all_matches};
-    ghost use Rattle.nfa_backtrack.specs.FindMatches.{find_engine, find_walk, FindsAll};
-    ghost use Rattle.nfa_backtrack.specs.Runs.{RunsGive, RunsMatch, RunsInside, GivesFirst, GivesFirstMatches, GivesAllMatches, GivesNext, GivesNextMatch};
+    ghost use Rattle.std.specs.Prelude.{false};
+    ghost use Rattle.regex_search_core.specs.Found.{found_of};
+    ghost use Rattle.nfa_search_base.specs.Finders.{answer_by};
+    ghost use Rattle.nfa_backtrack.specs.Finding.{IsFindOf, SearchesOnce};
+    ghost use Rattle.nfa_search_base.specs.Walks.{fresh};
+    ghost use Rattle.nfa_backtrack.specs.FindMatches.{find_cache, find_engine, find_is_done, find_walk};
+    ghost use Rattle.nfa_backtrack.specs.Runs.{RunsGive, RunsMatch, RunsApart, RunsInside, RunsRefused};
+    ghost use Rattle.nfa_backtrack.specs.Runs.{GivesFirst, GivesFirstMatches, GivesAllMatches, GivesNext, GivesNextMatch};
 
     /// The matches of the input that do not overlap, from left to right. To make this takes no memory.
     ///
@@ -46,122 +50,117 @@ impl BoundedBacktracker {
         cache: &'c mut Cache,
         input: Input<'h>,
     ) -> TryFindMatches<'r, 'c, 'h>
-        ensures same_reference { result.cache.ghost_name ≡ cache.entry.ghost_name }
+        ensures same_reference { (find_cache result).ghost_name ≡ cache.entry.ghost_name }
+        ensures same_cache { (find_cache result).now ≡ cache.entry.now }
         ensures engine { find_engine result ≡ self.now }
         ensures walk { find_walk result ≡ fresh (search_of input.entry) }
-        ensures going { result.done ≡ false }
+        ensures going { find_is_done result ≡ false }
         // Each run of calls gives the first items, and all of them where it goes on to `None`.
         ensures runs { RunsGive self.now (search_of input.entry) result }
         ensures matches { RunsMatch self.now (search_of input.entry) result }
         ensures inside { RunsInside (search_of input.entry) result }
+        ensures apart { RunsApart (search_of input.entry) result }
+        ensures refused { RunsRefused self.now (search_of input.entry) result }
         ensures first { GivesFirst self.now (search_of input.entry) result }
         ensures first_matches { GivesFirstMatches self.now (search_of input.entry) result }
         ensures next { GivesNext self.now (search_of input.entry) result }
         ensures next_match { GivesNextMatch self.now (search_of input.entry) result }
         ensures all_matches { GivesAllMatches self.now (search_of input.entry) result }
-        // Run to its end it gives all matches, up to a refusal.
-        ensures list { (h : Search → Option Found) → GivesMatches self.now h (search_of input.entry) → FindsAll self.now (search_of input.entry) (all_matches h (search_of input.entry)) result }
     {
         TryFindMatches {
-            engine: self,
             cache,
-            searcher: Searcher::new(input),
-            known: None,
-            done: false,
+            steps: Steps {
+                searcher: Searcher::new(input),
+                asker: Finder {
+                    engine: self,
+                    known: None,
+                },
+                done: false,
+            },
         }
     }
 
-    // The match of one search, which lies in its span.
+    // The match of one search, and the work of it.
+    #[inline]
     fn find_at(&self, cache: &mut Cache, input: &Input<'_>) -> Result<Option<Match>, SearchError>
         ensures finds { IsFindOf self.now (search_of input.now) (answer_by found_of result) }
-        ensures inside { LiesIn (search_of input.now) (match_place result) }
+        ensures once { SearchesOnce self.now (search_of input.now) (answer_by found_of result) cache.old cache.new }
     {
         self.try_find(cache, *input)
     }
+}
 
-    // The match of the searcher's input: the one that is known, else what a search finds.
-    fn find_first(
-        &self,
+impl<'r> Searches for Finder<'r> {
+    ghost use Rattle.regex_search_core.specs.Found.{Found, found_of};
+    ghost use Rattle.nfa_search_base.specs.Finders.{answer_by};
+    ghost use Rattle.nfa_search_base.specs.Steps.{GivesItem};
+    ghost use Rattle.nfa_search_base.specs.Walks.{span_of};
+    ghost use Rattle.nfa_backtrack.specs.FindMatches.{AsksBacktracker, MayFind};
+
+    type Cache = Cache;
+
+    type Reply = Result<Option<Match>, SearchError>;
+
+    ghost Value = { Found };
+
+    ghost shows = { λ _ reply. answer_by found_of reply };
+
+    ghost span = { span_of };
+
+    ghost accepts = { MayFind };
+
+    type Item = Match;
+
+    ghost gives = { λ _. GivesItem found_of };
+
+    ghost asks = { AsksBacktracker };
+
+    #[inline]
+    fn answer(
+        &mut self,
         cache: &mut Cache,
         input: &Input<'_>,
-        known: Option<Match>,
-    ) -> Result<Option<Match>, SearchError>
-        requires { IsKnown self.now (search_of input.now) known }
-        ensures finds { IsFindOf self.now (search_of input.now) (answer_by found_of result) }
-        ensures inside { LiesIn (search_of input.now) (match_place result) }
-    {
-        match known {
-            Some(_) => Ok(known),
-            None => self.find_at(cache, input),
+    ) -> Result<Option<Match>, SearchError> {
+        let known = ending_at(input.start(), self.known);
+        if known.is_some() {
+            return Ok(known);
+        }
+        let reply = self.engine.find_at(cache, input);
+        self.known = ending_at(input.start(), found_in(reply));
+        reply
+    }
+
+    #[inline]
+    fn place(&self, reply: Result<Option<Match>, SearchError>) -> Option<Span> {
+        match reply {
+            Ok(Some(found)) => Some(found.span()),
+            Ok(None) => None,
+            Err(_) => None,
         }
     }
 
-    // Offers the match of the searcher's input, and keeps it if the input stays the same.
-    fn offer(
+    #[inline]
+    fn item(
         &self,
-        searcher: &mut Searcher<'_>,
-        known: &mut Option<Match>,
-        found: Option<Match>,
-    ) -> Offered
-        requires finds { IsFindOf self.now (walk_of searcher.old).at (answer_by found_of (Ok found)) }
-        requires inside { LiesIn (walk_of searcher.old).at (match_place (Ok found)) }
-        ensures gives { OfferGives (walk_of searcher.old) found result (walk_of searcher.new) }
-        ensures once { IsPast (walk_of searcher.old) → IsDone result }
-        ensures same { SameButStart (walk_of searcher.old).at (walk_of searcher.new).at }
-        ensures knows { IsKnown self.now (walk_of searcher.new).at known.new }
-    {
-        let start = searcher.input().start();
-        let offered = searcher.offer(found);
-        *known = match offered {
-            Offered::Done(_) => ending_at(start, found),
-            Offered::Again => None,
-        };
-        offered
+        reply: Result<Option<Match>, SearchError>,
+    ) -> Option<Result<Match, SearchError>> {
+        reply.transpose()
     }
+}
 
-    // The match in place of an empty one where the last match ended.
-    fn step_again(
-        &self,
-        cache: &mut Cache,
-        searcher: &mut Searcher<'_>,
-        known: &mut Option<Match>,
-    ) -> Result<Option<Match>, SearchError>
-        requires past { IsPast (walk_of searcher.old) }
-        requires knew { IsKnown self.now (walk_of searcher.old).at known.old }
-        ensures finds { IsFindOf self.now (walk_of searcher.old).at (answer_by found_of result) }
-        ensures inside { LiesIn (walk_of searcher.old).at (match_place result) }
-        ensures walk { walk_of searcher.new ≡ after (walk_of searcher.old) (match_place result) }
-        ensures knows { IsKnown self.now (walk_of searcher.new).at known.new }
-    {
-        let found = self.find_at(cache, searcher.input())?;
-        self.offer(searcher, known, found);
-        Ok(found)
-    }
-
-    // The next match of an iteration.
-    fn try_step(
-        &self,
-        cache: &mut Cache,
-        searcher: &mut Searcher<'_>,
-        known: &mut Option<Match>,
-    ) -> Result<Option<Match>, SearchError>
-        requires { IsKnown self.now (walk_of searcher.old).at known.old }
-        ensures step { Advances span_of (Finds self.now) tt (walk_of searcher.old) (answer_by found_of result) tt (walk_of searcher.new) }
-        ensures rises { ComesAfter (walk_of searcher.old) (match_place result) }
-        ensures fewer { LeavesFewer (walk_of searcher.old) (match_place result) (walk_of searcher.new) }
-        ensures same { SameButStart (walk_of searcher.old).at (walk_of searcher.new).at }
-        ensures onward { (walk_of searcher.old).at.start ≤ (walk_of searcher.new).at.start }
-        ensures knows { IsKnown self.now (walk_of searcher.new).at known.new }
-    {
-        let first = self.find_first(cache, searcher.input(), *known)?;
-        match self.offer(searcher, known, first) {
-            Offered::Done(found) => Ok(found),
-            Offered::Again => self.step_again(cache, searcher, known),
-        }
+// The match of a reply.
+#[inline]
+fn found_in(reply: Result<Option<Match>, SearchError>) -> Option<Match>
+    ensures { ForSome result (λ m. reply ≡ Ok (Some m)) }
+{
+    match reply {
+        Ok(found) => found,
+        Err(_) => None,
     }
 }
 
 // The match if it ends there, else none.
+#[inline]
 fn ending_at(end: usize, found: Option<Match>) -> Option<Match>
     ensures { ForSome result (λ m. (found ≡ Some m) × (m.span.end ≡ end)) }
 {
@@ -181,22 +180,6 @@ impl<'r, 'c, 'h> Iterator for TryFindMatches<'r, 'c, 'h> {
     ghost remaining = { find_left };
 
     fn next(&mut self) -> Option<Result<Match, SearchError>> {
-        if self.done {
-            return None;
-        }
-        match self
-            .engine
-            .try_step(self.cache, &mut self.searcher, &mut self.known)
-        {
-            Ok(Some(found)) => Some(Ok(found)),
-            Ok(None) => {
-                self.done = true;
-                None
-            }
-            Err(error) => {
-                self.done = true;
-                Some(Err(error))
-            }
-        }
+        self.steps.next_with(self.cache)
     }
 }

@@ -1,95 +1,105 @@
--- Whoever runs the iterator over a choice's matches has all of them.
-use Rattle.std.proofs.Common.{◌≡◌, true, false, Bool, Option, None, Some, Ok, Err, List, [], ◌∷◌, sym, ◌∙◌, ap, subst, refl, MatchBool}
-use Rattle.std.specs.Option.{option_map, option_and_then}
-use Rattle.std.specs.Iterator.{AlwaysYields}
-use Rattle.std.proofs.lemmas.Iterator.{YieldsList}
+-- What the searches of an iteration by a choice answer, and what its iterator may ask.
+use Rattle.std.proofs.Common.{◌≡◌, ◌∙◌, Bool, Option, None, Some, Ok, Err, refl, sym, ap, subst}
+use Rattle.std.specs.Prelude.{IsOk}
+use Rattle.std.specs.Option.{option_map}
 use Rattle.regex_search_core.specs.Found.{Found, found_of}
-use Rattle.regex_search_core.specs.Groups.{slot_count}
 use Rattle.regex_search_core.specs.Search.{Search}
-use Rattle.regex_search_core.specs.Slots.{match_of}
 use Rattle.regex_search_core.specs.declared.search.Match.{Match}
 use Rattle.regex_search_core.specs.declared.search.MatchKind.{MatchKind}
 use Rattle.thompson_nfa.specs.Automaton.{Automaton}
+use Rattle.nfa_paths.specs.Paths.{IsMatchAnswer}
 use Rattle.nfa_search_base.specs.Asking.{SameButStart}
-use Rattle.nfa_search_base.specs.Items.{Item, matches_in, greedy, greedy_unless}
-use Rattle.nfa_paths.specs.Paths.{slot_row, path_pattern, IsMatchAnswer}
-use Rattle.nfa_search_base.specs.Walks.{Walk, Answer, fresh, span_of}
-use Rattle.nfa_paths.proofs.AnswerLemmas.{search_answer-unique}
-use Rattle.nfa_search_base.proofs.AskingLemmas.{same_start-self, same_start-then}
-use Rattle.nfa_search_base.proofs.GreedyLemmas.{IsTurnOf, turn-computes, yields-greedy}
-use Rattle.nfa_pikevm.specs.Engines.{Pike, kind_of}
-use Rattle.nfa_pikevm.specs.FindMatches.{item}
-use Rattle.nfa_pikevm.specs.Finding.{Finds, GivesMatches, all_matches}
-use Rattle.nfa_choice.specs.Choosing.{pike_of}
-use Rattle.nfa_choice.specs.Matches.{TakesFindTurn, find_choice, find_walk, find_steps}
+use Rattle.nfa_search_base.specs.Finders.{answer_by}
+use Rattle.nfa_search_base.specs.Lists.{TellsMatch}
+use Rattle.nfa_search_base.specs.Steps.{GivesItem}
+use Rattle.nfa_search_base.specs.Stored.{steps_walk, can_step_surely}
+use Rattle.nfa_search_base.specs.Walks.{Answer, span_of, IsSurelyInside}
+use Rattle.nfa_search_base.specs.declared.iter.steps.Steps.{Steps}
+use Rattle.nfa_search_base.proofs.AskingLemmas.{same_start-self, same_start-then, ServesOnAlong-by}
+use Rattle.nfa_search_base.proofs.ListLemmas.{match-lies}
+use Rattle.nfa_search_base.proofs.RunLemmas.{calls-keep, step-keeps}
+use Rattle.nfa_pikevm.specs.Engines.{PikeCache, SameNumbers, kind_of}
+use Rattle.nfa_choice.specs.Choosing.{Choosing, KeepsEngines, kind_in}
+use Rattle.nfa_choice.specs.Matches.{Asked, AsksByRule, ChoiceGivesKept, KeepsChoice, find_state, find_steps, may_ask}
 use Rattle.nfa_choice.specs.declared.choose.find_iter.ChoiceMatches.{ChoiceMatches}
 
--- a search has one match
-one-match : (nfa : Automaton) (kind : MatchKind) (earliest : Bool) (x : Search) (a b : Option Found) → IsMatchAnswer nfa kind earliest x a → IsMatchAnswer nfa kind earliest x b → a ≡ b
-one-match nfa kind earliest x a b h k =
-    let one = search_answer-unique nfa kind earliest x h.restarts k.restarts h.path k.path h.answers k.answers in
-    h.found_is ∙ ap (λ p. match_of (option_and_then (path_pattern nfa) p) (slot_row nfa (slot_count nfa.groups) p)) one.1 ∙ sym k.found_is
+-- the match of a search is its answer
+pub find-answered : (nfa : Automaton) (kind : MatchKind) (earliest : Bool) (t : Search) (found : Option Match)
+    → IsMatchAnswer nfa kind earliest t (option_map found_of found)
+    → TellsMatch nfa kind earliest t (answer_by found_of (Ok found))
+find-answered nfa kind earliest t (Some m) h = h
+find-answered nfa kind earliest t None h = h
 
--- An iterator whose items are values: it gives the matches among the items.
-module _ {S A X : Type 0} (steps : S → Option A → S → Type 0) (view : A → X) where
-  -- where no step is, any list is given
-  no_steps : (zs : List X) (s : S) → ((j : S) → ¬ (steps s None j)) → ((x : A) (j : S) → ¬ (steps s (Some x) j)) → AlwaysYields steps view s zs
-  no_steps [] s none some = some
-  no_steps (z ∷ zs) s none some = (none, λ x j st. absurd (some x j st))
+-- an answer never errs
+find-ok : (nfa : Automaton) (kind : MatchKind) (earliest : Bool) (t : Search) (a : Answer Found)
+    → TellsMatch nfa kind earliest t a → IsOk a
+find-ok nfa kind earliest t (Ok found) h = refl
+find-ok nfa kind earliest t (Err error) h = absurd h
 
-  plain : (ys : List (Item X)) (s : S) → AlwaysYields steps (λ x. Ok (view x)) s ys → AlwaysYields steps view s (matches_in ys)
-  plain [] s h = h
-  plain (Ok y ∷ ys) s h = (
-    h.0,
-    (λ x j st. let k = h.1 x j st in let e : Ok (view x) ≡ Ok y = k.0 in let same : view x ≡ y = cc in (same, plain ys j k.1)),
-  )
-  plain (Err e ∷ ys) s h = no_steps (matches_in ys) s h.0 (λ x j st. let k : Ok (view x) ≡ Err e = (h.1 x j st).0 in cc)
+-- any search may be asked, and none errs
+pub choice-serves : (s : Steps Asked) → can_step_surely may_ask AsksByRule span_of s
+choice-serves s = ServesOnAlong-by may_ask AsksByRule SameButStart same_start-self same_start-then (IsSurelyInside span_of)
+    (λ (q : Asked). Unit {0}) s.asker (steps_walk s).at tt (λ q t same u. tt) (λ q t a q' same u asked. (tells q t a q' asked, tt))
+  where
+    tells : (q : Asked) (t : Search) (a : Answer Found) (q' : Asked) → AsksByRule q t a q' → IsSurelyInside span_of t a
+    tells q t a q' asked =
+        ((match-lies q.cache.nfa (kind_in q.cache) t.earliest t a asked.finds).0, find-ok q.cache.nfa (kind_in q.cache) t.earliest t a asked.finds)
 
-module _ (vm : Pike) (h : Search → Option Found) where
-  -- the answers of h
-  abbrev answer : Search → Answer Found
-  answer x = Ok (h x)
+-- what the answers depend on is that of c
+pub record IsOf (c : Choosing) (s : Asked) : Type 0 where
+  pub nfa : s.cache.nfa ≡ c.nfa
+  pub kind : kind_in s.cache ≡ kind_in c
 
-  -- a search has the match that h gives
-  acts : (s : Unit {0}) (x : Search) (a : Answer Found) (t : Unit {0}) → GivesMatches vm h x → Finds vm s x a t → (a ≡ answer x) × GivesMatches vm h x
-  acts s x (Ok found) t gives is =
-      let same : found ≡ h x = one-match vm.nfa (kind_of vm) x.earliest x found (h x) is (gives x (same_start-self x)) in
-      (ap (λ (o : Option Found). let a : Answer Found = Ok o in a) same, gives)
-  acts s x (Err error) t gives is = absurd is
+-- the choice answers the matches of its searches, and they depend on the same
+pub choice-acts : (c : Choosing) (x : Search) (s : Asked) (t : Search) (a : Answer Found) (s' : Asked)
+    → SameButStart x t
+    → IsOf c s → AsksByRule s t a s' → TellsMatch c.nfa (kind_in c) x.earliest t a × IsOf c s'
+choice-acts c x s t a s' same is asked =
+    (subst (λ (b : Bool). TellsMatch c.nfa (kind_in c) b t a) same.earliest
+    (subst (λ (k : MatchKind). TellsMatch c.nfa k t.earliest t a) is.kind
+    (subst (λ (n : Automaton). TellsMatch n (kind_in s.cache) t.earliest t a) is.nfa asked.finds)),
+     record { nfa = asked.keeps.nfa ∙ is.nfa; kind = ap (λ k. kind-by k) asked.keeps.match_kind ∙ is.kind })
+  where
+    kind-by : Option MatchKind → MatchKind
+    kind-by k = kind_in (record c { match_kind = k })
 
-  -- and so has any search like it
-  moves : (s : Unit {0}) (x y : Search) → SameButStart x y → GivesMatches vm h x → GivesMatches vm h y
-  moves s x y same gives = λ z alike. gives z (same_start-then x y z same alike)
+-- ---- what stays
 
-  -- from this state on h gives the matches
-  record Goes (s : ChoiceMatches) : Type 0 where
-    here : pike_of (find_choice s) ≡ vm
-    gives : GivesMatches vm h (find_walk s).at
+numbers-then : (a b c : PikeCache) → SameNumbers a b → SameNumbers b c → SameNumbers a c
+numbers-then a b c f g = record {
+  states = g.states ∙ f.states;
+  slots = g.slots ∙ f.slots;
+  patterns = g.patterns ∙ f.patterns;
+  places = g.places ∙ f.places;
+}
 
-  -- a turn keeps what the answers depend on
-  pike-kept : (s : ChoiceMatches) (r : Option Match) (t : ChoiceMatches) → TakesFindTurn s r t → pike_of (find_choice t) ≡ pike_of (find_choice s)
-  pike-kept s r t x = rw (x.keeps.nfa, x.keeps.match_kind) refl
+keeps-self : (c : Choosing) → KeepsEngines c c
+keeps-self c = record {
+  nfa = refl;
+  visited_capacity = refl;
+  match_kind = refl;
+  numbers = record { states = refl; slots = refl; patterns = refl; places = refl };
+}
 
-  -- the turns of the iterator are those of h
-  turns : (s : ChoiceMatches) (r : Option Match) (t : ChoiceMatches) → Goes s → find_steps s r t
-      → MatchBool s.done (r ≡ None) (IsTurnOf span_of answer (find_walk s) (option_map item r) (find_walk t) t.done × Goes t)
-  turns s r t goes st = of s.done st
-    where
-      of : (b : Bool) → MatchBool b ((r ≡ None) × (t ≡ s)) (TakesFindTurn s r t)
-          → MatchBool b (r ≡ None) (IsTurnOf span_of answer (find_walk s) (option_map item r) (find_walk t) t.done × Goes t)
-      of true x = x.0
-      of false x =
-          let turn = rw goes.here at x.turn in
-          let k = turn-computes span_of (Finds vm) answer (λ (u : Unit {0}). GivesMatches vm h) acts moves tt (find_walk s) (option_map item r) tt (find_walk t) t.done goes.gives turn in
-          (k.0, record { here = pike-kept s r t x ∙ goes.here; gives = k.1 })
+keeps-then : (a b c : Choosing) → KeepsEngines a b → KeepsEngines b c → KeepsEngines a c
+keeps-then a b c f g = record {
+  nfa = g.nfa ∙ f.nfa;
+  visited_capacity = g.visited_capacity ∙ f.visited_capacity;
+  match_kind = g.match_kind ∙ f.match_kind;
+  numbers = numbers-then a.pike b.pike c.pike f.numbers g.numbers;
+}
 
-  -- so the items are all matches
-  pub finds-all : (s : ChoiceMatches) (x : Search) → pike_of (find_choice s) ≡ vm → find_walk s ≡ fresh x → s.done ≡ false → GivesMatches vm h x
-      → YieldsList find_steps found_of s (all_matches h x)
-  finds-all s x here at going gives =
-      let goes : Goes s = record { here = here; gives = subst (λ (w : Walk). GivesMatches vm h w.at) (sym at) gives } in
-      let all = yields-greedy span_of find_steps item find_walk (λ (q : ChoiceMatches). q.done) answer Goes turns s goes in
-      let whole : AlwaysYields find_steps item s (greedy span_of answer (fresh x)) =
-      subst (λ (w : Walk). AlwaysYields find_steps item s (greedy span_of answer w)) at
-      (subst (λ (b : Bool). AlwaysYields find_steps item s (greedy_unless span_of b answer (find_walk s))) going all) in
-      record { runs = plain find_steps found_of (greedy span_of answer (fresh x)) s whole }
+step-keeps_choice : (s : ChoiceMatches) (r : Option Match) (t : ChoiceMatches) → find_steps s r t → KeepsChoice s t
+step-keeps_choice s r t st =
+    let keeps : KeepsEngines s.choice.now t.choice.now =
+    step-keeps span_of AsksByRule (λ q. GivesItem found_of) (λ (p q : Asked). KeepsEngines p.cache q.cache) (λ q. keeps-self q.cache)
+    (λ p q u f g. keeps-then p.cache q.cache u.cache f g) (λ p x a q asked. asked.keeps)
+    (find_state s) (option_map (λ m. Ok m) r) (find_state t) st.step in
+    record { choice = st.choice; keeps = keeps }
+
+-- all calls keep the choice
+pub gives-choice : (s : ChoiceMatches) → ChoiceGivesKept s
+gives-choice s = λ xs t r u ran st.
+    calls-keep find_steps KeepsChoice (λ q. record { choice = refl; keeps = keeps-self q.choice.now })
+    (λ a b c f g. record { choice = g.choice ∙ f.choice; keeps = keeps-then a.choice.now b.choice.now c.choice.now f.keeps g.keeps })
+    step-keeps_choice s xs t r u ran st

@@ -18,7 +18,6 @@ pub mod SizeLemmas
 pub mod EngineLemmas
 pub mod IsMatchLemmas
 pub mod FindLemmas
-pub mod RunLemmas
 pub mod OverlapCrossLemmas
 pub mod OverlapFirstLemmas
 pub mod OverlapLoopLemmas

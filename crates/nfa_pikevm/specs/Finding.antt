@@ -1,43 +1,32 @@
--- What a PikeVM answers where a match is asked for, and the list of matches that comes of asking again and again.
-use Rattle.std.specs.Prelude.{List, Option, Ok, Err}
+-- What a PikeVM answers where a match is asked for.
+use Rattle.std.specs.Prelude.{◌≤◌, ◌*◌, ◌+◌, Option, Ok, Err}
 use Rattle.std.specs.Option.{ForSome}
 use Rattle.regex_search_core.specs.Found.{Found, found_of}
 use Rattle.regex_search_core.specs.Search.{Search}
 use Rattle.regex_search_core.specs.declared.search.Match.{Match}
-use Rattle.regex_search_core.specs.declared.search.Span.{Span}
-use Rattle.nfa_search_base.specs.Asking.{SameButStart}
-use Rattle.nfa_search_base.specs.Finders.{answer_by, match_place}
-use Rattle.nfa_search_base.specs.Items.{greedy, matches_in}
 use Rattle.nfa_paths.specs.Known.{IsSureMatch}
-use Rattle.nfa_paths.specs.Paths.{IsMatchAnswer}
-use Rattle.nfa_search_base.specs.Walks.{Answer, fresh, span_of}
-use Rattle.nfa_pikevm.specs.Engines.{Pike, kind_of}
+use Rattle.nfa_paths.specs.Paths.{IsWork, scan_limit, span_len, turn_weight}
+use Rattle.nfa_search_base.specs.Finders.{answer_by}
+use Rattle.nfa_search_base.specs.Lists.{TellsMatch}
+use Rattle.nfa_search_base.specs.Walks.{Answer}
+use Rattle.nfa_pikevm.specs.Engines.{Pike, PikeCache, AddsWork, kind_of}
 
 -- what one search for a match answers: the match that its kind and its `earliest` mean, and never an error
 abbrev pub IsFindOf : Pike → Search → Answer Found → Type 0
-IsFindOf vm x (Ok found) = IsMatchAnswer vm.nfa (kind_of vm) x.earliest x found
-IsFindOf vm x (Err error) = ⊥
-
--- the same, of a PikeVM that is asked once more and does not change
-abbrev pub Finds : Pike → Unit {0} → Search → Answer Found → Unit {0} → Type 0
-Finds vm s x answer t = IsFindOf vm x answer
+IsFindOf vm x a = TellsMatch vm.nfa (kind_of vm) x.earliest x a
 
 -- a reply as values
 abbrev pub answer_of : Option Match → Answer Found
 answer_of found = answer_by found_of (Ok found)
 
--- where the match that was replied lies
-abbrev pub place : Option Match → Option Span
-place found = match_place (Ok found)
+-- what is known of the searches like x: nothing, or the match of the one that starts where this match ends
+abbrev pub IsKnownFrom : Pike → Search → Option Match → Type 0
+IsKnownFrom vm x known =
+    ForSome known (λ m. IsSureMatch vm.nfa (kind_of vm) x.earliest (record x { start = m.span.end }) (found_of m))
 
--- what is known of a search before it is made: nothing, or its match
-abbrev pub IsKnown : Pike → Search → Option Match → Type 0
-IsKnown vm x known = ForSome known (λ m. IsSureMatch vm.nfa (kind_of vm) x.earliest x (found_of m))
-
--- h gives the match of each search that differs from x in its start alone
-abbrev pub GivesMatches : Pike → (Search → Option Found) → Search → Type 0
-GivesMatches vm h x = (t : Search) → SameButStart x t → IsMatchAnswer vm.nfa (kind_of vm) t.earliest t (h t)
-
--- the matches of x that do not overlap, from left to right, where h gives the match of a search
-abbrev pub all_matches : (Search → Option Found) → Search → List Found
-all_matches h x = matches_in (greedy span_of (λ t. Ok (h t)) (fresh x))
+-- one search was made with the cache, within the bounds of its work
+pub record SearchesOnce (vm : Pike) (x : Search) (old new : PikeCache) : Type 0 where
+  pub total : AddsWork old new
+  pub work : IsWork vm.nfa (kind_of vm) x.earliest x new.scans new.turns
+  pub scans : new.scans ≤ scan_limit vm.nfa x
+  pub turns : new.turns ≤ new.scans * ((1 + turn_weight vm.nfa) * (span_len x + 1))

@@ -1,13 +1,16 @@
+//! Iteration over the matches of an input.
 ghost use Rattle.std.specs.Prelude.{◌≡◌, Some};
 ghost use Rattle.std.specs.Option.{ForSome};
-ghost use Rattle.nfa_search_base.specs.Searchers.{walk_of};
+ghost use Rattle.regex_search_core.specs.Search.{search_of};
+ghost use Rattle.nfa_search_base.specs.Stored.{steps_walk};
 ghost use Rattle.nfa_pikevm.specs.Engines.{Fits};
-ghost use Rattle.nfa_pikevm.specs.Finding.{IsKnown};
+ghost use Rattle.nfa_pikevm.specs.Finding.{IsKnownFrom};
 
 use crate::cache::Cache;
 use crate::engine::PikeVM;
-use nfa_search_base::iter::{Offered, Searcher};
-use regex_search_core::{Input, Match};
+use nfa_search_base::error::SearchError;
+use nfa_search_base::iter::{Searcher, Searches, Steps};
+use regex_search_core::{Input, Match, Span};
 use std::alloc::{AllocError, Global};
 
 /// The matches of an input that do not overlap, from left to right: what [`PikeVM::find_iter`] gives.
@@ -15,29 +18,29 @@ use std::alloc::{AllocError, Global};
 /// They are at most as many as the span has bytes and one more. It ends for good after the last one.
 #[derive(Debug, Drop)]
 pub struct FindMatches<'r, 'c, 'h> {
-    engine: &'r PikeVM,
     cache: &'c mut Cache,
-    searcher: Searcher<'h>,
-    // What the next search would answer, if the last one told it: an empty match where the input starts.
+    steps: Steps<'h, Finder<'r>>,
+    ghost fits: { Fits cache.now steps.asker.engine.now.nfa },
+    ghost knows: { IsKnownFrom steps.asker.engine.now (steps_walk steps).at steps.asker.known },
+}
+
+// A PikeVM that answers the searches of one iteration.
+#[derive(Debug, Drop)]
+struct Finder<'r> {
+    engine: &'r PikeVM,
+    // What the last search found, if it is empty and lies where the search began: it answers a search from there too.
     known: Option<Match>,
-    done: bool,
-    ghost fits: { Fits cache.now engine.now.nfa },
-    ghost knows: { IsKnown engine.now (walk_of searcher).at known },
 }
 
 impl PikeVM {
-    ghost use Rattle.std.specs.Prelude.{◌≡◌, false, All, IfOk, None, Option, map};
-    ghost use Rattle.std.proofs.lemmas.Iterator.{YieldsList};
-    ghost use Rattle.regex_search_core.specs.Found.{Found, found_of};
-    ghost use Rattle.regex_search_core.specs.Search.{Search, search_of};
-    ghost use Rattle.nfa_search_base.specs.Asking.{SameButStart};
-    ghost use Rattle.nfa_search_base.specs.Searchers.{walk_of, OfferGives, IsDone};
-    ghost use Rattle.nfa_search_base.specs.Walks.{fresh, after, span_of, Advances, ComesAfter, IsPast, LeavesFewer, LiesIn};
-    ghost use Rattle.nfa_pikevm.specs.Engines.{SameNumbers, kind_of};
-    ghost use Rattle.nfa_pikevm.specs.Finding.{Finds, IsFindOf, IsKnown, GivesMatches, all_matches, answer_of, place};
+    ghost use Rattle.std.specs.Prelude.{false, All, IfOk, None, map};
+    ghost use Rattle.regex_search_core.specs.Found.{found_of};
     ghost use Rattle.nfa_search_base.specs.Lists.{AreMatches, AreApart, IsInside};
-    ghost use Rattle.nfa_pikevm.specs.Runs.{RunsGive, RunsAre, RunsApart, GivesFirst, GivesNext, GivesCache};
-    ghost use Rattle.nfa_pikevm.specs.FindMatches.{find_engine, find_walk, find_steps};
+    ghost use Rattle.nfa_search_base.specs.Walks.{fresh};
+    ghost use Rattle.nfa_pikevm.specs.Engines.{SameNumbers, kind_of};
+    ghost use Rattle.nfa_pikevm.specs.FindMatches.{find_cache, find_engine, find_is_done, find_steps, find_walk};
+    ghost use Rattle.nfa_pikevm.specs.Runs.{GivesCache};
+    ghost use Rattle.nfa_search_base.specs.MatchRuns.{MatchesRun, MatchesAre, MatchesApart, MatchesFirst, MatchesNext};
 
     /// The matches of the input that do not overlap, from left to right. To make this takes no memory. The caller owes a
     /// cache that fits.
@@ -51,27 +54,29 @@ impl PikeVM {
         input: Input<'h>,
     ) -> FindMatches<'r, 'c, 'h>
         requires { Fits cache.old self.now.nfa }
-        ensures same_reference { result.cache.ghost_name ≡ cache.entry.ghost_name }
-        ensures same_cache { result.cache.now ≡ cache.entry.now }
+        ensures same_reference { (find_cache result).ghost_name ≡ cache.entry.ghost_name }
+        ensures same_cache { (find_cache result).now ≡ cache.entry.now }
         ensures engine { find_engine result ≡ self.now }
         ensures walk { find_walk result ≡ fresh (search_of input.entry) }
-        ensures going { result.done ≡ false }
-        // The items are the matches of the input: each run of calls gives the first of them, and all where it goes on to `None`.
-        ensures runs { RunsGive self.now (search_of input.entry) result }
-        ensures are { RunsAre self.now (search_of input.entry) result }
-        ensures apart { RunsApart (search_of input.entry) result }
-        ensures first { GivesFirst self.now (search_of input.entry) result }
-        ensures next { GivesNext self.now (search_of input.entry) result }
+        ensures going { find_is_done result ≡ false }
+        // Each run of calls gives the first matches of the input, and all of them where it goes on to `None`.
+        ensures runs { MatchesRun self.now.nfa (kind_of self.now) (search_of input.entry) find_steps result }
+        ensures are { MatchesAre self.now.nfa (kind_of self.now) (search_of input.entry) find_steps result }
+        ensures apart { MatchesApart self.now.nfa (kind_of self.now) (search_of input.entry) find_steps result }
+        ensures first { MatchesFirst self.now.nfa (kind_of self.now) (search_of input.entry) find_steps result }
+        ensures next { MatchesNext self.now.nfa (kind_of self.now) (search_of input.entry) find_steps result }
         ensures keeps { GivesCache result }
-        // Where h gives the match of each search, the items are all matches, whoever asks for them.
-        ensures list { (h : Search → Option Found) → GivesMatches self.now h (search_of input.entry) → YieldsList find_steps found_of result (all_matches h (search_of input.entry)) }
     {
         FindMatches {
-            engine: self,
             cache,
-            searcher: Searcher::new(input),
-            known: None,
-            done: false,
+            steps: Steps {
+                searcher: Searcher::new(input),
+                asker: Finder {
+                    engine: self,
+                    known: None,
+                },
+                done: false,
+            },
         }
     }
 
@@ -83,7 +88,9 @@ impl PikeVM {
         input: Input<'_>,
     ) -> Result<Vec<Match>, AllocError>
         requires { Fits cache.old self.now.nfa }
-        ensures all { IfOk result (λ found. AreMatches self.now.nfa (kind_of self.now) (search_of input.entry).earliest (search_of input.entry) (map found_of found.items)) }
+        ensures all { IfOk result (λ found.
+            AreMatches self.now.nfa (kind_of self.now) (search_of input.entry).earliest (search_of input.entry)
+            (map found_of found.items)) }
         ensures apart { IfOk result (λ found. AreApart (search_of input.entry) None (map found_of found.items)) }
         ensures inside { IfOk result (λ found. All (λ m. IsInside (search_of input.entry) (found_of m)) found.items) }
         ensures numbers { SameNumbers cache.old cache.new }
@@ -94,104 +101,63 @@ impl PikeVM {
         }
         Ok(found)
     }
+}
 
-    // The match of one search, which lies in its span.
-    fn find_at(&self, cache: &mut Cache, input: &Input<'_>) -> Option<Match>
-        requires { Fits cache.old self.now.nfa }
-        ensures numbers { SameNumbers cache.old cache.new }
-        ensures finds { IsFindOf self.now (search_of input.now) (answer_of result) }
-        ensures inside { LiesIn (search_of input.now) (place result) }
-    {
-        self.find(cache, *input)
-    }
+impl<'r> Searches for Finder<'r> {
+    ghost use Rattle.regex_search_core.specs.Found.{Found, found_of};
+    ghost use Rattle.nfa_search_base.specs.Steps.{GivesItem};
+    ghost use Rattle.nfa_search_base.specs.Walks.{span_of};
+    ghost use Rattle.nfa_pikevm.specs.Finding.{answer_of};
+    ghost use Rattle.nfa_pikevm.specs.FindMatches.{AsksPike, MayFind};
 
-    // The match of the searcher's input: the one that is known, else what a search finds.
-    fn find_first(
-        &self,
-        cache: &mut Cache,
-        input: &Input<'_>,
-        known: Option<Match>,
-    ) -> Option<Match>
-        requires fits { Fits cache.old self.now.nfa }
-        requires knows { IsKnown self.now (search_of input.now) known }
-        ensures numbers { SameNumbers cache.old cache.new }
-        ensures finds { IsFindOf self.now (search_of input.now) (answer_of result) }
-        ensures inside { LiesIn (search_of input.now) (place result) }
-    {
-        match known {
-            Some(_) => known,
-            None => self.find_at(cache, input),
+    type Cache = Cache;
+
+    type Reply = Option<Match>;
+
+    ghost Value = { Found };
+
+    ghost shows = { λ _ reply. answer_of reply };
+
+    ghost span = { span_of };
+
+    ghost accepts = { MayFind };
+
+    type Item = Match;
+
+    ghost gives = { λ _. GivesItem found_of };
+
+    ghost asks = { AsksPike };
+
+    #[inline]
+    fn answer(&mut self, cache: &mut Cache, input: &Input<'_>) -> Option<Match> {
+        let known = ending_at(input.start(), self.known);
+        if known.is_some() {
+            return known;
         }
-    }
-
-    // Offers the match of the searcher's input, and keeps it if the input stays the same.
-    fn offer(
-        &self,
-        searcher: &mut Searcher<'_>,
-        known: &mut Option<Match>,
-        found: Option<Match>,
-    ) -> Offered
-        requires finds { IsFindOf self.now (walk_of searcher.old).at (answer_of found) }
-        requires inside { LiesIn (walk_of searcher.old).at (place found) }
-        ensures gives { OfferGives (walk_of searcher.old) found result (walk_of searcher.new) }
-        ensures once { IsPast (walk_of searcher.old) → IsDone result }
-        ensures same { SameButStart (walk_of searcher.old).at (walk_of searcher.new).at }
-        ensures knows { IsKnown self.now (walk_of searcher.new).at known.new }
-    {
-        let start = searcher.input().start();
-        let offered = searcher.offer(found);
-        *known = match offered {
-            Offered::Done(_) => ending_at(start, found),
-            Offered::Again => None,
-        };
-        offered
-    }
-
-    // The match in place of an empty one where the last match ended.
-    fn step_again(
-        &self,
-        cache: &mut Cache,
-        searcher: &mut Searcher<'_>,
-        known: &mut Option<Match>,
-    ) -> Option<Match>
-        requires fits { Fits cache.old self.now.nfa }
-        requires past { IsPast (walk_of searcher.old) }
-        ensures numbers { SameNumbers cache.old cache.new }
-        ensures finds { IsFindOf self.now (walk_of searcher.old).at (answer_of result) }
-        ensures inside { LiesIn (walk_of searcher.old).at (place result) }
-        ensures walk { walk_of searcher.new ≡ after (walk_of searcher.old) (place result) }
-        ensures knows { IsKnown self.now (walk_of searcher.new).at known.new }
-    {
-        let found = self.find_at(cache, searcher.input());
-        self.offer(searcher, known, found);
+        let found = self.engine.find(cache, *input);
+        self.known = ending_at(input.start(), found);
         found
     }
 
-    // The next match of an iteration.
-    fn step(
-        &self,
-        cache: &mut Cache,
-        searcher: &mut Searcher<'_>,
-        known: &mut Option<Match>,
-    ) -> Option<Match>
-        requires fits { Fits cache.old self.now.nfa }
-        requires knew { IsKnown self.now (walk_of searcher.old).at known.old }
-        ensures numbers { SameNumbers cache.old cache.new }
-        ensures step { Advances span_of (Finds self.now) tt (walk_of searcher.old) (answer_of result) tt (walk_of searcher.new) }
-        ensures rises { ComesAfter (walk_of searcher.old) (place result) }
-        ensures fewer { LeavesFewer (walk_of searcher.old) (place result) (walk_of searcher.new) }
-        ensures same { SameButStart (walk_of searcher.old).at (walk_of searcher.new).at }
-        ensures knows { IsKnown self.now (walk_of searcher.new).at known.new }
-    {
-        let first = self.find_first(cache, searcher.input(), *known);
-        match self.offer(searcher, known, first) {
-            Offered::Done(found) => found,
-            Offered::Again => self.step_again(cache, searcher, known),
+    #[inline]
+    fn place(&self, reply: Option<Match>) -> Option<Span> {
+        match reply {
+            Some(found) => Some(found.span()),
+            None => None,
+        }
+    }
+
+    #[inline]
+    fn item(&self, reply: Option<Match>) -> Option<Result<Match, SearchError>> {
+        match reply {
+            Some(found) => Some(Ok(found)),
+            None => None,
         }
     }
 }
 
 // The match if it ends there, else none.
+#[inline]
 fn ending_at(end: usize, found: Option<Match>) -> Option<Match>
     ensures { ForSome result (λ m. (found ≡ Some m) × (m.span.end ≡ end)) }
 {
@@ -211,15 +177,10 @@ impl<'r, 'c, 'h> Iterator for FindMatches<'r, 'c, 'h> {
     ghost remaining = { find_left };
 
     fn next(&mut self) -> Option<Match> {
-        if self.done {
-            return None;
+        match self.steps.next_with(self.cache) {
+            Some(Ok(found)) => Some(found),
+            None => None,
+            Some(Err(_)) => unreachable!(),
         }
-        let found = self
-            .engine
-            .step(self.cache, &mut self.searcher, &mut self.known);
-        if found.is_none() {
-            self.done = true;
-        }
-        found
     }
 }

@@ -8,3 +8,5 @@ pub mod StepLemmas
 pub mod StoredLemmas
 pub mod WalkLemmas
 pub mod ListLemmas
+pub mod RunLemmas
+pub mod MatchRunLemmas

@@ -1,226 +1,344 @@
--- The list of the matches of a search: there is one at most, its matches are apart, and lie in the span.
-use Rattle.std.proofs.Common.{◌≡◌, ◌∙◌, ℕ, ◌≤◌, ◌<◌, Bool, true, false, Option, None, Some, Ok, Err, List, [], ◌∷◌, ◌++◌, map, length, take, refl, sym, ap, subst, arith, MatchBool, ◌⊎◌, inl, inr}
-use Rattle.std.proofs.Common.{◌+◌, zero, suc, if◌then◌else◌, rules, tests}
-use Rattle.regex_search_core.specs.declared.search.Span.{Span}
-use Rattle.std.proofs.lemmas.Bool.{cases_lt}
-use Rattle.std.specs.Option.{option_map, ForSome}
-use Rattle.std.specs.Prelude.{◌==◌, ◌&&◌}
+-- The list of an iteration's items: there is one at most, and one where each search has an answer; its matches are
+-- apart,
+-- lie in the span, and are at most one more than the span has bytes. And so the list of the matches of an NFA.
+use Rattle.std.proofs.Common.{◌≡◌, ◌∙◌, ℕ, zero, suc, ◌+◌, ◌-◌, ◌≤◌, ◌<◌, ◌⊎◌, inl, inr, Bool, true, false}
+use Rattle.std.proofs.Common.{if◌then◌else◌, MatchBool}
+use Rattle.std.proofs.Common.{Option, None, Some, Ok, Err, List, [], ◌∷◌, ◌++◌, map, length, refl, sym, ap, subst}
+use Rattle.std.proofs.Common.{arith}
+use Rattle.std.specs.Option.{ForSome}
 use Rattle.regex_search_core.specs.Found.{Found}
 use Rattle.regex_search_core.specs.Search.{Search}
-use Rattle.nfa_search_base.specs.Walks.{Walk, fresh, repeats, shifted, span_of}
-use Rattle.std.specs.Option.{option_and_then}
+use Rattle.regex_search_core.specs.declared.search.MatchKind.{MatchKind}
+use Rattle.regex_search_core.specs.declared.search.Span.{Span}
+use Rattle.thompson_nfa.specs.Automaton.{Automaton}
+use Rattle.nfa_paths.specs.Paths.{IsMatchAnswer}
+use Rattle.nfa_paths.proofs.InsideLemmas.{match-within}
+use Rattle.nfa_paths.proofs.KnownLemmas.{match-unique}
+use Rattle.nfa_paths.proofs.ExistenceLemmas.{search_answer-exists}
+use Rattle.nfa_paths.specs.Paths.{slot_row, path_pattern}
 use Rattle.regex_search_core.specs.Groups.{slot_count}
 use Rattle.regex_search_core.specs.Slots.{match_of}
-use Rattle.regex_search_core.specs.declared.search.MatchKind.{MatchKind}
-use Rattle.thompson_nfa.specs.Automaton.{Automaton}
-use Rattle.nfa_paths.specs.Paths.{slot_row, path_pattern, IsMatchAnswer}
+use Rattle.std.specs.Option.{option_and_then}
 use Rattle.nfa_search_base.specs.Asking.{SameButStart}
+use Rattle.nfa_search_base.specs.Behind.{IsBehind}
 use Rattle.nfa_search_base.specs.Items.{Item, matches_in, items_from, items_within, greedy, step_answer, step_walk}
-use Rattle.nfa_search_base.specs.Walks.{Answer, after, place_of, ends_left}
-use Rattle.nfa_paths.proofs.AnswerLemmas.{search_answer-unique}
+use Rattle.nfa_search_base.specs.Lists.{IsStep, Fails, ItemsNext, ItemsLast, IsInside, AreApart}
+use Rattle.nfa_search_base.specs.Lists.{TellsMatch, ComeNext, ComeLast, AreFirstMatches, AreMatches}
+use Rattle.nfa_search_base.specs.Walks.{Walk, Answer, Advances, LiesIn, ComesAfter, IsInside as AnswersInside}
+use Rattle.nfa_search_base.specs.Walks.{fresh, repeats, shifted, after, place_of, span_of, ends_left}
+use Rattle.nfa_search_base.specs.declared.error.SearchError.{SearchError}
 use Rattle.nfa_search_base.proofs.AskingLemmas.{same_start-self, same_start-then}
-use Rattle.nfa_search_base.proofs.WalkLemmas.{LeavesFewer-first}
-use Rattle.nfa_paths.proofs.InsideLemmas.{match-within}
-use Rattle.nfa_search_base.proofs.StepLemmas.{chosen, same_start-after, same_start-shifted}
-use Rattle.nfa_search_base.specs.Lists.{past, IsNext, ComeNext, ComeLast, AreFirstMatches, AreMatches, IsInside, AreApart}
+use Rattle.nfa_search_base.proofs.StepLemmas.{chosen, same_start-after, same_start-shifted, Advances-rises}
+use Rattle.nfa_search_base.proofs.StepLemmas.{Advances-fewer}
+use Rattle.nfa_search_base.proofs.WalkLemmas.{IsOrdered}
 
 some-injective : {A : Type 0} (a b : A) → Some a ≡ Some b → a ≡ b
 some-injective a b e = cc
 
-never-true : true ≡ false → ⊥
-never-true e = cc
+match-same : {X : Type 0} (x y : X) → (let a : Answer X = Ok (Some x) in let b : Answer X = Ok (Some y) in a ≡ b)
+    → x ≡ y
+match-same x y e = cc
 
-same-true : (a b : ℕ) → a ≡ b → (a == b) ≡ true
-same-true a b e = search (rules, tests)
+error-same : {X : Type 0} (e q : SearchError) → (let a : Answer X = Err e in let b : Answer X = Err q in a ≡ b) → e ≡ q
+error-same e q is = cc
+
+-- the last end is not behind the start: before the first match, and after a match
+behind-none : (n : ℕ) → IsBehind None n
+behind-none n = λ e is. let never : None ≡ Some e = is in cc
+
+behind-after : (end : ℕ) → IsBehind (Some end) end
+behind-after end = λ e is. let same : end ≡ e = some-injective end e is in omega (arith, same)
+
+module _ {X : Type 0} (span : X → Span) (tells : Search → Answer X → Type 0) where
+  -- the iteration after a match
+  abbrev past : Walk → X → Walk
+  past w x = after w (Some (span x))
+
+  abbrev Step : Walk → Answer X → Type 0
+  Step = IsStep span tells
+
+  -- the items of steps alone
+  abbrev Next : Walk → List (Item X) → Type 0
+  Next = ItemsNext span tells (Fails span tells)
+
+  abbrev Last : Walk → List (Item X) → Type 0
+  Last = ItemsLast span tells (Fails span tells)
+
+  -- where a search tells one answer at most
+  module _ (one : (t : Search) (a b : Answer X) → tells t a → tells t b → a ≡ b) where
+    -- a step has one answer at most
+    pub step-unique : (w : Walk) (a b : Answer X) → Step w a → Step w b → a ≡ b
+    step-unique w a b h k =
+        let first : h.first ≡ k.first = one w.at h.first k.first h.is_first k.is_first in
+        of (repeats w (place_of span h.first)) h.rest
+        (subst (λ (o : Answer X). MatchBool (repeats w (place_of span o)) (tells (shifted w).at b) (b ≡ o)) (sym first) k.rest)
+      where
+        of : (again : Bool) → MatchBool again (tells (shifted w).at a) (a ≡ h.first)
+            → MatchBool again (tells (shifted w).at b) (b ≡ h.first) → a ≡ b
+        of true x y = one (shifted w).at a b x y
+        of false x y = x ∙ sym y
+
+    -- the first items are followed by the rest of the list
+    pub next-rest : (w : Walk) (xs ys : List (Item X)) → Next w xs → Last w ys
+        → (more : List (Item X)) × (ys ≡ xs ++ more)
+    next-rest w [] ys h k = (ys, refl)
+    next-rest w (Ok x ∷ xs) [] h k = let e : Ok (Some x) ≡ Ok None = step-unique w (Ok (Some x)) (Ok None) h.0 k in cc
+    next-rest w (Ok x ∷ xs) (Ok y ∷ ys) h k =
+        let same : x ≡ y = match-same x y (step-unique w (Ok (Some x)) (Ok (Some y)) h.0 k.0) in
+        let there = subst (λ (m : X). Last (past w m) ys) (sym same) k.1 in
+        let rest = next-rest (past w x) xs ys h.1 there in
+        (rest.0, ap (λ (m : X). Ok m ∷ ys) (sym same) ∙ ap (λ (l : List (Item X)). Ok x ∷ l) rest.1)
+    next-rest w (Ok x ∷ xs) (Err q ∷ ys) h k = let e : Ok (Some x) ≡ Err q = step-unique w (Ok (Some x)) (Err q) h.0 k.0 in cc
+    next-rest w (Err e ∷ xs) [] h k = let is : Err e ≡ Ok None = step-unique w (Err e) (Ok None) h.0 k in cc
+    next-rest w (Err e ∷ xs) (Ok y ∷ ys) h k = let is : Err e ≡ Ok (Some y) = step-unique w (Err e) (Ok (Some y)) h.0 k.0 in cc
+    next-rest w (Err e ∷ xs) (Err q ∷ ys) h k =
+        let same : e ≡ q = error-same e q (step-unique w (Err e) (Err q) h.0 k.0) in
+        ([], rw (h.1, k.1, same) refl)
+
+    -- there is one list
+    pub last-unique : (w : Walk) (xs ys : List (Item X)) → Last w xs → Last w ys → xs ≡ ys
+    last-unique w [] [] h k = refl
+    last-unique w [] (Ok y ∷ ys) h k = let e : Ok None ≡ Ok (Some y) = step-unique w (Ok None) (Ok (Some y)) h k.0 in cc
+    last-unique w [] (Err q ∷ ys) h k = let e : Ok None ≡ Err q = step-unique w (Ok None) (Err q) h k.0 in cc
+    last-unique w (Ok x ∷ xs) [] h k = let e : Ok (Some x) ≡ Ok None = step-unique w (Ok (Some x)) (Ok None) h.0 k in cc
+    last-unique w (Ok x ∷ xs) (Ok y ∷ ys) h k =
+        let same : x ≡ y = match-same x y (step-unique w (Ok (Some x)) (Ok (Some y)) h.0 k.0) in
+        let there = subst (λ (m : X). Last (past w m) ys) (sym same) k.1 in
+        rw (same, last-unique (past w x) xs ys h.1 there) refl
+    last-unique w (Ok x ∷ xs) (Err q ∷ ys) h k = let e : Ok (Some x) ≡ Err q = step-unique w (Ok (Some x)) (Err q) h.0 k.0 in cc
+    last-unique w (Err e ∷ xs) [] h k = let is : Err e ≡ Ok None = step-unique w (Err e) (Ok None) h.0 k in cc
+    last-unique w (Err e ∷ xs) (Ok y ∷ ys) h k = let is : Err e ≡ Ok (Some y) = step-unique w (Err e) (Ok (Some y)) h.0 k.0 in cc
+    last-unique w (Err e ∷ xs) (Err q ∷ ys) h k =
+        let same : e ≡ q = error-same e q (step-unique w (Err e) (Err q) h.0 k.0) in
+        rw (h.1, k.1, same) refl
+
+  -- all items are first items
+  pub last-next : (ends : Walk → SearchError → Type 0) (w : Walk) (items : List (Item X))
+      → ItemsLast span tells ends w items → ItemsNext span tells ends w items
+  last-next ends w [] h = tt
+  last-next ends w (Ok x ∷ items) h = (h.0, last-next ends (past w x) items h.1)
+  last-next ends w (Err e ∷ items) h = h
+
+  -- where what a search tells lies in its span
+  module _ (lies : (t : Search) (a : Answer X) → tells t a → AnswersInside span t a × IsOrdered (place_of span a)) where
+    abbrev asks : Unit {0} → Search → Answer X → Unit {0} → Type 0
+    asks s t a s' = tells t a
+
+    -- a step as one of a searcher
+    advances : (w : Walk) (x : X) → Step w (Ok (Some x)) → Advances span asks tt w (Ok (Some x)) tt (past w x)
+    advances w x h = record { answer = h.first; between = tt; first = h.is_first; rest = of tt (repeats w (place_of span h.first)) h.rest }
+      where
+        of : (u : Unit {0}) (again : Bool)
+            → MatchBool again (tells (shifted w).at (Ok (Some x))) (Ok (Some x) ≡ h.first)
+            → MatchBool again (tells (shifted w).at (Ok (Some x)) × (past w x ≡ after (shifted w) (Some (span x))))
+            ((Ok (Some x) ≡ h.first) × (u ≡ u) × (past w x ≡ past w x))
+        of u true k = (k, refl)
+        of u false k = (k, refl, refl)
+
+    -- the match of a step lies in the span of its search
+    pub step-lies : (w : Walk) (x : X) → Step w (Ok (Some x))
+        → (w.at.start ≤ (span x).start) × ((span x).start ≤ (span x).end) × ((span x).end ≤ w.at.end)
+    step-lies w x h = elim (chosen (repeats w (place_of span h.first)) h.rest) [
+      | inl p ↦
+          let k = lies (shifted w).at (Ok (Some x)) p.1 in
+          (omega (arith, k.0.0), k.1 (span x) refl, k.0.1)
+      | inr p ↦
+          let k = lies w.at (Ok (Some x)) (subst (λ (a : Answer X). tells w.at a) (sym p.1) h.is_first) in
+          (k.0.0, k.1 (span x) refl, k.0.1)
+    ]
+
+    -- it comes behind the last end
+    pub step-behind : (w : Walk) (x : X) → IsBehind w.last w.at.start → Step w (Ok (Some x))
+        → ForSome w.last (λ e. (e ≤ (span x).start) × (e < (span x).end))
+    step-behind w x behind h =
+        Advances-rises span asks (λ s t a s' k. lies t a k) tt w (Ok (Some x)) tt (past w x) behind (advances w x h)
+
+    -- and leaves fewer ends
+    pub step-fewer : (w : Walk) (x : X) → IsBehind w.last w.at.start → Step w (Ok (Some x))
+        → ends_left (past w x) < ends_left w
+    step-fewer w x behind h =
+        Advances-fewer span asks (λ s t a s' k. lies t a k) tt w (Ok (Some x)) tt (past w x) behind (advances w x h)
+
+    -- so there are at most as many matches as ends are left
+    pub next-few : (ends : Walk → SearchError → Type 0) (w : Walk) (items : List (Item X))
+        → IsBehind w.last w.at.start → ItemsNext span tells ends w items
+        → length (matches_in items) ≤ ends_left w
+    next-few ends w [] behind h = omega arith
+    next-few ends w (Ok x ∷ items) behind h =
+        let fewer = step-fewer w x behind h.0 in
+        let rest = next-few ends (past w x) items (behind-after (span x).end) h.1 in
+        omega (arith, fewer, rest)
+    next-few ends w (Err e ∷ items) behind h = rw h.1 (omega arith)
+
+    -- Where h gives what a search tells, the greedy walk by h gives the list.
+    module _ (h : Search → Answer X) where
+      abbrev Gives : Search → Type 0
+      Gives x = (t : Search) → SameButStart x t → tells t (h t)
+
+      built : (n : ℕ) (w : Walk) (a : Answer X) (w' : Walk) → Step w a
+          → ((x : X) → a ≡ Ok (Some x) → (w' ≡ past w x) × Last (past w x) (items_within span h n (past w x)))
+          → Last w (items_from span a (items_within span h n w'))
+      built n w (Ok None) w' step rest = step
+      built n w (Err e) w' step rest = (step, refl)
+      built n w (Ok (Some x)) w' step rest =
+          let k = rest x refl in
+          (step, subst (λ (v : Walk). Last (past w x) (items_within span h n v)) (sym k.0) k.1)
+
+      come-greedy : (n : ℕ) (w : Walk) → ends_left w < n → IsBehind w.last w.at.start → Gives w.at
+          → Last w (items_within span h n w)
+      come-greedy zero w lt behind gives = absurd (omega arith)
+      come-greedy (suc n) w lt behind gives = of (λ v less after_it same. come-greedy n v less after_it same) (repeats w (place_of span (h w.at))) refl
+        where
+          Rest : Type 0
+          Rest = (v : Walk) → ends_left v < n → IsBehind v.last v.at.start → Gives v.at → Last v (items_within span h n v)
+
+          onward : Rest → (a : Answer X) → Step w a → (x : X) → a ≡ Ok (Some x)
+              → Last (past w x) (items_within span h n (past w x))
+          onward rec a step x e =
+              let fewer = step-fewer w x behind (subst (λ (b : Answer X). Step w b) e step) in
+              rec (past w x) (omega (arith, fewer)) (behind-after (span x).end)
+              (λ t alike. gives t (same_start-then w.at (past w x).at t (same_start-after w (Some (span x))) alike))
+
+          of : Rest → (again : Bool) → repeats w (place_of span (h w.at)) ≡ again
+              → Last w (items_from span (if again then h (shifted w).at else h w.at)
+              (items_within span h n (if again then after (shifted w) (place_of span (h (shifted w).at)) else after w (place_of span (h w.at)))))
+          of rec true e =
+              let step : Step w (h (shifted w).at) =
+              record { first = h w.at; is_first = gives w.at (same_start-self w.at); rest = rw e (gives (shifted w).at (same_start-shifted w)) } in
+              built n w (h (shifted w).at) _ step
+              (λ x is. (ap (λ (a : Answer X). after (shifted w) (place_of span a)) is, onward rec (h (shifted w).at) step x is))
+          of rec false e =
+              let step : Step w (h w.at) = record { first = h w.at; is_first = gives w.at (same_start-self w.at); rest = rw e refl } in
+              built n w (h w.at) _ step
+              (λ x is. (ap (λ (a : Answer X). after w (place_of span a)) is, onward rec (h w.at) step x is))
+
+      -- so there is a list where each search has an answer
+      pub items-greedy : (x : Search) → Gives x → Last (fresh x) (greedy span h (fresh x))
+      unfolding greedy
+      items-greedy x gives = come-greedy (suc (ends_left (fresh x))) (fresh x) (omega arith) (behind-none x.start) gives
+
+-- a list of matches as items
+abbrev pub as_items : {X : Type 0} → List X → List (Item X)
+as_items xs = map (λ x. Ok x) xs
+
+matches_in-as_items : {X : Type 0} (xs : List X) → matches_in (as_items xs) ≡ xs
+matches_in-as_items [] = refl
+matches_in-as_items (x ∷ xs) = ap (λ l. x ∷ l) (matches_in-as_items xs)
+
+-- the rest of items that are matches are matches
+as_items-rest : {X : Type 0} (xs ys : List X) (more : List (Item X)) → as_items ys ≡ as_items xs ++ more
+    → (rest : List X) × (ys ≡ xs ++ rest)
+as_items-rest [] ys more e = (ys, refl)
+as_items-rest (x ∷ xs) [] more e = cc
+as_items-rest {X} (x ∷ xs) (y ∷ ys) more e =
+    let head : (let a : Item X = Ok y in let b : Item X = Ok x in a ≡ b) = cc in
+    let tail : as_items ys ≡ as_items xs ++ more = cc in
+    let same : y ≡ x = cc in
+    let rest = as_items-rest xs ys more tail in
+    (rest.0, ap (λ (z : X). z ∷ ys) same ∙ ap (λ (l : List X). x ∷ l) rest.1)
+
+-- Matches that a search tells lie in its span, and so the matches of an iteration are apart.
+module _ (tells : Search → Answer Found → Type 0)
+    (lies : (t : Search) (a : Answer Found) → tells t a → AnswersInside span_of t a × IsOrdered (place_of span_of a))
+    (ends : Walk → SearchError → Type 0) where
+  come-apart : (x : Search) (w : Walk) (items : List (Item Found)) → x.start ≤ w.at.start → w.at.end ≡ x.end
+      → IsBehind w.last w.at.start → ItemsNext span_of tells ends w items → AreApart x w.last (matches_in items)
+  come-apart x w [] from to behind h = tt
+  come-apart x w (Err e ∷ items) from to behind h = rw h.1 tt
+  come-apart x w (Ok m ∷ items) from to behind h =
+      let k = step-lies span_of tells lies w m h.0 in
+      (record { from = omega (arith, k.0); ordered = k.1; to = omega (arith, k.2) },
+       step-behind span_of tells lies w m behind h.0,
+       come-apart x (after w (Some (span_of m))) items (omega (arith, k.0, k.1)) to (behind-after m.end) h.1)
+
+  -- the matches among the first items of a search are apart, in order, and lie in its span
+  pub items-apart : (x : Search) (items : List (Item Found)) → ItemsNext span_of tells ends (fresh x) items
+      → AreApart x None (matches_in items)
+  items-apart x items h = come-apart x (fresh x) items (omega arith) refl (behind-none x.start) h
 
 module _ (nfa : Automaton) (kind : MatchKind) (earliest : Bool) where
-  -- a search has one match
-  pub one-match : (x : Search) (a b : Option Found) → IsMatchAnswer nfa kind earliest x a → IsMatchAnswer nfa kind earliest x b → a ≡ b
-  one-match x a b h k =
-      let one = search_answer-unique nfa kind earliest x h.restarts k.restarts h.path k.path h.answers k.answers in
-      h.found_is ∙ ap (λ p. match_of (option_and_then (path_pattern nfa) p) (slot_row nfa (slot_count nfa.groups) p)) one.1 ∙ sym k.found_is
+  abbrev tells : Search → Answer Found → Type 0
+  tells = TellsMatch nfa kind earliest
 
-  -- one match comes next at most
-  next-unique : (w : Walk) (a b : Option Found) → IsNext nfa kind earliest w a → IsNext nfa kind earliest w b → a ≡ b
-  next-unique w a b h k =
-      let first : h.first ≡ k.first = one-match w.at h.first k.first h.is_first k.is_first in
-      of (repeats w (option_map span_of h.first)) h.rest
-      (subst (λ (o : Option Found). MatchBool (repeats w (option_map span_of o)) (IsMatchAnswer nfa kind earliest (shifted w).at b) (b ≡ o)) (sym first) k.rest)
+  -- a search tells one match
+  one-answer : (t : Search) (a b : Answer Found) → tells t a → tells t b → a ≡ b
+  one-answer t (Ok p) (Ok q) h k =
+      ap (λ (o : Option Found). let a : Answer Found = Ok o in a) (match-unique nfa kind earliest t p q h k)
+  one-answer t (Ok p) (Err e) h k = absurd k
+  one-answer t (Err e) b h k = absurd h
+
+  -- which lies in its span
+  pub match-lies : (t : Search) (a : Answer Found) → tells t a
+      → AnswersInside span_of t a × IsOrdered (place_of span_of a)
+  match-lies t (Ok (Some m)) h =
+      let k = match-within nfa kind earliest t m h in
+      ((k.0, k.2), λ p is. subst (λ (q : Span). q.start ≤ q.end) (some-injective (span_of m) p is) k.1)
+  match-lies t (Ok None) h = (tt, λ p is. let never : None ≡ Some p = is in cc)
+  match-lies t (Err e) h = absurd h
+
+  -- and no step errs
+  never-fails : (w : Walk) (e : SearchError) → IsStep span_of tells w (Err e) → ⊥
+  never-fails w e h = elim (chosen (repeats w (place_of span_of h.first)) h.rest) [
+    | inl p ↦ p.1
+    | inr p ↦ subst (λ (a : Answer Found). tells w.at a) (sym p.1) h.is_first
+  ]
+
+  -- each search has an answer
+  abbrev answer_of : Search → Option Found
+  answer_of t =
+      let path = (search_answer-exists nfa kind earliest t).1 in
+      match_of (option_and_then (path_pattern nfa) path) (slot_row nfa (slot_count nfa.groups) path)
+
+  answer_of-told : (t : Search) → tells t (Ok (answer_of t))
+  answer_of-told t =
+      let answer = search_answer-exists nfa kind earliest t in
+      record { restarts = answer.0; path = answer.1; answers = answer.2; found_is = refl }
+
+  -- so each search has a list of matches
+  pub matches-exist : (x : Search) → (ms : List Found) × AreMatches nfa kind earliest x ms
+  matches-exist x =
+      let h : Search → Answer Found = λ t. Ok (answer_of t) in
+      let all = items-greedy span_of tells match-lies h x (λ t alike. answer_of-told t) in
+      let ms = matches_of (greedy span_of h (fresh x)) (fresh x) all in
+      (ms.0, record { come = ms.1 })
     where
-      of : (t : Bool) → MatchBool t (IsMatchAnswer nfa kind earliest (shifted w).at a) (a ≡ h.first) → MatchBool t (IsMatchAnswer nfa kind earliest (shifted w).at b) (b ≡ h.first) → a ≡ b
-      of true x y = one-match (shifted w).at a b x y
-      of false x y = x ∙ sym y
+      matches_of : (items : List (Item Found)) (w : Walk) → ItemsLast span_of tells (Fails span_of tells) w items
+          → (ms : List Found) × ComeLast nfa kind earliest w ms
+      matches_of [] w come = ([], come)
+      matches_of (Ok m ∷ items) w come =
+          let rest = matches_of items (after w (Some (span_of m))) come.1 in (m ∷ rest.0, (come.0, rest.1))
+      matches_of (Err e ∷ items) w come = absurd (never-fails w e come.0)
 
-  last-unique : (w : Walk) (xs ys : List Found) → ComeLast nfa kind earliest w xs → ComeLast nfa kind earliest w ys → xs ≡ ys
-  last-unique w [] [] h k = refl
-  last-unique w [] (y ∷ ys) h k = let e : None ≡ Some y = next-unique w None (Some y) h k.0 in cc
-  last-unique w (x ∷ xs) [] h k = let e : Some x ≡ None = next-unique w (Some x) None h.0 k in cc
-  last-unique w (x ∷ xs) (y ∷ ys) h k =
-      let e : Some x ≡ Some y = next-unique w (Some x) (Some y) h.0 k.0 in
-      let same : x ≡ y = cc in
-      let rest : xs ≡ ys = last-unique (past w x) xs ys h.1 (subst (λ (m : Found). ComeLast nfa kind earliest (past w m) ys) (sym same) k.1) in
-      cc
+  -- and one at most
+  pub matches-unique : (x : Search) (xs ys : List Found) → AreMatches nfa kind earliest x xs
+      → AreMatches nfa kind earliest x ys → xs ≡ ys
+  matches-unique x xs ys h k =
+      sym (matches_in-as_items xs)
+      ∙ ap (λ (l : List (Item Found)). matches_in l) (last-unique span_of tells one-answer (fresh x) (as_items xs) (as_items ys) h.come k.come)
+      ∙ matches_in-as_items ys
 
-  -- a search has one list of matches
-  pub matches-unique : (x : Search) (xs ys : List Found) → AreMatches nfa kind earliest x xs → AreMatches nfa kind earliest x ys → xs ≡ ys
-  matches-unique x xs ys h k = last-unique (fresh x) xs ys h.come k.come
-
-  first-front : (w : Walk) (xs ys : List Found) → ComeNext nfa kind earliest w xs → ComeLast nfa kind earliest w ys → xs ≡ take (length xs) ys
-  first-front w [] ys h k = refl
-  first-front w (x ∷ xs) [] h k = let e : Some x ≡ None = next-unique w (Some x) None h.0 k in cc
-  first-front w (x ∷ xs) (y ∷ ys) h k =
-      let e : Some x ≡ Some y = next-unique w (Some x) (Some y) h.0 k.0 in
-      let same : x ≡ y = cc in
-      let rest : xs ≡ take (length xs) ys = first-front (past w x) xs ys h.1 (subst (λ (m : Found). ComeLast nfa kind earliest (past w m) ys) (sym same) k.1) in
-      cc
-
-  -- the first matches are the front of that list
-  pub matches-front : (x : Search) (xs ys : List Found) → AreFirstMatches nfa kind earliest x xs → AreMatches nfa kind earliest x ys → xs ≡ take (length xs) ys
-  matches-front x xs ys h k = first-front (fresh x) xs ys h.come k.come
-
-  first-rest : (w : Walk) (xs ys : List Found) → ComeNext nfa kind earliest w xs → ComeLast nfa kind earliest w ys → (more : List Found) × (ys ≡ xs ++ more)
-  first-rest w [] ys h k = (ys, refl)
-  first-rest w (x ∷ xs) [] h k = let e : Some x ≡ None = next-unique w (Some x) None h.0 k in cc
-  first-rest w (x ∷ xs) (y ∷ ys) h k =
-      let e : Some x ≡ Some y = next-unique w (Some x) (Some y) h.0 k.0 in
-      let same : x ≡ y = some-injective x y e in
-      let rest = first-rest (past w x) xs ys h.1 (subst (λ (m : Found). ComeLast nfa kind earliest (past w m) ys) (sym same) k.1) in
-      (rest.0, ap (λ (m : Found). m ∷ ys) (sym same) ∙ ap (λ (l : List Found). x ∷ l) rest.1)
-
-  -- the rest of the list follows them
-  pub matches-rest : (x : Search) (xs ys : List Found) → AreFirstMatches nfa kind earliest x xs → AreMatches nfa kind earliest x ys → (more : List Found) × (ys ≡ xs ++ more)
-  matches-rest x xs ys h k = first-rest (fresh x) xs ys h.come k.come
-
-  last-next : (w : Walk) (xs : List Found) → ComeLast nfa kind earliest w xs → ComeNext nfa kind earliest w xs
-  last-next w [] h = tt
-  last-next w (x ∷ xs) h = (h.0, last-next (past w x) xs h.1)
+  -- the rest of the list follows the first matches
+  pub matches-rest : (x : Search) (xs ys : List Found) → AreFirstMatches nfa kind earliest x xs
+      → AreMatches nfa kind earliest x ys
+      → (more : List Found) × (ys ≡ xs ++ more)
+  matches-rest x xs ys h k =
+      let rest = next-rest span_of tells one-answer (fresh x) (as_items xs) (as_items ys) h.come k.come in
+      as_items-rest xs ys rest.0 rest.1
 
   -- all matches are first matches
-  pub matches-first : (x : Search) (xs : List Found) → AreMatches nfa kind earliest x xs → AreFirstMatches nfa kind earliest x xs
-  matches-first x xs h = record { come = last-next (fresh x) xs h.come }
-
-  within : (x : Search) (m : Found) → IsMatchAnswer nfa kind earliest x (Some m) → IsInside x m
-  within x m h = let k = match-within nfa kind earliest x m h in record { from = k.0; ordered = k.1; to = k.2 }
-
-  -- what a step finds lies in the span of its search, and ends behind the last end, where the search starts there
-  next-inside : (w : Walk) (m : Found) → ForSome w.last (λ e. e ≡ w.at.start) → IsNext nfa kind earliest w (Some m)
-      → IsInside w.at m × ForSome w.last (λ e. (e ≤ m.start) × (e < m.end))
-  next-inside w m starts next = of next.first next.is_first next.rest
-    where
-      new : IsInside w.at m → repeats w (Some (span_of m)) ≡ false → (e : ℕ) → w.last ≡ Some e → (e ≤ m.start) × (e < m.end)
-      new inside other e is =
-          let at : e ≡ w.at.start = starts e is in
-          let low : e ≤ m.start = omega (arith, inside.from) in
-          (low, behind e at is inside other)
-        where
-          behind : (e : ℕ) → e ≡ w.at.start → w.last ≡ Some e → IsInside w.at m → repeats w (Some (span_of m)) ≡ false → e < m.end
-          behind e at is inside other = elim (cases_lt e m.end) [
-            | inl lt ↦ lt
-            | inr le ↦
-                let start : m.start ≡ m.end = omega (arith, inside.from, inside.ordered) in
-                let end : e ≡ m.end = omega (arith, inside.from, inside.ordered) in
-                absurd (never-true (rw (is, same-true m.start m.end start, same-true e m.end end) at other))
-          ]
-
-      of : (first : Option Found) → IsMatchAnswer nfa kind earliest w.at first → MatchBool (repeats w (option_map span_of first)) (IsMatchAnswer nfa kind earliest (shifted w).at (Some m)) (Some m ≡ first)
-          → IsInside w.at m × ForSome w.last (λ e. (e ≤ m.start) × (e < m.end))
-      of None is rest = cc
-      of (Some f) is rest = elim (chosen (repeats w (Some (span_of f))) rest) [
-        | inl p ↦
-            let k = within (shifted w).at m p.1 in
-            let one : w.at.start + 1 ≤ m.start = k.from in
-            let ordered : m.start ≤ m.end = k.ordered in
-            (record { from = omega arith; ordered = ordered; to = k.to },
-             λ e last. let at : e ≡ w.at.start = starts e last in (omega arith, omega arith))
-        | inr p ↦
-            let same : m ≡ f = some-injective m f p.1 in
-            let inside = subst (λ (g : Found). IsInside w.at g) (sym same) (within w.at f is) in
-            (inside, new inside (subst (λ (g : Found). repeats w (Some (span_of g)) ≡ false) (sym same) p.0))
-      ]
-
-  -- the same, of an iteration that began with x
-  pub next-apart : (x : Search) (w : Walk) (m : Found) → x.start ≤ w.at.start → w.at.end ≡ x.end → ForSome w.last (λ e. e ≡ w.at.start) → IsNext nfa kind earliest w (Some m)
-      → IsInside x m × (x.start ≤ m.end)
-  next-apart x w m from to starts next =
-      let inside : IsInside w.at m = (next-inside w m starts next).0 in
-      (record { from = omega (arith, inside.from); ordered = inside.ordered; to = omega (arith, inside.to) }, omega (arith, inside.from, inside.ordered))
-
-  come-apart : (x : Search) (w : Walk) (ms : List Found) → x.start ≤ w.at.start → w.at.end ≡ x.end → ForSome w.last (λ e. e ≡ w.at.start) → ComeNext nfa kind earliest w ms → AreApart x w.last ms
-  come-apart x w [] from to starts h = tt
-  come-apart x w (m ∷ ms) from to starts h =
-      let k = next-inside w m starts h.0 in
-      let inside : IsInside w.at m = k.0 in
-      let low : x.start ≤ m.start = omega (arith, inside.from) in
-      let high : m.end ≤ x.end = omega (arith, inside.to) in
-      let behind : x.start ≤ m.end = omega (arith, inside.ordered) in
-      (record { from = low; ordered = inside.ordered; to = high }, k.1,
-       come-apart x (past w m) ms behind to (λ e is. let same : Some m.end ≡ Some e = is in sym (some-injective m.end e same)) h.1)
+  pub matches-first : (x : Search) (xs : List Found) → AreMatches nfa kind earliest x xs
+      → AreFirstMatches nfa kind earliest x xs
+  matches-first x xs h = record { come = last-next span_of tells (Fails span_of tells) (fresh x) (as_items xs) h.come }
 
   -- the first matches of a search are apart, in order, and lie in its span
   pub matches-apart : (x : Search) (ms : List Found) → AreFirstMatches nfa kind earliest x ms → AreApart x None ms
-  matches-apart x ms h = come-apart x (fresh x) ms (omega arith) refl (λ e is. let never : None ≡ Some e = is in cc) h.come
+  matches-apart x ms h =
+      subst (λ (l : List Found). AreApart x None l) (matches_in-as_items ms)
+      (items-apart tells match-lies (Fails span_of tells) x (as_items ms) h.come)
 
-  -- Where h gives the match of each search, the greedy walk by h gives the list.
-  module _ (h : Search → Option Found) where
-    abbrev answer : Search → Answer Found
-    answer t = Ok (h t)
-
-    abbrev Gives : Search → Type 0
-    Gives x = (t : Search) → SameButStart x t → IsMatchAnswer nfa kind earliest t (h t)
-
-    built : (n : ℕ) (w : Walk) (o : Option Found) (w' : Walk) → IsNext nfa kind earliest w o
-        → ((m : Found) → o ≡ Some m → (w' ≡ past w m) × ComeLast nfa kind earliest (past w m) (matches_in (items_within span_of answer n (past w m))))
-        → ComeLast nfa kind earliest w (matches_in (items_from span_of (Ok o) (items_within span_of answer n w')))
-    built n w None w' next rest = next
-    built n w (Some m) w' next rest =
-        (next, subst (λ (v : Walk). ComeLast nfa kind earliest (past w m) (matches_in (items_within span_of answer n v))) (sym (rest m refl).0) (rest m refl).1)
-
-    same-place : (o : Option Found) → place_of span_of (Ok o) ≡ option_map span_of o
-    same-place None = refl
-    same-place (Some m) = refl
-
-    moved : (w : Walk) (o : Option Found) (m : Found) → o ≡ Some m → after w (place_of span_of (Ok o)) ≡ past w m
-    moved w o m e = ap (λ (q : Option Found). after w (place_of span_of (Ok q))) e
-
-    moved-shifted : (w : Walk) (o : Option Found) (m : Found) → o ≡ Some m → after (shifted w) (place_of span_of (Ok o)) ≡ past w m
-    moved-shifted w o m e = ap (λ (q : Option Found). after (shifted w) (place_of span_of (Ok q))) e
-
-    come-greedy : (n : ℕ) (w : Walk) → ends_left w < n → ForSome w.last (λ e. e ≡ w.at.start) → Gives w.at
-        → ComeLast nfa kind earliest w (matches_in (items_within span_of answer n w))
-    come-greedy zero w lt starts gives = absurd (omega arith)
-    come-greedy (suc n) w lt starts gives =
-        of (λ v less begun same. come-greedy n v less begun same) (repeats w (place_of span_of (answer w.at))) refl
-      where
-        onward : ((v : Walk) → ends_left v < n → ForSome v.last (λ e. e ≡ v.at.start) → Gives v.at → ComeLast nfa kind earliest v (matches_in (items_within span_of answer n v)))
-            → (o : Option Found) → IsNext nfa kind earliest w o → (m : Found) → o ≡ Some m
-            → ComeLast nfa kind earliest (past w m) (matches_in (items_within span_of answer n (past w m)))
-        onward rec o next m e =
-            let k = next-inside w m starts (subst (λ (q : Option Found). IsNext nfa kind earliest w q) e next) in
-            let inside : IsInside w.at m = k.0 in
-            let fewer : ends_left (past w m) < ends_left w =
-            LeavesFewer-first w (Some (span_of m)) (inside.from, inside.to)
-            (λ p is. subst (λ (q : Span). q.start ≤ q.end) (some-injective (span_of m) p is) inside.ordered) k.1 in
-            rec (past w m) (omega arith) (λ e is. let same : Some m.end ≡ Some e = is in sym (some-injective m.end e same))
-            (λ t alike. gives t (same_start-then w.at (past w m).at t (same_start-after w (Some (span_of m))) alike))
-
-        of : ((v : Walk) → ends_left v < n → ForSome v.last (λ e. e ≡ v.at.start) → Gives v.at → ComeLast nfa kind earliest v (matches_in (items_within span_of answer n v)))
-            → (b : Bool) → repeats w (place_of span_of (answer w.at)) ≡ b
-            → ComeLast nfa kind earliest w (matches_in (items_from span_of (if b then answer (shifted w).at else answer w.at)
-            (items_within span_of answer n (if b then after (shifted w) (place_of span_of (answer (shifted w).at)) else after w (place_of span_of (answer w.at))))))
-        of rec true e =
-            let again : repeats w (option_map span_of (h w.at)) ≡ true = subst (λ (p : Option Span). repeats w p ≡ true) (same-place (h w.at)) e in
-            let next : IsNext nfa kind earliest w (h (shifted w).at) = record {
-              first = h w.at;
-              is_first = gives w.at (same_start-self w.at);
-              rest = rw again (gives (shifted w).at (same_start-shifted w));
-            } in
-            built n w (h (shifted w).at) _ next (λ m is. (moved-shifted w (h (shifted w).at) m is, onward rec (h (shifted w).at) next m is))
-        of rec false e =
-            let once : repeats w (option_map span_of (h w.at)) ≡ false = subst (λ (p : Option Span). repeats w p ≡ false) (same-place (h w.at)) e in
-            let next : IsNext nfa kind earliest w (h w.at) = record { first = h w.at; is_first = gives w.at (same_start-self w.at); rest = rw once refl } in
-            built n w (h w.at) _ next (λ m is. (moved w (h w.at) m is, onward rec (h w.at) next m is))
-
-    -- so there is a list where there is such a function, and it is the one that h gives
-    pub matches-greedy : (x : Search) → Gives x → AreMatches nfa kind earliest x (matches_in (greedy span_of answer (fresh x)))
-    unfolding greedy
-    matches-greedy x gives = record { come = come-greedy (suc (ends_left (fresh x))) (fresh x) (omega arith) (λ e is. let never : None ≡ Some e = is in cc) gives }
+  -- there are at most as many as the span has bytes, and one more
+  pub matches-few : (x : Search) (ms : List Found) → AreFirstMatches nfa kind earliest x ms
+      → length ms ≤ x.end + 1 - x.start
+  matches-few x ms h =
+      subst (λ (l : List Found). length l ≤ x.end + 1 - x.start) (matches_in-as_items ms)
+      (next-few span_of tells match-lies (Fails span_of tells) (fresh x) (as_items ms) (behind-none x.start) h.come)

@@ -1,5 +1,5 @@
 -- a step of an iteration by a finder
-use Rattle.std.proofs.Common.{◌≡◌, true, false, Bool, Option, None, Some, Result, IsOk, refl, sym, subst, ◌⊎◌, inl, inr, MatchBool}
+use Rattle.std.proofs.Common.{◌≡◌, ◌∙◌, true, false, Bool, Option, None, Some, Result, IsOk, refl, sym, ap, subst, ◌⊎◌, inl, inr, MatchBool}
 use Rattle.std.specs.Fn.{Called, Mut}
 use Rattle.std.specs.Borrow.{Bor}
 use Rattle.regex_search_core.specs.Search.{Search, search_of}
@@ -7,9 +7,9 @@ use Rattle.regex_search_core.specs.declared.search.Input.{Input}
 use Rattle.regex_search_core.specs.declared.search.Span.{Span}
 use Rattle.nfa_search_base.specs.Asking.{IsCallableOn, SameButStart}
 use Rattle.nfa_search_base.specs.Behind.{IsBehind}
-use Rattle.nfa_search_base.specs.Walks.{Walk, Answer, place_of, IsInside, IsSurelyInside, repeats, after, shifted, Advances, ComesAfter, LeavesFewer}
+use Rattle.nfa_search_base.specs.Walks.{Walk, Answer, place_of, IsInside, IsSurelyInside, LiesIn, repeats, after, shifted, Advances, ComesAfter, LeavesFewer}
 use Rattle.nfa_search_base.specs.Finders.{answer_by, Finds, AnswersAlong}
-use Rattle.nfa_search_base.specs.Serving.{ServesOnAlong, ServesTurn}
+use Rattle.nfa_search_base.specs.Serving.{ServesOnAlong, ServesTurn, StepDone}
 use Rattle.nfa_search_base.specs.declared.error.SearchError.{SearchError}
 use Rattle.nfa_search_base.proofs.AskingLemmas.{same_start-self, same_start-then, ServesOn-now, ServesOnAlong-same, ServesOnAlong-call, ServesOnAlong-weaker, ServesOnAlong-by}
 use Rattle.nfa_search_base.proofs.WalkLemmas.{IsOrdered, ComesAfter-first, LeavesFewer-first, ComesAfter-second, LeavesFewer-second}
@@ -101,6 +101,49 @@ module _ {S X : Type 0} (accepts : S → Search → Type 0) (asks : S → Search
     | inl p ↦ ((h.second step.answer step.between step.first p.0).replies r f' p.1.0).1
     | inr p ↦ subst (λ (b : Answer X). IsOk b) (sym p.1.0) (h.first.replies step.answer step.between step.first).1
   ]
+
+-- What is asked for a step of the iteration w, from the state s.
+module _ {S X : Type 0} (accepts : S → Search → Type 0) (asks : S → Search → Answer X → S → Type 0) (span : X → Span) (s : S) (w : Walk)
+    (serves : ServesTurn accepts asks span (IsInside span) s w) (behind : IsBehind w.last w.at.start) where
+  -- a first answer that does not repeat the last match is the step's
+  pub step-once : (a : Answer X) (s' : S) (place : Option Span) (w' : Walk) → asks s w.at a s' → place ≡ place_of span a → IsOrdered place
+      → repeats w place ≡ false → w' ≡ after w place → StepDone accepts asks span s w a s' w'
+  step-once a s' place w' asked is ordered new moved =
+      let lies : LiesIn w.at place = subst (λ (p : Option Span). LiesIn w.at p) (sym is) ((serves.first).replies a s' asked) in
+      let rises : ComesAfter w place = ComesAfter-first w place behind lies ordered new in
+      let here : w' ≡ after w (place_of span a) = moved ∙ ap (λ (p : Option Span). after w p) is in
+      let not_again : repeats w (place_of span a) ≡ false = subst (λ (p : Option Span). repeats w p ≡ false) is new in
+      let fewer : LeavesFewer w place w' = subst (λ (v : Walk). LeavesFewer w place v) (sym moved) (LeavesFewer-first w place lies ordered rises) in
+      record {
+        step = record { answer = a; between = s'; first = asked; rest = rw not_again (refl, refl, here) };
+        rises = subst (λ (p : Option Span). ComesAfter w p) is rises;
+        fewer = subst (λ (p : Option Span). LeavesFewer w p w') is fewer;
+        same = subst (λ (v : Walk). SameButStart w.at v.at) (sym moved) (same_start-after w place);
+      }
+
+  -- after one that repeats it, the second answer is
+  pub step-twice : (b : Answer X) (between : S) (first : Option Span) (w1 : Walk) (a : Answer X) (s' : S) (place : Option Span) (w' : Walk)
+      → asks s w.at b between → first ≡ place_of span b → repeats w first ≡ true → w1 ≡ shifted w → asks between w1.at a s'
+      → place ≡ place_of span a → IsOrdered place → w' ≡ after w1 place → StepDone accepts asks span s w a s' w'
+  step-twice b between first w1 a s' place w' asked was again one asked_again is ordered moved =
+      let repeated : repeats w (place_of span b) ≡ true = subst (λ (p : Option Span). repeats w p ≡ true) was again in
+      let there : asks between (shifted w).at a s' = subst (λ (v : Walk). asks between v.at a s') one asked_again in
+      let inside : IsInside span (shifted w).at a = (serves.second b between asked repeated).replies a s' there in
+      let lies : LiesIn (shifted w).at place = subst (λ (p : Option Span). LiesIn (shifted w).at p) (sym is) inside in
+      let rises : ComesAfter w place = ComesAfter-second w place behind lies ordered in
+      let here : w' ≡ after (shifted w) place = moved ∙ ap (λ (v : Walk). after v place) one in
+      let fewer : LeavesFewer w place w' = subst (λ (v : Walk). LeavesFewer w place v) (sym here) (LeavesFewer-second w place lies ordered rises) in
+      record {
+        step = record {
+          answer = b;
+          between = between;
+          first = asked;
+          rest = rw repeated (there, here ∙ ap (λ (p : Option Span). after (shifted w) p) is);
+        };
+        rises = subst (λ (p : Option Span). ComesAfter w p) is rises;
+        fewer = subst (λ (p : Option Span). LeavesFewer w p w') is fewer;
+        same = subst (λ (v : Walk). SameButStart w.at v.at) (sym here) (same_start-after_shifted w place);
+      }
 
 -- a finder's answers along its calls are its replies' values
 module _ {A X F : Type 0} (view : A → X) (g : Mut F (Bor Input × Unit {0}) (Result (Option A) SearchError)) (P : Search → Answer X → Type 0) where

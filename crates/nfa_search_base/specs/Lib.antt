@@ -6,8 +6,11 @@ pub mod CaughtSteps
 pub mod EmptyFinder
 pub mod Finders
 pub mod Items
+pub mod Lending
 pub mod Likes
 pub mod Lists
+pub mod MatchRuns
+pub mod Runs
 pub mod Searchers
 pub mod Serving
 pub mod Skipping

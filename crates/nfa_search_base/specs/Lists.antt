@@ -1,16 +1,18 @@
--- The matches of a search that do not overlap, from left to right, as one list: said by its steps alone, whoever asks.
-use Rattle.std.specs.Prelude.{ℕ, ◌≡◌, ◌<◌, ◌≤◌, Bool, List, [], ◌∷◌, Option, None, Some, MatchBool, option_map, IfSome, ⊤}
+-- The items of an iteration, from left to right, as one list: said by its steps alone, whoever asks for them. And the
+-- list of the matches of a search of an NFA, which is such a list.
+use Rattle.std.specs.Prelude.{ℕ, ◌≡◌, ◌⊎◌, ◌<◌, ◌≤◌, Bool, List, [], ◌∷◌, map, Option, None, Some, Ok, Err, MatchBool}
+use Rattle.std.specs.Prelude.{IfSome, ⊤}
 use Rattle.std.specs.Option.{ForSome}
 use Rattle.regex_search_core.specs.Found.{Found}
 use Rattle.regex_search_core.specs.Search.{Search}
 use Rattle.regex_search_core.specs.declared.search.MatchKind.{MatchKind}
+use Rattle.regex_search_core.specs.declared.search.Span.{Span}
 use Rattle.thompson_nfa.specs.Automaton.{Automaton}
 use Rattle.nfa_paths.specs.Paths.{IsMatchAnswer}
-use Rattle.nfa_search_base.specs.Walks.{Walk, fresh, after, repeats, shifted, span_of}
-
--- the iteration after this match
-abbrev pub past : Walk → Found → Walk
-past w m = after w (Some (span_of m))
+use Rattle.nfa_search_base.specs.Items.{Item}
+use Rattle.nfa_search_base.specs.Walks.{Answer, Walk, fresh, after, place_of, repeats, shifted, span_of}
+use Rattle.nfa_search_base.specs.declared.error.SearchError.{SearchError}
+use Rattle.nfa_search_base.specs.declared.error.SearchError.TheVariants.{Memory}
 
 -- the match lies in the span
 pub record IsInside (x : Search) (m : Found) : Type 0 where
@@ -27,22 +29,50 @@ AreApart x last (m ∷ ms) = IsInside x m × ForSome last (λ e. (e ≤ m.start)
 abbrev pub IsSlotInside : Search → Option ℕ → Type 0
 IsSlotInside x slot = IfSome slot (λ k. (x.start ≤ k) × (k ≤ x.end))
 
+-- A match is an X, which lies at `span`; a search `tells` an answer.
+module _ {X : Type 0} (span : X → Span) (tells : Search → Answer X → Type 0) where
+  -- A step from w answers this: what its search tells, or, where that is an empty match at the last end, what a search
+  -- from one byte on tells.
+  pub record IsStep (w : Walk) (a : Answer X) : Type 0 where
+    pub first : Answer X
+    pub is_first : tells w.at first
+    pub rest : MatchBool (repeats w (place_of span first)) (tells (shifted w).at a) (a ≡ first)
+
+  -- the step errs
+  abbrev pub Fails : Walk → SearchError → Type 0
+  Fails w error = IsStep w (Err error)
+
+  -- the step errs, or has a match of which memory for a copy was refused
+  abbrev pub FailsOrIsRefused : Walk → SearchError → Type 0
+  FailsOrIsRefused w error = IsStep w (Err error) ⊎ ((error ≡ Memory) × (x : X) × IsStep w (Ok (Some x)))
+
+  -- An error comes where it `ends` the list.
+  module _ (ends : Walk → SearchError → Type 0) where
+    -- from w on these come next: matches, one after the other, and, as the last, maybe an error
+    abbrev pub ItemsNext : Walk → List (Item X) → Type 0
+    ItemsNext w [] = ⊤
+    ItemsNext w (Ok x ∷ items) = IsStep w (Ok (Some x)) × ItemsNext (after w (Some (span x))) items
+    ItemsNext w (Err error ∷ items) = ends w error × (items ≡ [])
+
+    -- and none after them
+    abbrev pub ItemsLast : Walk → List (Item X) → Type 0
+    ItemsLast w [] = IsStep w (Ok None)
+    ItemsLast w (Ok x ∷ items) = IsStep w (Ok (Some x)) × ItemsLast (after w (Some (span x))) items
+    ItemsLast w (Err error ∷ items) = ends w error × (items ≡ [])
+
 module _ (nfa : Automaton) (kind : MatchKind) (earliest : Bool) where
-  -- What comes next in an iteration: the match of its search, or, where that is an empty one at the last end, the match of a search from one byte on.
-  pub record IsNext (w : Walk) (found : Option Found) : Type 0 where
-    pub first : Option Found
-    pub is_first : IsMatchAnswer nfa kind earliest w.at first
-    pub rest : MatchBool (repeats w (option_map span_of first)) (IsMatchAnswer nfa kind earliest (shifted w).at found) (found ≡ first)
+  -- a search tells its match, and never errs
+  abbrev pub TellsMatch : Search → Answer Found → Type 0
+  TellsMatch x (Ok found) = IsMatchAnswer nfa kind earliest x found
+  TellsMatch x (Err error) = ⊥
 
   -- from w on these come next, one after the other
   abbrev pub ComeNext : Walk → List Found → Type 0
-  ComeNext w [] = ⊤
-  ComeNext w (m ∷ ms) = IsNext w (Some m) × ComeNext (past w m) ms
+  ComeNext w ms = ItemsNext span_of TellsMatch (Fails span_of TellsMatch) w (map (λ m. Ok m) ms)
 
   -- and none after them
   abbrev pub ComeLast : Walk → List Found → Type 0
-  ComeLast w [] = IsNext w None
-  ComeLast w (m ∷ ms) = IsNext w (Some m) × ComeLast (past w m) ms
+  ComeLast w ms = ItemsLast span_of TellsMatch (Fails span_of TellsMatch) w (map (λ m. Ok m) ms)
 
   -- these are the first matches of x
   pub record AreFirstMatches (x : Search) (ms : List Found) : Type 0 where

@@ -13,7 +13,12 @@ pub mod laws;
 mod matches;
 mod place;
 mod searcher;
+mod searches;
 mod steps;
+
+// What engines build their iterators on; users of an engine need neither.
+pub use searches::Searches;
+pub use steps::Steps;
 
 pub use captures_matches::{CapturesIter, TryCapturesIter};
 pub use half_matches::{HalfMatchesIter, TryHalfMatchesIter};

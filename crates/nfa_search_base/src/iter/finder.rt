@@ -12,13 +12,14 @@ use crate::iter::place::{half_match_span, match_span};
 use regex_search_core::{Captures, HalfMatch, Input, Match, Span};
 use std::marker::Model;
 
-// Whatever answers the searches of an iteration.
-pub(crate) trait Answers: Drop {
-    // What a call gives, and what it stands for, in the state that the call left.
+// Whatever answers the searches of an iteration by itself: a finder that is kept.
+pub trait Answers: Drop {
+    // What a call gives.
     type Reply: Copy;
 
     ghost Value: { Type 0 };
 
+    // What it stands for, in the state that the call left.
     ghost shows: { Self → Self.Reply → Answer Value };
 
     // Where a match lies.
@@ -27,9 +28,10 @@ pub(crate) trait Answers: Drop {
     // It may be called on this search.
     ghost accepts: { Self → Search → Type 0 };
 
-    // The item of an iterator that an answer gives, in the state that the call left.
+    // The item of an iterator.
     type Item;
 
+    // The item that an answer gives, in the state that the call left.
     ghost gives: { Self → Answer Value → Option (Result Self.Item SearchError) → Type 0 };
 
     // A call on this search may give this answer and leave this.

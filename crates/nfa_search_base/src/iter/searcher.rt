@@ -3,6 +3,7 @@ ghost use Rattle.nfa_search_base.specs.Behind.{IsBehind};
 use crate::error::SearchError;
 use crate::iter::finder::{Answers, OnHalfMatches, OnMatches};
 use crate::iter::place::match_span;
+use crate::iter::searches::Searches;
 use regex_search_core::{HalfMatch, Input, Match, Span};
 use std::alloc::AllocError;
 
@@ -182,7 +183,26 @@ impl<'h> Searcher<'h> {
         second
     }
 
+    // The same step, where each search is lent a cache.
+    #[inline]
+    pub(crate) fn step_with<A: Searches>(&mut self, asker: &mut A, cache: &mut A::Cache) -> A::Reply
+        requires { ServesTurn A.accepts A.asks A.span (IsInside A.span) (record { asker = asker.old; cache = cache.old }) (walk_of self.old) }
+        ensures { StepDone A.accepts A.asks A.span (record { asker = asker.old; cache = cache.old }) (walk_of self.old) (A.shows asker.new result) (record { asker = asker.new; cache = cache.new }) (walk_of self.new) }
+    {
+        let once = asker.answer(cache, &self.input);
+        let place = asker.place(once);
+        if !self.moves_on(place) {
+            self.take(place);
+            return once;
+        }
+        let twice = asker.answer(cache, &self.input);
+        let place = asker.place(twice);
+        self.take(place);
+        twice
+    }
+
     // Whether the match is an empty one at the last end. The start then moves one on.
+    #[inline]
     fn moves_on(&mut self, place: Option<Span>) -> bool
         requires { LiesIn (walk_of self.old).at place }
         ensures test { result ≡ repeats (walk_of self.old) place }
@@ -201,6 +221,7 @@ impl<'h> Searcher<'h> {
     }
 
     // Takes an answer as it is.
+    #[inline]
     fn take(&mut self, place: Option<Span>)
         requires inside { LiesIn (walk_of self.old).at place }
         requires ordered { ForSome place (λ p. p.start ≤ p.end) }

@@ -4,13 +4,41 @@ ghost use Rattle.nfa_search_base.specs.Steps.{ends_at};
 use crate::error::SearchError;
 use crate::iter::finder::Answers;
 use crate::iter::searcher::Searcher;
+use crate::iter::searches::Searches;
 
-// An iteration that keeps what it asks.
-#[derive(Drop)]
-pub(crate) struct Steps<'h, A> {
-    pub(crate) searcher: Searcher<'h>,
-    pub(crate) asker: A,
-    pub(crate) done: bool,
+/// An iteration that keeps what it asks: the core of each iterator, of engines too.
+///
+/// It gives the items of the steps of a [`Searcher`], and ends for good after the first none and
+/// after an error.
+#[derive(Debug, Drop)]
+pub struct Steps<'h, A> {
+    /// Where the iteration stands.
+    pub searcher: Searcher<'h>,
+    /// What answers its searches.
+    pub asker: A,
+    /// Whether it has ended.
+    pub done: bool,
+}
+
+impl<'h, A: Searches> Steps<'h, A> {
+    ghost use Rattle.nfa_search_base.specs.Lending.{lend};
+    ghost use Rattle.nfa_search_base.specs.Stored.{can_step, takes_steps};
+
+    /// The next item, by searches with this cache. The caller owes that each search of the iteration
+    /// may be asked, wherever searches lead, and answers a match in its span.
+    #[inline]
+    pub fn next_with(&mut self, cache: &mut A::Cache) -> Option<Result<A::Item, SearchError>>
+        requires { can_step A.accepts A.asks A.span (lend self.old cache.old) }
+        ensures { takes_steps A.span A.asks (λ q. A.gives q.asker) (lend self.old cache.old) result (lend self.new cache.new) }
+    {
+        if self.done {
+            return None;
+        }
+        let reply = self.searcher.step_with(&mut self.asker, cache);
+        let given = self.asker.item(reply);
+        self.done = is_last(&given);
+        given
+    }
 }
 
 // Whether an iterator ends with this item: with none and with an error.

@@ -1,6 +1,14 @@
-use Rattle.regex_search_core.specs.Search.{search_of}
-use Rattle.nfa_backtrack.proofs.FindLemmas.{find-inside}
+-- The search is made once, and counted as what it answers.
+use Rattle.nfa_backtrack.proofs.FindLemmas.{counts-by}
 use Rattle.nfa_backtrack.proofs.engine.BoundedBacktracker.find_at.Goals as goal
 
-pub returns-clause-inside : goal.returns-clause-inside
-returns-clause-inside c = find-inside c.args.self.now.nfa (search_of c.args.input.now) c.try_find.result c.try_find.ensures.answer
+pub returns-clause-once : goal.returns-clause-once
+returns-clause-once c =
+    let e = c.try_find.ensures in
+    record {
+      total = e.total;
+      counts = counts-by c.try_find.result _ _ e.answered e.refused;
+      scans = e.scans;
+      turns = e.turns;
+      blocks = e.blocks;
+    }

@@ -1,14 +1,12 @@
+-- The iterator gives the items of its input.
 use Rattle.std.proofs.Common.{refl}
 use Rattle.regex_search_core.specs.Search.{search_of}
-use Rattle.nfa_backtrack.proofs.FindLemmas.{finds-from}
-use Rattle.nfa_backtrack.proofs.RunLemmas.{runs-give, runs-match, runs-inside, gives-first, gives-first-matches, gives-matches, gives-next, gives-next-match}
+use Rattle.nfa_backtrack.proofs.RunLemmas.{runs-give_items, runs-match, runs-inside, runs-apart, runs-refused}
+use Rattle.nfa_backtrack.proofs.RunLemmas.{gives-first_items, gives-first-matches, gives-matches, gives-next, gives-next-match}
 use Rattle.nfa_backtrack.proofs.engine.BoundedBacktracker.try_find_iter.Goals as goal
 
-pub returns-clause-list : goal.returns-clause-list
-returns-clause-list c = λ h gives. finds-from c.args.self.now h _ (search_of c.args.input) refl c.new.ensures refl gives
-
 pub returns-clause-runs : goal.returns-clause-runs
-returns-clause-runs c = runs-give c.args.self.now (search_of c.args.input) _ refl c.new.ensures refl
+returns-clause-runs c = runs-give_items c.args.self.now (search_of c.args.input) _ refl c.new.ensures refl
 
 pub returns-clause-matches : goal.returns-clause-matches
 returns-clause-matches c = runs-match c.args.self.now (search_of c.args.input) _ refl c.new.ensures refl
@@ -16,8 +14,14 @@ returns-clause-matches c = runs-match c.args.self.now (search_of c.args.input) _
 pub returns-clause-inside : goal.returns-clause-inside
 returns-clause-inside c = runs-inside c.args.self.now (search_of c.args.input) _ refl c.new.ensures refl
 
+pub returns-clause-apart : goal.returns-clause-apart
+returns-clause-apart c = runs-apart c.args.self.now (search_of c.args.input) _ refl c.new.ensures refl
+
+pub returns-clause-refused : goal.returns-clause-refused
+returns-clause-refused c = runs-refused c.args.self.now (search_of c.args.input) _ refl c.new.ensures refl
+
 pub returns-clause-first : goal.returns-clause-first
-returns-clause-first c = gives-first c.args.self.now (search_of c.args.input) _ refl c.new.ensures refl
+returns-clause-first c = gives-first_items c.args.self.now (search_of c.args.input) _ refl c.new.ensures refl
 
 pub returns-clause-first_matches : goal.returns-clause-first_matches
 returns-clause-first_matches c = gives-first-matches c.args.self.now (search_of c.args.input) _ refl c.new.ensures refl

@@ -1,8 +1,36 @@
+-- The iterator gives the matches of its input, and keeps the choice.
 use Rattle.std.proofs.Common.{refl}
 use Rattle.regex_search_core.specs.Search.{search_of}
-use Rattle.nfa_choice.specs.Choosing.{pike_of}
-use Rattle.nfa_choice.proofs.FindLemmas.{finds-all}
+use Rattle.nfa_search_base.proofs.MatchRunLemmas.{matches-first_given, matches-run, matches-next, matches-apart_run, matches-are}
+use Rattle.nfa_choice.specs.Choosing.{kind_in}
+use Rattle.nfa_choice.specs.Matches.{AsksByRule, find_state, find_steps}
+use Rattle.nfa_choice.proofs.FindLemmas.{IsOf, choice-acts, gives-choice}
 use Rattle.nfa_choice.proofs.choose.Choice.find_iter.Goals as goal
 
-pub returns-clause-list : goal.returns-clause-list
-returns-clause-list c = λ h gives. finds-all (pike_of c.args.self.now) h _ (search_of c.args.input) refl c.new.ensures refl gives
+pub returns-clause-runs : goal.returns-clause-runs
+returns-clause-runs c = let e = c.args.self.now in let x = search_of c.args.input in
+    matches-run e.nfa (kind_in e) x AsksByRule (λ q. IsOf e q) (choice-acts e x) find_steps find_state (λ s r t st. st.step) _
+    c.new.ensures refl (record { nfa = refl; kind = refl })
+
+pub returns-clause-are : goal.returns-clause-are
+returns-clause-are c = let e = c.args.self.now in let x = search_of c.args.input in
+    matches-are e.nfa (kind_in e) x AsksByRule (λ q. IsOf e q) (choice-acts e x) find_steps find_state (λ s r t st. st.step) _
+    c.new.ensures refl (record { nfa = refl; kind = refl })
+
+pub returns-clause-apart : goal.returns-clause-apart
+returns-clause-apart c = let e = c.args.self.now in let x = search_of c.args.input in
+    matches-apart_run e.nfa (kind_in e) x AsksByRule (λ q. IsOf e q) (choice-acts e x) find_steps find_state (λ s r t st. st.step) _
+    c.new.ensures refl (record { nfa = refl; kind = refl })
+
+pub returns-clause-first : goal.returns-clause-first
+returns-clause-first c = let e = c.args.self.now in let x = search_of c.args.input in
+    matches-first_given e.nfa (kind_in e) x AsksByRule (λ q. IsOf e q) (choice-acts e x) find_steps find_state (λ s r t st. st.step) _
+    c.new.ensures refl (record { nfa = refl; kind = refl })
+
+pub returns-clause-next : goal.returns-clause-next
+returns-clause-next c = let e = c.args.self.now in let x = search_of c.args.input in
+    matches-next e.nfa (kind_in e) x AsksByRule (λ q. IsOf e q) (choice-acts e x) find_steps find_state (λ s r t st. st.step) _
+    c.new.ensures refl (record { nfa = refl; kind = refl })
+
+pub returns-clause-keeps : goal.returns-clause-keeps
+returns-clause-keeps c = gives-choice _

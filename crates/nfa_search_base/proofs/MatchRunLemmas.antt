@@ -1,0 +1,92 @@
+-- The calls of an iterator that asks an engine for matches give the matches of the engine's NFA.
+use Rattle.std.proofs.Common.{◌≡◌, ◌∙◌, ℕ, ◌+◌, true, false, Bool, refl, subst, ap, arith, MatchBool}
+use Rattle.std.proofs.Common.{Option, None, Some, Result, Ok, Err, List, [], ◌∷◌, ◌++◌, map, length, length-append}
+use Rattle.std.specs.Prelude.{All, ⊤}
+use Rattle.std.specs.Option.{option_map}
+use Rattle.std.specs.Iterator.{Yields}
+use Rattle.std.proofs.lemmas.List.Elements.{All-nil, All-cons}
+use Rattle.std.proofs.iter.runs.Sources.{lists}
+use Rattle.regex_search_core.specs.Found.{Found, found_of}
+use Rattle.regex_search_core.specs.Search.{Search}
+use Rattle.regex_search_core.specs.declared.search.Match.{Match}
+use Rattle.regex_search_core.specs.declared.search.MatchKind.{MatchKind}
+use Rattle.thompson_nfa.specs.Automaton.{Automaton}
+use Rattle.nfa_search_base.specs.Asking.{SameButStart}
+use Rattle.nfa_search_base.specs.Lists.{IsStep, Fails, TellsMatch, AreMatches, AreApart, IsInside}
+use Rattle.nfa_search_base.specs.MatchRuns.{AreFirst, AreAll, MatchesRun, MatchesFirst, MatchesNext, MatchesAre}
+use Rattle.nfa_search_base.specs.MatchRuns.{MatchesApart}
+use Rattle.nfa_search_base.specs.Steps.{GivesItem}
+use Rattle.nfa_search_base.specs.Stored.{steps_walk, takes_sure_steps}
+use Rattle.nfa_search_base.specs.Walks.{Walk, Answer, fresh, span_of}
+use Rattle.nfa_search_base.specs.declared.error.SearchError.{SearchError}
+use Rattle.nfa_search_base.specs.declared.iter.steps.Steps.{Steps}
+use Rattle.nfa_search_base.proofs.ListLemmas.{matches-apart, matches-rest, matches-unique}
+use Rattle.nfa_search_base.proofs.RunLemmas.{Says, item-says, gives-first_matches, gives-all_matches, runs-give}
+use Rattle.nfa_search_base.proofs.RunLemmas.{gives-next}
+
+-- the calls of a shell are those of the iterator in it
+pub yields-inner : {T U R : Type 0} (outer : T → Option R → T → Type 0) (steps : U → Option R → U → Type 0) (inner : T → U)
+    → ((s : T) (r : Option R) (t : T) → outer s r t → steps (inner s) r (inner t))
+    → (xs : List R) (s t : T) → Yields outer s xs t → Yields steps (inner s) xs (inner t)
+yields-inner outer steps inner is [] s t ran = ap inner ran
+yields-inner outer steps inner is (x ∷ xs) s t ran =
+    (inner ran.0, is s (Some x) ran.0 ran.1, yields-inner outer steps inner is xs ran.0 t ran.2)
+
+no-more : (xs more : List Found) → xs ≡ xs ++ more → length more ≡ 0
+no-more xs more e = omega (arith, ap length e, length-append xs more)
+
+-- matches that are apart are in the span
+all-inside : (x : Search) (last : Option ℕ) (ms : List Match) → AreApart x last (map found_of ms)
+    → All (λ m. IsInside x (found_of m)) ms
+all-inside x last [] h = All-nil (λ m. IsInside x (found_of m))
+all-inside x last (m ∷ ms) h = All-cons (λ m. IsInside x (found_of m)) m ms h.0 (all-inside x (Some (found_of m).end) ms h.2)
+
+module _ (nfa : Automaton) (kind : MatchKind) (x : Search) where
+  abbrev tells : Search → Answer Found → Type 0
+  tells = TellsMatch nfa kind x.earliest
+
+  says : {S : Type 0} (w : Walk) (s : S) (a : Answer Found) (r : Option (Result Match SearchError))
+      → GivesItem found_of a r
+      → IsStep span_of tells w a → Says found_of a (Fails span_of tells w) r
+  says w s a r gives step = item-says found_of (λ b. IsStep span_of tells w b) a r gives step
+
+  -- Whoever is asked stays `Good`, and on searches like x answers their matches; a shell's calls are those of the
+  -- iterator in it.
+  module _ {S T : Type 0} (asks : S → Search → Answer Found → S → Type 0) (Good : S → Type 0)
+      (acts : (s : S) (t : Search) (a : Answer Found) (s' : S) → SameButStart x t → Good s → asks s t a s' → tells t a × Good s')
+      (steps : T → Option Match → T → Type 0) (inner : T → Steps S)
+      (is : (s : T) (r : Option Match) (t : T) → steps s r t → takes_sure_steps span_of asks (λ q. GivesItem found_of) (inner s) r (inner t))
+      (s : T) (walk : steps_walk (inner s) ≡ fresh x) (going : (inner s).done ≡ false) (good : Good (inner s).asker) where
+    abbrev core : Steps S → Option Match → Steps S → Type 0
+    core = takes_sure_steps span_of asks (λ q. GivesItem found_of)
+
+    pub matches-first_given : MatchesFirst nfa kind x steps s
+    matches-first_given = λ xs t ran. record {
+      come = gives-first_matches span_of asks (λ q. GivesItem found_of) found_of tells (Fails span_of tells) x Good acts says (inner s) walk going good
+          xs (inner t) (yields-inner steps core inner is xs s t ran);
+    }
+
+    matches-all_given : (xs : List Match) (t u : T) → Yields steps s xs t → steps t None u → AreAll nfa kind x xs
+    matches-all_given = λ xs t u ran st. record {
+      come = gives-all_matches span_of asks (λ q. GivesItem found_of) found_of tells (Fails span_of tells) x Good acts says (inner s) walk going good
+          xs (inner t) (inner u) (yields-inner steps core inner is xs s t ran) (is t None u st);
+    }
+
+    pub matches-run : MatchesRun nfa kind x steps s
+    matches-run = runs-give steps (AreFirst nfa kind x) (AreAll nfa kind x) s matches-first_given matches-all_given
+
+    pub matches-next : MatchesNext nfa kind x steps s
+    matches-next = gives-next steps (AreFirst nfa kind x) (AreAll nfa kind x) s matches-first_given matches-all_given
+
+    pub matches-apart_run : MatchesApart nfa kind x steps s
+    matches-apart_run = λ p seen from.
+        let k = matches-apart nfa kind x.earliest x (map found_of p.items) (matches-run p seen from).0 in
+        (k, all-inside x None p.items k)
+
+    pub matches-are : MatchesAre nfa kind x steps s
+    matches-are = λ p seen from all them.
+        let k = matches-run p seen from in
+        let rest = matches-rest nfa kind x.earliest x (map found_of p.items) all k.0 them in
+        lists p found_of all rest.0 (λ whole.
+        let same : map found_of p.items ≡ all = matches-unique nfa kind x.earliest x (map found_of p.items) all (k.1 whole) them in
+        no-more (map found_of p.items) rest.0 (same ∙ rest.1)) rest.1

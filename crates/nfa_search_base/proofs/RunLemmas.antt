@@ -1,0 +1,251 @@
+-- The calls of an iterator that keeps what it asks give the items of its list.
+use Rattle.std.proofs.Common.{◌≡◌, ◌∙◌, ◌⊎◌, inl, inr, Bool, true, false, MatchBool, refl, sym, ap, subst}
+use Rattle.std.proofs.Common.{Option, None, Some, Result, Ok, Err, List, [], ◌∷◌, ◌++◌, map}
+use Rattle.std.specs.Option.{option_map}
+use Rattle.std.specs.Iterator.{Yields}
+use Rattle.std.specs.Iterator.Runs.{Run, EachRunFrom, YieldsRun}
+use Rattle.regex_search_core.specs.Search.{Search}
+use Rattle.regex_search_core.specs.declared.search.Span.{Span}
+use Rattle.nfa_search_base.specs.Asking.{SameButStart}
+use Rattle.nfa_search_base.specs.Items.{Item, item_by, item_of}
+use Rattle.nfa_search_base.specs.Lists.{IsStep, Fails, ItemsNext, ItemsLast}
+use Rattle.nfa_search_base.specs.Runs.{RunsGive, GivesFirst, GivesNext, GivesAll}
+use Rattle.nfa_search_base.specs.Steps.{TakesStep, GivesItem, ends_at}
+use Rattle.nfa_search_base.specs.Stored.{steps_walk, takes_steps, takes_sure_steps}
+use Rattle.nfa_search_base.specs.Walks.{Walk, Answer, Advances, fresh, repeats, shifted, after, place_of}
+use Rattle.nfa_search_base.specs.declared.error.SearchError.{SearchError}
+use Rattle.nfa_search_base.specs.declared.iter.steps.Steps.{Steps}
+use Rattle.nfa_search_base.proofs.ListLemmas.{as_items}
+use Rattle.nfa_search_base.proofs.AskingLemmas.{same_start-self, same_start-then}
+use Rattle.nfa_search_base.proofs.StepLemmas.{chosen, same_start-shifted, same_start-after}
+
+-- What is shown of the items of calls, as clauses.
+module _ {T R : Type 0} (steps : T → Option R → T → Type 0) where
+  -- one item more
+  pub yields-more : (xs : List R) (s t u : T) (r : R) → Yields steps s xs t → steps t (Some r) u
+      → Yields steps s (xs ++ r ∷ []) u
+  yields-more [] s t u r ran st = (u, subst (λ (q : T). steps q (Some r) u) (sym ran) st, refl)
+  yields-more (x ∷ xs) s t u r ran st = (ran.0, ran.1, yields-more xs ran.0 t u r ran.2 st)
+
+  module _ (First Whole : List R → Type 0) (s : T) (first : GivesFirst steps First s)
+      (all : (xs : List R) (t u : T) → Yields steps s xs t → steps t None u → Whole xs) where
+    pub runs-give : RunsGive steps First Whole s
+    unfolding YieldsRun
+    runs-give = λ p seen from.
+        let ran = p.gave.0 in
+        let begun = subst (λ (q : T). Yields steps q p.items ran.0) from ran.1 in
+        (first p.items ran.0 begun, λ whole. let over = ran.2 whole in all p.items ran.0 over.0 begun over.1)
+
+    pub gives-next : GivesNext steps First s
+    gives-next = λ xs t r u ran st. first (xs ++ r ∷ []) u (yields-more xs s t u r ran st)
+
+  -- what each call keeps, all calls keep
+  module _ (Keeps : T → T → Type 0) (self : (s : T) → Keeps s s) (then : (s t u : T) → Keeps s t → Keeps t u → Keeps s u)
+      (step : (s : T) (r : Option R) (t : T) → steps s r t → Keeps s t) where
+    pub run-keeps : (s : T) (xs : List R) (t : T) → Yields steps s xs t → Keeps s t
+    run-keeps s [] t e = subst (λ (q : T). Keeps s q) e (self s)
+    run-keeps s (x ∷ xs) t e = then s e.0 t (step s (Some x) e.0 e.1) (run-keeps e.0 xs t e.2)
+
+    pub calls-keep : (s : T) (xs : List R) (t : T) (r : Option R) (u : T) → Yields steps s xs t → steps t r u
+        → Keeps s u
+    calls-keep s xs t r u ran st = then s t u (run-keeps s xs t ran) (step t r u st)
+
+-- What an item says of the answer of its step, where an error `ends` it.
+module _ {X Y : Type 0} (view : Y → X) (a : Answer X) (ends : SearchError → Type 0) where
+  abbrev pub Says : Option (Result Y SearchError) → Type 0
+  Says None = a ≡ Ok None
+  Says (Some (Ok y)) = a ≡ Ok (Some (view y))
+  Says (Some (Err e)) = ends e
+
+-- an item that is its answer says that it is
+pub item-says : {X Y : Type 0} (view : Y → X) (step : Answer X → Type 0) (a : Answer X) (r : Option (Result Y SearchError))
+    → GivesItem view a r → step a → Says view a (λ e. step (Err e)) r
+item-says view step (Ok (Some x)) None gives is = let k : None ≡ Some (Ok x) = gives in cc
+item-says view step (Ok (Some x)) (Some (Ok y)) gives is = let k : Some (Ok (view y)) ≡ Some (Ok x) = gives in cc
+item-says view step (Ok (Some x)) (Some (Err e)) gives is = let k : Some (Err e) ≡ Some (Ok x) = gives in cc
+item-says view step (Ok None) None gives is = refl
+item-says view step (Ok None) (Some (Ok y)) gives is = let k : Some (Ok (view y)) ≡ None = gives in cc
+item-says view step (Ok None) (Some (Err e)) gives is = let k : Some (Err e) ≡ None = gives in cc
+item-says view step (Err q) None gives is = let k : None ≡ Some (Err q) = gives in cc
+item-says view step (Err q) (Some (Ok y)) gives is = let k : Some (Ok (view y)) ≡ Some (Err q) = gives in cc
+item-says {X} view step (Err q) (Some (Err e)) gives is =
+    let k : Some (Err e) ≡ Some (Err q) = gives in
+    let same : (let a : Answer X = Err q in let b : Answer X = Err e in a ≡ b) = cc in
+    subst (λ (b : Answer X). step b) same is
+
+-- Whoever is asked stays `Good`, and on searches like x answers what a search tells; an item says what its answer is.
+module _ {S X Y : Type 0} (span : X → Span) (asks : S → Search → Answer X → S → Type 0)
+    (gives : S → Answer X → Option (Result Y SearchError) → Type 0) (view : Y → X) (tells : Search → Answer X → Type 0)
+    (ends : Walk → SearchError → Type 0) (x : Search) (Good : S → Type 0)
+    (acts : (s : S) (t : Search) (a : Answer X) (s' : S) → SameButStart x t → Good s → asks s t a s' → tells t a × Good s')
+    (says : (w : Walk) (s : S) (a : Answer X) (r : Option (Result Y SearchError)) → gives s a r → IsStep span tells w a
+    → Says view a (ends w) r) where
+  abbrev steps : Steps S → Option (Result Y SearchError) → Steps S → Type 0
+  steps = takes_steps span asks gives
+
+  -- the iterator goes on at w
+  record IsAt (w : Walk) (s : Steps S) : Type 0 where
+    walk : steps_walk s ≡ w
+    going : s.done ≡ false
+    like : SameButStart x w.at
+    good : Good s.asker
+
+  -- a step of the iteration tells its answer, and where a match leads
+  advance : (w : Walk) (s : S) (a : Answer X) (s' : S) (w' : Walk) → SameButStart x w.at → Good s
+      → Advances span asks s w a s' w'
+      → IsStep span tells w a × Good s' × ((w' ≡ after w (place_of span a)) ⊎ (w' ≡ after (shifted w) (place_of span a)))
+  advance w s a s' w' like good step =
+      let one = acts s w.at step.answer step.between like good step.first in
+      elim (chosen (repeats w (place_of span step.answer)) step.rest) [
+        | inl p ↦
+            let on = same_start-then x w.at (shifted w).at like (same_start-shifted w) in
+            let two = acts step.between (shifted w).at a s' on one.1 p.1.0 in
+            (record { first = step.answer; is_first = one.0; rest = rw p.0 two.0 }, two.1, inr p.1.1)
+        | inr p ↦
+            (record { first = step.answer; is_first = one.0; rest = rw p.0 p.1.0 }, subst (λ (q : S). Good q) (sym p.1.1) one.1, inl p.1.2)
+      ]
+
+  -- what comes of a call
+  abbrev Leads : Walk → Option (Result Y SearchError) → Steps S → Type 0
+  Leads w None t = IsStep span tells w (Ok None)
+  Leads w (Some (Ok y)) t = IsStep span tells w (Ok (Some (view y))) × IsAt (after w (Some (span (view y)))) t
+  Leads w (Some (Err e)) t = ends w e × (t.done ≡ true)
+
+  turn-at : (w : Walk) (s : Steps S) (r : Option (Result Y SearchError)) (t : Steps S) → IsAt w s → steps s r t
+      → TakesStep span asks gives s.asker w r t.asker (steps_walk t) t.done
+  turn-at w s r t at st = of s.done at.going st
+    where
+      of : (b : Bool) → b ≡ false
+          → MatchBool b ((r ≡ None) × (t ≡ s)) (TakesStep span asks gives s.asker (steps_walk s) r t.asker (steps_walk t) t.done)
+          → TakesStep span asks gives s.asker w r t.asker (steps_walk t) t.done
+      of true e h = cc
+      of false e h = rw at.walk at h
+
+  -- a call leads where its item says
+  leads : (w : Walk) (s : Steps S) (r : Option (Result Y SearchError)) (t : Steps S) → IsAt w s → steps s r t
+      → Leads w r t
+  leads w s r t at st =
+      let turn = turn-at w s r t at st in
+      let k = advance w s.asker turn.answer t.asker (steps_walk t) at.like at.good turn.step in
+      of r turn.answer k.0 k.1 k.2 turn.ends (says w t.asker turn.answer r turn.item k.0)
+    where
+      of : (r : Option (Result Y SearchError)) (a : Answer X) → IsStep span tells w a → Good t.asker
+          → ((steps_walk t ≡ after w (place_of span a)) ⊎ (steps_walk t ≡ after (shifted w) (place_of span a)))
+          → t.done ≡ ends_at r → Says view a (ends w) r → Leads w r t
+      of None a step good moved done is = subst (λ (b : Answer X). IsStep span tells w b) is step
+      of (Some (Ok y)) a step good moved done is =
+          (subst (λ (b : Answer X). IsStep span tells w b) is step,
+           record {
+             walk = elim moved [
+               | inl one ↦ one ∙ ap (λ (b : Answer X). after w (place_of span b)) is
+               | inr two ↦ two ∙ ap (λ (b : Answer X). after (shifted w) (place_of span b)) is
+             ];
+             going = done;
+             like = same_start-then x w.at (after w (Some (span (view y)))).at at.like (same_start-after w (Some (span (view y))));
+             good = good;
+           })
+      of (Some (Err e)) a step good moved done is = (is, done)
+
+  -- nothing comes of an iterator that has ended
+  ended : (s t : Steps S) (xs : List (Result Y SearchError)) → s.done ≡ true → Yields steps s xs t → xs ≡ []
+  ended s t [] d h = refl
+  ended s t (y ∷ ys) d h = of s.done d h.1
+    where
+      of : (b : Bool) → b ≡ true
+          → MatchBool b ((Some y ≡ None) × (h.0 ≡ s))
+          (TakesStep span asks gives s.asker (steps_walk s) (Some y) (h.0).asker (steps_walk h.0) (h.0).done) → y ∷ ys ≡ []
+      of true e k = let never : Some y ≡ None = k.0 in cc
+      of false e k = cc
+
+  abbrev items : List (Result Y SearchError) → List (Item X)
+  items = map (item_by view)
+
+  so-far : (xs : List (Result Y SearchError)) (w : Walk) (s t : Steps S) → IsAt w s → Yields steps s xs t
+      → ItemsNext span tells ends w (items xs)
+  so-far [] w s t at ran = tt
+  so-far (Ok y ∷ xs) w s t at ran =
+      let k = leads w s (Some (Ok y)) ran.0 at ran.1 in
+      (k.0, so-far xs (after w (Some (span (view y)))) ran.0 t k.1 ran.2)
+  so-far (Err e ∷ xs) w s t at ran =
+      let k = leads w s (Some (Err e)) ran.0 at ran.1 in
+      (k.0, ap items (ended ran.0 t xs k.1 ran.2))
+
+  and-last : (xs : List (Result Y SearchError)) (w : Walk) (s t u : Steps S) → IsAt w s → Yields steps s xs t
+      → steps t None u
+      → ItemsLast span tells ends w (items xs)
+  and-last [] w s t u at ran st = leads w s None u at (subst (λ (q : Steps S). steps q None u) (sym ran) st)
+  and-last (Ok y ∷ xs) w s t u at ran st =
+      let k = leads w s (Some (Ok y)) ran.0 at ran.1 in
+      (k.0, and-last xs (after w (Some (span (view y)))) ran.0 t u k.1 ran.2 st)
+  and-last (Err e ∷ xs) w s t u at ran st =
+      let k = leads w s (Some (Err e)) ran.0 at ran.1 in
+      (k.0, ap items (ended ran.0 t xs k.1 ran.2))
+
+  -- of an iterator that begins
+  module _ (s : Steps S) (walk : steps_walk s ≡ fresh x) (going : s.done ≡ false) (good : Good s.asker) where
+    start : IsAt (fresh x) s
+    start = record { walk = walk; going = going; like = same_start-self x; good = good }
+
+    -- the items so far are first items
+    pub gives-first : GivesFirst steps (λ xs. ItemsNext span tells ends (fresh x) (items xs)) s
+    gives-first = λ xs t ran. so-far xs (fresh x) s t start ran
+
+    -- and at `None` all
+    pub gives-all : (xs : List (Result Y SearchError)) (t u : Steps S) → Yields steps s xs t → steps t None u
+        → ItemsLast span tells ends (fresh x) (items xs)
+    gives-all = λ xs t u ran st. and-last xs (fresh x) s t u start ran st
+
+    -- the same where only matches are handed on
+    abbrev sure_steps : Steps S → Option Y → Steps S → Type 0
+    sure_steps = takes_sure_steps span asks gives
+
+    oked : (xs : List Y) (q t : Steps S) → Yields sure_steps q xs t → Yields steps q (map (λ y. Ok y) xs) t
+    oked [] q t ran = ran
+    oked (y ∷ ys) q t ran = (ran.0, ran.1, oked ys ran.0 t ran.2)
+
+    as_items-view : (xs : List Y) → items (map (λ y. Ok y) xs) ≡ as_items (map view xs)
+    as_items-view [] = refl
+    as_items-view (y ∷ ys) = ap (λ (l : List (Item X)). Ok (view y) ∷ l) (as_items-view ys)
+
+    pub gives-first_matches : GivesFirst sure_steps (λ xs. ItemsNext span tells ends (fresh x) (as_items (map view xs))) s
+    gives-first_matches = λ xs t ran.
+        subst (λ (l : List (Item X)). ItemsNext span tells ends (fresh x) l) (as_items-view xs)
+        (gives-first (map (λ y. Ok y) xs) t (oked xs s t ran))
+
+    pub gives-all_matches : (xs : List Y) (t u : Steps S) → Yields sure_steps s xs t → sure_steps t None u
+        → ItemsLast span tells ends (fresh x) (as_items (map view xs))
+    gives-all_matches = λ xs t u ran st.
+        subst (λ (l : List (Item X)). ItemsLast span tells ends (fresh x) l) (as_items-view xs)
+        (gives-all (map (λ y. Ok y) xs) t u (oked xs s t ran) st)
+
+-- What each call to the asker keeps, each call of the iterator keeps.
+module _ {S X Y : Type 0} (span : X → Span) (asks : S → Search → Answer X → S → Type 0)
+    (gives : S → Answer X → Option (Result Y SearchError) → Type 0) (Keeps : S → S → Type 0) (self : (s : S) → Keeps s s)
+    (then : (s t u : S) → Keeps s t → Keeps t u → Keeps s u) (asked : (s : S) (t : Search) (a : Answer X) (s' : S) → asks s t a s' → Keeps s s') where
+  pub step-keeps : (s : Steps S) (r : Option (Result Y SearchError)) (t : Steps S) → takes_steps span asks gives s r t
+      → Keeps s.asker t.asker
+  step-keeps s r t st = of s.done st
+    where
+      of : (b : Bool)
+          → MatchBool b ((r ≡ None) × (t ≡ s)) (TakesStep span asks gives s.asker (steps_walk s) r t.asker (steps_walk t) t.done)
+          → Keeps s.asker t.asker
+      of true h = subst (λ (q : Steps S). Keeps s.asker q.asker) (sym h.1) (self s.asker)
+      of false h =
+          let step = h.step in
+          let one = asked s.asker (steps_walk s).at step.answer step.between step.first in
+          elim (chosen (repeats (steps_walk s) (place_of span step.answer)) step.rest) [
+            | inl p ↦ then s.asker step.between t.asker one (asked step.between (shifted (steps_walk s)).at h.answer t.asker p.1.0)
+            | inr p ↦ subst (λ (q : S). Keeps s.asker q) (sym p.1.1) one
+          ]
+
+-- What each search like that of the iteration leaves, a step leaves.
+module _ {S X : Type 0} (span : X → Span) (asks : S → Search → Answer X → S → Type 0) (Holds : S → Type 0) where
+  pub step-holds : (s : S) (w : Walk) (a : Answer X) (s' : S) (w' : Walk)
+      → ((q : S) (t : Search) (b : Answer X) (q' : S) → SameButStart w.at t → Holds q → asks q t b q' → Holds q')
+      → Holds s → Advances span asks s w a s' w' → Holds s'
+  step-holds s w a s' w' leaves holds step =
+      let one = leaves s w.at step.answer step.between (same_start-self w.at) holds step.first in
+      elim (chosen (repeats w (place_of span step.answer)) step.rest) [
+        | inl p ↦ leaves step.between (shifted w).at a s' (same_start-shifted w) one p.1.0
+        | inr p ↦ subst (λ (q : S). Holds q) (sym p.1.1) one
+      ]

@@ -1,0 +1,41 @@
+-- What the calls of an iterator over the matches of an NFA have given, wherever they stop.
+use Rattle.std.specs.Prelude.{◌≡◌, List, map, All, None, Option}
+use Rattle.std.specs.Iterator.Runs.{EachRunFrom, ItemsMapTo}
+use Rattle.regex_search_core.specs.Found.{Found, found_of}
+use Rattle.regex_search_core.specs.Search.{Search}
+use Rattle.regex_search_core.specs.declared.search.Match.{Match}
+use Rattle.regex_search_core.specs.declared.search.MatchKind.{MatchKind}
+use Rattle.thompson_nfa.specs.Automaton.{Automaton}
+use Rattle.nfa_search_base.specs.Lists.{AreFirstMatches, AreMatches, AreApart, IsInside}
+use Rattle.nfa_search_base.specs.Runs.{RunsGive, GivesFirst, GivesNext}
+
+module _ (nfa : Automaton) (kind : MatchKind) (x : Search) where
+  -- these items are the first matches of x
+  abbrev pub AreFirst : List Match → Type 0
+  AreFirst xs = AreFirstMatches nfa kind x.earliest x (map found_of xs)
+
+  -- and these all of them
+  abbrev pub AreAll : List Match → Type 0
+  AreAll xs = AreMatches nfa kind x.earliest x (map found_of xs)
+
+  module _ {T : Type 0} (steps : T → Option Match → T → Type 0) where
+    -- each run of calls gives the first matches of x, and all of them where it goes on to `None`
+    abbrev pub MatchesRun : T → Type 0
+    MatchesRun s = RunsGive steps AreFirst AreAll s
+
+    -- the items so far are the first matches of x
+    abbrev pub MatchesFirst : T → Type 0
+    MatchesFirst s = GivesFirst steps AreFirst s
+
+    -- after an item the items so far and that one are
+    abbrev pub MatchesNext : T → Type 0
+    MatchesNext s = GivesNext steps AreFirst s
+
+    -- Where a list is that of the matches of x, the items of each run are its first elements, and all of them where the
+    -- run goes on to `None`.
+    abbrev pub MatchesAre : T → Type 0
+    MatchesAre s = EachRunFrom steps s (λ p. (all : List Found) → AreMatches nfa kind x.earliest x all → ItemsMapTo p found_of all)
+
+    -- the items of each run are apart, in order, and in the span
+    abbrev pub MatchesApart : T → Type 0
+    MatchesApart s = EachRunFrom steps s (λ p. AreApart x None (map found_of p.items) × All (λ m. IsInside x (found_of m)) p.items)

@@ -1,0 +1,28 @@
+-- What the calls of an iterator have given, wherever they stop: as clauses that a caller's loops and folds can use.
+use Rattle.std.specs.Prelude.{◌≡◌, true, List, [], ◌∷◌, ◌++◌, Option, None, Some}
+use Rattle.std.specs.Iterator.{Yields}
+use Rattle.std.specs.Iterator.Runs.{Run, EachRunFrom}
+
+-- A call of the iterator `steps`. Of the items of a search some are `First`, and these may be `Whole`.
+module _ {T R : Type 0} (steps : T → Option R → T → Type 0) where
+  module _ (First Whole : List R → Type 0) where
+    -- each run of calls gives first items, and all of them where it goes on to `None`
+    abbrev pub RunsGive : T → Type 0
+    RunsGive s = EachRunFrom steps s (λ p. First p.items × (p.whole ≡ true → Whole p.items))
+
+    -- at `None` the items so far are all
+    abbrev pub GivesAll : T → Type 0
+    GivesAll s = (xs : List R) (t u : T) → Yields steps s xs t → steps t None u → Whole xs
+
+  module _ (First : List R → Type 0) where
+    -- the items so far are first items
+    abbrev pub GivesFirst : T → Type 0
+    GivesFirst s = (xs : List R) (t : T) → Yields steps s xs t → First xs
+
+    -- after an item the items so far and that one are
+    abbrev pub GivesNext : T → Type 0
+    GivesNext s = (xs : List R) (t : T) (r : R) (u : T) → Yields steps s xs t → steps t (Some r) u → First (xs ++ r ∷ [])
+
+  -- the calls keep what `Keeps` says
+  abbrev pub GivesKept : (T → T → Type 0) → T → Type 0
+  GivesKept Keeps s = (xs : List R) (t : T) (r : Option R) (u : T) → Yields steps s xs t → steps t r u → Keeps s u
