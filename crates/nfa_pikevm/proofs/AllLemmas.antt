@@ -18,7 +18,7 @@ use Rattle.nfa_paths.proofs.KindsLemmas.{first_match-is, last_match-is}
 use Rattle.nfa_paths.proofs.ScanAnswerLemmas.{edges-onward, seeds-later, Scanned-matches, scan_earliest_last-found}
 use Rattle.nfa_paths.proofs.ScanLemmas.{NoneBefore-step, LastBefore-step}
 use Rattle.nfa_paths.proofs.ScanningLemmas.{Scanning-front, Scanning-round}
-use Rattle.nfa_pikevm.specs.Rows.{Met}
+use Rattle.nfa_pikevm.specs.Rows.{Marks}
 use Rattle.nfa_pikevm.specs.States.{Front, tasks, unmarked, meant, GoesOn, SeenAt, Crosses}
 use Rattle.nfa_pikevm.specs.Scans.{blank, starts_from, half_found, IsSoFar, ScansAll}
 use Rattle.nfa_pikevm.proofs.TaskLemmas.{AnswersFor, AnswersFor-round, Searching-for}
@@ -55,7 +55,7 @@ pub record HasLast (nfa : Automaton) (x : Search) (at width : ℕ) (found : Opti
   pub last : LastBefore (edges nfa x) (capture nfa) (starts nfa x) (is_match nfa) (blank width) at turns so_far
 
 module _ (nfa : Automaton) (x : Search) (at width state limit : ℕ) where
-  module _ {past : Bool} {met : Met} {items : List (ℕ × Slots)} {slots : Slots} {hit : Option PatternID} {after : Met} {kept : List (ℕ × Slots)} {written : Slots}
+  module _ {past : Bool} {met : Marks} {items : List (ℕ × Slots)} {slots : Slots} {hit : Option PatternID} {after : Marks} {kept : List (ℕ × Slots)} {written : Slots}
       (c : Crosses nfa x at past met items slots hit after kept written)
       (s : Scanning (edges nfa x) (capture nfa) (starts nfa x) (is_match nfa) (blank width) at (SeenAt at (unmarked met).bits) met.turns []
       (tasks at items (Load (blank width) ∷ starts_from width state (at + 1) limit)) (blank width)) where
@@ -126,7 +126,7 @@ module _ (nfa : Automaton) (x : Search) (at width state limit : ℕ) where
             ]
 
   -- where the first match ended the position, it is the earliest path's
-  pub earliest-first : {met : Met} {items : List (ℕ × Slots)} {slots : Slots} {hit : Option PatternID} {after : Met} {kept : List (ℕ × Slots)} {written : Slots}
+  pub earliest-first : {met : Marks} {items : List (ℕ × Slots)} {slots : Slots} {hit : Option PatternID} {after : Marks} {kept : List (ℕ × Slots)} {written : Slots}
       → (c : Crosses nfa x at false met items slots hit after kept written)
       → Scanning (edges nfa x) (capture nfa) (starts nfa x) (is_match nfa) (blank width) at (SeenAt at (unmarked met).bits) met.turns []
       (tasks at items (Load (blank width) ∷ starts_from width state (at + 1) limit)) (blank width)
@@ -137,7 +137,7 @@ module _ (nfa : Automaton) (x : Search) (at width state limit : ℕ) where
       (Formed-resting nfa x at after.bits c.front c.formed) a first
 
   -- and where it went on, the last match is the earliest last path's
-  pub earliest-last : {met : Met} {items : List (ℕ × Slots)} {slots : Slots} {hit : Option PatternID} {after : Met} {kept : List (ℕ × Slots)} {written : Slots}
+  pub earliest-last : {met : Marks} {items : List (ℕ × Slots)} {slots : Slots} {hit : Option PatternID} {after : Marks} {kept : List (ℕ × Slots)} {written : Slots}
       → (c : Crosses nfa x at true met items slots hit after kept written)
       → Scanning (edges nfa x) (capture nfa) (starts nfa x) (is_match nfa) (blank width) at (SeenAt at (unmarked met).bits) met.turns []
       (tasks at items (Load (blank width) ∷ starts_from width state (at + 1) limit)) (blank width)
@@ -146,7 +146,7 @@ module _ (nfa : Automaton) (x : Search) (at width state limit : ℕ) where
   earliest-last c s none a last = scan_earliest_last-found nfa x (blank width) none (all-front c s (inl refl)) a last
 
   -- a match is the half match that was made of it
-  pub half-so_far : {past : Bool} {met : Met} {items : List (ℕ × Slots)} {slots : Slots} {hit : Option PatternID} {after : Met} {kept : List (ℕ × Slots)} {written : Slots}
+  pub half-so_far : {past : Bool} {met : Marks} {items : List (ℕ × Slots)} {slots : Slots} {hit : Option PatternID} {after : Marks} {kept : List (ℕ × Slots)} {written : Slots}
       → (c : Crosses nfa x at past met items slots hit after kept written) → (v : Pair) → meant past (is_match nfa) c.front ≡ Some (v, written)
       → (pattern : PatternID) → pattern_of (node_at nfa v.0) ≡ Some (number_of pattern) → (half : HalfMatch) → half_found_of half ≡ half_found (number_of pattern) at
       → IsSoFar nfa x (Some half) written (Some (v, written))
@@ -165,7 +165,7 @@ module _ (nfa : Automaton) (x : Search) (at width state limit : ℕ) where
       among false e = (first_match-cut (is_match nfa) c.front (v, written) e).among
 
   -- the match at the position, or what was found before
-  pub HasLast-cross : {met : Met} {items : List (ℕ × Slots)} {slots : Slots} {hit : Option PatternID} {after : Met} {kept : List (ℕ × Slots)} {written : Slots} {found : Option HalfMatch}
+  pub HasLast-cross : {met : Marks} {items : List (ℕ × Slots)} {slots : Slots} {hit : Option PatternID} {after : Marks} {kept : List (ℕ × Slots)} {written : Slots} {found : Option HalfMatch}
       → (c : Crosses nfa x at true met items slots hit after kept written)
       → Scanning (edges nfa x) (capture nfa) (starts nfa x) (is_match nfa) (blank width) at (SeenAt at (unmarked met).bits) met.turns []
       (tasks at items (Load (blank width) ∷ starts_from width state (at + 1) limit)) (blank width)

@@ -12,10 +12,10 @@ use Rattle.nfa_paths.specs.Exploring.{Item, Slots, Found}
 use Rattle.nfa_paths.specs.Exploring.Item.{Explore as ToExplore, Load as ToLoad}
 use Rattle.nfa_paths.specs.Kinds.{first_match, before_match, last_match, NoMatch}
 use Rattle.nfa_paths.proofs.AnswerLemmas.{IsMatch-edges}
-use Rattle.nfa_pikevm.specs.Rows.{Met, Active}
+use Rattle.nfa_pikevm.specs.Rows.{Marks, Active}
 use Rattle.nfa_pikevm.specs.States.{Front, moves, work_onto, with_state, state_on, tries, meant, IsHit, Follows, Formed, Paid, HasRoom, Enters, Arrives}
-use Rattle.nfa_pikevm.specs.declared.closure.Turn.{Turn}
-use Rattle.nfa_pikevm.specs.declared.closure.Turn.TheVariants.{Matched}
+use Rattle.nfa_pikevm.specs.declared.closure.Move.{Move}
+use Rattle.nfa_pikevm.specs.declared.closure.Move.TheVariants.{Matched}
 use Rattle.nfa_pikevm.specs.declared.frame.FollowEpsilon.{FollowEpsilon}
 use Rattle.nfa_pikevm.proofs.FollowLemmas.{Follows-then, Follows-none}
 use Rattle.nfa_pikevm.proofs.EdgeLemmas.{moves-one}
@@ -91,15 +91,15 @@ pub same-items : (a b c : Active) → b ≡ record a { items = b.items } → c �
 same-items a b c e f = cc
 
 -- what was paid for, one after the other
-pub Paid-then : {nfa : Automaton} {m n o : Met} {i j k : ℕ} {stack above top : List FollowEpsilon} {hand middle left : ℕ}
+pub Paid-then : {nfa : Automaton} {m n o : Marks} {i j k : ℕ} {stack above top : List FollowEpsilon} {hand middle left : ℕ}
     → Paid nfa m i stack hand n j above middle → Paid nfa n j above middle o k top left → Paid nfa m i stack hand o k top left
 Paid-then a b = record { tried = omega (arith, a.tried, b.tried); framed = omega (arith, a.framed, b.framed); entered = omega (arith, a.entered, b.entered) }
 
-pub Paid-begin : (nfa : Automaton) (m : Met) (i : ℕ) (stack : List FollowEpsilon) (hand : ℕ) → Paid nfa m i stack hand m i stack hand
+pub Paid-begin : (nfa : Automaton) (m : Marks) (i : ℕ) (stack : List FollowEpsilon) (hand : ℕ) → Paid nfa m i stack hand m i stack hand
 Paid-begin nfa m i stack hand = record { tried = omega arith; framed = omega arith; entered = omega arith }
 
 -- frames that are taken up
-pub Paid-resumed : {nfa : Automaton} {m n : Met} {i j : ℕ} {stack : List FollowEpsilon} {hand : ℕ} (t u : ℕ) (frames : List FollowEpsilon) (left : ℕ)
+pub Paid-resumed : {nfa : Automaton} {m n : Marks} {i j : ℕ} {stack : List FollowEpsilon} {hand : ℕ} (t u : ℕ) (frames : List FollowEpsilon) (left : ℕ)
     → u ≤ t → t ≤ length frames → sum_by tries (take u frames) + left ≡ sum_by tries (take t frames)
     → Paid nfa m i stack hand n j (take t frames) 0 → Paid nfa m i stack hand n j (take u frames) left
 Paid-resumed t u frames left less inside e p = record {
@@ -109,7 +109,7 @@ Paid-resumed t u frames left less inside e p = record {
 }
 
 -- there is still room
-pub HasRoom-paid : {nfa : Automaton} {m n : Met} {size kept places more : ℕ} {hand left : ℕ} (top : ℕ) (frames : List FollowEpsilon)
+pub HasRoom-paid : {nfa : Automaton} {m n : Marks} {size kept places more : ℕ} {hand left : ℕ} (top : ℕ) (frames : List FollowEpsilon)
     → HasRoom nfa m.bits 0 size kept places → Paid nfa m kept [] hand n more (take top frames) left → length n.bits ≡ length m.bits → top ≤ length frames
     → HasRoom nfa n.bits top size more places
 HasRoom-paid top frames room paid same inside = record {
@@ -119,8 +119,8 @@ HasRoom-paid top frames room paid same inside = record {
 }
 
 -- What comes of the state s from its row, with a state in hand and a stack that are still to be followed.
-pub record Followed (nfa : Automaton) (x : Search) (at : ℕ) (past : Bool) (s : ℕ) (met : Met) (items : List (ℕ × Slots)) (row slots : Slots)
-    (after : Met) (kept : List (ℕ × Slots)) (state : Option ℕ) (stack : List FollowEpsilon) (now : Slots) (hit : Option PatternID) (written : Slots) : Type 0 where
+pub record Followed (nfa : Automaton) (x : Search) (at : ℕ) (past : Bool) (s : ℕ) (met : Marks) (items : List (ℕ × Slots)) (row slots : Slots)
+    (after : Marks) (kept : List (ℕ × Slots)) (state : Option ℕ) (stack : List FollowEpsilon) (now : Slots) (hit : Option PatternID) (written : Slots) : Type 0 where
   pub front : Front
   pub added : kept ≡ items ++ moves (edges nfa x) front
   pub is_hit : IsHit nfa (meant past (is_match nfa) front) slots hit written
@@ -131,7 +131,7 @@ pub record Followed (nfa : Automaton) (x : Search) (at : ℕ) (past : Bool) (s :
       after (before ++ front) (with_state at state (work_onto at stack (ToLoad old ∷ work))) now
 
 -- nothing was followed yet
-pub Followed-begin : (nfa : Automaton) (x : Search) (at : ℕ) (past : Bool) (s : ℕ) (met : Met) (items : List (ℕ × Slots)) (row slots : Slots)
+pub Followed-begin : (nfa : Automaton) (x : Search) (at : ℕ) (past : Bool) (s : ℕ) (met : Marks) (items : List (ℕ × Slots)) (row slots : Slots)
     → Followed nfa x at past s met items row slots met items (Some s) [] row None slots
 Followed-begin nfa x at past s met items row slots = record {
   front = [];
@@ -143,8 +143,8 @@ Followed-begin nfa x at past s met items row slots = record {
 }
 
 -- all was followed
-pub Arrives-whole : {nfa : Automaton} {x : Search} {at : ℕ} {past : Bool} {s : ℕ} {met : Met} {items : List (ℕ × Slots)} {row slots : Slots}
-    {m : Met} {i : List (ℕ × Slots)} {stack : List FollowEpsilon} {now : Slots} {hit : Option PatternID} {written : Slots} → stack ≡ []
+pub Arrives-whole : {nfa : Automaton} {x : Search} {at : ℕ} {past : Bool} {s : ℕ} {met : Marks} {items : List (ℕ × Slots)} {row slots : Slots}
+    {m : Marks} {i : List (ℕ × Slots)} {stack : List FollowEpsilon} {now : Slots} {hit : Option PatternID} {written : Slots} → stack ≡ []
     → Followed nfa x at past s met items row slots m i None stack now hit written → Paid nfa met (length items) [] 1 m (length i) [] 0
     → Arrives nfa x at past s met items row slots hit m i written
 Arrives-whole {nfa} {x} {at} {row = row} {m = m} {stack = stack} {now = now} empty f paid = record {
@@ -157,8 +157,8 @@ Arrives-whole {nfa} {x} {at} {row = row} {m = m} {stack = stack} {now = now} emp
   leads = λ before old work. record { left = ToLoad old ∷ work; written = now; follows = rw empty at (f.follows before old work); whole = λ g. refl };
 }
 
-module _ {nfa : Automaton} {x : Search} {at : ℕ} {past : Bool} {s : ℕ} {met : Met} {items : List (ℕ × Slots)} {row slots : Slots}
-    {m : Met} {i : List (ℕ × Slots)} {stack : List FollowEpsilon} {now : Slots} {hit : Option PatternID} {written : Slots} where
+module _ {nfa : Automaton} {x : Search} {at : ℕ} {past : Bool} {s : ℕ} {met : Marks} {items : List (ℕ × Slots)} {row slots : Slots}
+    {m : Marks} {i : List (ℕ × Slots)} {stack : List FollowEpsilon} {now : Slots} {hit : Option PatternID} {written : Slots} where
   -- frames are taken up
   pub Followed-resumed : (state : Option ℕ) (above : List FollowEpsilon) (then : Slots)
       → ((front : Front) (work : List Item) → Follows nfa x at m front (work_onto at stack work) now m front (with_state at state (work_onto at above work)) then)
@@ -172,9 +172,9 @@ module _ {nfa : Automaton} {x : Search} {at : ℕ} {past : Bool} {s : ℕ} {met 
     follows = λ before old work. Follows-then nfa x at (f.follows before old work) (takes (before ++ f.front) (ToLoad old ∷ work));
   }
 
-  module _ {sid : ℕ} {n : Met} {j : List (ℕ × Slots)} {above : List FollowEpsilon} {then : Slots} (f : Followed nfa x at past s met items row slots m i (Some sid) stack now hit written) where
+  module _ {sid : ℕ} {n : Marks} {j : List (ℕ × Slots)} {above : List FollowEpsilon} {then : Slots} (f : Followed nfa x at past s met items row slots m i (Some sid) stack now hit written) where
     -- A turn adds its front.
-    module _ {turn : Turn} (h : Enters nfa x at sid m i stack now turn n j above then) where
+    module _ {turn : Move} (h : Enters nfa x at sid m i stack now turn n j above then) where
       added : j ≡ items ++ moves (edges nfa x) (f.front ++ h.front)
       added =
           h.added ∙ ap (λ l. l ++ moves (edges nfa x) h.front) f.added ∙ append_assoc items (moves (edges nfa x) f.front) (moves (edges nfa x) h.front)
@@ -240,5 +240,5 @@ module _ {nfa : Automaton} {x : Search} {at : ℕ} {past : Bool} {s : ℕ} {met 
           }
 
 -- what is left on the stack at a match is dropped
-pub Paid-dropped : {nfa : Automaton} {m n : Met} {i j : ℕ} {stack above : List FollowEpsilon} {hand left : ℕ} → Paid nfa m i stack hand n j above left → Paid nfa m i stack hand n j [] 0
+pub Paid-dropped : {nfa : Automaton} {m n : Marks} {i j : ℕ} {stack above : List FollowEpsilon} {hand left : ℕ} → Paid nfa m i stack hand n j above left → Paid nfa m i stack hand n j [] 0
 Paid-dropped p = record { tried = omega (arith, p.tried); framed = omega (arith, p.framed); entered = p.entered }

@@ -19,7 +19,7 @@ use Rattle.nfa_paths.specs.Turns.{marked_sum}
 use Rattle.nfa_paths.proofs.SearchLemmas.{Answer-load, AnswerBehind-along}
 use Rattle.nfa_paths.proofs.SearchingLemmas.{Searching-load}
 use Rattle.nfa_paths.proofs.TurnLemmas.{marked_sum-clear}
-use Rattle.nfa_pikevm.specs.Rows.{Met, Active, items_of}
+use Rattle.nfa_pikevm.specs.Rows.{Marks, Active, items_of}
 use Rattle.nfa_pikevm.specs.Engines.{room_of}
 use Rattle.nfa_pikevm.specs.States.{Front, moves, tasks, unmarked, one_of, meant, IsHit, GoesOn, Formed, HasRoom, Paid, Follows, Leads, Arrives, Crosses}
 use Rattle.nfa_pikevm.proofs.RowLemmas.{drop-items_of, length-items_of}
@@ -191,17 +191,17 @@ moves-append f (a ∷ front) more =
 
 module _ (nfa : Automaton) (x : Search) (at : ℕ) where
   -- one after the other
-  Follows-then : {m : Met} {f : Front} {w : List Item} {s : Slots} {n : Met} {g : Front} {y : List Item} {t : Slots}
-      {o : Met} {h : Front} {z : List Item} {u : Slots}
+  Follows-then : {m : Marks} {f : Front} {w : List Item} {s : Slots} {n : Marks} {g : Front} {y : List Item} {t : Slots}
+      {o : Marks} {h : Front} {z : List Item} {u : Slots}
       → Follows nfa x at m f w s n g y t → Follows nfa x at n g y t o h z u → Follows nfa x at m f w s o h z u
   Follows-then a b = record { leads = λ target ok starts entry otherwise h. b.leads target ok starts entry otherwise (a.leads target ok starts entry otherwise h) }
 
   -- slots are loaded
-  Follows-load : (m : Met) (f : Front) (rest : List Item) (slots old : Slots) → Follows nfa x at m f (Load old ∷ rest) slots m f rest old
+  Follows-load : (m : Marks) (f : Front) (rest : List Item) (slots old : Slots) → Follows nfa x at m f (Load old ∷ rest) slots m f rest old
   Follows-load m f rest slots old = record { leads = λ target ok starts entry otherwise h. Searching-load (edges nfa x) target (capture nfa) h }
 
   -- what is loaded does not depend on the slots before
-  Follows-any : (m : Met) (f : Front) (old : Slots) (rest : List Item) (slots after : Slots)
+  Follows-any : (m : Marks) (f : Front) (old : Slots) (rest : List Item) (slots after : Slots)
       → Follows nfa x at m f (Load old ∷ rest) slots m f (Load old ∷ rest) after
   Follows-any m f old rest slots after = record {
     leads = λ target ok starts entry otherwise h. record {
@@ -215,13 +215,13 @@ module _ (nfa : Automaton) (x : Search) (at : ℕ) where
   }
 
   -- so it is with the work of a position
-  Follows-tasks : (m : Met) (f : Front) (items : List (ℕ × Slots)) (old : Slots) (waiting : List Item) (slots after : Slots)
+  Follows-tasks : (m : Marks) (f : Front) (items : List (ℕ × Slots)) (old : Slots) (waiting : List Item) (slots after : Slots)
       → Follows nfa x at m f (tasks at items (Load old ∷ waiting)) slots m f (tasks at items (Load old ∷ waiting)) after
   Follows-tasks m f [] old waiting slots after = Follows-any m f old waiting slots after
   Follows-tasks m f (i ∷ items) old waiting slots after = Follows-any m f i.1 (Explore (i.0, at) ∷ tasks at items (Load old ∷ waiting)) slots after
 
   -- a state is followed, above those that wait
-  Leads-tasks : (m n : Met) (f g : Front) (s : ℕ) (row : Slots) (goes_on : Type 0) (items : List (ℕ × Slots))
+  Leads-tasks : (m n : Marks) (f g : Front) (s : ℕ) (row : Slots) (goes_on : Type 0) (items : List (ℕ × Slots))
       → ((old : Slots) (work : List Item) → Leads nfa x at m f (Explore (s, at) ∷ Load old ∷ work) row goes_on n g (Load old ∷ work))
       → (old : Slots) (waiting : List Item)
       → Leads nfa x at m f (Explore (s, at) ∷ tasks at items (Load old ∷ waiting)) row goes_on n g (tasks at items (Load old ∷ waiting))
@@ -229,8 +229,8 @@ module _ (nfa : Automaton) (x : Search) (at : ℕ) where
   Leads-tasks m n f g s row goes_on (i ∷ items) leads old waiting = leads i.1 (Explore (i.0, at) ∷ tasks at items (Load old ∷ waiting))
 
 -- What came of a position's states so far, where some are left to follow.
-pub record CrossesTo (nfa : Automaton) (x : Search) (at : ℕ) (past : Bool) (met : Met) (items : List (ℕ × Slots)) (slots : Slots) (left : List (ℕ × Slots))
-    (hit : Option PatternID) (after : Met) (kept : List (ℕ × Slots)) (written : Slots) : Type 0 where
+pub record CrossesTo (nfa : Automaton) (x : Search) (at : ℕ) (past : Bool) (met : Marks) (items : List (ℕ × Slots)) (slots : Slots) (left : List (ℕ × Slots))
+    (hit : Option PatternID) (after : Marks) (kept : List (ℕ × Slots)) (written : Slots) : Type 0 where
   pub front : Front
   pub added : kept ≡ moves (edges nfa x) front
   pub is_hit : IsHit nfa (meant past (is_match nfa) front) slots hit written
@@ -239,7 +239,7 @@ pub record CrossesTo (nfa : Automaton) (x : Search) (at : ℕ) (past : Bool) (me
   pub follows : (current old : Slots) (waiting : List Item) (last : Slots)
       → Follows nfa x at (unmarked met) [] (tasks at items (Load old ∷ waiting)) current after front (tasks at left (Load old ∷ waiting)) last
 
-module _ (nfa : Automaton) (x : Search) (at : ℕ) (past : Bool) (met : Met) (items : List (ℕ × Slots)) (slots : Slots) where
+module _ (nfa : Automaton) (x : Search) (at : ℕ) (past : Bool) (met : Marks) (items : List (ℕ × Slots)) (slots : Slots) where
   -- all are left
   pub CrossesTo-begin : (kept : List (ℕ × Slots)) → kept ≡ [] → met.bits ≡ replicate (length met.bits) false → CrossesTo nfa x at past met items slots items None met kept slots
   CrossesTo-begin kept empty clear = record {
@@ -260,12 +260,12 @@ module _ (nfa : Automaton) (x : Search) (at : ℕ) (past : Bool) (met : Met) (it
     };
     follows = λ current old waiting last.
         let same : met ≡ unmarked met = ap (λ b. record met { bits = b }) clear in
-        subst (λ (n : Met). Follows nfa x at n [] (tasks at items (Load old ∷ waiting)) current met [] (tasks at items (Load old ∷ waiting)) last) same
+        subst (λ (n : Marks). Follows nfa x at n [] (tasks at items (Load old ∷ waiting)) current met [] (tasks at items (Load old ∷ waiting)) last) same
         (Follows-tasks nfa x at met [] items old waiting current last);
   }
 
   -- there is room for what the next state leads to
-  pub HasRoom-next : (left : List (ℕ × Slots)) (hit : Option PatternID) (after : Met) (kept : List (ℕ × Slots)) (written : Slots) (frames places f p : ℕ)
+  pub HasRoom-next : (left : List (ℕ × Slots)) (hit : Option PatternID) (after : Marks) (kept : List (ℕ × Slots)) (written : Slots) (frames places f p : ℕ)
       → met.bits ≡ replicate (length met.bits) false → HasRoom nfa met.bits 0 frames 0 places → length after.bits ≡ length met.bits → f ≡ frames → p ≡ places
       → CrossesTo nfa x at past met items slots left hit after kept written → HasRoom nfa after.bits 0 f (length kept) p
   HasRoom-next left hit after kept written frames places f p clear room size same_frames same_places c =
@@ -277,9 +277,9 @@ module _ (nfa : Automaton) (x : Search) (at : ℕ) (past : Bool) (met : Met) (it
         states_fit = omega (arith, room.states_fit, c.paid.entered, ones);
       }
 
-  module _ (left rest : List (ℕ × Slots)) (hit : Option PatternID) (after : Met) (kept : List (ℕ × Slots)) (written : Slots) (k : ℕ) (row : Slots) (next : left ≡ (k, row) ∷ rest)
+  module _ (left rest : List (ℕ × Slots)) (hit : Option PatternID) (after : Marks) (kept : List (ℕ × Slots)) (written : Slots) (k : ℕ) (row : Slots) (next : left ≡ (k, row) ∷ rest)
       (c : CrossesTo nfa x at past met items slots left hit after kept written) where
-    module _ (one : Option PatternID) (then : Met) (more : List (ℕ × Slots)) (new : Slots) (a : Arrives nfa x at past k after kept row written one then more new) where
+    module _ (one : Option PatternID) (then : Marks) (more : List (ℕ × Slots)) (new : Slots) (a : Arrives nfa x at past k after kept row written one then more new) where
       added : more ≡ moves (edges nfa x) (c.front ++ a.front)
       added =
           a.added ∙ ap (λ l. l ++ moves (edges nfa x) a.front) c.added ∙ sym (moves-append (edges nfa x) c.front a.front)
@@ -354,7 +354,7 @@ module _ (nfa : Automaton) (x : Search) (at : ℕ) (past : Bool) (met : Met) (it
           }
 
   -- all were followed
-  pub CrossesTo-over : (left : List (ℕ × Slots)) (hit : Option PatternID) (after : Met) (kept : List (ℕ × Slots)) (written : Slots) → left ≡ [] → (past ≡ false → hit ≡ None)
+  pub CrossesTo-over : (left : List (ℕ × Slots)) (hit : Option PatternID) (after : Marks) (kept : List (ℕ × Slots)) (written : Slots) → left ≡ [] → (past ≡ false → hit ≡ None)
       → CrossesTo nfa x at past met items slots left hit after kept written → Crosses nfa x at past met items slots hit after kept written
   CrossesTo-over left hit after kept written over none c = record {
     front = c.front;

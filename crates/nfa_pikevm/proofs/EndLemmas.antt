@@ -20,9 +20,9 @@ use Rattle.nfa_paths.proofs.ScanAnswerLemmas.{Scanned-matches, starts-from, Ends
 use Rattle.nfa_paths.proofs.ScanLemmas.{IsFoundBy-more, NoneBefore-start, LastBefore-start, EndsBefore-over}
 use Rattle.nfa_paths.proofs.ScanningLemmas.{Scanning-load, Scanning-over}
 use Rattle.nfa_scanning.specs.FirstBytes.{IsFirstBytes}
-use Rattle.nfa_pikevm.specs.Rows.{Met}
+use Rattle.nfa_pikevm.specs.Rows.{Marks}
 use Rattle.nfa_pikevm.specs.States.{tasks, unmarked, SeenAt, SearchingAt, Crosses}
-use Rattle.nfa_pikevm.specs.Scans.{blank, starts_from, joined, half_found, IsPassed, Joins, AreStarts, IsSoFar, Scans, SearchesFirst, ScansAll}
+use Rattle.nfa_pikevm.specs.Scans.{blank, starts_from, with_start, half_found, IsPassed, Joins, AreStarts, IsSoFar, Scans, SearchesFirst, ScansAll}
 use Rattle.nfa_pikevm.specs.declared.scan.Starts.{Starts}
 use Rattle.nfa_pikevm.proofs.TaskLemmas.{tasks-joins, tasks-alone, tasks-joined, starts_from-end, AnswersFor, AnswersFor-same, AnswersFor-then, AnswersFor-tasks, AnswersFor-pass, AnswersFor-skip, Searching-for, Searching-seen, Searching-begin}
 use Rattle.nfa_pikevm.proofs.FrontLemmas.{SeenAt-none}
@@ -38,7 +38,7 @@ EndsAt-some at (Some p) half e some none = cc
 module _ (nfa : Automaton) (x : Search) where
   -- the beginning
 
-  module _ (begins : Starts) (are : AreStarts nfa x begins) (slots : Slots) (met : Met) where
+  module _ (begins : Starts) (are : AreStarts nfa x begins) (slots : Slots) (met : Marks) where
     begin : (target : Pair → Bool) → SearchingAt nfa x x.start target (starts nfa x) (blank (length slots)) None (unmarked met) []
         (tasks x.start [] (Load (blank (length slots)) ∷ starts_from (length slots) begins.state x.start begins.limit)) (blank (length slots))
     begin target =
@@ -66,14 +66,14 @@ module _ (nfa : Automaton) (x : Search) where
   -- the starts join
 
   -- all sets of matches at once
-  pub ScansAll-joined : (begins : Starts) (at width : ℕ) {met : Met} {items : List (ℕ × Slots)} → ScansAll nfa x at width begins.state begins.limit met items
+  pub ScansAll-joined : (begins : Starts) (at width : ℕ) {met : Marks} {items : List (ℕ × Slots)} → ScansAll nfa x at width begins.state begins.limit met items
       → Scanning (edges nfa x) (capture nfa) (starts nfa x) (is_match nfa) (blank width) at (SeenAt at (unmarked met).bits) met.turns []
-      (tasks at (joined begins width at items) (Load (blank width) ∷ starts_from width begins.state (at + 1) begins.limit)) (blank width)
+      (tasks at (with_start begins width at items) (Load (blank width) ∷ starts_from width begins.state (at + 1) begins.limit)) (blank width)
   ScansAll-joined begins at width {met} {items} s =
       subst (λ (w : List Item). Scanning (edges nfa x) (capture nfa) (starts nfa x) (is_match nfa) (blank width) at (SeenAt at (unmarked met).bits) met.turns [] w (blank width)) (tasks-joined begins width at items) s.scanning
 
   -- the same by what the join gives
-  pub ScansAll-join : (begins : Starts) (at width : ℕ) (met now : Met) → now ≡ met → (items kept : List (ℕ × Slots)) → kept ≡ joined begins width at items
+  pub ScansAll-join : (begins : Starts) (at width : ℕ) (met now : Marks) → now ≡ met → (items kept : List (ℕ × Slots)) → kept ≡ with_start begins width at items
       → ScansAll nfa x at width begins.state begins.limit met items
       → Scanning (edges nfa x) (capture nfa) (starts nfa x) (is_match nfa) (blank width) at (SeenAt at (unmarked now).bits) now.turns []
       (tasks at kept (Load (blank width) ∷ starts_from width begins.state (at + 1) begins.limit)) (blank width)
@@ -121,7 +121,7 @@ module _ (nfa : Automaton) (x : Search) where
         ]
 
     -- the first path
-    pub SearchesFirst-joins : (at to : ℕ) {items kept : List (ℕ × Slots)} {found : Option HalfMatch} {slots : Slots} {met : Met} → x.start ≤ at
+    pub SearchesFirst-joins : (at to : ℕ) {items kept : List (ℕ × Slots)} {found : Option HalfMatch} {slots : Slots} {met : Marks} → x.start ≤ at
         → Joins table x begins limit width at items to kept → (s : SearchesFirst nfa x at width begins.state limit found slots met items)
         → SearchingAt nfa x to (is_match nfa) (starts nfa x) (blank width) s.so_far (unmarked met) []
         (tasks to kept (Load (blank width) ∷ starts_from width begins.state (to + 1) limit)) (blank width)
@@ -146,7 +146,7 @@ module _ (nfa : Automaton) (x : Search) where
       record { path = h.path; state = is.0; answers = h.answers; matches = is.2; ends = h.ends; row = h.row_is; short = h.short }
 
   -- nothing is left of the search for the first path
-  pub first-over : (at next width state limit : ℕ) (found : Option HalfMatch) (slots : Slots) (met : Met) (so_far : Found) (items : List (ℕ × Slots)) → IsSoFar nfa x found slots so_far → limit ≤ next → items ≡ []
+  pub first-over : (at next width state limit : ℕ) (found : Option HalfMatch) (slots : Slots) (met : Marks) (so_far : Found) (items : List (ℕ × Slots)) → IsSoFar nfa x found slots so_far → limit ≤ next → items ≡ []
       → SearchingAt nfa x at (is_match nfa) (starts nfa x) (blank width) so_far (unmarked met) [] (tasks at items (Load (blank width) ∷ starts_from width state next limit)) (blank width)
       → width ≡ length slots → Scans nfa x LeftmostFirst false found slots met.turns
   first-over at next width state limit found slots met so_far items is past none s size =
@@ -155,7 +155,7 @@ module _ (nfa : Automaton) (x : Search) where
       Scans-so_far LeftmostFirst false width met.turns found slots so_far is (scan_first-found nfa x (blank width) met.turns so_far answer) size
 
   -- nothing is left to explore: every path has ended
-  pub all-over : (at next width state limit : ℕ) (met : Met) (items : List (ℕ × Slots)) → limit ≤ next → items ≡ []
+  pub all-over : (at next width state limit : ℕ) (met : Marks) (items : List (ℕ × Slots)) → limit ≤ next → items ≡ []
       → Scanning (edges nfa x) (capture nfa) (starts nfa x) (is_match nfa) (blank width) at (SeenAt at (unmarked met).bits) met.turns []
       (tasks at items (Load (blank width) ∷ starts_from width state next limit)) (blank width)
       → EndsBefore (edges nfa x) (starts nfa x) (is_match nfa) at
@@ -179,7 +179,7 @@ module _ (nfa : Automaton) (x : Search) where
   ends-at at e = rw e ends-span
 
   -- a position with a match, of the search for the first path
-  pub SearchesFirst-some : (at width state limit : ℕ) {met : Met} {items : List (ℕ × Slots)} {slots : Slots} {hit : Option PatternID} {after : Met} {kept : List (ℕ × Slots)} {written : Slots} {so_far : Found}
+  pub SearchesFirst-some : (at width state limit : ℕ) {met : Marks} {items : List (ℕ × Slots)} {slots : Slots} {hit : Option PatternID} {after : Marks} {kept : List (ℕ × Slots)} {written : Slots} {so_far : Found}
       → Crosses nfa x at false met items slots hit after kept written
       → SearchingAt nfa x at (is_match nfa) (starts nfa x) (blank width) so_far (unmarked met) []
       (tasks at items (Load (blank width) ∷ starts_from width state (at + 1) limit)) (blank width)
@@ -190,7 +190,7 @@ module _ (nfa : Automaton) (x : Search) where
       let same : half_found_of m ≡ half_found (number_of p) at = cc in SearchesFirst-hit nfa x at width state limit c s p refl m same
 
   -- the first position with a match
-  pub earliest-over : (at width state limit : ℕ) (past : Bool) {met : Met} {items : List (ℕ × Slots)} {slots : Slots} {hit : Option PatternID} {after : Met} {kept : List (ℕ × Slots)} {written : Slots}
+  pub earliest-over : (at width state limit : ℕ) (past : Bool) {met : Marks} {items : List (ℕ × Slots)} {slots : Slots} {hit : Option PatternID} {after : Marks} {kept : List (ℕ × Slots)} {written : Slots}
       → Crosses nfa x at past met items slots hit after kept written
       → Scanning (edges nfa x) (capture nfa) (starts nfa x) (is_match nfa) (blank width) at (SeenAt at (unmarked met).bits) met.turns []
       (tasks at items (Load (blank width) ∷ starts_from width state (at + 1) limit)) (blank width)

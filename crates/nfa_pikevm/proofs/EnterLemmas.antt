@@ -25,11 +25,11 @@ use Rattle.nfa_paths.proofs.TurnLemmas.{marked_sum-set, marked_sum-le}
 use Rattle.nfa_paths.proofs.ScanningLemmas.{once-keep}
 use Rattle.nfa_paths.proofs.ScanAnswerLemmas.{edges-onward, edges-rise}
 use Rattle.nfa_scanning.proofs.TargetLemmas.{target-degree}
-use Rattle.nfa_pikevm.specs.Rows.{Met, Active}
+use Rattle.nfa_pikevm.specs.Rows.{Marks, Active}
 use Rattle.nfa_pikevm.specs.Engines.{room_of}
 use Rattle.nfa_pikevm.specs.States.{Front, moves, work_onto, with_state, tries, state_on, one_of, IsWithin, Follows, Formed, Paid, HasRoom, Enters, IsMet}
-use Rattle.nfa_pikevm.specs.declared.closure.Turn.{Turn}
-use Rattle.nfa_pikevm.specs.declared.closure.Turn.TheVariants.{On, Matched, Over}
+use Rattle.nfa_pikevm.specs.declared.closure.Move.{Move}
+use Rattle.nfa_pikevm.specs.declared.closure.Move.TheVariants.{On, Matched, Over}
 use Rattle.nfa_pikevm.specs.declared.frame.FollowEpsilon.{FollowEpsilon}
 use Rattle.nfa_pikevm.specs.declared.frame.FollowEpsilon.TheVariants.{Explore as ToExplore, Restore}
 use Rattle.nfa_pikevm.proofs.EdgeLemmas.{node_at-get, edges-some, edges-none, moves-one}
@@ -37,7 +37,7 @@ use Rattle.nfa_pikevm.proofs.FollowLemmas.{Follows-then, Follows-marked, Follows
 use Rattle.nfa_pikevm.proofs.UnwindLemmas.{work_onto-push}
 
 -- the turn marked the state
-pub record Entered (nfa : Automaton) (s : ℕ) (node : Node) (m n : Met) : Type 0 where
+pub record Entered (nfa : Automaton) (s : ℕ) (node : Node) (m n : Marks) : Type 0 where
   pub is : slice_get nfa.states s ≡ Some node
   pub inside : s < length m.bits
   pub below : s < length nfa.states
@@ -45,7 +45,7 @@ pub record Entered (nfa : Automaton) (s : ℕ) (node : Node) (m n : Met) : Type 
   pub marked : n.bits ≡ set m.bits s true
   pub counted : n.turns ≡ m.turns + 1
 
-pub Entered-made : {nfa : Automaton} {s k : ℕ} {v w : State} (m n : Met) {top frames kept places : ℕ} → k ≡ s → slice_get nfa.states s ≡ Some (node_of v) → v ≡ w
+pub Entered-made : {nfa : Automaton} {s k : ℕ} {v w : State} (m n : Marks) {top frames kept places : ℕ} → k ≡ s → slice_get nfa.states s ≡ Some (node_of v) → v ≡ w
     → s < length nfa.states → HasRoom nfa m.bits top frames kept places → n.turns ≡ m.turns + 1
     → (get_or m.bits k true ≡ false) × (n.bits ≡ set m.bits k true) → Entered nfa s (node_of w) m n
 Entered-made m n same is node state room counted fresh =
@@ -75,7 +75,7 @@ IsKept-made o (Some sid) slots next after e none some = inr (sid, sym e, some si
 pub IsKept-same : (o : Option ℕ) (slots : Slots) (next after : Active) → IsKept o slots next after → after ≡ record next { items = after.items }
 IsKept-same o slots next after h = elim h [ inl k ↦ k.1 ∙ ap (λ (a : Active). record next { items = a.items }) (sym k.1) | inr k ↦ k.2 ∙ ap (λ (a : Active). record next { items = a.items }) (sym k.2) ]
 
-module _ {nfa : Automaton} {s : ℕ} {node : Node} {m n : Met} (e : Entered nfa s node m n) where
+module _ {nfa : Automaton} {s : ℕ} {node : Node} {m n : Marks} (e : Entered nfa s node m n) where
   -- the state's weight is added
   weight-entered : (w : Node → ℕ) → marked_sum (map w nfa.states) n.bits ≡ marked_sum (map w nfa.states) m.bits + w node
   weight-entered w =
@@ -170,7 +170,7 @@ module _ {nfa : Automaton} {s : ℕ} {node : Node} {m n : Met} (e : Entered nfa 
         ]
 
 -- What comes of a turn that adds no pair to the front.
-module _ {nfa : Automaton} (x : Search) (at s : ℕ) {m n : Met} (items : List (ℕ × Slots)) (stack : List FollowEpsilon) (slots : Slots) (turn : Turn) (above : List FollowEpsilon) (written : Slots) where
+module _ {nfa : Automaton} (x : Search) (at s : ℕ) {m n : Marks} (items : List (ℕ × Slots)) (stack : List FollowEpsilon) (slots : Slots) (turn : Move) (above : List FollowEpsilon) (written : Slots) where
   Enters-bare : IsMet nfa x (s, at) written turn [] → ((before : Front) → Formed nfa at m.bits before → Formed nfa at n.bits before)
       → ((before : Front) (old : Slots) (work : List Item) → Follows nfa x at m before (Explore (s, at) ∷ work_onto at stack (Load old ∷ work)) slots
       n before (with_state at (state_on turn) (work_onto at above (Load old ∷ work))) written)
@@ -184,7 +184,7 @@ module _ {nfa : Automaton} (x : Search) (at s : ℕ) {m n : Met} (items : List (
   }
 
 -- a turn that finds its state marked
-pub Enters-marked : {nfa : Automaton} (x : Search) (at s k : ℕ) {m n : Met} (items : List (ℕ × Slots)) (stack : List FollowEpsilon) (slots : Slots)
+pub Enters-marked : {nfa : Automaton} (x : Search) (at s k : ℕ) {m n : Marks} (items : List (ℕ × Slots)) (stack : List FollowEpsilon) (slots : Slots)
     → n.turns ≡ m.turns + 1 → k ≡ s → (get_or m.bits k false ≡ true) × (n.bits ≡ m.bits)
     → Enters nfa x at s m items stack slots Over n items stack slots
 Enters-marked {nfa} x at s k {m} {n} items stack slots counted same seen =
@@ -239,10 +239,10 @@ within-union states count alternates f stack above first is within below =
     rw is (within-put states count stack (drop 1 alternates) within rest)
 
 -- What comes of a turn that marks its state.
-module _ {nfa : Automaton} {s : ℕ} {m n : Met} (x : Search) (at : ℕ) (items : List (ℕ × Slots)) (stack : List FollowEpsilon) (slots : Slots) where
+module _ {nfa : Automaton} {s : ℕ} {m n : Marks} (x : Search) (at : ℕ) (items : List (ℕ × Slots)) (stack : List FollowEpsilon) (slots : Slots) where
   -- on to the edges, of which all but the first are put off
   Enters-edges : {node : Node} → Entered nfa s node m n → pattern_of node ≡ None → slot_of node ≡ None → (es : List Pair) → edges_of x node at ≡ es
-      → (turn : Turn) (above : List FollowEpsilon) → IsMet nfa x (s, at) slots turn []
+      → (turn : Move) (above : List FollowEpsilon) → IsMet nfa x (s, at) slots turn []
       → ((work : List Item) → with_state at (state_on turn) (work_onto at above work) ≡ map Explore es ++ work_onto at stack work)
       → Enters nfa x at s m items stack slots turn n items above slots
   Enters-edges {node} e plain writes es leads turn above met puts =
@@ -323,7 +323,7 @@ within-capture states at slot stack slots above written h within = elim h [
   | inr k ↦ rw k.1 within
 ]
 
-module _ {nfa : Automaton} {s next slot : ℕ} {m n : Met} (e : Entered nfa s (Capture next slot) m n) (at : ℕ) (stack : List FollowEpsilon) (slots : Slots) (above : List FollowEpsilon) (written : Slots)
+module _ {nfa : Automaton} {s next slot : ℕ} {m n : Marks} (e : Entered nfa s (Capture next slot) m n) (at : ℕ) (stack : List FollowEpsilon) (slots : Slots) (above : List FollowEpsilon) (written : Slots)
     (h : IsWritten at slot stack slots above written) where
   pub Paid-capture : (kept : ℕ) → Paid nfa m kept stack 1 n kept above 1
   Paid-capture kept = elim h [
@@ -359,8 +359,8 @@ module _ {nfa : Automaton} {s next slot : ℕ} {m n : Met} (e : Entered nfa s (C
       Enters-bare x at s items stack slots (On next) above written (λ b i. absurd i) (λ before f. Formed-marked e at before f) (λ before old work. Follows-capture x before old work)
 
 -- What comes of a turn that enters a resting state.
-module _ {nfa : Automaton} {s : ℕ} {node : Node} {m n : Met} (e : Entered nfa s node m n) (x : Search) (at : ℕ) (items : List (ℕ × Slots)) (stack : List FollowEpsilon) (slots : Slots) (r : rests node ≡ true) where
-  Enters-resting : (kept : List (ℕ × Slots)) → kept ≡ items ++ moves (edges nfa x) (((s, at), slots) ∷ []) → (turn : Turn) → state_on turn ≡ None
+module _ {nfa : Automaton} {s : ℕ} {node : Node} {m n : Marks} (e : Entered nfa s node m n) (x : Search) (at : ℕ) (items : List (ℕ × Slots)) (stack : List FollowEpsilon) (slots : Slots) (r : rests node ≡ true) where
+  Enters-resting : (kept : List (ℕ × Slots)) → kept ≡ items ++ moves (edges nfa x) (((s, at), slots) ∷ []) → (turn : Move) → state_on turn ≡ None
       → IsMet nfa x (s, at) slots turn (((s, at), slots) ∷ []) → Enters nfa x at s m items stack slots turn n kept stack slots
   Enters-resting kept added turn over met =
       let is = node_at-get nfa s node e.is in
@@ -396,14 +396,14 @@ module _ {nfa : Automaton} {s : ℕ} {node : Node} {m n : Met} (e : Entered nfa 
       ]
 
   -- it leads nowhere
-  Enters-nowhere : edges_of x node at ≡ [] → (turn : Turn) → state_on turn ≡ None → IsMet nfa x (s, at) slots turn (((s, at), slots) ∷ [])
+  Enters-nowhere : edges_of x node at ≡ [] → (turn : Move) → state_on turn ≡ None → IsMet nfa x (s, at) slots turn (((s, at), slots) ∷ [])
       → Enters nfa x at s m items stack slots turn n items stack slots
   Enters-nowhere nowhere turn over met =
       let is = node_at-get nfa s node e.is in
       let none : edges nfa x (s, at) ≡ [] = rw is nowhere in
       Enters-resting items (sym (append-nil items) ∙ ap (λ l. items ++ l) (sym (moves-one (edges nfa x) (s, at) slots [] none))) turn over met
 
-module _ {nfa : Automaton} {s : ℕ} {m n : Met} (x : Search) (at : ℕ) (items : List (ℕ × Slots)) (stack : List FollowEpsilon) (slots : Slots) where
+module _ {nfa : Automaton} {s : ℕ} {m n : Marks} (x : Search) (at : ℕ) (items : List (ℕ × Slots)) (stack : List FollowEpsilon) (slots : Slots) where
   pub Enters-fail : Entered nfa s Fail m n → Enters nfa x at s m items stack slots Over n items stack slots
   unfolding edges_of
   Enters-fail e = Enters-nowhere e x at items stack slots refl refl Over refl (no_match e x at items stack slots refl refl)

@@ -11,7 +11,7 @@ use Rattle.nfa_paths.specs.Exploring.{Item, Slots, Found, Answer, Searching}
 use Rattle.nfa_paths.specs.Exploring.Item.{Explore, Restore, Load}
 use Rattle.nfa_paths.proofs.SearchLemmas.{AnswerBehind-along}
 use Rattle.nfa_paths.proofs.SearchingLemmas.{Searching-restore, Searching-load, Searching-marked, Searching-plain, Searching-write, Searching-unkept, Searching-keep}
-use Rattle.nfa_pikevm.specs.Rows.{Met}
+use Rattle.nfa_pikevm.specs.Rows.{Marks}
 use Rattle.nfa_pikevm.specs.States.{Front, SeenAt, AreMatches, Follows}
 
 -- a pair that is no match is in no set of matches
@@ -64,15 +64,15 @@ Searching-unrestored edges target capture {front = front} {otherwise} {v} {k} {b
 
 module _ (nfa : Automaton) (x : Search) (at : ℕ) where
   -- one after the other
-  pub Follows-then : {m : Met} {i : Front} {w : List Item} {s : Slots} {n : Met} {j : Front} {y : List Item} {t : Slots}
-      {o : Met} {k : Front} {z : List Item} {u : Slots}
+  pub Follows-then : {m : Marks} {i : Front} {w : List Item} {s : Slots} {n : Marks} {j : Front} {y : List Item} {t : Slots}
+      {o : Marks} {k : Front} {z : List Item} {u : Slots}
       → Follows nfa x at m i w s n j y t → Follows nfa x at n j y t o k z u → Follows nfa x at m i w s o k z u
   Follows-then f g = record { leads = λ target ok starts entry otherwise h. g.leads target ok starts entry otherwise (f.leads target ok starts entry otherwise h) }
 
-  pub Follows-none : (m : Met) (i : Front) (w : List Item) (s : Slots) → Follows nfa x at m i w s m i w s
+  pub Follows-none : (m : Marks) (i : Front) (w : List Item) (s : Slots) → Follows nfa x at m i w s m i w s
   Follows-none m i w s = record { leads = λ target ok starts entry otherwise h. h }
 
-  module _ (m : Met) (i : Front) (rest : List Item) (slots : Slots) where
+  module _ (m : Marks) (i : Front) (rest : List Item) (slots : Slots) where
     pub Follows-restore : (k : ℕ) (old : Option ℕ) → Follows nfa x at m i (Restore k old ∷ rest) slots m i rest (set slots k old)
     Follows-restore k old = record { leads = λ target ok starts entry otherwise h. Searching-restore (edges nfa x) target (capture nfa) h }
 
@@ -83,7 +83,7 @@ module _ (nfa : Automaton) (x : Search) (at : ℕ) where
         → Follows nfa x at m i (Explore v ∷ Restore k back ∷ Load old ∷ rest) slots m i (Explore v ∷ Load old ∷ rest) slots
     Follows-unrestored v k back old = record { leads = λ target ok starts entry otherwise h. Searching-unrestored (edges nfa x) target (capture nfa) h }
 
-    module _ (s : ℕ) (n : Met) (counted : n.turns ≡ m.turns + 1) where
+    module _ (s : ℕ) (n : Marks) (counted : n.turns ≡ m.turns + 1) where
       -- a turn that finds its state marked
       pub Follows-marked : get_or m.bits s false ≡ true → n.bits ≡ m.bits → Follows nfa x at m i (Explore (s, at) ∷ rest) slots n i rest slots
       Follows-marked seen same = record {

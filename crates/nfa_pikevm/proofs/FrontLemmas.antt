@@ -17,7 +17,7 @@ use Rattle.nfa_paths.specs.Paths.{degree, node_at, slot_of, edges, edges_of, byt
 use Rattle.nfa_paths.proofs.ScanAnswerLemmas.{edges-rise}
 use Rattle.nfa_paths.proofs.TurnLemmas.{marked_sum-le}
 use Rattle.nfa_scanning.proofs.TargetLemmas.{target-below, byte_at-within}
-use Rattle.nfa_pikevm.specs.Rows.{Met}
+use Rattle.nfa_pikevm.specs.Rows.{Marks}
 use Rattle.nfa_pikevm.specs.States.{Front, moves, unmarked, one_of, SeenAt, Formed, Paid}
 use Rattle.nfa_pikevm.specs.Scans.{IsPaidAt, scan_turns}
 
@@ -204,12 +204,12 @@ sum-ones (s ∷ states) = omega (arith, sum_by-cons one_of s states, sum-ones st
 
 module _ (nfa : Automaton) (x : Search) where
   -- no more states are kept than the NFA has
-  pub Paid-few : (met : Met) (hand : ℕ) (after : Met) (more : ℕ) → Paid nfa (unmarked met) 0 [] hand after more [] 0 → more ≤ length nfa.states
+  pub Paid-few : (met : Marks) (hand : ℕ) (after : Marks) (more : ℕ) → Paid nfa (unmarked met) 0 [] hand after more [] 0 → more ≤ length nfa.states
   Paid-few met hand after more p =
       omega (arith, p.entered, marked_sum-le (map one_of nfa.states) after.bits, sum-map one_of nfa.states, sum-ones nfa.states)
 
   -- what was left and what a position takes
-  pub Paid-next : (met : Met) (hand : ℕ) (after : Met) (more : ℕ) → Paid nfa (unmarked met) 0 [] hand after more [] 0 → after.turns + more ≤ met.turns + hand + turn_weight nfa
+  pub Paid-next : (met : Marks) (hand : ℕ) (after : Marks) (more : ℕ) → Paid nfa (unmarked met) 0 [] hand after more [] 0 → after.turns + more ≤ met.turns + hand + turn_weight nfa
   Paid-next met hand after more p =
       omega (arith, p.tried, marked_sum-le (map degree nfa.states) after.bits, sum-map degree nfa.states)
 

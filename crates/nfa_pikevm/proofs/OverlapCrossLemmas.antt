@@ -9,7 +9,7 @@ use Rattle.nfa_paths.specs.Paths.{edges}
 use Rattle.nfa_paths.specs.Exploring.{Slots, Item}
 use Rattle.nfa_paths.specs.Exploring.Item.{Explore as ToExplore, Load as ToLoad}
 use Rattle.nfa_paths.specs.Kinds.{before_match}
-use Rattle.nfa_pikevm.specs.Rows.{Met, Active, items_of}
+use Rattle.nfa_pikevm.specs.Rows.{Marks, Active, items_of}
 use Rattle.nfa_pikevm.specs.States.{Front, moves, tasks, unmarked, Formed, Paid, Follows, Leads}
 use Rattle.nfa_pikevm.specs.Overlapping.{wants, Gathers, GoesPast, rowless, ArrivesInSet, CrossesInSet}
 use Rattle.nfa_pikevm.proofs.OverlapSetLemmas.{Gathers-none, Gathers-then, Gathers-capacity, before-then}
@@ -17,7 +17,7 @@ use Rattle.nfa_pikevm.proofs.RowLemmas.{active_of}
 use Rattle.nfa_pikevm.proofs.OverlapTurnLemmas.{moves-append, follows-then, follows-none, follows-load, follows-any}
 
 -- where nothing is marked, taking the marks away changes nothing
-pub unmarked-same : (met : Met) → met.bits ≡ replicate (length met.bits) false → unmarked met ≡ met
+pub unmarked-same : (met : Marks) → met.bits ≡ replicate (length met.bits) false → unmarked met ≡ met
 unmarked-same met clear = ap (λ (b : List Bool). record met { bits = b }) (sym clear)
 
 -- the i-th state, and those behind it
@@ -48,7 +48,7 @@ tasks-load at (i ∷ items) old waiting = record { slots = i.1; rest = ToExplore
 
 module _ (nfa : Automaton) (x : Search) (at n : ℕ) where
   -- the position so far: some items are left
-  pub record Crossing (past : Bool) (met : Met) (items left : List (ℕ × Slots)) (set : List Bool) (hit : Bool) (after : Met) (kept : List (ℕ × Slots)) (gathered : List Bool) : Type 0 where
+  pub record Crossing (past : Bool) (met : Marks) (items left : List (ℕ × Slots)) (set : List Bool) (hit : Bool) (after : Marks) (kept : List (ℕ × Slots)) (gathered : List Bool) : Type 0 where
     pub front : Front
     pub added : kept ≡ moves (edges nfa x) front
     pub gathers : Gathers nfa past (wants nfa x n) front set hit gathered
@@ -57,7 +57,7 @@ module _ (nfa : Automaton) (x : Search) (at n : ℕ) where
     pub follows : (old : Slots) (waiting : List Item)
         → Follows nfa x at met [] (tasks at items (ToLoad old ∷ waiting)) [] after front (tasks at left (ToLoad old ∷ waiting)) []
 
-  pub Crossing-start : (past : Bool) (met : Met) (items : List (ℕ × Slots)) (set : List Bool) (kept : List (ℕ × Slots)) → kept ≡ []
+  pub Crossing-start : (past : Bool) (met : Marks) (items : List (ℕ × Slots)) (set : List Bool) (kept : List (ℕ × Slots)) → kept ≡ []
       → Crossing past met items items set false met kept set
   Crossing-start past met items set kept none = record {
     front = [];
@@ -74,8 +74,8 @@ module _ (nfa : Automaton) (x : Search) (at n : ℕ) where
     follows = λ old waiting. follows-none nfa x at met [] (tasks at items (ToLoad old ∷ waiting)) [];
   }
 
-  module _ (past : Bool) (met : Met) (items : List (ℕ × Slots)) (s : ℕ) (left : List (ℕ × Slots)) (set : List Bool) (hit : Bool) (middle : Met) (kept : List (ℕ × Slots)) (mid : List Bool)
-      (now : Bool) (after : Met) (more : List (ℕ × Slots)) (gathered : List Bool) (whole : List (ℕ × Slots)) (next : whole ≡ (s, []) ∷ left)
+  module _ (past : Bool) (met : Marks) (items : List (ℕ × Slots)) (s : ℕ) (left : List (ℕ × Slots)) (set : List Bool) (hit : Bool) (middle : Marks) (kept : List (ℕ × Slots)) (mid : List Bool)
+      (now : Bool) (after : Marks) (more : List (ℕ × Slots)) (gathered : List Bool) (whole : List (ℕ × Slots)) (next : whole ≡ (s, []) ∷ left)
       (off : past ≡ false → hit ≡ false) (size : length set ≡ n)
       (a : Crossing past met items whole set hit middle kept mid) (c : ArrivesInSet nfa x at past (length mid) s middle kept mid now after more gathered) where
     -- what comes of the state, in terms of the capacity of the set before
@@ -157,7 +157,7 @@ module _ (nfa : Automaton) (x : Search) (at n : ℕ) where
     }
 
   -- no state is left
-  pub Crossing-end : (past : Bool) (met : Met) (items left : List (ℕ × Slots)) (set : List Bool) (hit : Bool) (after : Met) (kept : List (ℕ × Slots)) (gathered : List Bool)
+  pub Crossing-end : (past : Bool) (met : Marks) (items left : List (ℕ × Slots)) (set : List Bool) (hit : Bool) (after : Marks) (kept : List (ℕ × Slots)) (gathered : List Bool)
       → Crossing past met items left set hit after kept gathered → left ≡ [] → All (λ i. i.1 ≡ []) items → unmarked met ≡ met
       → Paid nfa met 0 [] (length items) after (length kept) [] 0
       → CrossesInSet nfa x at past n met items set hit after kept gathered
@@ -179,7 +179,7 @@ module _ (nfa : Automaton) (x : Search) (at n : ℕ) where
   }
 
 -- one more state is paid for
-pub Paid-state : {nfa : Automaton} {a : Met} {n : ℕ} {b : Met} {kb : ℕ} {c : Met} {kc : ℕ} (i : ℕ) → i < n
+pub Paid-state : {nfa : Automaton} {a : Marks} {n : ℕ} {b : Marks} {kb : ℕ} {c : Marks} {kc : ℕ} (i : ℕ) → i < n
     → Paid nfa a 0 [] n b kb [] (n - i) → Paid nfa b kb [] 1 c kc [] 0 → Paid nfa a 0 [] n c kc [] (n - (i + 1))
 Paid-state i less p q = record { tried = omega (arith, p.tried, q.tried); framed = omega (arith, p.framed, q.framed); entered = omega (arith, p.entered, q.entered) }
 
@@ -204,7 +204,7 @@ rowless-all n (s ∷ states) h =
     (rowless-all n states (All-tail (λ (i : ℕ × Slots). i.0 < n) (s, []) (rowless states) h))
 
 -- the same from marks that were taken away
-pub crosses-cleared : (nfa : Automaton) (x : Search) (at : ℕ) (past : Bool) (n : ℕ) (met cleared : Met) (items whole : List (ℕ × Slots)) (set : List Bool) (hit : Bool) (after : Met)
+pub crosses-cleared : (nfa : Automaton) (x : Search) (at : ℕ) (past : Bool) (n : ℕ) (met cleared : Marks) (items whole : List (ℕ × Slots)) (set : List Bool) (hit : Bool) (after : Marks)
     (kept : List (ℕ × Slots)) (gathered : List Bool) → cleared ≡ unmarked met → whole ≡ items
     → CrossesInSet nfa x at past n cleared items set hit after kept gathered → CrossesInSet nfa x at past n met whole set hit after kept gathered
 crosses-cleared nfa x at past n met cleared items whole set hit after kept gathered clear same c =
@@ -221,5 +221,5 @@ crosses-cleared nfa x at past n met cleared items whole set hit after kept gathe
     })
 
 -- no state is followed yet
-pub Paid-states : (nfa : Automaton) (a : Met) (n k : ℕ) → k ≡ 0 → Paid nfa a 0 [] n a k [] (n - 0)
+pub Paid-states : (nfa : Automaton) (a : Marks) (n k : ℕ) → k ≡ 0 → Paid nfa a 0 [] n a k [] (n - 0)
 Paid-states nfa a n k none = record { tried = omega arith; framed = omega arith; entered = omega arith }

@@ -20,8 +20,8 @@ use Rattle.nfa_paths.proofs.SearchingLemmas.{Searching-load, Searching-round, Se
 use Rattle.nfa_paths.proofs.ScanningLemmas.{Searching-cut, Searching-wait}
 use Rattle.nfa_paths.proofs.PathToLemmas.{is_false}
 use Rattle.nfa_paths.proofs.OverlapLemmas.{heads, Sound, Sound-start, Sound-hit, Sound-round, Sound-cut, Searched, UpTo, UpTo-next, UpTo-match, UpTo-end}
-use Rattle.nfa_pikevm.specs.Rows.{Met}
-use Rattle.nfa_pikevm.specs.Scans.{starts_from, joined, AreStarts, AreAt, IsPaidAt}
+use Rattle.nfa_pikevm.specs.Rows.{Marks}
+use Rattle.nfa_pikevm.specs.Scans.{starts_from, with_start, AreStarts, AreAt, IsPaidAt}
 use Rattle.nfa_pikevm.specs.States.{Front, moves, tasks, unmarked, SearchingAt, Leads}
 use Rattle.nfa_pikevm.specs.Overlapping.{wants, Gathers, GathersFirst, GoesPast, CrossesInSet}
 use Rattle.nfa_pikevm.specs.declared.scan.Starts.{Starts}
@@ -50,7 +50,7 @@ pairs_at-append at (i ∷ xs) ys later = ap (λ l. (i.0, at) ∷ l) (pairs_at-ap
 
 -- with the start that joins, the others wait
 joined-pairs : (from : Starts) (at : ℕ) (items : List (ℕ × Slots))
-    → pairs_at at (joined from 0 at items) (pairs_from from.state (at + 1) (from.limit - (at + 1))) ≡ pairs_at at items (pairs_from from.state at (from.limit - at))
+    → pairs_at at (with_start from 0 at items) (pairs_from from.state (at + 1) (from.limit - (at + 1))) ≡ pairs_at at items (pairs_from from.state at (from.limit - at))
 unfolding pairs_at
 joined-pairs from at items =
     elim (cases_lt at from.limit) [
@@ -89,7 +89,7 @@ module _ (edges : Pair → List Pair) (at : ℕ) where
 -- `old` is the set as the scan began.
 module _ (nfa : Automaton) (x : Search) (old : List Bool) where
   -- what the scan keeps at a position: the match that was found, what it put into the set, and what is left to do
-  pub record FirstWay (from : Starts) (at before : ℕ) (met : Met) (items : List (ℕ × Slots)) (new : List Bool) : Type 0 where
+  pub record FirstWay (from : Starts) (at before : ℕ) (met : Marks) (items : List (ℕ × Slots)) (new : List Bool) : Type 0 where
     pub states : AreAt nfa items
     pub paid : IsPaidAt nfa x at before met.turns (length items)
     pub so_far : Found
@@ -98,7 +98,7 @@ module _ (nfa : Automaton) (x : Search) (old : List Bool) where
     pub holds : UpTo nfa x old (wants nfa x (length old)) (wants-tells nfa x (length old)) at so_far new
 
   -- the set keeps its capacity
-  pub FirstWay-capacity : {from : Starts} {at before : ℕ} {met : Met} {items : List (ℕ × Slots)} {new : List Bool}
+  pub FirstWay-capacity : {from : Starts} {at before : ℕ} {met : Marks} {items : List (ℕ × Slots)} {new : List Bool}
       → FirstWay from at before met items new → length new ≡ length old
   FirstWay-capacity {at = at} {new = new} w = of w.so_far w.holds
     where
@@ -106,7 +106,7 @@ module _ (nfa : Automaton) (x : Search) (old : List Bool) where
       of None h = ap (λ (l : List Bool). length l) h
       of (Some a) h = h.capacity
 
-  pub FirstWay-start : (from : Starts) → AreStarts nfa x from → (met : Met) (items : List (ℕ × Slots)) → items ≡ []
+  pub FirstWay-start : (from : Starts) → AreStarts nfa x from → (met : Marks) (items : List (ℕ × Slots)) → items ≡ []
       → FirstWay from x.start met.turns met items old
   unfolding pairs_at
   FirstWay-start from are met items none =
@@ -120,8 +120,8 @@ module _ (nfa : Automaton) (x : Search) (old : List Bool) where
       })
 
   -- no state and no start is left
-  pub FirstWay-over : IsAutomaton nfa → {from : Starts} {at before : ℕ} {met : Met} {items : List (ℕ × Slots)} {new : List Bool} → size_of_set old ≡ 0
-      → FirstWay from at before met items new → joined from 0 at items ≡ [] → IsOverlapResult nfa x LeftmostFirst false old new
+  pub FirstWay-over : IsAutomaton nfa → {from : Starts} {at before : ℕ} {met : Marks} {items : List (ℕ × Slots)} {new : List Bool} → size_of_set old ≡ 0
+      → FirstWay from at before met items new → with_start from 0 at items ≡ [] → IsOverlapResult nfa x LeftmostFirst false old new
   unfolding seeds
   FirstWay-over good {from} {at} {before} {met} {items} {new} empty w none =
       let work : tasks at items (ToLoad [] ∷ starts_from 0 from.state at from.limit) ≡ ToLoad [] ∷ starts_from 0 from.state (at + 1) from.limit =
@@ -132,7 +132,7 @@ module _ (nfa : Automaton) (x : Search) (old : List Bool) where
       UpTo-end nfa x old (wants nfa x (length old)) (wants-tells nfa x (length old)) at met.turns [] w.so_far new empty w.holds
       (Searching-done (edges nfa x) (wants nfa x (length old)) (capture nfa) (Searching-load (edges nfa x) (wants nfa x (length old)) (capture nfa) left))
     where
-      over : joined from 0 at items ≡ [] → from.limit ≤ at + 1
+      over : with_start from 0 at items ≡ [] → from.limit ≤ at + 1
       over e =
           elim (cases_lt at from.limit) [
             | inl less ↦ let never : items ++ (from.state, []) ∷ [] ≡ [] = rw (lt-ltb at from.limit less) at e in absurd (some items never)
@@ -144,22 +144,22 @@ module _ (nfa : Automaton) (x : Search) (old : List Bool) where
           some (y ∷ xs) e = cc
 
   -- behind the last position nothing is left
-  pub FirstWay-end : IsAutomaton nfa → {from : Starts} {at before : ℕ} {met : Met} {items : List (ℕ × Slots)} {new : List Bool} → size_of_set old ≡ 0
+  pub FirstWay-end : IsAutomaton nfa → {from : Starts} {at before : ℕ} {met : Marks} {items : List (ℕ × Slots)} {new : List Bool} → size_of_set old ≡ 0
       → FirstWay from at before met items new → items ≡ [] → from.limit ≤ at → IsOverlapResult nfa x LeftmostFirst false old new
   FirstWay-end good {from} {at} {items = items} empty w none past = FirstWay-over good empty w (rw (none, le-ltb at from.limit past) refl)
 
-  module _ {from : Starts} {at before : ℕ} {met : Met} {items : List (ℕ × Slots)} {mid : List Bool} {hit : Bool} {after : Met} {kept : List (ℕ × Slots)} {new : List Bool}
+  module _ {from : Starts} {at before : ℕ} {met : Marks} {items : List (ℕ × Slots)} {mid : List Bool} {hit : Bool} {after : Marks} {kept : List (ℕ × Slots)} {new : List Bool}
       (good : IsAutomaton nfa) (low : x.start ≤ at) (w : FirstWay from at before met items mid)
-      (c : CrossesInSet nfa x at false (length old) met (joined from 0 at items) mid hit after kept new) where
+      (c : CrossesInSet nfa x at false (length old) met (with_start from 0 at items) mid hit after kept new) where
     later : List Item
     later = starts_from 0 from.state (at + 1) from.limit
 
-    lead : Leads nfa x at (unmarked met) [] (tasks at (joined from 0 at items) (ToLoad [] ∷ starts_from 0 from.state (at + 1) from.limit)) [] (GoesPast false hit) after c.front
+    lead : Leads nfa x at (unmarked met) [] (tasks at (with_start from 0 at items) (ToLoad [] ∷ starts_from 0 from.state (at + 1) from.limit)) [] (GoesPast false hit) after c.front
         (ToLoad [] ∷ starts_from 0 from.state (at + 1) from.limit)
     lead = c.leads [] (starts_from 0 from.state (at + 1) from.limit)
 
     -- the search at the front
-    front-search : (l : Leads nfa x at (unmarked met) [] (tasks at (joined from 0 at items) (ToLoad [] ∷ starts_from 0 from.state (at + 1) from.limit)) [] (GoesPast false hit) after c.front
+    front-search : (l : Leads nfa x at (unmarked met) [] (tasks at (with_start from 0 at items) (ToLoad [] ∷ starts_from 0 from.state (at + 1) from.limit)) [] (GoesPast false hit) after c.front
         (ToLoad [] ∷ starts_from 0 from.state (at + 1) from.limit))
         → SearchingAt nfa x at (wants nfa x (length old)) (starts nfa x) [] w.so_far after c.front l.left l.written
     front-search l =
@@ -167,16 +167,16 @@ module _ (nfa : Automaton) (x : Search) (old : List Bool) where
         (subst (λ z. SearchingAt nfa x at (wants nfa x (length old)) (starts nfa x) [] w.so_far (unmarked met) [] z []) (sym (joined-work from at items)) w.searching)
 
     -- the search for any wanted pairs from the states at the position
-    front-searched : (l : Leads nfa x at (unmarked met) [] (tasks at (joined from 0 at items) (ToLoad [] ∷ starts_from 0 from.state (at + 1) from.limit)) [] (GoesPast false hit) after c.front
+    front-searched : (l : Leads nfa x at (unmarked met) [] (tasks at (with_start from 0 at items) (ToLoad [] ∷ starts_from 0 from.state (at + 1) from.limit)) [] (GoesPast false hit) after c.front
         (ToLoad [] ∷ starts_from 0 from.state (at + 1) from.limit))
         → Searched nfa x old (wants nfa x (length old)) (wants-tells nfa x (length old)) at (pairs_at at items (pairs_from from.state at (from.limit - at))) c.front l.left l.written
     front-searched l = record {
       leads = λ target sub.
-          let pairs = pairs_at at (joined from 0 at items) (pairs_from from.state (at + 1) (from.limit - (at + 1))) in
-          let begin = subst (λ z. SearchingAt nfa x at target (pairs_at at (joined from 0 at items) (pairs_from from.state (at + 1) (from.limit - (at + 1)))) [] None (unmarked met) [] z [])
-          (sym (tasks-seeds at (joined from 0 at items) (pairs_from from.state (at + 1) (from.limit - (at + 1))) c.rows))
-          (fresh-search nfa x target at met (pairs_at at (joined from 0 at items) (pairs_from from.state (at + 1) (from.limit - (at + 1))))) in
-          let s = l.follows.leads target (λ v t. wants-match nfa x (length old) v (sub v t)) (pairs_at at (joined from 0 at items) (pairs_from from.state (at + 1) (from.limit - (at + 1)))) [] None begin in (
+          let pairs = pairs_at at (with_start from 0 at items) (pairs_from from.state (at + 1) (from.limit - (at + 1))) in
+          let begin = subst (λ z. SearchingAt nfa x at target (pairs_at at (with_start from 0 at items) (pairs_from from.state (at + 1) (from.limit - (at + 1)))) [] None (unmarked met) [] z [])
+          (sym (tasks-seeds at (with_start from 0 at items) (pairs_from from.state (at + 1) (from.limit - (at + 1))) c.rows))
+          (fresh-search nfa x target at met (pairs_at at (with_start from 0 at items) (pairs_from from.state (at + 1) (from.limit - (at + 1))))) in
+          let s = l.follows.leads target (λ v t. wants-match nfa x (length old) v (sub v t)) (pairs_at at (with_start from 0 at items) (pairs_from from.state (at + 1) (from.limit - (at + 1)))) [] None begin in (
             s.marks,
             λ v i. let e : v.1 ≡ at = ((s.agrees v).0 i).here in omega arith,
             λ left g h. (after.turns + left, rw (← joined-pairs from at items) (s.leads g left (after.turns + left) refl h)),

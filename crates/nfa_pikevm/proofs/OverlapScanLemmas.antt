@@ -22,8 +22,8 @@ use Rattle.nfa_paths.proofs.ScanLemmas.{EndsBefore-over}
 use Rattle.nfa_paths.proofs.TurnLemmas.{marked_sum-le, marked_sum-clear}
 use Rattle.nfa_paths.proofs.OverlapLemmas.{wanted-shape, resting-capture}
 use Rattle.nfa_scanning.proofs.TargetLemmas.{target-below}
-use Rattle.nfa_pikevm.specs.Rows.{Met}
-use Rattle.nfa_pikevm.specs.Scans.{starts_from, joined, AreStarts, AreAt, IsPaidAt}
+use Rattle.nfa_pikevm.specs.Rows.{Marks}
+use Rattle.nfa_pikevm.specs.Scans.{starts_from, with_start, AreStarts, AreAt, IsPaidAt}
 use Rattle.nfa_pikevm.specs.States.{Front, moves, tasks, unmarked, SeenAt, Formed, Leads, one_of}
 use Rattle.nfa_pikevm.specs.Overlapping.{wants, GoesPast, CrossesInSet}
 use Rattle.nfa_pikevm.specs.declared.scan.Starts.{Starts}
@@ -76,7 +76,7 @@ get-clear n k =
       | inr past ↦ get_or_past (replicate n false) k false (rw length-replicate past)
     ]
 
-pub unseen : (at : ℕ) (met : Met) (v : Pair) → SeenAt at (unmarked met).bits v → ⊥
+pub unseen : (at : ℕ) (met : Marks) (v : Pair) → SeenAt at (unmarked met).bits v → ⊥
 unseen at met v h = let never : true ≡ false = sym h.set ∙ get-clear (length met.bits) v.0 in cc
 
 -- the work of a position
@@ -86,7 +86,7 @@ tasks-append at (i ∷ xs) ys work = ap (λ w. ToLoad i.1 ∷ ToExplore (i.0, at
 
 -- with the start that joins, the other starts wait
 pub joined-work : (from : Starts) (at : ℕ) (items : List (ℕ × Slots))
-    → tasks at (joined from 0 at items) (ToLoad [] ∷ starts_from 0 from.state (at + 1) from.limit) ≡ tasks at items (ToLoad [] ∷ starts_from 0 from.state at from.limit)
+    → tasks at (with_start from 0 at items) (ToLoad [] ∷ starts_from 0 from.state (at + 1) from.limit) ≡ tasks at items (ToLoad [] ∷ starts_from 0 from.state at from.limit)
 unfolding seeds
 joined-work from at items =
     elim (cases_lt at from.limit) [
@@ -160,7 +160,7 @@ module _ (nfa : Automaton) (x : Search) where
   }
 
   -- a search from some starts, after as many turns as were taken before it
-  pub fresh-search : (target : Pair → Bool) (at : ℕ) (met : Met) (from : List Pair)
+  pub fresh-search : (target : Pair → Bool) (at : ℕ) (met : Marks) (from : List Pair)
       → Searching (edges nfa x) target (capture nfa) (λ g total. Answer (edges nfa x) target (capture nfa) total None [] (map ToExplore from) [] g) (SeenAt at (unmarked met).bits) met.turns [] None
       (ToLoad [] ∷ seeds [] from) []
   unfolding Answer AnswerBehind
@@ -175,11 +175,11 @@ module _ (nfa : Automaton) (x : Search) where
   -- with a set that was `old` when the scan began
   module _ (old : List Bool) where
     -- the scan for each wanted pair, at a position where it has followed no state yet
-    pub record ScansAt (at state limit : ℕ) (met : Met) (items : List (ℕ × Slots)) : Type 0 where
+    pub record ScansAt (at state limit : ℕ) (met : Marks) (items : List (ℕ × Slots)) : Type 0 where
       pub scanning : Scanning (edges nfa x) (capture nfa) (starts nfa x) (wants nfa x (length old)) [] at (SeenAt at (unmarked met).bits) met.turns []
           (tasks at items (ToLoad [] ∷ starts_from 0 state at limit)) []
 
-    pub ScansAt-start : (from : Starts) → AreStarts nfa x from → (met : Met) (items : List (ℕ × Slots)) → items ≡ [] → ScansAt x.start from.state from.limit met items
+    pub ScansAt-start : (from : Starts) → AreStarts nfa x from → (met : Marks) (items : List (ℕ × Slots)) → items ≡ [] → ScansAt x.start from.state from.limit met items
     ScansAt-start from are met items none = record {
       scanning = rw (none, are.all) (record {
         searching = λ target ok. fresh-search target x.start met (pairs_from from.state x.start (from.limit - x.start));
@@ -187,14 +187,14 @@ module _ (nfa : Automaton) (x : Search) where
     }
 
     -- with the start that joined
-    pub ScansAt-join : (from : Starts) (at : ℕ) (met : Met) (items : List (ℕ × Slots)) → ScansAt at from.state from.limit met items
+    pub ScansAt-join : (from : Starts) (at : ℕ) (met : Marks) (items : List (ℕ × Slots)) → ScansAt at from.state from.limit met items
         → Scanning (edges nfa x) (capture nfa) (starts nfa x) (wants nfa x (length old)) [] at (SeenAt at (unmarked met).bits) met.turns []
-        (tasks at (joined from 0 at items) (ToLoad [] ∷ starts_from 0 from.state (at + 1) from.limit)) []
+        (tasks at (with_start from 0 at items) (ToLoad [] ∷ starts_from 0 from.state (at + 1) from.limit)) []
     ScansAt-join from at met items s =
         subst (λ w. Scanning (edges nfa x) (capture nfa) (starts nfa x) (wants nfa x (length old)) [] at (SeenAt at (unmarked met).bits) met.turns [] w []) (sym (joined-work from at items)) s.scanning
 
     -- no state and no start is left: every path has ended
-    pub ScansAt-over : (from : Starts) (at : ℕ) (met : Met) (items : List (ℕ × Slots)) → ScansAt at from.state from.limit met items → joined from 0 at items ≡ []
+    pub ScansAt-over : (from : Starts) (at : ℕ) (met : Marks) (items : List (ℕ × Slots)) → ScansAt at from.state from.limit met items → with_start from 0 at items ≡ []
         → EndsBefore (edges nfa x) (starts nfa x) (wants nfa x (length old)) at
     unfolding seeds
     ScansAt-over from at met items s none =
@@ -206,7 +206,7 @@ module _ (nfa : Automaton) (x : Search) where
         EndsBefore-over (edges nfa x) (capture nfa) (starts nfa x) (is_resting nfa) (wants nfa x (length old)) [] (wanted-shape nfa x old (wants nfa x (length old)) (wants-tells nfa x (length old))) at
         (Scanning-over (edges nfa x) (capture nfa) (starts nfa x) (wants nfa x (length old)) [] (Scanning-load (edges nfa x) (capture nfa) (starts nfa x) (wants nfa x (length old)) [] left))
       where
-        parts : joined from 0 at items ≡ [] → (items ≡ []) × (from.limit ≤ at)
+        parts : with_start from 0 at items ≡ [] → (items ≡ []) × (from.limit ≤ at)
         parts e =
             elim (cases_lt at from.limit) [
               | inl less ↦ let never : items ++ (from.state, []) ∷ [] ≡ [] = rw (lt-ltb at from.limit less) at e in absurd (some items never)
@@ -219,7 +219,7 @@ module _ (nfa : Automaton) (x : Search) where
 
     -- one position
 
-    module _ {at : ℕ} {past : Bool} {met : Met} {items : List (ℕ × Slots)} {set : List Bool} {hit : Bool} {after : Met} {kept : List (ℕ × Slots)} {gathered : List Bool}
+    module _ {at : ℕ} {past : Bool} {met : Marks} {items : List (ℕ × Slots)} {set : List Bool} {hit : Bool} {after : Marks} {kept : List (ℕ × Slots)} {gathered : List Bool}
         (c : CrossesInSet nfa x at past (length old) met items set hit after kept gathered) where
       pub front-rests : (b : Pair × Slots) → In b c.front → (is_resting nfa b.0 ≡ true) × (b.0.1 ≡ at)
       front-rests b i = (

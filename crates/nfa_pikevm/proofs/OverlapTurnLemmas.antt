@@ -17,11 +17,11 @@ use Rattle.nfa_paths.specs.Kinds.{NoMatch, before_match}
 use Rattle.nfa_paths.proofs.AnswerLemmas.{IsMatch-edges}
 use Rattle.nfa_paths.proofs.SearchLemmas.{Answer-load, AnswerBehind-along}
 use Rattle.nfa_paths.proofs.SearchingLemmas.{Searching-load}
-use Rattle.nfa_pikevm.specs.Rows.{Met, Active}
+use Rattle.nfa_pikevm.specs.Rows.{Marks, Active}
 use Rattle.nfa_pikevm.specs.States.{Front, moves, work_onto, with_state, state_on, IsMet, IsWithin, Enters, Formed, Paid, Follows}
 use Rattle.nfa_pikevm.specs.Overlapping.{permits, wants, Gathers, AdvancesInSet, ArrivesInSet}
-use Rattle.nfa_pikevm.specs.declared.closure.Turn.{Turn}
-use Rattle.nfa_pikevm.specs.declared.closure.Turn.TheVariants.{On, Matched, Over}
+use Rattle.nfa_pikevm.specs.declared.closure.Move.{Move}
+use Rattle.nfa_pikevm.specs.declared.closure.Move.TheVariants.{On, Matched, Over}
 use Rattle.nfa_pikevm.specs.declared.frame.FollowEpsilon.{FollowEpsilon}
 use Rattle.nfa_pikevm.proofs.OverlapSetLemmas.{wants-match, wants-here, Gathers-none, Gathers-one, Gathers-then, Gathers-capacity, before-none, before-then}
 
@@ -43,18 +43,18 @@ moves-append edges (a ∷ f) g =
 
 module _ (nfa : Automaton) (x : Search) (at : ℕ) where
   -- one after the other
-  pub follows-then : {m : Met} {f : Front} {w : List Item} {s : Slots} {n : Met} {g : Front} {y : List Item} {t : Slots} {o : Met} {h : Front} {z : List Item} {u : Slots}
+  pub follows-then : {m : Marks} {f : Front} {w : List Item} {s : Slots} {n : Marks} {g : Front} {y : List Item} {t : Slots} {o : Marks} {h : Front} {z : List Item} {u : Slots}
       → Follows nfa x at m f w s n g y t → Follows nfa x at n g y t o h z u → Follows nfa x at m f w s o h z u
   follows-then a b = record { leads = λ target ok starts entry otherwise s. b.leads target ok starts entry otherwise (a.leads target ok starts entry otherwise s) }
 
-  pub follows-none : (m : Met) (f : Front) (w : List Item) (s : Slots) → Follows nfa x at m f w s m f w s
+  pub follows-none : (m : Marks) (f : Front) (w : List Item) (s : Slots) → Follows nfa x at m f w s m f w s
   follows-none m f w s = record { leads = λ target ok starts entry otherwise h. h }
 
-  pub follows-load : (m : Met) (f : Front) (w : List Item) (s old : Slots) → Follows nfa x at m f (ToLoad old ∷ w) s m f w old
+  pub follows-load : (m : Marks) (f : Front) (w : List Item) (s old : Slots) → Follows nfa x at m f (ToLoad old ∷ w) s m f w old
   follows-load m f w s old = record { leads = λ target ok starts entry otherwise h. Searching-load (edges nfa x) target (capture nfa) h }
 
   -- what is loaded does not depend on the slots before
-  pub follows-any : (m : Met) (f : Front) (old : Slots) (w : List Item) (s t : Slots) → Follows nfa x at m f (ToLoad old ∷ w) s m f (ToLoad old ∷ w) t
+  pub follows-any : (m : Marks) (f : Front) (old : Slots) (w : List Item) (s t : Slots) → Follows nfa x at m f (ToLoad old ∷ w) s m f (ToLoad old ∷ w) t
   follows-any m f old w s t = record {
     leads = λ target ok starts entry otherwise h. record {
       marks = h.marks;
@@ -69,7 +69,7 @@ module _ (nfa : Automaton) (x : Search) (at : ℕ) where
   -- with a set of capacity n
   module _ (n : ℕ) where
     -- what a turn puts into the set
-    pub record TurnInSet (past : Bool) (front : Front) (set : List Bool) (hit : Bool) (gathered : List Bool) (now : Bool) : Type 0 where
+    pub record MoveInSet (past : Bool) (front : Front) (set : List Bool) (hit : Bool) (gathered : List Bool) (now : Bool) : Type 0 where
       pub found : Bool
       pub gathers : Gathers nfa past (wants nfa x n) front set found gathered
       pub cut : moves (edges nfa x) (before_match (wants nfa x n) front) ≡ moves (edges nfa x) front
@@ -77,7 +77,7 @@ module _ (nfa : Automaton) (x : Search) (at : ℕ) where
 
     -- no match
     pub turn-plain : (past : Bool) (front : Front) (set : List Bool) (hit : Bool) (gathered : List Bool) (now : Bool) → NoMatch (is_match nfa) front
-        → gathered ≡ set → now ≡ hit → TurnInSet past front set hit gathered now
+        → gathered ≡ set → now ≡ hit → MoveInSet past front set hit gathered now
     turn-plain past front set hit gathered now plain same_set same_hit =
         let none : NoMatch (wants nfa x n) front = λ b i t. plain b i (wants-match nfa x n b.0 t) in
         record {
@@ -91,7 +91,7 @@ module _ (nfa : Automaton) (x : Search) (at : ℕ) where
     pub turn-matched : (past counts : Bool) (s : ℕ) (written : Slots) (k : ℕ) (set : List Bool) (hit : Bool) (gathered : List Bool) (now : Bool)
         → pattern_of (node_at nfa s) ≡ Some k → counts ≡ (permits nfa x at && nat_lt k n) → length set ≡ n
         → (counts ≡ false → gathered ≡ set) → (counts ≡ true → gathered ≡ with_pattern set k) → now ≡ (counts || hit)
-        → TurnInSet past (((s, at), written) ∷ []) set hit gathered now
+        → MoveInSet past (((s, at), written) ∷ []) set hit gathered now
     turn-matched past false s written k set hit gathered now is counts size dead put met =
         let off : wants nfa x n (s, at) ≡ false = wants-here nfa x n s at k is ∙ sym counts in
         let none : NoMatch (wants nfa x n) (((s, at), written) ∷ []) =
@@ -123,10 +123,10 @@ module _ (nfa : Automaton) (x : Search) (at : ℕ) where
 
     -- what a turn comes to
 
-    module _ (past : Bool) (s : ℕ) (met : Met) (items : List (ℕ × Slots)) (stack : List FollowEpsilon) (set : List Bool) (hit : Bool) (turn : Turn) (after : Met)
+    module _ (past : Bool) (s : ℕ) (met : Marks) (items : List (ℕ × Slots)) (stack : List FollowEpsilon) (set : List Bool) (hit : Bool) (turn : Move) (after : Marks)
         (kept : List (ℕ × Slots)) (above : List FollowEpsilon) (written : Slots) (gathered : List Bool) (now : Bool)
         (e : Enters nfa x at s met items stack [] turn after kept above written) (empty : length written ≡ 0)
-        (t : TurnInSet past e.front set hit gathered now) where
+        (t : MoveInSet past e.front set hit gathered now) where
       turn-follows : (on : Option ℕ) → state_on turn ≡ on → (before : Front) (old : Slots) (work : List Item)
           → Follows nfa x at met before (ToExplore (s, at) ∷ work_onto at stack (ToLoad old ∷ work)) [] after (before ++ e.front) (with_state at on (work_onto at above (ToLoad old ∷ work))) []
       turn-follows on is before old work =
@@ -164,19 +164,19 @@ module _ (nfa : Automaton) (x : Search) (at : ℕ) where
       }
 
     -- what was met, by the turn
-    module _ (past : Bool) (s : ℕ) (written : Slots) (set : List Bool) (hit : Bool) (gathered : List Bool) (now : Bool) (turn : Turn) (front : Front)
+    module _ (past : Bool) (s : ℕ) (written : Slots) (set : List Bool) (hit : Bool) (gathered : List Bool) (now : Bool) (turn : Move) (front : Front)
         (met : IsMet nfa x (s, at) written turn front) where
-      pub turn-on : (on : ℕ) → turn ≡ On on → gathered ≡ set → now ≡ hit → TurnInSet past front set hit gathered now
+      pub turn-on : (on : ℕ) → turn ≡ On on → gathered ≡ set → now ≡ hit → MoveInSet past front set hit gathered now
       turn-on on is = turn-plain past front set hit gathered now (rw is at met)
 
-      pub turn-over : turn ≡ Over → gathered ≡ set → now ≡ hit → TurnInSet past front set hit gathered now
+      pub turn-over : turn ≡ Over → gathered ≡ set → now ≡ hit → MoveInSet past front set hit gathered now
       turn-over is = turn-plain past front set hit gathered now (rw is at met)
 
       pub turn-match : (pattern : PatternID) (permitted : Bool) → turn ≡ Matched pattern → permitted ≡ permits nfa x at → length set ≡ n
           → ((permitted && nat_lt (number_of pattern) n) ≡ false → gathered ≡ set)
           → ((permitted && nat_lt (number_of pattern) n) ≡ true → gathered ≡ with_pattern set (number_of pattern))
           → now ≡ ((permitted && nat_lt (number_of pattern) n) || hit)
-          → TurnInSet past front set hit gathered now
+          → MoveInSet past front set hit gathered now
       turn-match pattern permitted is may size dead put noted =
           let m : (front ≡ ((s, at), written) ∷ []) × (pattern_of (node_at nfa s) ≡ Some (number_of pattern)) = rw is at met in
           rw m.0 (turn-matched past (permitted && nat_lt (number_of pattern) n) s written (number_of pattern) set hit gathered now m.1
@@ -184,7 +184,7 @@ module _ (nfa : Automaton) (x : Search) (at : ℕ) where
 
     -- the turns of one state so far
 
-    pub record Arriving (past : Bool) (s : ℕ) (met : Met) (items : List (ℕ × Slots)) (set : List Bool) (hit : Bool) (on : Option ℕ) (after : Met)
+    pub record Arriving (past : Bool) (s : ℕ) (met : Marks) (items : List (ℕ × Slots)) (set : List Bool) (hit : Bool) (on : Option ℕ) (after : Marks)
         (kept : List (ℕ × Slots)) (above : List FollowEpsilon) (gathered : List Bool) : Type 0 where
       pub front : Front
       pub added : kept ≡ items ++ moves (edges nfa x) front
@@ -195,7 +195,7 @@ module _ (nfa : Automaton) (x : Search) (at : ℕ) where
           → Follows nfa x at met before (ToExplore (s, at) ∷ ToLoad old ∷ work) []
           after (before ++ front) (with_state at on (work_onto at above (ToLoad old ∷ work))) []
 
-    pub Arriving-start : (past : Bool) (s : ℕ) (met : Met) (items : List (ℕ × Slots)) (set : List Bool) → Arriving past s met items set false (Some s) met items [] set
+    pub Arriving-start : (past : Bool) (s : ℕ) (met : Marks) (items : List (ℕ × Slots)) (set : List Bool) → Arriving past s met items set false (Some s) met items [] set
     Arriving-start past s met items set = record {
       front = [];
       added = rw append-nil refl;
@@ -205,8 +205,8 @@ module _ (nfa : Automaton) (x : Search) (at : ℕ) where
       follows = λ before old work. rw append-nil (follows-none met before (ToExplore (s, at) ∷ ToLoad old ∷ work) []);
     }
 
-    pub Arriving-step : (past : Bool) (s : ℕ) (met : Met) (items : List (ℕ × Slots)) (set : List Bool) (hit : Bool) (sid : ℕ) (middle : Met)
-        (kept : List (ℕ × Slots)) (stack : List FollowEpsilon) (mid : List Bool) (on : Option ℕ) (after : Met) (more : List (ℕ × Slots)) (above : List FollowEpsilon) (gathered : List Bool) (now : Bool)
+    pub Arriving-step : (past : Bool) (s : ℕ) (met : Marks) (items : List (ℕ × Slots)) (set : List Bool) (hit : Bool) (sid : ℕ) (middle : Marks)
+        (kept : List (ℕ × Slots)) (stack : List FollowEpsilon) (mid : List Bool) (on : Option ℕ) (after : Marks) (more : List (ℕ × Slots)) (above : List FollowEpsilon) (gathered : List Bool) (now : Bool)
         → (past ≡ false → hit ≡ false) → length set ≡ n
         → Arriving past s met items set hit (Some sid) middle kept stack mid → AdvancesInSet nfa x at past (length mid) sid middle kept stack mid hit on after more above gathered now
         → Arriving past s met items set now on after more above gathered
@@ -232,7 +232,7 @@ module _ (nfa : Automaton) (x : Search) (at : ℕ) where
               (follows-then (a.follows before old work) (b.follows (before ++ a.front) old work));
         }
 
-    pub Arriving-end : (past : Bool) (s : ℕ) (met : Met) (items : List (ℕ × Slots)) (set : List Bool) (hit : Bool) (after : Met) (kept : List (ℕ × Slots))
+    pub Arriving-end : (past : Bool) (s : ℕ) (met : Marks) (items : List (ℕ × Slots)) (set : List Bool) (hit : Bool) (after : Marks) (kept : List (ℕ × Slots))
         (top : ℕ) (frames : List FollowEpsilon) (gathered : List Bool) → Arriving past s met items set hit None after kept (take top frames) gathered
         → (top ≡ 0) ⊎ ((past ≡ false) × (hit ≡ true)) → Paid nfa met (length items) [] 1 after (length kept) [] 0
         → ArrivesInSet nfa x at past n s met items set hit after kept gathered
@@ -256,15 +256,15 @@ module _ (nfa : Automaton) (x : Search) (at : ℕ) where
     }
 
 -- what one more turn costs
-pub Paid-then : {nfa : Automaton} {a : Met} {ka : ℕ} {b : Met} {kb : ℕ} {sb : List FollowEpsilon} {c : Met} {kc : ℕ} {sc : List FollowEpsilon} {t : ℕ}
+pub Paid-then : {nfa : Automaton} {a : Marks} {ka : ℕ} {b : Marks} {kb : ℕ} {sb : List FollowEpsilon} {c : Marks} {kc : ℕ} {sc : List FollowEpsilon} {t : ℕ}
     → Paid nfa a ka [] 1 b kb sb 1 → Paid nfa b kb sb 1 c kc sc t → Paid nfa a ka [] 1 c kc sc t
 Paid-then p q = record { tried = omega (arith, p.tried, q.tried); framed = omega (arith, p.framed, q.framed); entered = omega (arith, p.entered, q.entered) }
 
-pub Paid-start : (nfa : Automaton) (a : Met) (k n : ℕ) → Paid nfa a k [] n a k [] n
+pub Paid-start : (nfa : Automaton) (a : Marks) (k n : ℕ) → Paid nfa a k [] n a k [] n
 Paid-start nfa a k n = record { tried = omega arith; framed = omega arith; entered = omega arith }
 
 -- a stack that is left over is not followed
-pub Paid-drop : {nfa : Automaton} {a : Met} {ka : ℕ} {b : Met} {kb : ℕ} {sb : List FollowEpsilon} {n t : ℕ} → Paid nfa a ka [] n b kb sb t → Paid nfa a ka [] n b kb [] 0
+pub Paid-drop : {nfa : Automaton} {a : Marks} {ka : ℕ} {b : Marks} {kb : ℕ} {sb : List FollowEpsilon} {n t : ℕ} → Paid nfa a ka [] n b kb sb t → Paid nfa a ka [] n b kb [] 0
 Paid-drop p = record { tried = omega (arith, p.tried); framed = omega (arith, p.framed); entered = omega (arith, p.entered) }
 
 -- one change of the kept states after another

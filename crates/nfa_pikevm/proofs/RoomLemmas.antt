@@ -6,8 +6,8 @@ use Rattle.std.proofs.lemmas.List.Elements.{All-push, All-nil}
 use Rattle.regex_search_core.specs.Search.{Search}
 use Rattle.thompson_nfa.specs.Automaton.{Automaton}
 use Rattle.nfa_paths.specs.Exploring.{Slots}
-use Rattle.nfa_pikevm.specs.Rows.{Met, Active}
-use Rattle.nfa_pikevm.specs.Scans.{blank, joined, HasThreads, Sizes, AreSized, AreStarts, Joins, AreAt}
+use Rattle.nfa_pikevm.specs.Rows.{Marks, Active}
+use Rattle.nfa_pikevm.specs.Scans.{blank, with_start, HasThreads, Sizes, AreSized, AreStarts, Joins, AreAt}
 use Rattle.nfa_pikevm.specs.declared.scan.Starts.{Starts}
 
 -- no state is there
@@ -24,7 +24,7 @@ module _ (nfa : Automaton) (x : Search) (begins : Starts) (are : AreStarts nfa x
   pub below-push : AreAt nfa items → All (λ i. i.0 < length nfa.states) (items ++ (begins.state, blank width) ∷ [])
   below-push a = All-push (λ (i : ℕ × Slots). i.0 < length nfa.states) items (begins.state, blank width) a.states are.state
 
-  pub below-joined : AreAt nfa items → All (λ i. i.0 < length nfa.states) (joined begins width at items)
+  pub below-joined : AreAt nfa items → All (λ i. i.0 < length nfa.states) (with_start begins width at items)
   below-joined a =
       elim (cases_lt at begins.limit) [
         | inl less ↦ rw (lt-ltb at begins.limit less) (below-push a)
@@ -32,7 +32,7 @@ module _ (nfa : Automaton) (x : Search) (begins : Starts) (are : AreStarts nfa x
       ]
 
   -- they are no more than one more
-  pub few-joined : length (joined begins width at items) ≤ length items + 1
+  pub few-joined : length (with_start begins width at items) ≤ length items + 1
   few-joined =
       elim (cases_lt at begins.limit) [
         | inl less ↦ rw (lt-ltb at begins.limit less) (omega (arith, length-append items ((begins.state, blank width) ∷ [])))
@@ -40,7 +40,7 @@ module _ (nfa : Automaton) (x : Search) (begins : Starts) (are : AreStarts nfa x
       ]
 
   -- where none is there, none was, and no start is left
-  pub over-joined : joined begins width at items ≡ [] → begins.limit ≤ at
+  pub over-joined : with_start begins width at items ≡ [] → begins.limit ≤ at
   over-joined none =
       elim (cases_lt at begins.limit) [
         | inl less ↦
@@ -95,12 +95,12 @@ pub same-all : (a b : Active) → b ≡ a → b ≡ record a { items = b.items }
 same-all a b e = e ∙ sym (ap (λ (is : List (ℕ × Slots)). record a { items = is }) (ap (λ (z : Active). z.items) e))
 
 -- the items after the start has joined
-pub joined-items : (begins : Starts) (at width : ℕ) (curr now : Active) → now ≡ record curr { items = joined begins curr.width at curr.items } → curr.width ≡ width
-    → now.items ≡ joined begins width at curr.items
-joined-items begins at width curr now e w = ap (λ (a : Active). a.items) e ∙ ap (λ (n : ℕ). joined begins n at curr.items) w
+pub joined-items : (begins : Starts) (at width : ℕ) (curr now : Active) → now ≡ record curr { items = with_start begins curr.width at curr.items } → curr.width ≡ width
+    → now.items ≡ with_start begins width at curr.items
+joined-items begins at width curr now e w = ap (λ (a : Active). a.items) e ∙ ap (λ (n : ℕ). with_start begins n at curr.items) w
 
 -- sizes that stay
-pub AreSized-kept : (size : Sizes) (met after : Met) (frames more : ℕ) (curr next now later : Active) → length after.bits ≡ length met.bits → more ≡ frames
+pub AreSized-kept : (size : Sizes) (met after : Marks) (frames more : ℕ) (curr next now later : Active) → length after.bits ≡ length met.bits → more ≡ frames
     → now ≡ record curr { items = now.items } → later ≡ record next { items = later.items } → AreSized size met frames curr next → AreSized size after more now later
 AreSized-kept size met after frames more curr next now later bits same e f h = record {
   marks = bits ∙ h.marks;
@@ -112,10 +112,10 @@ AreSized-kept size met after frames more curr next now later bits same e f h = r
 }
 
 -- no state is kept, and rows get another width
-pub AreSized-set_up : (size : Sizes) (width : ℕ) (met after : Met) (frames more : ℕ) (curr next now later : Active) → after ≡ met → more ≡ frames
+pub AreSized-set_up : (size : Sizes) (width : ℕ) (met after : Marks) (frames more : ℕ) (curr next now later : Active) → after ≡ met → more ≡ frames
     → now ≡ record curr { items = []; width = width } → later ≡ record next { items = []; width = width } → AreSized size met frames curr next → AreSized size after more now later
 AreSized-set_up size width met after frames more curr next now later bits same e f h = record {
-  marks = ap (λ (m : Met). length m.bits) bits ∙ h.marks;
+  marks = ap (λ (m : Marks). length m.bits) bits ∙ h.marks;
   frames_are = same ∙ h.frames_are;
   curr_places = ap (λ (a : Active). a.places) e ∙ h.curr_places;
   next_places = ap (λ (a : Active). a.places) f ∙ h.next_places;
@@ -124,10 +124,10 @@ AreSized-set_up size width met after frames more curr next now later bits same e
 }
 
 -- the two sets of states change places
-pub AreSized-swap : (size : Sizes) (met after : Met) (frames more : ℕ) (curr next now later : Active) → after ≡ met → more ≡ frames
+pub AreSized-swap : (size : Sizes) (met after : Marks) (frames more : ℕ) (curr next now later : Active) → after ≡ met → more ≡ frames
     → now ≡ next → later ≡ record curr { items = [] } → AreSized size met frames curr next → AreSized size after more now later
 AreSized-swap size met after frames more curr next now later bits same e f h = record {
-  marks = ap (λ (m : Met). length m.bits) bits ∙ h.marks;
+  marks = ap (λ (m : Marks). length m.bits) bits ∙ h.marks;
   frames_are = same ∙ h.frames_are;
   curr_places = ap (λ (a : Active). a.places) e ∙ h.next_places;
   next_places = ap (λ (a : Active). a.places) f ∙ h.curr_places;
@@ -135,7 +135,7 @@ AreSized-swap size met after frames more curr next now later bits same e f h = r
   next_cells = ap (λ (a : Active). a.cells) f ∙ h.curr_cells;
 }
 
-pub HasThreads-swap : (nfa : Automaton) (width : ℕ) (met after : Met) (frames more : ℕ) (curr next now later : Active) → after ≡ met → more ≡ frames
+pub HasThreads-swap : (nfa : Automaton) (width : ℕ) (met after : Marks) (frames more : ℕ) (curr next now later : Active) → after ≡ met → more ≡ frames
     → now ≡ next → later ≡ record curr { items = [] } → HasThreads nfa width met frames curr next → HasThreads nfa width after more now later
 HasThreads-swap nfa width met after frames more curr next now later bits same e f h =
     rw (bits, same, e, f) (record {

@@ -7,7 +7,7 @@ use Rattle.std.proofs.lemmas.List.{take-take, take-append-le, drop-append-le, dr
 use Rattle.std.proofs.lemmas.List.Elements.{All-head, All-tail}
 use Rattle.nfa_paths.specs.Exploring.{Slots}
 use Rattle.std.proofs.Math.Nat.{mul-le-mul_right}
-use Rattle.nfa_pikevm.specs.Rows.{Met, Active, items_of, marks_of}
+use Rattle.nfa_pikevm.specs.Rows.{Marks, Active, items_of, marks_of}
 
 -- one more times the width
 times-suc : (n width : ℕ) → suc n * width ≡ width + n * width
@@ -75,7 +75,7 @@ marks_of-zeros zero = refl
 marks_of-zeros (suc n) = ap (λ l. false ∷ l) (marks_of-zeros n)
 
 -- marks as a value
-abbrev pub met_of : List Bool → ℕ → Met
+abbrev pub met_of : List Bool → ℕ → Marks
 met_of bits turns = record { bits = bits; turns = turns }
 
 pub cleared-newer : (newest turns : ℕ) (stamps : List ℕ) → All (λ stamp. stamp ≤ newest) stamps

@@ -17,7 +17,7 @@ use Rattle.nfa_paths.proofs.ScanAnswerLemmas.{edges-onward, seeds-later}
 use Rattle.nfa_paths.proofs.ScanningLemmas.{Searching-cut, Searching-wait, Searching-cut_round}
 use Rattle.nfa_paths.proofs.SearchingLemmas.{Searching-round}
 use Rattle.nfa_paths.proofs.PathToLemmas.{is_false}
-use Rattle.nfa_pikevm.specs.Rows.{Met}
+use Rattle.nfa_pikevm.specs.Rows.{Marks}
 use Rattle.nfa_pikevm.specs.States.{Front, moves, tasks, unmarked, GoesOn, SeenAt, SearchingAt, Crosses}
 use Rattle.nfa_pikevm.specs.Scans.{blank, starts_from, half_found, AreAt, IsSoFar, SearchesFirst}
 use Rattle.nfa_pikevm.proofs.TaskLemmas.{starts_from-end, AnswersFor, AnswersFor-round, Searching-for}
@@ -29,7 +29,7 @@ module _ (nfa : Automaton) (x : Search) (at width state limit : ℕ) where
   waits-later = seeds-later (blank width) state at (limit - (at + 1))
 
   -- what is kept for the next position
-  pub AreAt-cross : {past : Bool} {met : Met} {items : List (ℕ × Slots)} {slots : Slots} {hit : Option PatternID} {after : Met} {kept : List (ℕ × Slots)} {written : Slots}
+  pub AreAt-cross : {past : Bool} {met : Marks} {items : List (ℕ × Slots)} {slots : Slots} {hit : Option PatternID} {after : Marks} {kept : List (ℕ × Slots)} {written : Slots}
       → All (LeadsBelow (length nfa.states)) nfa.states → Crosses nfa x at past met items slots hit after kept written → AreAt nfa kept
   AreAt-cross {met = met} {items} {after = after} {kept} leads c = record {
     states = rw c.added (Formed-below nfa x at after.bits leads c.front c.formed);
@@ -37,13 +37,13 @@ module _ (nfa : Automaton) (x : Search) (at width state limit : ℕ) where
   }
 
   -- at the end nothing is
-  pub over-cross : {past : Bool} {met : Met} {items : List (ℕ × Slots)} {slots : Slots} {hit : Option PatternID} {after : Met} {kept : List (ℕ × Slots)} {written : Slots}
+  pub over-cross : {past : Bool} {met : Marks} {items : List (ℕ × Slots)} {slots : Slots} {hit : Option PatternID} {after : Marks} {kept : List (ℕ × Slots)} {written : Slots}
       → x.end ≤ at → Crosses nfa x at past met items slots hit after kept written → kept ≡ []
   over-cross {after = after} past c = c.added ∙ Formed-over nfa x at after.bits past c.front c.formed
 
   -- the first path
 
-  module _ {met : Met} {items : List (ℕ × Slots)} {slots : Slots} {hit : Option PatternID} {after : Met} {kept : List (ℕ × Slots)} {written : Slots} {so_far : Found}
+  module _ {met : Marks} {items : List (ℕ × Slots)} {slots : Slots} {hit : Option PatternID} {after : Marks} {kept : List (ℕ × Slots)} {written : Slots} {so_far : Found}
       (c : Crosses nfa x at false met items slots hit after kept written)
       (s : SearchingAt nfa x at (is_match nfa) (starts nfa x) (blank width) so_far (unmarked met) []
       (tasks at items (Load (blank width) ∷ starts_from width state (at + 1) limit)) (blank width)) where
@@ -96,7 +96,7 @@ module _ (nfa : Automaton) (x : Search) (at width state limit : ℕ) where
 
 module _ (nfa : Automaton) (x : Search) (at width state limit : ℕ) where
   -- a position with no match
-  pub SearchesFirst-miss : {met : Met} {items : List (ℕ × Slots)} {slots : Slots} {hit : Option PatternID} {after : Met} {kept : List (ℕ × Slots)} {written : Slots} {so_far : Found} {found : Option HalfMatch}
+  pub SearchesFirst-miss : {met : Marks} {items : List (ℕ × Slots)} {slots : Slots} {hit : Option PatternID} {after : Marks} {kept : List (ℕ × Slots)} {written : Slots} {so_far : Found} {found : Option HalfMatch}
       → (c : Crosses nfa x at false met items slots hit after kept written)
       → SearchingAt nfa x at (is_match nfa) (starts nfa x) (blank width) so_far (unmarked met) []
       (tasks at items (Load (blank width) ∷ starts_from width state (at + 1) limit)) (blank width)
@@ -110,7 +110,7 @@ module _ (nfa : Automaton) (x : Search) (at width state limit : ℕ) where
       }
 
   -- a position with a match: no start is left
-  pub SearchesFirst-hit : {met : Met} {items : List (ℕ × Slots)} {slots : Slots} {hit : Option PatternID} {after : Met} {kept : List (ℕ × Slots)} {written : Slots} {so_far : Found}
+  pub SearchesFirst-hit : {met : Marks} {items : List (ℕ × Slots)} {slots : Slots} {hit : Option PatternID} {after : Marks} {kept : List (ℕ × Slots)} {written : Slots} {so_far : Found}
       → (c : Crosses nfa x at false met items slots hit after kept written)
       → SearchingAt nfa x at (is_match nfa) (starts nfa x) (blank width) so_far (unmarked met) []
       (tasks at items (Load (blank width) ∷ starts_from width state (at + 1) limit)) (blank width)

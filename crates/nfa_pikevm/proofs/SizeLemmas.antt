@@ -6,7 +6,7 @@ use Rattle.std.proofs.lemmas.List.Sums.{sum_by_more_le}
 use Rattle.thompson_nfa.specs.Automaton.{node_of}
 use Rattle.thompson_nfa.specs.declared.state.State.{State}
 use Rattle.nfa_pikevm.specs.Engines.{room_of}
-use Rattle.nfa_pikevm.specs.Rows.{Met, Active}
+use Rattle.nfa_pikevm.specs.Rows.{Marks, Active}
 use Rattle.nfa_pikevm.specs.Scans.{Sizes, AreSized}
 use Rattle.nfa_pikevm.specs.Sizes.{sizes_for, IsRoomFor}
 
@@ -18,10 +18,10 @@ rooms-past states i item sum room so_far is e inside past =
     elim (cases_lt (sum + room) (2 ^ 64)) [ inl less ↦ absurd (past less) | inr reached ↦ omega (arith, more) ]
 
 -- the turns are not among the sizes
-pub sized-restarted : (size : Sizes) {met met' : Met} {stack : ℕ} {curr next : Active} → met' ≡ record met { turns = 0 } → AreSized size met stack curr next
+pub sized-restarted : (size : Sizes) {met met' : Marks} {stack : ℕ} {curr next : Active} → met' ≡ record met { turns = 0 } → AreSized size met stack curr next
     → AreSized size met' stack curr next
 sized-restarted size restarted a = record {
-  marks = ap (λ (m : Met). length m.bits) restarted ∙ a.marks;
+  marks = ap (λ (m : Marks). length m.bits) restarted ∙ a.marks;
   frames_are = a.frames_are;
   curr_places = a.curr_places;
   next_places = a.next_places;
@@ -30,7 +30,7 @@ sized-restarted size restarted a = record {
 }
 
 -- A search keeps the sizes of a cache, and so its invariant.
-module _ (slots found : ℕ) {met met' : Met} {stack stack' : ℕ} {curr curr' next next' : Active} (room : IsRoomFor (length met.bits) slots stack met stack curr next found)
+module _ (slots found : ℕ) {met met' : Marks} {stack stack' : ℕ} {curr curr' next next' : Active} (room : IsRoomFor (length met.bits) slots stack met stack curr next found)
     (keeps : (size : Sizes) → AreSized size met stack curr next → AreSized size met' stack' curr' next') where
   -- the sizes are still those
   pub sized-after : AreSized (sizes_for (length met.bits) slots stack) met' stack' curr' next'

@@ -9,7 +9,7 @@ use Rattle.nfa_paths.specs.Exploring.Item.{Explore, Load}
 use Rattle.nfa_paths.proofs.SearchLemmas.{Answer-more, Answer-seeds, AnswerBehind-along}
 use Rattle.nfa_paths.proofs.AnswerLemmas.{pairs_from-step, pairs_from-end}
 use Rattle.nfa_pikevm.specs.States.{Front, moves, tasks}
-use Rattle.nfa_pikevm.specs.Scans.{blank, starts_from, joined}
+use Rattle.nfa_pikevm.specs.Scans.{blank, starts_from, with_start}
 use Rattle.nfa_pikevm.specs.declared.scan.Starts.{Starts}
 
 -- how the start joins
@@ -50,7 +50,7 @@ tasks-alone width state at limit items past =
 -- both
 pub tasks-joined : (starts : Starts) (width at : ℕ) (items : List (ℕ × Slots))
     → tasks at items (Load (blank width) ∷ starts_from width starts.state at starts.limit)
-    ≡ tasks at (joined starts width at items) (Load (blank width) ∷ starts_from width starts.state (at + 1) starts.limit)
+    ≡ tasks at (with_start starts width at items) (Load (blank width) ∷ starts_from width starts.state (at + 1) starts.limit)
 tasks-joined starts width at items =
     elim (cases_lt at starts.limit) [
       | inl less ↦ rw (lt-ltb at starts.limit less) (tasks-joins width starts.state at starts.limit items less)

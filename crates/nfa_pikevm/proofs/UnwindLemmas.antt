@@ -8,7 +8,7 @@ use Rattle.std.proofs.lemmas.List.Sums.{sum_by_push}
 use Rattle.regex_search_core.specs.Search.{Search}
 use Rattle.thompson_nfa.specs.Automaton.{Automaton}
 use Rattle.nfa_paths.specs.Exploring.{Item, Slots}
-use Rattle.nfa_pikevm.specs.Rows.{Met}
+use Rattle.nfa_pikevm.specs.Rows.{Marks}
 use Rattle.nfa_pikevm.specs.States.{Front, item_of, work_onto, with_state, tries, tries_of, undone, state_of, HasSlot, IsWithin, Follows}
 use Rattle.nfa_pikevm.specs.declared.frame.FollowEpsilon.{FollowEpsilon}
 use Rattle.nfa_pikevm.specs.declared.frame.FollowEpsilon.TheVariants.{Explore, Restore}
@@ -30,7 +30,7 @@ pub work_onto-push : (at : ℕ) (fs : List FollowEpsilon) (f : FollowEpsilon) (w
 work_onto-push at [] f work = refl
 work_onto-push at (g ∷ fs) f work = work_onto-push at fs f (item_of at g ∷ work)
 
-module _ (nfa : Automaton) (x : Search) (at : ℕ) (met : Met) (front : Front) where
+module _ (nfa : Automaton) (x : Search) (at : ℕ) (met : Marks) (front : Front) where
   -- a frame that is taken up
   Follows-undone : (work : List Item) (f : FollowEpsilon) (slots : Slots)
       → Follows nfa x at met front (item_of at f ∷ work) slots met front (with_state at (state_of f) work) (undone f slots)

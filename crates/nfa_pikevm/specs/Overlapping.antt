@@ -9,7 +9,7 @@ use Rattle.nfa_paths.specs.Exploring.{Slots, Found, Item}
 use Rattle.nfa_paths.specs.Exploring.Item.{Explore as ToExplore, Load as ToLoad}
 use Rattle.nfa_paths.specs.Kinds.{HoldsMatch, first_match, before_match}
 use Rattle.nfa_paths.specs.Overlaps.{HoldsPattern, pattern_at}
-use Rattle.nfa_pikevm.specs.Rows.{Met}
+use Rattle.nfa_pikevm.specs.Rows.{Marks}
 use Rattle.nfa_pikevm.specs.States.{Front, moves, tasks, unmarked, work_onto, with_state, Formed, Paid, Follows, Leads}
 use Rattle.nfa_pikevm.specs.declared.frame.FollowEpsilon.{FollowEpsilon}
 
@@ -59,8 +59,8 @@ rowless states = map (λ s. (s, [])) states
 module _ (nfa : Automaton) (x : Search) where
   -- Of a set of capacity n: what comes of a turn that tries to enter a state, and of what was put off where it leads nowhere: the front that it adds, and
   -- what of it is put into the set.
-  pub record AdvancesInSet (at : ℕ) (past : Bool) (n : ℕ) (s : ℕ) (met : Met) (items : List (ℕ × Slots)) (stack : List FollowEpsilon) (set : List Bool) (hit : Bool)
-      (on : Option ℕ) (after : Met) (kept : List (ℕ × Slots)) (above : List FollowEpsilon) (gathered : List Bool) (now : Bool) : Type 0 where
+  pub record AdvancesInSet (at : ℕ) (past : Bool) (n : ℕ) (s : ℕ) (met : Marks) (items : List (ℕ × Slots)) (stack : List FollowEpsilon) (set : List Bool) (hit : Bool)
+      (on : Option ℕ) (after : Marks) (kept : List (ℕ × Slots)) (above : List FollowEpsilon) (gathered : List Bool) (now : Bool) : Type 0 where
     pub front : Front
     pub found : Bool
     pub added : kept ≡ items ++ moves (edges nfa x) front
@@ -73,8 +73,8 @@ module _ (nfa : Automaton) (x : Search) where
         after (before ++ front) (with_state at on (work_onto at above (ToLoad old ∷ work))) []
 
   -- The same of all that a state leads to up to the position's next byte.
-  pub record ArrivesInSet (at : ℕ) (past : Bool) (n : ℕ) (s : ℕ) (met : Met) (items : List (ℕ × Slots)) (set : List Bool)
-      (hit : Bool) (after : Met) (kept : List (ℕ × Slots)) (gathered : List Bool) : Type 0 where
+  pub record ArrivesInSet (at : ℕ) (past : Bool) (n : ℕ) (s : ℕ) (met : Marks) (items : List (ℕ × Slots)) (set : List Bool)
+      (hit : Bool) (after : Marks) (kept : List (ℕ × Slots)) (gathered : List Bool) : Type 0 where
     pub front : Front
     pub added : kept ≡ items ++ moves (edges nfa x) front
     pub gathers : Gathers nfa past (wants nfa x n) front set hit gathered
@@ -85,8 +85,8 @@ module _ (nfa : Automaton) (x : Search) where
         → Leads nfa x at met before (ToExplore (s, at) ∷ ToLoad old ∷ work) [] (GoesPast past hit) after (before ++ front) (ToLoad old ∷ work)
 
   -- The same of all states at a position, where none was marked before. They have rows of no slots.
-  pub record CrossesInSet (at : ℕ) (past : Bool) (n : ℕ) (met : Met) (items : List (ℕ × Slots)) (set : List Bool)
-      (hit : Bool) (after : Met) (kept : List (ℕ × Slots)) (gathered : List Bool) : Type 0 where
+  pub record CrossesInSet (at : ℕ) (past : Bool) (n : ℕ) (met : Marks) (items : List (ℕ × Slots)) (set : List Bool)
+      (hit : Bool) (after : Marks) (kept : List (ℕ × Slots)) (gathered : List Bool) : Type 0 where
     pub front : Front
     pub rows : All (λ i. i.1 ≡ []) items
     pub added : kept ≡ moves (edges nfa x) front

@@ -12,7 +12,7 @@ raw_of None = 2 ^ 64 - 1
 raw_of (Some offset) = offset
 
 -- which states are marked at a position, and how often one was tried to be
-pub record Met : Type 0 where
+pub record Marks : Type 0 where
   pub bits : List Bool
   pub turns : ℕ
 

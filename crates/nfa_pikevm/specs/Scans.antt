@@ -13,7 +13,7 @@ use Rattle.nfa_paths.specs.Exploring.{Slots, Found, Item, seeds}
 use Rattle.nfa_paths.specs.Exploring.Item.{Load}
 use Rattle.nfa_paths.specs.Kinds.{Scanning}
 use Rattle.nfa_scanning.specs.FirstBytes.{IsRefused}
-use Rattle.nfa_pikevm.specs.Rows.{Met, Active}
+use Rattle.nfa_pikevm.specs.Rows.{Marks, Active}
 use Rattle.nfa_pikevm.specs.Engines.{room_of}
 use Rattle.nfa_pikevm.specs.declared.scan.Starts.{Starts}
 use Rattle.nfa_pikevm.specs.declared.threads.Threads.{Threads}
@@ -28,7 +28,7 @@ abbrev pub starts_from : ℕ → ℕ → ℕ → ℕ → List Item
 starts_from width start at limit = seeds (blank width) (pairs_from start at (limit - at))
 
 -- There is room for all states of the NFA, and for one more that starts, with rows of this width.
-pub record Serves (nfa : Automaton) (width : ℕ) (met : Met) (frames : ℕ) (curr next : Active) : Type 0 where
+pub record Serves (nfa : Automaton) (width : ℕ) (met : Marks) (frames : ℕ) (curr next : Active) : Type 0 where
   pub marks : length nfa.states ≤ length met.bits
   pub frames_fit : sum_by room_of nfa.states ≤ frames
   pub curr_places : length nfa.states < curr.places
@@ -37,7 +37,7 @@ pub record Serves (nfa : Automaton) (width : ℕ) (met : Met) (frames : ℕ) (cu
   pub next_cells : next.places * width ≤ next.cells
 
 -- and the rows have this width
-pub record HasThreads (nfa : Automaton) (width : ℕ) (met : Met) (frames : ℕ) (curr next : Active) : Type 0 where
+pub record HasThreads (nfa : Automaton) (width : ℕ) (met : Marks) (frames : ℕ) (curr next : Active) : Type 0 where
   pub serves : Serves nfa width met frames curr next
   pub curr_width : curr.width ≡ width
   pub next_width : next.width ≡ width
@@ -50,7 +50,7 @@ pub record Sizes : Type 0 where
   pub frames : ℕ
 
 -- these are the sizes
-pub record AreSized (size : Sizes) (met : Met) (frames : ℕ) (curr next : Active) : Type 0 where
+pub record AreSized (size : Sizes) (met : Marks) (frames : ℕ) (curr next : Active) : Type 0 where
   pub marks : length met.bits ≡ size.states
   pub frames_are : frames ≡ size.frames
   pub curr_places : curr.places ≡ size.places
@@ -84,8 +84,8 @@ pub record AreStarts (nfa : Automaton) (x : Search) (starts_at : Starts) : Type 
   pub skips : x.start < starts_at.stop → starts_at.state ≡ nfa.anchored
 
 -- the states at a position with the start behind them, where it may still join
-abbrev pub joined : Starts → ℕ → ℕ → List (ℕ × Slots) → List (ℕ × Slots)
-joined starts_at width at items = if nat_lt at starts_at.limit then items ++ (starts_at.state, blank width) ∷ [] else items
+abbrev pub with_start : Starts → ℕ → ℕ → List (ℕ × Slots) → List (ℕ × Slots)
+with_start starts_at width at items = if nat_lt at starts_at.limit then items ++ (starts_at.state, blank width) ∷ [] else items
 
 -- a match that ends at the position
 abbrev pub half_found : ℕ → ℕ → HalfFound
@@ -97,14 +97,14 @@ IsPassed table x starts_at k = (k < starts_at.stop) × IsRefused table x k
 
 -- The position that a scan goes on at, where the start has joined the states, or no match begins there. While starts are left some state
 -- is there.
-pub record Joins (table : List Bool) (x : Search) (starts_at : Starts) (limit width at : ℕ) (items : List (ℕ × Slots)) (to : ℕ) (joined : List (ℕ × Slots)) : Type 0 where
+pub record Joins (table : List Bool) (x : Search) (starts_at : Starts) (limit width at : ℕ) (items : List (ℕ × Slots)) (to : ℕ) (now : List (ℕ × Slots)) : Type 0 where
   pub ahead : at ≤ to
   pub within : at ≤ x.end → to ≤ x.end
   pub stays : 0 < length items → to ≡ at
   pub passed : (k : ℕ) → at ≤ k → k < to → IsPassed table x starts_at k
-  pub some : at < limit → 0 < length joined
-  pub last : ((to < limit) × (joined ≡ items ++ (starts_at.state, blank width) ∷ []))
-      ⊎ ((joined ≡ items) × ((limit ≤ to) ⊎ IsPassed table x starts_at to))
+  pub some : at < limit → 0 < length now
+  pub last : ((to < limit) × (now ≡ items ++ (starts_at.state, blank width) ∷ []))
+      ⊎ ((now ≡ items) × ((limit ≤ to) ⊎ IsPassed table x starts_at to))
 
 -- The states at a position: each is one of the NFA's, and they are no more than it has.
 pub record AreAt (nfa : Automaton) (items : List (ℕ × Slots)) : Type 0 where
@@ -142,14 +142,14 @@ module _ (nfa : Automaton) (x : Search) where
     pub bound : turns + items ≤ before + (at - x.start) * (1 + turn_weight nfa)
 
   -- The search for the first path, at a position where it has followed no state yet.
-  pub record SearchesFirst (at width start limit : ℕ) (found : Option HalfMatch) (slots : Slots) (met : Met) (items : List (ℕ × Slots)) : Type 0 where
+  pub record SearchesFirst (at width start limit : ℕ) (found : Option HalfMatch) (slots : Slots) (met : Marks) (items : List (ℕ × Slots)) : Type 0 where
     pub so_far : Found
     pub is_so_far : IsSoFar found slots so_far
     pub searching : SearchingAt nfa x at (is_match nfa) (starts nfa x) (blank width) so_far (unmarked met) []
         (tasks at items (Load (blank width) ∷ starts_from width start at limit)) (blank width)
 
   -- The scan for each match, at a position where it has followed no state yet.
-  pub record ScansAll (at width start limit : ℕ) (met : Met) (items : List (ℕ × Slots)) : Type 0 where
+  pub record ScansAll (at width start limit : ℕ) (met : Marks) (items : List (ℕ × Slots)) : Type 0 where
     pub scanning : Scanning (edges nfa x) (capture nfa) (starts nfa x) (is_match nfa) (blank width) at (SeenAt at (unmarked met).bits) met.turns []
         (tasks at items (Load (blank width) ∷ starts_from width start at limit)) (blank width)
 

@@ -2,7 +2,7 @@
 use Rattle.std.specs.Prelude.{◌≡◌, ◌⊎◌, ℕ, ◌+◌, ◌*◌, ◌^◌, ◌≤◌, length}
 use Rattle.regex_search_core.specs.Groups.{slot_count}
 use Rattle.thompson_nfa.specs.Automaton.{Automaton}
-use Rattle.nfa_pikevm.specs.Rows.{Met, Active}
+use Rattle.nfa_pikevm.specs.Rows.{Marks, Active}
 use Rattle.nfa_pikevm.specs.Engines.{stack_places}
 use Rattle.nfa_pikevm.specs.Scans.{Sizes, AreSized}
 use Rattle.nfa_pikevm.specs.declared.sizes.Size.{Size}
@@ -12,7 +12,7 @@ abbrev pub sizes_for : ℕ → ℕ → ℕ → Sizes
 sizes_for states slots frames = record { states = states; places = states + 1; cells = (states + 1) * slots; frames = frames }
 
 -- The parts of a cache are for so many states and slots, and their stack is of so many frames. `found` is the length of the row that a search fills.
-pub record IsRoomFor (states slots frames : ℕ) (met : Met) (stack : ℕ) (curr next : Active) (found : ℕ) : Type 0 where
+pub record IsRoomFor (states slots frames : ℕ) (met : Marks) (stack : ℕ) (curr next : Active) (found : ℕ) : Type 0 where
   pub sized : AreSized (sizes_for states slots frames) met stack curr next
   pub row : found ≡ slots
 

@@ -12,10 +12,10 @@ use Rattle.nfa_paths.specs.Exploring.{Slots, Found, Item, Answer, Searching}
 use Rattle.nfa_paths.specs.Exploring.Item.{Explore as ToExplore, Restore as ToRestore, Load as ToLoad}
 use Rattle.nfa_paths.specs.Kinds.{rests, first_match, before_match, last_match, NoMatch}
 use Rattle.nfa_paths.specs.Turns.{marked_sum}
-use Rattle.nfa_pikevm.specs.Rows.{Met}
+use Rattle.nfa_pikevm.specs.Rows.{Marks}
 use Rattle.nfa_pikevm.specs.Engines.{room_of}
-use Rattle.nfa_pikevm.specs.declared.closure.Turn.{Turn}
-use Rattle.nfa_pikevm.specs.declared.closure.Turn.TheVariants.{On, Matched, Over}
+use Rattle.nfa_pikevm.specs.declared.closure.Move.{Move}
+use Rattle.nfa_pikevm.specs.declared.closure.Move.TheVariants.{On, Matched, Over}
 use Rattle.nfa_pikevm.specs.declared.frame.FollowEpsilon.{FollowEpsilon}
 use Rattle.nfa_pikevm.specs.declared.frame.FollowEpsilon.TheVariants.{Explore, Restore}
 
@@ -40,7 +40,7 @@ pub record SeenAt (at : ℕ) (bits : List Bool) (v : Pair) : Type 0 where
   pub set : slice_index_or bits v.0 false ≡ true
 
 -- as many marks, none of them set
-abbrev pub unmarked : Met → Met
+abbrev pub unmarked : Marks → Marks
 unmarked met = record met { bits = replicate (length met.bits) false }
 
 -- what is left to do at the position, for a frame
@@ -59,7 +59,7 @@ with_state at None work = work
 with_state at (Some s) work = ToExplore (s, at) ∷ work
 
 -- the state that a turn leads on to
-abbrev pub state_on : Turn → Option ℕ
+abbrev pub state_on : Move → Option ℕ
 state_on (On sid) = Some sid
 state_on (Matched pattern) = None
 state_on Over = None
@@ -135,8 +135,8 @@ pub record HasRoom (nfa : Automaton) (bits : List Bool) (top frames kept places 
   pub states_fit : kept + length nfa.states ≤ places + marked_sum (map one_of nfa.states) bits
 
 -- From one moment to a later one: what came in turns and what waits is paid for by what was marked, and so are frames and kept states.
-pub record Paid (nfa : Automaton) (met : Met) (kept : ℕ) (stack : List FollowEpsilon) (hand : ℕ)
-    (after : Met) (more : ℕ) (above : List FollowEpsilon) (left : ℕ) : Type 0 where
+pub record Paid (nfa : Automaton) (met : Marks) (kept : ℕ) (stack : List FollowEpsilon) (hand : ℕ)
+    (after : Marks) (more : ℕ) (above : List FollowEpsilon) (left : ℕ) : Type 0 where
   pub tried : after.turns + left + sum_by tries above + more + marked_sum (map degree nfa.states) met.bits
       ≤ met.turns + hand + sum_by tries stack + kept + marked_sum (map degree nfa.states) after.bits
   pub framed : length above + marked_sum (map room_of nfa.states) met.bits ≤ length stack + marked_sum (map room_of nfa.states) after.bits
@@ -144,28 +144,28 @@ pub record Paid (nfa : Automaton) (met : Met) (kept : ℕ) (stack : List FollowE
 
 module _ (nfa : Automaton) (x : Search) where
   -- the search for a set of match pairs, from these starts and with these slots, with such states met and such a front at position `at`
-  abbrev pub SearchingAt : ℕ → (Pair → Bool) → List Pair → Slots → Found → Met → Front → List Item → Slots → Type 0
+  abbrev pub SearchingAt : ℕ → (Pair → Bool) → List Pair → Slots → Found → Marks → Front → List Item → Slots → Type 0
   SearchingAt at target starts entry otherwise met front work slots =
       Searching (edges nfa x) target (capture nfa)
       (λ g total. Answer (edges nfa x) target (capture nfa) total None [] (map ToExplore starts) entry g)
       (SeenAt at met.bits) met.turns front otherwise work slots
 
   -- The search for any set of match pairs goes on from the state after as it did from the state before.
-  pub record Follows (at : ℕ) (met : Met) (front : Front) (work : List Item) (slots : Slots)
-      (after : Met) (more : Front) (rest : List Item) (written : Slots) : Type 0 where
+  pub record Follows (at : ℕ) (met : Marks) (front : Front) (work : List Item) (slots : Slots)
+      (after : Marks) (more : Front) (rest : List Item) (written : Slots) : Type 0 where
     pub leads : (target : Pair → Bool) → AreMatches nfa target → (starts : List Pair) (entry : Slots) (otherwise : Found)
         → SearchingAt at target starts entry otherwise met front work slots → SearchingAt at target starts entry otherwise after more rest written
 
   -- what a turn adds to the front: a match that it led to, and no other match
-  abbrev pub IsMet : Pair → Slots → Turn → Front → Type 0
+  abbrev pub IsMet : Pair → Slots → Move → Front → Type 0
   IsMet v slots (On sid) front = NoMatch (is_match nfa) front
   IsMet v slots (Matched pattern) front = (front ≡ (v, slots) ∷ []) × (pattern_of (node_at nfa v.0) ≡ Some (number_of pattern))
   IsMet v slots Over front = NoMatch (is_match nfa) front
 
   -- What comes of a turn that tries to enter the state: it adds a front, which memory holds the moves of, and leaves its work to do. What is
   -- left below the stack begins by loading slots.
-  pub record Enters (at s : ℕ) (met : Met) (items : List (ℕ × Slots)) (stack : List FollowEpsilon) (slots : Slots)
-      (turn : Turn) (after : Met) (kept : List (ℕ × Slots)) (above : List FollowEpsilon) (written : Slots) : Type 0 where
+  pub record Enters (at s : ℕ) (met : Marks) (items : List (ℕ × Slots)) (stack : List FollowEpsilon) (slots : Slots)
+      (turn : Move) (after : Marks) (kept : List (ℕ × Slots)) (above : List FollowEpsilon) (written : Slots) : Type 0 where
     pub front : Front
     pub added : kept ≡ items ++ moves (edges nfa x) front
     pub is_met : IsMet (s, at) written turn front
@@ -175,8 +175,8 @@ module _ (nfa : Automaton) (x : Search) where
         after (before ++ front) (with_state at (state_on turn) (work_onto at above (ToLoad old ∷ work))) written
 
   -- The search goes on to a front and some work, which is `rest` where it `goes_on` to the end of its work.
-  pub record Leads (at : ℕ) (met : Met) (before : Front) (work : List Item) (slots : Slots) (goes_on : Type 0)
-      (after : Met) (front : Front) (rest : List Item) : Type 0 where
+  pub record Leads (at : ℕ) (met : Marks) (before : Front) (work : List Item) (slots : Slots) (goes_on : Type 0)
+      (after : Marks) (front : Front) (rest : List Item) : Type 0 where
     pub left : List Item
     pub written : Slots
     pub follows : Follows at met before work slots after front left written
@@ -184,8 +184,8 @@ module _ (nfa : Automaton) (x : Search) where
 
   -- What comes of a state that is followed with a row of slots, up to the position's next byte: a front, which memory holds the moves of, and
   -- the match of it that is meant. Without `past` nothing is kept behind the first match.
-  pub record Arrives (at : ℕ) (past : Bool) (s : ℕ) (met : Met) (items : List (ℕ × Slots)) (row slots : Slots)
-      (hit : Option PatternID) (after : Met) (kept : List (ℕ × Slots)) (written : Slots) : Type 0 where
+  pub record Arrives (at : ℕ) (past : Bool) (s : ℕ) (met : Marks) (items : List (ℕ × Slots)) (row slots : Slots)
+      (hit : Option PatternID) (after : Marks) (kept : List (ℕ × Slots)) (written : Slots) : Type 0 where
     pub front : Front
     pub added : kept ≡ items ++ moves (edges nfa x) front
     pub is_hit : IsHit nfa (meant past (is_match nfa) front) slots hit written
@@ -196,8 +196,8 @@ module _ (nfa : Automaton) (x : Search) where
         → Leads at met before (ToExplore (s, at) ∷ ToLoad old ∷ work) row (GoesOn past hit) after (before ++ front) (ToLoad old ∷ work)
 
   -- The same of all states at a position, where none was marked before.
-  pub record Crosses (at : ℕ) (past : Bool) (met : Met) (items : List (ℕ × Slots)) (slots : Slots)
-      (hit : Option PatternID) (after : Met) (kept : List (ℕ × Slots)) (written : Slots) : Type 0 where
+  pub record Crosses (at : ℕ) (past : Bool) (met : Marks) (items : List (ℕ × Slots)) (slots : Slots)
+      (hit : Option PatternID) (after : Marks) (kept : List (ℕ × Slots)) (written : Slots) : Type 0 where
     pub front : Front
     pub added : kept ≡ moves (edges nfa x) front
     pub is_hit : IsHit nfa (meant past (is_match nfa) front) slots hit written

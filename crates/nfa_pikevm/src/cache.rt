@@ -22,7 +22,6 @@ pub struct Cache {
     pub(super) found: Vec<Slot>,
     slots: usize,
     patterns: usize,
-    pub(super) scans: Counter,
     /// The scans of all searches before the last one.
     pub(super) past_scans: Counter,
     /// The turns of all searches before the last one.
@@ -36,7 +35,7 @@ impl Model for Cache {
 
     ghost Value = { PikeCache };
 
-    ghost view = { λ c. record { states = length c.threads.seen.bits; slots = c.slots; patterns = c.patterns; places = length c.threads.frames.items; scans = c.scans; turns = c.threads.seen.turns; all_scans = c.past_scans + c.scans; all_turns = c.past_turns + c.threads.seen.turns } };
+    ghost view = { λ c. record { states = length c.threads.seen.bits; slots = c.slots; patterns = c.patterns; places = length c.threads.frames.items; scans = c.threads.scans; turns = c.threads.seen.turns; all_scans = c.past_scans + c.threads.scans; all_turns = c.past_turns + c.threads.seen.turns } };
 
     ghost invariant = { λ c. IsRoomFor (length c.threads.seen.bits) c.slots (length c.threads.frames.items) c.threads.seen (length c.threads.frames.items) c.threads.curr c.threads.next (length c.found.items) };
 }
@@ -57,7 +56,6 @@ impl Cache {
             found,
             slots: size.slots,
             patterns: nfa.pattern_len(),
-            scans: Counter::new(),
             past_scans: Counter::new(),
             past_turns: Counter::new(),
         })
@@ -114,7 +112,6 @@ impl Cache {
             found: self.found.clone()?,
             slots: self.slots,
             patterns: self.patterns,
-            scans: self.scans.copy(),
             past_scans: self.past_scans.copy(),
             past_turns: self.past_turns.copy(),
         })

@@ -4,7 +4,7 @@ ghost use Rattle.regex_search_core.specs.Search.{Search, search_of};
 ghost use Rattle.thompson_nfa.specs.Automaton.{Automaton};
 ghost use Rattle.nfa_paths.specs.Paths.{byte_at};
 ghost use Rattle.nfa_paths.specs.Exploring.{Item};
-ghost use Rattle.nfa_pikevm.specs.Rows.{Met};
+ghost use Rattle.nfa_pikevm.specs.Rows.{Marks};
 ghost use Rattle.nfa_pikevm.specs.States.{Front, work_onto, with_state, tries, tries_of, state_on, undone, state_of, HasSlot, IsBelow, IsWithin, Follows, Paid, HasRoom, Enters, Arrives};
 ghost use Rattle.nfa_pikevm.specs.declared.frame.FollowEpsilon.TheVariants.{Explore, Restore};
 
@@ -18,7 +18,7 @@ use thompson_nfa::{NFA, State, look_matches};
 
 /// Where a turn leads.
 #[derive(Clone, Copy)]
-pub enum Turn {
+pub enum Move {
     /// On to this state, at the same position.
     On(StateID),
     /// To a match of the pattern.
@@ -100,7 +100,7 @@ pub fn enter(
     seen: &mut Seen,
     next: &mut ActiveStates,
     row: &mut [Slot],
-) -> Turn
+) -> Move
     requires place { at ≤ (search_of input.now).end }
     requires byte { byte ≡ byte_at (search_of input.now) at }
     requires state { sid < length nfa.now.states }
@@ -118,48 +118,48 @@ pub fn enter(
     ensures enters { Enters nfa.now (search_of input.now) at sid seen.old next.old.items (take top.old frames.old) row.old result seen.new next.new.items (take top.new frames.new) row.new }
 {
     if !seen.insert(sid.as_usize()) {
-        return Turn::Over;
+        return Move::Over;
     }
     match nfa.state(sid) {
         State::ByteRange { trans } => {
             keep(range_target(trans, byte), next, row);
-            Turn::Over
+            Move::Over
         }
         State::Sparse(transitions) => {
             keep(sparse_target(transitions, byte), next, row);
-            Turn::Over
+            Move::Over
         }
         State::Dense(targets) => {
             keep(dense_target(targets, byte), next, row);
-            Turn::Over
+            Move::Over
         }
         State::Look { look, next } => {
             if look_matches(*look, input.haystack(), at) {
-                Turn::On(*next)
+                Move::On(*next)
             } else {
-                Turn::Over
+                Move::Over
             }
         }
         State::Union { alternates } => {
             let Some(first) = alternates.first() else {
-                return Turn::Over;
+                return Move::Over;
             };
             put_off(frames, top, alternates);
-            Turn::On(*first)
+            Move::On(*first)
         }
         State::BinaryUnion { alt1, alt2 } => {
             push(frames, top, FollowEpsilon::Explore { sid: *alt2 });
-            Turn::On(*alt1)
+            Move::On(*alt1)
         }
         State::Capture { next, slot } => {
             if *slot < row.len() {
                 keep_old(frames, top, row, *slot);
                 row[*slot] = Slot::new(at);
             }
-            Turn::On(*next)
+            Move::On(*next)
         }
-        State::Fail => Turn::Over,
-        State::Match { pattern_id } => Turn::Matched(*pattern_id),
+        State::Fail => Move::Over,
+        State::Match { pattern_id } => Move::Matched(*pattern_id),
     }
 }
 
@@ -188,7 +188,7 @@ pub fn resume(frames: &[FollowEpsilon], top: &mut usize, row: &mut [Slot]) -> Op
     ensures tried { sum_by tries (take top.new frames.now) + tries_of result ≡ sum_by tries (take top.old frames.now) }
     ensures state { (states : ℕ) → All (IsWithin states (length row.old)) (take top.old frames.now) → IsBelow states result }
     ensures over { result ≡ None → top.new ≡ 0 }
-    ensures follows { (nfa : Automaton) (x : Search) (at : ℕ) (met : Met) (front : Front) (work : List Item) → Follows nfa x at met front (work_onto at (take top.old frames.now) work) row.old met front (with_state at result (work_onto at (take top.new frames.now) work)) row.new }
+    ensures follows { (nfa : Automaton) (x : Search) (at : ℕ) (met : Marks) (front : Front) (work : List Item) → Follows nfa x at met front (work_onto at (take top.old frames.now) work) row.old met front (with_state at result (work_onto at (take top.new frames.now) work)) row.new }
 {
     while *top > 0 {
         *top -= 1;
@@ -232,18 +232,18 @@ pub fn follow(
     let mut hit = None;
     loop {
         match enter(nfa, input, at, byte, sid, frames, &mut top, seen, next, row) {
-            Turn::On(on) => {
+            Move::On(on) => {
                 sid = on;
                 continue;
             }
-            Turn::Matched(pattern) => {
+            Move::Matched(pattern) => {
                 copy_row(slots, row);
                 hit = Some(pattern);
                 if !past_match {
                     return hit;
                 }
             }
-            Turn::Over => {}
+            Move::Over => {}
         }
         match resume(frames, &mut top, row) {
             Some(waiting) => sid = waiting,

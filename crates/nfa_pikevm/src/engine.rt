@@ -16,7 +16,6 @@ use crate::overlap::overlap;
 use crate::search::search;
 use crate::slot::{Slot, hand_out, match_in};
 use crate::threads::Threads;
-use nfa_scanning::counter::Counter;
 use nfa_scanning::first_bytes::FirstBytes;
 use nfa_search_base::error::SearchError;
 use regex_search_core::{Captures, Input, Match, NonMaxUsize, PatternID, PatternSet};
@@ -181,36 +180,34 @@ impl PikeVM {
     {
         let Cache {
             threads,
-            scans,
             found,
             past_scans,
             past_turns,
             ..
         } = cache;
-        past_scans.take(scans);
+        past_scans.take(&mut threads.scans);
         threads.seen.restart_turns(past_turns);
-        self.search_with(threads, scans, input, found.as_mut_slice(), slots)
+        self.search_with(threads, input, found.as_mut_slice(), slots)
     }
 
     /// The pattern that a search answers. It fills the row `found` of the cache, and hands that out at the end.
     fn search_with(
         &self,
         threads: &mut Threads,
-        scans: &mut Counter,
         input: &Input<'_>,
         found: &mut [Slot],
         slots: &mut [Option<NonMaxUsize>],
     ) -> Option<PatternID>
         requires row { slot_count self.now.nfa.groups ≤ length found.old }
         requires serves { HaveRoom self.now.nfa (min (length slots.old) (slot_count self.now.nfa.groups)) threads.old }
-        requires counted { scans.old ≡ 0 }
+        requires counted { threads.old.scans ≡ 0 }
         requires turned { threads.old.seen.turns ≡ 0 }
         ensures answer { IsAnswer self.now.nfa (kind_of self.now) (search_of input.now).earliest (search_of input.now) (option_map number_of result) slots.new }
         ensures pattern { IfSome result (λ p. number_of p < length self.now.nfa.patterns) }
-        ensures work { IsWork self.now.nfa (kind_of self.now) (search_of input.now).earliest (search_of input.now) scans.new threads.new.seen.turns }
+        ensures work { IsWork self.now.nfa (kind_of self.now) (search_of input.now).earliest (search_of input.now) threads.new.scans threads.new.seen.turns }
         ensures sizes { SameSizes threads.old threads.new }
-        ensures scans { scans.new ≤ scan_limit self.now.nfa (search_of input.now) }
-        ensures turns { threads.new.seen.turns ≤ scans.new * scan_turns self.now.nfa (search_of input.now) }
+        ensures scans { threads.new.scans ≤ scan_limit self.now.nfa (search_of input.now) }
+        ensures turns { threads.new.seen.turns ≤ threads.new.scans * scan_turns self.now.nfa (search_of input.now) }
     {
         let width = slots.len().min(self.nfa.group_info().slot_len());
         let row = &mut found[..width];
@@ -220,7 +217,6 @@ impl PikeVM {
             self.config.get_match_kind(),
             input,
             threads,
-            scans,
             row,
         );
         hand_out(row, slots);
@@ -231,20 +227,19 @@ impl PikeVM {
     fn find_with(
         &self,
         threads: &mut Threads,
-        scans: &mut Counter,
         input: &Input<'_>,
         found: &mut [Slot],
     ) -> Option<Match>
         requires row { 2 * length self.now.nfa.groups ≤ length found.old }
         requires serves { HaveRoom self.now.nfa (2 * length self.now.nfa.groups) threads.old }
-        requires counted { scans.old ≡ 0 }
+        requires counted { threads.old.scans ≡ 0 }
         requires turned { threads.old.seen.turns ≡ 0 }
         ensures answer { IsMatchAnswer self.now.nfa (kind_of self.now) (search_of input.now).earliest (search_of input.now) (option_map found_of result) }
         ensures pattern { IfSome result (λ m. (found_of m).pattern < length self.now.nfa.patterns) }
-        ensures work { IsWork self.now.nfa (kind_of self.now) (search_of input.now).earliest (search_of input.now) scans.new threads.new.seen.turns }
+        ensures work { IsWork self.now.nfa (kind_of self.now) (search_of input.now).earliest (search_of input.now) threads.new.scans threads.new.seen.turns }
         ensures sizes { SameSizes threads.old threads.new }
-        ensures scans { scans.new ≤ scan_limit self.now.nfa (search_of input.now) }
-        ensures turns { threads.new.seen.turns ≤ scans.new * scan_turns self.now.nfa (search_of input.now) }
+        ensures scans { threads.new.scans ≤ scan_limit self.now.nfa (search_of input.now) }
+        ensures turns { threads.new.seen.turns ≤ threads.new.scans * scan_turns self.now.nfa (search_of input.now) }
     {
         let slot_len = self.nfa.group_info().implicit_slot_len();
         let slots = &mut found[..slot_len];
@@ -254,7 +249,6 @@ impl PikeVM {
             self.config.get_match_kind(),
             input,
             threads,
-            scans,
             slots,
         )?;
         match_in(half.pattern(), slots)
@@ -279,15 +273,14 @@ impl PikeVM {
     {
         let Cache {
             threads,
-            scans,
             found,
             past_scans,
             past_turns,
             ..
         } = cache;
-        past_scans.take(scans);
+        past_scans.take(&mut threads.scans);
         threads.seen.restart_turns(past_turns);
-        self.find_with(threads, scans, &input, found.as_mut_slice())
+        self.find_with(threads, &input, found.as_mut_slice())
     }
 
     /// Whether a search of the input without `earliest` finds a match. The input's `earliest` is ignored: the search
@@ -338,14 +331,13 @@ impl PikeVM {
     {
         let Cache {
             threads,
-            scans,
             past_scans,
             past_turns,
             ..
         } = cache;
-        past_scans.take(scans);
+        past_scans.take(&mut threads.scans);
         threads.seen.restart_turns(past_turns);
         let kind = self.config.get_match_kind();
-        overlap(&self.nfa, kind, input, threads, scans, patterns);
+        overlap(&self.nfa, kind, input, threads, patterns);
     }
 }

@@ -12,12 +12,11 @@ ghost use Rattle.nfa_pikevm.specs.Engines.{overlap_scans};
 ghost use Rattle.nfa_pikevm.specs.Overlapping.{permits, rowless, AdvancesInSet, ArrivesInSet, CrossesInSet};
 
 use crate::active::{ActiveStates, Parts};
-use crate::closure::{Turn, enter, resume};
+use crate::closure::{Move, enter, resume};
 use crate::frame::FollowEpsilon;
 use crate::scan::{Starts, join};
 use crate::seen::Seen;
 use crate::threads::{Threads, move_on, set_up};
-use nfa_scanning::counter::Counter;
 use nfa_scanning::starts::{start_limit, start_state};
 use nfa_scanning::transitions::byte_at;
 use regex_search_core::{Input, MatchKind, PatternID, PatternSet, StateID};
@@ -96,13 +95,13 @@ fn advance_to_set(
     ensures advances { AdvancesInSet nfa.now (search_of input.now) at past_match (length patterns.old) sid seen.old next.old.items (take top.old frames.old) patterns.old met.old result seen.new next.new.items (take top.new frames.new) patterns.new met.new }
 {
     match enter(nfa, input, at, byte, sid, frames, top, seen, next, &mut []) {
-        Turn::On(on) => return Some(on),
-        Turn::Matched(pattern) => {
+        Move::On(on) => return Some(on),
+        Move::Matched(pattern) => {
             if gather(pattern, permitted, past_match, patterns, met) {
                 return None;
             }
         }
-        Turn::Over => {}
+        Move::Over => {}
     }
     resume(frames, top, &mut [])
 }
@@ -203,6 +202,7 @@ fn cross_to_set(
     ensures curr { threads.new.curr ≡ record threads.old.curr { items = threads.new.curr.items } }
     ensures next { threads.new.next ≡ record threads.old.next { items = threads.new.next.items } }
     ensures frames { length threads.new.frames.items ≡ length threads.old.frames.items }
+    ensures scans { threads.new.scans ≡ threads.old.scans }
     ensures crosses { CrossesInSet nfa.now (search_of input.now) at past_match (length patterns.old) threads.old.seen threads.old.curr.items patterns.old result threads.new.seen threads.new.next.items patterns.new }
 {
     let Threads {
@@ -210,6 +210,7 @@ fn cross_to_set(
         seen,
         curr,
         next,
+        ..
     } = threads;
     seen.clear();
     let Parts { kept, len, .. } = &*curr.parts;
@@ -242,6 +243,7 @@ fn overlap_all(
     requires next { threads.old.next.items ≡ [] }
     ensures serves { HaveRoom nfa.now 0 threads.new }
     ensures sizes { SameSizes threads.old threads.new }
+    ensures scans { threads.new.scans ≡ threads.old.scans }
     ensures turns { threads.new.seen.turns ≤ threads.old.seen.turns + scan_turns nfa.now (search_of input.now) }
     ensures gains { IsOverlapResult nfa.now (search_of input.now) AllMatches false patterns.old patterns.new }
 {
@@ -276,6 +278,7 @@ fn overlap_earliest(
     requires empty { past_match ≡ false → size_of_set patterns.old ≡ 0 }
     ensures serves { HaveRoom nfa.now 0 threads.new }
     ensures sizes { SameSizes threads.old threads.new }
+    ensures scans { threads.new.scans ≡ threads.old.scans }
     ensures turns { threads.new.seen.turns ≤ threads.old.seen.turns + scan_turns nfa.now (search_of input.now) }
     ensures gains { IsOverlapResult nfa.now (search_of input.now) (cond past_match AllMatches LeftmostFirst) true patterns.old patterns.new }
 {
@@ -309,6 +312,7 @@ fn overlap_first(
     requires empty { size_of_set patterns.old ≡ 0 }
     ensures serves { HaveRoom nfa.now 0 threads.new }
     ensures sizes { SameSizes threads.old threads.new }
+    ensures scans { threads.new.scans ≡ threads.old.scans }
     ensures turns { threads.new.seen.turns ≤ threads.old.seen.turns + scan_turns nfa.now (search_of input.now) }
     ensures gains { IsOverlapResult nfa.now (search_of input.now) LeftmostFirst false patterns.old patterns.new }
 {
@@ -345,6 +349,7 @@ fn overlap_from(
     requires empty { kind ≡ LeftmostFirst → size_of_set patterns.old ≡ 0 }
     ensures serves { HaveRoom nfa.now 0 threads.new }
     ensures sizes { SameSizes threads.old threads.new }
+    ensures scans { threads.new.scans ≡ threads.old.scans }
     ensures turns { threads.new.seen.turns ≤ threads.old.seen.turns + scan_turns nfa.now (search_of input.now) }
     ensures gains { IsOverlapResult nfa.now (search_of input.now) kind (search_of input.now).earliest patterns.old patterns.new }
 {
@@ -365,12 +370,11 @@ pub fn overlap(
     kind: MatchKind,
     input: &Input<'_>,
     threads: &mut Threads,
-    scans: &mut Counter,
     patterns: &mut PatternSet,
 )
     requires serves { HaveRoom nfa.now 0 threads.old }
     ensures result { IsOverlapResult nfa.now (search_of input.now) kind (search_of input.now).earliest patterns.old patterns.new }
-    ensures scans { scans.new ≡ scans.old + overlap_scans kind patterns.old }
+    ensures scans { threads.new.scans ≡ threads.old.scans + overlap_scans kind patterns.old }
     ensures serves { HaveRoom nfa.now 0 threads.new }
     ensures sizes { SameSizes threads.old threads.new }
     ensures turns { threads.new.seen.turns
@@ -379,7 +383,7 @@ pub fn overlap(
     if !kind.continue_past_first_match() && !patterns.is_empty() {
         return;
     }
-    scans.tick();
+    threads.scans.tick();
     if input.is_done() {
         return;
     }

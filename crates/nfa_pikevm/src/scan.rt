@@ -4,11 +4,10 @@ ghost use Rattle.regex_search_core.specs.Found.{half_found_of};
 ghost use Rattle.regex_search_core.specs.Patterns.{number_of};
 ghost use Rattle.regex_search_core.specs.declared.search.MatchKind.TheVariants.{All, LeftmostFirst};
 ghost use Rattle.nfa_scanning.specs.FirstBytes.{IsFirstBytes};
-ghost use Rattle.nfa_pikevm.specs.Scans.{blank, HaveRoom, HaveRows, SameSizes, AreStarts, Joins, joined, half_found, Scans, scan_turns};
+ghost use Rattle.nfa_pikevm.specs.Scans.{blank, HaveRoom, HaveRows, SameSizes, AreStarts, Joins, with_start, half_found, Scans, scan_turns};
 
 use crate::slot::Slot;
 use crate::threads::{Threads, cross, move_on, set_up};
-use nfa_scanning::counter::Counter;
 use nfa_scanning::first_bytes::FirstBytes;
 use nfa_scanning::starts::{next_start, skip_limit, start_limit, start_state};
 use regex_search_core::{HalfMatch, Input, MatchKind, PatternID, StateID};
@@ -27,10 +26,11 @@ pub struct Starts {
 #[inline(always)]
 pub fn join(starts: &Starts, at: usize, threads: &mut Threads)
     requires room { length threads.old.curr.items < threads.old.curr.places }
-    ensures curr { threads.new.curr ≡ record threads.old.curr { items = joined starts.now threads.old.curr.width at threads.old.curr.items } }
+    ensures curr { threads.new.curr ≡ record threads.old.curr { items = with_start starts.now threads.old.curr.width at threads.old.curr.items } }
     ensures next { threads.new.next ≡ threads.old.next }
     ensures seen { threads.new.seen ≡ threads.old.seen }
     ensures frames { threads.new.frames.items ≡ threads.old.frames.items }
+    ensures scans { threads.new.scans ≡ threads.old.scans }
 {
     if at < starts.limit {
         threads.curr.push_blank(starts.state);
@@ -55,6 +55,7 @@ fn join_or_skip(
     ensures next { threads.new.next ≡ threads.old.next }
     ensures seen { threads.new.seen ≡ threads.old.seen }
     ensures frames { threads.new.frames.items ≡ threads.old.frames.items }
+    ensures scans { threads.new.scans ≡ threads.old.scans }
     ensures joins { Joins first.now.may_begin (search_of input.now) starts.now limit threads.old.curr.width at threads.old.curr.items result threads.new.curr.items }
 {
     if at >= limit {
@@ -97,6 +98,7 @@ fn scan_first(
     requires unset { slots.old ≡ blank (length slots.old) }
     ensures serves { HaveRoom nfa.now (length slots.old) threads.new }
     ensures sizes { SameSizes threads.old threads.new }
+    ensures scans { threads.new.scans ≡ threads.old.scans }
     ensures turns { threads.new.seen.turns ≤ threads.old.seen.turns + scan_turns nfa.now (search_of input.now) }
     ensures answer { Scans nfa.now (search_of input.now) LeftmostFirst false result slots.new threads.new.seen.turns }
 {
@@ -136,6 +138,7 @@ fn scan_last(
     requires unset { slots.old ≡ blank (length slots.old) }
     ensures serves { HaveRoom nfa.now (length slots.old) threads.new }
     ensures sizes { SameSizes threads.old threads.new }
+    ensures scans { threads.new.scans ≡ threads.old.scans }
     ensures turns { threads.new.seen.turns ≤ threads.old.seen.turns + scan_turns nfa.now (search_of input.now) }
     ensures answer { Scans nfa.now (search_of input.now) All false result slots.new threads.new.seen.turns }
 {
@@ -169,6 +172,7 @@ fn scan_earliest(
     requires unset { slots.old ≡ blank (length slots.old) }
     ensures serves { HaveRoom nfa.now (length slots.old) threads.new }
     ensures sizes { SameSizes threads.old threads.new }
+    ensures scans { threads.new.scans ≡ threads.old.scans }
     ensures turns { threads.new.seen.turns ≤ threads.old.seen.turns + scan_turns nfa.now (search_of input.now) }
     ensures answer { Scans nfa.now (search_of input.now) (cond past_match All LeftmostFirst) true result slots.new threads.new.seen.turns }
 {
@@ -205,6 +209,7 @@ fn scan_from(
     requires unset { slots.old ≡ blank (length slots.old) }
     ensures serves { HaveRoom nfa.now (length slots.old) threads.new }
     ensures sizes { SameSizes threads.old threads.new }
+    ensures scans { threads.new.scans ≡ threads.old.scans }
     ensures turns { threads.new.seen.turns ≤ threads.old.seen.turns + scan_turns nfa.now (search_of input.now) }
     ensures answer { Scans nfa.now (search_of input.now) kind (search_of input.now).earliest result slots.new threads.new.seen.turns }
 {
@@ -225,18 +230,17 @@ pub fn scan(
     kind: MatchKind,
     input: &Input<'_>,
     threads: &mut Threads,
-    scans: &mut Counter,
     slots: &mut [Slot],
 ) -> Option<HalfMatch>
     requires first { IsFirstBytes nfa.now first.now.may_begin }
     requires serves { HaveRoom nfa.now (length slots.old) threads.old }
-    ensures scans { scans.new ≡ scans.old + 1 }
+    ensures scans { threads.new.scans ≡ threads.old.scans + 1 }
     ensures serves { HaveRoom nfa.now (length slots.old) threads.new }
     ensures sizes { SameSizes threads.old threads.new }
     ensures turns { threads.new.seen.turns ≤ threads.old.seen.turns + scan_turns nfa.now (search_of input.now) }
     ensures answer { Scans nfa.now (search_of input.now) kind (search_of input.now).earliest result slots.new threads.new.seen.turns }
 {
-    scans.tick();
+    threads.scans.tick();
     slots.fill(Slot::unset());
     if input.is_done() {
         return None;

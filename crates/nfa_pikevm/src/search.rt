@@ -7,7 +7,6 @@ ghost use Rattle.nfa_pikevm.specs.Scans.{blank, HaveRoom, SameSizes, Searched, s
 use crate::scan::scan;
 use crate::slot::Slot;
 use crate::threads::Threads;
-use nfa_scanning::counter::Counter;
 use nfa_scanning::first_bytes::FirstBytes;
 use regex_search_core::{HalfMatch, Input, MatchKind};
 use thompson_nfa::NFA;
@@ -26,20 +25,19 @@ fn search_once(
     kind: MatchKind,
     input: &Input<'_>,
     threads: &mut Threads,
-    scans: &mut Counter,
     slots: &mut [Slot],
 ) -> Option<HalfMatch>
     requires first { IsFirstBytes nfa.now first.now.may_begin }
     requires serves { HaveRoom nfa.now (length slots.old) threads.old }
-    requires counted { scans.old ≡ 0 }
+    requires counted { threads.old.scans ≡ 0 }
     requires turned { threads.old.seen.turns ≡ 0 }
     requires mode { is_utf8_empty nfa.now ≡ false }
-    ensures answer { Searched nfa.now (search_of input.now) kind (search_of input.now).earliest result slots.new scans.new threads.new.seen.turns }
+    ensures answer { Searched nfa.now (search_of input.now) kind (search_of input.now).earliest result slots.new threads.new.scans threads.new.seen.turns }
     ensures sizes { SameSizes threads.old threads.new }
-    ensures scans { scans.new ≤ scan_limit nfa.now (search_of input.now) }
-    ensures turns { threads.new.seen.turns ≤ scans.new * scan_turns nfa.now (search_of input.now) }
+    ensures scans { threads.new.scans ≤ scan_limit nfa.now (search_of input.now) }
+    ensures turns { threads.new.seen.turns ≤ threads.new.scans * scan_turns nfa.now (search_of input.now) }
 {
-    scan(nfa, first, kind, input, threads, scans, slots)
+    scan(nfa, first, kind, input, threads, slots)
 }
 
 /// One scan, whose answer counts only if it ends on a boundary.
@@ -49,21 +47,20 @@ fn search_kept(
     kind: MatchKind,
     input: &Input<'_>,
     threads: &mut Threads,
-    scans: &mut Counter,
     slots: &mut [Slot],
 ) -> Option<HalfMatch>
     requires first { IsFirstBytes nfa.now first.now.may_begin }
     requires serves { HaveRoom nfa.now (length slots.old) threads.old }
-    requires counted { scans.old ≡ 0 }
+    requires counted { threads.old.scans ≡ 0 }
     requires turned { threads.old.seen.turns ≡ 0 }
     requires mode { is_utf8_empty nfa.now ≡ true }
     requires anchored { is_anchored (search_of input.now).anchored ≡ true }
-    ensures answer { Searched nfa.now (search_of input.now) kind (search_of input.now).earliest result slots.new scans.new threads.new.seen.turns }
+    ensures answer { Searched nfa.now (search_of input.now) kind (search_of input.now).earliest result slots.new threads.new.scans threads.new.seen.turns }
     ensures sizes { SameSizes threads.old threads.new }
-    ensures scans { scans.new ≤ scan_limit nfa.now (search_of input.now) }
-    ensures turns { threads.new.seen.turns ≤ scans.new * scan_turns nfa.now (search_of input.now) }
+    ensures scans { threads.new.scans ≤ scan_limit nfa.now (search_of input.now) }
+    ensures turns { threads.new.seen.turns ≤ threads.new.scans * scan_turns nfa.now (search_of input.now) }
 {
-    let half = scan(nfa, first, kind, input, threads, scans, slots)?;
+    let half = scan(nfa, first, kind, input, threads, slots)?;
     if input.is_char_boundary(half.offset()) {
         return Some(half);
     }
@@ -78,23 +75,22 @@ fn search_whole(
     kind: MatchKind,
     input: &Input<'_>,
     threads: &mut Threads,
-    scans: &mut Counter,
     slots: &mut [Slot],
 ) -> Option<HalfMatch>
     requires first { IsFirstBytes nfa.now first.now.may_begin }
     requires serves { HaveRoom nfa.now (length slots.old) threads.old }
-    requires counted { scans.old ≡ 0 }
+    requires counted { threads.old.scans ≡ 0 }
     requires turned { threads.old.seen.turns ≡ 0 }
     requires mode { is_utf8_empty nfa.now ≡ true }
     requires anchored { is_anchored (search_of input.now).anchored ≡ false }
-    ensures answer { Searched nfa.now (search_of input.now) kind (search_of input.now).earliest result slots.new scans.new threads.new.seen.turns }
+    ensures answer { Searched nfa.now (search_of input.now) kind (search_of input.now).earliest result slots.new threads.new.scans threads.new.seen.turns }
     ensures sizes { SameSizes threads.old threads.new }
-    ensures scans { scans.new ≤ scan_limit nfa.now (search_of input.now) }
-    ensures turns { threads.new.seen.turns ≤ scans.new * scan_turns nfa.now (search_of input.now) }
+    ensures scans { threads.new.scans ≤ scan_limit nfa.now (search_of input.now) }
+    ensures turns { threads.new.seen.turns ≤ threads.new.scans * scan_turns nfa.now (search_of input.now) }
 {
     let mut search = *input;
     loop {
-        let half = scan(nfa, first, kind, &search, threads, scans, slots)?;
+        let half = scan(nfa, first, kind, &search, threads, slots)?;
         if input.is_char_boundary(half.offset()) {
             return Some(half);
         }
@@ -110,23 +106,22 @@ pub fn search(
     kind: MatchKind,
     input: &Input<'_>,
     threads: &mut Threads,
-    scans: &mut Counter,
     slots: &mut [Slot],
 ) -> Option<HalfMatch>
     requires first { IsFirstBytes nfa.now first.now.may_begin }
     requires serves { HaveRoom nfa.now (length slots.old) threads.old }
-    requires counted { scans.old ≡ 0 }
+    requires counted { threads.old.scans ≡ 0 }
     requires turned { threads.old.seen.turns ≡ 0 }
-    ensures answer { Searched nfa.now (search_of input.now) kind (search_of input.now).earliest result slots.new scans.new threads.new.seen.turns }
+    ensures answer { Searched nfa.now (search_of input.now) kind (search_of input.now).earliest result slots.new threads.new.scans threads.new.seen.turns }
     ensures sizes { SameSizes threads.old threads.new }
-    ensures scans { scans.new ≤ scan_limit nfa.now (search_of input.now) }
-    ensures turns { threads.new.seen.turns ≤ scans.new * scan_turns nfa.now (search_of input.now) }
+    ensures scans { threads.new.scans ≤ scan_limit nfa.now (search_of input.now) }
+    ensures turns { threads.new.seen.turns ≤ threads.new.scans * scan_turns nfa.now (search_of input.now) }
 {
     if !(nfa.has_empty() && nfa.is_utf8()) {
-        search_once(nfa, first, kind, input, threads, scans, slots)
+        search_once(nfa, first, kind, input, threads, slots)
     } else if input.get_anchored().is_anchored() {
-        search_kept(nfa, first, kind, input, threads, scans, slots)
+        search_kept(nfa, first, kind, input, threads, slots)
     } else {
-        search_whole(nfa, first, kind, input, threads, scans, slots)
+        search_whole(nfa, first, kind, input, threads, slots)
     }
 }

@@ -18,9 +18,9 @@ pub struct Seen {
 
 impl Model for Seen {
     ghost use Rattle.std.specs.Prelude.{All, ◌≤◌, ◌<◌};
-    ghost use Rattle.nfa_pikevm.specs.Rows.{Met, marks_of};
+    ghost use Rattle.nfa_pikevm.specs.Rows.{Marks, marks_of};
 
-    ghost Value = { Met };
+    ghost Value = { Marks };
 
     ghost view = { λ s. record { bits = marks_of s.newest s.stamps.items; turns = s.turns } };
 

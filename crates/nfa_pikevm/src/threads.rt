@@ -10,20 +10,23 @@ use crate::closure::follow;
 use crate::frame::FollowEpsilon;
 use crate::seen::Seen;
 use crate::slot::Slot;
+use nfa_scanning::counter::Counter;
 use nfa_scanning::transitions::byte_at;
 use regex_search_core::{Input, PatternID, Refused, StateID};
 use std::alloc::Global;
 use std::mem;
 use thompson_nfa::NFA;
 
-/// What a scan writes: the states at its position and those at the next one, the states that it met, and the frames of a
-/// closure.
+/// What a scan writes: the states at its position and those at the next one, the states that it met, the frames of a
+/// closure, and the count of the scans.
 #[derive(Debug, Drop)]
 pub struct Threads {
     pub frames: Vec<FollowEpsilon>,
     pub seen: Seen,
     pub curr: ActiveStates,
     pub next: ActiveStates,
+    /// The count of the scans.
+    pub scans: Counter,
 }
 
 /// No state is kept, and rows have `width` slots from here on.
@@ -34,6 +37,7 @@ pub fn set_up(threads: &mut Threads, width: usize)
     ensures next { threads.new.next ≡ record threads.old.next { items = []; width = width } }
     ensures seen { threads.new.seen ≡ threads.old.seen }
     ensures frames { threads.new.frames.items ≡ threads.old.frames.items }
+    ensures scans { threads.new.scans ≡ threads.old.scans }
 {
     threads.curr.set_up(width);
     threads.next.set_up(width);
@@ -46,6 +50,7 @@ pub fn move_on(threads: &mut Threads)
     ensures next { threads.new.next ≡ record threads.old.curr { items = [] } }
     ensures seen { threads.new.seen ≡ threads.old.seen }
     ensures frames { threads.new.frames.items ≡ threads.old.frames.items }
+    ensures scans { threads.new.scans ≡ threads.old.scans }
 {
     let Threads { curr, next, .. } = threads;
     mem::swap(curr, next);
@@ -120,6 +125,7 @@ pub fn cross(
     ensures curr { threads.new.curr ≡ record threads.old.curr { items = threads.new.curr.items } }
     ensures next { threads.new.next ≡ record threads.old.next { items = threads.new.next.items } }
     ensures frames { length threads.new.frames.items ≡ length threads.old.frames.items }
+    ensures scans { threads.new.scans ≡ threads.old.scans }
     ensures crosses { Crosses nfa.now (search_of input.now) at past_match threads.old.seen threads.old.curr.items slots.old result threads.new.seen threads.new.next.items slots.new }
 {
     let Threads {
@@ -127,6 +133,7 @@ pub fn cross(
         seen,
         curr,
         next,
+        ..
     } = threads;
     seen.clear();
     let Parts {
@@ -174,12 +181,14 @@ impl Threads {
         ensures curr { IfOk result (λ made. made.curr ≡ record { items = []; width = 0; places = 0; cells = 0 }) }
         ensures next { IfOk result (λ made. made.next ≡ record { items = []; width = 0; places = 0; cells = 0 }) }
         ensures frames { IfOk result (λ made. made.frames.items ≡ []) }
+        ensures scans { IfOk result (λ made. made.scans ≡ 0) }
     {
         Ok(Threads {
             frames: Vec::new(alloc),
             seen: Seen::new(alloc),
             curr: ActiveStates::new(alloc)?,
             next: ActiveStates::new(alloc)?,
+            scans: Counter::new(),
         })
     }
 
@@ -189,12 +198,14 @@ impl Threads {
         ensures curr { IfOk result (λ copy. copy.curr ≡ self.now.curr) }
         ensures next { IfOk result (λ copy. copy.next ≡ self.now.next) }
         ensures frames { IfOk result (λ copy. length copy.frames.items ≡ length self.now.frames.items) }
+        ensures scans { IfOk result (λ copy. copy.scans ≡ self.now.scans) }
     {
         Ok(Threads {
             frames: self.frames.clone()?,
             seen: self.seen.copied()?,
             curr: self.curr.copied()?,
             next: self.next.copied()?,
+            scans: self.scans.copy(),
         })
     }
 }

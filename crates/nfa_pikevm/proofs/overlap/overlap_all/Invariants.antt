@@ -1,4 +1,4 @@
-use Rattle.std.proofs.Common.{◌≤◌, length}
+use Rattle.std.proofs.Common.{◌≡◌, ◌≤◌, length}
 use Rattle.regex_search_core.specs.Search.{search_of}
 use Rattle.nfa_pikevm.proofs.OverlapLoopLemmas.{Keeps, AllAt}
 use Rattle.nfa_pikevm.proofs.overlap.overlap_all.Given as goal
@@ -8,4 +8,5 @@ invariant-loop-at l = record {
   low : (search_of l.input).start ≤ l.at;
   keeps : Keeps l.nfa l.fn.threads.seen (length l.fn.threads.frames.items) l.fn.threads.curr l.fn.threads.next l.threads.seen (length l.threads.frames.items) l.threads.curr l.threads.next;
   so_far : AllAt l.nfa (search_of l.input) l.fn.patterns l.starts l.at l.fn.threads.seen.turns l.threads.seen l.threads.curr.items l.patterns;
+  counted : l.threads.scans ≡ l.fn.threads.scans;
 }

@@ -1,7 +1,7 @@
-use Rattle.std.proofs.Common.{◌≡◌, ◌∙◌, ◌+◌, Bool, List, ap, sym, arith, length}
+use Rattle.std.proofs.Common.{◌≡◌, ◌∙◌, ◌+◌, Bool, List, ap, sym, arith, length, refl}
 use Rattle.regex_search_core.specs.Search.{search_of}
 use Rattle.nfa_paths.proofs.ScanAnswerLemmas.{EndsBefore-span}
-use Rattle.nfa_pikevm.specs.Rows.{Met, Active}
+use Rattle.nfa_pikevm.specs.Rows.{Marks, Active}
 use Rattle.nfa_pikevm.specs.Overlapping.{wants}
 use Rattle.nfa_pikevm.proofs.OverlapScanLemmas.{ScansAt-over}
 use Rattle.nfa_pikevm.proofs.OverlapLoopLemmas.{Keeps-start, Keeps-next, sizes-joined, joined-below, joined-items, crosses-joined, no-items, Stands-turns, Earliest-start, Earliest-next, Earliest-found, Earliest-end}
@@ -9,6 +9,7 @@ use Rattle.nfa_pikevm.proofs.overlap.overlap_earliest.Goals as goal
 
 pub loop-at-init : goal.loop-at-init
 loop-at-init c = record {
+  counted = refl;
   low = omega (arith, c.start-at.ensures);
   keeps = Keeps-start _ _ _ _ _ c.requires.room c.requires.next;
   so_far = rw c.start-at.ensures
@@ -37,7 +38,7 @@ returns-then-met-clause-sizes c =
     c.loop-at.invariant.keeps c.join.ensures.curr c.cross_to_set-met.ensures.curr
     (c.cross_to_set-met.ensures.next ∙ ap (λ (n : Active). record n { items = c.cross_to_set-met.new.threads.next.items }) c.join.ensures.next)
     c.move_on.ensures.curr c.move_on.ensures.next
-    (ap (λ (m : Met). length m.bits) c.move_on.ensures.seen ∙ c.cross_to_set-met.ensures.size ∙ ap (λ (m : Met). length m.bits) c.join.ensures.seen)
+    (ap (λ (m : Marks). length m.bits) c.move_on.ensures.seen ∙ c.cross_to_set-met.ensures.size ∙ ap (λ (m : Marks). length m.bits) c.join.ensures.seen)
     (ap (λ l. length l) c.move_on.ensures.frames ∙ c.cross_to_set-met.ensures.frames ∙ ap (λ l. length l) c.join.ensures.frames)).sizes
 
 pub returns-then-met-clause-turns : goal.returns-then-met-clause-turns
@@ -58,12 +59,13 @@ loop-at-preserved c =
     let items = joined-items c.args.starts.now c.loop-at.at c.loop-at.threads.curr c.join.new.threads.curr c.join.ensures.curr c.loop-at.invariant.keeps.room.curr_width in
     let crosses = crosses-joined (length c.args.patterns.now) c.loop-at.threads.seen _ (ap (λ (l : List Bool). length l) c.loop-at.invariant.so_far.still) c.join.ensures.seen items c.cross_to_set-met.ensures.crosses in
     record {
+      counted = c.move_on.ensures.scans ∙ c.cross_to_set-met.ensures.scans ∙ c.join.ensures.scans ∙ c.loop-at.invariant.counted;
       low = omega arith;
       keeps = Keeps-next c.loop-at.threads.seen _ c.loop-at.threads.curr c.loop-at.threads.next c.join.new.threads.curr c.cross_to_set-met.new.threads.curr c.cross_to_set-met.new.threads.next _ _ _ _ _
           c.loop-at.invariant.keeps c.join.ensures.curr c.cross_to_set-met.ensures.curr
           (c.cross_to_set-met.ensures.next ∙ ap (λ (n : Active). record n { items = c.cross_to_set-met.new.threads.next.items }) c.join.ensures.next)
           c.move_on.ensures.curr c.move_on.ensures.next
-          (ap (λ (m : Met). length m.bits) c.move_on.ensures.seen ∙ c.cross_to_set-met.ensures.size ∙ ap (λ (m : Met). length m.bits) c.join.ensures.seen)
+          (ap (λ (m : Marks). length m.bits) c.move_on.ensures.seen ∙ c.cross_to_set-met.ensures.size ∙ ap (λ (m : Marks). length m.bits) c.join.ensures.seen)
           (ap (λ l. length l) c.move_on.ensures.frames ∙ c.cross_to_set-met.ensures.frames ∙ ap (λ l. length l) c.join.ensures.frames);
       so_far = rw (c.move_on.ensures.seen, c.move_on.ensures.curr)
           (Earliest-next c.args.nfa.now (search_of c.args.input.now) c.args.patterns.now c.args.past_match c.requires.valid c.loop-at.invariant.low c.loop-at.invariant.so_far crosses c.if-met.false);

@@ -1,6 +1,6 @@
-use Rattle.std.proofs.Common.{◌∙◌, ap, sym, arith, length}
+use Rattle.std.proofs.Common.{◌∙◌, ap, sym, arith, length, refl}
 use Rattle.regex_search_core.specs.Search.{search_of}
-use Rattle.nfa_pikevm.specs.Rows.{Met, Active}
+use Rattle.nfa_pikevm.specs.Rows.{Marks, Active}
 use Rattle.nfa_pikevm.proofs.OverlapScanLemmas.{kept-none}
 use Rattle.nfa_pikevm.proofs.OverlapLoopLemmas.{Keeps-start, Keeps-next, sizes-joined, joined-below, joined-items, crosses-joined, no-items}
 use Rattle.nfa_pikevm.proofs.OverlapFirstLemmas.{FirstWay-capacity, FirstWay-start, FirstWay-next, FirstWay-cut, FirstWay-over, FirstWay-end}
@@ -9,6 +9,7 @@ use Rattle.nfa_pikevm.proofs.overlap.overlap_first.Goals.{then-met, else-met}
 
 pub loop-at-init : goal.loop-at-init
 loop-at-init c = record {
+  counted = refl;
   low = omega (arith, c.start-at.ensures);
   state = c.requires.starts.state;
   limit = c.requires.starts.high;
@@ -38,6 +39,7 @@ loop-at-preserved c =
     let items = joined-items c.loop-at.joining c.loop-at.at c.loop-at.threads.curr c.join.new.threads.curr c.join.ensures.curr c.loop-at.invariant.keeps.room.curr_width in
     let crosses = crosses-joined (length c.args.patterns.now) c.loop-at.threads.seen _ (FirstWay-capacity c.args.nfa.now (search_of c.args.input.now) c.args.patterns.now c.loop-at.invariant.so_far) c.join.ensures.seen items c.cross_to_set-met.ensures.crosses in
     record {
+      counted = c.move_on.ensures.scans ∙ c.cross_to_set-met.ensures.scans ∙ c.join.ensures.scans ∙ c.loop-at.invariant.counted;
       low = omega arith;
       state = elim c.if-met.branch [ then-met w ↦ rw w.joining-is c.loop-at.invariant.state | else-met w ↦ rw w.joining-is c.loop-at.invariant.state ];
       limit = elim c.if-met.branch [ then-met w ↦ rw w.joining-is (omega arith) | else-met w ↦ rw w.joining-is c.loop-at.invariant.limit ];
@@ -46,7 +48,7 @@ loop-at-preserved c =
           c.loop-at.invariant.keeps c.join.ensures.curr c.cross_to_set-met.ensures.curr
           (c.cross_to_set-met.ensures.next ∙ ap (λ (n : Active). record n { items = c.cross_to_set-met.new.threads.next.items }) c.join.ensures.next)
           c.move_on.ensures.curr c.move_on.ensures.next
-          (ap (λ (m : Met). length m.bits) c.move_on.ensures.seen ∙ c.cross_to_set-met.ensures.size ∙ ap (λ (m : Met). length m.bits) c.join.ensures.seen)
+          (ap (λ (m : Marks). length m.bits) c.move_on.ensures.seen ∙ c.cross_to_set-met.ensures.size ∙ ap (λ (m : Marks). length m.bits) c.join.ensures.seen)
           (ap (λ l. length l) c.move_on.ensures.frames ∙ c.cross_to_set-met.ensures.frames ∙ ap (λ l. length l) c.join.ensures.frames);
       so_far = rw (c.move_on.ensures.seen, c.move_on.ensures.curr)
           (elim c.if-met.branch [

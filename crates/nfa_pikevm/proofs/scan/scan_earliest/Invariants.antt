@@ -16,4 +16,5 @@ invariant-loop-at l = record {
   scans : ScansAll l.nfa (search_of l.input) l.at (length l.fn.slots) l.starts.state l.starts.limit l.threads.seen l.threads.curr.items;
   none : NoneBefore (edges l.nfa (search_of l.input)) (starts l.nfa (search_of l.input)) (is_match l.nfa) l.at;
   same : l.slots ≡ l.fn.slots;
+  counted : l.threads.scans ≡ l.fn.threads.scans;
 }

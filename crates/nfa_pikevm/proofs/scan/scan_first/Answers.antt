@@ -1,6 +1,6 @@
 use Rattle.std.proofs.Common.{◌≡◌, ◌∙◌, ◌+◌, ◌<◌, ◌≤◌, length, arith, refl, ap, sym, inl, inr}
 use Rattle.regex_search_core.specs.Search.{search_of}
-use Rattle.nfa_pikevm.specs.Rows.{Met, Active}
+use Rattle.nfa_pikevm.specs.Rows.{Marks, Active}
 use Rattle.nfa_pikevm.proofs.AllLemmas.{EndsAt-none}
 use Rattle.nfa_pikevm.proofs.EndLemmas.{SearchesFirst-begin, SearchesFirst-joins, SearchesFirst-some, first-over}
 use Rattle.nfa_pikevm.proofs.FrontLemmas.{Paid-next, IsPaidAt-cross, IsPaidAt-later}
@@ -14,6 +14,7 @@ loop-at-init c =
     let start : c.start-at.result ≡ (search_of c.args.input.now).start = c.start-at.ensures in
     let span : (search_of c.args.input.now).start ≤ (search_of c.args.input.now).end = c.requires.span in
     record {
+      counted = refl;
       room = c.requires.room;
       sizes = λ size h. h;
       next = c.requires.next;
@@ -30,7 +31,7 @@ loop-at-init c =
 pub returns-then-is_empty-clause-sizes : goal.returns-then-is_empty-clause-sizes
 returns-then-is_empty-clause-sizes c = λ size h.
     AreSized-kept size c.loop-at.threads.seen c.join_or_skip-at.new.threads.seen _ _ c.loop-at.threads.curr c.loop-at.threads.next c.join_or_skip-at.new.threads.curr c.join_or_skip-at.new.threads.next
-    (ap (λ (m : Met). length m.bits) c.join_or_skip-at.ensures.seen) (ap length c.join_or_skip-at.ensures.frames) c.join_or_skip-at.ensures.curr
+    (ap (λ (m : Marks). length m.bits) c.join_or_skip-at.ensures.seen) (ap length c.join_or_skip-at.ensures.frames) c.join_or_skip-at.ensures.curr
     (same-all c.loop-at.threads.next c.join_or_skip-at.new.threads.next c.join_or_skip-at.ensures.next) (c.loop-at.invariant.sizes size h)
 
 pub returns-then-is_empty-clause-answer : goal.returns-then-is_empty-clause-answer
@@ -73,6 +74,7 @@ loop-at-preserved c =
     c.join_or_skip-at.new.threads.curr.items joins in
     let kept = ap (λ (a : Active). a.items) c.move_on.ensures.curr in
     record {
+      counted = c.move_on.ensures.scans ∙ c.cross.ensures.scans ∙ c.join_or_skip-at.ensures.scans ∙ c.loop-at.invariant.counted;
       room = HasThreads-swap c.args.nfa.now width c.cross.new.threads.seen c.move_on.new.threads.seen _ _ c.cross.new.threads.curr c.cross.new.threads.next c.move_on.new.threads.curr c.move_on.new.threads.next
           c.move_on.ensures.seen (ap length c.move_on.ensures.frames) c.move_on.ensures.curr c.move_on.ensures.next (rw c.loop-at.auto.slots at c.cross.ensures.room);
       sizes = λ size h.
@@ -81,7 +83,7 @@ loop-at-preserved c =
           (AreSized-kept size c.join_or_skip-at.new.threads.seen c.cross.new.threads.seen _ _ c.join_or_skip-at.new.threads.curr c.join_or_skip-at.new.threads.next c.cross.new.threads.curr c.cross.new.threads.next
           c.cross.ensures.size c.cross.ensures.frames c.cross.ensures.curr c.cross.ensures.next
           (AreSized-kept size c.loop-at.threads.seen c.join_or_skip-at.new.threads.seen _ _ c.loop-at.threads.curr c.loop-at.threads.next c.join_or_skip-at.new.threads.curr c.join_or_skip-at.new.threads.next
-          (ap (λ (m : Met). length m.bits) c.join_or_skip-at.ensures.seen) (ap length c.join_or_skip-at.ensures.frames) c.join_or_skip-at.ensures.curr
+          (ap (λ (m : Marks). length m.bits) c.join_or_skip-at.ensures.seen) (ap length c.join_or_skip-at.ensures.frames) c.join_or_skip-at.ensures.curr
           (same-all c.loop-at.threads.next c.join_or_skip-at.new.threads.next c.join_or_skip-at.ensures.next) (c.loop-at.invariant.sizes size h)));
       next = ap (λ (a : Active). a.items) c.move_on.ensures.next;
       items = rw kept (AreAt-cross c.args.nfa.now x to width state c.loop-at.limit c.requires.starts.leads crosses);

@@ -16,6 +16,7 @@ invariant-loop-at l = record {
   over : (search_of l.input).end < l.at → l.threads.curr.items ≡ [];
   paid : IsPaidAt l.nfa (search_of l.input) l.at l.fn.threads.seen.turns l.threads.seen.turns (length l.threads.curr.items);
   searches : SearchesFirst l.nfa (search_of l.input) l.at (length l.fn.slots) l.starts.state l.limit l.found l.slots l.threads.seen l.threads.curr.items;
+  counted : l.threads.scans ≡ l.fn.threads.scans;
 }
 
 abbrev pub decreases-loop-at : goal.decreases-loop-at

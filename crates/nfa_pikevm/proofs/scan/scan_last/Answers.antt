@@ -1,7 +1,7 @@
 use Rattle.std.proofs.Common.{◌≡◌, ◌∙◌, ◌+◌, ◌≤◌, length, arith, refl, ap, sym, inl}
 use Rattle.regex_search_core.specs.Search.{search_of}
-use Rattle.nfa_pikevm.specs.Rows.{Met, Active}
-use Rattle.nfa_pikevm.specs.Scans.{joined}
+use Rattle.nfa_pikevm.specs.Rows.{Marks, Active}
+use Rattle.nfa_pikevm.specs.Scans.{with_start}
 use Rattle.nfa_pikevm.proofs.AllLemmas.{ScansAll-cross, HasLast-cross}
 use Rattle.nfa_pikevm.proofs.EndLemmas.{ScansAll-begin, HasLast-begin, ScansAll-join, all-over, last-over, ends-at}
 use Rattle.nfa_pikevm.proofs.FrontLemmas.{Paid-next, IsPaidAt-cross}
@@ -13,6 +13,7 @@ pub loop-at-init : goal.loop-at-init
 loop-at-init c =
     let start : c.start-at.result ≡ (search_of c.args.input.now).start = c.start-at.ensures in
     record {
+      counted = refl;
       room = c.requires.room;
       sizes = λ size h. h;
       next = c.requires.next;
@@ -25,7 +26,7 @@ loop-at-init c =
 pub returns-then-is_empty-clause-sizes : goal.returns-then-is_empty-clause-sizes
 returns-then-is_empty-clause-sizes c = λ size h.
     AreSized-kept size c.loop-at.threads.seen c.join.new.threads.seen _ _ c.loop-at.threads.curr c.loop-at.threads.next c.join.new.threads.curr c.join.new.threads.next
-    (ap (λ (m : Met). length m.bits) c.join.ensures.seen) (ap length c.join.ensures.frames) (same-items c.loop-at.threads.curr c.join.new.threads.curr (joined c.args.starts.now c.loop-at.threads.curr.width c.loop-at.at c.loop-at.threads.curr.items) c.join.ensures.curr) (same-all c.loop-at.threads.next c.join.new.threads.next c.join.ensures.next)
+    (ap (λ (m : Marks). length m.bits) c.join.ensures.seen) (ap length c.join.ensures.frames) (same-items c.loop-at.threads.curr c.join.new.threads.curr (with_start c.args.starts.now c.loop-at.threads.curr.width c.loop-at.at c.loop-at.threads.curr.items) c.join.ensures.curr) (same-all c.loop-at.threads.next c.join.new.threads.next c.join.ensures.next)
     (c.loop-at.invariant.sizes size h)
 
 pub returns-then-is_empty-clause-answer : goal.returns-then-is_empty-clause-answer
@@ -58,6 +59,7 @@ loop-at-preserved c =
     rw items (few-joined c.args.nfa.now x c.args.starts.now c.requires.starts width c.loop-at.at c.loop-at.threads.curr.items) in
     let kept = ap (λ (a : Active). a.items) c.move_on.ensures.curr in
     record {
+      counted = c.move_on.ensures.scans ∙ c.cross.ensures.scans ∙ c.join.ensures.scans ∙ c.loop-at.invariant.counted;
       room = HasThreads-swap c.args.nfa.now width c.cross.new.threads.seen c.move_on.new.threads.seen _ _ c.cross.new.threads.curr c.cross.new.threads.next c.move_on.new.threads.curr c.move_on.new.threads.next
           c.move_on.ensures.seen (ap length c.move_on.ensures.frames) c.move_on.ensures.curr c.move_on.ensures.next (rw c.loop-at.auto.slots at c.cross.ensures.room);
       sizes = λ size h.
@@ -66,7 +68,7 @@ loop-at-preserved c =
           (AreSized-kept size c.join.new.threads.seen c.cross.new.threads.seen _ _ c.join.new.threads.curr c.join.new.threads.next c.cross.new.threads.curr c.cross.new.threads.next
           c.cross.ensures.size c.cross.ensures.frames c.cross.ensures.curr c.cross.ensures.next
           (AreSized-kept size c.loop-at.threads.seen c.join.new.threads.seen _ _ c.loop-at.threads.curr c.loop-at.threads.next c.join.new.threads.curr c.join.new.threads.next
-          (ap (λ (m : Met). length m.bits) c.join.ensures.seen) (ap length c.join.ensures.frames) (same-items c.loop-at.threads.curr c.join.new.threads.curr (joined c.args.starts.now c.loop-at.threads.curr.width c.loop-at.at c.loop-at.threads.curr.items) c.join.ensures.curr) (same-all c.loop-at.threads.next c.join.new.threads.next c.join.ensures.next)
+          (ap (λ (m : Marks). length m.bits) c.join.ensures.seen) (ap length c.join.ensures.frames) (same-items c.loop-at.threads.curr c.join.new.threads.curr (with_start c.args.starts.now c.loop-at.threads.curr.width c.loop-at.at c.loop-at.threads.curr.items) c.join.ensures.curr) (same-all c.loop-at.threads.next c.join.new.threads.next c.join.ensures.next)
           (c.loop-at.invariant.sizes size h)));
       next = ap (λ (a : Active). a.items) c.move_on.ensures.next;
       items = rw kept (AreAt-cross c.args.nfa.now x c.loop-at.at width c.args.starts.now.state c.args.starts.now.limit c.requires.starts.leads crosses);

@@ -14,4 +14,5 @@ invariant-loop-at l = record {
   paid : IsPaidAt l.nfa (search_of l.input) l.at l.fn.threads.seen.turns l.threads.seen.turns (length l.threads.curr.items);
   scans : ScansAll l.nfa (search_of l.input) l.at (length l.fn.slots) l.starts.state l.starts.limit l.threads.seen l.threads.curr.items;
   last : HasLast l.nfa (search_of l.input) l.at (length l.fn.slots) l.found l.slots l.threads.seen.turns;
+  counted : l.threads.scans ≡ l.fn.threads.scans;
 }
