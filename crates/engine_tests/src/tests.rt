@@ -1,5 +1,6 @@
 //! Both engines side by side.
 
+mod choice;
 mod grid;
 mod memory;
 mod odd;

@@ -11,7 +11,7 @@ use std::process::ExitCode;
 use std::{io, str};
 
 /// How many requests come after all cases. The script refuses a request with a smaller number.
-const REST: usize = 3000;
+const REST: usize = 1000;
 
 // Makes so many requests for memory, and gives each one back.
 fn spend(alloc: Global, count: usize) -> Result<(), AllocError> {

@@ -9,7 +9,7 @@ use crate::text::{
 use nfa_engines::backtrack::{self, BoundedBacktracker};
 use nfa_engines::error::SearchError;
 use nfa_engines::pikevm::{self, PikeVM};
-use regex_search_core::{Input, NonMaxUsize, PatternID};
+use regex_search_core::{Input, Match, NonMaxUsize, PatternID};
 use std::alloc::{AllocError, Global};
 use thompson_nfa::NFA;
 
@@ -80,7 +80,7 @@ impl Engines {
         ])
     }
 
-    /// The match that both find.
+    /// The match that both find, as text.
     pub fn match_texts(
         &mut self,
         alloc: Global,
@@ -101,6 +101,14 @@ impl Engines {
         Ok([
             backtracked_list(alloc, &self.backtracker, &mut self.marks, input)?,
             piked_list(alloc, &self.vm, &mut self.threads, input)?,
+        ])
+    }
+
+    /// The match that both find.
+    pub fn find(&mut self, input: Input<'_>) -> Result<[Option<Match>; 2], SearchError> {
+        Ok([
+            self.backtracker.try_find(&mut self.marks, input)?,
+            self.vm.find(&mut self.threads, input),
         ])
     }
 

@@ -40,7 +40,8 @@ const SUMS: &[(&str, u64)] = &[
     ("six", 13687004155275439929),
 ];
 
-const HAYSTACKS: &[&[u8]] = &[
+/// Haystacks of which both engines search each span.
+pub const HAYSTACKS: &[&[u8]] = &[
     b"",
     b"a",
     b"ab",

@@ -231,19 +231,24 @@ fn count_in_all(vm: &PikeVM, cache: &mut Cache, haystacks: &[&[u8]]) -> usize
 
 const HAYSTACK: &[u8] = b"foo1 foo12 foo123";
 
+// A new cache for each caller.
+fn fresh(alloc: Global, vm: &PikeVM) -> Result<Cache, Fail>
+    ensures { IfOk result (λ cache. Fits cache vm.now.nfa) }
+{
+    Ok(vm.create_cache(alloc)?)
+}
+
 #[test]
 fn callers_list_all_matches(rt: HostRuntime) -> Result<(), Fail> {
     let alloc = rt.alloc();
     let vm = pikevm(alloc, "foo_num")?;
-    let mut cache = vm.create_cache(alloc)?;
-    assert!(rt; cache.fits(&vm));
     let lists = [
-        (collected(alloc, &vm, &mut cache, Input::new(HAYSTACK))?, 3),
-        (collected_whole(alloc, &vm, &mut cache, HAYSTACK)?, 3),
-        (looped(alloc, &vm, &mut cache, HAYSTACK)?, 3),
-        (looped_inside(alloc, &vm, &mut cache, HAYSTACK)?, 3),
-        (collected_inside(alloc, &vm, &mut cache, HAYSTACK)?, 3),
-        (first_two(alloc, &vm, &mut cache, HAYSTACK)?, 2),
+        (collected(alloc, &vm, &mut fresh(alloc, &vm)?, Input::new(HAYSTACK))?, 3),
+        (collected_whole(alloc, &vm, &mut fresh(alloc, &vm)?, HAYSTACK)?, 3),
+        (looped(alloc, &vm, &mut fresh(alloc, &vm)?, HAYSTACK)?, 3),
+        (looped_inside(alloc, &vm, &mut fresh(alloc, &vm)?, HAYSTACK)?, 3),
+        (collected_inside(alloc, &vm, &mut fresh(alloc, &vm)?, HAYSTACK)?, 3),
+        (first_two(alloc, &vm, &mut fresh(alloc, &vm)?, HAYSTACK)?, 2),
     ];
     for (all, len) in lists {
         assert_eq!(rt; all.len(), len);
@@ -258,12 +263,10 @@ fn callers_list_all_matches(rt: HostRuntime) -> Result<(), Fail> {
 fn callers_slice_the_haystack(rt: HostRuntime) -> Result<(), Fail> {
     let alloc = rt.alloc();
     let vm = pikevm(alloc, "foo_num")?;
-    let mut cache = vm.create_cache(alloc)?;
-    assert!(rt; cache.fits(&vm));
     let lists = [
-        (texts(alloc, &vm, &mut cache, HAYSTACK)?, 0),
-        (texts_of_collected(alloc, &vm, &mut cache, HAYSTACK)?, 0),
-        (texts_of_span(alloc, &vm, &mut cache, HAYSTACK, 1)?, 1),
+        (texts(alloc, &vm, &mut fresh(alloc, &vm)?, HAYSTACK)?, 0),
+        (texts_of_collected(alloc, &vm, &mut fresh(alloc, &vm)?, HAYSTACK)?, 0),
+        (texts_of_span(alloc, &vm, &mut fresh(alloc, &vm)?, HAYSTACK, 1)?, 1),
     ];
     for (found, skipped) in lists {
         let mut text = String::new(alloc);
@@ -278,10 +281,10 @@ fn callers_slice_the_haystack(rt: HostRuntime) -> Result<(), Fail> {
         assert_eq!(rt; text.as_str(), want[skipped]);
     }
     assert_eq!(rt;
-        found_text(&vm, &mut cache, b"x foo1"),
+        found_text(&vm, &mut fresh(alloc, &vm)?, b"x foo1"),
         Some(b"foo1".as_slice())
     );
-    assert!(rt; found_text(&vm, &mut cache, b"x").is_none());
+    assert!(rt; found_text(&vm, &mut fresh(alloc, &vm)?, b"x").is_none());
     Ok(())
 }
 
@@ -289,24 +292,22 @@ fn callers_slice_the_haystack(rt: HostRuntime) -> Result<(), Fail> {
 fn callers_count_and_search_again(rt: HostRuntime) -> Result<(), Fail> {
     let alloc = rt.alloc();
     let vm = pikevm(alloc, "foo_num")?;
-    let mut cache = vm.create_cache(alloc)?;
-    assert!(rt; cache.fits(&vm));
-    let (count, first) = count_then_find(&vm, &mut cache, HAYSTACK);
+    let (count, first) = count_then_find(&vm, &mut fresh(alloc, &vm)?, HAYSTACK);
     assert_eq!(rt; (count, first.map(parts)), (3, Some((0, 0, 4))));
-    assert_eq!(rt; numbers_kept(&vm, &mut cache, HAYSTACK), 3);
-    assert_eq!(rt; how_many(&vm, &mut cache, HAYSTACK), 3);
-    assert_eq!(rt; in_order(&vm, &mut cache, HAYSTACK), 17);
+    assert_eq!(rt; numbers_kept(&vm, &mut fresh(alloc, &vm)?, HAYSTACK), 3);
+    assert_eq!(rt; how_many(&vm, &mut fresh(alloc, &vm)?, HAYSTACK), 3);
+    assert_eq!(rt; in_order(&vm, &mut fresh(alloc, &vm)?, HAYSTACK), 17);
     let texts = [HAYSTACK, b"", b"foo1", b"foo"];
-    assert_eq!(rt; count_in_all(&vm, &mut cache, &texts), 4);
-    let first = find_all_then_find(alloc, &vm, &mut cache, HAYSTACK)?;
+    assert_eq!(rt; count_in_all(&vm, &mut fresh(alloc, &vm)?, &texts), 4);
+    let first = find_all_then_find(alloc, &vm, &mut fresh(alloc, &vm)?, HAYSTACK)?;
     assert_eq!(rt; first.map(parts), Some((0, 0, 4)));
     for first in [
-        ends_in_text(&vm, &mut cache, HAYSTACK),
-        first_alone(&vm, &mut cache, HAYSTACK),
+        ends_in_text(&vm, &mut fresh(alloc, &vm)?, HAYSTACK),
+        first_alone(&vm, &mut fresh(alloc, &vm)?, HAYSTACK),
     ] {
         assert_eq!(rt; first.map(parts), Some((0, 0, 4)));
     }
-    assert_eq!(rt; pattern_of(&vm, &mut cache, HAYSTACK), Some(0));
-    assert_eq!(rt; slot_in_text(&vm, &mut cache, b" foo1"), Some(1));
+    assert_eq!(rt; pattern_of(&vm, &mut fresh(alloc, &vm)?, HAYSTACK), Some(0));
+    assert_eq!(rt; slot_in_text(&vm, &mut fresh(alloc, &vm)?, b" foo1"), Some(1));
     Ok(())
 }
