@@ -128,3 +128,26 @@ fn writes_nothing_after_a_write_that_failed(rt: HostRuntime) -> Result<(), Fail>
     }
     Ok(())
 }
+
+// An engine, a name, how often which text is the haystack, and what is printed. A haystack of 19972 full stops is too
+// long for the backtracker alone, and offsets have more digits than one.
+#[test]
+fn prints_what_each_engine_finds(rt: HostRuntime) -> Result<(), Fail> {
+    let alloc = rt.alloc();
+    for &(engine, name, text, count, want, status) in &[
+        ("pike", "alnum100", ".", 19972, "end\n", 0),
+        ("back", "abc_a", "..........abc", 1, "0 10..13\nend\n", 0),
+        ("pike", "abc_a", "..........abc", 1, "0 10..13\nend\n", 0),
+        ("back", "abc_a", "x y z ", 1, "end\n", 0),
+        ("pike", "empty", "", 0, "0 0..0\nend\n", 0),
+        ("back", "abc", ".", 100000, "end\n", 0),
+        ("pike", "abc", ".", 100000, "end\n", 0),
+    ] {
+        let haystack = text.repeat(alloc, count)?;
+        let mut out = Vec::new(alloc);
+        let ended = run(alloc, &[engine, name, haystack.as_str()], &mut out);
+        assert_eq!(rt; out.as_slice(), want.as_bytes(), "{engine} {name} {count}");
+        assert_eq!(rt; ended, status, "{engine} {name} {count}");
+    }
+    Ok(())
+}

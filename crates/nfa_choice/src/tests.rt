@@ -1,3 +1,5 @@
+//! Rows of the engine that chooses.
+
 use crate::choose::{Choice, Engine};
 use nfa_engines::error::SearchError;
 use nfa_engines::{backtrack, pikevm};
@@ -105,6 +107,10 @@ fn searches_another_nfa(rt: HostRuntime) -> Result<(), Fail> {
         Some(3)
     );
     assert!(rt; choice.find(Input::new(b"ab")).is_none());
+    assert_eq!(rt; choice.ran(), Some(Engine::Backtracker));
+    assert!(rt; choice.find(Input::new(b"ab").earliest(true)).is_none());
+    choice.replace(nfa(alloc, "abc")?)?;
+    assert_eq!(rt; choice.ran(), Some(Engine::PikeVM));
 
     let groups = nfa(alloc, "groups")?;
     match choice.replace(groups) {
@@ -112,6 +118,10 @@ fn searches_another_nfa(rt: HostRuntime) -> Result<(), Fail> {
             let mut slots = [NonMaxUsize::new(7); 6];
             let pattern = choice.search_slots(&Input::new(b"ab"), &mut slots);
             assert_eq!(rt; pattern, PatternID::new(0));
+            let wants = [Some(0), Some(2), None, None, Some(0), Some(2)];
+            for (slot, want) in slots.iter().zip(wants.iter()) {
+                assert_eq!(rt; slot.map(|offset| offset.get()), *want);
+            }
         }
         Err(error) => {
             assert_eq!(rt; error, SearchError::Memory);

@@ -1,49 +1,141 @@
-ghost use Rattle.std.specs.Prelude.{◌≡◌, Ok, IfOk, map};
+//! Callers that promise something of the backtracker's lists, most of them without a proof file.
+
+ghost use Rattle.std.specs.Prelude.{◌≡◌, false, All, IfOk, Ok, map};
 ghost use Rattle.regex_search_core.specs.Found.{found_of};
 ghost use Rattle.regex_search_core.specs.Search.{search_of, whole};
+ghost use Rattle.regex_search_core.specs.declared.search.MatchKind.TheVariants.{LeftmostFirst};
 ghost use Rattle.nfa_search_base.specs.Finders.{answer_by, match_place, half_place};
 ghost use Rattle.nfa_search_base.specs.Items.{item_by, greedy};
+ghost use Rattle.nfa_search_base.specs.Lists.{AreMatches, AreFirstMatches, IsInside};
 ghost use Rattle.nfa_search_base.specs.Walks.{fresh, span_of, LiesIn};
-ghost use Rattle.backtrack_tests.specs.Callers.{AreAllOf, piece_answer};
+ghost use Rattle.nfa_backtrack.specs.Runs.{AreAllItems, AreFirstItems};
+ghost use Rattle.backtrack_tests.specs.Callers.{piece_answer};
 
-use super::{WORDS_AND_NUMBERS, backtracker, parts, with_capacity};
+use super::WORDS_AND_NUMBERS;
 use nfa_engines::backtrack::{BoundedBacktracker, Cache};
 use nfa_engines::error::SearchError;
 use nfa_engines::iter::Searcher;
 use regex_search_core::{HalfMatch, Input, Match, PatternID, Span};
-use std::alloc::{AllocError, Global};
+use std::alloc::{AllocError, AllocFailed, Global};
 use std::test::Fail;
+use test_support::made::{backtracker, with_capacity};
+use test_support::text::parts;
+
+// Why a caller has no list.
+#[derive(Clone, Copy, Debug)]
+enum ListError {
+    Memory,
+    Search(SearchError),
+}
+
+impl<T: Drop> From<AllocFailed<T>> for ListError {
+    fn from(_: AllocFailed<T>) -> ListError {
+        ListError::Memory
+    }
+}
+
+impl From<SearchError> for ListError {
+    fn from(error: SearchError) -> ListError {
+        ListError::Search(error)
+    }
+}
 
 // All items of an engine, by `collect`.
 fn collected(
     alloc: Global,
     engine: &BoundedBacktracker,
     cache: &mut Cache,
-    haystack: &[u8],
+    text: &[u8],
 ) -> Result<Vec<Result<Match, SearchError>>, AllocError>
-    ensures { IfOk result (λ v. AreAllOf engine.now (whole haystack.now) v.items) }
+    ensures all { IfOk result (λ v. AreAllItems engine.now (whole text.now) v.items) }
+    ensures inside { IfOk result (λ v. All (λ item. IfOk item (λ m. IsInside (whole text.now) (found_of m))) v.items) }
 {
-    let input = Input::new(haystack);
-    let items = engine.try_find_iter(cache, input);
-    items.collect(alloc)
+    engine.try_find_iter(cache, Input::new(text)).collect(alloc)
 }
 
-// The same, by a loop.
+// The same, by a loop that pushes.
+fn looped_items(
+    alloc: Global,
+    engine: &BoundedBacktracker,
+    cache: &mut Cache,
+    text: &[u8],
+) -> Result<Vec<Result<Match, SearchError>>, ListError>
+    ensures { IfOk result (λ v. AreAllItems engine.now (whole text.now) v.items) }
+{
+    let mut found = Vec::new(alloc);
+    for item in engine.try_find_iter(cache, Input::new(text)) {
+        found.push(item)?;
+    }
+    Ok(found)
+}
+
+// All matches, by a loop that stops at an error.
 fn looped(
     alloc: Global,
     engine: &BoundedBacktracker,
     cache: &mut Cache,
-    haystack: &[u8],
-) -> Result<Vec<Result<Match, SearchError>>, AllocError>
-    ensures { IfOk result (λ v. AreAllOf engine.now (whole haystack.now) v.items) }
+    text: &[u8],
+) -> Result<Vec<Match>, ListError>
+    ensures { IfOk result (λ v. AreMatches engine.now.nfa LeftmostFirst false (whole text.now) (map found_of v.items)) }
 {
     let mut found = Vec::new(alloc);
-    let input = Input::new(haystack);
-    let items = engine.try_find_iter(cache, input);
-    for item in items {
-        found.push(item)?;
+    for item in engine.try_find_iter(cache, Input::new(text)) {
+        found.push(item?)?;
     }
     Ok(found)
+}
+
+// At most two items, by a loop that breaks.
+fn first_items(
+    alloc: Global,
+    engine: &BoundedBacktracker,
+    cache: &mut Cache,
+    text: &[u8],
+) -> Result<Vec<Result<Match, SearchError>>, ListError>
+    ensures { IfOk result (λ v. AreFirstItems engine.now (whole text.now) v.items) }
+{
+    let mut found = Vec::new(alloc);
+    for item in engine.try_find_iter(cache, Input::new(text)) {
+        found.push(item)?;
+        if found.len() == 2 {
+            break;
+        }
+    }
+    Ok(found)
+}
+
+// At most two matches.
+fn first_two(
+    alloc: Global,
+    engine: &BoundedBacktracker,
+    cache: &mut Cache,
+    text: &[u8],
+) -> Result<Vec<Match>, ListError>
+    ensures { IfOk result (λ v. AreFirstMatches engine.now.nfa LeftmostFirst false (whole text.now) (map found_of v.items)) }
+{
+    let mut found = Vec::new(alloc);
+    for item in engine.try_find_iter(cache, Input::new(text)) {
+        found.push(item?)?;
+        if found.len() == 2 {
+            break;
+        }
+    }
+    Ok(found)
+}
+
+// What the text has at each match.
+fn texts<'t>(
+    alloc: Global,
+    engine: &BoundedBacktracker,
+    cache: &mut Cache,
+    text: &'t [u8],
+) -> Result<Vec<&'t [u8]>, ListError> {
+    let mut texts = Vec::new(alloc);
+    for item in engine.try_find_iter(cache, Input::new(text)) {
+        let found = item?;
+        texts.push(&text[found.start()..found.end()])?;
+    }
+    Ok(texts)
 }
 
 // The match that takes at most `len` bytes from the start of the span.
@@ -92,35 +184,63 @@ fn half_found(
     }
 }
 
+const HAYSTACK: &[u8] = b"abc 1 foo 4567 0 quux";
+
 #[test]
-fn lists_all_matches(rt: HostRuntime) -> Result<(), Fail> {
+fn callers_list_all_matches(rt: HostRuntime) -> Result<(), Fail> {
     let alloc = rt.alloc();
     let engine = backtracker(alloc, "words_numbers")?;
     let mut cache = engine.create_cache(alloc);
-    let haystack = b"abc 1 foo 4567 0 quux";
-    for all in [
-        collected(alloc, &engine, &mut cache, haystack)?,
-        looped(alloc, &engine, &mut cache, haystack)?,
+    let want = WORDS_AND_NUMBERS;
+    for (all, len) in [
+        (collected(alloc, &engine, &mut cache, HAYSTACK)?, 6),
+        (looped_items(alloc, &engine, &mut cache, HAYSTACK)?, 6),
+        (first_items(alloc, &engine, &mut cache, HAYSTACK)?, 2),
     ] {
-        assert_eq!(rt; all.len(), WORDS_AND_NUMBERS.len());
-        for (item, want) in all.iter().zip(WORDS_AND_NUMBERS.iter()) {
+        assert_eq!(rt; all.len(), len);
+        for (item, want) in all.iter().zip(want) {
             assert_eq!(rt; item.map(parts), Ok(*want));
         }
+    }
+    for (all, len) in [
+        (looped(alloc, &engine, &mut cache, HAYSTACK)?, 6),
+        (first_two(alloc, &engine, &mut cache, HAYSTACK)?, 2),
+    ] {
+        assert_eq!(rt; all.len(), len);
+        for (found, want) in all.iter().zip(want) {
+            assert_eq!(rt; parts(*found), *want);
+        }
+    }
+    let texts = texts(alloc, &engine, &mut cache, HAYSTACK)?;
+    assert_eq!(rt; texts.len(), 6);
+    let words = ["abc", "1", "foo", "4567", "0", "quux"];
+    for (text, want) in texts.iter().zip(words.iter()) {
+        assert_eq!(rt; *text, want.as_bytes());
     }
     Ok(())
 }
 
 #[test]
-fn lists_the_refusal_alone(rt: HostRuntime) -> Result<(), Fail> {
+fn callers_list_the_refusal_alone(rt: HostRuntime) -> Result<(), Fail> {
     let alloc = rt.alloc();
     let engine = with_capacity(alloc, "alnum100", 10)?;
     let mut cache = engine.create_cache(alloc);
     let refusal = SearchError::HaystackTooLong { len: 3 };
     for all in [
         collected(alloc, &engine, &mut cache, b"abc")?,
-        looped(alloc, &engine, &mut cache, b"abc")?,
+        looped_items(alloc, &engine, &mut cache, b"abc")?,
+        first_items(alloc, &engine, &mut cache, b"abc")?,
     ] {
         assert_eq!(rt; all.as_slice(), [Err(refusal)].as_slice());
+    }
+    for result in [
+        looped(alloc, &engine, &mut cache, b"abc"),
+        first_two(alloc, &engine, &mut cache, b"abc"),
+    ] {
+        match result {
+            Err(ListError::Search(error)) => assert_eq!(rt; error, refusal),
+            _ => assert!(rt; false, "a list"),
+        }
     }
     Ok(())
 }

@@ -1,8 +1,9 @@
-use super::{backtracker, found_text};
 use nfa_engines::backtrack::{BoundedBacktracker, Builder, Cache, Config};
 use nfa_samples::sample;
 use regex_search_core::Input;
 use std::test::Fail;
+use test_support::made::backtracker;
+use test_support::text::backtracked_match;
 
 #[test]
 fn reads_what_it_was_made_with(rt: HostRuntime) -> Result<(), Fail> {
@@ -26,7 +27,7 @@ fn a_cache_serves_after_a_reset(rt: HostRuntime) -> Result<(), Fail> {
     let mut cache = Cache::new(alloc, &engine);
     assert_eq!(rt; cache.memory_usage(), 0);
     for _ in 0..2 {
-        let text = found_text(alloc, &engine, &mut cache, Input::new(b"abc"))?;
+        let text = backtracked_match(alloc, &engine, &mut cache, Input::new(b"abc"))?;
         assert_eq!(rt; text.as_str(), "0 0..3");
         assert!(rt; cache.memory_usage() > 0);
         cache.reset(&engine);

@@ -1,9 +1,10 @@
-use super::{backtracker, found_text, slots_text, with_capacity};
 use nfa_engines::backtrack::BoundedBacktracker;
 use regex_search_core::Input;
 use std::alloc::Global;
 use std::process::Abort;
 use std::test::Fail;
+use test_support::made::{backtracker, with_capacity};
+use test_support::text::{backtracked_match, backtracked_slots};
 
 // The engine has so many patterns, and finds this in any text.
 fn expect_everywhere(
@@ -16,7 +17,7 @@ fn expect_everywhere(
     assert_eq!(rt; engine.pattern_len(), pattern_len);
     let mut cache = engine.create_cache(alloc);
     for haystack in ["", "foo"] {
-        let text = found_text(alloc, engine, &mut cache, Input::new(haystack.as_bytes()))?;
+        let text = backtracked_match(alloc, engine, &mut cache, Input::new(haystack.as_bytes()))?;
         assert_eq!(rt; text.as_str(), want, "on {haystack:?}");
     }
     Ok(())
@@ -52,11 +53,11 @@ fn a_clone_answers_as_its_original(rt: HostRuntime) -> Result<(), Fail> {
         (long.as_slice(), "HaystackTooLong { len: 32 } - -"),
     ] {
         let input = Input::new(haystack);
-        let text = slots_text(alloc, &engine, &mut cache, &input, 2)?;
+        let text = backtracked_slots(alloc, &engine, &mut cache, &input, 2)?;
         assert_eq!(rt; text.as_str(), want);
         let mut copy = cache.clone()?;
         assert_eq!(rt; copy.memory_usage(), cache.memory_usage());
-        let text = slots_text(alloc, &engine.clone()?, &mut copy, &input, 2)?;
+        let text = backtracked_slots(alloc, &engine.clone()?, &mut copy, &input, 2)?;
         assert_eq!(rt; text.as_str(), want);
     }
     Ok(())
@@ -69,7 +70,7 @@ fn a_cache_counts_its_memory(rt: HostRuntime) -> Result<(), Fail> {
     let engine = backtracker(alloc, "abc_a")?;
     let mut cache = engine.create_cache(alloc);
     assert_eq!(rt; cache.memory_usage(), 0);
-    let text = found_text(alloc, &engine, &mut cache, Input::new(b"xyz"))?;
+    let text = backtracked_match(alloc, &engine, &mut cache, Input::new(b"xyz"))?;
     assert_eq!(rt; text.as_str(), "none");
     assert_eq!(rt; cache.memory_usage(), 24);
     engine.reset_cache(&mut cache);

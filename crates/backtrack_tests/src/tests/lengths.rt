@@ -1,8 +1,9 @@
-use super::{backtracker, found_text, slots_text, with_capacity};
 use nfa_engines::backtrack::{BoundedBacktracker, Builder, Config, min_visited_capacity};
 use nfa_samples::sample;
 use regex_search_core::{Anchored, Input, PatternID};
 use std::test::Fail;
+use test_support::made::{backtracker, with_capacity};
+use test_support::text::{backtracked_match, backtracked_slots};
 
 #[test]
 fn refuses_lengths_above_the_greatest(rt: HostRuntime) -> Result<(), Fail> {
@@ -14,7 +15,7 @@ fn refuses_lengths_above_the_greatest(rt: HostRuntime) -> Result<(), Fail> {
         ([b'a'; 31].as_slice(), "0 - -"),
         ([b'a'; 32].as_slice(), "HaystackTooLong { len: 32 } - -"),
     ] {
-        let text = slots_text(alloc, &engine, &mut cache, &Input::new(haystack), 2)?;
+        let text = backtracked_slots(alloc, &engine, &mut cache, &Input::new(haystack), 2)?;
         assert_eq!(rt; text.as_str(), want);
     }
     let nfa = engine.get_nfa();
@@ -42,12 +43,12 @@ fn refuses_before_all_else(rt: HostRuntime) -> Result<(), Fail> {
         (whole.range(2..1), "none - -"),
     ] {
         let mut cache = engine.create_cache(alloc);
-        let text = slots_text(alloc, &engine, &mut cache, &input, 2)?;
+        let text = backtracked_slots(alloc, &engine, &mut cache, &input, 2)?;
         assert_eq!(rt; text.as_str(), want, "{input:?}");
     }
     let engine = with_capacity(alloc, "alnum100", 0)?;
     let mut cache = engine.create_cache(alloc);
-    let text = found_text(alloc, &engine, &mut cache, whole.range(2..1))?;
+    let text = backtracked_match(alloc, &engine, &mut cache, whole.range(2..1))?;
     assert_eq!(rt; text.as_str(), "HaystackTooLong { len: 0 }");
     Ok(())
 }

@@ -1,39 +1,313 @@
-ghost use Rattle.nfa_pikevm.specs.Engines.{Fits, SameNumbers};
+//! Callers that promise something of the PikeVM's lists, without a proof file but for an invariant of a loop.
 
-use super::pikevm;
+ghost use Rattle.std.specs.Prelude.{false, ◌≡◌, ◌≤◌, ◌<◌, List, All, IfOk, IfSome, None, length, map, [], ◌∷◌};
+ghost use Rattle.regex_search_core.specs.Found.{Found, found_of};
+ghost use Rattle.regex_search_core.specs.Search.{search_of, whole};
+ghost use Rattle.nfa_pikevm.specs.Engines.{Fits, SameNumbers, kind_of};
+ghost use Rattle.nfa_search_base.specs.Lists.{AreMatches, AreFirstMatches, AreApart, IsInside};
+
 use nfa_engines::pikevm::{Cache, PikeVM};
-use regex_search_core::{Input, Match};
+use regex_search_core::{Input, Match, NonMaxUsize};
+use std::alloc::{AllocError, Global};
 use std::test::Fail;
+use test_support::made::pikevm;
+use test_support::text::parts;
 
-// How many matches an iteration gives. The cache fits afterwards what it fitted before.
-fn count_matches(vm: &PikeVM, cache: &mut Cache, haystack: &[u8]) -> usize
+// All matches of any input, by `collect`.
+fn collected(alloc: Global, vm: &PikeVM, cache: &mut Cache, input: Input<'_>) -> Result<Vec<Match>, AllocError>
     requires { Fits cache.old vm.now.nfa }
-    ensures numbers { SameNumbers cache.old cache.new }
-    ensures fits { Fits cache.new vm.now.nfa }
+    ensures { IfOk result (λ v. AreMatches vm.now.nfa (kind_of vm.now) (search_of input.entry).earliest (search_of input.entry) (map found_of v.items)) }
+{
+    vm.find_iter(cache, input).collect(alloc)
+}
+
+// All matches in a text.
+fn collected_whole(alloc: Global, vm: &PikeVM, cache: &mut Cache, haystack: &[u8]) -> Result<Vec<Match>, AllocError>
+    requires { Fits cache.old vm.now.nfa }
+    ensures { IfOk result (λ v. AreMatches vm.now.nfa (kind_of vm.now) false (whole haystack.now) (map found_of v.items)) }
+{
+    vm.find_iter(cache, Input::new(haystack)).collect(alloc)
+}
+
+// The same, by a loop that pushes.
+fn looped(alloc: Global, vm: &PikeVM, cache: &mut Cache, haystack: &[u8]) -> Result<Vec<Match>, AllocError>
+    requires { Fits cache.old vm.now.nfa }
+    ensures { IfOk result (λ v. AreMatches vm.now.nfa (kind_of vm.now) false (whole haystack.now) (map found_of v.items)) }
+{
+    let mut found = Vec::new(alloc);
+    for item in vm.find_iter(cache, Input::new(haystack)) {
+        found.push(item)?;
+    }
+    Ok(found)
+}
+
+// At most two matches, by a loop that breaks.
+fn first_two(alloc: Global, vm: &PikeVM, cache: &mut Cache, haystack: &[u8]) -> Result<Vec<Match>, AllocError>
+    requires { Fits cache.old vm.now.nfa }
+    ensures { IfOk result (λ v. AreFirstMatches vm.now.nfa (kind_of vm.now) false (whole haystack.now) (map found_of v.items)) }
+{
+    let mut found = Vec::new(alloc);
+    for item in vm.find_iter(cache, Input::new(haystack)) {
+        found.push(item)?;
+        if found.len() == 2 {
+            break;
+        }
+    }
+    Ok(found)
+}
+
+// How many matches there are, and the first, searched for with the same cache.
+fn count_then_find(vm: &PikeVM, cache: &mut Cache, haystack: &[u8]) -> (usize, Option<Match>)
+    requires { Fits cache.old vm.now.nfa }
+    ensures { Fits cache.new vm.now.nfa }
 {
     let mut count = 0;
     for _ in vm.find_iter(cache, Input::new(haystack)) {
         count = usize::saturating_add(count, 1);
     }
-    count
-}
-
-// The first match, searched for after an iteration and with its cache.
-fn find_after_counting(vm: &PikeVM, cache: &mut Cache, haystack: &[u8]) -> (usize, Option<Match>)
-    requires { Fits cache.old vm.now.nfa }
-{
-    let count = count_matches(vm, cache, haystack);
     (count, vm.find(cache, Input::new(haystack)))
 }
 
+// What the text has at the first match.
+fn found_text<'t>(vm: &PikeVM, cache: &mut Cache, text: &'t [u8]) -> Option<&'t [u8]>
+    requires { Fits cache.old vm.now.nfa }
+{
+    let found = vm.find(cache, Input::new(text))?;
+    Some(&text[found.start()..found.end()])
+}
+
+// The first match, which ends in the text.
+fn ends_in_text(vm: &PikeVM, cache: &mut Cache, text: &[u8]) -> Option<Match>
+    requires { Fits cache.old vm.now.nfa }
+    ensures { IfSome result (λ m. m.span.end ≤ length text.now) }
+{
+    vm.find(cache, Input::new(text))
+}
+
+// The pattern of the first match, which is one of the engine's.
+fn pattern_of(vm: &PikeVM, cache: &mut Cache, text: &[u8]) -> Option<usize>
+    requires { Fits cache.old vm.now.nfa }
+    ensures { IfSome result (λ p. p < length vm.now.nfa.patterns) }
+{
+    let found = vm.find(cache, Input::new(text))?;
+    Some(found.pattern().as_usize())
+}
+
+// Where the first match starts, which is in the text.
+fn slot_in_text(vm: &PikeVM, cache: &mut Cache, text: &[u8]) -> Option<usize>
+    requires { Fits cache.old vm.now.nfa }
+    ensures { IfSome result (λ at. at ≤ length text.now) }
+{
+    let mut slots: [Option<NonMaxUsize>; 2] = [None; 2];
+    vm.search_slots(cache, &Input::new(text), &mut slots)?;
+    Some(slots[0]?.get())
+}
+
+// What the text has at each match.
+fn texts<'t>(alloc: Global, vm: &PikeVM, cache: &mut Cache, text: &'t [u8]) -> Result<Vec<&'t [u8]>, AllocError>
+    requires { Fits cache.old vm.now.nfa }
+{
+    let mut texts = Vec::new(alloc);
+    for found in vm.find_iter(cache, Input::new(text)) {
+        texts.push(&text[found.start()..found.end()])?;
+    }
+    Ok(texts)
+}
+
+// What the text has at each match behind a place.
+fn texts_of_span<'t>(alloc: Global, vm: &PikeVM, cache: &mut Cache, text: &'t [u8], from: usize) -> Result<Vec<&'t [u8]>, AllocError>
+    requires fits { Fits cache.old vm.now.nfa }
+    requires from_in { from ≤ length text.now }
+{
+    let mut texts = Vec::new(alloc);
+    for found in vm.find_iter(cache, Input::new(text).range(from..text.len())) {
+        texts.push(&text[found.start()..found.end()])?;
+    }
+    Ok(texts)
+}
+
+// All matches, which lie in the text, and apart.
+fn collected_inside(alloc: Global, vm: &PikeVM, cache: &mut Cache, text: &[u8]) -> Result<Vec<Match>, AllocError>
+    requires { Fits cache.old vm.now.nfa }
+    ensures inside { IfOk result (λ v. All (λ m. IsInside (whole text.now) (found_of m)) v.items) }
+    ensures apart { IfOk result (λ v. AreApart (whole text.now) None (map found_of v.items)) }
+    ensures all { IfOk result (λ v. AreMatches vm.now.nfa (kind_of vm.now) false (whole text.now) (map found_of v.items)) }
+{
+    vm.find_iter(cache, Input::new(text)).collect(alloc)
+}
+
+// What the text has at each match of a list.
+fn texts_of_collected<'t>(alloc: Global, vm: &PikeVM, cache: &mut Cache, text: &'t [u8]) -> Result<Vec<&'t [u8]>, AllocError>
+    requires { Fits cache.old vm.now.nfa }
+{
+    let all = collected_inside(alloc, vm, cache, text)?;
+    let mut texts = Vec::new(alloc);
+    for found in &all {
+        texts.push(&text[found.start()..found.end()])?;
+    }
+    Ok(texts)
+}
+
+// How many of the first three matches there are. The cache fits afterwards what it fitted before.
+fn numbers_kept(vm: &PikeVM, cache: &mut Cache, text: &[u8]) -> usize
+    requires { Fits cache.old vm.now.nfa }
+    ensures numbers { SameNumbers cache.old cache.new }
+    ensures fits { Fits cache.new vm.now.nfa }
+{
+    let mut count = 0;
+    for _ in vm.find_iter(cache, Input::new(text)) {
+        count = usize::saturating_add(count, 1);
+        if count == 3 {
+            break;
+        }
+    }
+    count
+}
+
+// How many matches there are, by `count`.
+fn how_many(vm: &PikeVM, cache: &mut Cache, text: &[u8]) -> usize
+    requires { Fits cache.old vm.now.nfa }
+    ensures { (all : List Found) → AreMatches vm.now.nfa (kind_of vm.now) false (whole text.now) all → result ≡ length all }
+{
+    vm.find_iter(cache, Input::new(text)).count()
+}
+
+// The first match, after all.
+fn find_all_then_find(alloc: Global, vm: &PikeVM, cache: &mut Cache, text: &[u8]) -> Result<Option<Match>, AllocError>
+    requires { Fits cache.old vm.now.nfa }
+    ensures { Fits cache.new vm.now.nfa }
+{
+    let _all = vm.find_all(alloc, cache, Input::new(text))?;
+    Ok(vm.find(cache, Input::new(text)))
+}
+
+// All matches, which lie in the text, and apart, by a loop.
+fn looped_inside(alloc: Global, vm: &PikeVM, cache: &mut Cache, text: &[u8]) -> Result<Vec<Match>, AllocError>
+    requires { Fits cache.old vm.now.nfa }
+    ensures inside { IfOk result (λ v. All (λ m. IsInside (whole text.now) (found_of m)) v.items) }
+    ensures apart { IfOk result (λ v. AreApart (whole text.now) None (map found_of v.items)) }
+{
+    let mut found = Vec::new(alloc);
+    for item in vm.find_iter(cache, Input::new(text)) {
+        found.push(item)?;
+    }
+    Ok(found)
+}
+
+// Where the last match ends. Each starts behind the end of the one before.
+fn in_order(vm: &PikeVM, cache: &mut Cache, text: &[u8]) -> usize
+    requires { Fits cache.old vm.now.nfa }
+{
+    let mut end = 0;
+    for found in vm.find_iter(cache, Input::new(text)) {
+        let start = found.start();
+        let holds = end <= start;
+        prove!(holds);
+        end = found.end();
+    }
+    end
+}
+
+// The first match, by `next`.
+fn first_alone(vm: &PikeVM, cache: &mut Cache, text: &[u8]) -> Option<Match>
+    requires { Fits cache.old vm.now.nfa }
+    ensures { IfSome result (λ m. AreFirstMatches vm.now.nfa (kind_of vm.now) false (whole text.now) (found_of m ∷ [])) }
+{
+    let mut items = vm.find_iter(cache, Input::new(text));
+    items.next()
+}
+
+// How many matches all texts have together, with one cache.
+fn count_in_all(vm: &PikeVM, cache: &mut Cache, haystacks: &[&[u8]]) -> usize
+    requires { Fits cache.old vm.now.nfa }
+    ensures { SameNumbers cache.old cache.new }
+{
+    let mut count = 0;
+    for haystack in haystacks {
+        count = usize::saturating_add(count, vm.find_iter(cache, Input::new(haystack)).count());
+    }
+    count
+}
+
+const HAYSTACK: &[u8] = b"foo1 foo12 foo123";
+
+// A new cache for each caller.
+fn fresh(alloc: Global, vm: &PikeVM) -> Result<Cache, Fail>
+    ensures { IfOk result (λ cache. Fits cache vm.now.nfa) }
+{
+    Ok(vm.create_cache(alloc)?)
+}
+
 #[test]
-fn a_cache_fits_after_an_iteration(rt: HostRuntime) -> Result<(), Fail> {
+fn callers_list_all_matches(rt: HostRuntime) -> Result<(), Fail> {
     let alloc = rt.alloc();
     let vm = pikevm(alloc, "foo_num")?;
-    let mut cache = vm.create_cache(alloc)?;
-    assert!(rt; cache.fits(&vm));
-    let (count, found) = find_after_counting(&vm, &mut cache, b"foo1 foo12 foo123");
-    assert_eq!(rt; count, 3);
-    assert_eq!(rt; found.map(|found| found.end()), Some(4));
+    let lists = [
+        (collected(alloc, &vm, &mut fresh(alloc, &vm)?, Input::new(HAYSTACK))?, 3),
+        (collected_whole(alloc, &vm, &mut fresh(alloc, &vm)?, HAYSTACK)?, 3),
+        (looped(alloc, &vm, &mut fresh(alloc, &vm)?, HAYSTACK)?, 3),
+        (looped_inside(alloc, &vm, &mut fresh(alloc, &vm)?, HAYSTACK)?, 3),
+        (collected_inside(alloc, &vm, &mut fresh(alloc, &vm)?, HAYSTACK)?, 3),
+        (first_two(alloc, &vm, &mut fresh(alloc, &vm)?, HAYSTACK)?, 2),
+    ];
+    for (all, len) in lists {
+        assert_eq!(rt; all.len(), len);
+        for (found, want) in all.iter().zip([(0, 0, 4), (0, 5, 10), (0, 11, 17)].iter()) {
+            assert_eq!(rt; parts(*found), *want);
+        }
+    }
+    Ok(())
+}
+
+#[test]
+fn callers_slice_the_haystack(rt: HostRuntime) -> Result<(), Fail> {
+    let alloc = rt.alloc();
+    let vm = pikevm(alloc, "foo_num")?;
+    let lists = [
+        (texts(alloc, &vm, &mut fresh(alloc, &vm)?, HAYSTACK)?, 0),
+        (texts_of_collected(alloc, &vm, &mut fresh(alloc, &vm)?, HAYSTACK)?, 0),
+        (texts_of_span(alloc, &vm, &mut fresh(alloc, &vm)?, HAYSTACK, 1)?, 1),
+    ];
+    for (found, skipped) in lists {
+        let mut text = String::new(alloc);
+        for word in found {
+            write!(text, "{word:?} ")?;
+        }
+        let want = [
+            "[102, 111, 111, 49] [102, 111, 111, 49, 50] [102, 111, 111, 49, 50, 51] ",
+            "[102, 111, 111, 49, 50] [102, 111, 111, 49, 50, 51] ",
+        ];
+        assert!(rt; skipped < 2);
+        assert_eq!(rt; text.as_str(), want[skipped]);
+    }
+    assert_eq!(rt;
+        found_text(&vm, &mut fresh(alloc, &vm)?, b"x foo1"),
+        Some(b"foo1".as_slice())
+    );
+    assert!(rt; found_text(&vm, &mut fresh(alloc, &vm)?, b"x").is_none());
+    Ok(())
+}
+
+#[test]
+fn callers_count_and_search_again(rt: HostRuntime) -> Result<(), Fail> {
+    let alloc = rt.alloc();
+    let vm = pikevm(alloc, "foo_num")?;
+    let (count, first) = count_then_find(&vm, &mut fresh(alloc, &vm)?, HAYSTACK);
+    assert_eq!(rt; (count, first.map(parts)), (3, Some((0, 0, 4))));
+    assert_eq!(rt; numbers_kept(&vm, &mut fresh(alloc, &vm)?, HAYSTACK), 3);
+    assert_eq!(rt; how_many(&vm, &mut fresh(alloc, &vm)?, HAYSTACK), 3);
+    assert_eq!(rt; in_order(&vm, &mut fresh(alloc, &vm)?, HAYSTACK), 17);
+    let texts = [HAYSTACK, b"", b"foo1", b"foo"];
+    assert_eq!(rt; count_in_all(&vm, &mut fresh(alloc, &vm)?, &texts), 4);
+    let first = find_all_then_find(alloc, &vm, &mut fresh(alloc, &vm)?, HAYSTACK)?;
+    assert_eq!(rt; first.map(parts), Some((0, 0, 4)));
+    for first in [
+        ends_in_text(&vm, &mut fresh(alloc, &vm)?, HAYSTACK),
+        first_alone(&vm, &mut fresh(alloc, &vm)?, HAYSTACK),
+    ] {
+        assert_eq!(rt; first.map(parts), Some((0, 0, 4)));
+    }
+    assert_eq!(rt; pattern_of(&vm, &mut fresh(alloc, &vm)?, HAYSTACK), Some(0));
+    assert_eq!(rt; slot_in_text(&vm, &mut fresh(alloc, &vm)?, b" foo1"), Some(1));
     Ok(())
 }

@@ -1,0 +1,7 @@
+//! Both engines side by side.
+
+mod choice;
+mod grid;
+mod memory;
+mod odd;
+mod samples;
