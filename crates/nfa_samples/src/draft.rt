@@ -1,6 +1,6 @@
 use regex_search_core::{GroupInfo, PatternID, StateID};
 use std::alloc::Global;
-use thompson_nfa::{BuildError, Look, NFA, State, Transition};
+use thompson_nfa::{BuildError, Holder, Look, NFA, State, Transition};
 
 /// A state as a table has it. The last number of each but `Union` and `Match` is the state after it.
 #[derive(Clone, Copy, Debug)]
@@ -24,39 +24,40 @@ pub enum Row<'a> {
 }
 
 impl Row<'_> {
-    fn state(self, alloc: Global) -> Result<State, BuildError> {
+    /// The state of the row. `at` is its number, which an error names.
+    fn state(self, alloc: Global, at: usize) -> Result<State, BuildError> {
         Ok(match self {
             Row::Byte(byte, next) => State::ByteRange {
-                trans: transition(byte, byte, next)?,
+                trans: transition(byte, byte, next, at)?,
             },
             Row::Range(start, end, next) => State::ByteRange {
-                trans: transition(start, end, next)?,
+                trans: transition(start, end, next, at)?,
             },
-            Row::Ranges(ranges, next) => State::Sparse(transitions(alloc, ranges, next)?),
+            Row::Ranges(ranges, next) => State::Sparse(transitions(alloc, ranges, next, at)?),
             Row::Either(first, second) => State::BinaryUnion {
-                alt1: state_id(first)?,
-                alt2: state_id(second)?,
+                alt1: state_id(first, at)?,
+                alt2: state_id(second, at)?,
             },
             Row::Union(indexes) => State::Union {
-                alternates: state_ids(alloc, indexes)?,
+                alternates: state_ids(alloc, indexes, at)?,
             },
             Row::Capture(slot, next) => State::Capture {
-                next: state_id(next)?,
+                next: state_id(next, at)?,
                 slot,
             },
             Row::Assert(look, next) => State::Look {
                 look,
-                next: state_id(next)?,
+                next: state_id(next, at)?,
             },
             Row::Match(pattern) => State::Match {
-                pattern_id: PatternID::new(pattern).ok_or(BuildError::Pattern)?,
+                pattern_id: PatternID::new(pattern).ok_or(BuildError::Pattern { state: at, pattern })?,
             },
         })
     }
 }
 
-fn transition(start: u8, end: u8, next: usize) -> Result<Transition, BuildError> {
-    let next = state_id(next)?;
+fn transition(start: u8, end: u8, next: usize, at: usize) -> Result<Transition, BuildError> {
+    let next = state_id(next, at)?;
     Ok(Transition { start, end, next })
 }
 
@@ -64,22 +65,27 @@ fn transitions(
     alloc: Global,
     ranges: &[(u8, u8)],
     next: usize,
+    at: usize,
 ) -> Result<Vec<Transition>, BuildError> {
     let mut transitions = Vec::with_capacity(alloc, ranges.len())?;
     for &(start, end) in ranges {
-        transitions.push(transition(start, end, next)?)?;
+        transitions.push(transition(start, end, next, at)?)?;
     }
     Ok(transitions)
 }
 
-fn state_id(index: usize) -> Result<StateID, BuildError> {
-    StateID::new(index).ok_or(BuildError::State)
+fn state_id(index: usize, at: usize) -> Result<StateID, BuildError> {
+    numbered(index, Holder::State(at))
 }
 
-fn state_ids(alloc: Global, indexes: &[usize]) -> Result<Vec<StateID>, BuildError> {
+fn numbered(index: usize, holder: Holder) -> Result<StateID, BuildError> {
+    StateID::new(index).ok_or(BuildError::State(holder))
+}
+
+fn state_ids(alloc: Global, indexes: &[usize], at: usize) -> Result<Vec<StateID>, BuildError> {
     let mut ids = Vec::with_capacity(alloc, indexes.len())?;
     for &index in indexes {
-        ids.push(state_id(index)?)?;
+        ids.push(state_id(index, at)?)?;
     }
     Ok(ids)
 }
@@ -114,7 +120,8 @@ impl Draft {
 
     /// Adds the state of the row.
     pub fn push(&mut self, row: Row<'_>) -> Result<(), BuildError> {
-        self.states.push(row.state(self.alloc)?)?;
+        let at = self.states.len();
+        self.states.push(row.state(self.alloc, at)?)?;
         Ok(())
     }
 
@@ -153,7 +160,8 @@ impl Draft {
 
     /// The next pattern begins at the state `start`. For an NFA with no groups at all.
     pub fn bare_pattern(mut self, start: usize) -> Result<Draft, BuildError> {
-        self.starts.push(state_id(start)?)?;
+        let holder = Holder::Pattern(self.starts.len());
+        self.starts.push(numbered(start, holder)?)?;
         Ok(self)
     }
 
@@ -185,12 +193,17 @@ impl Draft {
     }
 
     fn build(self, unanchored: usize) -> Result<NFA, BuildError> {
+        let patterns = self.starts.len();
+        let too_many = BuildError::Groups {
+            groups: self.groups.len(),
+            patterns,
+        };
         NFA::from_states(
             self.states,
-            state_id(0)?,
-            state_id(unanchored)?,
+            numbered(0, Holder::Anchored)?,
+            numbered(unanchored, Holder::Unanchored)?,
             self.starts,
-            GroupInfo::new(self.groups).ok_or(BuildError::Groups)?,
+            GroupInfo::new(self.groups).ok_or(too_many)?,
             self.has_empty,
             self.utf8,
         )

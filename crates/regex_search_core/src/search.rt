@@ -4,6 +4,7 @@ ghost use Rattle.regex_search_core.specs.Boundary.{IsBoundary};
 use crate::primitives::{NonMaxUsize, PatternID};
 use crate::slots::span_in;
 use std::ops::Range;
+use thiserror::Error;
 
 /// The bytes from offset `start` up to, and not including, offset `end`.
 #[derive(Clone, Copy, Debug, PartialEq, Eq, Hash)]
@@ -324,14 +325,18 @@ impl Match {
 
 /// Why a search gave no answer, in the words of regex-automata. A finder that a caller hands in
 /// may fail by it.
-#[derive(Clone, Copy, Debug, PartialEq, Eq, Hash)]
+#[derive(Clone, Copy, Debug, PartialEq, Eq, Hash, Error)]
 pub enum MatchError {
     /// The search came to a byte, at this offset, at which it has to stop.
+    #[error("the search may not go on at the byte {byte} at offset {offset}")]
     Quit { byte: u8, offset: usize },
     /// The search stopped at this offset, since going on would not have paid.
+    #[error("the search gave up at offset {offset}")]
     GaveUp { offset: usize },
     /// The search does not take a haystack of this many bytes.
+    #[error("the haystack of {len} bytes is too long to search")]
     HaystackTooLong { len: usize },
     /// The search does not offer this binding of matches.
+    #[error("the search does not offer matches that are bound by {mode:?}")]
     UnsupportedAnchored { mode: Anchored },
 }

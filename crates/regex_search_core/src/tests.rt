@@ -340,3 +340,35 @@ fn debug_texts(rt: HostRuntime) -> Result<(), Fail> {
     }
     Ok(())
 }
+
+#[test]
+fn errors_are_told(rt: HostRuntime) -> Result<(), Fail> {
+    let alloc = rt.alloc();
+    assert_eq!(rt; format!(in alloc; "{Refused}")?.as_str(), "out of memory");
+    for &(error, want) in &[
+        (
+            MatchError::Quit {
+                byte: 255,
+                offset: 4,
+            },
+            "the search may not go on at the byte 255 at offset 4",
+        ),
+        (
+            MatchError::GaveUp { offset: 7 },
+            "the search gave up at offset 7",
+        ),
+        (
+            MatchError::HaystackTooLong { len: 32 },
+            "the haystack of 32 bytes is too long to search",
+        ),
+        (
+            MatchError::UnsupportedAnchored {
+                mode: Anchored::Yes,
+            },
+            "the search does not offer matches that are bound by Yes",
+        ),
+    ] {
+        assert_eq!(rt; format!(in alloc; "{error}")?.as_str(), want);
+    }
+    Ok(())
+}

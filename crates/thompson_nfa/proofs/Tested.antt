@@ -1,7 +1,7 @@
 -- facts of each element of a list
 use Rattle.std.specs.Prelude.{◌≡◌, ℕ, ◌+◌, ◌<◌, ◌≤◌, List, length, map, take, All, slice_index_or}
-use Rattle.std.proofs.Common.{subst}
-use Rattle.std.proofs.lemmas.List.{take_all, length-map, get_or-map}
+use Rattle.std.proofs.Common.{subst, ap, sym, ◌∙◌}
+use Rattle.std.proofs.lemmas.List.{take_all, take-map, length-map, get_or-map}
 use Rattle.std.proofs.lemmas.List.Elements.{All-more, All-map}
 
 -- one more element passes
@@ -21,3 +21,17 @@ pub passes-at : {X Y : Type 0} (P : Y → Type 0) (f : X → Y) (xs : List X) (i
 passes-at P f xs i x inside is all =
     let here : P (slice_index_or (map f xs) i (f x)) = all i (f x) (rw length-map inside) in
     rw is (subst P (get_or-map f xs i x (f x) inside) here)
+
+-- the image at the place of this element is its image
+pub image-at : {X Y : Type 0} (f : X → Y) (xs : List X) (i : ℕ) (x : X) (d : Y) → i < length xs
+    → x ≡ slice_index_or xs i x → slice_index_or (map f xs) i d ≡ f x
+image-at f xs i x d inside is = get_or-map f xs i x d inside ∙ ap f (sym is)
+
+-- the images so far pass, and the image of this element does not
+pub first-fails : {X Y : Type 0} (P : Y → Type 0) (f : X → Y) (xs : List X) (i : ℕ) (x : X) (d : Y) → i < length xs
+    → x ≡ slice_index_or xs i x → All (λ y. P (f y)) (take i xs) → ¬ P (f x)
+    → All P (take i (map f xs)) × (¬ P (slice_index_or (map f xs) i d))
+first-fails P f xs i x d inside is so_far fails = (
+  subst (All P) (sym (take-map f i xs)) (All-map P f (take i xs) so_far),
+  λ passes. fails (subst P (image-at f xs i x d inside is) passes),
+)

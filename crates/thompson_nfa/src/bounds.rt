@@ -1,6 +1,9 @@
-ghost use Rattle.std.specs.Prelude.{◌≡◌, ◌<◌, ◌↔◌, map, All, IsTrue, IfSome};
-ghost use Rattle.thompson_nfa.specs.Automaton.{AreStatesNumbered, LeadsBelow, SlotBelow, PatternBelow, node_of};
+ghost use Rattle.std.specs.Prelude.{◌≡◌, ◌<◌, ◌↔◌, map, All, IsTrue, IsNone, IfSome, Some};
+ghost use Rattle.thompson_nfa.specs.Automaton.{LeadsBelow, SlotBelow, PatternBelow, Fail, node_of};
+ghost use Rattle.thompson_nfa.specs.Built.{IsFirstFailing, NamesFirstHolder, NamesFirstSlot, NamesFirstPattern};
+ghost use Rattle.thompson_nfa.specs.Built.{slot_of, pattern_of};
 
+use crate::nfa::Holder;
 use crate::state::{State, Transition};
 use regex_search_core::StateID;
 
@@ -48,73 +51,96 @@ fn leads_below(state: &State, len: usize) -> bool
     }
 }
 
-/// Whether the state writes no slot, or one below `len`.
-fn slot_below(state: &State, len: usize) -> bool
-    ensures { IsTrue result ↔ SlotBelow len (node_of state.now) }
+/// The slot that the state writes, unless it is below `len` or there is none.
+fn slot_outside(state: &State, len: usize) -> Option<usize>
+    ensures none { IsNone result ↔ SlotBelow len (node_of state.now) }
+    ensures slot { IfSome result (λ slot. slot_of (node_of state.now) ≡ Some slot) }
 {
     match state {
-        State::Capture { slot, .. } => *slot < len,
-        _ => true,
+        State::Capture { slot, .. } if *slot >= len => Some(*slot),
+        _ => None,
     }
 }
 
-/// Whether the state matches no pattern, or one below `len`.
-fn pattern_below(state: &State, len: usize) -> bool
-    ensures { IsTrue result ↔ PatternBelow len (node_of state.now) }
+/// The pattern that the state matches, unless it is below `len` or there is none.
+fn pattern_outside(state: &State, len: usize) -> Option<usize>
+    ensures none { IsNone result ↔ PatternBelow len (node_of state.now) }
+    ensures pattern { IfSome result (λ pattern. pattern_of (node_of state.now) ≡ Some pattern) }
 {
     match state {
-        State::Match { pattern_id } => pattern_id.as_usize() < len,
-        _ => true,
+        State::Match { pattern_id } if pattern_id.as_usize() >= len => Some(pattern_id.as_usize()),
+        _ => None,
     }
 }
 
-/// Whether each of these states leads below `len` alone.
-fn all_leads_below(states: &[State], len: usize) -> bool
-    ensures { IsTrue result ↔ All (LeadsBelow len) (map node_of states.now) }
+/// The place of the first of these states that is not below `len`.
+fn first_outside(ids: &[StateID], len: usize) -> Option<usize>
+    ensures { IsFirstFailing (λ s. s < len) 0 ids.now result }
 {
-    for state in states {
+    for (index, id) in ids.iter().enumerate() {
+        if id.as_usize() >= len {
+            return Some(index);
+        }
+    }
+    None
+}
+
+/// The place of the first of these states that does not lead below `len` alone.
+fn first_leading_outside(states: &[State], len: usize) -> Option<usize>
+    ensures { IsFirstFailing (LeadsBelow len) Fail (map node_of states.now) result }
+{
+    for (index, state) in states.iter().enumerate() {
         if !leads_below(state, len) {
-            return false;
+            return Some(index);
         }
     }
-    true
+    None
 }
 
-/// Whether each slot that these states write is below `len`.
-pub(crate) fn all_slot_below(states: &[State], len: usize) -> bool
-    ensures { IsTrue result ↔ All (SlotBelow len) (map node_of states.now) }
+/// The place of the first of these states that writes a slot not below `len`, and that slot.
+pub(crate) fn first_slot_outside(states: &[State], len: usize) -> Option<(usize, usize)>
+    ensures { NamesFirstSlot len (map node_of states.now) result }
 {
-    for state in states {
-        if !slot_below(state, len) {
-            return false;
+    for (index, state) in states.iter().enumerate() {
+        if let Some(slot) = slot_outside(state, len) {
+            return Some((index, slot));
         }
     }
-    true
+    None
 }
 
-/// Whether each pattern that these states match is below `len`.
-pub(crate) fn all_pattern_below(states: &[State], len: usize) -> bool
-    ensures { IsTrue result ↔ All (PatternBelow len) (map node_of states.now) }
+/// The place of the first of these states that matches a pattern not below `len`, and that pattern.
+pub(crate) fn first_pattern_outside(states: &[State], len: usize) -> Option<(usize, usize)>
+    ensures { NamesFirstPattern len (map node_of states.now) result }
 {
-    for state in states {
-        if !pattern_below(state, len) {
-            return false;
+    for (index, state) in states.iter().enumerate() {
+        if let Some(pattern) = pattern_outside(state, len) {
+            return Some((index, pattern));
         }
     }
-    true
+    None
 }
 
-/// Whether each state number, in these states and among the starts, names one of the states.
-pub(crate) fn are_numbered(
+/// What first has a state number that names none of the states: the starts, those of the patterns, then the states.
+pub(crate) fn first_unnumbered(
     states: &[State],
     anchored: StateID,
     unanchored: StateID,
     patterns: &[StateID],
-) -> bool
-    ensures { IsTrue result ↔ AreStatesNumbered (map node_of states.now) anchored unanchored patterns.now }
+) -> Option<Holder>
+    ensures { NamesFirstHolder (map node_of states.now) anchored unanchored patterns.now result }
 {
-    anchored.as_usize() < states.len()
-        && unanchored.as_usize() < states.len()
-        && all_below(patterns, states.len())
-        && all_leads_below(states, states.len())
+    if anchored.as_usize() >= states.len() {
+        return Some(Holder::Anchored);
+    }
+    if unanchored.as_usize() >= states.len() {
+        return Some(Holder::Unanchored);
+    }
+    if let Some(pattern) = first_outside(patterns, states.len()) {
+        return Some(Holder::Pattern(pattern));
+    }
+    match first_leading_outside(states, states.len()) {
+        Some(state) => Some(Holder::State(state)),
+        None => None,
+    }
 }

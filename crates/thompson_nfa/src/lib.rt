@@ -14,5 +14,5 @@ mod state;
 mod tests;
 
 pub use look::{Look, look_matches};
-pub use nfa::{BuildError, NFA};
+pub use nfa::{BuildError, Holder, NFA};
 pub use state::{State, Transition};

@@ -3,27 +3,59 @@ ghost use Rattle.regex_search_core.specs.Groups.{names_of, slot_count};
 ghost use Rattle.regex_search_core.specs.Patterns.{number_of};
 ghost use Rattle.thompson_nfa.specs.Automaton.{Automaton, IsAutomaton, LeadsBelow, SlotBelow, PatternBelow, node_of};
 
-use crate::bounds::{all_pattern_below, all_slot_below, are_numbered};
+use crate::bounds::{first_pattern_outside, first_slot_outside, first_unnumbered};
 use crate::state::State;
 use regex_search_core::{GroupInfo, PatternID, Refused, StateID};
 use std::alloc::{AllocError, AllocFailed, Global};
+use std::fmt;
 use std::marker::Model;
+use thiserror::Error;
+
+/// What has the number of a state: a start, or a state that leads on.
+#[derive(Clone, Copy, Debug, PartialEq, Eq, Hash)]
+pub enum Holder {
+    /// The start of searches that are bound to their start.
+    Anchored,
+    /// The start of all others.
+    Unanchored,
+    /// The start of the pattern of this number.
+    Pattern(usize),
+    /// The state of this number.
+    State(usize),
+}
+
+impl fmt::Display for Holder {
+    fn fmt<W: fmt::Write>(&self, f: &mut fmt::Formatter<W>) -> fmt::Result {
+        match self {
+            Holder::Anchored => f.write_str("the anchored start"),
+            Holder::Unanchored => f.write_str("the unanchored start"),
+            Holder::Pattern(pattern) => write!(f, "the start of pattern {pattern}"),
+            Holder::State(state) => write!(f, "state {state}"),
+        }
+    }
+}
 
 /// Why an NFA was not made.
-#[derive(Clone, Copy, Debug, PartialEq, Eq, Hash)]
+#[derive(Clone, Copy, Debug, PartialEq, Eq, Hash, Error)]
 pub enum BuildError {
     /// A growth was refused.
+    #[error("out of memory")]
     Memory,
     /// There is no state.
+    #[error("there is no state")]
     Empty,
-    /// A state number is out of range, in a state or among the starts.
-    State,
-    /// A `Capture` writes a slot that no group has.
-    Slot,
-    /// A `Match` is of a pattern that has no start.
-    Pattern,
+    /// The holder has a state number that is out of range.
+    #[error("{0} leads to a state that is not there")]
+    State(Holder),
+    /// The state of this number is a `Capture` of a slot that no group has.
+    #[error("state {state} writes slot {slot}, which no group has")]
+    Slot { state: usize, slot: usize },
+    /// The state of this number is a `Match` of a pattern that has no start.
+    #[error("state {state} matches pattern {pattern}, which has no start")]
+    Pattern { state: usize, pattern: usize },
     /// The groups are of another number of patterns than have a start, and not of none.
-    Groups,
+    #[error("there are groups of {groups} patterns, and {patterns} patterns")]
+    Groups { groups: usize, patterns: usize },
 }
 
 impl From<Refused> for BuildError {
@@ -99,10 +131,11 @@ impl NFA {
     /// each pattern.
     ///
     /// It is refused by the first of these that applies, in this order: `Empty`, where there is no
-    /// state; `State`, where a state number is out of range, in a state or among the starts; `Slot`,
-    /// where a `Capture`'s slot is not below the number of slots; `Pattern`, where a `Match`'s pattern
-    /// is not below the number of patterns; `Groups`, where the groups are of another number of
-    /// patterns, and not of none.
+    /// state; `State`, where a state number is out of range, in a start, a pattern's start, or a state;
+    /// `Slot`, where a `Capture`'s slot is not below the number of slots; `Pattern`, where a `Match`'s
+    /// pattern is not below the number of patterns; `Groups`, where the groups are of another number of
+    /// patterns, and not of none. Each names the first that is wrong. It takes no memory, so the error is
+    /// never `Memory`.
     pub fn from_states(
         states: Vec<State>,
         anchored: StateID,
@@ -125,17 +158,21 @@ impl NFA {
         if states.is_empty() {
             return Err(BuildError::Empty);
         }
-        if !are_numbered(&states, anchored, unanchored, &patterns) {
-            return Err(BuildError::State);
+        if let Some(holder) = first_unnumbered(&states, anchored, unanchored, &patterns) {
+            return Err(BuildError::State(holder));
         }
-        if !all_slot_below(&states, groups.slot_len()) {
-            return Err(BuildError::Slot);
+        if let Some((state, slot)) = first_slot_outside(&states, groups.slot_len()) {
+            return Err(BuildError::Slot { state, slot });
         }
-        if !all_pattern_below(&states, patterns.len()) {
-            return Err(BuildError::Pattern);
+        if let Some((state, pattern)) = first_pattern_outside(&states, patterns.len()) {
+            return Err(BuildError::Pattern { state, pattern });
         }
-        if groups.pattern_len() != patterns.len() && groups.pattern_len() != 0 {
-            return Err(BuildError::Groups);
+        let (groups_of, with_start) = (groups.pattern_len(), patterns.len());
+        if groups_of != with_start && groups_of != 0 {
+            return Err(BuildError::Groups {
+                groups: groups_of,
+                patterns: with_start,
+            });
         }
         Ok(NFA {
             states,

@@ -1,7 +1,7 @@
 ghost use Rattle.std.specs.Prelude.{◌≡◌};
 ghost use Rattle.regex_search_core.specs.Patterns.{number_of};
 
-use crate::{BuildError, Look, NFA, State, Transition, look_matches};
+use crate::{BuildError, Holder, Look, NFA, State, Transition, look_matches};
 use regex_search_core::{GroupInfo, PatternID, StateID};
 use std::alloc::Global;
 use std::process::Abort;
@@ -181,7 +181,7 @@ fn refusals(rt: HostRuntime) -> Result<(), Fail> {
         (
             vec![in alloc; State::ByteRange { trans: on_a }]?,
             0,
-            BuildError::State,
+            BuildError::State(Holder::State(0)),
         ),
         (
             vec![in alloc;
@@ -191,7 +191,7 @@ fn refusals(rt: HostRuntime) -> Result<(), Fail> {
                 },
             ]?,
             0,
-            BuildError::Slot,
+            BuildError::Slot { state: 0, slot: 0 },
         ),
         (
             vec![in alloc;
@@ -200,7 +200,10 @@ fn refusals(rt: HostRuntime) -> Result<(), Fail> {
                 },
             ]?,
             0,
-            BuildError::Pattern,
+            BuildError::Pattern {
+                state: 0,
+                pattern: 1,
+            },
         ),
         (
             vec![in alloc;
@@ -209,13 +212,61 @@ fn refusals(rt: HostRuntime) -> Result<(), Fail> {
                 },
             ]?,
             2,
-            BuildError::Groups,
+            BuildError::Groups {
+                groups: 2,
+                patterns: 1,
+            },
         ),
     ] {
         let patterns = vec![in alloc; start]?;
         let groups = plain_groups(alloc, groups)?;
         let made = NFA::from_states(states, start, start, patterns, groups, false, false);
         assert_eq!(rt; made.err(), Some(want));
+    }
+    Ok(())
+}
+
+#[test]
+fn errors_are_told(rt: HostRuntime) -> Result<(), Fail> {
+    for &(error, want) in &[
+        (BuildError::Memory, "out of memory"),
+        (BuildError::Empty, "there is no state"),
+        (
+            BuildError::State(Holder::Anchored),
+            "the anchored start leads to a state that is not there",
+        ),
+        (
+            BuildError::State(Holder::Unanchored),
+            "the unanchored start leads to a state that is not there",
+        ),
+        (
+            BuildError::State(Holder::Pattern(2)),
+            "the start of pattern 2 leads to a state that is not there",
+        ),
+        (
+            BuildError::State(Holder::State(7)),
+            "state 7 leads to a state that is not there",
+        ),
+        (
+            BuildError::Slot { state: 7, slot: 4 },
+            "state 7 writes slot 4, which no group has",
+        ),
+        (
+            BuildError::Pattern {
+                state: 7,
+                pattern: 1,
+            },
+            "state 7 matches pattern 1, which has no start",
+        ),
+        (
+            BuildError::Groups {
+                groups: 2,
+                patterns: 1,
+            },
+            "there are groups of 2 patterns, and 1 patterns",
+        ),
+    ] {
+        assert_eq!(rt; format!(in rt.alloc(); "{error}")?.as_str(), want);
     }
     Ok(())
 }
@@ -285,8 +336,8 @@ fn debug_texts(rt: HostRuntime) -> Result<(), Fail> {
         assert_eq!(rt; format!(in alloc; "{look:?}")?.as_str(), want);
     }
     assert_eq!(rt;
-        format!(in alloc; "{:?}", BuildError::Groups)?.as_str(),
-        "Groups"
+        format!(in alloc; "{:?}", BuildError::Empty)?.as_str(),
+        "Empty"
     );
     let nfa = one_of_each(&rt, alloc)?;
     let states = [

@@ -1,0 +1,268 @@
+//! Tests of drafts: the four examples of the crate's page, the order of preference, the numbers of groups, the bytes of
+//! characters, and each error.
+use crate::{Draft, DraftError, Expr};
+use regex_search_core::PatternID;
+use std::alloc::Global;
+use std::test::Fail;
+use thompson_nfa::{BuildError, Look, NFA, State};
+
+const DIGIT: Expr<'static> = Expr::Bytes(&[(b'0', b'9')]);
+
+/// One or more digits.
+const NUMBER: Expr<'static> = Expr::Repeat {
+    min: 1,
+    max: None,
+    greedy: true,
+    part: &DIGIT,
+};
+
+const A: Expr<'static> = Expr::Literal(b"a");
+
+/// One `a` or none.
+const MAYBE_A: Expr<'static> = Expr::Repeat {
+    min: 0,
+    max: Some(1),
+    greedy: true,
+    part: &A,
+};
+
+#[test]
+fn a_word(rt: HostRuntime) -> Result<(), Fail> {
+    let nfa = Draft::new().build(rt.alloc(), &[Expr::Literal(b"foo")])?;
+    assert_eq!(rt; nfa.pattern_len(), 1);
+    assert!(rt; !nfa.has_empty() && nfa.is_utf8() && !nfa.is_always_start_anchored());
+    assert_eq!(rt; nfa.group_info().slot_len(), 2);
+    // A Match, two Captures, three bytes, and the two states of the prefix.
+    assert_eq!(rt; nfa.states().len(), 8);
+    let start = nfa.start_anchored().as_usize();
+    assert_eq!(rt; way(rt.alloc(), &nfa, start)?.as_str(), "(0 66 6F 6F 1 ) 0");
+    Ok(())
+}
+
+#[test]
+fn a_number_with_a_name(rt: HostRuntime) -> Result<(), Fail> {
+    let pattern = Expr::Concat(&[Expr::Literal(b"foo"), Expr::named("numbers", &NUMBER)]);
+    let nfa = Draft::new().build(rt.alloc(), &[pattern])?;
+    assert_eq!(rt; nfa.states().len(), 12);
+    assert_eq!(rt; nfa.group_info().slot_len(), 4);
+    Ok(())
+}
+
+#[test]
+fn several_patterns(rt: HostRuntime) -> Result<(), Fail> {
+    let lower = Expr::Bytes(&[(b'a', b'z')]);
+    let patterns = [Expr::plus(&lower), Expr::plus(&DIGIT)];
+    let nfa = Draft::new().build(rt.alloc(), &patterns)?;
+    assert_eq!(rt; nfa.pattern_len(), 2);
+    assert_eq!(rt; nfa.states().len(), 13);
+    Ok(())
+}
+
+#[test]
+fn characters_in_a_choice(rt: HostRuntime) -> Result<(), Fail> {
+    let greek = Expr::Chars(&[('α', 'ω'), ('Α', 'Ω')]);
+    let choice = Expr::Alternation(&[Expr::exactly(3, &greek), Expr::Literal(b"none")]);
+    let nfa = Draft::new().anchored().build(rt.alloc(), &[choice])?;
+    assert!(rt; nfa.is_always_start_anchored());
+    Ok(())
+}
+
+#[test]
+fn the_order_of_preference(rt: HostRuntime) -> Result<(), Fail> {
+    let alloc = rt.alloc();
+    let more = Expr::star(&A);
+    // The loop is state 2, behind the Match and the Capture of the end; the byte is state 3.
+    for &(expr, want) in &[
+        (more, "Some(BinaryUnion { alt1: StateID(3), alt2: StateID(1) })"),
+        (more.lazy(), "Some(BinaryUnion { alt1: StateID(1), alt2: StateID(3) })"),
+    ] {
+        let nfa = Draft::new().anchored().build(alloc, &[expr])?;
+        assert_eq!(rt; format!(in alloc; "{:?}", nfa.states().get(2))?.as_str(), want);
+    }
+    Ok(())
+}
+
+#[test]
+fn no_pattern_matches_nothing(rt: HostRuntime) -> Result<(), Fail> {
+    let nfa = Draft::new().anchored().build(rt.alloc(), &[])?;
+    let states = format!(in rt.alloc(); "{:?}", nfa.states())?;
+    assert_eq!(rt; states.as_str(), "[Fail]");
+    assert!(rt; !nfa.has_empty());
+    Ok(())
+}
+
+#[test]
+fn says_where_it_may_be_empty(rt: HostRuntime) -> Result<(), Fail> {
+    for &(expr, want) in &[
+        (Expr::Empty, true),
+        (A, false),
+        (Expr::Literal(b""), true),
+        (Expr::Look(Look::Start), true),
+        (DIGIT, false),
+        (Expr::Chars(&[('a', 'b')]), false),
+        (MAYBE_A, true),
+        (Expr::star(&A), true),
+        (Expr::plus(&A), false),
+        (Expr::plus(&MAYBE_A), true),
+        (Expr::group(&MAYBE_A), true),
+        (Expr::Concat(&[MAYBE_A, A]), false),
+        (Expr::Concat(&[MAYBE_A, MAYBE_A]), true),
+        (Expr::Concat(&[]), true),
+        (Expr::Alternation(&[A, MAYBE_A]), true),
+        (Expr::Alternation(&[A, A]), false),
+        (Expr::Alternation(&[]), false),
+    ] {
+        let nfa = Draft::new().build(rt.alloc(), &[expr])?;
+        assert_eq!(rt; nfa.has_empty(), want);
+    }
+    Ok(())
+}
+
+#[test]
+fn groups_count_in_the_order_in_which_they_begin(rt: HostRuntime) -> Result<(), Fail> {
+    let alloc = rt.alloc();
+    const LAST: Expr<'static> = Expr::Group {
+        name: Some("last"),
+        part: &A,
+    };
+    let parts = Expr::Concat(&[Expr::named("inner", &A), Expr::exactly(2, &LAST)]);
+    let nfa = Draft::new().build(alloc, &[Expr::group(&parts)])?;
+    let start = nfa.start_anchored().as_usize();
+    // Group 1 has the slots 2 and 3, the inner one 4 and 5, and the last one 6 and 7, twice.
+    let want = "(0 2 4 61 5 6 61 7 6 61 7 3 1 ) 0";
+    assert_eq!(rt; way(alloc, &nfa, start)?.as_str(), want);
+    for &(name, want) in &[("inner", Some(2)), ("last", Some(3)), ("none", None)] {
+        let pattern = PatternID::new(0).ok_or("a pattern's number")?;
+        assert_eq!(rt; nfa.group_info().to_index(pattern, name), want);
+    }
+    Ok(())
+}
+
+#[test]
+fn all_characters_are_the_well_formed_sequences(rt: HostRuntime) -> Result<(), Fail> {
+    let alloc = rt.alloc();
+    let all = Expr::Chars(&[('\0', '\u{10FFFF}')]);
+    let nfa = Draft::new().anchored().build(alloc, &[all])?;
+    let mut found = Vec::new(alloc);
+    for state in nfa.states() {
+        if let State::Union { alternates } = state {
+            for start in alternates {
+                found.push(way(alloc, &nfa, start.as_usize())?)?;
+            }
+        }
+    }
+    let want = [
+        "(00-7F 1 ) 0",
+        "(C2-DF 80-BF 1 ) 0",
+        "(E0 A0-BF 80-BF 1 ) 0",
+        "(E1-EC 80-BF 80-BF 1 ) 0",
+        "(ED 80-9F 80-BF 1 ) 0",
+        "(EE-EF 80-BF 80-BF 1 ) 0",
+        "(F0 90-BF 80-BF 80-BF 1 ) 0",
+        "(F1-F3 80-BF 80-BF 80-BF 1 ) 0",
+        "(F4 80-8F 80-BF 80-BF 1 ) 0",
+    ];
+    assert_eq!(rt; found.len(), want.len());
+    for (text, want) in found.iter().zip(want) {
+        assert_eq!(rt; text.as_str(), want);
+    }
+    Ok(())
+}
+
+#[test]
+fn each_mistake_is_named(rt: HostRuntime) -> Result<(), Fail> {
+    let alloc = rt.alloc();
+    let bytes = Expr::Bytes(&[(b'a', b'b'), (9, 8)]);
+    let error = Draft::new().build(alloc, &[bytes]).err();
+    assert_eq!(rt; error, Some(DraftError::ReversedBytes { start: 9, end: 8 }));
+
+    let chars = Expr::Chars(&[('b', 'a')]);
+    let error = Draft::new().build(alloc, &[chars]).err();
+    let reversed = DraftError::ReversedChars {
+        start: 'b',
+        end: 'a',
+    };
+    assert_eq!(rt; error, Some(reversed));
+
+    let counts = Expr::repeat(3, Some(2), &A);
+    let error = Draft::new().build(alloc, &[counts]).err();
+    assert_eq!(rt; error, Some(DraftError::ReversedCounts { min: 3, max: 2 }));
+
+    let twice = Expr::Concat(&[Expr::named("n", &A), Expr::named("n", &A)]);
+    let error = Draft::new().build(alloc, &[twice]).err();
+    let repeated = DraftError::RepeatedName {
+        pattern: 0,
+        group: 2,
+    };
+    assert_eq!(rt; error, Some(repeated));
+    Ok(())
+}
+
+#[test]
+fn errors_are_told(rt: HostRuntime) -> Result<(), Fail> {
+    for &(error, want) in &[
+        (DraftError::Memory, "out of memory"),
+        (
+            DraftError::ReversedBytes { start: 9, end: 8 },
+            "the range of bytes from 9 to 8 ends before it starts",
+        ),
+        (
+            DraftError::ReversedChars {
+                start: 'b',
+                end: 'a',
+            },
+            "the range of characters from 'b' to 'a' ends before it starts",
+        ),
+        (
+            DraftError::ReversedCounts { min: 3, max: 2 },
+            "a repetition of at least 3 and at most 2",
+        ),
+        (
+            DraftError::RepeatedName {
+                pattern: 1,
+                group: 2,
+            },
+            "group 2 of pattern 1 has the name of an earlier group",
+        ),
+        (DraftError::TooManyStates, "too many states"),
+        (DraftError::TooManyPatterns, "too many patterns"),
+        (DraftError::TooManyGroups, "too many groups"),
+        (
+            DraftError::States(BuildError::Empty),
+            "the states were refused: there is no state",
+        ),
+    ] {
+        assert_eq!(rt; format!(in rt.alloc(); "{error}")?.as_str(), want);
+    }
+    Ok(())
+}
+
+/// The states from this one to the first that has not one next state, as their slots in decimal and their bytes in
+/// hexadecimal, and the pattern if it is a Match.
+fn way(alloc: Global, nfa: &NFA, start: usize) -> Result<String, Fail> {
+    let mut text = String::from_str(alloc, "(")?;
+    let mut at = start;
+    for _ in 0..nfa.states().len() {
+        at = match nfa.states().get(at) {
+            Some(State::ByteRange { trans }) if trans.start == trans.end => {
+                text.push_str(format!(in alloc; "{:02X} ", trans.start)?.as_str())?;
+                trans.next.as_usize()
+            }
+            Some(State::ByteRange { trans }) => {
+                let range = format!(in alloc; "{:02X}-{:02X} ", trans.start, trans.end)?;
+                text.push_str(range.as_str())?;
+                trans.next.as_usize()
+            }
+            Some(State::Capture { next, slot }) => {
+                text.push_str(format!(in alloc; "{slot} ")?.as_str())?;
+                next.as_usize()
+            }
+            Some(State::Match { pattern_id }) => {
+                text.push_str(format!(in alloc; ") {}", pattern_id.as_usize())?.as_str())?;
+                break;
+            }
+            _ => break,
+        };
+    }
+    Ok(text)
+}
