@@ -216,7 +216,8 @@ lowered-none s t n at out = by_test (nat_le n s.end) refl
 -- and still the same but for its end
 pub same_end-down : (s t u : Search) → u ≡ record t { end = t.end - 1 } → SameButEnd s t → SameButEnd s u
 same_end-down s t u down same =
-    rw down (record { haystack = same.haystack; start = same.start; anchored = same.anchored; earliest = same.earliest })
+    rw down
+    (record { haystack = same.haystack; start = same.start; anchored = same.anchored; earliest = same.earliest })
 
 -- and not yet moved
 pub lowered-start : (s : Search) → lowered s 0 ≡ Some s
