@@ -47,7 +47,15 @@ fn main(rt: HostRuntime) -> io::Result<ExitCode> {
         Err(wrong) => wrong.text(),
     };
     out.write_all(right.as_bytes())?;
-    out.write_all(if seen.refused() { b" refused" } else { b" granted" })?;
-    out.write_all(if before.is_ok() && behind.is_ok() { b" all\n" } else { b" rest-refused\n" })?;
+    out.write_all(if seen.refused() {
+        b" refused"
+    } else {
+        b" granted"
+    })?;
+    out.write_all(if before.is_ok() && behind.is_ok() {
+        b" all\n"
+    } else {
+        b" rest-refused\n"
+    })?;
     Ok(ExitCode::from(if ended.is_ok() { 0 } else { 1 }))
 }

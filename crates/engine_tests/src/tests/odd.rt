@@ -1,8 +1,8 @@
 //! NFAs that no regular expression is compiled to, and odd inputs.
 
+use nfa_engines::pikevm::{Config, PikeVM};
 use regex_search_core::MatchKind::All;
 use regex_search_core::{Anchored, Input, PatternID, PatternSet};
-use nfa_engines::pikevm::{Config, PikeVM};
 use std::alloc::Global;
 use std::test::Fail;
 use test_support::engines::Engines;

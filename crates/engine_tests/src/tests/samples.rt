@@ -39,7 +39,11 @@ fn both_find_the_first_match_in_a_span(rt: HostRuntime) -> Result<(), Fail> {
         let mut engines = Engines::of_sample(alloc, name)?;
         let input = input_in(haystack.as_bytes(), start, end, anchored).ok_or("no span")?;
         for text in engines.match_texts(alloc, input)? {
-            assert_eq!(rt; text.as_str(), want, "{name} on {haystack:?} {start}..{end}");
+            assert_eq!(rt;
+                text.as_str(),
+                want,
+                "{name} on {haystack:?} {start}..{end}"
+            );
         }
     }
     Ok(())

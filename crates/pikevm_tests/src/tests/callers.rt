@@ -14,7 +14,12 @@ use test_support::made::pikevm;
 use test_support::text::parts;
 
 // All matches of any input, by `collect`.
-fn collected(alloc: Global, vm: &PikeVM, cache: &mut Cache, input: Input<'_>) -> Result<Vec<Match>, AllocError>
+fn collected(
+    alloc: Global,
+    vm: &PikeVM,
+    cache: &mut Cache,
+    input: Input<'_>,
+) -> Result<Vec<Match>, AllocError>
     requires { Fits cache.old vm.now.nfa }
     ensures { IfOk result (λ v. AreMatches vm.now.nfa (kind_of vm.now) (search_of input.entry).earliest (search_of input.entry) (map found_of v.items)) }
 {
@@ -22,7 +27,12 @@ fn collected(alloc: Global, vm: &PikeVM, cache: &mut Cache, input: Input<'_>) ->
 }
 
 // All matches in a text.
-fn collected_whole(alloc: Global, vm: &PikeVM, cache: &mut Cache, haystack: &[u8]) -> Result<Vec<Match>, AllocError>
+fn collected_whole(
+    alloc: Global,
+    vm: &PikeVM,
+    cache: &mut Cache,
+    haystack: &[u8],
+) -> Result<Vec<Match>, AllocError>
     requires { Fits cache.old vm.now.nfa }
     ensures { IfOk result (λ v. AreMatches vm.now.nfa (kind_of vm.now) false (whole haystack.now) (map found_of v.items)) }
 {
@@ -30,7 +40,12 @@ fn collected_whole(alloc: Global, vm: &PikeVM, cache: &mut Cache, haystack: &[u8
 }
 
 // The same, by a loop that pushes.
-fn looped(alloc: Global, vm: &PikeVM, cache: &mut Cache, haystack: &[u8]) -> Result<Vec<Match>, AllocError>
+fn looped(
+    alloc: Global,
+    vm: &PikeVM,
+    cache: &mut Cache,
+    haystack: &[u8],
+) -> Result<Vec<Match>, AllocError>
     requires { Fits cache.old vm.now.nfa }
     ensures { IfOk result (λ v. AreMatches vm.now.nfa (kind_of vm.now) false (whole haystack.now) (map found_of v.items)) }
 {
@@ -42,7 +57,12 @@ fn looped(alloc: Global, vm: &PikeVM, cache: &mut Cache, haystack: &[u8]) -> Res
 }
 
 // At most two matches, by a loop that breaks.
-fn first_two(alloc: Global, vm: &PikeVM, cache: &mut Cache, haystack: &[u8]) -> Result<Vec<Match>, AllocError>
+fn first_two(
+    alloc: Global,
+    vm: &PikeVM,
+    cache: &mut Cache,
+    haystack: &[u8],
+) -> Result<Vec<Match>, AllocError>
     requires { Fits cache.old vm.now.nfa }
     ensures { IfOk result (λ v. AreFirstMatches vm.now.nfa (kind_of vm.now) false (whole haystack.now) (map found_of v.items)) }
 {
@@ -104,7 +124,12 @@ fn slot_in_text(vm: &PikeVM, cache: &mut Cache, text: &[u8]) -> Option<usize>
 }
 
 // What the text has at each match.
-fn texts<'t>(alloc: Global, vm: &PikeVM, cache: &mut Cache, text: &'t [u8]) -> Result<Vec<&'t [u8]>, AllocError>
+fn texts<'t>(
+    alloc: Global,
+    vm: &PikeVM,
+    cache: &mut Cache,
+    text: &'t [u8],
+) -> Result<Vec<&'t [u8]>, AllocError>
     requires { Fits cache.old vm.now.nfa }
 {
     let mut texts = Vec::new(alloc);
@@ -115,7 +140,13 @@ fn texts<'t>(alloc: Global, vm: &PikeVM, cache: &mut Cache, text: &'t [u8]) -> R
 }
 
 // What the text has at each match behind a place.
-fn texts_of_span<'t>(alloc: Global, vm: &PikeVM, cache: &mut Cache, text: &'t [u8], from: usize) -> Result<Vec<&'t [u8]>, AllocError>
+fn texts_of_span<'t>(
+    alloc: Global,
+    vm: &PikeVM,
+    cache: &mut Cache,
+    text: &'t [u8],
+    from: usize,
+) -> Result<Vec<&'t [u8]>, AllocError>
     requires fits { Fits cache.old vm.now.nfa }
     requires from_in { from ≤ length text.now }
 {
@@ -127,7 +158,12 @@ fn texts_of_span<'t>(alloc: Global, vm: &PikeVM, cache: &mut Cache, text: &'t [u
 }
 
 // All matches, which lie in the text, and apart.
-fn collected_inside(alloc: Global, vm: &PikeVM, cache: &mut Cache, text: &[u8]) -> Result<Vec<Match>, AllocError>
+fn collected_inside(
+    alloc: Global,
+    vm: &PikeVM,
+    cache: &mut Cache,
+    text: &[u8],
+) -> Result<Vec<Match>, AllocError>
     requires { Fits cache.old vm.now.nfa }
     ensures inside { IfOk result (λ v. All (λ m. IsInside (whole text.now) (found_of m)) v.items) }
     ensures apart { IfOk result (λ v. AreApart (whole text.now) None (map found_of v.items)) }
@@ -137,7 +173,12 @@ fn collected_inside(alloc: Global, vm: &PikeVM, cache: &mut Cache, text: &[u8]) 
 }
 
 // What the text has at each match of a list.
-fn texts_of_collected<'t>(alloc: Global, vm: &PikeVM, cache: &mut Cache, text: &'t [u8]) -> Result<Vec<&'t [u8]>, AllocError>
+fn texts_of_collected<'t>(
+    alloc: Global,
+    vm: &PikeVM,
+    cache: &mut Cache,
+    text: &'t [u8],
+) -> Result<Vec<&'t [u8]>, AllocError>
     requires { Fits cache.old vm.now.nfa }
 {
     let all = collected_inside(alloc, vm, cache, text)?;
@@ -173,7 +214,12 @@ fn how_many(vm: &PikeVM, cache: &mut Cache, text: &[u8]) -> usize
 }
 
 // The first match, after all.
-fn find_all_then_find(alloc: Global, vm: &PikeVM, cache: &mut Cache, text: &[u8]) -> Result<Option<Match>, AllocError>
+fn find_all_then_find(
+    alloc: Global,
+    vm: &PikeVM,
+    cache: &mut Cache,
+    text: &[u8],
+) -> Result<Option<Match>, AllocError>
     requires { Fits cache.old vm.now.nfa }
     ensures { Fits cache.new vm.now.nfa }
 {
@@ -182,7 +228,12 @@ fn find_all_then_find(alloc: Global, vm: &PikeVM, cache: &mut Cache, text: &[u8]
 }
 
 // All matches, which lie in the text, and apart, by a loop.
-fn looped_inside(alloc: Global, vm: &PikeVM, cache: &mut Cache, text: &[u8]) -> Result<Vec<Match>, AllocError>
+fn looped_inside(
+    alloc: Global,
+    vm: &PikeVM,
+    cache: &mut Cache,
+    text: &[u8],
+) -> Result<Vec<Match>, AllocError>
     requires { Fits cache.old vm.now.nfa }
     ensures inside { IfOk result (λ v. All (λ m. IsInside (whole text.now) (found_of m)) v.items) }
     ensures apart { IfOk result (λ v. AreApart (whole text.now) None (map found_of v.items)) }
@@ -243,11 +294,23 @@ fn callers_list_all_matches(rt: HostRuntime) -> Result<(), Fail> {
     let alloc = rt.alloc();
     let vm = pikevm(alloc, "foo_num")?;
     let lists = [
-        (collected(alloc, &vm, &mut fresh(alloc, &vm)?, Input::new(HAYSTACK))?, 3),
-        (collected_whole(alloc, &vm, &mut fresh(alloc, &vm)?, HAYSTACK)?, 3),
+        (
+            collected(alloc, &vm, &mut fresh(alloc, &vm)?, Input::new(HAYSTACK))?,
+            3,
+        ),
+        (
+            collected_whole(alloc, &vm, &mut fresh(alloc, &vm)?, HAYSTACK)?,
+            3,
+        ),
         (looped(alloc, &vm, &mut fresh(alloc, &vm)?, HAYSTACK)?, 3),
-        (looped_inside(alloc, &vm, &mut fresh(alloc, &vm)?, HAYSTACK)?, 3),
-        (collected_inside(alloc, &vm, &mut fresh(alloc, &vm)?, HAYSTACK)?, 3),
+        (
+            looped_inside(alloc, &vm, &mut fresh(alloc, &vm)?, HAYSTACK)?,
+            3,
+        ),
+        (
+            collected_inside(alloc, &vm, &mut fresh(alloc, &vm)?, HAYSTACK)?,
+            3,
+        ),
         (first_two(alloc, &vm, &mut fresh(alloc, &vm)?, HAYSTACK)?, 2),
     ];
     for (all, len) in lists {
@@ -265,8 +328,14 @@ fn callers_slice_the_haystack(rt: HostRuntime) -> Result<(), Fail> {
     let vm = pikevm(alloc, "foo_num")?;
     let lists = [
         (texts(alloc, &vm, &mut fresh(alloc, &vm)?, HAYSTACK)?, 0),
-        (texts_of_collected(alloc, &vm, &mut fresh(alloc, &vm)?, HAYSTACK)?, 0),
-        (texts_of_span(alloc, &vm, &mut fresh(alloc, &vm)?, HAYSTACK, 1)?, 1),
+        (
+            texts_of_collected(alloc, &vm, &mut fresh(alloc, &vm)?, HAYSTACK)?,
+            0,
+        ),
+        (
+            texts_of_span(alloc, &vm, &mut fresh(alloc, &vm)?, HAYSTACK, 1)?,
+            1,
+        ),
     ];
     for (found, skipped) in lists {
         let mut text = String::new(alloc);
@@ -308,6 +377,9 @@ fn callers_count_and_search_again(rt: HostRuntime) -> Result<(), Fail> {
         assert_eq!(rt; first.map(parts), Some((0, 0, 4)));
     }
     assert_eq!(rt; pattern_of(&vm, &mut fresh(alloc, &vm)?, HAYSTACK), Some(0));
-    assert_eq!(rt; slot_in_text(&vm, &mut fresh(alloc, &vm)?, b" foo1"), Some(1));
+    assert_eq!(rt;
+        slot_in_text(&vm, &mut fresh(alloc, &vm)?, b" foo1"),
+        Some(1)
+    );
     Ok(())
 }

@@ -20,7 +20,10 @@ fn choice(alloc: Global, name: &str) -> Result<Choice, MakeError> {
 pub fn searches(alloc: Global, seen: &mut Seen) -> Result<(), Wrong> {
     let input = Input::new(b"ab");
     let mut finding = made!(seen, MakeError::Memory, choice(alloc, "groups"));
-    expect(finding.find(input).map(parts) == Some((0, 0, 2)), "the chosen match")?;
+    expect(
+        finding.find(input).map(parts) == Some((0, 0, 2)),
+        "the chosen match",
+    )?;
     let mut asking = made!(seen, MakeError::Memory, choice(alloc, "groups"));
     expect(asking.is_match(input), "whether there is a chosen match")?;
     let mut filling = made!(seen, MakeError::Memory, choice(alloc, "groups"));
@@ -43,13 +46,22 @@ pub fn lists(alloc: Global, seen: &mut Seen) -> Result<(), Wrong> {
 pub fn replacements(alloc: Global, seen: &mut Seen) -> Result<(), Wrong> {
     let mut choice = made!(seen, MakeError::Memory, choice(alloc, "abc"));
     let text = Input::new(b"abc");
-    expect(choice.find(text).map(parts) == Some((0, 0, 3)), "the old match")?;
+    expect(
+        choice.find(text).map(parts) == Some((0, 0, 3)),
+        "the old match",
+    )?;
     let groups = made!(seen, MakeError::Memory, nfa_named(alloc, "groups"));
     if let Err(error) = choice.replace(groups) {
         seen.note(error == SearchError::Memory)?;
-        expect(choice.find(text).map(parts) == Some((0, 0, 3)), "the old match after a refusal")?;
+        expect(
+            choice.find(text).map(parts) == Some((0, 0, 3)),
+            "the old match after a refusal",
+        )?;
         let groups = made!(seen, MakeError::Memory, nfa_named(alloc, "groups"));
-        expect(choice.replace(groups).is_ok(), "two refusals of a replacement")?;
+        expect(
+            choice.replace(groups).is_ok(),
+            "two refusals of a replacement",
+        )?;
     }
     let mut slots = [NonMaxUsize::new(7); 6];
     let pattern = choice.search_slots(&Input::new(b"ab"), &mut slots);

@@ -31,7 +31,10 @@ pub fn samples(alloc: Global, seen: &mut Seen) -> Result<(), Wrong> {
         let copy = made!(seen, BuildError::Memory, nfa.clone());
         for nfa in [&nfa, &copy] {
             expect(nfa.states().len() == states, "the states of a sample")?;
-            expect(nfa.group_info().slot_len() == slots, "the slots of a sample")?;
+            expect(
+                nfa.group_info().slot_len() == slots,
+                "the slots of a sample",
+            )?;
         }
     }
     Ok(())
@@ -41,13 +44,30 @@ pub fn samples(alloc: Global, seen: &mut Seen) -> Result<(), Wrong> {
 pub fn trivial_engines(alloc: Global, seen: &mut Seen) -> Result<(), Wrong> {
     let always = made!(seen, BuildError::Memory, NFA::always_match(alloc));
     let never = made!(seen, BuildError::Memory, NFA::never_match(alloc));
-    expect((always.pattern_len(), never.pattern_len()) == (1, 0), "NFAs")?;
-    let always = made!(seen, BuildError::Memory, BoundedBacktracker::always_match(alloc));
-    let never = made!(seen, BuildError::Memory, BoundedBacktracker::never_match(alloc));
-    expect((always.pattern_len(), never.pattern_len()) == (1, 0), "backtrackers")?;
+    expect(
+        (always.pattern_len(), never.pattern_len()) == (1, 0),
+        "NFAs",
+    )?;
+    let always = made!(
+        seen,
+        BuildError::Memory,
+        BoundedBacktracker::always_match(alloc)
+    );
+    let never = made!(
+        seen,
+        BuildError::Memory,
+        BoundedBacktracker::never_match(alloc)
+    );
+    expect(
+        (always.pattern_len(), never.pattern_len()) == (1, 0),
+        "backtrackers",
+    )?;
     let always = made!(seen, BuildError::Memory, PikeVM::always_match(alloc));
     let never = made!(seen, BuildError::Memory, PikeVM::never_match(alloc));
-    expect((always.pattern_len(), never.pattern_len()) == (1, 0), "PikeVMs")
+    expect(
+        (always.pattern_len(), never.pattern_len()) == (1, 0),
+        "PikeVMs",
+    )
 }
 
 /// Copies of a backtracker and of its cache, and its captures.
@@ -55,13 +75,23 @@ pub fn backtrackers(alloc: Global, seen: &mut Seen) -> Result<(), Wrong> {
     let engine = made!(seen, MakeError::Memory, backtracker(alloc, "abc_a"));
     let mut cache = engine.create_cache(alloc);
     let input = Input::new(b"xabc");
-    let found = made!(seen, SearchError::Memory, engine.try_find(&mut cache, input));
-    expect(found.map(parts) == Some((0, 1, 4)), "the match before a copy")?;
+    let found = made!(
+        seen,
+        SearchError::Memory,
+        engine.try_find(&mut cache, input)
+    );
+    expect(
+        found.map(parts) == Some((0, 1, 4)),
+        "the match before a copy",
+    )?;
     let mut copy = made!(seen, SearchError::Memory, cache.clone());
     let same = made!(seen, SearchError::Memory, engine.clone());
     for (engine, cache) in [(&engine, &mut cache), (&same, &mut copy)] {
         let found = made!(seen, SearchError::Memory, engine.try_find(cache, input));
-        expect(found.map(parts) == Some((0, 1, 4)), "the match after a copy")?;
+        expect(
+            found.map(parts) == Some((0, 1, 4)),
+            "the match after a copy",
+        )?;
     }
     let captures = made!(seen, SearchError::Memory, engine.create_captures(alloc));
     expect(captures.slots().len() == 2, "the captures of a backtracker")

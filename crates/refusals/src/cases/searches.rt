@@ -34,7 +34,10 @@ fn is_refused(
         }
         Err(error) => {
             seen.note(error == SearchError::Memory)?;
-            expect(slots.iter().all(|slot| slot.is_none()), "slots after a refusal")?;
+            expect(
+                slots.iter().all(|slot| slot.is_none()),
+                "slots after a refusal",
+            )?;
             Ok(true)
         }
     }
@@ -45,9 +48,15 @@ pub fn slots(alloc: Global, seen: &mut Seen) -> Result<(), Wrong> {
     let engine = made!(seen, MakeError::Memory, backtracker(alloc, "groups"));
     let mut cache = engine.create_cache(alloc);
     if is_refused(seen, &engine, &mut cache)? {
-        expect(!is_refused(seen, &engine, &mut cache)?, "two refusals of a search")?;
+        expect(
+            !is_refused(seen, &engine, &mut cache)?,
+            "two refusals of a search",
+        )?;
     }
-    expect(!is_refused(seen, &engine, &mut cache)?, "a refusal of a warm search")
+    expect(
+        !is_refused(seen, &engine, &mut cache)?,
+        "a refusal of a warm search",
+    )
 }
 
 /// A refused search for a match is made again.
@@ -55,10 +64,18 @@ pub fn matches(alloc: Global, seen: &mut Seen) -> Result<(), Wrong> {
     let engine = made!(seen, MakeError::Memory, backtracker(alloc, "date"));
     let input = Input::new(b"2010-03-14");
     let mut cache = engine.create_cache(alloc);
-    let found = made!(seen, SearchError::Memory, engine.try_find(&mut cache, input));
+    let found = made!(
+        seen,
+        SearchError::Memory,
+        engine.try_find(&mut cache, input)
+    );
     expect(found.map(parts) == Some((0, 0, 10)), "the match")?;
     let mut cache = engine.create_cache(alloc);
-    let found = made!(seen, SearchError::Memory, engine.try_is_match(&mut cache, input));
+    let found = made!(
+        seen,
+        SearchError::Memory,
+        engine.try_is_match(&mut cache, input)
+    );
     expect(found, "whether there is a match")
 }
 
@@ -99,5 +116,8 @@ pub fn pikevms(alloc: Global, seen: &mut Seen) -> Result<(), Wrong> {
     if !cache.fits(&vm) || !vm.is_match(&mut cache, input) || !cache.fits(&vm) {
         return Err(Wrong("whether a PikeVM finds a match"));
     }
-    expect(vm.find_iter(&mut cache, input).count() == 2, "the list of a PikeVM")
+    expect(
+        vm.find_iter(&mut cache, input).count() == 2,
+        "the list of a PikeVM",
+    )
 }
