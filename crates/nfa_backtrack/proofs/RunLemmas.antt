@@ -194,9 +194,10 @@ module _ (e : Backtracker) where
 
     pub runs-match : RunsMatch e x s
     runs-match = λ p seen from ms is.
-        let k = runs-give_items p seen from in
-        (record { come = matches-next ms (fresh x) (subst (λ (l : List (Result Match SearchError)). Next (fresh x) l) is k.0.come) },
-         λ whole. record { come = matches-last ms (fresh x) (subst (λ (l : List (Result Match SearchError)). Last (fresh x) l) is (k.1 whole).come) })
+        let k = runs-give_items p seen from in (
+          record { come = matches-next ms (fresh x) (subst (λ (l : List (Result Match SearchError)). Next (fresh x) l) is k.0.come) },
+          λ whole. record { come = matches-last ms (fresh x) (subst (λ (l : List (Result Match SearchError)). Last (fresh x) l) is (k.1 whole).come) },
+        )
 
     pub runs-inside : RunsInside x s
     runs-inside = λ p seen from. items-inside x p.items (fresh x) (omega arith) refl (runs-give_items p seen from).0.come

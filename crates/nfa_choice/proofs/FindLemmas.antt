@@ -54,11 +54,12 @@ pub record IsOf (c : Choosing) (s : Asked) : Type 0 where
 pub choice-acts : (c : Choosing) (x : Search) (s : Asked) (t : Search) (a : Answer Found) (s' : Asked)
     → SameButStart x t
     → IsOf c s → AsksByRule s t a s' → TellsMatch c.nfa (kind_in c) x.earliest t a × IsOf c s'
-choice-acts c x s t a s' same is asked =
-    (subst (λ (b : Bool). TellsMatch c.nfa (kind_in c) b t a) same.earliest
-    (subst (λ (k : MatchKind). TellsMatch c.nfa k t.earliest t a) is.kind
-    (subst (λ (n : Automaton). TellsMatch n (kind_in s.cache) t.earliest t a) is.nfa asked.finds)),
-     record { nfa = asked.keeps.nfa ∙ is.nfa; kind = ap (λ k. kind-by k) asked.keeps.match_kind ∙ is.kind })
+choice-acts c x s t a s' same is asked = (
+  subst (λ (b : Bool). TellsMatch c.nfa (kind_in c) b t a) same.earliest
+      (subst (λ (k : MatchKind). TellsMatch c.nfa k t.earliest t a) is.kind
+      (subst (λ (n : Automaton). TellsMatch n (kind_in s.cache) t.earliest t a) is.nfa asked.finds)),
+  record { nfa = asked.keeps.nfa ∙ is.nfa; kind = ap (λ k. kind-by k) asked.keeps.match_kind ∙ is.kind },
+)
   where
     kind-by : Option MatchKind → MatchKind
     kind-by k = kind_in (record c { match_kind = k })

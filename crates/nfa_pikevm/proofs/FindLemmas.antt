@@ -139,9 +139,10 @@ step-goes s r t st = of s.steps.done st
 pub pike-acts : (vm : Pike) (x : Search) (s : Asked) (t : Search) (a : Answer Found) (s' : Asked) → SameButStart x t
     → s.asker.engine.now ≡ vm → AsksPike s t a s'
     → TellsMatch vm.nfa (kind_of vm) x.earliest t a × (s'.asker.engine.now ≡ vm)
-pike-acts vm x s t a s' same is asked =
-    (subst (λ (b : Bool). TellsMatch vm.nfa (kind_of vm) b t a) same.earliest (subst (λ (e : Pike). IsFindOf e t a) is asked.finds),
-     asked.engine ∙ is)
+pike-acts vm x s t a s' same is asked = (
+  subst (λ (b : Bool). TellsMatch vm.nfa (kind_of vm) b t a) same.earliest (subst (λ (e : Pike). IsFindOf e t a) is asked.finds),
+  asked.engine ∙ is,
+)
 
 -- ---- the cache
 

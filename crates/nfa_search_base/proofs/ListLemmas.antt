@@ -246,10 +246,11 @@ module _ (tells : Search → Answer Found → Type 0)
   come-apart x w [] from to behind h = tt
   come-apart x w (Err e ∷ items) from to behind h = rw h.1 tt
   come-apart x w (Ok m ∷ items) from to behind h =
-      let k = step-lies span_of tells lies w m h.0 in
-      (record { from = omega (arith, k.0); ordered = k.1; to = omega (arith, k.2) },
-       step-behind span_of tells lies w m behind h.0,
-       come-apart x (after w (Some (span_of m))) items (omega (arith, k.0, k.1)) to (behind-after m.end) h.1)
+      let k = step-lies span_of tells lies w m h.0 in (
+        record { from = omega (arith, k.0); ordered = k.1; to = omega (arith, k.2) },
+        step-behind span_of tells lies w m behind h.0,
+        come-apart x (after w (Some (span_of m))) items (omega (arith, k.0, k.1)) to (behind-after m.end) h.1,
+      )
 
   -- the matches among the first items of a search are apart, in order, and lie in its span
   pub items-apart : (x : Search) (items : List (Item Found)) → ItemsNext span_of tells ends (fresh x) items

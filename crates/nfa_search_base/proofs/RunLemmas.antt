@@ -133,17 +133,18 @@ module _ {S X Y : Type 0} (span : X → Span) (asks : S → Search → Answer X 
           → ((steps_walk t ≡ after w (place_of span a)) ⊎ (steps_walk t ≡ after (shifted w) (place_of span a)))
           → t.done ≡ ends_at r → Says view a (ends w) r → Leads w r t
       of None a step good moved done is = subst (λ (b : Answer X). IsStep span tells w b) is step
-      of (Some (Ok y)) a step good moved done is =
-          (subst (λ (b : Answer X). IsStep span tells w b) is step,
-           record {
-             walk = elim moved [
-               | inl one ↦ one ∙ ap (λ (b : Answer X). after w (place_of span b)) is
-               | inr two ↦ two ∙ ap (λ (b : Answer X). after (shifted w) (place_of span b)) is
-             ];
-             going = done;
-             like = same_start-then x w.at (after w (Some (span (view y)))).at at.like (same_start-after w (Some (span (view y))));
-             good = good;
-           })
+      of (Some (Ok y)) a step good moved done is = (
+        subst (λ (b : Answer X). IsStep span tells w b) is step,
+        record {
+          walk = elim moved [
+            | inl one ↦ one ∙ ap (λ (b : Answer X). after w (place_of span b)) is
+            | inr two ↦ two ∙ ap (λ (b : Answer X). after (shifted w) (place_of span b)) is
+          ];
+          going = done;
+          like = same_start-then x w.at (after w (Some (span (view y)))).at at.like (same_start-after w (Some (span (view y))));
+          good = good;
+        },
+      )
       of (Some (Err e)) a step good moved done is = (is, done)
 
   -- nothing comes of an iterator that has ended

@@ -16,14 +16,12 @@ mod searcher;
 mod searches;
 mod steps;
 
-// What engines build their iterators on; users of an engine need neither.
-pub use searches::Searches;
-pub use steps::Steps;
-
 pub use captures_matches::{CapturesIter, TryCapturesIter};
 pub use half_matches::{HalfMatchesIter, TryHalfMatchesIter};
 pub use matches::{MatchesIter, TryMatchesIter};
 pub use searcher::{Offered, Searcher};
+pub use searches::Searches;
+pub use steps::Steps;
 
 #[cfg(test)]
 mod callers;

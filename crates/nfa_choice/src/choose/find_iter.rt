@@ -36,16 +36,11 @@ impl Choice {
         ensures walk { find_walk result ≡ fresh (search_of input.entry) }
         ensures going { find_is_done result ≡ false }
         // Each run of calls gives the first matches of the input, and all of them where it goes on to `None`.
-        ensures runs {
-            MatchesRun self.entry.now.nfa (kind_in self.entry.now) (search_of input.entry) find_steps result }
-        ensures are {
-            MatchesAre self.entry.now.nfa (kind_in self.entry.now) (search_of input.entry) find_steps result }
-        ensures apart {
-            MatchesApart self.entry.now.nfa (kind_in self.entry.now) (search_of input.entry) find_steps result }
-        ensures first {
-            MatchesFirst self.entry.now.nfa (kind_in self.entry.now) (search_of input.entry) find_steps result }
-        ensures next {
-            MatchesNext self.entry.now.nfa (kind_in self.entry.now) (search_of input.entry) find_steps result }
+        ensures runs { MatchesRun self.entry.now.nfa (kind_in self.entry.now) (search_of input.entry) find_steps result }
+        ensures are { MatchesAre self.entry.now.nfa (kind_in self.entry.now) (search_of input.entry) find_steps result }
+        ensures apart { MatchesApart self.entry.now.nfa (kind_in self.entry.now) (search_of input.entry) find_steps result }
+        ensures first { MatchesFirst self.entry.now.nfa (kind_in self.entry.now) (search_of input.entry) find_steps result }
+        ensures next { MatchesNext self.entry.now.nfa (kind_in self.entry.now) (search_of input.entry) find_steps result }
         ensures keeps { ChoiceGivesKept result }
     {
         ChoiceMatches {

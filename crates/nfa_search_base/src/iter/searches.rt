@@ -11,7 +11,8 @@ ghost use Rattle.nfa_search_base.specs.declared.error.SearchError.{SearchError};
 use crate::error::SearchError;
 use regex_search_core::{Input, Span};
 
-/// Whatever answers the searches of an iteration with a cache that is lent for each: an engine.
+/// Whatever answers the searches of an iteration with a cache that is lent for each: an engine. Engines
+/// build their iterators on it; who uses an engine does not need it.
 pub trait Searches: Drop {
     /// What is lent for each search.
     type Cache;

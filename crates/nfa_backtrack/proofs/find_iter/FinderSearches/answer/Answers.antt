@@ -27,8 +27,9 @@ returns c =
       finds = c.find_at-reply.ensures.finds;
       engine = refl;
       knows = known-kept c.args.self.now.engine.now (search_of c.args.input.now) c.ending_at-self.result (λ m is.
-          let k = c.ending_at-self.ensures m is in
-          (subst (λ (r : Result (Option Match) SearchError). IsFindOf e x (answer_by found_of r)) (c.found_in.ensures m k.0) c.find_at-reply.ensures.finds,
-           k.1 ∙ c.start-2.ensures));
+          let k = c.ending_at-self.ensures m is in (
+            subst (λ (r : Result (Option Match) SearchError). IsFindOf e x (answer_by found_of r)) (c.found_in.ensures m k.0) c.find_at-reply.ensures.finds,
+            k.1 ∙ c.start-2.ensures,
+          ));
       work = inr c.find_at-reply.ensures.once;
     }
