@@ -31,7 +31,7 @@ pub enum DraftError {
     /// The groups would have more slots than there are numbers for.
     #[error("too many groups")]
     TooManyGroups,
-    /// The states were refused.
+    /// The states were refused. A draft means to make none that are, so this tells of a mistake in this crate.
     #[error("the states were refused: {0}")]
     States(BuildError),
 }

@@ -1,7 +1,6 @@
 //! Tests of drafts: the four examples of the crate's page, the order of preference, the numbers of groups, the bytes of
 //! characters, and each error.
 use crate::{Draft, DraftError, Expr};
-use regex_search_core::PatternID;
 use std::alloc::Global;
 use std::test::Fail;
 use thompson_nfa::{BuildError, Look, NFA, State};
@@ -119,26 +118,6 @@ fn says_where_it_may_be_empty(rt: HostRuntime) -> Result<(), Fail> {
 }
 
 #[test]
-fn groups_count_in_the_order_in_which_they_begin(rt: HostRuntime) -> Result<(), Fail> {
-    let alloc = rt.alloc();
-    const LAST: Expr<'static> = Expr::Group {
-        name: Some("last"),
-        part: &A,
-    };
-    let parts = Expr::Concat(&[Expr::named("inner", &A), Expr::exactly(2, &LAST)]);
-    let nfa = Draft::new().build(alloc, &[Expr::group(&parts)])?;
-    let start = nfa.start_anchored().as_usize();
-    // Group 1 has the slots 2 and 3, the inner one 4 and 5, and the last one 6 and 7, twice.
-    let want = "(0 2 4 61 5 6 61 7 6 61 7 3 1 ) 0";
-    assert_eq!(rt; way(alloc, &nfa, start)?.as_str(), want);
-    for &(name, want) in &[("inner", Some(2)), ("last", Some(3)), ("none", None)] {
-        let pattern = PatternID::new(0).ok_or("a pattern's number")?;
-        assert_eq!(rt; nfa.group_info().to_index(pattern, name), want);
-    }
-    Ok(())
-}
-
-#[test]
 fn all_characters_are_the_well_formed_sequences(rt: HostRuntime) -> Result<(), Fail> {
     let alloc = rt.alloc();
     let all = Expr::Chars(&[('\0', '\u{10FFFF}')]);
@@ -170,7 +149,7 @@ fn all_characters_are_the_well_formed_sequences(rt: HostRuntime) -> Result<(), F
 }
 
 #[test]
-fn each_mistake_is_named(rt: HostRuntime) -> Result<(), Fail> {
+fn reversed_ranges_are_named(rt: HostRuntime) -> Result<(), Fail> {
     let alloc = rt.alloc();
     let bytes = Expr::Bytes(&[(b'a', b'b'), (9, 8)]);
     let error = Draft::new().build(alloc, &[bytes]).err();
@@ -183,18 +162,6 @@ fn each_mistake_is_named(rt: HostRuntime) -> Result<(), Fail> {
         end: 'a',
     };
     assert_eq!(rt; error, Some(reversed));
-
-    let counts = Expr::repeat(3, Some(2), &A);
-    let error = Draft::new().build(alloc, &[counts]).err();
-    assert_eq!(rt; error, Some(DraftError::ReversedCounts { min: 3, max: 2 }));
-
-    let twice = Expr::Concat(&[Expr::named("n", &A), Expr::named("n", &A)]);
-    let error = Draft::new().build(alloc, &[twice]).err();
-    let repeated = DraftError::RepeatedName {
-        pattern: 0,
-        group: 2,
-    };
-    assert_eq!(rt; error, Some(repeated));
     Ok(())
 }
 

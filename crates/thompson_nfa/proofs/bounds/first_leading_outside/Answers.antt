@@ -1,3 +1,4 @@
+-- the first state that leads outside
 use Rattle.std.proofs.Common.{refl}
 use Rattle.thompson_nfa.specs.Automaton.{node_of, LeadsBelow, Fail}
 use Rattle.thompson_nfa.proofs.Tested.{all-take-suc, all-map-from_take, first-fails}

@@ -1,5 +1,6 @@
+-- the first state number that is outside
 use Rattle.std.proofs.Common.{◌<◌, subst}
-use Rattle.std.specs.Prelude.{ℕ, All}
+use Rattle.std.specs.Prelude.{All}
 use Rattle.std.proofs.lemmas.List.{take_all}
 use Rattle.thompson_nfa.proofs.Tested.{all-take-suc}
 use Rattle.thompson_nfa.proofs.bounds.first_outside.Goals as goal

@@ -1,3 +1,4 @@
+-- the first state that matches a pattern outside, and that pattern
 use Rattle.std.proofs.Common.{◌∙◌, ap, refl}
 use Rattle.thompson_nfa.specs.Automaton.{node_of, PatternBelow, Fail}
 use Rattle.thompson_nfa.specs.Built.{pattern_of}

@@ -1,3 +1,4 @@
+-- the first state that writes a slot outside, and that slot
 use Rattle.std.proofs.Common.{◌∙◌, ap, refl}
 use Rattle.thompson_nfa.specs.Automaton.{node_of, SlotBelow, Fail}
 use Rattle.thompson_nfa.specs.Built.{slot_of}

@@ -1,5 +1,5 @@
 -- the codes that are left become fewer
-use Rattle.std.specs.Prelude.{ℕ, ◌+◌, ◌-◌, ◌≤◌}
+use Rattle.std.specs.Prelude.{◌+◌, ◌-◌, ◌≤◌}
 use Rattle.nfa_draft.proofs.compiler.Compiler.char_range.Given as goal
 
 abbrev pub invariant-loop-first : goal.invariant-loop-first
