@@ -7,4 +7,5 @@ use Rattle.nfa_search_base.specs.Walks.{Answer}
 -- the finder of pieces: a match of the first pattern that takes at most so many bytes from the start of the span, if
 -- the span has a start
 abbrev pub piece_answer : ℕ → Search → Answer Found
-piece_answer len s = Ok (if nat_le s.start s.end then Some (record { pattern = 0; start = s.start; end = min (s.start + len) s.end }) else None)
+piece_answer len s = Ok (if nat_le s.start s.end then Some
+    (record { pattern = 0; start = s.start; end = min (s.start + len) s.end }) else None)

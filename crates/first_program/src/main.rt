@@ -47,8 +47,9 @@ fn ab_plus(alloc: Global) -> Result<NFA> {
     states.push(bytes(0, 255, 6)?)?;
     let groups = GroupInfo::new(vec![in alloc; Vec::new(alloc)]?).context("too many groups")?;
     let patterns = vec![in alloc; state(0)?]?;
-    NFA::from_states(states, state(0)?, state(6)?, patterns, groups, false, true)
-        .map_err(|error| anyhow!("{error:?}"))
+    NFA::from_states(states, state(0)?, state(6)?, patterns, groups, false, true).map_err(
+        |error| anyhow!("{error:?}"),
+    )
 }
 
 fn main(rt: HostRuntime) -> Result<()> {

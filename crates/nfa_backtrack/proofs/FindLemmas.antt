@@ -40,15 +40,44 @@ still-fits e x y end on fits long =
 -- a search like another is that one with a start of its own
 like-is : (x t : Search) (start : ℕ) → SameButStart x t → record x { start = start } ≡ record t { start = start }
 like-is x t start same =
-    ap (λ (h : List ℕ). record { haystack = h; start = start; end = x.end; anchored = x.anchored; earliest = x.earliest }) (sym same.haystack)
-    ∙ ap (λ (e : ℕ). record { haystack = t.haystack; start = start; end = e; anchored = x.anchored; earliest = x.earliest }) (sym same.end)
-    ∙ ap (λ (a : Anchored). record { haystack = t.haystack; start = start; end = t.end; anchored = a; earliest = x.earliest }) (sym same.anchored)
-    ∙ ap (λ (e : Bool). record { haystack = t.haystack; start = start; end = t.end; anchored = t.anchored; earliest = e }) (sym same.earliest)
+    ap (λ (h : List ℕ). record {
+      haystack = h;
+      start = start;
+      end = x.end;
+      anchored = x.anchored;
+      earliest =
+          x.earliest;
+    }) (sym same.haystack)
+    ∙ ap (λ (e : ℕ). record {
+      haystack = t.haystack;
+      start = start;
+      end = e;
+      anchored = x.anchored;
+      earliest =
+          x.earliest;
+    }) (sym same.end)
+    ∙ ap (λ (a : Anchored). record {
+      haystack = t.haystack;
+      start = start;
+      end = t.end;
+      anchored = a;
+      earliest =
+          x.earliest;
+    }) (sym same.anchored)
+    ∙ ap (λ (e : Bool). record {
+      haystack = t.haystack;
+      start = start;
+      end = t.end;
+      anchored = t.anchored;
+      earliest =
+          e;
+    }) (sym same.earliest)
 
 -- what is known of searches is known of the ones like them
 known-like : (e : Backtracker) (x t : Search) (known : Option Match) → SameButStart x t → IsKnownFrom e x known
     → IsKnownFrom e t known
-known-like e x t known same knows = λ m is. subst (λ (y : Search). IsSureAt e y m) (like-is x t m.span.end same) (knows m is)
+known-like e x t known same knows = λ m is. subst (λ (y : Search). IsSureAt e y m)
+    (like-is x t m.span.end same) (knows m is)
 
 -- the match that is known answers, where it is some
 pub known-answer : (e : Backtracker) (t : Search) (known kept : Option Match) → IsKnownFrom e t known
@@ -100,7 +129,13 @@ asked-goes : (x : Search) (s : Asked) (t : Search) (a : Answer Found) (s' : Aske
 asked-goes x s t a s' same asked = known-like s'.asker.engine.now t x s'.asker.known back asked.knows
   where
     back : SameButStart t x
-    back = record { haystack = sym same.haystack; end = sym same.end; anchored = sym same.anchored; earliest = sym same.earliest }
+    back = record {
+      haystack = sym same.haystack;
+      end = sym same.end;
+      anchored = sym same.anchored;
+      earliest =
+          sym same.earliest;
+    }
 
 -- the iterator may search wherever it stands
 pub find-serves : (s : TryFindMatches) → can_step MayFind AsksBacktracker span_of (find_state s)
@@ -120,7 +155,8 @@ step-goes s r t st = of s.steps.done st
     x = (find_walk s).at
 
     of : (b : Bool) → MatchBool b ((r ≡ None) × (t ≡ find_state s))
-        (TakesStep span_of AsksBacktracker (λ q. GivesItem found_of) (find_state s).asker (find_walk s) r t.asker (steps_walk t) t.done)
+        (TakesStep span_of AsksBacktracker (λ q. GivesItem found_of) (find_state s).asker (find_walk s) r t.asker
+        (steps_walk t) t.done)
         → Goes (steps_walk t).at t.asker
     of true h = subst (λ (q : Steps Asked). Goes (steps_walk q).at q.asker) (sym h.1) s.knows
     of false h =

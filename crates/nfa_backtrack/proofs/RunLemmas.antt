@@ -88,12 +88,18 @@ module _ (e : Backtracker) where
   matches-next : (ms : List Match) (w : Walk) → Next w (oked ms)
       → ComeNext e.nfa LeftmostFirst false w (map found_of ms)
   matches-next [] w h = tt
-  matches-next (m ∷ ms) w h = (ok-step w (Some (found_of m)) h.0, matches-next ms (after w (Some (span_of (found_of m)))) h.1)
+  matches-next (m ∷ ms) w h = (
+    ok-step w (Some (found_of m)) h.0,
+    matches-next ms (after w (Some (span_of (found_of m)))) h.1,
+  )
 
   matches-last : (ms : List Match) (w : Walk) → Last w (oked ms)
       → ComeLast e.nfa LeftmostFirst false w (map found_of ms)
   matches-last [] w h = ok-step w None h
-  matches-last (m ∷ ms) w h = (ok-step w (Some (found_of m)) h.0, matches-last ms (after w (Some (span_of (found_of m)))) h.1)
+  matches-last (m ∷ ms) w h = (
+    ok-step w (Some (found_of m)) h.0,
+    matches-last ms (after w (Some (span_of (found_of m)))) h.1,
+  )
 
   -- each lies in the span
   items-inside : (x : Search) (xs : List (Result Match SearchError)) (w : Walk) → x.start ≤ w.at.start
@@ -107,7 +113,8 @@ module _ (e : Backtracker) where
       (items-inside x xs (after w (Some (span_of (found_of m)))) (omega (arith, k.0, k.1)) to h.1)
   items-inside x (Err r ∷ xs) w from to h =
       let none : xs ≡ [] = no-items xs h.1 in
-      rw none (All-cons (λ item. IfOk item (λ m. IsInside x (found_of m))) (Err r) [] tt (All-nil (λ item. IfOk item (λ m. IsInside x (found_of m)))))
+      rw none (All-cons (λ item. IfOk item (λ m. IsInside x (found_of m))) (Err r) [] tt
+      (All-nil (λ item. IfOk item (λ m. IsInside x (found_of m)))))
 
   -- the first step of a search that is too long is its refusal
   long-step : (x : Search) (a : Answer Found) → IsTooLong e x → Step (fresh x) a
@@ -128,9 +135,11 @@ module _ (e : Backtracker) where
       → xs ≡ Err (HaystackTooLong (span_len x)) ∷ []
   long-items x [] long h = let k : Ok None ≡ Err (HaystackTooLong (span_len x)) = long-step x (Ok None) long h in cc
   long-items x (Ok m ∷ xs) long h =
-      let k : Ok (Some (found_of m)) ≡ Err (HaystackTooLong (span_len x)) = long-step x (Ok (Some (found_of m))) long h.0 in cc
+      let k : Ok (Some (found_of m)) ≡ Err (HaystackTooLong (span_len x)) =
+      long-step x (Ok (Some (found_of m))) long h.0 in cc
   long-items x (Err r ∷ xs) long h =
-      let same : r ≡ HaystackTooLong (span_len x) = err-same r (HaystackTooLong (span_len x)) (long-step x (Err r) long h.0) in
+      let same : r ≡ HaystackTooLong (span_len x) =
+      err-same r (HaystackTooLong (span_len x)) (long-step x (Err r) long h.0) in
       rw (same, no-items xs h.1) refl
 
   -- an error of any other search is that of memory
@@ -166,22 +175,27 @@ module _ (e : Backtracker) where
   memory-items x (Err r ∷ xs) w fits from to h =
       let none : xs ≡ [] = no-items xs h.1 in
       let is : r ≡ Memory = memory-step w r (still-fits e x w.at to from fits) h.0 in
-      rw none (All-cons (λ item. IfErr item (λ error. error ≡ Memory)) (Err r) [] is (All-nil (λ item. IfErr item (λ error. error ≡ Memory))))
+      rw none (All-cons (λ item. IfErr item (λ error. error ≡ Memory)) (Err r) [] is
+      (All-nil (λ item. IfErr item (λ error. error ≡ Memory))))
 
-  module _ (x : Search) (s : TryFindMatches) (engine : find_engine s ≡ e) (walk : find_walk s ≡ fresh x) (going : find_is_done s ≡ false) where
+  module _ (x : Search) (s : TryFindMatches) (engine : find_engine s ≡ e) (walk : find_walk s ≡ fresh x)
+      (going : find_is_done s ≡ false) where
     abbrev core : Steps Asked → Option (Result Match SearchError) → Steps Asked → Type 0
     core = takes_steps span_of AsksBacktracker (λ q. GivesItem found_of)
 
     first-come : (xs : List (Result Match SearchError)) (t : TryFindMatches) → Yields find_steps s xs t
         → Next (fresh x) xs
     first-come xs t ran =
-        gives-first span_of AsksBacktracker (λ q. GivesItem found_of) found_of tells (Fails span_of tells) x (λ q. q.asker.engine.now ≡ e) (back-acts e x) says
-        (find_state s) walk going engine xs (find_state t) (yields-inner find_steps core find_state (λ a r b st. st.step) xs s t ran)
+        gives-first span_of AsksBacktracker (λ q. GivesItem found_of) found_of tells (Fails span_of tells) x
+        (λ q. q.asker.engine.now ≡ e) (back-acts e x) says
+        (find_state s) walk going engine xs (find_state t)
+        (yields-inner find_steps core find_state (λ a r b st. st.step) xs s t ran)
 
     all-come : (xs : List (Result Match SearchError)) (t u : TryFindMatches) → Yields find_steps s xs t
         → find_steps t None u → Last (fresh x) xs
     all-come xs t u ran st =
-        gives-all span_of AsksBacktracker (λ q. GivesItem found_of) found_of tells (Fails span_of tells) x (λ q. q.asker.engine.now ≡ e) (back-acts e x) says
+        gives-all span_of AsksBacktracker (λ q. GivesItem found_of) found_of tells (Fails span_of tells) x
+        (λ q. q.asker.engine.now ≡ e) (back-acts e x) says
         (find_state s) walk going engine xs (find_state t) (find_state u)
         (yields-inner find_steps core find_state (λ a r b st. st.step) xs s t ran) st.step
 
@@ -195,15 +209,23 @@ module _ (e : Backtracker) where
     pub runs-match : RunsMatch e x s
     runs-match = λ p seen from ms is.
         let k = runs-give_items p seen from in (
-          record { come = matches-next ms (fresh x) (subst (λ (l : List (Result Match SearchError)). Next (fresh x) l) is k.0.come) },
-          λ whole. record { come = matches-last ms (fresh x) (subst (λ (l : List (Result Match SearchError)). Last (fresh x) l) is (k.1 whole).come) },
+          record {
+            come = matches-next ms (fresh x)
+                (subst (λ (l : List (Result Match SearchError)). Next (fresh x) l) is k.0.come);
+          },
+          λ whole. record {
+            come = matches-last ms (fresh x)
+                (subst (λ (l : List (Result Match SearchError)). Last (fresh x) l) is (k.1 whole).come);
+          },
         )
 
     pub runs-inside : RunsInside x s
-    runs-inside = λ p seen from. items-inside x p.items (fresh x) (omega arith) refl (runs-give_items p seen from).0.come
+    runs-inside = λ p seen from. items-inside x p.items (fresh x) (omega arith) refl
+        (runs-give_items p seen from).0.come
 
     pub runs-apart : RunsApart x s
-    runs-apart = λ p seen from ms is. matches-apart e.nfa LeftmostFirst false x (map found_of ms) (runs-match p seen from ms is).0
+    runs-apart = λ p seen from ms is. matches-apart e.nfa LeftmostFirst false x (map found_of ms)
+        (runs-match p seen from ms is).0
 
     pub runs-refused : RunsRefused e x s
     runs-refused = λ p seen from.
@@ -215,15 +237,22 @@ module _ (e : Backtracker) where
 
     pub gives-first-matches : GivesFirstMatches e x s
     gives-first-matches = λ xs t ms ran is.
-        record { come = matches-next ms (fresh x) (subst (λ (l : List (Result Match SearchError)). Next (fresh x) l) is (first-come xs t ran)) }
+        record {
+          come = matches-next ms (fresh x)
+              (subst (λ (l : List (Result Match SearchError)). Next (fresh x) l) is (first-come xs t ran));
+        }
 
     pub gives-matches : GivesAllMatches e x s
     gives-matches = λ xs t u ms ran st is.
-        record { come = matches-last ms (fresh x) (subst (λ (l : List (Result Match SearchError)). Last (fresh x) l) is (all-come xs t u ran st)) }
+        record {
+          come = matches-last ms (fresh x)
+              (subst (λ (l : List (Result Match SearchError)). Last (fresh x) l) is (all-come xs t u ran st));
+        }
 
     pub gives-next : GivesNext e x s
     gives-next = λ xs t i u ran st. gives-first_items (xs ++ i ∷ []) u (yields-more find_steps xs s t u i ran st)
 
     pub gives-next-match : GivesNextMatch e x s
     gives-next-match = λ xs t i u ms m ran st is ok.
-        gives-first-matches (xs ++ i ∷ []) u (ms ++ m ∷ []) (yields-more find_steps xs s t u i ran st) (oks xs ms i m is ok)
+        gives-first-matches (xs ++ i ∷ []) u (ms ++ m ∷ []) (yields-more find_steps xs s t u i ran st)
+        (oks xs ms i m is ok)

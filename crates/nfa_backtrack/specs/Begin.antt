@@ -23,7 +23,8 @@ IsPutBack (Some slot) slots after = after ≡ slice_set slots slot None
 
 module _ (nfa : Automaton) (x : Search) where
   -- a walk from v goes on there, and what was tried is paid for
-  pub record BeginsAt (v : Pair) (begun : Begun) (marks : Marks) (slots : Slots) (marked : Marks) (written : Slots) : Type
+  pub record BeginsAt (v : Pair) (begun : Begun) (marks : Marks) (slots : Slots) (marked : Marks)
+      (written : Slots) : Type
       0 where
     pub place : IsPlace nfa x begun.place
     pub slot : ForSome begun.slot (λ k. k < length written)

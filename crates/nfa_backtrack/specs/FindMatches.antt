@@ -53,7 +53,8 @@ abbrev pub find_is_done : TryFindMatches → Bool
 find_is_done s = s.steps.done
 
 -- Nothing comes, and nothing changes, once it has ended; else it takes a step by searches of the backtracker.
-pub record TakesFindStep (s : TryFindMatches) (r : Option (Result Match SearchError)) (t : TryFindMatches) : Type 0 where
+pub record TakesFindStep (s : TryFindMatches) (r : Option (Result Match SearchError))
+    (t : TryFindMatches) : Type 0 where
   pub step : takes_steps span_of AsksBacktracker (λ q. GivesItem found_of) (find_state s) r (find_state t)
   pub cache : t.cache.ghost_name ≡ s.cache.ghost_name
 

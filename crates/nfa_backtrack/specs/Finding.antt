@@ -15,7 +15,8 @@ use Rattle.nfa_backtrack.specs.Backtrack.{IsTooLong}
 -- what one search for a match answers: too long a span is refused, and any other search has its match or no memory
 abbrev pub IsFindOf : Backtracker → Search → Answer Found → Type 0
 IsFindOf e x (Ok found) = ¬ (IsTooLong e x) × IsMatchAnswer e.nfa LeftmostFirst false x found
-IsFindOf e x (Err error) = (IsTooLong e x × (error ≡ HaystackTooLong (span_len x))) ⊎ (¬ (IsTooLong e x) × (error ≡ Memory))
+IsFindOf e x (Err error) = (IsTooLong e x × (error ≡ HaystackTooLong (span_len x)))
+    ⊎ (¬ (IsTooLong e x) × (error ≡ Memory))
 
 -- a match that is sure to be found, by a search that is not too long
 abbrev pub IsSureAt : Backtracker → Search → Match → Type 0

@@ -26,7 +26,8 @@ pub record AreAllItems (e : Backtracker) (x : Search) (items : List (Result Matc
   pub come : ItemsLast span_of (IsFindOf e) (Fails span_of (IsFindOf e)) (fresh x) (map (item_by found_of) items)
 
 -- Where the span is too long, its refusal alone comes; else any error is that of memory.
-pub record AreRefused (e : Backtracker) (x : Search) (whole : Type 0) (items : List (Result Match SearchError)) : Type 0 where
+pub record AreRefused (e : Backtracker) (x : Search) (whole : Type 0)
+    (items : List (Result Match SearchError)) : Type 0 where
   pub long : IsTooLong e x → whole → items ≡ Err (HaystackTooLong (span_len x)) ∷ []
   pub memory : ¬ (IsTooLong e x) → All (λ item. IfErr item (λ error. error ≡ Memory)) items
 
@@ -50,11 +51,13 @@ RunsInside x s = EachRunFrom find_steps s (λ p. All (λ item. IfOk item (λ m. 
 
 -- where they are all `Ok`, their matches are apart and in order
 abbrev pub RunsApart : Search → TryFindMatches → Type 0
-RunsApart x s = EachRunFrom find_steps s (λ p. (ms : List Match) → p.items ≡ map Ok ms → AreApart x None (map found_of ms))
+RunsApart x s = EachRunFrom find_steps s (λ p. (ms : List Match) → p.items ≡ map Ok ms
+    → AreApart x None (map found_of ms))
 
 -- the items so far are the first items
 abbrev pub GivesFirst : Backtracker → Search → TryFindMatches → Type 0
-GivesFirst e x s = (xs : List (Result Match SearchError)) (t : TryFindMatches) → Yields find_steps s xs t → AreFirstItems e x xs
+GivesFirst e x s = (xs : List (Result Match SearchError)) (t : TryFindMatches) → Yields find_steps s xs t
+    → AreFirstItems e x xs
 
 -- where they are all `Ok`, their matches are the first matches
 abbrev pub GivesFirstMatches : Backtracker → Search → TryFindMatches → Type 0
@@ -69,10 +72,12 @@ GivesAllMatches e x s = (xs : List (Result Match SearchError)) (t u : TryFindMat
 
 -- the same after an item, of the items so far and that one
 abbrev pub GivesNext : Backtracker → Search → TryFindMatches → Type 0
-GivesNext e x s = (xs : List (Result Match SearchError)) (t : TryFindMatches) (i : Result Match SearchError) (u : TryFindMatches)
+GivesNext e x s = (xs : List (Result Match SearchError)) (t : TryFindMatches) (i : Result Match SearchError)
+    (u : TryFindMatches)
     → Yields find_steps s xs t → find_steps t (Some i) u → AreFirstItems e x (xs ++ i ∷ [])
 
 abbrev pub GivesNextMatch : Backtracker → Search → TryFindMatches → Type 0
-GivesNextMatch e x s = (xs : List (Result Match SearchError)) (t : TryFindMatches) (i : Result Match SearchError) (u : TryFindMatches)
+GivesNextMatch e x s = (xs : List (Result Match SearchError)) (t : TryFindMatches) (i : Result Match SearchError)
+    (u : TryFindMatches)
     (ms : List Match) (m : Match) → Yields find_steps s xs t → find_steps t (Some i) u → xs ≡ map Ok ms → i ≡ Ok m
     → AreFirstMatches e.nfa LeftmostFirst false x (map found_of (ms ++ m ∷ []))

@@ -38,12 +38,16 @@ find-ok nfa kind earliest t (Err error) h = absurd h
 
 -- any search may be asked, and none errs
 pub choice-serves : (s : Steps Asked) → can_step_surely may_ask AsksByRule span_of s
-choice-serves s = ServesOnAlong-by may_ask AsksByRule SameButStart same_start-self same_start-then (IsSurelyInside span_of)
-    (λ (q : Asked). Unit {0}) s.asker (steps_walk s).at tt (λ q t same u. tt) (λ q t a q' same u asked. (tells q t a q' asked, tt))
+choice-serves s = ServesOnAlong-by may_ask AsksByRule SameButStart same_start-self same_start-then
+    (IsSurelyInside span_of)
+    (λ (q : Asked). Unit {0}) s.asker (steps_walk s).at tt (λ q t same u. tt)
+    (λ q t a q' same u asked. (tells q t a q' asked, tt))
   where
     tells : (q : Asked) (t : Search) (a : Answer Found) (q' : Asked) → AsksByRule q t a q' → IsSurelyInside span_of t a
-    tells q t a q' asked =
-        ((match-lies q.cache.nfa (kind_in q.cache) t.earliest t a asked.finds).0, find-ok q.cache.nfa (kind_in q.cache) t.earliest t a asked.finds)
+    tells q t a q' asked = (
+      (match-lies q.cache.nfa (kind_in q.cache) t.earliest t a asked.finds).0,
+      find-ok q.cache.nfa (kind_in q.cache) t.earliest t a asked.finds,
+    )
 
 -- what the answers depend on is that of c
 pub record IsOf (c : Choosing) (s : Asked) : Type 0 where
@@ -93,7 +97,8 @@ keeps-then a b c f g = record {
 step-keeps_choice : (s : ChoiceMatches) (r : Option Match) (t : ChoiceMatches) → find_steps s r t → KeepsChoice s t
 step-keeps_choice s r t st =
     let keeps : KeepsEngines s.choice.now t.choice.now =
-    step-keeps span_of AsksByRule (λ q. GivesItem found_of) (λ (p q : Asked). KeepsEngines p.cache q.cache) (λ q. keeps-self q.cache)
+    step-keeps span_of AsksByRule (λ q. GivesItem found_of) (λ (p q : Asked). KeepsEngines p.cache q.cache)
+    (λ q. keeps-self q.cache)
     (λ p q u f g. keeps-then p.cache q.cache u.cache f g) (λ p x a q asked. asked.keeps)
     (find_state s) (option_map (λ m. Ok m) r) (find_state t) st.step in
     record { choice = st.choice; keeps = keeps }
@@ -102,5 +107,9 @@ step-keeps_choice s r t st =
 pub gives-choice : (s : ChoiceMatches) → ChoiceGivesKept s
 gives-choice s = λ xs t r u ran st.
     calls-keep find_steps KeepsChoice (λ q. record { choice = refl; keeps = keeps-self q.choice.now })
-    (λ a b c f g. record { choice = g.choice ∙ f.choice; keeps = keeps-then a.choice.now b.choice.now c.choice.now f.keeps g.keeps })
+    (λ a b c f g. record {
+      choice = g.choice ∙ f.choice;
+      keeps =
+          keeps-then a.choice.now b.choice.now c.choice.now f.keeps g.keeps;
+    })
     step-keeps_choice s xs t r u ran st

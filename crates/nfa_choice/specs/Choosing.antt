@@ -38,7 +38,8 @@ is_leftmost_first All = false
 
 -- the search is one for the backtracker: leftmost first, not the earliest match, and of a span that is short enough
 abbrev pub is_for_backtracker : Choosing → Search → Bool
-is_for_backtracker c x = is_leftmost_first (kind_in c) && (not x.earliest && nat_le (span_len x) (max_haystack_len_of (backtracker_of c)))
+is_for_backtracker c x = is_leftmost_first (kind_in c) &&
+    (not x.earliest && nat_le (span_len x) (max_haystack_len_of (backtracker_of c)))
 
 -- the scans and turns of a search of x are within its bounds
 pub record IsBounded (nfa : Automaton) (x : Search) (scanned turned : ℕ) : Type 0 where
@@ -78,7 +79,8 @@ RunsByRule old x new = MatchBool (is_for_backtracker old x)
 
 -- one search, or a second one from one byte further on
 abbrev pub AsksOnceOrTwice : Choosing → Walk → Choosing → Type 0
-AsksOnceOrTwice old w new = RunsByRule old w.at new ⊎ ((between : Choosing) × RunsByRule old w.at between × RunsByRule between (shifted w).at new)
+AsksOnceOrTwice old w new = RunsByRule old w.at new
+    ⊎ ((between : Choosing) × RunsByRule old w.at between × RunsByRule between (shifted w).at new)
 
 -- what a search leaves as it is
 pub record KeepsEngines (old new : Choosing) : Type 0 where

@@ -30,7 +30,8 @@ pub enum Engine {
 /// A search of one NFA that takes the engine which suits, and never fails.
 ///
 /// The backtracker runs where the match kind is leftmost first, `earliest` is off and the span is at most as long as
-/// [`BoundedBacktracker::max_haystack_len`]. Where it refuses, and everywhere else, the PikeVM runs. A contract sees the
+/// [`BoundedBacktracker::max_haystack_len`]. Where it refuses, and everywhere else, the PikeVM runs. A contract sees
+/// the
 /// NFA, what was set for both, what both caches show, and which engine gave the last answer.
 #[derive(Debug, Drop)]
 pub struct Choice {
@@ -48,7 +49,14 @@ impl Model for Choice {
 
     ghost Value = { Choosing };
 
-    ghost view = { λ c. record { nfa = c.back.nfa; visited_capacity = c.back.visited_capacity; match_kind = c.pike.match_kind; back = c.back_cache; pike = c.pike_cache; ran = c.ran } };
+    ghost view = { λ c. record {
+      nfa = c.back.nfa;
+      visited_capacity = c.back.visited_capacity;
+      match_kind = c.pike.match_kind;
+      back = c.back_cache;
+      pike = c.pike_cache;
+      ran = c.ran;
+    } };
 
     ghost invariant = { λ c. (c.pike.nfa ≡ c.back.nfa) × Fits c.pike_cache c.back.nfa };
 }
@@ -155,7 +163,8 @@ impl Choice {
         input: &Input<'_>,
         slots: &mut [Option<NonMaxUsize>],
     ) -> Option<PatternID>
-        ensures answer { IsAnswer self.old.nfa (kind_in self.old) (search_of input.now).earliest (search_of input.now) (option_map number_of result) slots.new }
+        ensures answer { IsAnswer self.old.nfa (kind_in self.old) (search_of input.now).earliest (search_of input.now)
+            (option_map number_of result) slots.new }
         ensures runs { RunsByRule self.old (search_of input.now) self.new }
         ensures keeps { KeepsEngines self.old self.new }
     {
@@ -173,7 +182,8 @@ impl Choice {
     }
 
     /// Searches, and fills captures: their pattern is the one that matched, and their slots get what
-    /// [`Choice::search_slots`] gives as many slots. Their groups stay. After no match they show none: no pattern, and no
+    /// [`Choice::search_slots`] gives as many slots. Their groups stay. After no match they show none: no pattern, and
+    /// no
     /// slot set. Any captures may be handed in, those of another NFA too.
     pub fn search(&mut self, input: &Input<'_>, captures: &mut Captures)
         ensures answer { IsAnswer self.old.nfa (kind_in self.old) (search_of input.now).earliest (search_of input.now)
@@ -195,7 +205,8 @@ impl Choice {
 
     /// The match that a search answers.
     pub fn find<'h>(&mut self, input: Input<'h>) -> Option<Match>
-        ensures answer { IsMatchAnswer self.old.nfa (kind_in self.old) (search_of input.entry).earliest (search_of input.entry) (option_map found_of result) }
+        ensures answer { IsMatchAnswer self.old.nfa (kind_in self.old) (search_of input.entry).earliest (search_of input.entry)
+            (option_map found_of result) }
         ensures runs { RunsByRule self.old (search_of input.entry) self.new }
         ensures keeps { KeepsEngines self.old self.new }
     {

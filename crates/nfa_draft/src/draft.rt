@@ -21,7 +21,7 @@ pub struct Draft {
 impl Draft {
     /// Matches may start anywhere, and the NFA is in UTF-8 mode.
     pub fn new() -> Draft
-        ensures { result ≡ record { anchored = false; utf8 = true; } }
+        ensures { result ≡ record { anchored = false; utf8 = true } }
     {
         Draft {
             anchored: false,
@@ -31,7 +31,7 @@ impl Draft {
 
     /// Each search is bound to its start: the NFA has no prefix that skips bytes.
     pub fn anchored(self) -> Draft
-        ensures { result ≡ record { anchored = true; utf8 = self.utf8; } }
+        ensures { result ≡ record { anchored = true; utf8 = self.utf8 } }
     {
         Draft {
             anchored: true,
@@ -41,7 +41,7 @@ impl Draft {
 
     /// The NFA is not in UTF-8 mode, so an empty match may split a character.
     pub fn without_utf8(self) -> Draft
-        ensures { result ≡ record { anchored = self.anchored; utf8 = false; } }
+        ensures { result ≡ record { anchored = self.anchored; utf8 = false } }
     {
         Draft {
             utf8: false,

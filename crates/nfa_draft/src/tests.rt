@@ -72,11 +72,20 @@ fn the_order_of_preference(rt: HostRuntime) -> Result<(), Fail> {
     let more = Expr::star(&A);
     // The loop is state 2, behind the Match and the Capture of the end; the byte is state 3.
     for &(expr, want) in &[
-        (more, "Some(BinaryUnion { alt1: StateID(3), alt2: StateID(1) })"),
-        (more.lazy(), "Some(BinaryUnion { alt1: StateID(1), alt2: StateID(3) })"),
+        (
+            more,
+            "Some(BinaryUnion { alt1: StateID(3), alt2: StateID(1) })",
+        ),
+        (
+            more.lazy(),
+            "Some(BinaryUnion { alt1: StateID(1), alt2: StateID(3) })",
+        ),
     ] {
         let nfa = Draft::new().anchored().build(alloc, &[expr])?;
-        assert_eq!(rt; format!(in alloc; "{:?}", nfa.states().get(2))?.as_str(), want);
+        assert_eq!(rt;
+            format!(in alloc; "{:?}", nfa.states().get(2))?.as_str(),
+            want
+        );
     }
     Ok(())
 }

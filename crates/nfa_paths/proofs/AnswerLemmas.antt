@@ -42,7 +42,8 @@ pairs_from-increase state at (suc count) = (
 )
 
 -- the pairs up to a position: the first, and those behind it
-pub pairs_from-step : (state : ℕ) {at stop : ℕ} → at < stop → pairs_from state at (stop - at) ≡ (state, at) ∷ pairs_from state (at + 1) (stop - (at + 1))
+pub pairs_from-step : (state : ℕ) {at stop : ℕ} → at < stop
+    → pairs_from state at (stop - at) ≡ (state, at) ∷ pairs_from state (at + 1) (stop - (at + 1))
 pairs_from-step state {at} {stop} less =
     let e : stop - at ≡ suc (stop - (at + 1)) = omega arith in rw e refl
 
@@ -73,21 +74,31 @@ module _ (nfa : Automaton) (x : Search) where
 
   -- a bound search, or a bound NFA, starts at the first position alone
   pub starts-bound : {state : ℕ} → start_state nfa x.anchored ≡ Some state → x.start ≤ x.end
-      → (is_anchored x.anchored ≡ true) ⊎ (nfa.anchored ≡ nfa.unanchored) → starts nfa x ≡ pairs_from state x.start (x.start + 1 - x.start)
+      → (is_anchored x.anchored ≡ true) ⊎ (nfa.anchored ≡ nfa.unanchored)
+      → starts nfa x ≡ pairs_from state x.start (x.start + 1 - x.start)
   starts-bound {state} e within bound =
       let one : x.start + 1 - x.start ≡ 1 = omega arith in
       rw (e, le-ltb x.end x.start within, either bound, one) refl
     where
-      either : (is_anchored x.anchored ≡ true) ⊎ (nfa.anchored ≡ nfa.unanchored) → (is_anchored x.anchored || nfa.anchored == nfa.unanchored) ≡ true
+      either : (is_anchored x.anchored ≡ true) ⊎ (nfa.anchored ≡ nfa.unanchored)
+          → (is_anchored x.anchored || nfa.anchored == nfa.unanchored) ≡ true
       either (inl a) = or_left (is_anchored x.anchored) (nfa.anchored == nfa.unanchored) a
-      either (inr f) = or_right (is_anchored x.anchored) (nfa.anchored == nfa.unanchored) (eq-eqb nfa.anchored nfa.unanchored f)
+      either (inr f) = or_right (is_anchored x.anchored) (nfa.anchored == nfa.unanchored)
+          (eq-eqb nfa.anchored nfa.unanchored f)
 
   -- a search that is free starts at each position of its span, its end included
   pub starts-free : {state : ℕ} → start_state nfa x.anchored ≡ Some state → x.start ≤ x.end
-      → is_anchored x.anchored ≡ false → ¬ (nfa.anchored ≡ nfa.unanchored) → starts nfa x ≡ pairs_from state x.start (x.end + 1 - x.start)
+      → is_anchored x.anchored ≡ false → ¬ (nfa.anchored ≡ nfa.unanchored)
+      → starts nfa x ≡ pairs_from state x.start (x.end + 1 - x.start)
   starts-free {state} e within free apart =
       let all : x.end - x.start + 1 ≡ x.end + 1 - x.start = omega arith in
-      rw (e, le-ltb x.end x.start within, or_from (is_anchored x.anchored) (nfa.anchored == nfa.unanchored) free (ne_eqb nfa.anchored nfa.unanchored apart), all) refl
+      rw (
+        e,
+        le-ltb x.end x.start within,
+        or_from (is_anchored x.anchored) (nfa.anchored == nfa.unanchored) free
+            (ne_eqb nfa.anchored nfa.unanchored apart),
+        all,
+      ) refl
 
 -- the pairs
 
@@ -128,7 +139,8 @@ IsMatch-capture nfa v m = Match-slot (node_at nfa v.0) m
 pub accepting_order : (nfa : Automaton) (x : Search) {m n : Pair} {p q : List Pair}
     → PathTo (edges nfa x) (starts nfa x) m p → IsMatch nfa m → PathTo (edges nfa x) (starts nfa x) n q → IsMatch nfa n
     → (p ≡ q) ⊎ (ComesBefore (edges nfa x) p q ⊎ ComesBefore (edges nfa x) q p)
-accepting_order nfa x w t v u = PathTo-order (edges nfa x) (starts nfa x) (is_match nfa) (IsMatch-edges nfa x) (starts-increase nfa x) w t v u
+accepting_order nfa x w t v u = PathTo-order (edges nfa x) (starts nfa x) (is_match nfa) (IsMatch-edges nfa x)
+    (starts-increase nfa x) w t v u
 
 -- and not the other way round too
 pub accepting_order-asymmetric : (nfa : Automaton) (x : Search) (p q : List Pair)
@@ -176,7 +188,8 @@ pub never_none : {A : Type 0} (a : A) → Some a ≡ None → ⊥
 never_none a e = cc
 
 -- empty slots add nothing
-get_or-empty : (count slot : ℕ) → slot < count → (a : Option ℕ) → option_or a (get_or (replicate count None) slot None) ≡ a
+get_or-empty : (count slot : ℕ) → slot < count → (a : Option ℕ)
+    → option_or a (get_or (replicate count None) slot None) ≡ a
 get_or-empty count slot below a = rw (get_or-replicate {A = Option ℕ} count slot None None below) (option_or-None a)
 
 module _ (nfa : Automaton) where
@@ -191,25 +204,30 @@ module _ (nfa : Automaton) where
   unfolding written
   get_or-apply [] slots slot within = refl
   get_or-apply (v ∷ p) slots slot within =
-      let later = get_or-apply p (write (capture nfa v) v.1 slots) slot (rw (length-write (capture nfa v) v.1 slots) within) in
+      let later = get_or-apply p (write (capture nfa v) v.1 slots) slot
+      (rw (length-write (capture nfa v) v.1 slots) within) in
       later ∙ ap (option_or (slot_among nfa p slot)) (get_or-write (capture nfa v) v.1 slots slot within)
       ∙ sym (option_or-assoc (slot_among nfa p slot) (written (capture nfa v) v.1 slot) (get_or slots slot None))
 
   -- from empty slots a path's captures are its row
-  pub apply-slot_row : (count : ℕ) (p : List Pair) → apply (capture nfa) p (replicate count None) ≡ slot_row nfa count (Some p)
+  pub apply-slot_row : (count : ℕ) (p : List Pair)
+      → apply (capture nfa) p (replicate count None) ≡ slot_row nfa count (Some p)
   unfolding slot_row
   apply-slot_row count p =
-      let long : length (apply (capture nfa) p (replicate count None)) ≡ count = length-apply p (replicate count None) ∙ length-replicate count None in
+      let long : length (apply (capture nfa) p (replicate count None)) ≡ count = length-apply p (replicate count None)
+      ∙ length-replicate count None in
       ext_get_or None (apply (capture nfa) p (replicate count None)) (map (slot_among nfa p) (range_with_len 0 count))
       (long ∙ sym (length-map-range_with_len (slot_among nfa p) 0 count))
       (λ slot within.
       let below : slot < count = omega arith in
-      get_or-apply p (replicate count None) slot (rw length-replicate below) ∙ get_or-empty count slot below (slot_among nfa p slot)
+      get_or-apply p (replicate count None) slot (rw length-replicate below)
+      ∙ get_or-empty count slot below (slot_among nfa p slot)
       ∙ sym (get_or-map-range_with_len (slot_among nfa p) 0 count slot slot None below (omega arith)))
 
   module _ (x : Search) where
     -- a search that finds nothing: there is no accepting path
-    pub scan_none : (total : ℕ) (slots : Slots) → Answer (edges nfa x) (is_match nfa) (capture nfa) total None [] (map Explore (starts nfa x)) slots None
+    pub scan_none : (total : ℕ) (slots : Slots)
+        → Answer (edges nfa x) (is_match nfa) (capture nfa) total None [] (map Explore (starts nfa x)) slots None
         → IsScanAnswer nfa x LeftmostFirst false None
     scan_none total slots answer =
         elim (Answer-starts (edges nfa x) (is_match nfa) (capture nfa) total (starts nfa x) slots None answer) [
@@ -229,10 +247,12 @@ module _ (nfa : Automaton) where
 
     -- what a search finds is the first accepting path's
     pub scan_some : (count total : ℕ) (v : Pair) (row : Slots)
-        → Answer (edges nfa x) (is_match nfa) (capture nfa) total None [] (map Explore (starts nfa x)) (replicate count None) (Some (v, row))
+        → Answer (edges nfa x) (is_match nfa) (capture nfa) total None [] (map Explore (starts nfa x))
+        (replicate count None) (Some (v, row))
         → FindsPath count total v row
     scan_some count total v row answer =
-        elim (Answer-starts (edges nfa x) (is_match nfa) (capture nfa) total (starts nfa x) (replicate count None) (Some (v, row)) answer) [
+        elim (Answer-starts (edges nfa x) (is_match nfa) (capture nfa) total (starts nfa x) (replicate count None)
+        (Some (v, row)) answer) [
           | inl k ↦
               let first = IsLeast-first (edges nfa x) (starts nfa x) (is_match nfa) (IsMatch-edges nfa x) k.0
               (IsLeast-from_first (edges nfa x) (is_match nfa) (starts nfa x) (starts-increase nfa x) (Some k.0) k.1) in
@@ -251,12 +271,15 @@ module _ (nfa : Automaton) where
 -- a path's end, and boundaries
 
 -- a path ends on a boundary where its last pair stands on one
-pub ends_on_boundary : (x : Search) (p : List Pair) {v : Pair} → last_of p ≡ Some v → EndsOnBoundary x p ↔ IsBoundary x.haystack v.1
+pub ends_on_boundary : (x : Search) (p : List Pair) {v : Pair} → last_of p ≡ Some v
+    → EndsOnBoundary x p ↔ IsBoundary x.haystack v.1
 ends_on_boundary x [] e = absurd (never_none _ (sym e))
 ends_on_boundary x (w ∷ p) e = of w p e
   where
-    of : (w : Pair) (p : List Pair) {v : Pair} → last_or (Some w) p ≡ Some v → EndsOnBoundary x (w ∷ p) ↔ IsBoundary x.haystack v.1
-    of w [] {v} e = let k : w.1 ≡ v.1 = ap (λ (z : Pair). z.1) (let same_pair : w ≡ v = cc in same_pair) in rw k (λ h. h, λ h. h)
+    of : (w : Pair) (p : List Pair) {v : Pair} → last_or (Some w) p ≡ Some v
+        → EndsOnBoundary x (w ∷ p) ↔ IsBoundary x.haystack v.1
+    of w [] {v} e = let k : w.1 ≡ v.1 = ap (λ (z : Pair). z.1) (let same_pair : w ≡ v = cc in same_pair) in
+        rw k (λ h. h, λ h. h)
     of w (u ∷ p) e = of u p e
 
 -- raised starts
@@ -267,7 +290,8 @@ raised-zero x = let e : x.start + 0 ≡ x.start = omega arith in ap (λ (s : ℕ
 
 -- a start raised once more
 pub raised-raised : (x : Search) (i : ℕ) → raised (raised x i) 1 ≡ raised x (i + 1)
-raised-raised x i = let e : x.start + i + 1 ≡ x.start + (i + 1) = omega arith in ap (λ (s : ℕ). record x { start = s }) e
+raised-raised x i = let e : x.start + i + 1 ≡ x.start + (i + 1) = omega arith in
+    ap (λ (s : ℕ). record x { start = s }) e
 
 -- the edges are the same wherever the search starts
 pub edges-raised : (nfa : Automaton) (x : Search) (i : ℕ) (v : Pair) → edges nfa (raised x i) v ≡ edges nfa x v
@@ -289,8 +313,10 @@ module _ (nfa : Automaton) where
   -- a scan has one answer
   pub scan_answer-unique : (x : Search) (kind : MatchKind) (earliest : Bool) (r s : Option (List Pair))
       → IsScanAnswer nfa x kind earliest r → IsScanAnswer nfa x kind earliest s → r ≡ s
-  scan_answer-unique x LeftmostFirst false r s h k = IsFirstPath-unique (edges nfa x) (starts nfa x) (IsMatch nfa) r s h k
-  scan_answer-unique x LeftmostFirst true r s h k = IsEarliestPath-unique (edges nfa x) (starts nfa x) (IsMatch nfa) r s h k
+  scan_answer-unique x LeftmostFirst false r s h k =
+      IsFirstPath-unique (edges nfa x) (starts nfa x) (IsMatch nfa) r s h k
+  scan_answer-unique x LeftmostFirst true r s h k =
+      IsEarliestPath-unique (edges nfa x) (starts nfa x) (IsMatch nfa) r s h k
   scan_answer-unique x All false r s h k = IsLastPath-unique (edges nfa x) (starts nfa x) (IsMatch nfa) r s h k
   scan_answer-unique x All true r s h k = IsEarliestLastPath-unique (edges nfa x) (starts nfa x) (IsMatch nfa) r s h k
 
@@ -301,19 +327,32 @@ module _ (nfa : Automaton) where
     pub matches : IsMatch nfa end
 
   -- the answer of a scan, of whichever kind, is a path to a match
-  pub scan_answer-leads : (x : Search) (kind : MatchKind) (earliest : Bool) (p : List Pair) → IsScanAnswer nfa x kind earliest (Some p) → LeadsToMatch x p
+  pub scan_answer-leads : (x : Search) (kind : MatchKind) (earliest : Bool) (p : List Pair)
+      → IsScanAnswer nfa x kind earliest (Some p) → LeadsToMatch x p
   scan_answer-leads x LeftmostFirst false p h = record { end = h.end; path = h.path; matches = h.wanted }
   scan_answer-leads x LeftmostFirst true p h = record { end = h.2.end; path = h.2.path; matches = h.2.wanted.wanted }
   scan_answer-leads x All false p h =
-      record { end = h.2.end; path = PathTo-along (edges nfa x) (starts nfa x) h.2.first.wanted h.2.first.path; matches = h.2.wanted.wanted }
+      record {
+        end = h.2.end;
+        path = PathTo-along (edges nfa x) (starts nfa x) h.2.first.wanted h.2.first.path;
+        matches = h.2.wanted.wanted;
+      }
   scan_answer-leads x All true p h =
-      record { end = h.2.end; path = PathTo-along (edges nfa x) (starts nfa x) h.2.first.wanted h.2.first.path; matches = h.2.wanted.wanted }
+      record {
+        end = h.2.end;
+        path = PathTo-along (edges nfa x) (starts nfa x) h.2.first.wanted h.2.first.path;
+        matches = h.2.wanted.wanted;
+      }
 
   -- a scan with a path starts within its span
-  pub scan_answer-within : (x : Search) (kind : MatchKind) (earliest : Bool) (p : List Pair) → IsScanAnswer nfa x kind earliest (Some p) → x.start ≤ x.end
+  pub scan_answer-within : (x : Search) (kind : MatchKind) (earliest : Bool) (p : List Pair)
+      → IsScanAnswer nfa x kind earliest (Some p) → x.start ≤ x.end
   scan_answer-within x kind earliest p h =
       let path = (scan_answer-leads x kind earliest p h).path in
-      elim (cases_lt x.end x.start) [ inl past ↦ absurd (rw (starts-none nfa x past) at path.among) | inr within ↦ within ]
+      elim (cases_lt x.end x.start) [
+        | inl past ↦ absurd (rw (starts-none nfa x past) at path.among)
+        | inr within ↦ within
+      ]
 
   module _ (kind : MatchKind) (earliest : Bool) where
     -- a scan whose answer splits a character starts within its span
@@ -321,22 +360,27 @@ module _ (nfa : Automaton) where
     SplitsCharacter-within {x} h = scan_answer-within x kind earliest h.path h.answers
 
     -- as many scans split a character as starts are left, at most
-    skipped-bound : (x : Search) (n : ℕ) → ((i : ℕ) → i < n → SplitsCharacter nfa kind earliest (raised x i)) → n + 1 ≤ span_len x + 2
+    skipped-bound : (x : Search) (n : ℕ) → ((i : ℕ) → i < n → SplitsCharacter nfa kind earliest (raised x i))
+        → n + 1 ≤ span_len x + 2
     skipped-bound x zero skipped = omega arith
     skipped-bound x (suc n) skipped =
         let last : x.start + n ≤ x.end = SplitsCharacter-within (skipped n (omega arith)) in omega arith
 
     -- a scan whose answer splits a character has no answer that is whole
-    SplitsCharacter-whole : (x : Search) (r : Option (List Pair)) → SplitsCharacter nfa kind earliest x → IsScanAnswer nfa x kind earliest r → IsWhole x r → ⊥
-    SplitsCharacter-whole x None h answers whole = never_none h.path (scan_answer-unique x kind earliest (Some h.path) None h.answers answers)
+    SplitsCharacter-whole : (x : Search) (r : Option (List Pair)) → SplitsCharacter nfa kind earliest x
+        → IsScanAnswer nfa x kind earliest r → IsWhole x r → ⊥
+    SplitsCharacter-whole x None h answers whole =
+        never_none h.path (scan_answer-unique x kind earliest (Some h.path) None h.answers answers)
     SplitsCharacter-whole x (Some p) h answers whole =
-        h.splits (subst (EndsOnBoundary x) (same_some p h.path (scan_answer-unique x kind earliest (Some p) (Some h.path) answers h.answers)) whole)
+        h.splits (subst (EndsOnBoundary x) (same_some p h.path
+        (scan_answer-unique x kind earliest (Some p) (Some h.path) answers h.answers)) whole)
       where
         same_some : (p q : List Pair) → Some p ≡ Some q → p ≡ q
         same_some p q e = cc
 
     -- an anchored search has one answer
-    IsKeptAnswer-unique : (x : Search) (r s : Option (List Pair)) → IsKeptAnswer nfa kind earliest x r → IsKeptAnswer nfa kind earliest x s → r ≡ s
+    IsKeptAnswer-unique : (x : Search) (r s : Option (List Pair)) → IsKeptAnswer nfa kind earliest x r
+        → IsKeptAnswer nfa kind earliest x s → r ≡ s
     IsKeptAnswer-unique x None None h k = refl
     IsKeptAnswer-unique x None (Some q) h k =
         elim h [
@@ -353,7 +397,8 @@ module _ (nfa : Automaton) where
     -- the restarts stop at the first scan that is whole
     IsRestartedAnswer-first : (x : Search) (i j : ℕ) (r s : Option (List Pair))
         → IsRestartedAnswer nfa kind earliest x i r → IsRestartedAnswer nfa kind earliest x j s → i < j → ⊥
-    IsRestartedAnswer-first x i j r s h k less = SplitsCharacter-whole (raised x i) r (k.skipped i less) h.answers h.whole
+    IsRestartedAnswer-first x i j r s h k less =
+        SplitsCharacter-whole (raised x i) r (k.skipped i less) h.answers h.whole
 
     -- a search that restarts has one answer, after one number of restarts
     IsRestartedAnswer-unique : (x : Search) (i j : ℕ) (r s : Option (List Pair))
@@ -365,8 +410,11 @@ module _ (nfa : Automaton) where
               elim (cases_lt j i) [
                 | inl less ↦ absurd (IsRestartedAnswer-first x j i s r k h less)
                 | inr same_count ↦
-                    let e : i ≡ j = omega arith in
-                    (e, scan_answer-unique (raised x j) kind earliest r s (subst (λ n. IsScanAnswer nfa (raised x n) kind earliest r) e h.answers) k.answers)
+                    let e : i ≡ j = omega arith in (
+                      e,
+                      scan_answer-unique (raised x j) kind earliest r s
+                          (subst (λ n. IsScanAnswer nfa (raised x n) kind earliest r) e h.answers) k.answers,
+                    )
               ]
         ]
 
@@ -376,19 +424,24 @@ module _ (nfa : Automaton) where
     search_answer-unique x i j r s = of (is_utf8_empty nfa) (is_anchored x.anchored)
       where
         of : (b c : Bool)
-            → MatchBool b (MatchBool c ((i ≡ 0) × IsKeptAnswer nfa kind earliest x r) (IsRestartedAnswer nfa kind earliest x i r)) ((i ≡ 0) × IsScanAnswer nfa x kind earliest r)
-            → MatchBool b (MatchBool c ((j ≡ 0) × IsKeptAnswer nfa kind earliest x s) (IsRestartedAnswer nfa kind earliest x j s)) ((j ≡ 0) × IsScanAnswer nfa x kind earliest s)
+            → MatchBool b (MatchBool c ((i ≡ 0) × IsKeptAnswer nfa kind earliest x r)
+            (IsRestartedAnswer nfa kind earliest x i r)) ((i ≡ 0) × IsScanAnswer nfa x kind earliest r)
+            → MatchBool b (MatchBool c ((j ≡ 0) × IsKeptAnswer nfa kind earliest x s)
+            (IsRestartedAnswer nfa kind earliest x j s)) ((j ≡ 0) × IsScanAnswer nfa x kind earliest s)
             → (i ≡ j) × (r ≡ s)
         of true true h k = (h.0 ∙ sym k.0, IsKeptAnswer-unique x r s h.1 k.1)
         of true false h k = IsRestartedAnswer-unique x i j r s h k
         of false c h k = (h.0 ∙ sym k.0, scan_answer-unique x kind earliest r s h.1 k.1)
 
     -- the scans of a search are within the limit
-    pub restarts_bound : (x : Search) (restarts : ℕ) (path : Option (List Pair)) → IsSearchAnswer nfa kind earliest x restarts path → restarts + 1 ≤ scan_limit nfa x
+    pub restarts_bound : (x : Search) (restarts : ℕ) (path : Option (List Pair))
+        → IsSearchAnswer nfa kind earliest x restarts path → restarts + 1 ≤ scan_limit nfa x
     restarts_bound x restarts path = of (is_utf8_empty nfa) (is_anchored x.anchored)
       where
         of : (b c : Bool)
-            → MatchBool b (MatchBool c ((restarts ≡ 0) × IsKeptAnswer nfa kind earliest x path) (IsRestartedAnswer nfa kind earliest x restarts path)) ((restarts ≡ 0) × IsScanAnswer nfa x kind earliest path)
+            → MatchBool b (MatchBool c ((restarts ≡ 0) × IsKeptAnswer nfa kind earliest x path)
+            (IsRestartedAnswer nfa kind earliest x restarts path))
+            ((restarts ≡ 0) × IsScanAnswer nfa x kind earliest path)
             → restarts + 1 ≤ cond (b && not c) (span_len x + 2) 1
         of true true h = let e : restarts ≡ 0 = h.0 in omega arith
         of true false h = skipped-bound x restarts h.skipped
@@ -405,7 +458,8 @@ module _ (nfa : Automaton) where
       split-within_scans restarts path answers =
           let restarted : IsRestartedAnswer nfa kind earliest x restarts path = rw (empty, free) at answers in
           elim (cases_lt restarts k) [
-            | inl less ↦ absurd (SplitsCharacter-whole (raised x restarts) path (skipped restarts less) restarted.answers restarted.whole)
+            | inl less ↦ absurd (SplitsCharacter-whole (raised x restarts) path (skipped restarts less)
+                restarted.answers restarted.whole)
             | inr more ↦ omega arith
           ]
 

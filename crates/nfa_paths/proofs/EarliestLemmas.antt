@@ -1,4 +1,5 @@
--- What an input says of `earliest` changes no path: only the kind of answer that is asked for does. And whether there is a match.
+-- What an input says of `earliest` changes no path: only the kind of answer that is asked for does. And whether there
+-- is a match.
 use Rattle.std.proofs.Common.{◌≡◌, ℕ, inl, inr, Bool, true, false, List, [], ◌∷◌, refl, subst}
 use Rattle.std.specs.Prelude.{Option, None, Some, is_some, not, MatchBool}
 use Rattle.std.proofs.lemmas.Bool.{cases_Bool}
@@ -40,7 +41,8 @@ module _ (nfa : Automaton) where
       all : edges nfa (asked x sooner) ≡ edges nfa x
       all = λ i v. edges-asked nfa x sooner v i
 
-      of : (kind : MatchKind) (earliest : Bool) → IsScanAnswer nfa (asked x sooner) kind earliest r → IsScanAnswer nfa x kind earliest r
+      of : (kind : MatchKind) (earliest : Bool) → IsScanAnswer nfa (asked x sooner) kind earliest r
+          → IsScanAnswer nfa x kind earliest r
       of LeftmostFirst false = subst (λ es. IsFirstPath es (starts nfa x) (IsMatch nfa) r) all
       of LeftmostFirst true = subst (λ es. IsEarliestPath es (starts nfa x) (IsMatch nfa) r) all
       of All false = subst (λ es. IsLastPath es (starts nfa x) (IsMatch nfa) r) all
@@ -48,19 +50,22 @@ module _ (nfa : Automaton) where
 
   module _ (kind : MatchKind) (earliest : Bool) where
     -- a path ends on a boundary of the same haystack
-    EndsOnBoundary-asked : (x : Search) (sooner : Bool) (p : List Pair) → EndsOnBoundary (asked x sooner) p → EndsOnBoundary x p
+    EndsOnBoundary-asked : (x : Search) (sooner : Bool) (p : List Pair) → EndsOnBoundary (asked x sooner) p
+        → EndsOnBoundary x p
     EndsOnBoundary-asked x sooner [] h = h
     EndsOnBoundary-asked x sooner (v ∷ []) h = h
     EndsOnBoundary-asked x sooner (v ∷ (w ∷ p)) h = EndsOnBoundary-asked x sooner (w ∷ p) h
 
     -- and the other way round
-    EndsOnBoundary-unasked : (x : Search) (sooner : Bool) (p : List Pair) → EndsOnBoundary x p → EndsOnBoundary (asked x sooner) p
+    EndsOnBoundary-unasked : (x : Search) (sooner : Bool) (p : List Pair) → EndsOnBoundary x p
+        → EndsOnBoundary (asked x sooner) p
     EndsOnBoundary-unasked x sooner [] h = h
     EndsOnBoundary-unasked x sooner (v ∷ []) h = h
     EndsOnBoundary-unasked x sooner (v ∷ (w ∷ p)) h = EndsOnBoundary-unasked x sooner (w ∷ p) h
 
     -- an answer that splits a character
-    SplitsCharacter-asked : (x : Search) (sooner : Bool) → SplitsCharacter nfa kind earliest (asked x sooner) → SplitsCharacter nfa kind earliest x
+    SplitsCharacter-asked : (x : Search) (sooner : Bool) → SplitsCharacter nfa kind earliest (asked x sooner)
+        → SplitsCharacter nfa kind earliest x
     SplitsCharacter-asked x sooner h = record {
       path = h.path;
       answers = scan_answer-asked x sooner kind earliest (Some h.path) h.answers;
@@ -68,13 +73,17 @@ module _ (nfa : Automaton) where
     }
 
     -- an answer of a search that keeps to its start
-    IsKeptAnswer-asked : (x : Search) (sooner : Bool) (r : Option (List Pair)) → IsKeptAnswer nfa kind earliest (asked x sooner) r → IsKeptAnswer nfa kind earliest x r
+    IsKeptAnswer-asked : (x : Search) (sooner : Bool) (r : Option (List Pair))
+        → IsKeptAnswer nfa kind earliest (asked x sooner) r → IsKeptAnswer nfa kind earliest x r
     IsKeptAnswer-asked x sooner None h =
         elim h [
           | inl none ↦ inl (scan_answer-asked x sooner kind earliest None none)
           | inr split ↦ inr (SplitsCharacter-asked x sooner split)
         ]
-    IsKeptAnswer-asked x sooner (Some p) h = (scan_answer-asked x sooner kind earliest (Some p) h.0, EndsOnBoundary-asked x sooner p h.1)
+    IsKeptAnswer-asked x sooner (Some p) h = (
+      scan_answer-asked x sooner kind earliest (Some p) h.0,
+      EndsOnBoundary-asked x sooner p h.1,
+    )
 
     -- an answer after restarts
     IsRestartedAnswer-asked : (x : Search) (sooner : Bool) (n : ℕ) (r : Option (List Pair))
@@ -95,16 +104,19 @@ module _ (nfa : Automaton) where
     search_answer-asked x sooner n r = of (is_utf8_empty nfa) (is_anchored x.anchored)
       where
         of : (b c : Bool)
-            → MatchBool b (MatchBool c ((n ≡ 0) × IsKeptAnswer nfa kind earliest (asked x sooner) r) (IsRestartedAnswer nfa kind earliest (asked x sooner) n r))
+            → MatchBool b (MatchBool c ((n ≡ 0) × IsKeptAnswer nfa kind earliest (asked x sooner) r)
+            (IsRestartedAnswer nfa kind earliest (asked x sooner) n r))
             ((n ≡ 0) × IsScanAnswer nfa (asked x sooner) kind earliest r)
-            → MatchBool b (MatchBool c ((n ≡ 0) × IsKeptAnswer nfa kind earliest x r) (IsRestartedAnswer nfa kind earliest x n r))
+            → MatchBool b (MatchBool c ((n ≡ 0) × IsKeptAnswer nfa kind earliest x r)
+            (IsRestartedAnswer nfa kind earliest x n r))
             ((n ≡ 0) × IsScanAnswer nfa x kind earliest r)
         of true true h = (h.0, IsKeptAnswer-asked x sooner r h.1)
         of true false h = IsRestartedAnswer-asked x sooner n r h
         of false c h = (h.0, scan_answer-asked x sooner kind earliest r h.1)
 
   -- where a match may end anywhere, a scan's answer is the search's
-  scan_answer-search : (kind : MatchKind) (earliest : Bool) (x : Search) (r : Option (List Pair)) → is_utf8_empty nfa ≡ false
+  scan_answer-search : (kind : MatchKind) (earliest : Bool) (x : Search) (r : Option (List Pair))
+      → is_utf8_empty nfa ≡ false
       → IsScanAnswer nfa x kind earliest r → IsSearchAnswer nfa kind earliest x 0 r
   scan_answer-search kind earliest x r anywhere h = rw anywhere (refl, h)
 
@@ -120,7 +132,8 @@ module _ (nfa : Automaton) where
           found_is = refl;
         }
         | inr anywhere ↦
-            let sooner : IsSearchAnswer nfa kind true x n p = subst (λ b. IsSearchAnswer nfa kind (not b) x n p) anywhere h in
+            let sooner : IsSearchAnswer nfa kind true x n p =
+            subst (λ b. IsSearchAnswer nfa kind (not b) x n p) anywhere h in
             let scan : (n ≡ 0) × IsScanAnswer nfa x kind true p = rw anywhere at sooner in
             let meant = is_match-agrees nfa x kind anywhere p scan.1 in
             record {

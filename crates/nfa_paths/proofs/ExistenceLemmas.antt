@@ -26,7 +26,8 @@ all_pairs zero count = []
 all_pairs (suc state) count = pairs_from state 0 count ++ all_pairs state count
 
 -- each position of the row is there
-In-pairs_from : (state at count : ℕ) (v : Pair) → v.0 ≡ state → at ≤ v.1 → v.1 < at + count → In v (pairs_from state at count)
+In-pairs_from : (state at count : ℕ) (v : Pair) → v.0 ≡ state → at ≤ v.1 → v.1 < at + count
+    → In v (pairs_from state at count)
 In-pairs_from state at zero v is from below = absurd (omega arith)
 In-pairs_from state at (suc count) v is from below =
     elim (ℕ_discrete v.1 at) [
@@ -40,8 +41,10 @@ unfolding all_pairs
 In-all_pairs zero count v state below = absurd (omega arith)
 In-all_pairs (suc s) count v state below =
     elim (ℕ_discrete v.0 s) [
-      | yes is ↦ In-append_left v (pairs_from s 0 count) (all_pairs s count) (In-pairs_from s 0 count v is (omega arith) (omega arith))
-      | no other ↦ In-append_right v (pairs_from s 0 count) (all_pairs s count) (In-all_pairs s count v (omega arith) below)
+      | yes is ↦ In-append_left v (pairs_from s 0 count) (all_pairs s count)
+          (In-pairs_from s 0 count v is (omega arith) (omega arith))
+      | no other ↦ In-append_right v (pairs_from s 0 count) (all_pairs s count)
+          (In-all_pairs s count v (omega arith) below)
     ]
 
 module _ (nfa : Automaton) where
@@ -89,14 +92,18 @@ module _ (nfa : Automaton) where
         ]
 
     -- every scan has an answer, of each kind
-    pub scan_answer-exists : (kind : MatchKind) (earliest : Bool) → (path : Option (List Pair)) × IsScanAnswer nfa x kind earliest path
-    scan_answer-exists LeftmostFirst false = first_path_exists pairs_finite (is_match nfa) (IsMatch-edges nfa x) matches_in
-    scan_answer-exists LeftmostFirst true = earliest_path_exists pairs_finite (is_match nfa) (IsMatch-edges nfa x) matches_in
+    pub scan_answer-exists : (kind : MatchKind) (earliest : Bool) → (path : Option (List Pair))
+        × IsScanAnswer nfa x kind earliest path
+    scan_answer-exists LeftmostFirst false = first_path_exists pairs_finite (is_match nfa)
+        (IsMatch-edges nfa x) matches_in
+    scan_answer-exists LeftmostFirst true = earliest_path_exists pairs_finite (is_match nfa)
+        (IsMatch-edges nfa x) matches_in
     scan_answer-exists All false = last_path_exists pairs_finite (is_match nfa) (IsMatch-edges nfa x) matches_in
     scan_answer-exists All true = earliest_last_path_exists pairs_finite (is_match nfa) (IsMatch-edges nfa x) matches_in
 
     -- a scan that answers none, of whichever kind, says that no path leads to a match
-    pub scan_answer-none : (kind : MatchKind) (earliest : Bool) → IsScanAnswer nfa x kind earliest None → NoPath (edges nfa x) (starts nfa x) (IsMatch nfa)
+    pub scan_answer-none : (kind : MatchKind) (earliest : Bool) → IsScanAnswer nfa x kind earliest None
+        → NoPath (edges nfa x) (starts nfa x) (IsMatch nfa)
     scan_answer-none LeftmostFirst false h = h
     scan_answer-none LeftmostFirst true h = h
     scan_answer-none All false h = h
@@ -107,13 +114,16 @@ module _ (nfa : Automaton) where
         → IsScanAnswer nfa x kind earliest r → IsScanAnswer nfa x other sooner s → is_some r ≡ is_some s
     scan_answers-agree kind other earliest sooner None None h k = refl
     scan_answers-agree kind other earliest sooner None (Some q) h k =
-        let leads = scan_answer-leads nfa x other sooner q k in absurd (scan_answer-none kind earliest h leads.end q leads.path leads.matches)
+        let leads = scan_answer-leads nfa x other sooner q k in
+        absurd (scan_answer-none kind earliest h leads.end q leads.path leads.matches)
     scan_answers-agree kind other earliest sooner (Some p) None h k =
-        let leads = scan_answer-leads nfa x kind earliest p h in absurd (scan_answer-none other sooner k leads.end p leads.path leads.matches)
+        let leads = scan_answer-leads nfa x kind earliest p h in
+        absurd (scan_answer-none other sooner k leads.end p leads.path leads.matches)
     scan_answers-agree kind other earliest sooner (Some p) (Some q) h k = refl
 
     -- so do searches, where a match may end anywhere
-    pub search_answers-agree : is_utf8_empty nfa ≡ false → (kind other : MatchKind) (earliest sooner : Bool) (i j : ℕ) (r s : Option (List Pair))
+    pub search_answers-agree : is_utf8_empty nfa ≡ false
+        → (kind other : MatchKind) (earliest sooner : Bool) (i j : ℕ) (r s : Option (List Pair))
         → IsSearchAnswer nfa kind earliest x i r → IsSearchAnswer nfa other sooner x j s → is_some r ≡ is_some s
     search_answers-agree anywhere kind other earliest sooner i j r s h k =
         let first : (i ≡ 0) × IsScanAnswer nfa x kind earliest r = rw anywhere at h in
@@ -133,12 +143,18 @@ module _ (nfa : Automaton) where
                   elim (cases_lt 0x7F (slice_index haystack i)) [
                     | inl high ↦
                         elim (cases_lt (slice_index haystack i) 0xC0) [
-                          | inl low ↦ inr (λ b. elim b [ inl end ↦ other end | inr h ↦ elim h.1 [ inl l ↦ omega arith | inr m ↦ omega arith ] ])
+                          | inl low ↦ inr (λ b. elim b [
+                            | inl end ↦ other end
+                            | inr h ↦ elim h.1 [ inl l ↦ omega arith | inr m ↦ omega arith ]
+                          ])
                           | inr lead ↦ inl (inr (within, inr lead))
                         ]
                     | inr ascii ↦ inl (inr (within, inl ascii))
                   ]
-              | inr past ↦ inr (λ b. elim b [ inl end ↦ other end | inr h ↦ let k : i < length haystack = h.0 in omega arith ])
+              | inr past ↦ inr (λ b. elim b [
+                | inl end ↦ other end
+                | inr h ↦ let k : i < length haystack = h.0 in omega arith
+              ])
             ]
       ]
 
@@ -150,11 +166,13 @@ module _ (nfa : Automaton) where
 
   module _ (kind : MatchKind) (earliest : Bool) where
     -- a scan splits a character, or has an answer that is whole
-    scan-cases : (x : Search) → SplitsCharacter nfa kind earliest x ⊎ ((r : Option (List Pair)) × IsScanAnswer nfa x kind earliest r × IsWhole x r)
+    scan-cases : (x : Search) → SplitsCharacter nfa kind earliest x
+        ⊎ ((r : Option (List Pair)) × IsScanAnswer nfa x kind earliest r × IsWhole x r)
     scan-cases x = let r = scan_answer-exists x kind earliest in of r.0 r.1
       where
         of : (r : Option (List Pair)) → IsScanAnswer nfa x kind earliest r
-            → SplitsCharacter nfa kind earliest x ⊎ ((r : Option (List Pair)) × IsScanAnswer nfa x kind earliest r × IsWhole x r)
+            → SplitsCharacter nfa kind earliest x ⊎ ((r : Option (List Pair))
+            × IsScanAnswer nfa x kind earliest r × IsWhole x r)
         of None h = inr (None, h, tt)
         of (Some p) h =
             elim (EndsOnBoundary-cases x p) [
@@ -170,7 +188,8 @@ module _ (nfa : Automaton) where
           | inr h ↦ of h.0 h.1 h.2
         ]
       where
-        of : (r : Option (List Pair)) → IsScanAnswer nfa x kind earliest r → IsWhole x r → (r : Option (List Pair)) × IsKeptAnswer nfa kind earliest x r
+        of : (r : Option (List Pair)) → IsScanAnswer nfa x kind earliest r → IsWhole x r → (r : Option (List Pair))
+            × IsKeptAnswer nfa kind earliest x r
         of None h whole = (None, inl h)
         of (Some p) h whole = (Some p, (h, whole))
 
@@ -180,7 +199,8 @@ module _ (nfa : Automaton) where
         → (n : ℕ) × (r : Option (List Pair)) × IsRestartedAnswer nfa kind earliest x n r
     restarted_from x zero restarts few skipped =
         elim (scan-cases (raised x restarts)) [
-          | inl split ↦ let k : x.start + restarts ≤ x.end = scan_answer-within nfa (raised x restarts) kind earliest split.path split.answers in absurd (omega arith)
+          | inl split ↦ let k : x.start + restarts ≤ x.end =
+              scan_answer-within nfa (raised x restarts) kind earliest split.path split.answers in absurd (omega arith)
           | inr h ↦ (restarts, h.0, record { skipped = skipped; answers = h.1; whole = h.2 })
         ]
     restarted_from x (suc left) restarts few skipped =
@@ -189,26 +209,31 @@ module _ (nfa : Automaton) where
           | inr h ↦ (restarts, h.0, record { skipped = skipped; answers = h.1; whole = h.2 })
         ]
       where
-        one_more : SplitsCharacter nfa kind earliest (raised x restarts) → (i : ℕ) → i < restarts + 1 → SplitsCharacter nfa kind earliest (raised x i)
+        one_more : SplitsCharacter nfa kind earliest (raised x restarts) → (i : ℕ) → i < restarts + 1
+            → SplitsCharacter nfa kind earliest (raised x i)
         one_more split i below =
             elim (cases_lt i restarts) [
               | inl less ↦ skipped i less
-              | inr more ↦ let is : restarts ≡ i = omega arith in subst (λ k. SplitsCharacter nfa kind earliest (raised x k)) is split
+              | inr more ↦ let is : restarts ≡ i = omega arith in
+                  subst (λ k. SplitsCharacter nfa kind earliest (raised x k)) is split
             ]
 
     -- every search has an answer, after some restarts
-    pub search_answer-exists : (x : Search) → (restarts : ℕ) × (path : Option (List Pair)) × IsSearchAnswer nfa kind earliest x restarts path
+    pub search_answer-exists : (x : Search) → (restarts : ℕ) × (path : Option (List Pair))
+        × IsSearchAnswer nfa kind earliest x restarts path
     search_answer-exists x = of (is_utf8_empty nfa) (is_anchored x.anchored)
       where
         of : (b c : Bool) → (restarts : ℕ) × (path : Option (List Pair))
-            × MatchBool b (MatchBool c ((restarts ≡ 0) × IsKeptAnswer nfa kind earliest x path) (IsRestartedAnswer nfa kind earliest x restarts path))
+            × MatchBool b (MatchBool c ((restarts ≡ 0) × IsKeptAnswer nfa kind earliest x path)
+            (IsRestartedAnswer nfa kind earliest x restarts path))
             ((restarts ≡ 0) × IsScanAnswer nfa x kind earliest path)
         of true true = let r = kept_answer-exists x in (0, r.0, (refl, r.1))
         of true false = restarted_from x (x.end + 1) 0 (omega arith) (λ i below. absurd (omega arith))
         of false c = let r = scan_answer-exists x kind earliest in (0, r.0, (refl, r.1))
 
   -- where a match may end anywhere, the earliest path and the one that is meant are both there or both none
-  pub is_match-agrees : (x : Search) (kind : MatchKind) → is_utf8_empty nfa ≡ false → (p : Option (List Pair)) → IsScanAnswer nfa x kind true p
+  pub is_match-agrees : (x : Search) (kind : MatchKind) → is_utf8_empty nfa ≡ false → (p : Option (List Pair))
+      → IsScanAnswer nfa x kind true p
       → (q : Option (List Pair)) × IsScanAnswer nfa x kind false q × (is_some p ≡ is_some q)
   is_match-agrees x kind anywhere p h =
       let r = scan_answer-exists x kind false in (r.0, r.1, scan_answers-agree x kind kind true false p r.0 h r.1)

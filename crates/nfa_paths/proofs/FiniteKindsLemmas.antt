@@ -18,12 +18,19 @@ Earlier-transitive [] a b c h k = h
 Earlier-transitive (e ∷ es) a b c h k =
     elim k.1 [
       | inl here ↦ absurd (h.0 here)
-      | inr later ↦ (k.0, elim h.1 [ inl first ↦ inl first | inr between ↦ inr (Earlier-transitive es a b c between later) ])
+      | inr later ↦ (
+        k.0,
+        elim h.1 [
+          | inl first ↦ inl first
+          | inr between ↦ inr (Earlier-transitive es a b c between later)
+        ],
+      )
     ]
 
 module _ (edges : Pair → List Pair) where
   -- of lists that follow one pair
-  BeforeAfter-transitive : (v : Pair) (p q r : List Pair) → BeforeAfter edges v p q → BeforeAfter edges v q r → BeforeAfter edges v p r
+  BeforeAfter-transitive : (v : Pair) (p q r : List Pair) → BeforeAfter edges v p q → BeforeAfter edges v q r
+      → BeforeAfter edges v p r
   BeforeAfter-transitive v [] q r h k = h
   BeforeAfter-transitive v (a ∷ p) [] r h k = absurd h
   BeforeAfter-transitive v (a ∷ p) (b ∷ q) [] h k = k
@@ -37,7 +44,11 @@ module _ (edges : Pair → List Pair) where
         | inr e ↦
             elim k [
               | inl more ↦ inl (subst (λ x. Earlier (edges v) x c) (sym e.0) more)
-              | inr d ↦ inr (e.0 ∙ d.0, BeforeAfter-transitive a p q r e.1 (subst (λ x. BeforeAfter edges x q r) (sym e.0) d.1))
+              | inr d ↦ inr (
+                e.0 ∙ d.0,
+                BeforeAfter-transitive a p q r e.1
+                    (subst (λ x. BeforeAfter edges x q r) (sym e.0) d.1),
+              )
             ]
       ]
 
@@ -55,8 +66,10 @@ module _ (edges : Pair → List Pair) where
   ComesBefore-transitive (x ∷ p) [] r h k = absurd h
   ComesBefore-transitive (x ∷ p) (y ∷ q) [] h k = k
   ComesBefore-transitive (x ∷ p) (y ∷ q) (z ∷ r) (inl h) (inl k) = inl (omega arith)
-  ComesBefore-transitive (x ∷ p) (y ∷ q) (z ∷ r) (inl h) (inr k) = let e : y.1 ≡ z.1 = ap (λ u. u.1) k.0 in inl (omega arith)
-  ComesBefore-transitive (x ∷ p) (y ∷ q) (z ∷ r) (inr h) (inl k) = let e : x.1 ≡ y.1 = ap (λ u. u.1) h.0 in inl (omega arith)
+  ComesBefore-transitive (x ∷ p) (y ∷ q) (z ∷ r) (inl h) (inr k) = let e : y.1 ≡ z.1 = ap (λ u. u.1) k.0 in
+      inl (omega arith)
+  ComesBefore-transitive (x ∷ p) (y ∷ q) (z ∷ r) (inr h) (inl k) = let e : x.1 ≡ y.1 = ap (λ u. u.1) h.0 in
+      inl (omega arith)
   ComesBefore-transitive (x ∷ p) (y ∷ q) (z ∷ r) (inr h) (inr k) = inr (Before-transitive (x ∷ p) (y ∷ q) (z ∷ r) h k)
 
 -- the least and the greatest of the numbers below k that have A, where each number has A or B
@@ -86,7 +99,12 @@ greatest_with {A} {B} tell (suc k) =
       | inr b ↦
           elim (greatest_with tell k) [
             | inl none ↦ inl (up_to B k none b)
-            | inr found ↦ inr (found.0, found.1, λ d h l. up_to (λ c. found.0 < c → B c) k (λ c below above. found.2 c above below) (λ above. b) d l h)
+            | inr found ↦ inr (
+              found.0,
+              found.1,
+              λ d h l. up_to (λ c. found.0 < c → B c) k
+                  (λ c below above. found.2 c above below) (λ above. b) d l h,
+            )
           ]
     ]
 
@@ -96,8 +114,10 @@ greatest_with {A} {B} tell (suc k) =
 one_outcome : (b : Bool) → b ≡ true → b ≡ false → ⊥
 one_outcome b t f = cc
 
-module _ {edges : Pair → List Pair} {starts all : List Pair} {n : ℕ} (finite : IsFinite edges starts all n) (is_match : Pair → Bool)
-    (stops : (x : Pair) → is_match x ≡ true → edges x ≡ []) (matches_in : (x : Pair) → x.1 ≤ n → is_match x ≡ true → In x all) where
+module _ {edges : Pair → List Pair} {starts all : List Pair} {n : ℕ} (finite : IsFinite edges starts all n)
+    (is_match : Pair → Bool)
+    (stops : (x : Pair) → is_match x ≡ true → edges x ≡ []) (matches_in : (x : Pair) → x.1 ≤ n → is_match x ≡ true
+    → In x all) where
   -- the first path to a match pair at e
   abbrev FirstAt : ℕ → Type 0
   FirstAt e = (p : List Pair) × IsFirstTo edges starts (WantedAt (Passes is_match) e) p
@@ -110,14 +130,20 @@ module _ {edges : Pair → List Pair} {starts all : List Pair} {n : ℕ} (finite
   tell_at : (e : ℕ) (x : Pair) → WantedAt (Passes is_match) e x ⊎ ¬ (WantedAt (Passes is_match) e x)
   tell_at e x =
       elim (cases_Bool (is_match x)) [
-        | inl t ↦ elim (ℕ_discrete x.1 e) [ yes a ↦ inl (record { wanted = t; at = a }) | no other ↦ inr (λ h. other h.at) ]
+        | inl t ↦ elim (ℕ_discrete x.1 e) [
+          | yes a ↦ inl (record { wanted = t; at = a })
+          | no other ↦ inr (λ h. other h.at)
+        ]
         | inr f ↦ inr (λ h. one_outcome (is_match x) h.wanted f)
       ]
 
   -- each position has its first path or none
   first_at : (e : ℕ) → FirstAt e ⊎ NoneAt e
   first_at e =
-      elim (first_in finite (WantedAt (Passes is_match) e) (tell_at e) (λ x h. stops x h.wanted)) [ inl none ↦ inr none | inr f ↦ inl f ]
+      elim (first_in finite (WantedAt (Passes is_match) e) (tell_at e) (λ x h. stops x h.wanted)) [
+        | inl none ↦ inr none
+        | inr f ↦ inl f
+      ]
 
   -- every path ends at n or before it
   ends_within : (m : Pair) (p : List Pair) → PathTo edges starts m p → is_match m ≡ true → m.1 < n + 1
@@ -136,11 +162,15 @@ module _ {edges : Pair → List Pair} {starts all : List Pair} {n : ℕ} (finite
   is_least e f none = record {
     is_end = is_end e f;
     least = λ m p w t.
-        elim (cases_lt m.1 e) [ inl less ↦ absurd (none m.1 less m p w (record { wanted = t; at = refl })) | inr more ↦ more ];
+        elim (cases_lt m.1 e) [
+          | inl less ↦ absurd (none m.1 less m p w (record { wanted = t; at = refl }))
+          | inr more ↦ more
+        ];
   }
 
   -- or none behind e
-  is_greatest : (e : ℕ) → FirstAt e → ((d : ℕ) → e < d → d < n + 1 → NoneAt d) → IsGreatestEnd edges starts (Passes is_match) e
+  is_greatest : (e : ℕ) → FirstAt e → ((d : ℕ) → e < d → d < n + 1 → NoneAt d)
+      → IsGreatestEnd edges starts (Passes is_match) e
   is_greatest e f none = record {
     is_end = is_end e f;
     greatest = λ m p w t.
@@ -169,11 +199,13 @@ module _ {edges : Pair → List Pair} {starts all : List Pair} {n : ℕ} (finite
   Sought e es = NoneAmong e es ⊎ ((p : List Pair) × LastAmong e es p)
 
   -- the first path to a pair, under another name for the pair
-  first_along : {m k : Pair} {q : List Pair} → m ≡ k → IsFirstTo edges starts (λ x. x ≡ m) q → IsFirstTo edges starts (λ x. x ≡ k) q
+  first_along : {m k : Pair} {q : List Pair} → m ≡ k → IsFirstTo edges starts (λ x. x ≡ m) q
+      → IsFirstTo edges starts (λ x. x ≡ k) q
   first_along {q = q} is f = subst (λ y. IsFirstTo edges starts (λ x. x ≡ y) q) is f
 
   -- one more pair, which is no match pair at e or is not reached
-  Sought-skip : (e : ℕ) (m : Pair) (es : List Pair) → (WantedAt (Passes is_match) e m → NoPath edges starts (λ x. x ≡ m)) → Sought e es → Sought e (m ∷ es)
+  Sought-skip : (e : ℕ) (m : Pair) (es : List Pair)
+      → (WantedAt (Passes is_match) e m → NoPath edges starts (λ x. x ≡ m)) → Sought e es → Sought e (m ∷ es)
   Sought-skip e m es none sought =
       elim sought [
         | inl h ↦ inl (λ k i w. elim i [ inl is ↦ here k is w | inr j ↦ h k j w ])
@@ -184,7 +216,10 @@ module _ {edges : Pair → List Pair} {starts all : List Pair} {n : ℕ} (finite
                 end = b.1.end;
                 wanted = b.1.wanted;
                 first = b.1.first;
-                last = λ k q i w f. elim i [ inl is ↦ absurd (here k is w f.end q f.path f.wanted) | inr j ↦ b.1.last k q j w f ];
+                last = λ k q i w f. elim i [
+                  | inl is ↦ absurd (here k is w f.end q f.path f.wanted)
+                  | inr j ↦ b.1.last k q j w f
+                ];
               },
             )
       ]
@@ -193,7 +228,8 @@ module _ {edges : Pair → List Pair} {starts all : List Pair} {n : ℕ} (finite
       here k is = subst (λ y. WantedAt (Passes is_match) e y → NoPath edges starts (λ x. x ≡ y)) (sym is) none
 
   -- one more match pair at e, with its first path
-  Sought-add : (e : ℕ) (m : Pair) (es : List Pair) → WantedAt (Passes is_match) e m → (p : List Pair) → IsFirstTo edges starts (λ x. x ≡ m) p
+  Sought-add : (e : ℕ) (m : Pair) (es : List Pair) → WantedAt (Passes is_match) e m → (p : List Pair)
+      → IsFirstTo edges starts (λ x. x ≡ m) p
       → Sought e es → Sought e (m ∷ es)
   Sought-add e m es wanted p first sought =
       elim sought [
@@ -204,14 +240,21 @@ module _ {edges : Pair → List Pair} {starts all : List Pair} {n : ℕ} (finite
                 end = m;
                 wanted = wanted;
                 first = first;
-                last = λ k q i w f. elim i [ inl is ↦ inl (one k q is f) | inr j ↦ absurd (none k j w f.end q f.path f.wanted) ];
+                last = λ k q i w f. elim i [
+                  | inl is ↦ inl (one k q is f)
+                  | inr j ↦ absurd (none k j w f.end q f.path f.wanted)
+                ];
               },
             )
         | inr b ↦
-            elim (PathTo-order edges starts is_match stops finite.increase (PathTo-along edges starts first.wanted first.path) wanted.wanted
+            elim (PathTo-order edges starts is_match stops finite.increase
+            (PathTo-along edges starts first.wanted first.path) wanted.wanted
             (PathTo-along edges starts b.1.first.wanted b.1.first.path) b.1.wanted.wanted) [
               | inl is ↦ inr (b.0, keep b.0 b.1 (inl is))
-              | inr other ↦ elim other [ inl before ↦ inr (b.0, keep b.0 b.1 (inr before)) | inr behind ↦ inr (p, take_up b.0 b.1 behind) ]
+              | inr other ↦ elim other [
+                | inl before ↦ inr (b.0, keep b.0 b.1 (inr before))
+                | inr behind ↦ inr (p, take_up b.0 b.1 behind)
+              ]
             ]
       ]
     where
@@ -271,7 +314,8 @@ module _ {edges : Pair → List Pair} {starts all : List Pair} {n : ℕ} (finite
   last_at e f =
       elim (sought e all) [
         | inl none ↦
-            absurd (none f.1.end (reached_in f.1.end f.0 f.1.path f.1.wanted.wanted) f.1.wanted f.1.end f.0 f.1.path refl)
+            absurd (none f.1.end (reached_in f.1.end f.0 f.1.path f.1.wanted.wanted) f.1.wanted f.1.end
+            f.0 f.1.path refl)
         | inr b ↦ (
           b.0,
           record {

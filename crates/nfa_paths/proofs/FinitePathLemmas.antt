@@ -34,7 +34,8 @@ without v (y ∷ xs) (inr later) =
           ];
     }
 
--- From the starts, which rise, only pairs at positions up to n are reached, and of these only the pairs of `all` lead on.
+-- From the starts, which rise, only pairs at positions up to n are reached, and of these only the pairs of `all` lead
+-- on.
 pub record IsFinite (edges : Pair → List Pair) (starts all : List Pair) (n : ℕ) : Type 0 where
   pub stays : (x y : Pair) → In y (edges x) → x.1 ≤ n → y.1 ≤ n
   pub begins : (s : Pair) → In s starts → s.1 ≤ n
@@ -54,7 +55,8 @@ module _ {edges : Pair → List Pair} {starts all : List Pair} {n : ℕ} (finite
     first_among marks (e ∷ es) each =
         let here = each e (inl refl) in
         let later = first_among marks es (λ d i. each d (inr i)) in
-        (elim here.0 as (λ r. IsFirst edges target marks e r → (r : Option (List Pair)) × FirstAmong edges target marks (e ∷ es) r) [
+        (elim here.0 as (λ r. IsFirst edges target marks e r → (r : Option (List Pair))
+        × FirstAmong edges target marks (e ∷ es) r) [
           | None ↦ λ h. (later.0, inr (h, later.1))
           | Some p ↦ λ h. (Some p, inl (p, h, refl))
         ]) here.1
@@ -64,7 +66,8 @@ module _ {edges : Pair → List Pair} {starts all : List Pair} {n : ℕ} (finite
     Covers left marks = (x : Pair) → x.1 ≤ n → In x marks ⊎ (In x left ⊎ (edges x ≡ []))
 
     -- one more is marked, and no longer left
-    Covers-mark : (left marks : List Pair) (v : Pair) (w : Without v left) → Covers left marks → Covers w.rest (v ∷ marks)
+    Covers-mark : (left marks : List Pair) (v : Pair) (w : Without v left) → Covers left marks
+        → Covers w.rest (v ∷ marks)
     Covers-mark left marks v w covers x h =
         elim (covers x h) [
           | inl m ↦ inl (inr m)
@@ -99,23 +102,30 @@ module _ {edges : Pair → List Pair} {starts all : List Pair} {n : ℕ} (finite
         ]
 
     -- with so many pairs left, a pair has a first path or none
-    first_from : (size : ℕ) (left marks : List Pair) → length left ≡ size → Covers left marks → (v : Pair) → v.1 ≤ n → FirstFrom marks v
+    first_from : (size : ℕ) (left marks : List Pair) → length left ≡ size → Covers left marks → (v : Pair) → v.1 ≤ n
+        → FirstFrom marks v
     first_from zero left marks is covers v h = first_step left marks covers v h (λ w e i. absurd (no_rest w.shorter))
       where
         no_rest : {k : ℕ} → length left ≡ suc k → ⊥
         no_rest s = omega arith
     first_from (suc size) left marks is covers v h =
         first_step left marks covers v h
-        (λ w e i. first_from size w.rest (v ∷ marks) (one_less w.shorter) (Covers-mark left marks v w covers) e (finite.stays v e i h))
+        (λ w e i. first_from size w.rest (v ∷ marks) (one_less w.shorter) (Covers-mark left marks v w covers) e
+        (finite.stays v e i h))
       where
         one_less : {k : ℕ} → length left ≡ suc k → k ≡ size
         one_less s = omega arith
 
     -- the first path to a target from the starts, or that there is none
-    pub first_to : ((x : Pair) → target x ≡ true → edges x ≡ []) → (r : Option (List Pair)) × IsFirstPath edges starts (Passes target) r
+    pub first_to : ((x : Pair) → target x ≡ true → edges x ≡ []) → (r : Option (List Pair))
+        × IsFirstPath edges starts (Passes target) r
     first_to stops =
-        let r = first_among [] starts (λ s i. first_from (length all) all [] refl (λ x h. inr (finite.leads_on x h)) s (finite.begins s i)) in
-        (r.0, of r.0 (IsLeast-from_first edges target starts finite.increase r.0 (IsFirstOfAll-from_among edges target [] starts r.0 r.1)))
+        let r = first_among [] starts (λ s i. first_from (length all) all [] refl (λ x h. inr (finite.leads_on x h)) s
+        (finite.begins s i)) in (
+          r.0,
+          of r.0 (IsLeast-from_first edges target starts finite.increase r.0
+              (IsFirstOfAll-from_among edges target [] starts r.0 r.1)),
+        )
       where
         of : (r : Option (List Pair)) → IsLeast edges target starts r → IsFirstPath edges starts (Passes target) r
         of None least = IsLeast-none edges starts target stops least
@@ -127,6 +137,11 @@ module _ {edges : Pair → List Pair} {starts all : List Pair} {n : ℕ} (finite
   first_in P tell stops =
       let r = first_to (λ x. test (tell x)) (λ x t. stops x (test-true (tell x) t)) in of r.0 r.1
     where
-      of : (r : Option (List Pair)) → IsFirstPath edges starts (λ x. test (tell x) ≡ true) r → NoPath edges starts P ⊎ ((p : List Pair) × IsFirstTo edges starts P p)
+      of : (r : Option (List Pair)) → IsFirstPath edges starts (λ x. test (tell x) ≡ true) r
+          → NoPath edges starts P ⊎ ((p : List Pair) × IsFirstTo edges starts P p)
       of None none = inl (λ m p w h. none m p w (true-test (tell m) h))
-      of (Some p) first = inr (p, IsFirstTo-along edges starts (λ x. test (tell x) ≡ true) P (λ x. test-true (tell x)) (λ x. true-test (tell x)) first)
+      of (Some p) first = inr (
+        p,
+        IsFirstTo-along edges starts (λ x. test (tell x) ≡ true) P (λ x. test-true (tell x))
+            (λ x. true-test (tell x)) first,
+      )

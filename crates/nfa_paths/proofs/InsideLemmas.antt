@@ -29,7 +29,8 @@ offsets : (slots : List (Option ℕ)) (p : ℕ) (f : Found) → match_of (Some p
 offsets slots p f = of (offset_at slots (2 * p)) (offset_at slots (2 * p + 1))
   where
     spans : Option ℕ → Option ℕ → Option Span
-    spans a b = option_and_then (λ start. option_and_then (λ end. cond (nat_le start end) (Some (record { start = start; end = end })) None) b) a
+    spans a b = option_and_then (λ start. option_and_then
+        (λ end. cond (nat_le start end) (Some (record { start = start; end = end })) None) b) a
 
     made : Option Span → Option Found
     made o = option_map (λ (s : Span). record { pattern = p; start = s.start; end = s.end }) o
@@ -41,13 +42,18 @@ offsets slots p f = of (offset_at slots (2 * p)) (offset_at slots (2 * p + 1))
         elim (cases_lt end start) [
           | inl past ↦ absurd (never_none _ (sym (rw (lt-leb start end past) at e)))
           | inr ordered ↦
-              let is : Some (record { pattern = p; start = start; end = end }) ≡ Some f = rw (le-leb start end ordered) at e in
-              let found : record { pattern = p; start = start; end = end } ≡ f = cc in
-              (ap (λ (g : Found). Some g.start) found, ap (λ (g : Found). Some g.end) found, subst (λ (g : Found). g.start ≤ g.end) found ordered)
+              let is : Some (record { pattern = p; start = start; end = end }) ≡ Some f =
+              rw (le-leb start end ordered) at e in
+              let found : record { pattern = p; start = start; end = end } ≡ f = cc in (
+                ap (λ (g : Found). Some g.start) found,
+                ap (λ (g : Found). Some g.end) found,
+                subst (λ (g : Found). g.start ≤ g.end) found ordered,
+              )
         ]
 
 -- an offset of a row of values is one of the values
-offset-value : (f : ℕ → Option ℕ) (places : List ℕ) (i k : ℕ) → offset_at (map f places) i ≡ Some k → (j : ℕ) × (f j ≡ Some k)
+offset-value : (f : ℕ → Option ℕ) (places : List ℕ) (i k : ℕ) → offset_at (map f places) i ≡ Some k
+    → (j : ℕ) × (f j ≡ Some k)
 offset-value f places i k e = of (slice_get places i) (rw (slice_get-map f places i) at e)
   where
     of : (o : Option ℕ) → option_and_then (λ offset. offset) (option_map f o) ≡ Some k → (j : ℕ) × (f j ≡ Some k)
@@ -57,8 +63,12 @@ offset-value f places i k e = of (slice_get places i) (rw (slice_get-map f place
 module _ (nfa : Automaton) where
   module _ (x : Search) where
     -- each pair of a linked list that begins in the span lies there
-    linked-within : (y : Pair) (p : List Pair) → Linked (edges nfa x) (y ∷ p) → IsWithin x y.1 → (w : Pair) → In w (y ∷ p) → IsWithin x w.1
-    linked-within y [] linked here w i = elim i [ inl e ↦ subst (λ (v : Pair). IsWithin x v.1) (sym e) here | inr never ↦ absurd never ]
+    linked-within : (y : Pair) (p : List Pair) → Linked (edges nfa x) (y ∷ p) → IsWithin x y.1 → (w : Pair)
+        → In w (y ∷ p) → IsWithin x w.1
+    linked-within y [] linked here w i = elim i [
+      | inl e ↦ subst (λ (v : Pair). IsWithin x v.1) (sym e) here
+      | inr never ↦ absurd never
+    ]
     linked-within y (z ∷ p) linked here w i =
         elim i [
           | inl e ↦ subst (λ (v : Pair). IsWithin x v.1) (sym e) here
@@ -69,26 +79,34 @@ module _ (nfa : Automaton) where
         ]
 
     -- each pair of a path lies in the span
-    path-within : (m : Pair) (p : List Pair) → PathTo (edges nfa x) (starts nfa x) m p → (w : Pair) → In w p → IsWithin x w.1
+    path-within : (m : Pair) (p : List Pair) → PathTo (edges nfa x) (starts nfa x) m p → (w : Pair) → In w p
+        → IsWithin x w.1
     path-within m [] path w i = absurd i
     path-within m (y ∷ p) path w i =
-        let start : IsWithin x path.start.1 = (starts-from nfa x path.start path.among, starts-within nfa x path.start path.among) in
+        let start : IsWithin x path.start.1 = (
+          starts-from nfa x path.start path.among,
+          starts-within nfa x path.start path.among,
+        ) in
         linked-within y p path.linked (subst (λ (v : Pair). IsWithin x v.1) (sym path.head) start) w i
 
     -- and so does each slot that it writes
-    slot-within : (p : List Pair) → ((w : Pair) → In w p → IsWithin x w.1) → (slot k : ℕ) → slot_among nfa p slot ≡ Some k → IsWithin x k
+    slot-within : (p : List Pair) → ((w : Pair) → In w p → IsWithin x w.1) → (slot k : ℕ)
+        → slot_among nfa p slot ≡ Some k → IsWithin x k
     slot-within [] inside slot k e = cc
     slot-within (v ∷ p) inside slot k e =
-        of (slot_among nfa p slot) (option_map_or (λ s. s == slot) (capture nfa v) false) (λ j. slot-within p (λ w i. inside w (inr i)) slot j) e
+        of (slot_among nfa p slot) (option_map_or (λ s. s == slot) (capture nfa v) false)
+        (λ j. slot-within p (λ w i. inside w (inr i)) slot j) e
       where
-        of : (o : Option ℕ) (b : Bool) → ((j : ℕ) → o ≡ Some j → IsWithin x j) → option_or o (cond b (Some v.1) None) ≡ Some k → IsWithin x k
+        of : (o : Option ℕ) (b : Bool) → ((j : ℕ) → o ≡ Some j → IsWithin x j)
+            → option_or o (cond b (Some v.1) None) ≡ Some k → IsWithin x k
         of (Some j) b later e = later k e
         of None true later e = let is : v.1 ≡ k = cc in subst (IsWithin x) is (inside v (inl refl))
         of None false later e = cc
 
     -- and the match that its slots make
     row-within : (m : Pair) (p : List Pair) → PathTo (edges nfa x) (starts nfa x) m p → (count q : ℕ) (f : Found)
-        → match_of (Some q) (slot_row nfa count (Some p)) ≡ Some f → (x.start ≤ f.start) × (f.start ≤ f.end) × (f.end ≤ x.end)
+        → match_of (Some q) (slot_row nfa count (Some p)) ≡ Some f → (x.start ≤ f.start) × (f.start ≤ f.end)
+        × (f.end ≤ x.end)
     unfolding slot_row
     row-within m p path count q f e =
         let at = offsets _ q f e in
@@ -106,13 +124,17 @@ module _ (nfa : Automaton) where
       pub on : x.start ≤ from.start
       pub end : from.end ≡ x.end
 
-    scanned : (x : Search) (restarts : ℕ) (p : List Pair) → IsSearchAnswer nfa kind earliest x restarts (Some p) → Scanned x p
+    scanned : (x : Search) (restarts : ℕ) (p : List Pair)
+        → IsSearchAnswer nfa kind earliest x restarts (Some p) → Scanned x p
     scanned x restarts p =
         elim (is_utf8_empty nfa) as (λ m. MatchBool m
-        (MatchBool (is_anchored x.anchored) ((restarts ≡ 0) × IsKeptAnswer nfa kind earliest x (Some p)) (IsRestartedAnswer nfa kind earliest x restarts (Some p)))
+        (MatchBool (is_anchored x.anchored) ((restarts ≡ 0) × IsKeptAnswer nfa kind earliest x (Some p))
+        (IsRestartedAnswer nfa kind earliest x restarts (Some p)))
         ((restarts ≡ 0) × IsScanAnswer nfa x kind earliest (Some p)) → Scanned x p) [
           | true ↦
-              elim (is_anchored x.anchored) as (λ a. MatchBool a ((restarts ≡ 0) × IsKeptAnswer nfa kind earliest x (Some p)) (IsRestartedAnswer nfa kind earliest x restarts (Some p))
+              elim (is_anchored x.anchored) as (λ a.
+              MatchBool a ((restarts ≡ 0) × IsKeptAnswer nfa kind earliest x (Some p))
+              (IsRestartedAnswer nfa kind earliest x restarts (Some p))
               → Scanned x p) [
                 | true ↦ λ h. record { from = x; answers = h.1.0; on = omega arith; end = refl }
                 | false ↦ λ h. record { from = raised x restarts; answers = h.answers; on = omega arith; end = refl }
@@ -121,10 +143,12 @@ module _ (nfa : Automaton) where
         ]
 
     -- the match lies in the span
-    pub match-within : (x : Search) (f : Found) → IsMatchAnswer nfa kind earliest x (Some f) → (x.start ≤ f.start) × (f.start ≤ f.end) × (f.end ≤ x.end)
+    pub match-within : (x : Search) (f : Found) → IsMatchAnswer nfa kind earliest x (Some f) → (x.start ≤ f.start)
+        × (f.start ≤ f.end) × (f.end ≤ x.end)
     match-within x f a = of a.path a.answers a.found_is
       where
-        some : (p : List Pair) (s : Scanned x p) (q : Option ℕ) → Some f ≡ match_of q (slot_row nfa (slot_count nfa.groups) (Some p))
+        some : (p : List Pair) (s : Scanned x p) (q : Option ℕ)
+            → Some f ≡ match_of q (slot_row nfa (slot_count nfa.groups) (Some p))
             → (x.start ≤ f.start) × (f.start ≤ f.end) × (f.end ≤ x.end)
         some p s None e = cc
         some p s (Some q) e =
@@ -146,7 +170,8 @@ module _ (nfa : Automaton) where
     if-some (Some k) P holds = holds k refl
 
     -- each slot of an answer is none, or lies in the span
-    pub slots-within : (x : Search) (pattern : Option ℕ) (slots : List (Option ℕ)) → IsAnswer nfa kind earliest x pattern slots
+    pub slots-within : (x : Search) (pattern : Option ℕ) (slots : List (Option ℕ))
+        → IsAnswer nfa kind earliest x pattern slots
         → All (λ o. IfSome o (λ k. (x.start ≤ k) × (k ≤ x.end))) slots
     unfolding slot_row
     slots-within x pattern slots a =
@@ -165,33 +190,43 @@ module _ (nfa : Automaton) where
         of None answers = All-replicate (λ o. IfSome o (λ k. (x.start ≤ k) × (k ≤ x.end))) (length slots) None tt
         of (Some p) answers =
             let s = scanned x a.restarts p answers in
-            All-map (λ o. IfSome o (λ k. (x.start ≤ k) × (k ≤ x.end))) (slot_among nfa p) (range_with_len 0 (length slots))
+            All-map (λ o. IfSome o (λ k. (x.start ≤ k) × (k ≤ x.end))) (slot_among nfa p)
+            (range_with_len 0 (length slots))
             (λ i d below. if-some (slot_among nfa p _) (λ k. (x.start ≤ k) × (k ≤ x.end)) (λ k e. some p s _ k e))
 
     path-pattern : IsAutomaton nfa → (p : List Pair) (q : ℕ) → path_pattern nfa p ≡ Some q → q < length nfa.patterns
     path-pattern valid p q e = of (last_of p) e
       where
-        of : (last : Option Pair) → option_and_then (λ (v : Pair). pattern_of (node_at nfa v.0)) last ≡ Some q → q < length nfa.patterns
+        of : (last : Option Pair) → option_and_then (λ (v : Pair). pattern_of (node_at nfa v.0)) last ≡ Some q
+            → q < length nfa.patterns
         of None e = cc
         of (Some v) e = node-pattern nfa valid v.0 q e
 
-    among : IsAutomaton nfa → (path : Option (List Pair)) (q : ℕ) → option_and_then (path_pattern nfa) path ≡ Some q → q < length nfa.patterns
+    among : IsAutomaton nfa → (path : Option (List Pair)) (q : ℕ) → option_and_then (path_pattern nfa) path ≡ Some q
+        → q < length nfa.patterns
     among valid None q e = cc
     among valid (Some p) q e = path-pattern valid p q e
 
     -- the pattern of an answer is one of the NFA's
-    pub pattern-within : IsAutomaton nfa → (x : Search) (pattern : Option ℕ) (slots : List (Option ℕ)) → IsAnswer nfa kind earliest x pattern slots
+    pub pattern-within : IsAutomaton nfa → (x : Search) (pattern : Option ℕ) (slots : List (Option ℕ))
+        → IsAnswer nfa kind earliest x pattern slots
         → IfSome pattern (λ q. q < length nfa.patterns)
-    pattern-within valid x pattern slots a = if-some pattern (λ q. q < length nfa.patterns) (λ q e. among valid a.path q (sym a.pattern_is ∙ e))
+    pattern-within valid x pattern slots a = if-some pattern (λ q. q < length nfa.patterns)
+        (λ q e. among valid a.path q (sym a.pattern_is ∙ e))
 
     -- and so is that of a match
-    pub match-pattern : IsAutomaton nfa → (x : Search) (f : Found) → IsMatchAnswer nfa kind earliest x (Some f) → f.pattern < length nfa.patterns
+    pub match-pattern : IsAutomaton nfa → (x : Search) (f : Found) → IsMatchAnswer nfa kind earliest x (Some f)
+        → f.pattern < length nfa.patterns
     match-pattern valid x f a = of (option_and_then (path_pattern nfa) a.path) refl a.found_is
       where
-        of : (o : Option ℕ) → option_and_then (path_pattern nfa) a.path ≡ o → Some f ≡ match_of o (slot_row nfa (slot_count nfa.groups) a.path) → f.pattern < length nfa.patterns
+        of : (o : Option ℕ) → option_and_then (path_pattern nfa) a.path ≡ o
+            → Some f ≡ match_of o (slot_row nfa (slot_count nfa.groups) a.path) → f.pattern < length nfa.patterns
         of None is e = cc
-        of (Some q) is e = subst (λ (n : ℕ). n < length nfa.patterns) (same (span_at (slot_row nfa (slot_count nfa.groups) a.path) (2 * q)) e) (among valid a.path q is)
+        of (Some q) is e = subst (λ (n : ℕ). n < length nfa.patterns)
+            (same (span_at (slot_row nfa (slot_count nfa.groups) a.path) (2 * q)) e) (among valid a.path q is)
           where
-            same : (o : Option Span) → Some f ≡ option_map (λ (s : Span). record { pattern = q; start = s.start; end = s.end }) o → q ≡ f.pattern
+            same : (o : Option Span) → Some f ≡ option_map
+                (λ (s : Span). record { pattern = q; start = s.start; end = s.end }) o → q ≡ f.pattern
             same None e = cc
-            same (Some s) e = let is : f ≡ record { pattern = q; start = s.start; end = s.end } = cc in sym (ap (λ (g : Found). g.pattern) is)
+            same (Some s) e = let is : f ≡ record { pattern = q; start = s.start; end = s.end } = cc in
+                sym (ap (λ (g : Found). g.pattern) is)

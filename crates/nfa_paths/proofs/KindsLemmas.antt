@@ -21,7 +21,8 @@ module _ (edges : Pair → List Pair) (target : Pair → Bool) (capture : Pair �
   Path-target (stop {v = v} t) = (v, inl refl, t)
   Path-target (go t e n h) = let r = Path-target h in (r.0, inr r.1, r.2)
 
-  module _ (e : ℕ) (onward : (x y : Pair) → In y (edges x) → x.1 ≤ y.1) (at : (x : Pair) → target x ≡ true → x.1 ≡ e) where
+  module _ (e : ℕ) (onward : (x y : Pair) → In y (edges x) → x.1 ≤ y.1) (at : (x : Pair) → target x ≡ true
+      → x.1 ≡ e) where
     -- from a later position no target is reached
     Path-later : {v : Pair} {p : List Pair} → Path edges target v p → e < v.1 → ⊥
     Path-later (stop {v = v} t) l = let k : v.1 ≡ e = at v t in omega arith
@@ -32,25 +33,31 @@ module _ (edges : Pair → List Pair) (target : Pair → Bool) (capture : Pair �
     IsFirst-later marks v l p a = Path-later a.path l
 
     -- a pair that rises and is no target
-    pub IsFirst-rises : (marks : List Pair) (v : Pair) → ((w : Pair) → In w (edges v) → e < w.1) → (target v ≡ true → ⊥) → IsFirst edges target marks v None
+    pub IsFirst-rises : (marks : List Pair) (v : Pair) → ((w : Pair) → In w (edges v) → e < w.1) → (target v ≡ true → ⊥)
+        → IsFirst edges target marks v None
     IsFirst-rises marks v rises plain p a = none a.path rises plain
       where
-        none : {v : Pair} {p : List Pair} → Path edges target v p → ((w : Pair) → In w (edges v) → e < w.1) → (target v ≡ true → ⊥) → ⊥
+        none : {v : Pair} {p : List Pair} → Path edges target v p → ((w : Pair) → In w (edges v) → e < w.1)
+            → (target v ≡ true → ⊥) → ⊥
         none (stop t) r f = f t
         none (go {w = w} t i n h) r f = Path-later h (r w i)
 
     -- work at later positions alone finds nothing
-    Answer-later : (left : ℕ) (marks : List Pair) (work : List Item) (slots : Slots) → ((k : Pair) → In (Explore k) work → e < k.1)
+    Answer-later : (left : ℕ) (marks : List Pair) (work : List Item) (slots : Slots)
+        → ((k : Pair) → In (Explore k) work → e < k.1)
         → Answer edges target capture left None marks work slots None
     unfolding Answer
     Answer-later left marks [] slots l = refl
-    Answer-later left marks (Explore v ∷ rest) slots l = inr (IsFirst-later marks v (l v (inl refl)), Answer-later left marks rest slots (λ k i. l k (inr i)))
+    Answer-later left marks (Explore v ∷ rest) slots l =
+        inr (IsFirst-later marks v (l v (inl refl)), Answer-later left marks rest slots (λ k i. l k (inr i)))
     Answer-later left marks (Restore k old ∷ rest) slots l = Answer-later left marks rest _ (λ k i. l k (inr i))
     Answer-later left marks (Load old ∷ rest) slots l = Answer-later left marks rest old (λ k i. l k (inr i))
 
-    module _ (left : ℕ) (marks : List Pair) (waiting : List Item) (slots : Slots) (later : (k : Pair) → In (Explore k) waiting → e < k.1) where
+    module _ (left : ℕ) (marks : List Pair) (waiting : List Item) (slots : Slots)
+        (later : (k : Pair) → In (Explore k) waiting → e < k.1) where
       -- a front with no target
-      AnswerBehind-none : (front : List (Pair × Slots)) → ((a : Pair × Slots) → In a front → (w : Pair) → In w (edges a.0) → e < w.1)
+      AnswerBehind-none : (front : List (Pair × Slots))
+          → ((a : Pair × Slots) → In a front → (w : Pair) → In w (edges a.0) → e < w.1)
           → ((a : Pair × Slots) → In a front → target a.0 ≡ true → ⊥)
           → AnswerBehind edges target capture left front None marks waiting slots None
       unfolding AnswerBehind
@@ -65,10 +72,12 @@ module _ (edges : Pair → List Pair) (target : Pair → Bool) (capture : Pair �
       AnswerBehind-first : (before : List (Pair × Slots)) (a : Pair × Slots) (after : List (Pair × Slots))
           → ((b : Pair × Slots) → In b before → (w : Pair) → In w (edges b.0) → e < w.1)
           → ((b : Pair × Slots) → In b before → target b.0 ≡ true → ⊥) → target a.0 ≡ true
-          → AnswerBehind edges target capture left (before ++ a ∷ after) None marks waiting slots (found capture (a.0 ∷ []) a.1)
+          → AnswerBehind edges target capture left (before ++ a ∷ after) None marks waiting slots
+          (found capture (a.0 ∷ []) a.1)
       unfolding AnswerBehind
       AnswerBehind-first [] a after rises plain t =
-          let short : length (a.0 ∷ []) ≤ suc left = omega arith in inl (a.0 ∷ [], IsFirst-target edges target [] a.0 (λ n. n) t, refl, short)
+          let short : length (a.0 ∷ []) ≤ suc left = omega arith in
+          inl (a.0 ∷ [], IsFirst-target edges target [] a.0 (λ n. n) t, refl, short)
       AnswerBehind-first (b ∷ before) a after rises plain t =
           inr (
             IsFirst-rises [] b.0 (rises b (inl refl)) (plain b (inl refl)),
@@ -90,7 +99,10 @@ In-append_right x (y ∷ xs) ys i = inr (In-append_right x xs ys i)
 -- what stands in two lists stands in one of them
 In-append : {A : Type 0} (x : A) (xs ys : List A) → In x (xs ++ ys) → In x xs ⊎ In x ys
 In-append x [] ys i = inr i
-In-append x (y ∷ xs) ys i = elim i [ inl e ↦ inl (inl e) | inr j ↦ elim (In-append x xs ys j) [ inl k ↦ inl (inr k) | inr k ↦ inr k ] ]
+In-append x (y ∷ xs) ys i = elim i [
+  | inl e ↦ inl (inl e)
+  | inr j ↦ elim (In-append x xs ys j) [ inl k ↦ inl (inr k) | inr k ↦ inr k ]
+]
 
 -- an item's pair is among the pairs
 In-map : (a : Pair × Slots) (xs : List (Pair × Slots)) → In a xs → In a.0 (map (λ b. b.0) xs)
@@ -98,7 +110,8 @@ In-map a [] i = i
 In-map a (x ∷ xs) i = elim i [ inl e ↦ inl (ap (λ b. b.0) e) | inr j ↦ inr (In-map a xs j) ]
 
 -- no pair twice: what stands before an item is another pair
-apart : (before : List (Pair × Slots)) (a : Pair × Slots) (after : List (Pair × Slots)) → NoRepeats (map (λ b. b.0) (before ++ a ∷ after))
+apart : (before : List (Pair × Slots)) (a : Pair × Slots) (after : List (Pair × Slots))
+    → NoRepeats (map (λ b. b.0) (before ++ a ∷ after))
     → (b : Pair × Slots) → In b before → b.0 ≡ a.0 → ⊥
 apart [] a after n b i e = i
 apart (c ∷ before) a after n b i e =
@@ -159,7 +172,8 @@ unfolding test
 true-test (inl a) h = refl
 true-test (inr n) h = absurd (n h)
 
-module _ (edges : Pair → List Pair) (capture : Pair → Option ℕ) (starts : List Pair) (resting is_match : Pair → Bool) (slots : Slots) (turns : ℕ) where
+module _ (edges : Pair → List Pair) (capture : Pair → Option ℕ) (starts : List Pair) (resting is_match : Pair → Bool)
+    (slots : Slots) (turns : ℕ) where
   module _ (shape : Scanned edges capture starts resting is_match) {front : List (Pair × Slots)} {e : ℕ}
       (f : IsFront edges capture starts resting is_match slots turns front e)
       (P : Pair → Type 0) (d : Tested P) (matches : (x : Pair) → P x → (is_match x ≡ true) × (x.1 ≡ e)) where
@@ -197,32 +211,41 @@ module _ (edges : Pair → List Pair) (capture : Pair → Option ℕ) (starts : 
     pub IsFront-none : ((a : Pair × Slots) → In a front → P a.0 → ⊥) → NoPath edges starts P
     IsFront-none plain m p w t =
         let leads = f.leads target at_matches in
-        let answer = leads.1 None (AnswerBehind-none edges target capture e shape.onward at_end 0 leads.0 f.waiting f.current f.later front rising
+        let answer = leads.1 None (AnswerBehind-none edges target capture e shape.onward at_end 0 leads.0 f.waiting
+        f.current f.later front rising
         (λ a i u. plain a i (is_target a.0 u))) in
         elim (Answer-starts edges target capture turns starts slots None answer) [
           | inl k ↦ absurd (found-Some edges target capture slots k.1.2.path k.2)
-          | inr k ↦ IsLeast-none edges starts target stops (IsLeast-from_first edges target starts shape.increasing None k.0) m p w (target_is m t)
+          | inr k ↦ IsLeast-none edges starts target stops
+              (IsLeast-from_first edges target starts shape.increasing None k.0) m p w (target_is m t)
         ]
 
     -- the first pair of the set in the front is the end of the first path to a pair of the set
-    pub IsFront-first : (before : List (Pair × Slots)) (a : Pair × Slots) (after : List (Pair × Slots)) → front ≡ before ++ a ∷ after
+    pub IsFront-first : (before : List (Pair × Slots)) (a : Pair × Slots) (after : List (Pair × Slots))
+        → front ≡ before ++ a ∷ after
         → ((b : Pair × Slots) → In b before → P b.0 → ⊥) → P a.0
-        → (p : List Pair) × (first : IsFirstTo edges starts P p) × (first.end ≡ a.0) × (found capture p slots ≡ Some a) × (length p ≤ turns)
+        → (p : List Pair) × (first : IsFirstTo edges starts P p) × (first.end ≡ a.0) × (found capture p slots ≡ Some a)
+        × (length p ≤ turns)
     IsFront-first before a after split plain t =
         let leads = f.leads target at_matches in
-        let in_front : (b : Pair × Slots) → In b before → In b front = λ b i. rw split (In-append_left b before (a ∷ after) i) in
-        let behind = AnswerBehind-first edges target capture e shape.onward at_end 0 leads.0 f.waiting f.current f.later before a after
+        let in_front : (b : Pair × Slots) → In b before
+        → In b front = λ b i. rw split (In-append_left b before (a ∷ after) i) in
+        let behind = AnswerBehind-first edges target capture e shape.onward at_end 0 leads.0 f.waiting f.current
+        f.later before a after
         (λ b i. rising b (in_front b i)) (λ b i u. plain b i (is_target b.0 u)) (target_is a.0 t) in
         let answer = leads.1 (found capture (a.0 ∷ []) a.1)
-        (subst (λ x. AnswerBehind edges target capture 0 x None leads.0 f.waiting f.current (found capture (a.0 ∷ []) a.1)) (sym split) behind) in
+        (subst (λ x. AnswerBehind edges target capture 0 x None leads.0 f.waiting f.current
+        (found capture (a.0 ∷ []) a.1)) (sym split) behind) in
         let wrote : found capture (a.0 ∷ []) a.1 ≡ Some a = rw (shape.writes_nothing a.0 (matches a.0 t).0) refl in
         elim (Answer-starts edges target capture turns starts slots (found capture (a.0 ∷ []) a.1) answer) [
           | inl k ↦
               let first = IsFirstTo-along edges starts (λ x. target x ≡ true) P is_target target_is
-              (IsLeast-first edges starts target stops k.0 (IsLeast-from_first edges target starts shape.increasing (Some k.0) k.1)) in
+              (IsLeast-first edges starts target stops k.0
+              (IsLeast-from_first edges target starts shape.increasing (Some k.0) k.1)) in
               let same_found : found capture k.0 slots ≡ Some a = sym k.2 ∙ wrote in
               let end = found-end capture first.end k.0 slots first.path.ends in
-              let same_end : first.end ≡ a.0 = let both : Some (first.end, apply capture k.0 slots) ≡ Some a = sym end ∙ same_found in cc in
+              let same_end : first.end ≡ a.0 = let both : Some (first.end, apply capture k.0 slots) ≡ Some a = sym end
+              ∙ same_found in cc in
               (k.0, first, same_end, same_found, k.3)
           | inr k ↦ let never : Some a ≡ None = sym wrote ∙ k.1 in cc
         ]
@@ -252,14 +275,32 @@ module _ (is_match : Pair → Bool) where
 
   -- a front's first match pair, or that there is none
   pub first_match-is : (front : List (Pair × Slots))
-      → ((first_match is_match front ≡ None) × NoMatch is_match front) ⊎ ((a : Pair × Slots) × (first_match is_match front ≡ Some a) × FirstMatch front a)
+      → ((first_match is_match front ≡ None) × NoMatch is_match front)
+      ⊎ ((a : Pair × Slots) × (first_match is_match front ≡ Some a) × FirstMatch front a)
   first_match-is [] = inl (refl, λ b i. absurd i)
   first_match-is (a ∷ front) =
       elim (cases_Bool (is_match a.0)) [
-        | inl t ↦ inr (a, rw t refl, record { before = []; after = front; split = refl; plain = λ b i. absurd i; matches = t })
+        | inl t ↦ inr (
+          a,
+          rw t refl,
+          record {
+            before = [];
+            after = front;
+            split = refl;
+            plain =
+                λ b i. absurd i;
+            matches = t;
+          },
+        )
         | inr f ↦
             elim (first_match-is front) [
-              | inl none ↦ inl (rw f none.0, λ b i t. elim i [ inl e ↦ is_plain (is_match a.0) f (rw (← e) t) | inr j ↦ none.1 b j t ])
+              | inl none ↦ inl (
+                rw f none.0,
+                λ b i t. elim i [
+                  | inl e ↦ is_plain (is_match a.0) f (rw (← e) t)
+                  | inr j ↦ none.1 b j t
+                ],
+              )
               | inr some ↦
                   let h = some.2 in
                   inr (
@@ -269,7 +310,10 @@ module _ (is_match : Pair → Bool) where
                       before = a ∷ h.before;
                       after = h.after;
                       split = ap (λ x. a ∷ x) h.split;
-                      plain = λ b i t. elim i [ inl e ↦ is_plain (is_match a.0) f (rw (← e) t) | inr j ↦ h.plain b j t ];
+                      plain = λ b i t. elim i [
+                        | inl e ↦ is_plain (is_match a.0) f (rw (← e) t)
+                        | inr j ↦ h.plain b j t
+                      ];
                       matches = h.matches;
                     },
                   )
@@ -278,28 +322,47 @@ module _ (is_match : Pair → Bool) where
 
   -- a front's last match pair, or that there is none
   pub last_match-is : (g : Found) (front : List (Pair × Slots))
-      → ((last_match is_match g front ≡ g) × NoMatch is_match front) ⊎ ((a : Pair × Slots) × (last_match is_match g front ≡ Some a) × LastMatch front a)
+      → ((last_match is_match g front ≡ g) × NoMatch is_match front)
+      ⊎ ((a : Pair × Slots) × (last_match is_match g front ≡ Some a) × LastMatch front a)
   last_match-is g [] = inl (refl, λ b i. absurd i)
   last_match-is g (a ∷ front) =
       elim (cases_Bool (is_match a.0)) [
         | inl t ↦
             elim (last_match-is (Some a) front) [
-              | inl none ↦ inr (a, rw t none.0, record { before = []; after = front; split = refl; plain = none.1; matches = t })
+              | inl none ↦ inr (
+                a,
+                rw t none.0,
+                record
+                    { before = []; after = front; split = refl; plain = none.1; matches = t },
+              )
               | inr some ↦ inr (some.0, rw t some.1, later some.2)
             ]
         | inr f ↦
             elim (last_match-is g front) [
-              | inl none ↦ inl (rw f none.0, λ b i t. elim i [ inl e ↦ is_plain (is_match a.0) f (rw (← e) t) | inr j ↦ none.1 b j t ])
+              | inl none ↦ inl (
+                rw f none.0,
+                λ b i t. elim i [
+                  | inl e ↦ is_plain (is_match a.0) f (rw (← e) t)
+                  | inr j ↦ none.1 b j t
+                ],
+              )
               | inr some ↦ inr (some.0, rw f some.1, later some.2)
             ]
       ]
     where
       later : {b : Pair × Slots} → LastMatch front b → LastMatch (a ∷ front) b
-      later h = record { before = a ∷ h.before; after = h.after; split = ap (λ x. a ∷ x) h.split; plain = h.plain; matches = h.matches }
+      later h = record {
+        before = a ∷ h.before;
+        after = h.after;
+        split = ap (λ x. a ∷ x) h.split;
+        plain = h.plain;
+        matches = h.matches;
+      }
 
 -- what one front says of the paths that end at its position
 
-module _ (edges : Pair → List Pair) (capture : Pair → Option ℕ) (starts : List Pair) (resting is_match : Pair → Bool) (slots : Slots) (turns : ℕ)
+module _ (edges : Pair → List Pair) (capture : Pair → Option ℕ) (starts : List Pair) (resting is_match : Pair → Bool)
+    (slots : Slots) (turns : ℕ)
     (shape : Scanned edges capture starts resting is_match) {front : List (Pair × Slots)} {e : ℕ}
     (f : IsFront edges capture starts resting is_match slots turns front e) where
   -- the match pairs at e can be told
@@ -316,14 +379,21 @@ module _ (edges : Pair → List Pair) (capture : Pair → Option ℕ) (starts : 
 
   -- no match pair in the front: no path ends at e
   pub IsFront-no_match : NoMatch is_match front → NoPath edges starts (WantedAt (Passes is_match) e)
-  IsFront-no_match none = IsFront-none edges capture starts resting is_match slots turns shape f (WantedAt (Passes is_match) e) here here_matches (λ a i h. none a i h.wanted)
+  IsFront-no_match none = IsFront-none edges capture starts resting is_match slots turns shape f
+      (WantedAt (Passes is_match) e) here here_matches (λ a i h. none a i h.wanted)
 
   -- its first match pair is the end of the first path that ends at e
   pub IsFront-first_match : (a : Pair × Slots) → FirstMatch is_match front a
-      → (p : List Pair) × (first : IsFirstTo edges starts (WantedAt (Passes is_match) e) p) × (first.end ≡ a.0) × (found capture p slots ≡ Some a) × (length p ≤ turns)
+      → (p : List Pair) × (first : IsFirstTo edges starts (WantedAt (Passes is_match) e) p) × (first.end ≡ a.0)
+      × (found capture p slots ≡ Some a) × (length p ≤ turns)
   IsFront-first_match a m =
-      IsFront-first edges capture starts resting is_match slots turns shape f (WantedAt (Passes is_match) e) here here_matches m.before a m.after m.split
-      (λ b i h. m.plain b i h.wanted) (record { wanted = m.matches; at = (f.rest a (rw m.split (In-append_right a m.before (a ∷ m.after) (inl refl)))).1 })
+      IsFront-first edges capture starts resting is_match slots turns shape f (WantedAt (Passes is_match) e) here
+      here_matches m.before a m.after m.split
+      (λ b i h. m.plain b i h.wanted) (record {
+        wanted = m.matches;
+        at =
+            (f.rest a (rw m.split (In-append_right a m.before (a ∷ m.after) (inl refl)))).1;
+      })
 
   -- whether a pair is this one
   one : (m : Pair) → Tested (λ x. x ≡ m)
@@ -352,46 +422,63 @@ module _ (edges : Pair → List Pair) (capture : Pair → Option ℕ) (starts : 
     λ w.
         elim (find m front) [
           | inl r ↦ (r.item, rw r.split (In-append_right r.item r.before (r.item ∷ r.after) (inl refl)), r.is)
-          | inr none ↦ absurd (IsFront-none edges capture starts resting is_match slots turns shape f (λ x. x ≡ m) (one m) (here_at m h) none m w.0 w.1 refl)
+          | inr none ↦ absurd (IsFront-none edges capture starts resting is_match slots turns shape f (λ x. x ≡ m)
+              (one m) (here_at m h) none m w.0 w.1 refl)
         ],
     λ i.
         elim (find m front) [
           | inl r ↦
-              let first = IsFront-first edges capture starts resting is_match slots turns shape f (λ x. x ≡ m) (one m) (here_at m h) r.before r.item r.after r.split r.plain r.is in
+              let first = IsFront-first edges capture starts resting is_match slots turns shape f (λ x. x ≡ m) (one m)
+              (here_at m h) r.before r.item r.after r.split r.plain r.is in
               (first.0, rw first.1.wanted at first.1.path)
           | inr none ↦ absurd (none i.0 i.1 i.2)
         ],
   )
 
   -- the first path to a pair that stands before another in the front comes before every path to that one
-  IsFront-order : (before : List (Pair × Slots)) (b : Pair × Slots) (after : List (Pair × Slots)) → front ≡ before ++ b ∷ after
+  IsFront-order : (before : List (Pair × Slots)) (b : Pair × Slots) (after : List (Pair × Slots))
+      → front ≡ before ++ b ∷ after
       → (m n : Pair) → WantedAt (Passes is_match) e m → WantedAt (Passes is_match) e n → b.0 ≡ m
       → ((c : Pair × Slots) → In c before → c.0 ≡ m → ⊥) → ((c : Pair × Slots) → In c before → c.0 ≡ n → ⊥)
-      → (p : List Pair) → IsFirstTo edges starts (λ x. x ≡ m) p → (q : List Pair) → PathTo edges starts n q → (q ≡ p) ⊎ ComesBefore edges p q
+      → (p : List Pair) → IsFirstTo edges starts (λ x. x ≡ m) p → (q : List Pair) → PathTo edges starts n q
+      → (q ≡ p) ⊎ ComesBefore edges p q
   IsFront-order before b after split m n h k eq not_m not_n p first q w =
-      let found_first = IsFront-first edges capture starts resting is_match slots turns shape f (λ x. (x ≡ m) ⊎ (x ≡ n)) (two m n)
+      let found_first = IsFront-first edges capture starts resting is_match slots turns shape f
+      (λ x. (x ≡ m) ⊎ (x ≡ n)) (two m n)
       (λ x s. elim s [ inl y ↦ here_at m h x y | inr y ↦ here_at n k x y ]) before b after split
       (λ c i s. elim s [ inl y ↦ not_m c i y | inr y ↦ not_n c i y ]) (inl eq) in
       let both = found_first.1 in
       let to_m : IsFirstTo edges starts (λ x. x ≡ m) found_first.0 =
-      record { end = both.end; path = both.path; wanted = found_first.2 ∙ eq; first = λ d r v t. both.first d r v (inl t) } in
+      record {
+        end = both.end;
+        path = both.path;
+        wanted = found_first.2 ∙ eq;
+        first =
+            λ d r v t. both.first d r v (inl t);
+      } in
       let same_path : found_first.0 ≡ p = IsFirstTo-unique edges starts (λ x. x ≡ m) found_first.0 p to_m first in
       subst (λ x. (q ≡ x) ⊎ ComesBefore edges x q) same_path (both.first n q w (inr refl))
 
   -- the first path to any match pair at e is p or comes before it, where p is that to the last match pair of the front
-  first_before : (a : Pair × Slots) (l : LastMatch is_match front a) → ((b : Pair × Slots) → In b l.before → b.0 ≡ a.0 → ⊥)
+  first_before : (a : Pair × Slots) (l : LastMatch is_match front a)
+      → ((b : Pair × Slots) → In b l.before → b.0 ≡ a.0 → ⊥)
       → (p : List Pair) → IsFirstTo edges starts (λ x. x ≡ a.0) p
-      → (m : Pair) (q : List Pair) → WantedAt (Passes is_match) e m → IsFirstTo edges starts (λ x. x ≡ m) q → (q ≡ p) ⊎ ComesBefore edges q p
+      → (m : Pair) (q : List Pair) → WantedAt (Passes is_match) e m → IsFirstTo edges starts (λ x. x ≡ m) q
+      → (q ≡ p) ⊎ ComesBefore edges q p
   first_before a l before_a p first m q h k =
       elim (same m a.0) [
-        | inl eq ↦ inl (IsFirstTo-unique edges starts (λ x. x ≡ a.0) q p (subst (λ y. IsFirstTo edges starts (λ x. x ≡ y) q) eq k) first)
+        | inl eq ↦ inl (IsFirstTo-unique edges starts (λ x. x ≡ a.0) q p
+            (subst (λ y. IsFirstTo edges starts (λ x. x ≡ y) q) eq k) first)
         | inr other ↦
             elim (find m l.before) [
               | inl r ↦
                   let joined : front ≡ r.before ++ r.item ∷ (r.after ++ a ∷ l.after) =
-                  l.split ∙ ap (λ x. x ++ a ∷ l.after) r.split ∙ append_assoc r.before (r.item ∷ r.after) (a ∷ l.after) in
-                  elim (IsFront-order r.before r.item (r.after ++ a ∷ l.after) joined m a.0 h (item_here a (rw l.split (In-append_right a l.before (a ∷ l.after) (inl refl))) l.matches)
-                  r.is r.plain (λ c i. before_a c (rw r.split (In-append_left c r.before (r.item ∷ r.after) i))) q k p (rw first.wanted at first.path)) [
+                  l.split ∙ ap (λ x. x ++ a ∷ l.after) r.split
+                  ∙ append_assoc r.before (r.item ∷ r.after) (a ∷ l.after) in
+                  elim (IsFront-order r.before r.item (r.after ++ a ∷ l.after) joined m a.0 h
+                  (item_here a (rw l.split (In-append_right a l.before (a ∷ l.after) (inl refl))) l.matches)
+                  r.is r.plain (λ c i. before_a c (rw r.split (In-append_left c r.before (r.item ∷ r.after) i))) q k p
+                  (rw first.wanted at first.path)) [
                     | inl eq ↦ inl (sym eq)
                     | inr c ↦ inr c
                   ]
@@ -410,10 +497,24 @@ module _ (edges : Pair → List Pair) (capture : Pair → Option ℕ) (starts : 
 
   -- its last match pair is the end of the last of the first paths to the match pairs at e
   pub IsFront-last_match : (a : Pair × Slots) → LastMatch is_match front a
-      → (p : List Pair) × (last : IsLastOfFirsts edges starts (Passes is_match) e p) × (last.end ≡ a.0) × (found capture p slots ≡ Some a) × (length p ≤ turns)
+      → (p : List Pair) × (last : IsLastOfFirsts edges starts (Passes is_match) e p) × (last.end ≡ a.0)
+      × (found capture p slots ≡ Some a) × (length p ≤ turns)
   IsFront-last_match a l =
       let in_front : In a front = rw l.split (In-append_right a l.before (a ∷ l.after) (inl refl)) in
       let wanted = item_here a in_front l.matches in
-      let before_a : (b : Pair × Slots) → In b l.before → b.0 ≡ a.0 → ⊥ = apart l.before a l.after (subst (λ x. NoRepeats (map (λ (c : Pair × Slots). c.0) x)) l.split f.once) in
-      let first = IsFront-first edges capture starts resting is_match slots turns shape f (λ x. x ≡ a.0) (one a.0) (here_at a.0 wanted) l.before a l.after l.split before_a refl in
-      (first.0, record { end = a.0; wanted = wanted; first = first.1; last = λ m q h k. first_before a l before_a first.0 first.1 m q h k }, refl, first.3, first.4)
+      let before_a : (b : Pair × Slots) → In b l.before → b.0 ≡ a.0
+      → ⊥ = apart l.before a l.after (subst (λ x. NoRepeats (map (λ (c : Pair × Slots). c.0) x)) l.split f.once) in
+      let first = IsFront-first edges capture starts resting is_match slots turns shape f (λ x. x ≡ a.0) (one a.0)
+      (here_at a.0 wanted) l.before a l.after l.split before_a refl in (
+        first.0,
+        record {
+          end = a.0;
+          wanted = wanted;
+          first = first.1;
+          last =
+              λ m q h k. first_before a l before_a first.0 first.1 m q h k;
+        },
+        refl,
+        first.3,
+        first.4,
+      )

@@ -19,7 +19,8 @@ module _ (nfa : Automaton) (kind : MatchKind) (earliest : Bool) (x : Search) whe
   worth p = match_of (option_and_then (path_pattern nfa) p) (slot_row nfa (slot_count nfa.groups) p)
 
   -- a search has one match
-  pub match-unique : (a b : Option Found) → IsMatchAnswer nfa kind earliest x a → IsMatchAnswer nfa kind earliest x b → a ≡ b
+  pub match-unique : (a b : Option Found) → IsMatchAnswer nfa kind earliest x a
+      → IsMatchAnswer nfa kind earliest x b → a ≡ b
   match-unique a b h k =
       let one = search_answer-unique nfa kind earliest x h.restarts k.restarts h.path k.path h.answers k.answers in
       h.found_is ∙ ap worth one.1 ∙ sym k.found_is
@@ -32,5 +33,6 @@ module _ (nfa : Automaton) (kind : MatchKind) (earliest : Bool) (x : Search) whe
   pub sure-match : (m : Found) → IsSureMatch nfa kind earliest x m → IsMatchAnswer nfa kind earliest x (Some m)
   sure-match m sure =
       let answer = search_answer-exists nfa kind earliest x in
-      let is : IsMatchAnswer nfa kind earliest x (worth answer.1) = record { restarts = answer.0; path = answer.1; answers = answer.2; found_is = refl } in
+      let is : IsMatchAnswer nfa kind earliest x (worth answer.1) =
+      record { restarts = answer.0; path = answer.1; answers = answer.2; found_is = refl } in
       subst (λ (o : Option Found). IsMatchAnswer nfa kind earliest x o) (sure (worth answer.1) is) is

@@ -42,7 +42,8 @@ full-holds (true ∷ bs) full (suc k) lt =
     full-holds bs (omega (arith, e, full)) k (omega (arith, lt))
 
 -- a full set gains none
-pub full-gains : (nfa : Automaton) (x : Search) (earliest : Bool) (set : List Bool) → size_of_set set ≡ length set → IsOverlapResult nfa x All earliest set set
+pub full-gains : (nfa : Automaton) (x : Search) (earliest : Bool) (set : List Bool) → size_of_set set ≡ length set
+    → IsOverlapResult nfa x All earliest set set
 full-gains nfa x earliest set full = record {
   capacity = refl;
   keeps = λ k h. h;
@@ -51,7 +52,8 @@ full-gains nfa x earliest set full = record {
 }
 
 -- with room for none the first match gains none
-pub first-gains : (nfa : Automaton) (x : Search) (earliest : Bool) (set : List Bool) → size_of_set set ≡ length set → size_of_set set ≡ 0
+pub first-gains : (nfa : Automaton) (x : Search) (earliest : Bool) (set : List Bool) → size_of_set set ≡ length set
+    → size_of_set set ≡ 0
     → IsOverlapResult nfa x LeftmostFirst earliest set set
 first-gains nfa x earliest set full empty = record {
   capacity = refl;
@@ -79,12 +81,14 @@ pub size-none : (set : List Bool) → size_of_set set ≡ 0 → (k : ℕ) → Ho
 size-none [] e k h = cc
 size-none (true ∷ bs) e k h = absurd (omega (arith, size-cons true bs))
 size-none (false ∷ bs) e zero h = cc
-size-none (false ∷ bs) e (suc k) h = let rest : size_of_set bs ≡ 0 = omega (arith, size-cons false bs) in size-none bs rest k h
+size-none (false ∷ bs) e (suc k) h = let rest : size_of_set bs ≡ 0 = omega (arith, size-cons false bs) in
+    size-none bs rest k h
 
 pub none-size : (set : List Bool) → ((k : ℕ) → HoldsPattern set k → ⊥) → size_of_set set ≡ 0
 none-size [] h = refl
 none-size (true ∷ bs) h = absurd (h 0 refl)
-none-size (false ∷ bs) h = let rest : size_of_set bs ≡ 0 = none-size bs (λ k. h (suc k)) in omega (arith, size-cons false bs)
+none-size (false ∷ bs) h = let rest : size_of_set bs ≡ 0 = none-size bs (λ k. h (suc k)) in
+    omega (arith, size-cons false bs)
 
 -- what a set holds is below its capacity
 pub holds-below : (set : List Bool) (k : ℕ) → HoldsPattern set k → k < length set
@@ -101,7 +105,8 @@ length-with set p =
     ]
 
 -- what the set holds with one more pattern
-pub holds-with : (set : List Bool) (p k : ℕ) → HoldsPattern (with_pattern set p) k ↔ (HoldsPattern set k ⊎ ((k < length set) × (p ≡ k)))
+pub holds-with : (set : List Bool) (p k : ℕ)
+    → HoldsPattern (with_pattern set p) k ↔ (HoldsPattern set k ⊎ ((k < length set) × (p ≡ k)))
 holds-with set p k =
     elim (cases_lt p (length set)) [
       | inl less ↦ rw (lt-ltb p (length set) less) (
@@ -118,14 +123,25 @@ holds-with set p k =
       )
       | inr past ↦ rw (le-ltb p (length set) past) (
         λ h. inl h,
-        λ s. elim s [ inl h ↦ h | inr h ↦ let below : k < length set = h.0 in let e : p ≡ k = h.1 in absurd (omega arith) ],
+        λ s. elim s [
+          | inl h ↦ h
+          | inr h ↦ let below : k < length set = h.0 in let e : p ≡ k = h.1 in
+              absurd (omega arith)
+        ],
       )
     ]
 
 -- the patterns that are reached by the pairs of another set
-pub IsReached-along : {edges : Pair → List Pair} {starts : List Pair} {P Q : Pair → Type 0} {pattern : Pair → Option ℕ} {k : ℕ}
+pub IsReached-along : {edges : Pair → List Pair} {starts : List Pair} {P Q : Pair → Type 0}
+    {pattern : Pair → Option ℕ} {k : ℕ}
     → ((v : Pair) → P v → Q v) → IsReached edges starts P pattern k → IsReached edges starts Q pattern k
-IsReached-along to r = record { end = r.end; along = r.along; path = r.path; wanted = to r.end r.wanted; pattern_is = r.pattern_is }
+IsReached-along to r = record {
+  end = r.end;
+  along = r.along;
+  path = r.path;
+  wanted = to r.end r.wanted;
+  pattern_is = r.pattern_is;
+}
 
 -- two numbers that an option holds are one
 same_number : (m n : ℕ) → Some m ≡ Some n → m ≡ n
@@ -145,7 +161,8 @@ module _ (edges : Pair → List Pair) (target : Pair → Bool) (capture : Pair �
   found-other : (p : List Pair) (slots other : Slots) → found capture p slots ≡ None → found capture p other ≡ None
   found-other p slots other e = of (last_or None p) e
     where
-      of : (o : Option Pair) → option_map {U = Pair × Slots} (λ v. (v, apply capture p slots)) o ≡ None → option_map {U = Pair × Slots} (λ v. (v, apply capture p other)) o ≡ None
+      of : (o : Option Pair) → option_map {U = Pair × Slots} (λ v. (v, apply capture p slots)) o ≡ None
+          → option_map {U = Pair × Slots} (λ v. (v, apply capture p other)) o ≡ None
       of None e = refl
       of (Some v) e = cc
 
@@ -158,21 +175,27 @@ module _ (edges : Pair → List Pair) (target : Pair → Bool) (capture : Pair �
       (found capture k.0 slots, inl (k.0, k.1, refl, k.3), λ e. k.2 ∙ found-other k.0 slots other e)
   heads-Answer left marks (Explore v ∷ rest) slots other h (inr k) =
       let r = heads-Answer left marks rest slots other h k.1 in (r.0, inr (k.0, r.1), r.2)
-  heads-Answer left marks (Restore k old ∷ rest) slots other h a = heads-Answer left marks rest (set slots k old) other h a
+  heads-Answer left marks (Restore k old ∷ rest) slots other h a =
+      heads-Answer left marks rest (set slots k old) other h a
   heads-Answer left marks (Load old ∷ rest) slots other h a = heads-Answer left marks rest old other h a
 
   -- what is behind a part of a front is dropped: nothing is found, or what was found is found with it
-  pub AnswerBehind-drop : (left : ℕ) (before after : List (Pair × Slots)) (m n : List Pair) (old : Slots) (work : List Item) (slots current : Slots) (g : Found)
+  pub AnswerBehind-drop : (left : ℕ) (before after : List (Pair × Slots)) (m n : List Pair) (old : Slots)
+      (work : List Item) (slots current : Slots) (g : Found)
       → AnswerBehind edges target capture left before None m (Load old ∷ []) slots g
       → (g ≡ None) ⊎ AnswerBehind edges target capture left (before ++ after) None n work current g
   unfolding Answer AnswerBehind
   AnswerBehind-drop left [] after m n old work slots current g h = inl h
   AnswerBehind-drop left (b ∷ before) after m n old work slots current g (inl h) = inr (inl h)
   AnswerBehind-drop left (b ∷ before) after m n old work slots current g (inr h) =
-      elim (AnswerBehind-drop left before after m n old work slots current g h.1) [ inl e ↦ inl e | inr k ↦ inr (inr (h.0, k)) ]
+      elim (AnswerBehind-drop left before after m n old work slots current g h.1) [
+        | inl e ↦ inl e
+        | inr k ↦ inr (inr (h.0, k))
+      ]
 
 -- The set before is `old`: wanted is what it has room for.
-module _ (nfa : Automaton) (x : Search) (old : List Bool) (wants : Pair → Bool) (tells : (v : Pair) → (wants v ≡ true) ↔ IsHeld nfa x (length old) v) where
+module _ (nfa : Automaton) (x : Search) (old : List Bool) (wants : Pair → Bool)
+    (tells : (v : Pair) → (wants v ≡ true) ↔ IsHeld nfa x (length old) v) where
   -- what the search goes over
   pub wanted-shape : Scanned (edges nfa x) (capture nfa) (starts nfa x) (is_resting nfa) wants
   wanted-shape = Scanned-matches nfa x wants (λ v w. ((tells v).0 w).permitted.matches)
@@ -192,14 +215,16 @@ module _ (nfa : Automaton) (x : Search) (old : List Bool) (wants : Pair → Bool
   counts {k} less v may is = (tells v).1 (record { permitted = may; pattern = k; pattern_is = is; below = less })
 
   -- a pattern that is reached before e is one of an accepting path with a permitted end
-  reached-sound : {e k : ℕ} → ReachedBefore (edges nfa x) (starts nfa x) wants (pattern_at nfa) e k → IsPatternOf nfa x (IsPermitted nfa x) k
+  reached-sound : {e k : ℕ} → ReachedBefore (edges nfa x) (starts nfa x) wants (pattern_at nfa) e k
+      → IsPatternOf nfa x (IsPermitted nfa x) k
   reached-sound = IsReached-along (λ v w. ((tells v).0 w.wanted).permitted)
 
   -- The set of `All` at position e: it gained the patterns below its capacity that are reached before e.
   pub record GainsBefore (e : ℕ) (new : List Bool) : Type 0 where
     pub capacity : length new ≡ length old
     pub gained : (k : ℕ) → HoldsPattern new k
-        ↔ (HoldsPattern old k ⊎ ((k < length old) × ReachedBefore (edges nfa x) (starts nfa x) wants (pattern_at nfa) e k))
+        ↔ (HoldsPattern old k ⊎ ((k < length old)
+        × ReachedBefore (edges nfa x) (starts nfa x) wants (pattern_at nfa) e k))
 
   pub GainsBefore-start : GainsBefore x.start old
   GainsBefore-start = record {
@@ -208,19 +233,24 @@ module _ (nfa : Automaton) (x : Search) (old : List Bool) (wants : Pair → Bool
       λ h. inl h,
       λ s. elim s [
         | inl h ↦ h
-        | inr h ↦ absurd (ReachedBefore-start (edges nfa x) (capture nfa) (starts nfa x) (is_resting nfa) wants [] wanted-shape (pattern_at nfa) k x.start (starts-from nfa x) h.1)
+        | inr h ↦ absurd (ReachedBefore-start (edges nfa x) (capture nfa) (starts nfa x) (is_resting nfa) wants []
+            wanted-shape (pattern_at nfa) k x.start (starts-from nfa x) h.1)
       ],
     );
   }
 
-  module _ {slots : Slots} {turns e : ℕ} {front : List (Pair × Slots)} (f : IsFront (edges nfa x) (capture nfa) (starts nfa x) (is_resting nfa) wants slots turns front e) where
+  module _ {slots : Slots} {turns e : ℕ} {front : List (Pair × Slots)}
+      (f : IsFront (edges nfa x) (capture nfa) (starts nfa x) (is_resting nfa) wants slots turns front e) where
     -- what is reached before the next position
     reached-step : (k : ℕ) → ReachedBefore (edges nfa x) (starts nfa x) wants (pattern_at nfa) (e + 1) k
-        ↔ (ReachedBefore (edges nfa x) (starts nfa x) wants (pattern_at nfa) e k ⊎ HoldsMatch wants (pattern_at nfa) k front)
-    reached-step k = ReachedBefore-step (edges nfa x) (capture nfa) (starts nfa x) (is_resting nfa) wants slots wanted-shape (pattern_at nfa) k f
+        ↔ (ReachedBefore (edges nfa x) (starts nfa x) wants (pattern_at nfa) e k
+        ⊎ HoldsMatch wants (pattern_at nfa) k front)
+    reached-step k = ReachedBefore-step (edges nfa x) (capture nfa) (starts nfa x) (is_resting nfa) wants slots
+        wanted-shape (pattern_at nfa) k f
 
     pub GainsBefore-step : {mid new : List Bool} → GainsBefore e mid → length new ≡ length mid
-        → ((k : ℕ) → HoldsPattern new k ↔ (HoldsPattern mid k ⊎ ((k < length mid) × HoldsMatch wants (pattern_at nfa) k front)))
+        → ((k : ℕ) → HoldsPattern new k ↔ (HoldsPattern mid k
+        ⊎ ((k < length mid) × HoldsMatch wants (pattern_at nfa) k front)))
         → GainsBefore (e + 1) new
     GainsBefore-step {mid} {new} g size put = record {
       capacity = size ∙ g.capacity;
@@ -259,8 +289,16 @@ module _ (nfa : Automaton) (x : Search) (old : List Bool) (wants : Pair → Bool
                   (g.gained k).1
                   (inr (
                     w.0,
-                    (ReachedBefore-end (edges nfa x) (capture nfa) (starts nfa x) (is_resting nfa) wants [] wanted-shape (pattern_at nfa) k ends).1
-                        (record { end = w.1.end; along = w.1.along; path = w.1.path; wanted = counts w.0 w.1.end w.1.wanted w.1.pattern_is; pattern_is = w.1.pattern_is }),
+                    (ReachedBefore-end (edges nfa x) (capture nfa) (starts nfa x) (is_resting nfa) wants [] wanted-shape
+                        (pattern_at nfa) k ends).1
+                        (record {
+                          end = w.1.end;
+                          along = w.1.along;
+                          path = w.1.path;
+                          wanted =
+                              counts w.0 w.1.end w.1.wanted w.1.pattern_is;
+                          pattern_is = w.1.pattern_is;
+                        }),
                   ))
             ],
       );
@@ -268,7 +306,8 @@ module _ (nfa : Automaton) (x : Search) (old : List Bool) (wants : Pair → Bool
   }
 
   -- a full set gains no more
-  pub GainsBefore-full : {e : ℕ} {new : List Bool} → GainsBefore e new → size_of_set new ≡ length new → IsOverlapResult nfa x All false old new
+  pub GainsBefore-full : {e : ℕ} {new : List Bool} → GainsBefore e new → size_of_set new ≡ length new
+      → IsOverlapResult nfa x All false old new
   GainsBefore-full {e} {new} g full = record {
     capacity = g.capacity;
     keeps = λ k h. (g.gained k).1 (inl h);
@@ -287,19 +326,27 @@ module _ (nfa : Automaton) (x : Search) (old : List Bool) (wants : Pair → Bool
 
   pub NoneHeld-start : NoneHeld x.start
   NoneHeld-start = record {
-    none = λ k less r. ReachedBefore-start (edges nfa x) (capture nfa) (starts nfa x) (is_resting nfa) wants [] wanted-shape (pattern_at nfa) k x.start (starts-from nfa x) r;
+    none = λ k less r. ReachedBefore-start (edges nfa x) (capture nfa) (starts nfa x) (is_resting nfa) wants []
+        wanted-shape (pattern_at nfa) k x.start (starts-from nfa x) r;
   }
 
-  module _ {slots : Slots} {turns e : ℕ} {front : List (Pair × Slots)} (f : IsFront (edges nfa x) (capture nfa) (starts nfa x) (is_resting nfa) wants slots turns front e) where
-    pub NoneHeld-step : NoneHeld e → ((k : ℕ) → k < length old → HoldsMatch wants (pattern_at nfa) k front → ⊥) → NoneHeld (e + 1)
+  module _ {slots : Slots} {turns e : ℕ} {front : List (Pair × Slots)}
+      (f : IsFront (edges nfa x) (capture nfa) (starts nfa x) (is_resting nfa) wants slots turns front e) where
+    pub NoneHeld-step : NoneHeld e → ((k : ℕ) → k < length old → HoldsMatch wants (pattern_at nfa) k front → ⊥)
+        → NoneHeld (e + 1)
     NoneHeld-step none plain = record {
-      none = λ k less r. elim ((reached-step f k).0 r) [ inl before ↦ none.none k less before | inr here ↦ plain k less here ];
+      none = λ k less r. elim ((reached-step f k).0 r) [
+        | inl before ↦ none.none k less before
+        | inr here ↦ plain k less here
+      ];
     }
 
     -- what is reached at e, by the front
-    reached-here : (k : ℕ) → k < length old → IsPatternOf nfa x (WantedAt (IsPermitted nfa x) e) k ↔ HoldsMatch wants (pattern_at nfa) k front
+    reached-here : (k : ℕ) → k < length old → IsPatternOf nfa x (WantedAt (IsPermitted nfa x) e) k
+        ↔ HoldsMatch wants (pattern_at nfa) k front
     reached-here k less =
-        let at = IsReached-at (edges nfa x) (capture nfa) (starts nfa x) (is_resting nfa) wants slots wanted-shape (pattern_at nfa) k f in (
+        let at = IsReached-at (edges nfa x) (capture nfa) (starts nfa x) (is_resting nfa) wants slots wanted-shape
+        (pattern_at nfa) k f in (
           λ r. at.0 (record {
             end = r.end;
             along = r.along;
@@ -316,40 +363,67 @@ module _ (nfa : Automaton) (x : Search) (old : List Bool) (wants : Pair → Bool
     held-least none k less here =
         let r = (reached-here k less).1 here in
         record {
-          is_end = record { end = r.end; along = r.along; path = r.path; wanted = record { permitted = r.wanted.wanted; pattern = k; pattern_is = r.pattern_is; below = less }; at = r.wanted.at };
+          is_end = record {
+            end = r.end;
+            along = r.along;
+            path = r.path;
+            wanted =
+                record { permitted = r.wanted.wanted; pattern = k; pattern_is = r.pattern_is; below = less };
+            at = r.wanted.at;
+          };
           least = λ m p w h.
               elim (cases_lt m.1 e) [
                 | inl before ↦
                     absurd (none.none h.pattern h.below
-                    (record { end = m; along = p; path = w; wanted = record { wanted = (tells m).1 h; before = before }; pattern_is = h.pattern_is }))
+                    (record {
+                      end = m;
+                      along = p;
+                      path = w;
+                      wanted = record { wanted = (tells m).1 h; before = before };
+                      pattern_is = h.pattern_is;
+                    }))
                 | inr more ↦ more
               ];
         }
 
-    pub NoneHeld-found : {new : List Bool} → NoneHeld e → (k : ℕ) → k < length old → HoldsMatch wants (pattern_at nfa) k front
+    pub NoneHeld-found : {new : List Bool} → NoneHeld e → (k : ℕ) → k < length old
+        → HoldsMatch wants (pattern_at nfa) k front
         → length new ≡ length old
-        → ((j : ℕ) → HoldsPattern new j ↔ (HoldsPattern old j ⊎ ((j < length old) × HoldsMatch wants (pattern_at nfa) j front)))
+        → ((j : ℕ) → HoldsPattern new j ↔ (HoldsPattern old j
+        ⊎ ((j < length old) × HoldsMatch wants (pattern_at nfa) j front)))
         → IsOverlapResult nfa x All true old new
     NoneHeld-found {new} none k less here size put = record {
       capacity = size;
       keeps = λ j h. (put j).1 (inl h);
-      sound = λ j h. elim ((put j).0 h) [ inl o ↦ inl o | inr w ↦ inr (w.0, IsReached-along (λ v p. p.wanted) ((reached-here j w.0).1 w.1)) ];
+      sound = λ j h. elim ((put j).0 h) [
+        | inl o ↦ inl o
+        | inr w ↦ inr (w.0, IsReached-along (λ v p. p.wanted) ((reached-here j w.0).1 w.1))
+      ];
       gains = record {
         gained = λ j. (
-          λ h. elim ((put j).0 h) [ inl o ↦ inl o | inr w ↦ inr (w.0, (e, held-least none k less here, (reached-here j w.0).1 w.1)) ],
+          λ h. elim ((put j).0 h) [
+            | inl o ↦ inl o
+            | inr w ↦ inr (w.0, (e, held-least none k less here, (reached-here j w.0).1 w.1))
+          ],
           λ s.
               elim s [
                 | inl o ↦ (put j).1 (inl o)
                 | inr w ↦
-                    let same : w.1.0 ≡ e = IsLeastEnd-unique (edges nfa x) (starts nfa x) (IsHeld nfa x (length old)) w.1.0 e w.1.1 (held-least none k less here) in
-                    (put j).1 (inr (w.0, (reached-here j w.0).0 (subst (λ d. IsPatternOf nfa x (WantedAt (IsPermitted nfa x) d) j) same w.1.2)))
+                    let same : w.1.0 ≡ e = IsLeastEnd-unique (edges nfa x) (starts nfa x) (IsHeld nfa x (length old))
+                    w.1.0 e w.1.1 (held-least none k less here) in
+                    (put j).1 (inr (
+                      w.0,
+                      (reached-here j w.0).0
+                          (subst (λ d. IsPatternOf nfa x (WantedAt (IsPermitted nfa x) d) j) same w.1.2),
+                    ))
               ],
         );
       };
     }
 
   -- where every path has ended nothing is gained
-  pub NoneHeld-end : {e : ℕ} → NoneHeld e → EndsBefore (edges nfa x) (starts nfa x) wants e → IsOverlapResult nfa x All true old old
+  pub NoneHeld-end : {e : ℕ} → NoneHeld e → EndsBefore (edges nfa x) (starts nfa x) wants e
+      → IsOverlapResult nfa x All true old old
   NoneHeld-end {e} none ends = record {
     capacity = refl;
     keeps = λ k h. h;
@@ -366,7 +440,11 @@ module _ (nfa : Automaton) (x : Search) (old : List Bool) (wants : Pair → Bool
                     end = i.end;
                     along = i.along;
                     path = i.path;
-                    wanted = record { wanted = (tells i.end).1 i.wanted; before = ends i.end i.along i.path ((tells i.end).1 i.wanted) };
+                    wanted = record {
+                      wanted = (tells i.end).1 i.wanted;
+                      before =
+                          ends i.end i.along i.path ((tells i.end).1 i.wanted);
+                    };
                     pattern_is = i.wanted.pattern_is;
                   }))
             ],
@@ -390,12 +468,22 @@ module _ (nfa : Automaton) (x : Search) (old : List Bool) (wants : Pair → Bool
       where
         of : (b : Bool) → GainsAll nfa x b old old
         of false = record {
-          gained = λ k. (λ h. inl h, λ s. elim s [ inl o ↦ o | inr w ↦ absurd (none w.1.end w.1.along w.1.path (counts w.0 w.1.end w.1.wanted w.1.pattern_is)) ]);
+          gained = λ k. (
+            λ h. inl h,
+            λ s. elim s [
+              | inl o ↦ o
+              | inr w ↦ absurd (none w.1.end w.1.along w.1.path (counts w.0 w.1.end w.1.wanted w.1.pattern_is))
+            ],
+          );
         }
         of true = record {
           gained = λ k. (
             λ h. inl h,
-            λ s. elim s [ inl o ↦ o | inr w ↦ let i = w.1.2 in absurd (none i.end i.along i.path (counts w.0 i.end i.wanted.wanted i.pattern_is)) ],
+            λ s. elim s [
+              | inl o ↦ o
+              | inr w ↦ let i = w.1.2 in
+                  absurd (none i.end i.along i.path (counts w.0 i.end i.wanted.wanted i.pattern_is))
+            ],
           );
         }
 
@@ -419,7 +507,8 @@ module _ (nfa : Automaton) (x : Search) (old : List Bool) (wants : Pair → Bool
         still true = empty
 
   -- a set that holds a pattern gains none
-  pub First-full : (earliest : Bool) (set : List Bool) → 0 < size_of_set set → IsOverlapResult nfa x LeftmostFirst earliest set set
+  pub First-full : (earliest : Bool) (set : List Bool) → 0 < size_of_set set
+      → IsOverlapResult nfa x LeftmostFirst earliest set set
   First-full earliest set some = record {
     capacity = refl;
     keeps = λ k h. h;
@@ -430,12 +519,14 @@ module _ (nfa : Automaton) (x : Search) (old : List Bool) (wants : Pair → Bool
   -- the first wanted pair of a front
 
   -- it is the first of a smaller set that it is in
-  first-sub : (target : Pair → Bool) → ((v : Pair) → target v ≡ true → wants v ≡ true) → (front : List (Pair × Slots)) (a : Pair × Slots) → target a.0 ≡ true
+  first-sub : (target : Pair → Bool) → ((v : Pair) → target v ≡ true → wants v ≡ true)
+      → (front : List (Pair × Slots)) (a : Pair × Slots) → target a.0 ≡ true
       → first_match wants front ≡ Some a → first_match target front ≡ Some a
   first-sub target sub [] a t is = cc
   first-sub target sub (b ∷ front) a t is =
       elim (cases_Bool (wants b.0)) [
-        | inl yes_b ↦ let here : Some b ≡ Some a = rw yes_b at is in let same_item : b ≡ a = cc in rw (same_item, t) refl
+        | inl yes_b ↦ let here : Some b ≡ Some a = rw yes_b at is in let same_item : b ≡ a = cc in
+            rw (same_item, t) refl
         | inr no_b ↦
             let later : first_match wants front ≡ Some a = rw no_b at is in
             let not_b : target b.0 ≡ false = is_false (target b.0) (λ h. is_plain wants (wants b.0) no_b (sub b.0 h)) in
@@ -443,9 +534,13 @@ module _ (nfa : Automaton) (x : Search) (old : List Bool) (wants : Pair → Bool
       ]
 
   -- it answers, whatever is left
-  front-answers : (target : Pair → Bool) (e : ℕ) → ((v : Pair) → target v ≡ true → v.1 ≡ e) → (left : ℕ) (marks : List Pair) (work : List Item) (slots : Slots)
-      (front : List (Pair × Slots)) (a : Pair × Slots) → ((b : Pair × Slots) → In b front → (is_resting nfa b.0 ≡ true) × (b.0.1 ≡ e)) → first_match target front ≡ Some a
-      → AnswerBehind (edges nfa x) target (capture nfa) left front None marks work slots (found (capture nfa) (a.0 ∷ []) a.1)
+  front-answers : (target : Pair → Bool) (e : ℕ) → ((v : Pair) → target v ≡ true → v.1 ≡ e)
+      → (left : ℕ) (marks : List Pair) (work : List Item) (slots : Slots)
+      (front : List (Pair × Slots)) (a : Pair × Slots)
+      → ((b : Pair × Slots) → In b front → (is_resting nfa b.0 ≡ true) × (b.0.1 ≡ e))
+      → first_match target front ≡ Some a
+      → AnswerBehind (edges nfa x) target (capture nfa) left front None marks work slots
+      (found (capture nfa) (a.0 ∷ []) a.1)
   unfolding AnswerBehind
   front-answers target e at left marks work slots [] a rests is = cc
   front-answers target e at left marks work slots (b ∷ front) a rests is =
@@ -459,7 +554,8 @@ module _ (nfa : Automaton) (x : Search) (old : List Bool) (wants : Pair → Bool
             let later : first_match target front ≡ Some a = rw no_b at is in
             let r = rests b (inl refl) in
             inr (
-              IsFirst-rises (edges nfa x) target (capture nfa) e (edges-onward nfa x) at [] b.0 (λ w i. rw (← r.1) (edges-rise nfa x b.0 w r.0 i))
+              IsFirst-rises (edges nfa x) target (capture nfa) e (edges-onward nfa x) at [] b.0
+                  (λ w i. rw (← r.1) (edges-rise nfa x b.0 w r.0 i))
                   (λ t. is_plain wants (target b.0) no_b t),
               front-answers target e at left marks work slots front a (λ c i. rests c (inr i)) later,
             )
@@ -470,7 +566,8 @@ module _ (nfa : Automaton) (x : Search) (old : List Bool) (wants : Pair → Bool
     pub path : List Pair
     pub first : IsFirstTo (edges nfa x) (starts nfa x) (λ v. target v ≡ true) path
 
-  answer-reaches : (target : Pair → Bool) → ((v : Pair) → target v ≡ true → wants v ≡ true) → (turns : ℕ) (slots : Slots) (g : Found)
+  answer-reaches : (target : Pair → Bool) → ((v : Pair) → target v ≡ true → wants v ≡ true)
+      → (turns : ℕ) (slots : Slots) (g : Found)
       → Answer (edges nfa x) target (capture nfa) turns None [] (map Explore (starts nfa x)) slots g
       → (g ≡ None) ⊎ ((r : Reaches target) × (g ≡ found (capture nfa) r.path slots))
   answer-reaches target sub turns slots g answer =
@@ -479,7 +576,8 @@ module _ (nfa : Automaton) (x : Search) (old : List Bool) (wants : Pair → Bool
             inr (
               record {
                 path = k.0;
-                first = IsLeast-first (edges nfa x) (starts nfa x) target (λ v t. wanted-shape.leads_nowhere v (sub v t)) k.0
+                first = IsLeast-first (edges nfa x) (starts nfa x) target
+                    (λ v t. wanted-shape.leads_nowhere v (sub v t)) k.0
                     (IsLeast-from_first (edges nfa x) target (starts nfa x) wanted-shape.increasing (Some k.0) k.1);
               },
               k.2,
@@ -514,9 +612,11 @@ module _ (nfa : Automaton) (x : Search) (old : List Bool) (wants : Pair → Bool
     pub is : first.end ≡ a.0
 
   -- the first wanted pair of a front is, also where what is behind it was not followed
-  pub FirstAt-front : {slots : Slots} {e : ℕ} {Seen : Pair → Type 0} {spent : ℕ} {front : List (Pair × Slots)} {work : List Item} {current : Slots}
+  pub FirstAt-front : {slots : Slots} {e : ℕ} {Seen : Pair → Type 0} {spent : ℕ} {front : List (Pair × Slots)}
+      {work : List Item} {current : Slots}
       → Scanning (edges nfa x) (capture nfa) (starts nfa x) wants slots e Seen spent front work current
-      → ((b : Pair × Slots) → In b front → (is_resting nfa b.0 ≡ true) × (b.0.1 ≡ e)) → (a : Pair × Slots) → first_match wants front ≡ Some a
+      → ((b : Pair × Slots) → In b front → (is_resting nfa b.0 ≡ true) × (b.0.1 ≡ e)) → (a : Pair × Slots)
+      → first_match wants front ≡ Some a
       → FirstAt e a
   FirstAt-front {slots} {e} {Seen} {spent} {front} {work} {current} s rests a is =
       elim (first_match-is wants front) [
@@ -527,32 +627,45 @@ module _ (nfa : Automaton) (x : Search) (old : List Bool) (wants : Pair → Bool
             let matches : wants a.0 ≡ true = rw (← same_item) has.2.matches in
             let among : In a front = rw (← same_item) (rw has.2.split (In-middle has.2.before has.0 has.2.after)) in
             let t : here_target e a.0 ≡ true = is_here e a.0 (record { wanted = matches; at = (rests a among).1 }) in
-            let searching = s.searching (here_target e) (λ v h. ((here_is e v h).wanted, let k : v.1 ≡ e = (here_is e v h).at in omega arith)) in
+            let searching = s.searching (here_target e)
+            (λ v h. ((here_is e v h).wanted, let k : v.1 ≡ e = (here_is e v h).at in omega arith)) in
             let answer = searching.leads (found (capture nfa) (a.0 ∷ []) a.1) 0 spent (omega arith)
             (front-answers (here_target e) e (λ v h. (here_is e v h).at) 0 searching.marks work current front a rests
             (first-sub (here_target e) (λ v h. (here_is e v h).wanted) front a t is)) in
-            let wrote : found (capture nfa) (a.0 ∷ []) a.1 ≡ Some a = rw (wanted-shape.writes_nothing a.0 matches) refl in
-            elim (answer-reaches (here_target e) (λ v h. (here_is e v h).wanted) spent slots (found (capture nfa) (a.0 ∷ []) a.1) answer) [
+            let wrote : found (capture nfa) (a.0 ∷ []) a.1 ≡ Some a =
+            rw (wanted-shape.writes_nothing a.0 matches) refl in
+            elim (answer-reaches (here_target e) (λ v h. (here_is e v h).wanted) spent slots
+            (found (capture nfa) (a.0 ∷ []) a.1) answer) [
               | inl k ↦ let never : Some a ≡ None = sym wrote ∙ k in cc
               | inr k ↦
                   let f = k.0.first in
-                  let end : found (capture nfa) k.0.path slots ≡ Some (f.end, apply (capture nfa) k.0.path slots) = found-end (capture nfa) f.end k.0.path slots f.path.ends in
+                  let end : found (capture nfa) k.0.path slots ≡ Some (f.end, apply (capture nfa) k.0.path slots) =
+                  found-end (capture nfa) f.end k.0.path slots f.path.ends in
                   let one : Some (f.end, apply (capture nfa) k.0.path slots) ≡ Some a = sym end ∙ sym k.1 ∙ wrote in
                   record {
                     path = k.0.path;
-                    first = record { end = f.end; path = f.path; wanted = here_is e f.end f.wanted; first = λ m q w t. f.first m q w (is_here e m t) };
+                    first = record {
+                      end = f.end;
+                      path = f.path;
+                      wanted = here_is e f.end f.wanted;
+                      first =
+                          λ m q w t. f.first m q w (is_here e m t);
+                    };
                     is = (same_parts (f.end, apply (capture nfa) k.0.path slots) a one).0;
                   }
             ]
       ]
     where
-      In-middle : (before : List (Pair × Slots)) (a : Pair × Slots) (later : List (Pair × Slots)) → In a (before ++ a ∷ later)
+      In-middle : (before : List (Pair × Slots)) (a : Pair × Slots) (later : List (Pair × Slots))
+          → In a (before ++ a ∷ later)
       In-middle [] a later = inl refl
       In-middle (b ∷ before) a later = inr (In-middle before a later)
 
   -- the first front with a wanted pair: its first has the pattern of the earliest path
-  pub FirstAt-found : {e k : ℕ} {a : Pair × Slots} {new : List Bool} → NoneBefore (edges nfa x) (starts nfa x) wants e → FirstAt e a
-      → pattern_at nfa a.0 ≡ Some k → size_of_set old ≡ 0 → new ≡ with_pattern old k → IsOverlapResult nfa x LeftmostFirst true old new
+  pub FirstAt-found : {e k : ℕ} {a : Pair × Slots} {new : List Bool}
+      → NoneBefore (edges nfa x) (starts nfa x) wants e → FirstAt e a
+      → pattern_at nfa a.0 ≡ Some k → size_of_set old ≡ 0 → new ≡ with_pattern old k
+      → IsOverlapResult nfa x LeftmostFirst true old new
   FirstAt-found {e} {k} {a} {new} none f pattern_is empty put =
       let w : WantedAt (IsHeld nfa x (length old)) e f.first.end = wanted_at e f.first.end f.first.wanted in
       let at_end : pattern_at nfa f.first.end ≡ Some k = rw f.is pattern_is in
@@ -564,7 +677,14 @@ module _ (nfa : Automaton) (x : Search) (old : List Bool) (wants : Pair → Bool
         sound = λ j h.
             inr (
               (only j h).0,
-              record { end = f.first.end; along = f.path; path = f.first.path; wanted = w.wanted.permitted; pattern_is = rw (← (only j h).1) at_end },
+              record {
+                end = f.first.end;
+                along = f.path;
+                path = f.first.path;
+                wanted = w.wanted.permitted;
+                pattern_is =
+                    rw (← (only j h).1) at_end;
+              },
             );
         gains = record {
           full = λ some. absurd (omega arith);
@@ -573,10 +693,21 @@ module _ (nfa : Automaton) (x : Search) (old : List Bool) (wants : Pair → Bool
             meant = (
               e,
               record {
-                is_end = record { end = f.first.end; along = f.path; path = f.first.path; wanted = w.wanted; at = w.at };
-                least = λ m p v h. elim (cases_lt m.1 e) [ inl less ↦ absurd (none m p v (record { wanted = (tells m).1 h; before = less })) | inr more ↦ more ];
+                is_end = record {
+                  end = f.first.end;
+                  along = f.path;
+                  path = f.first.path;
+                  wanted =
+                      w.wanted;
+                  at = w.at;
+                };
+                least = λ m p v h. elim (cases_lt m.1 e) [
+                  | inl less ↦ absurd (none m p v (record { wanted = (tells m).1 h; before = less }))
+                  | inr more ↦ more
+                ];
               },
-              IsFirstTo-along (edges nfa x) (starts nfa x) (WantedAt (Passes wants) e) (WantedAt (IsHeld nfa x (length old)) e) (wanted_at e) (held_at e) f.first,
+              IsFirstTo-along (edges nfa x) (starts nfa x) (WantedAt (Passes wants) e)
+                  (WantedAt (IsHeld nfa x (length old)) e) (wanted_at e) (held_at e) f.first,
             );
             holds = record {
               end = f.first.end;
@@ -586,7 +717,8 @@ module _ (nfa : Automaton) (x : Search) (old : List Bool) (wants : Pair → Bool
               holds = λ j. (
                 λ h. sym (only j h).1,
                 λ same_pattern.
-                    let below : k < length old = subst (λ n. n < length old) (same_number w.wanted.pattern k (sym w.wanted.pattern_is ∙ at_end)) w.wanted.below in
+                    let below : k < length old = subst (λ n. n < length old)
+                    (same_number w.wanted.pattern k (sym w.wanted.pattern_is ∙ at_end)) w.wanted.below in
                     rw put ((holds-with old k j).1 (inr (let l : j < length old = omega arith in l, sym same_pattern))),
               );
             };
@@ -594,18 +726,22 @@ module _ (nfa : Automaton) (x : Search) (old : List Bool) (wants : Pair → Bool
         };
       }
 
-  -- What some work leads to was reached by the starts, whichever wanted pairs at e or behind it it leads to: so it stays where work is dropped.
+  -- What some work leads to was reached by the starts, whichever wanted pairs at e or behind it it leads to: so it
+  -- stays where work is dropped.
   pub record Sound (e : ℕ) (pairs : List Pair) : Type 0 where
     pub reaches : (target : Pair → Bool) → MatchesFrom wants e target → (left : ℕ) (slots : Slots) (g : Found)
-        → Answer (edges nfa x) target (capture nfa) left None [] (map Explore pairs) slots g → (g ≡ None) ⊎ Reaches target
+        → Answer (edges nfa x) target (capture nfa) left None [] (map Explore pairs) slots g
+        → (g ≡ None) ⊎ Reaches target
 
   pub Sound-start : (e : ℕ) → Sound e (starts nfa x)
   Sound-start e = record {
-    reaches = λ target at left slots g a. elim (answer-reaches target (λ v t. (at v t).0) left slots g a) [ inl none ↦ inl none | inr k ↦ inr k.0 ];
+    reaches = λ target at left slots g a. elim (answer-reaches target (λ v t. (at v t).0) left slots g a)
+        [ inl none ↦ inl none | inr k ↦ inr k.0 ];
   }
 
   -- a position that is searched from some pairs, for each set of wanted pairs
-  pub record Searched (e : ℕ) (pairs : List Pair) (front : List (Pair × Slots)) (work : List Item) (written : Slots) : Type 0 where
+  pub record Searched (e : ℕ) (pairs : List Pair) (front : List (Pair × Slots)) (work : List Item)
+      (written : Slots) : Type 0 where
     pub leads : (target : Pair → Bool) → ((v : Pair) → target v ≡ true → wants v ≡ true)
         → (marks : List Pair) × ((v : Pair) → In v marks → v.1 ≤ e)
         × ((left : ℕ) (g : Found) → AnswerBehind (edges nfa x) target (capture nfa) left front None marks work written g
@@ -630,7 +766,8 @@ module _ (nfa : Automaton) (x : Search) (old : List Bool) (wants : Pair → Bool
       (sound : Sound e pairs) (s : Searched e pairs front work written)
       (rests_at : (b : Pair × Slots) → In b front → (is_resting nfa b.0 ≡ true) × (b.0.1 ≡ e)) where
     -- the first wanted pair is reached
-    pub Sound-hit : (a : Pair × Slots) → first_match wants front ≡ Some a → (p : List Pair) × PathTo (edges nfa x) (starts nfa x) a.0 p × (wants a.0 ≡ true) × (a.0.1 ≡ e)
+    pub Sound-hit : (a : Pair × Slots) → first_match wants front ≡ Some a → (p : List Pair)
+        × PathTo (edges nfa x) (starts nfa x) a.0 p × (wants a.0 ≡ true) × (a.0.1 ≡ e)
     Sound-hit a is =
         elim (first_match-is wants front) [
           | inl lacks ↦ let never : Some a ≡ None = sym is ∙ lacks.0 in cc
@@ -642,24 +779,30 @@ module _ (nfa : Automaton) (x : Search) (old : List Bool) (wants : Pair → Bool
               let at : a.0.1 ≡ e = (rests_at a among).1 in
               let one : (v : Pair) → (v ≡ a.0) ⊎ ¬ (v ≡ a.0) = λ v. same v a.0 in
               let is_one : (v : Pair) → test (one v) ≡ true → v ≡ a.0 = λ v t. test-true (one v) t in
-              let only : (v : Pair) → test (one v) ≡ true → (wants v ≡ true) × (v.1 ≡ e) = λ v t. rw (is_one v t) (matches, at) in
+              let only : (v : Pair) → test (one v) ≡ true → (wants v ≡ true)
+              × (v.1 ≡ e) = λ v t. rw (is_one v t) (matches, at) in
               let lead = s.leads (λ v. test (one v)) (λ v t. (only v t).0) in
               let answer = lead.2 0 (found (capture nfa) (a.0 ∷ []) a.1)
               (front-answers (λ v. test (one v)) e (λ v t. (only v t).1) 0 lead.0 work written front a rests_at
               (first-sub (λ v. test (one v)) (λ v t. (only v t).0) front a (true-test (one a.0) refl) is)) in
-              let wrote : found (capture nfa) (a.0 ∷ []) a.1 ≡ Some a = rw (wanted-shape.writes_nothing a.0 matches) refl in
-              elim (sound.reaches (λ v. test (one v)) (λ v t. ((only v t).0, let k : v.1 ≡ e = (only v t).1 in omega arith)) answer.0 [] (found (capture nfa) (a.0 ∷ []) a.1) answer.1) [
+              let wrote : found (capture nfa) (a.0 ∷ []) a.1 ≡ Some a =
+              rw (wanted-shape.writes_nothing a.0 matches) refl in
+              elim (sound.reaches (λ v. test (one v))
+              (λ v t. ((only v t).0, let k : v.1 ≡ e = (only v t).1 in omega arith)) answer.0 []
+              (found (capture nfa) (a.0 ∷ []) a.1) answer.1) [
                 | inl none ↦ let never : Some a ≡ None = sym wrote ∙ none in cc
                 | inr r ↦ (r.path, rw (is_one r.first.end r.first.wanted) at r.first.path, matches, at)
               ]
         ]
       where
-        In-middle : (before : List (Pair × Slots)) (a : Pair × Slots) (later : List (Pair × Slots)) → In a (before ++ a ∷ later)
+        In-middle : (before : List (Pair × Slots)) (a : Pair × Slots) (later : List (Pair × Slots))
+            → In a (before ++ a ∷ later)
         In-middle [] a later = inl refl
         In-middle (b ∷ before) a later = inr (In-middle before a later)
 
     -- the next position, from a part of the front and some of what waits
-    module _ (kept : List (Pair × Slots)) (loaded : Slots) (waiting : List Item) (among : (b : Pair × Slots) → In b kept → In b front)
+    module _ (kept : List (Pair × Slots)) (loaded : Slots) (waiting : List Item)
+        (among : (b : Pair × Slots) → In b kept → In b front)
         (comes : (k : Pair) → In (Explore k) waiting → e < k.1)
         (drops : (target : Pair → Bool) (marks : List Pair) (left : ℕ) (g : Found)
         → AnswerBehind (edges nfa x) target (capture nfa) left kept None marks (Load loaded ∷ waiting) written g
@@ -667,14 +810,16 @@ module _ (nfa : Automaton) (x : Search) (old : List Bool) (wants : Pair → Bool
       Sound-next : Sound (e + 1) (heads (round (edges nfa x) kept (Load loaded ∷ waiting)))
       Sound-next = record {
         reaches = λ target at left slots g a.
-            let other = heads-Answer (edges nfa x) target (capture nfa) left [] (round (edges nfa x) kept (Load loaded ∷ waiting)) [] slots g a in
+            let other = heads-Answer (edges nfa x) target (capture nfa) left []
+            (round (edges nfa x) kept (Load loaded ∷ waiting)) [] slots g a in
             let lead = s.leads target (λ v t. (at v t).0) in
             let behind = AnswerBehind-round (edges nfa x) target (capture nfa) (λ v. e < v.1)
             (λ v y ahead i. let k : v.1 ≤ y.1 = edges-onward nfa x v y i in let l : e < v.1 = ahead in omega arith)
             left kept None lead.0 waiting written loaded [] other.0
             (λ b i.
             let r = rests_at b (among b i) in (
-              is_false (target b.0) (λ t. let k : e + 1 ≤ b.0.1 = (at b.0 t).1 in let l : b.0.1 ≡ e = r.1 in omega arith),
+              is_false (target b.0) (λ t. let k : e + 1 ≤ b.0.1 = (at b.0 t).1 in let l : b.0.1 ≡ e =
+                  r.1 in omega arith),
               resting-capture b.0 r.0,
               λ h. let k : e < b.0.1 = h in let l : b.0.1 ≡ e = r.1 in omega arith,
               λ w j. rw (← r.1) (edges-rise nfa x b.0 w r.0 j),
@@ -684,7 +829,8 @@ module _ (nfa : Automaton) (x : Search) (old : List Bool) (wants : Pair → Bool
               | inl none ↦ inl (other.2 none)
               | inr full ↦
                   let answer = lead.2 left other.0 full in
-                  elim (sound.reaches target (λ v t. ((at v t).0, let k : e + 1 ≤ v.1 = (at v t).1 in omega arith)) answer.0 [] other.0 answer.1) [
+                  elim (sound.reaches target (λ v t. ((at v t).0, let k : e + 1 ≤ v.1 = (at v t).1 in omega arith))
+                  answer.0 [] other.0 answer.1) [
                     | inl none ↦ inl (other.2 none)
                     | inr r ↦ inr r
                   ]
@@ -692,26 +838,32 @@ module _ (nfa : Automaton) (x : Search) (old : List Bool) (wants : Pair → Bool
       }
 
   -- nothing is dropped
-  pub Sound-round : {e : ℕ} {pairs : List Pair} {front : List (Pair × Slots)} {written loaded : Slots} {waiting : List Item}
+  pub Sound-round : {e : ℕ} {pairs : List Pair} {front : List (Pair × Slots)} {written loaded : Slots}
+      {waiting : List Item}
       → Sound e pairs → Searched e pairs front (Load loaded ∷ waiting) written
-      → ((b : Pair × Slots) → In b front → (is_resting nfa b.0 ≡ true) × (b.0.1 ≡ e)) → ((k : Pair) → In (Explore k) waiting → e < k.1)
+      → ((b : Pair × Slots) → In b front → (is_resting nfa b.0 ≡ true) × (b.0.1 ≡ e))
+      → ((k : Pair) → In (Explore k) waiting → e < k.1)
       → Sound (e + 1) (heads (round (edges nfa x) front (Load loaded ∷ waiting)))
   Sound-round {front = front} {loaded = loaded} {waiting = waiting} sound s rests_at comes =
       Sound-next sound s rests_at front loaded waiting (λ b i. i) comes (λ target marks left g h. inr h)
 
   -- what is behind the first wanted pair is dropped
-  pub Sound-cut : {e : ℕ} {pairs : List Pair} {front : List (Pair × Slots)} {work : List Item} {written : Slots} (loaded : Slots)
+  pub Sound-cut : {e : ℕ} {pairs : List Pair} {front : List (Pair × Slots)} {work : List Item} {written : Slots}
+      (loaded : Slots)
       → Sound e pairs → Searched e pairs front work written
       → ((b : Pair × Slots) → In b front → (is_resting nfa b.0 ≡ true) × (b.0.1 ≡ e))
       → Sound (e + 1) (heads (round (edges nfa x) (before_match wants front) (Load loaded ∷ [])))
   Sound-cut {front = front} {work} {written} loaded sound s rests_at =
       let cut = before_match-split front in
-      Sound-next sound s rests_at (before_match wants front) loaded [] (λ b i. rw cut.1 (In-append_left b (before_match wants front) cut.0 i))
+      Sound-next sound s rests_at (before_match wants front) loaded []
+      (λ b i. rw cut.1 (In-append_left b (before_match wants front) cut.0 i))
       (λ k i. absurd i)
       (λ target marks left g h.
-      rw cut.1 (AnswerBehind-drop (edges nfa x) target (capture nfa) left (before_match wants front) cut.0 marks marks loaded work written written g h))
+      rw cut.1 (AnswerBehind-drop (edges nfa x) target (capture nfa) left (before_match wants front) cut.0 marks marks
+      loaded work written written g h))
     where
-      before_match-split : (front : List (Pair × Slots)) → (after : List (Pair × Slots)) × (front ≡ before_match wants front ++ after)
+      before_match-split : (front : List (Pair × Slots)) → (after : List (Pair × Slots))
+          × (front ≡ before_match wants front ++ after)
       before_match-split [] = ([], refl)
       before_match-split (a ∷ front) =
           elim (cases_Bool (wants a.0)) [
@@ -723,7 +875,8 @@ module _ (nfa : Automaton) (x : Search) (old : List Bool) (wants : Pair → Bool
       In-append_left b [] ys i = absurd i
       In-append_left b (c ∷ xs) ys i = elim i [ inl h ↦ inl h | inr j ↦ inr (In-append_left b xs ys j) ]
 
-  -- The set of LeftmostFirst after a match that dropped what is behind it: it holds its pattern, and else only those of ends before it.
+  -- The set of LeftmostFirst after a match that dropped what is behind it: it holds its pattern, and else only those of
+  -- ends before it.
   pub record UpToMatch (e : ℕ) (v : Pair) (new : List Bool) : Type 0 where
     pub capacity : length new ≡ length old
     pub pattern : ℕ
@@ -733,7 +886,8 @@ module _ (nfa : Automaton) (x : Search) (old : List Bool) (wants : Pair → Bool
     pub along : List Pair
     pub path : PathTo (edges nfa x) (starts nfa x) v along
     pub holds : pattern < length old → HoldsPattern new pattern
-    pub others : (k : ℕ) → HoldsPattern new k → (k ≡ pattern) ⊎ IsPatternOf nfa x (WantedBefore (IsPermitted nfa x) v.1) k
+    pub others : (k : ℕ) → HoldsPattern new k
+        → (k ≡ pattern) ⊎ IsPatternOf nfa x (WantedBefore (IsPermitted nfa x) v.1) k
 
   -- the same, or that there was none yet
   abbrev pub UpTo : ℕ → Found → List Bool → Type 0
@@ -755,7 +909,8 @@ module _ (nfa : Automaton) (x : Search) (old : List Bool) (wants : Pair → Bool
   }
 
   -- one more match
-  pub UpTo-match : (e : ℕ) {k : ℕ} (g : Found) (a : Pair × Slots) (mid new : List Bool) → size_of_set old ≡ 0 → UpTo e g mid
+  pub UpTo-match : (e : ℕ) {k : ℕ} (g : Found) (a : Pair × Slots) (mid new : List Bool)
+      → size_of_set old ≡ 0 → UpTo e g mid
       → (p : List Pair) × PathTo (edges nfa x) (starts nfa x) a.0 p × (wants a.0 ≡ true) × (a.0.1 ≡ e)
       → pattern_at nfa a.0 ≡ Some k → new ≡ with_pattern mid k → UpTo (e + 1) (Some a) new
   UpTo-match e {k} g a mid new empty so_far hit is put =
@@ -772,7 +927,8 @@ module _ (nfa : Automaton) (x : Search) (old : List Bool) (wants : Pair → Bool
         holds = λ below. rw put ((holds-with mid k k).1 (inr (rw size below, refl)));
         others = λ j h.
             elim ((holds-with mid k j).0 (rw put at h)) [
-              | inl m ↦ inr (subst (λ d. IsPatternOf nfa x (WantedBefore (IsPermitted nfa x) d) j) (sym at) (earlier g so_far j m))
+              | inl m ↦ inr (subst (λ d. IsPatternOf nfa x (WantedBefore (IsPermitted nfa x) d) j) (sym at)
+                  (earlier g so_far j m))
               | inr b ↦ inl (sym b.1)
             ];
       }
@@ -781,7 +937,8 @@ module _ (nfa : Automaton) (x : Search) (old : List Bool) (wants : Pair → Bool
       capacity None same_set = ap (λ (l : List Bool). length l) same_set
       capacity (Some b) h = h.capacity
 
-      earlier : (g : Found) → UpTo e g mid → (j : ℕ) → HoldsPattern mid j → IsPatternOf nfa x (WantedBefore (IsPermitted nfa x) e) j
+      earlier : (g : Found) → UpTo e g mid → (j : ℕ) → HoldsPattern mid j
+          → IsPatternOf nfa x (WantedBefore (IsPermitted nfa x) e) j
       earlier None same_set j h = absurd (size-none old empty j (rw same_set at h))
       earlier (Some b) u j h =
           elim (u.others j h) [
@@ -792,7 +949,11 @@ module _ (nfa : Automaton) (x : Search) (old : List Bool) (wants : Pair → Bool
               wanted = record { wanted = ((tells b.0).0 u.wanted).permitted; before = u.before };
               pattern_is = rw same_pattern u.pattern_is;
             }
-            | inr r ↦ IsReached-along (λ v w. record { wanted = w.wanted; before = let k : v.1 < b.0.1 = w.before in let l : b.0.1 < e = u.before in omega arith }) r
+            | inr r ↦ IsReached-along (λ v w. record {
+              wanted = w.wanted;
+              before = let k : v.1 < b.0.1 = w.before in
+                  let l : b.0.1 < e = u.before in omega arith;
+            }) r
           ]
 
   -- what the search comes to in the end
@@ -800,10 +961,12 @@ module _ (nfa : Automaton) (x : Search) (old : List Bool) (wants : Pair → Bool
       → Answer (edges nfa x) wants (capture nfa) turns None [] (map Explore (starts nfa x)) slots g
       → IsOverlapResult nfa x LeftmostFirst false old new
   UpTo-end e turns slots g new empty so_far answer =
-      let h = IsFirstPath-found (edges nfa x) (capture nfa) (starts nfa x) (is_resting nfa) wants slots wanted-shape turns g answer in
+      let h = IsFirstPath-found (edges nfa x) (capture nfa) (starts nfa x) (is_resting nfa) wants slots wanted-shape
+      turns g answer in
       of g so_far h.path h.meant h.leads
     where
-      of : (g : Found) → UpTo e g new → (o : Option (List Pair)) → IsFirstPath (edges nfa x) (starts nfa x) (Passes wants) o → found_along (capture nfa) o slots ≡ g
+      of : (g : Found) → UpTo e g new → (o : Option (List Pair))
+          → IsFirstPath (edges nfa x) (starts nfa x) (Passes wants) o → found_along (capture nfa) o slots ≡ g
           → IsOverlapResult nfa x LeftmostFirst false old new
       of None same_set None none is = rw same_set (First-none none false empty)
       of None same_set (Some p) first is =
@@ -814,7 +977,8 @@ module _ (nfa : Automaton) (x : Search) (old : List Bool) (wants : Pair → Bool
           let end = found-end (capture nfa) first.end p slots first.path.ends in
           let here : first.end ≡ a.0 = (same_parts (first.end, apply (capture nfa) p slots) a (sym end ∙ is)).0 in
           let held : IsHeld nfa x (length old) a.0 = (tells a.0).0 u.wanted in
-          let below : u.pattern < length old = subst (λ n. n < length old) (same_number held.pattern u.pattern (sym held.pattern_is ∙ u.pattern_is)) held.below in
+          let below : u.pattern < length old = subst (λ n. n < length old)
+          (same_number held.pattern u.pattern (sym held.pattern_is ∙ u.pattern_is)) held.below in
           let at : pattern_at nfa first.end ≡ Some u.pattern = rw here u.pattern_is in
           record {
             capacity = u.capacity;
@@ -826,7 +990,14 @@ module _ (nfa : Automaton) (x : Search) (old : List Bool) (wants : Pair → Bool
                   omega arith,
                   elim (u.others j h) [
                     | inl same_pattern ↦
-                        record { end = a.0; along = u.along; path = u.path; wanted = held.permitted; pattern_is = rw same_pattern u.pattern_is }
+                        record {
+                          end = a.0;
+                          along = u.along;
+                          path = u.path;
+                          wanted = held.permitted;
+                          pattern_is =
+                              rw same_pattern u.pattern_is;
+                        }
                     | inr r ↦ IsReached-along (λ v w. w.wanted) r
                   ],
                 );
@@ -834,7 +1005,8 @@ module _ (nfa : Automaton) (x : Search) (old : List Bool) (wants : Pair → Bool
               full = λ some. absurd (omega arith);
               empty = λ no. record {
                 path = Some p;
-                meant = IsFirstTo-along (edges nfa x) (starts nfa x) (Passes wants) (IsHeld nfa x (length old)) (λ v. (tells v).0) (λ v. (tells v).1) first;
+                meant = IsFirstTo-along (edges nfa x) (starts nfa x) (Passes wants) (IsHeld nfa x (length old))
+                    (λ v. (tells v).0) (λ v. (tells v).1) first;
                 holds = record {
                   end = first.end;
                   ends = EndsWith-last None first.end p first.path.ends;

@@ -49,7 +49,10 @@ Earlier-total (e ∷ es) a b apart i j =
                   | inr k ↦
                       elim j [
                         | inl be ↦ absurd (nb (sym be))
-                        | inr l ↦ elim (Earlier-total es a b apart k l) [ inl x ↦ inl (nb, inr x) | inr x ↦ inr (na, inr x) ]
+                        | inr l ↦ elim (Earlier-total es a b apart k l) [
+                          | inl x ↦ inl (nb, inr x)
+                          | inr x ↦ inr (na, inr x)
+                        ]
                       ]
                 ]
           ]
@@ -107,19 +110,22 @@ module _ (edges : Pair → List Pair) (target : Pair → Bool) where
       ]
 
   -- a path in plain words
-  Path-words : {v : Pair} {p : List Pair} → Path edges target v p → HeadIs v p × NoRepeats p × Linked edges p × StopsAtTarget target p
+  Path-words : {v : Pair} {p : List Pair} → Path edges target v p → HeadIs v p × NoRepeats p × Linked edges p
+      × StopsAtTarget target p
   Path-words (stop t) = (refl, (λ i. i, tt), tt, t)
   Path-words (go t e n (stop u)) = let r = Path-words (stop u) in (refl, (n, r.1), (e, r.2), (t, r.3))
   Path-words (go t e n (go u f m h)) = let r = Path-words (go u f m h) in (refl, (n, r.1), (e, r.2), (t, r.3))
 
   -- a list that the plain words describe is a path
-  Path-from_words : (v : Pair) (p : List Pair) → HeadIs v p → NoRepeats p → Linked edges p → StopsAtTarget target p → Path edges target v p
+  Path-from_words : (v : Pair) (p : List Pair) → HeadIs v p → NoRepeats p → Linked edges p → StopsAtTarget target p
+      → Path edges target v p
   Path-from_words v [] h n l s = absurd h
   Path-from_words v (x ∷ []) h n l s = rw (← h) (stop s)
   Path-from_words v (x ∷ (y ∷ p)) h n l s = rw (← h) (go s.0 l.0 n.0 (Path-from_words y (y ∷ p) refl n.1 l.1 s.1))
 
   -- a path, and the plain words for it
-  pub Path-plain : (v : Pair) (p : List Pair) → Path edges target v p ↔ (HeadIs v p × NoRepeats p × Linked edges p × StopsAtTarget target p)
+  pub Path-plain : (v : Pair) (p : List Pair)
+      → Path edges target v p ↔ (HeadIs v p × NoRepeats p × Linked edges p × StopsAtTarget target p)
   Path-plain v p = (λ h. Path-words h, λ w. Path-from_words v p w.0 w.1 w.2 w.3)
 
   -- the order of two paths behind v
@@ -144,7 +150,10 @@ module _ (edges : Pair → List Pair) (target : Pair → Bool) where
               | inr s ↦ inr (elim s [ inl x ↦ inl (Before-cons k l (inr x)) | inr x ↦ inr (Before-cons l k (inr x)) ])
             ]
         | inr apart ↦
-            inr (elim (Earlier-total (edges v) a b apart e f) [ inl x ↦ inl (Before-cons k l (inl x)) | inr x ↦ inr (Before-cons l k (inl x)) ])
+            inr (elim (Earlier-total (edges v) a b apart e f) [
+              | inl x ↦ inl (Before-cons k l (inl x))
+              | inr x ↦ inr (Before-cons l k (inl x))
+            ])
       ]
 
   -- a marked pair has no path
@@ -152,7 +161,8 @@ module _ (edges : Pair → List Pair) (target : Pair → Bool) where
   IsFirst-marked marks v m p a = a.clear v (Path-head a.path) m
 
   -- a pair with no edge that is no target, marked or not
-  pub IsFirst-dead : (marks : List Pair) (v : Pair) → target v ≡ false → edges v ≡ [] → IsFirst edges target marks v None
+  pub IsFirst-dead : (marks : List Pair) (v : Pair) → target v ≡ false → edges v ≡ []
+      → IsFirst edges target marks v None
   IsFirst-dead marks v plain leads p a = never a.path plain leads
     where
       never : {u : Pair} {q : List Pair} → Path edges target u q → target u ≡ false → edges u ≡ [] → ⊥
@@ -162,9 +172,17 @@ module _ (edges : Pair → List Pair) (target : Pair → Bool) where
   -- an unmarked target is its own first path
   pub IsFirst-target : (marks : List Pair) (v : Pair) → ¬ (In v marks) → target v ≡ true
       → IsFirst edges target marks v (Some (v ∷ []))
-  IsFirst-target marks v free t = (record { path = stop t; clear = λ x i. elim i [ inl e ↦ rw e free | inr never ↦ absurd never ] }, λ q a. only a.path t)
+  IsFirst-target marks v free t = (
+    record {
+      path = stop t;
+      clear =
+          λ x i. elim i [ inl e ↦ rw e free | inr never ↦ absurd never ];
+    },
+    λ q a. only a.path t,
+  )
     where
-      only : {u : Pair} {q : List Pair} → Path edges target u q → target u ≡ true → (q ≡ u ∷ []) ⊎ Before edges (u ∷ []) q
+      only : {u : Pair} {q : List Pair} → Path edges target u q → target u ≡ true
+          → (q ≡ u ∷ []) ⊎ Before edges (u ∷ []) q
       only (stop t) u = inl refl
       only (go t e n h) u = cc
 
@@ -211,10 +229,17 @@ module _ (edges : Pair → List Pair) (target : Pair → Bool) where
         → (w : Pair) × (p : List Pair) × In w (edges v) × Accepts edges target (v ∷ marks) w p × (q ≡ v ∷ p)
     Accepts-rest q a = rest a.path plain a.clear
       where
-        rest : {u : Pair} {q : List Pair} → Path edges target u q → target u ≡ false → ((x : Pair) → In x q → In x marks → ⊥)
+        rest : {u : Pair} {q : List Pair} → Path edges target u q → target u ≡ false
+            → ((x : Pair) → In x q → In x marks → ⊥)
             → (w : Pair) × (p : List Pair) × In w (edges u) × Accepts edges target (u ∷ marks) w p × (q ≡ u ∷ p)
         rest (stop t) f c = cc
-        rest (go {w = w} {p = p} t e n h) f c = (w, p, e, record { path = h; clear = λ x i m. elim m [ inl here ↦ n (rw here at i) | inr old ↦ c x (inr i) old ] }, refl)
+        rest (go {w = w} {p = p} t e n h) f c = (
+          w,
+          p,
+          e,
+          record { path = h; clear = λ x i m. elim m [ inl here ↦ n (rw here at i) | inr old ↦ c x (inr i) old ] },
+          refl,
+        )
 
     -- the first path goes on by the first edge that has one
     pub IsFirst-step : (r : Option (List Pair)) → FirstAmong edges target (v ∷ marks) (edges v) r
@@ -230,11 +255,15 @@ module _ (edges : Pair → List Pair) (target : Pair → Bool) where
           λ q a.
               let s = Accepts-rest q a in
               rw s.4
-              (elim (b.3 s.0 s.1 s.2 s.3) [ inl e ↦ inl (ap (λ t. v ∷ t) e) | inr k ↦ inr (Before-cons b.2.path s.3.path k) ]),
+              (elim (b.3 s.0 s.1 s.2 s.3) [
+                | inl e ↦ inl (ap (λ t. v ∷ t) e)
+                | inr k ↦ inr (Before-cons b.2.path s.3.path k)
+              ]),
         )
 
   -- marks with the same paths
-  IsFirst-along : (m n : List Pair) (v : Pair) → ((p : List Pair) → Accepts edges target m v p → Accepts edges target n v p)
+  IsFirst-along : (m n : List Pair) (v : Pair)
+      → ((p : List Pair) → Accepts edges target m v p → Accepts edges target n v p)
       → ((p : List Pair) → Accepts edges target n v p → Accepts edges target m v p)
       → (r : Option (List Pair)) → IsFirst edges target m v r → IsFirst edges target n v r
   IsFirst-along m n v to back None f = λ p a. f p (back p a)
@@ -270,19 +299,28 @@ module _ (edges : Pair → List Pair) (target : Pair → Bool) where
         elim i [ inl here ↦ rw here a | inr later ↦ Path-ahead h (closed v w a e) x later ]
 
     -- marks that agree on what is ahead
-    pub IsFirst-ahead : (m n : List Pair) → ((x : Pair) → ahead x → In x m → In x n) → ((x : Pair) → ahead x → In x n → In x m)
+    pub IsFirst-ahead : (m n : List Pair) → ((x : Pair) → ahead x → In x m → In x n)
+        → ((x : Pair) → ahead x → In x n → In x m)
         → (k : Pair) → ahead k → (r : Option (List Pair)) → IsFirst edges target m k r → IsFirst edges target n k r
     IsFirst-ahead m n to back k a =
-        IsFirst-along m n k (λ p h. record { path = h.path; clear = λ x i j. h.clear x i (back x (Path-ahead h.path a x i) j) })
+        IsFirst-along m n k (λ p h. record {
+          path = h.path;
+          clear =
+              λ x i j. h.clear x i (back x (Path-ahead h.path a x i) j);
+        })
         (λ p h. record { path = h.path; clear = λ x i j. h.clear x i (to x (Path-ahead h.path a x i) j) })
 
     -- marks that are not ahead do not matter to a pair that is
     pub IsFirst-behind : (n marks : List Pair) → ((x : Pair) → In x n → ahead x → ⊥)
-        → (k : Pair) → ahead k → (r : Option (List Pair)) → IsFirst edges target (n ++ marks) k r ↔ IsFirst edges target marks k r
-    IsFirst-behind n marks past k a r =
-        (IsFirst-ahead (n ++ marks) marks (left n past) (λ x b i. right n x i) k a r, IsFirst-ahead marks (n ++ marks) (λ x b i. right n x i) (left n past) k a r)
+        → (k : Pair) → ahead k → (r : Option (List Pair))
+        → IsFirst edges target (n ++ marks) k r ↔ IsFirst edges target marks k r
+    IsFirst-behind n marks past k a r = (
+      IsFirst-ahead (n ++ marks) marks (left n past) (λ x b i. right n x i) k a r,
+      IsFirst-ahead marks (n ++ marks) (λ x b i. right n x i) (left n past) k a r,
+    )
       where
-        left : (n : List Pair) → ((x : Pair) → In x n → ahead x → ⊥) → (x : Pair) → ahead x → In x (n ++ marks) → In x marks
+        left : (n : List Pair) → ((x : Pair) → In x n → ahead x → ⊥) → (x : Pair) → ahead x
+            → In x (n ++ marks) → In x marks
         left [] past x b i = i
         left (y ∷ n) past x b i =
             elim i [ inl here ↦ absurd (past x (inl here) b) | inr later ↦ left n (λ z j. past z (inr j)) x b later ]
@@ -298,7 +336,8 @@ module _ (edges : Pair → List Pair) (target : Pair → Bool) where
     IsFirst-resting marks v free leaves past r =
         (IsFirst-along [] marks v all none r, IsFirst-along marks [] v none all r)
       where
-        clear_of : {u : Pair} {p : List Pair} → Path edges target u p → ¬ (In u marks) → ((w : Pair) → In w (edges u) → ahead w)
+        clear_of : {u : Pair} {p : List Pair} → Path edges target u p → ¬ (In u marks)
+            → ((w : Pair) → In w (edges u) → ahead w)
             → (x : Pair) → In x p → In x marks → ⊥
         clear_of (stop t) f l x i m = elim i [ inl here ↦ f (rw here at m) | inr never ↦ absurd never ]
         clear_of (go {w = w} t e n h) f l x i m =
@@ -323,7 +362,8 @@ module _ (edges : Pair → List Pair) (target : Pair → Bool) where
       ]
 
   -- of two paths that differ behind their heads, the heads are one
-  Before-heads : {v w : Pair} {p q : List Pair} → Path edges target v p → Path edges target w q → Before edges p q → v ≡ w
+  Before-heads : {v w : Pair} {p q : List Pair} → Path edges target v p → Path edges target w q
+      → Before edges p q → v ≡ w
   Before-heads (stop t) (stop u) h = h.0
   Before-heads (stop t) (go u e n k) h = h.0
   Before-heads (go t e n k) (stop u) h = h.0
@@ -346,11 +386,13 @@ module _ (edges : Pair → List Pair) (target : Pair → Bool) where
                     | inl less ↦
                         elim l [
                           | inl more ↦ absurd (Earlier-asymmetric es f.0 g.0 less more)
-                          | inr after ↦ absurd (Earlier-irreflexive es f.0 (rw (Before-heads g.2.path f.2.path after) at less))
+                          | inr after ↦ absurd (Earlier-irreflexive es f.0
+                              (rw (Before-heads g.2.path f.2.path after) at less))
                         ]
                     | inr before ↦
                         elim l [
-                          | inl more ↦ absurd (Earlier-irreflexive es g.0 (rw (Before-heads f.2.path g.2.path before) at more))
+                          | inl more ↦ absurd (Earlier-irreflexive es g.0
+                              (rw (Before-heads f.2.path g.2.path before) at more))
                           | inr after ↦ absurd (Before-asymmetric edges p q before after)
                         ]
                   ]

@@ -29,19 +29,22 @@ EndsWith-stops edges target stops m (x ∷ (y ∷ p)) l e t =
     (is_false (target x) (λ u. rw (stops x u) at l.0), EndsWith-stops edges target stops m (y ∷ p) l.1 e t)
 
 -- a list that stops at a target ends with one
-StopsAtTarget-ends : (target : Pair → Bool) (p : List Pair) → StopsAtTarget target p → (m : Pair) × EndsWith m p × (target m ≡ true)
+StopsAtTarget-ends : (target : Pair → Bool) (p : List Pair) → StopsAtTarget target p → (m : Pair) × EndsWith m p
+    × (target m ≡ true)
 StopsAtTarget-ends target [] s = absurd s
 StopsAtTarget-ends target (x ∷ []) s = (x, refl, s)
 StopsAtTarget-ends target (x ∷ (y ∷ p)) s = StopsAtTarget-ends target (y ∷ p) s.1
 
 -- what is found along a list is its last pair, with the slots there
-pub found-end : (capture : Pair → Option ℕ) (m : Pair) (p : List Pair) (slots : Slots) → EndsWith m p → found capture p slots ≡ Some (m, apply capture p slots)
+pub found-end : (capture : Pair → Option ℕ) (m : Pair) (p : List Pair) (slots : Slots) → EndsWith m p
+    → found capture p slots ≡ Some (m, apply capture p slots)
 found-end capture m p slots e = rw (EndsWith-last None m p e) refl
 
 -- the order
 
 -- no two lists come before each other
-pub ComesBefore-asymmetric : (edges : Pair → List Pair) (p q : List Pair) → ComesBefore edges p q → ComesBefore edges q p → ⊥
+pub ComesBefore-asymmetric : (edges : Pair → List Pair) (p q : List Pair) → ComesBefore edges p q
+    → ComesBefore edges q p → ⊥
 ComesBefore-asymmetric edges [] q h k = h
 ComesBefore-asymmetric edges (x ∷ p) [] h k = h
 ComesBefore-asymmetric edges (x ∷ p) (y ∷ q) (inl h) (inl k) = omega arith
@@ -51,7 +54,8 @@ ComesBefore-asymmetric edges (x ∷ p) (y ∷ q) (inr h) (inr k) = Before-asymme
 
 module _ (edges : Pair → List Pair) where
   -- the order of two lists from that of their starts
-  ComesBefore-heads : (e d : Pair) (p q : List Pair) → HeadIs e p → HeadIs d q → (e.1 < d.1) ⊎ ((q ≡ p) ⊎ Before edges p q)
+  ComesBefore-heads : (e d : Pair) (p q : List Pair) → HeadIs e p → HeadIs d q
+      → (e.1 < d.1) ⊎ ((q ≡ p) ⊎ Before edges p q)
       → (q ≡ p) ⊎ ComesBefore edges p q
   ComesBefore-heads e d [] q h k r = absurd h
   ComesBefore-heads e d (x ∷ p) [] h k r = absurd k
@@ -95,7 +99,8 @@ module _ (edges : Pair → List Pair) where
   Leads-cons : {y w : Pair} {p : List Pair} (x : Pair) → In y (edges x) → ¬ (In x p) → Leads y w p → Leads x w (x ∷ p)
   Leads-cons {y} {w} {p} x i n h = of h.along h.head h.once h.linked h.ends h.within
     where
-      of : (q : List Pair) → HeadIs y q → NoRepeats q → Linked edges q → EndsWith w q → ((z : Pair) → In z q → In z p) → Leads x w (x ∷ p)
+      of : (q : List Pair) → HeadIs y q → NoRepeats q → Linked edges q → EndsWith w q → ((z : Pair) → In z q → In z p)
+          → Leads x w (x ∷ p)
       of [] head once linked ends within = absurd head
       of (z ∷ q) head once linked ends within = record {
         along = x ∷ (z ∷ q);
@@ -110,13 +115,23 @@ module _ (edges : Pair → List Pair) where
   Leads-up_to : (s w : Pair) (p : List Pair) → HeadIs s p → NoRepeats p → Linked edges p → In w p → Leads s w p
   Leads-up_to s w [] head once linked i = absurd head
   Leads-up_to s w (x ∷ p) head once linked (inl here) =
-      record { along = x ∷ []; head = head; once = (λ j. j, tt); linked = tt; ends = sym here; within = λ z j. elim j [ inl e ↦ inl e | inr never ↦ absurd never ] }
+      record {
+        along = x ∷ [];
+        head = head;
+        once = (λ j. j, tt);
+        linked = tt;
+        ends = sym here;
+        within =
+            λ z j. elim j [ inl e ↦ inl e | inr never ↦ absurd never ];
+      }
   Leads-up_to s w (x ∷ []) head once linked (inr later) = absurd later
   Leads-up_to s w (x ∷ (y ∷ p)) head once linked (inr later) =
-      subst (λ z. Leads z w (x ∷ (y ∷ p))) head (Leads-cons x linked.0 once.0 (Leads-up_to y w (y ∷ p) refl once.1 linked.1 later))
+      subst (λ z. Leads z w (x ∷ (y ∷ p))) head
+      (Leads-cons x linked.0 once.0 (Leads-up_to y w (y ∷ p) refl once.1 linked.1 later))
 
   -- a path with one more pair behind it
-  Leads-behind : (s v w : Pair) (p : List Pair) → HeadIs s p → NoRepeats p → Linked edges p → EndsWith v p → In w (edges v) → ¬ (In w p) → Leads s w (p ++ w ∷ [])
+  Leads-behind : (s v w : Pair) (p : List Pair) → HeadIs s p → NoRepeats p → Linked edges p → EndsWith v p
+      → In w (edges v) → ¬ (In w p) → Leads s w (p ++ w ∷ [])
   Leads-behind s v w [] head once linked ends i n = absurd head
   Leads-behind s v w (x ∷ []) head once linked ends i n = record {
     along = x ∷ (w ∷ []);
@@ -158,7 +173,14 @@ module _ (edges : Pair → List Pair) (starts : List Pair) where
       of : {p : List Pair} → Leads edges h.path.start w p → IsReachable w
       of l = record {
         along = l.along;
-        path = record { start = h.path.start; among = h.path.among; head = l.head; once = l.once; linked = l.linked; ends = l.ends };
+        path = record {
+          start = h.path.start;
+          among = h.path.among;
+          head = l.head;
+          once = l.once;
+          linked = l.linked;
+          ends = l.ends;
+        };
       }
 
 module _ (edges : Pair → List Pair) (starts : List Pair) where
@@ -169,14 +191,22 @@ module _ (edges : Pair → List Pair) (starts : List Pair) where
   -- sets with the same pairs
   pub IsFirstTo-along : (P Q : Pair → Type 0) → ((x : Pair) → P x → Q x) → ((x : Pair) → Q x → P x) → {p : List Pair}
       → IsFirstTo edges starts P p → IsFirstTo edges starts Q p
-  IsFirstTo-along P Q to back h = record { end = h.end; path = h.path; wanted = to h.end h.wanted; first = λ m q w t. h.first m q w (back m t) }
+  IsFirstTo-along P Q to back h = record {
+    end = h.end;
+    path = h.path;
+    wanted = to h.end h.wanted;
+    first =
+        λ m q w t. h.first m q w (back m t);
+  }
 
   -- the paths to targets that lead nowhere, in plain words
   module _ (target : Pair → Bool) (stops : (x : Pair) → target x ≡ true → edges x ≡ []) where
     -- a path to a target, as the search knows it
-    pub PathTo-accepts : {m : Pair} {p : List Pair} (w : PathTo edges starts m p) → target m ≡ true → Accepts edges target [] w.start p
+    pub PathTo-accepts : {m : Pair} {p : List Pair} (w : PathTo edges starts m p) → target m ≡ true
+        → Accepts edges target [] w.start p
     PathTo-accepts {m} {p} w t = record {
-      path = (Path-plain edges target w.start p).1 (w.head, w.once, w.linked, EndsWith-stops edges target stops m p w.linked w.ends t);
+      path = (Path-plain edges target w.start p).1
+          (w.head, w.once, w.linked, EndsWith-stops edges target stops m p w.linked w.ends t);
       clear = λ x i n. n;
     }
 
@@ -191,29 +221,37 @@ module _ (edges : Pair → List Pair) (starts : List Pair) where
               let b = subst (λ x. Accepts edges target [] x q) (sym e) (PathTo-accepts v u) in
               elim (Before-total edges target a.path b.path) [
                 | inl eq ↦ inl eq
-                | inr s ↦ inr (elim s [ inl k ↦ inl (ComesBefore-same edges p q k) | inr k ↦ inr (ComesBefore-same edges q p k) ])
+                | inr s ↦ inr (elim s [
+                  | inl k ↦ inl (ComesBefore-same edges p q k)
+                  | inr k ↦ inr (ComesBefore-same edges q p k)
+                ])
               ]
           | inr apart ↦
               inr (elim (Earlier-total starts w.start v.start apart w.among v.among) [
-                | inl k ↦ inl (ComesBefore-less edges w.start v.start p q w.head v.head (Earlier-increasing starts w.start v.start rise k v.among))
-                | inr k ↦ inr (ComesBefore-less edges v.start w.start q p v.head w.head (Earlier-increasing starts v.start w.start rise k w.among))
+                | inl k ↦ inl (ComesBefore-less edges w.start v.start p q w.head v.head
+                    (Earlier-increasing starts w.start v.start rise k v.among))
+                | inr k ↦ inr (ComesBefore-less edges v.start w.start q p v.head w.head
+                    (Earlier-increasing starts v.start w.start rise k w.among))
               ])
         ]
 
   module _ (target : Pair → Bool) where
     -- an accepting path from one of the starts, in plain words
-    Accepts-path_to : (e : Pair) (p : List Pair) → In e starts → Accepts edges target [] e p → (m : Pair) × PathTo edges starts m p × (target m ≡ true)
+    Accepts-path_to : (e : Pair) (p : List Pair) → In e starts → Accepts edges target [] e p
+        → (m : Pair) × PathTo edges starts m p × (target m ≡ true)
     Accepts-path_to e p i a =
         let words = (Path-plain edges target e p).0 a.path in
         let end = StopsAtTarget-ends target p words.3 in
         (end.0, record { start = e; among = i; head = words.0; once = words.1; linked = words.2; ends = end.1 }, end.2)
 
     -- where a search finds none, no path leads to a target
-    pub IsLeast-none : ((x : Pair) → target x ≡ true → edges x ≡ []) → IsLeast edges target starts None → NoPath edges starts (λ m. target m ≡ true)
+    pub IsLeast-none : ((x : Pair) → target x ≡ true → edges x ≡ []) → IsLeast edges target starts None
+        → NoPath edges starts (λ m. target m ≡ true)
     IsLeast-none stops none m p w t = none w.start w.among p (PathTo-accepts target stops w t)
 
     -- the path that a search finds is the first to a target
-    pub IsLeast-first : ((x : Pair) → target x ≡ true → edges x ≡ []) → (p : List Pair) → IsLeast edges target starts (Some p)
+    pub IsLeast-first : ((x : Pair) → target x ≡ true → edges x ≡ []) → (p : List Pair)
+        → IsLeast edges target starts (Some p)
         → IsFirstTo edges starts (λ m. target m ≡ true) p
     IsLeast-first stops p least =
         let end = Accepts-path_to least.0 p least.1 least.2 in
@@ -235,7 +273,8 @@ module _ (edges : Pair → List Pair) (starts : List Pair) where
   one_of p q (inr h) (inr k) = absurd (ComesBefore-asymmetric edges p q h k)
 
   -- there is one first path to a set
-  pub IsFirstTo-unique : (P : Pair → Type 0) (p q : List Pair) → IsFirstTo edges starts P p → IsFirstTo edges starts P q → p ≡ q
+  pub IsFirstTo-unique : (P : Pair → Type 0) (p q : List Pair) → IsFirstTo edges starts P p
+      → IsFirstTo edges starts P q → p ≡ q
   IsFirstTo-unique P p q h k = one_of p q (h.first k.end q k.path k.wanted) (k.first h.end p h.path h.wanted)
 
   -- there is one last of the first paths
@@ -272,14 +311,16 @@ module _ (edges : Pair → List Pair) (starts : List Pair) where
     IsEnd-some e h none = none h.end h.along h.path h.wanted
 
     -- there is one first path, or none
-    pub IsFirstPath-unique : (r s : Option (List Pair)) → IsFirstPath edges starts P r → IsFirstPath edges starts P s → r ≡ s
+    pub IsFirstPath-unique : (r s : Option (List Pair)) → IsFirstPath edges starts P r
+        → IsFirstPath edges starts P s → r ≡ s
     IsFirstPath-unique None None h k = refl
     IsFirstPath-unique None (Some q) h k = absurd (h k.end q k.path k.wanted)
     IsFirstPath-unique (Some p) None h k = absurd (k h.end p h.path h.wanted)
     IsFirstPath-unique (Some p) (Some q) h k = ap Some (IsFirstTo-unique P p q h k)
 
     -- there is one earliest path, or none
-    pub IsEarliestPath-unique : (r s : Option (List Pair)) → IsEarliestPath edges starts P r → IsEarliestPath edges starts P s → r ≡ s
+    pub IsEarliestPath-unique : (r s : Option (List Pair)) → IsEarliestPath edges starts P r
+        → IsEarliestPath edges starts P s → r ≡ s
     IsEarliestPath-unique None None h k = refl
     IsEarliestPath-unique None (Some q) h k = absurd (IsEnd-some k.0 k.1.is_end h)
     IsEarliestPath-unique (Some p) None h k = absurd (IsEnd-some h.0 h.1.is_end k)
@@ -288,17 +329,21 @@ module _ (edges : Pair → List Pair) (starts : List Pair) where
         (subst (λ x. IsFirstTo edges starts (WantedAt P x) p) (IsLeastEnd-unique h.0 k.0 h.1 k.1) h.2) k.2)
 
     -- there is one last path, or none
-    pub IsLastPath-unique : (r s : Option (List Pair)) → IsLastPath edges starts P r → IsLastPath edges starts P s → r ≡ s
+    pub IsLastPath-unique : (r s : Option (List Pair)) → IsLastPath edges starts P r
+        → IsLastPath edges starts P s → r ≡ s
     IsLastPath-unique None None h k = refl
     IsLastPath-unique None (Some q) h k = absurd (IsEnd-some k.0 k.1.is_end h)
     IsLastPath-unique (Some p) None h k = absurd (IsEnd-some h.0 h.1.is_end k)
     IsLastPath-unique (Some p) (Some q) h k =
-        ap Some (IsLastOfFirsts-unique P k.0 p q (subst (λ x. IsLastOfFirsts edges starts P x p) (IsGreatestEnd-unique h.0 k.0 h.1 k.1) h.2) k.2)
+        ap Some (IsLastOfFirsts-unique P k.0 p q
+        (subst (λ x. IsLastOfFirsts edges starts P x p) (IsGreatestEnd-unique h.0 k.0 h.1 k.1) h.2) k.2)
 
     -- there is one earliest last path, or none
-    pub IsEarliestLastPath-unique : (r s : Option (List Pair)) → IsEarliestLastPath edges starts P r → IsEarliestLastPath edges starts P s → r ≡ s
+    pub IsEarliestLastPath-unique : (r s : Option (List Pair)) → IsEarliestLastPath edges starts P r
+        → IsEarliestLastPath edges starts P s → r ≡ s
     IsEarliestLastPath-unique None None h k = refl
     IsEarliestLastPath-unique None (Some q) h k = absurd (IsEnd-some k.0 k.1.is_end h)
     IsEarliestLastPath-unique (Some p) None h k = absurd (IsEnd-some h.0 h.1.is_end k)
     IsEarliestLastPath-unique (Some p) (Some q) h k =
-        ap Some (IsLastOfFirsts-unique P k.0 p q (subst (λ x. IsLastOfFirsts edges starts P x p) (IsLeastEnd-unique h.0 k.0 h.1 k.1) h.2) k.2)
+        ap Some (IsLastOfFirsts-unique P k.0 p q
+        (subst (λ x. IsLastOfFirsts edges starts P x p) (IsLeastEnd-unique h.0 k.0 h.1 k.1) h.2) k.2)

@@ -57,7 +57,8 @@ below-slot n k (Match pattern) e below = cc
 below-slot n k Fail e below = cc
 
 -- where nothing is written, what stood there stays
-unwritten : (o : Option ℕ) (i at : ℕ) → ((k : ℕ) → o ≡ Some k → k < i) → (if option_map_or (λ k. k == i) o false then Some at else None) ≡ None
+unwritten : (o : Option ℕ) (i at : ℕ) → ((k : ℕ) → o ≡ Some k → k < i)
+    → (if option_map_or (λ k. k == i) o false then Some at else None) ≡ None
 unwritten None i at below = refl
 unwritten (Some k) i at below =
     let less = below k refl in
@@ -70,7 +71,8 @@ module _ (nfa : Automaton) where
   node-pattern valid q k e =
       elim (cases_lt q (length nfa.states)) [
         | inl inside ↦ below-pattern (length nfa.patterns) k (get_or nfa.states q Fail) e (valid.patterns q Fail inside)
-        | inr past ↦ let fail : get_or nfa.states q Fail ≡ Fail = get_or_past nfa.states q Fail past in absurd (let f = rw fail at e in cc)
+        | inr past ↦ let fail : get_or nfa.states q Fail ≡ Fail = get_or_past nfa.states q Fail past in
+            absurd (let f = rw fail at e in cc)
       ]
 
   -- and so is its slot
@@ -79,11 +81,13 @@ module _ (nfa : Automaton) where
   node-slot valid q k e =
       elim (cases_lt q (length nfa.states)) [
         | inl inside ↦ below-slot (slot_count nfa.groups) k (get_or nfa.states q Fail) e (valid.slots q Fail inside)
-        | inr past ↦ let fail : get_or nfa.states q Fail ≡ Fail = get_or_past nfa.states q Fail past in absurd (let f = rw fail at e in cc)
+        | inr past ↦ let fail : get_or nfa.states q Fail ≡ Fail = get_or_past nfa.states q Fail past in
+            absurd (let f = rw fail at e in cc)
       ]
 
   -- no path writes a slot past the NFA's
-  pub slot_among-past : IsAutomaton nfa → (p : List Pair) (i : ℕ) → slot_count nfa.groups ≤ i → slot_among nfa p i ≡ None
+  pub slot_among-past : IsAutomaton nfa → (p : List Pair) (i : ℕ) → slot_count nfa.groups ≤ i
+      → slot_among nfa p i ≡ None
   slot_among-past valid [] i past = refl
   slot_among-past valid (v ∷ p) i past =
       let none = unwritten (capture nfa v) i v.1 (λ k e. let less = node-slot valid v.0 k e in omega arith) in
@@ -96,40 +100,49 @@ module _ (nfa : Automaton) where
   slot_row-more valid width more all None = sym (replicate-append-replicate width more None)
   slot_row-more valid width zero all (Some p) =
       let none : width + 0 ≡ width = omega arith in
-      ap (λ n. map (slot_among nfa p) (range_with_len 0 n)) none ∙ sym (append-nil (map (slot_among nfa p) (range_with_len 0 width)))
+      ap (λ n. map (slot_among nfa p) (range_with_len 0 n)) none
+      ∙ sym (append-nil (map (slot_among nfa p) (range_with_len 0 width)))
   slot_row-more valid width (suc more) all (Some p) =
       let next : width + suc more ≡ width + more + 1 = omega arith in
       let last : 0 + (width + more) ≡ width + more = omega arith in
       let past : slot_count nfa.groups ≤ width + more = omega arith in
       let one : more + 1 ≡ suc more = omega arith in
-      ap (λ n. map (slot_among nfa p) (range_with_len 0 n)) next ∙ map-range_with_len_more (slot_among nfa p) 0 (width + more) (width + more) last
+      ap (λ n. map (slot_among nfa p) (range_with_len 0 n)) next
+      ∙ map-range_with_len_more (slot_among nfa p) 0 (width + more) (width + more) last
       ∙ ap (λ l. l ++ slot_among nfa p (width + more) ∷ []) (slot_row-more valid width more all (Some p))
-      ∙ ap (λ o. (map (slot_among nfa p) (range_with_len 0 width) ++ replicate more None) ++ o ∷ []) (slot_among-past valid p (width + more) past)
+      ∙ ap (λ o. (map (slot_among nfa p) (range_with_len 0 width) ++ replicate more None) ++ o ∷ [])
+      (slot_among-past valid p (width + more) past)
       ∙ append_assoc (map (slot_among nfa p) (range_with_len 0 width)) (replicate more None) (None ∷ [])
-      ∙ ap (λ l. map (slot_among nfa p) (range_with_len 0 width) ++ l) (replicate-append-replicate more 1 None ∙ ap (λ n. replicate n None) one)
+      ∙ ap (λ l. map (slot_among nfa p) (range_with_len 0 width) ++ l)
+      (replicate-append-replicate more 1 None ∙ ap (λ n. replicate n None) one)
 
   pattern-within : IsAutomaton nfa → (p : List Pair) (k : ℕ) → path_pattern nfa p ≡ Some k → k < length nfa.patterns
   pattern-within valid p k =
-      elim (last_of p) as (λ o. option_and_then (λ v. pattern_of (node_at nfa v.0)) o ≡ Some k → k < length nfa.patterns) [
+      elim (last_of p) as (λ o. option_and_then (λ v. pattern_of (node_at nfa v.0)) o ≡ Some k
+      → k < length nfa.patterns) [
         | None ↦ λ e. cc
         | Some v ↦ λ e. node-pattern valid v.0 k e
       ]
 
   -- an offset of a path's row
-  pub offset_at-slot_row : (p : List Pair) (count i : ℕ) → i < count → offset_at (slot_row nfa count (Some p)) i ≡ slot_among nfa p i
+  pub offset_at-slot_row : (p : List Pair) (count i : ℕ) → i < count
+      → offset_at (slot_row nfa count (Some p)) i ≡ slot_among nfa p i
   unfolding slot_row
   offset_at-slot_row p count i inside =
-      let h : i < length (map (slot_among nfa p) (range_with_len 0 count)) = rw (length-map-range_with_len (slot_among nfa p) 0 count) inside in
+      let h : i < length (map (slot_among nfa p) (range_with_len 0 count)) =
+      rw (length-map-range_with_len (slot_among nfa p) 0 count) inside in
       rw (slice_get-get_or (map (slot_among nfa p) (range_with_len 0 count)) i None h)
       (get_or-map-range_with_len (slot_among nfa p) 0 count i i None inside (omega arith))
 
   -- rows that have the pattern's two slots give one match
-  match-along : (r s : Slots) (k : ℕ) → offset_at r (2 * k) ≡ offset_at s (2 * k) → offset_at r (2 * k + 1) ≡ offset_at s (2 * k + 1)
+  match-along : (r s : Slots) (k : ℕ) → offset_at r (2 * k) ≡ offset_at s (2 * k)
+      → offset_at r (2 * k + 1) ≡ offset_at s (2 * k + 1)
       → match_of (Some k) r ≡ match_of (Some k) s
   match-along r s k start end = rw (start, end) refl
 
   match-row : IsAutomaton nfa → (p : List Pair) (k : ℕ) → path_pattern nfa p ≡ Some k
-      → match_of (Some k) (slot_row nfa (2 * length nfa.groups) (Some p)) ≡ match_of (Some k) (slot_row nfa (slot_count nfa.groups) (Some p))
+      → match_of (Some k) (slot_row nfa (2 * length nfa.groups) (Some p))
+      ≡ match_of (Some k) (slot_row nfa (slot_count nfa.groups) (Some p))
   match-row valid p k pattern =
       let small = pattern-within valid p k pattern in
       elim valid.groups [
@@ -148,9 +161,11 @@ module _ (nfa : Automaton) where
       no_groups (g ∷ gs) e = absurd (omega arith)
 
   -- a row that has all patterns' slots gives the path's match
-  pub match-along-path : IsAutomaton nfa → (k : ℕ) (slots : Slots) → length slots ≡ 2 * length nfa.groups → (path : Option (List Pair))
+  pub match-along-path : IsAutomaton nfa → (k : ℕ) (slots : Slots) → length slots ≡ 2 * length nfa.groups
+      → (path : Option (List Pair))
       → Some k ≡ option_and_then (path_pattern nfa) path → slots ≡ slot_row nfa (length slots) path
-      → match_of (Some k) slots ≡ match_of (option_and_then (path_pattern nfa) path) (slot_row nfa (slot_count nfa.groups) path)
+      → match_of (Some k) slots ≡ match_of (option_and_then (path_pattern nfa) path)
+      (slot_row nfa (slot_count nfa.groups) path)
   match-along-path valid k slots size None e row = cc
   match-along-path valid k slots size (Some p) e row =
       ap (match_of (Some k)) (row ∙ ap (λ n. slot_row nfa n (Some p)) size) ∙ match-row valid p k (sym e)
@@ -164,7 +179,8 @@ module _ (nfa : Automaton) where
 
 module _ (nfa : Automaton) (kind : MatchKind) (earliest : Bool) where
   -- the pattern of an accepting path
-  scan-pattern : (y : Search) (p : List Pair) → IsScanAnswer nfa y kind earliest (Some p) → (k : ℕ) × (path_pattern nfa p ≡ Some k)
+  scan-pattern : (y : Search) (p : List Pair) → IsScanAnswer nfa y kind earliest (Some p)
+      → (k : ℕ) × (path_pattern nfa p ≡ Some k)
   scan-pattern y p answer =
       let to = scan_answer-leads nfa y kind earliest p answer in
       let last = EndsWith-last None to.end p to.path.ends in
@@ -176,10 +192,13 @@ module _ (nfa : Automaton) (kind : MatchKind) (earliest : Bool) where
       → (k : ℕ) × (path_pattern nfa p ≡ Some k)
   search-pattern x restarts p =
       elim (is_utf8_empty nfa) as (λ m. MatchBool m
-      (MatchBool (is_anchored x.anchored) ((restarts ≡ 0) × IsKeptAnswer nfa kind earliest x (Some p)) (IsRestartedAnswer nfa kind earliest x restarts (Some p)))
+      (MatchBool (is_anchored x.anchored) ((restarts ≡ 0) × IsKeptAnswer nfa kind earliest x (Some p))
+      (IsRestartedAnswer nfa kind earliest x restarts (Some p)))
       ((restarts ≡ 0) × IsScanAnswer nfa x kind earliest (Some p)) → (k : ℕ) × (path_pattern nfa p ≡ Some k)) [
         | true ↦
-            elim (is_anchored x.anchored) as (λ a. MatchBool a ((restarts ≡ 0) × IsKeptAnswer nfa kind earliest x (Some p)) (IsRestartedAnswer nfa kind earliest x restarts (Some p))
+            elim (is_anchored x.anchored) as (λ a.
+            MatchBool a ((restarts ≡ 0) × IsKeptAnswer nfa kind earliest x (Some p))
+            (IsRestartedAnswer nfa kind earliest x restarts (Some p))
             → (k : ℕ) × (path_pattern nfa p ≡ Some k)) [
               | true ↦ λ h. scan-pattern x p h.1.0
               | false ↦ λ h. scan-pattern (raised x restarts) p h.answers
@@ -188,27 +207,44 @@ module _ (nfa : Automaton) (kind : MatchKind) (earliest : Bool) where
       ]
 
   -- a search that has no pattern has no path, and one that has a pattern has a path
-  found-none : (x : Search) (slots : Slots) → IsAnswer nfa kind earliest x None slots → IsFoundAnswer nfa kind earliest x false
-  found-none x slots a = record { restarts = a.restarts; path = a.path; answers = a.answers; found_is = none a.path a.answers a.pattern_is }
+  found-none : (x : Search) (slots : Slots) → IsAnswer nfa kind earliest x None slots
+      → IsFoundAnswer nfa kind earliest x false
+  found-none x slots a = record {
+    restarts = a.restarts;
+    path = a.path;
+    answers = a.answers;
+    found_is =
+        none a.path a.answers a.pattern_is;
+  }
     where
-      none : (path : Option (List Pair)) → IsSearchAnswer nfa kind earliest x a.restarts path → None ≡ option_and_then (path_pattern nfa) path
+      none : (path : Option (List Pair)) → IsSearchAnswer nfa kind earliest x a.restarts path
+          → None ≡ option_and_then (path_pattern nfa) path
           → false ≡ is_some path
       none None answers e = refl
       none (Some p) answers e = let some = search-pattern x a.restarts p answers in absurd (let k = some.1 in cc)
 
   -- and no slot that is set
-  pub slots-unset : (x : Search) (slots : Slots) → IsAnswer nfa kind earliest x None slots → slots ≡ replicate (length slots) None
+  pub slots-unset : (x : Search) (slots : Slots) → IsAnswer nfa kind earliest x None slots
+      → slots ≡ replicate (length slots) None
   unfolding slot_row
   slots-unset x slots a = a.slots_are ∙ none a.path a.answers a.pattern_is
     where
-      none : (path : Option (List Pair)) → IsSearchAnswer nfa kind earliest x a.restarts path → None ≡ option_and_then (path_pattern nfa) path
+      none : (path : Option (List Pair)) → IsSearchAnswer nfa kind earliest x a.restarts path
+          → None ≡ option_and_then (path_pattern nfa) path
           → slot_row nfa (length slots) path ≡ replicate (length slots) None
       none None answers e = refl
       none (Some p) answers e = let some = search-pattern x a.restarts p answers in absurd (let k = some.1 in cc)
 
-  pub found-of : (x : Search) (slots : Slots) (pattern : Option ℕ) → IsAnswer nfa kind earliest x pattern slots → IsFoundAnswer nfa kind earliest x (is_some pattern)
+  pub found-of : (x : Search) (slots : Slots) (pattern : Option ℕ) → IsAnswer nfa kind earliest x pattern slots
+      → IsFoundAnswer nfa kind earliest x (is_some pattern)
   found-of x slots None a = found-none x slots a
-  found-of x slots (Some k) a = record { restarts = a.restarts; path = a.path; answers = a.answers; found_is = some a.path a.pattern_is }
+  found-of x slots (Some k) a = record {
+    restarts = a.restarts;
+    path = a.path;
+    answers = a.answers;
+    found_is =
+        some a.path a.pattern_is;
+  }
     where
       some : (path : Option (List Pair)) → Some k ≡ option_and_then (path_pattern nfa) path → true ≡ is_some path
       some None e = cc

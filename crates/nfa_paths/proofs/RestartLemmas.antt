@@ -31,7 +31,8 @@ scan_turns-raised nfa x i =
     let few : span_len (raised x i) + 1 ≤ span_len x + 1 = omega arith in mul-le-mul_left (1 + turn_weight nfa) few
 
 -- one scan more, of no more turns than each has
-turns-more : (limit scans turns extra after : ℕ) → turns ≤ scans * limit → extra ≤ limit → after ≤ turns + extra → after ≤ (scans + 1) * limit
+turns-more : (limit scans turns extra after : ℕ) → turns ≤ scans * limit → extra ≤ limit → after ≤ turns + extra
+    → after ≤ (scans + 1) * limit
 turns-more limit scans turns extra after h k l = omega arith
 
 -- no restart
@@ -44,14 +45,16 @@ never-some zero some = refl
 never-some (suc n) some = absurd (some (omega arith))
 
 -- one restart more
-raised-start : (x y : Search) (i start : ℕ) → y ≡ raised x i → start ≡ y.start + 1 → record y { start = start } ≡ raised x (i + 1)
+raised-start : (x y : Search) (i start : ℕ) → y ≡ raised x i → start ≡ y.start + 1
+    → record y { start = start } ≡ raised x (i + 1)
 raised-start x y i start is next =
     let at : start ≡ x.start + (i + 1) = omega (arith, next, ap (λ (z : Search). z.start) is) in
     rw (is, at) refl
 
 module _ (nfa : Automaton) (kind : MatchKind) (earliest : Bool) where
   -- the pattern of what a scan finds is that of the path
-  pattern-found : (y : Search) {half : HalfMatch} {slots : Slots} {turns : ℕ} (f : GivesPath nfa kind earliest y half slots turns)
+  pattern-found : (y : Search) {half : HalfMatch} {slots : Slots} {turns : ℕ}
+      (f : GivesPath nfa kind earliest y half slots turns)
       → Some (half_found_of half).pattern ≡ path_pattern nfa f.path
   pattern-found y f = rw f.ends (sym f.matches)
 
@@ -67,7 +70,8 @@ module _ (nfa : Automaton) (kind : MatchKind) (earliest : Bool) where
 
     module _ (y : Search) (scans turns : ℕ) (s : Restarts nfa kind earliest x y scans turns) where
       -- an answer that counts is the search's
-      settled : (path : Option (List Pair)) → IsScanAnswer nfa y kind earliest path → (is_utf8_empty nfa ≡ true → IsWhole x path)
+      settled : (path : Option (List Pair)) → IsScanAnswer nfa y kind earliest path
+          → (is_utf8_empty nfa ≡ true → IsWhole x path)
           → IsSearchAnswer nfa kind earliest x scans path
       settled path answers whole = of (is_utf8_empty nfa) (is_anchored x.anchored) refl refl
         where
@@ -77,23 +81,28 @@ module _ (nfa : Automaton) (kind : MatchKind) (earliest : Bool) where
           first : (scans ≡ 0) → IsScanAnswer nfa x kind earliest path
           first none = subst (λ z. IsScanAnswer nfa z kind earliest path) (sym (raised-none x)) (rw none at here)
 
-          kept : (path : Option (List Pair)) → IsScanAnswer nfa x kind earliest path → IsWhole x path → IsKeptAnswer nfa kind earliest x path
+          kept : (path : Option (List Pair)) → IsScanAnswer nfa x kind earliest path → IsWhole x path
+              → IsKeptAnswer nfa kind earliest x path
           kept None answer on = inl answer
           kept (Some p) answer on = (answer, on)
 
           of : (utf8 anchored : Bool) → is_utf8_empty nfa ≡ utf8 → is_anchored x.anchored ≡ anchored
-              → MatchBool utf8 (MatchBool anchored ((scans ≡ 0) × IsKeptAnswer nfa kind earliest x path) (IsRestartedAnswer nfa kind earliest x scans path))
+              → MatchBool utf8 (MatchBool anchored ((scans ≡ 0) × IsKeptAnswer nfa kind earliest x path)
+              (IsRestartedAnswer nfa kind earliest x scans path))
               ((scans ≡ 0) × IsScanAnswer nfa x kind earliest path)
           of true true u a =
-              let once : scans ≡ 0 = never-some scans (λ some. let no = (s.free some).1 in let clash : true ≡ false = sym a ∙ no in cc) in
+              let once : scans ≡ 0 = never-some scans (λ some. let no = (s.free some).1 in let clash : true ≡ false =
+              sym a ∙ no in cc) in
               (once, kept path (first once) (whole u))
           of true false u a = record { skipped = s.split; answers = here; whole = whole u }
           of false a u b =
-              let once : scans ≡ 0 = never-some scans (λ some. let no = (s.free some).0 in let clash : false ≡ true = sym u ∙ no in cc) in
+              let once : scans ≡ 0 = never-some scans (λ some. let no = (s.free some).0 in let clash : false ≡ true =
+              sym u ∙ no in cc) in
               (once, first once)
 
       -- the scan found nothing
-      pub settled-none : (slots : Slots) (after last total : ℕ) → ScanGives nfa kind earliest y None slots last → after ≡ scans + 1
+      pub settled-none : (slots : Slots) (after last total : ℕ) → ScanGives nfa kind earliest y None slots last
+          → after ≡ scans + 1
           → SearchGives nfa kind earliest x None slots after total
       settled-none slots after last total gives counted = record {
         restarts = scans;
@@ -109,11 +118,14 @@ module _ (nfa : Automaton) (kind : MatchKind) (earliest : Bool) where
       whole-found : {half : HalfMatch} {slots : Slots} {last : ℕ} (f : GivesPath nfa kind earliest y half slots last)
           → (IsBoundary x.haystack (half_found_of half).offset → EndsOnBoundary x f.path)
           × (EndsOnBoundary (raised x scans) f.path → IsBoundary x.haystack (half_found_of half).offset)
-      whole-found f = let b = ends_on_boundary x f.path f.ends in let r = ends_on_boundary (raised x scans) f.path f.ends in (b.1, r.0)
+      whole-found f = let b = ends_on_boundary x f.path f.ends in let r =
+          ends_on_boundary (raised x scans) f.path f.ends in (b.1, r.0)
 
       -- what was found does not split a character, or need not be whole
-      pub settled-some : (half : HalfMatch) (slots : Slots) (after last total : ℕ) → GivesPath nfa kind earliest y half slots last
-          → (is_utf8_empty nfa ≡ true → IsBoundary x.haystack (half_found_of half).offset) → after ≡ scans + 1 → last ≤ total
+      pub settled-some : (half : HalfMatch) (slots : Slots) (after last total : ℕ)
+          → GivesPath nfa kind earliest y half slots last
+          → (is_utf8_empty nfa ≡ true → IsBoundary x.haystack (half_found_of half).offset)
+          → after ≡ scans + 1 → last ≤ total
           → SearchGives nfa kind earliest x (Some half) slots after total
       settled-some half slots after last total f boundary counted all = record {
         restarts = scans;
@@ -135,15 +147,21 @@ module _ (nfa : Automaton) (kind : MatchKind) (earliest : Bool) where
       }
 
       -- an anchored search is over then
-      pub discarded : (half : HalfMatch) (found slots : Slots) (after last total : ℕ) → GivesPath nfa kind earliest y half found last
-          → is_utf8_empty nfa ≡ true → is_anchored x.anchored ≡ true → (IsBoundary x.haystack (half_found_of half).offset → ⊥)
+      pub discarded : (half : HalfMatch) (found slots : Slots) (after last total : ℕ)
+          → GivesPath nfa kind earliest y half found last
+          → is_utf8_empty nfa ≡ true → is_anchored x.anchored ≡ true
+          → (IsBoundary x.haystack (half_found_of half).offset → ⊥)
           → after ≡ scans + 1 → AreUnset slots → SearchGives nfa kind earliest x None slots after total
       discarded half found slots after last total f mode anchored off counted unset =
           let split = splits f off in
           record {
             restarts = scans;
             path = None;
-            answers = rw (mode, anchored) (once, inr (subst (SplitsCharacter nfa kind earliest) (sym (raised-none x)) (rw once at split)));
+            answers = rw (mode, anchored) (
+              once,
+              inr
+                  (subst (SplitsCharacter nfa kind earliest) (sym (raised-none x)) (rw once at split)),
+            );
             pattern_is = refl;
             slots_are = unset ∙ sym (slot_row-none nfa (length slots));
             scans_are = counted;
@@ -151,17 +169,21 @@ module _ (nfa : Automaton) (kind : MatchKind) (earliest : Bool) where
           }
         where
           once : scans ≡ 0
-          once = never-some scans (λ some. let no = (s.free some).1 in let clash : true ≡ false = sym anchored ∙ no in cc)
+          once = never-some scans (λ some. let no = (s.free some).1 in let clash : true ≡ false =
+              sym anchored ∙ no in cc)
 
       -- the turns after one scan more
       pub turns-after : (after : ℕ) → after ≤ turns + scan_turns nfa y → after ≤ (scans + 1) * scan_turns nfa x
       turns-after after more =
-          turns-more (scan_turns nfa x) scans turns (scan_turns nfa (raised x scans)) after s.turned (scan_turns-raised nfa x scans)
+          turns-more (scan_turns nfa x) scans turns (scan_turns nfa (raised x scans)) after s.turned
+          (scan_turns-raised nfa x scans)
           (subst (λ z. after ≤ turns + scan_turns nfa z) s.is more)
 
       -- any other search scans again
-      pub restarted : (half : HalfMatch) (found : Slots) (last after start : ℕ) (z : Search) → GivesPath nfa kind earliest y half found last
-          → is_utf8_empty nfa ≡ true → is_anchored x.anchored ≡ false → (IsBoundary x.haystack (half_found_of half).offset → ⊥)
+      pub restarted : (half : HalfMatch) (found : Slots) (last after start : ℕ) (z : Search)
+          → GivesPath nfa kind earliest y half found last
+          → is_utf8_empty nfa ≡ true → is_anchored x.anchored ≡ false
+          → (IsBoundary x.haystack (half_found_of half).offset → ⊥)
           → after ≤ turns + scan_turns nfa y → start ≡ y.start + 1 → z ≡ record y { start = start }
           → Restarts nfa kind earliest x z (scans + 1) after
       restarted half found last after start z f mode free off more next moved = record {
@@ -172,7 +194,8 @@ module _ (nfa : Automaton) (kind : MatchKind) (earliest : Bool) where
       }
 
       -- there is a start left for it
-      pub start-left : (half : HalfMatch) (found : Slots) (last : ℕ) → GivesPath nfa kind earliest y half found last → y.start ≤ y.end
+      pub start-left : (half : HalfMatch) (found : Slots) (last : ℕ) → GivesPath nfa kind earliest y half found last
+          → y.start ≤ y.end
       start-left half found last f = scan_answer-within nfa y kind earliest f.path f.answers
 
       -- one scan more is no more than the answer takes
@@ -180,9 +203,11 @@ module _ (nfa : Automaton) (kind : MatchKind) (earliest : Bool) where
       scans-within = of scans s.split s.free
         where
           of : (n : ℕ) → ((i : ℕ) → i < n → SplitsCharacter nfa kind earliest (raised x i))
-              → (0 < n → (is_utf8_empty nfa ≡ true) × (is_anchored x.anchored ≡ false)) → IsWithinScans nfa kind earliest x (n + 1)
+              → (0 < n → (is_utf8_empty nfa ≡ true) × (is_anchored x.anchored ≡ false))
+              → IsWithinScans nfa kind earliest x (n + 1)
           of zero split free = λ restarts path answers. omega arith
-          of (suc n) split free = let modes = free (omega arith) in split-within_scans nfa kind earliest x modes.0 modes.1 (suc n) split
+          of (suc n) split free = let modes = free (omega arith) in
+              split-within_scans nfa kind earliest x modes.0 modes.1 (suc n) split
 
       -- and within the limit
       pub scans-bound : scans + 1 ≤ scan_limit nfa x
@@ -191,15 +216,18 @@ module _ (nfa : Automaton) (kind : MatchKind) (earliest : Bool) where
           of : (n : ℕ) → ((i : ℕ) → i < n → SplitsCharacter nfa kind earliest (raised x i))
               → (0 < n → (is_utf8_empty nfa ≡ true) × (is_anchored x.anchored ≡ false)) → n + 1 ≤ scan_limit nfa x
           of zero split free = one_scan-bound nfa x (omega arith)
-          of (suc n) split free = let modes = free (omega arith) in split-bound nfa kind earliest x modes.0 modes.1 (suc n) split
+          of (suc n) split free = let modes = free (omega arith) in
+              split-bound nfa kind earliest x modes.0 modes.1 (suc n) split
 
 -- From what a search comes to, to what its callers are told.
 
 module _ (nfa : Automaton) (kind : MatchKind) (earliest : Bool) (x : Search) {slots : Slots} {scans turns : ℕ} where
   -- the pattern and the slots, of which the searched ones are a part
-  pub answer-of : (half : Option HalfMatch) (pattern : Option ℕ) → pattern ≡ option_map (λ h. (half_found_of h).pattern) half
+  pub answer-of : (half : Option HalfMatch) (pattern : Option ℕ)
+      → pattern ≡ option_map (λ h. (half_found_of h).pattern) half
       → SearchGives nfa kind earliest x half slots scans turns
-      → (all : Slots) → ((path : Option (List Pair)) → slots ≡ slot_row nfa (length slots) path → all ≡ slot_row nfa (length all) path)
+      → (all : Slots) → ((path : Option (List Pair)) → slots ≡ slot_row nfa (length slots) path
+      → all ≡ slot_row nfa (length all) path)
       → IsAnswer nfa kind earliest x pattern all
   answer-of half pattern is s all whole = record {
     restarts = s.restarts;
@@ -210,7 +238,8 @@ module _ (nfa : Automaton) (kind : MatchKind) (earliest : Bool) (x : Search) {sl
   }
 
   -- its pattern is one of the NFA's
-  pub pattern-among : IsAutomaton nfa → (half : Option HalfMatch) → SearchGives nfa kind earliest x half slots scans turns
+  pub pattern-among : IsAutomaton nfa → (half : Option HalfMatch)
+      → SearchGives nfa kind earliest x half slots scans turns
       → IfSome half (λ h. (half_found_of h).pattern < length nfa.patterns)
   pattern-among valid None s = tt
   pattern-among valid (Some h) s =
@@ -218,7 +247,8 @@ module _ (nfa : Automaton) (kind : MatchKind) (earliest : Bool) (x : Search) {sl
       (answer-of (Some h) (Some (half_found_of h).pattern) refl s slots (λ path are. are))
 
   -- the match
-  pub match-some : IsAutomaton nfa → (half : HalfMatch) (k : ℕ) → k ≡ (half_found_of half).pattern → length slots ≡ 2 * length nfa.groups
+  pub match-some : IsAutomaton nfa → (half : HalfMatch) (k : ℕ) → k ≡ (half_found_of half).pattern
+      → length slots ≡ 2 * length nfa.groups
       → (s : SearchGives nfa kind earliest x (Some half) slots scans turns)
       → (found : Option Found) → found ≡ match_of (Some k) slots → IsMatchAnswer nfa kind earliest x found
   match-some valid half k is size s found leads = record {

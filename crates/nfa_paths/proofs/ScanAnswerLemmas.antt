@@ -31,7 +31,8 @@ module _ (nfa : Automaton) (x : Search) where
 
   -- an edge over a byte leads to the next position, within the span
   byte_edge : (p : ℕ) (on : ℕ → Option ℕ) (y : Pair)
-      → In y (option_to_list (option_and_then (λ b. option_map (λ next. (next, p + 1)) (on b)) (byte_at x p))) → (y.1 ≡ p + 1) × (p < x.end)
+      → In y (option_to_list (option_and_then (λ b. option_map (λ next. (next, p + 1)) (on b)) (byte_at x p)))
+      → (y.1 ≡ p + 1) × (p < x.end)
   byte_edge p on y = of (byte_at x p) (λ b. byte_at-within p b)
     where
       over : (o : Option ℕ) → In y (option_to_list (option_map (λ next. (next, p + 1)) o)) → y.1 ≡ p + 1
@@ -39,7 +40,8 @@ module _ (nfa : Automaton) (x : Search) where
       over (Some next) i = elim i [ inl e ↦ ap (λ z. z.1) e | inr never ↦ absurd never ]
 
       of : (o : Option ℕ) → ((b : ℕ) → o ≡ Some b → p < x.end)
-          → In y (option_to_list (option_and_then (λ b. option_map (λ next. (next, p + 1)) (on b)) o)) → (y.1 ≡ p + 1) × (p < x.end)
+          → In y (option_to_list (option_and_then (λ b. option_map (λ next. (next, p + 1)) (on b)) o))
+          → (y.1 ≡ p + 1) × (p < x.end)
       of None within i = absurd i
       of (Some b) within i = (over (on b) i, within b refl)
 
@@ -49,7 +51,8 @@ module _ (nfa : Automaton) (x : Search) where
   stays p (t ∷ targets) y i = elim i [ inl e ↦ ap (λ z. z.1) e | inr later ↦ stays p targets y later ]
 
   -- an edge stays at its position, where the state does not rest, or leads to the next one within the span
-  pub edges_of-next : (n : Node) (p : ℕ) (y : Pair) → In y (edges_of x n p) → ((rests n ≡ false) × (y.1 ≡ p)) ⊎ ((y.1 ≡ p + 1) × (p < x.end))
+  pub edges_of-next : (n : Node) (p : ℕ) (y : Pair) → In y (edges_of x n p)
+      → ((rests n ≡ false) × (y.1 ≡ p)) ⊎ ((y.1 ≡ p + 1) × (p < x.end))
   unfolding edges_of
   edges_of-next (ByteRange t) p y i = inr (byte_edge p (target_on (ByteRange t)) y i)
   edges_of-next (Sparse ts) p y i = inr (byte_edge p (target_on (Sparse ts)) y i)
@@ -107,7 +110,8 @@ module _ (nfa : Automaton) (x : Search) where
   pub starts-from : (s : Pair) → In s (starts nfa x) → x.start ≤ s.1
   starts-from s = of (start_state nfa x.anchored)
     where
-      of : (o : Option ℕ) → In s (option_map_or (λ state. pairs_from state x.start (start_count nfa x)) o []) → x.start ≤ s.1
+      of : (o : Option ℕ) → In s (option_map_or (λ state. pairs_from state x.start (start_count nfa x)) o [])
+          → x.start ≤ s.1
       of None i = absurd i
       of (Some state) i = pairs_from-ahead state x.start (start_count nfa x) s i
 
@@ -132,7 +136,8 @@ module _ (nfa : Automaton) (x : Search) where
       few within false true = omega arith
       few within false false = omega arith
 
-      of : x.start ≤ x.end → (o : Option ℕ) → In s (option_map_or (λ state. pairs_from state x.start (start_count nfa x)) o []) → s.1 ≤ x.end
+      of : x.start ≤ x.end → (o : Option ℕ) → In s
+          (option_map_or (λ state. pairs_from state x.start (start_count nfa x)) o []) → s.1 ≤ x.end
       of within None i = absurd i
       of within (Some state) i =
           let k : s.1 < x.start + start_count nfa x = below state x.start (start_count nfa x) i in
@@ -148,7 +153,10 @@ module _ (nfa : Automaton) (x : Search) where
 -- a pair that waits to be explored is one of the list
 pub Explore-among : (k : Pair) (es : List Pair) → In (Explore k) (map Explore es) → In k es
 Explore-among k [] i = absurd i
-Explore-among k (e ∷ es) i = elim i [ inl here ↦ inl (let h : k ≡ e = cc in h) | inr later ↦ inr (Explore-among k es later) ]
+Explore-among k (e ∷ es) i = elim i [
+  | inl here ↦ inl (let h : k ≡ e = cc in h)
+  | inr later ↦ inr (Explore-among k es later)
+]
 
 -- so it is where the slots are loaded behind each
 pub Explore-among_seeds : (k : Pair) (slots : Slots) (es : List Pair) → In (Explore k) (seeds slots es) → In k es
@@ -157,21 +165,27 @@ Explore-among_seeds k slots [] i = absurd i
 Explore-among_seeds k slots (e ∷ es) i =
     elim i [
       | inl here ↦ inl (let h : k ≡ e = cc in h)
-      | inr later ↦ elim later [ inl load ↦ absurd (no_load k slots load) | inr more ↦ inr (Explore-among_seeds k slots es more) ]
+      | inr later ↦ elim later [
+        | inl load ↦ absurd (no_load k slots load)
+        | inr more ↦ inr (Explore-among_seeds k slots es more)
+      ]
     ]
   where
     no_load : (k : Pair) (slots : Slots) → Explore k ≡ Load slots → ⊥
     no_load k slots e = cc
 
 -- the starts that wait behind a position
-pub seeds-later : (slots : Slots) (state at count : ℕ) (k : Pair) → In (Explore k) (seeds slots (pairs_from state (at + 1) count)) → at < k.1
+pub seeds-later : (slots : Slots) (state at count : ℕ) (k : Pair)
+    → In (Explore k) (seeds slots (pairs_from state (at + 1) count)) → at < k.1
 seeds-later slots state at count k i =
-    let l : at + 1 ≤ k.1 = pairs_from-ahead state (at + 1) count k (Explore-among_seeds k slots (pairs_from state (at + 1) count) i) in omega arith
+    let l : at + 1 ≤ k.1 = pairs_from-ahead state (at + 1) count k
+    (Explore-among_seeds k slots (pairs_from state (at + 1) count) i) in omega arith
 
 -- the answers
 
 -- the path of a scan's answer, of whichever kind, which ends with v, with its slots, no longer than there were turns
-pub record FindsAnswer (nfa : Automaton) (x : Search) (kind : MatchKind) (earliest : Bool) (count turns : ℕ) (v : Pair) (row : Slots) : Type 0 where
+pub record FindsAnswer (nfa : Automaton) (x : Search) (kind : MatchKind) (earliest : Bool) (count turns : ℕ) (v : Pair)
+    (row : Slots) : Type 0 where
   pub path : List Pair
   pub answers : IsScanAnswer nfa x kind earliest (Some path)
   pub ends : last_of path ≡ Some v
@@ -180,15 +194,18 @@ pub record FindsAnswer (nfa : Automaton) (x : Search) (kind : MatchKind) (earlie
 
 module _ (nfa : Automaton) (x : Search) (kind : MatchKind) (earliest : Bool) where
   -- nothing was found: the scan has no answer
-  pub IsFoundBy-none : (turns : ℕ) (slots : Slots) → IsFoundBy (capture nfa) slots (IsScanAnswer nfa x kind earliest) turns None
+  pub IsFoundBy-none : (turns : ℕ) (slots : Slots)
+      → IsFoundBy (capture nfa) slots (IsScanAnswer nfa x kind earliest) turns None
       → IsScanAnswer nfa x kind earliest None
   IsFoundBy-none turns slots h = of h.path h.meant h.leads
     where
-      of : (o : Option (List Pair)) → IsScanAnswer nfa x kind earliest o → found_along (capture nfa) o slots ≡ None → IsScanAnswer nfa x kind earliest None
+      of : (o : Option (List Pair)) → IsScanAnswer nfa x kind earliest o → found_along (capture nfa) o slots ≡ None
+          → IsScanAnswer nfa x kind earliest None
       of None meant leads = meant
       of (Some p) meant leads =
           let to = scan_answer-leads nfa x kind earliest p meant in
-          absurd (never_none (to.end, apply (capture nfa) p slots) (sym (found-end (capture nfa) to.end p slots to.path.ends) ∙ leads))
+          absurd (never_none (to.end, apply (capture nfa) p slots)
+          (sym (found-end (capture nfa) to.end p slots to.path.ends) ∙ leads))
 
   -- a pair was found: it ends the scan's answer
   pub IsFoundBy-some : (count turns : ℕ) (v : Pair) (row : Slots)
@@ -196,7 +213,8 @@ module _ (nfa : Automaton) (x : Search) (kind : MatchKind) (earliest : Bool) whe
       → FindsAnswer nfa x kind earliest count turns v row
   IsFoundBy-some count turns v row h = of h.path h.meant h.leads h.short
     where
-      of : (o : Option (List Pair)) → IsScanAnswer nfa x kind earliest o → found_along (capture nfa) o (replicate count None) ≡ Some (v, row)
+      of : (o : Option (List Pair)) → IsScanAnswer nfa x kind earliest o
+          → found_along (capture nfa) o (replicate count None) ≡ Some (v, row)
           → option_map_or length o 0 ≤ turns → FindsAnswer nfa x kind earliest count turns v row
       of None meant leads short = absurd (never_none (v, row) (sym leads))
       of (Some p) meant leads short =
@@ -215,12 +233,14 @@ module _ (nfa : Automaton) (x : Search) (kind : MatchKind) (earliest : Bool) whe
 
 module _ (nfa : Automaton) (x : Search) where
   -- where no path to a match is left to end, no kind of scan has an answer
-  pub scan_answer-none : (kind : MatchKind) (earliest : Bool) {e : ℕ} → NoneBefore (edges nfa x) (starts nfa x) (is_match nfa) e
+  pub scan_answer-none : (kind : MatchKind) (earliest : Bool) {e : ℕ}
+      → NoneBefore (edges nfa x) (starts nfa x) (is_match nfa) e
       → EndsBefore (edges nfa x) (starts nfa x) (is_match nfa) e → IsScanAnswer nfa x kind earliest None
   scan_answer-none kind earliest {e} none ends =
       of kind earliest (λ m p w t. none m p w (record { wanted = t; before = ends m p w t }))
     where
-      of : (kind : MatchKind) (earliest : Bool) → NoPath (edges nfa x) (starts nfa x) (IsMatch nfa) → IsScanAnswer nfa x kind earliest None
+      of : (kind : MatchKind) (earliest : Bool) → NoPath (edges nfa x) (starts nfa x) (IsMatch nfa)
+          → IsScanAnswer nfa x kind earliest None
       of LeftmostFirst false h = h
       of LeftmostFirst true h = h
       of All false h = h
@@ -228,30 +248,38 @@ module _ (nfa : Automaton) (x : Search) where
 
 module _ (nfa : Automaton) (x : Search) (slots : Slots) where
   -- the search for any match finds the first path
-  pub scan_first-found : (turns : ℕ) (g : Found) → Answer (edges nfa x) (is_match nfa) (capture nfa) turns None [] (map Explore (starts nfa x)) slots g
+  pub scan_first-found : (turns : ℕ) (g : Found)
+      → Answer (edges nfa x) (is_match nfa) (capture nfa) turns None [] (map Explore (starts nfa x)) slots g
       → IsFoundBy (capture nfa) slots (IsScanAnswer nfa x LeftmostFirst false) turns g
   scan_first-found turns g answer =
-      IsFirstPath-found (edges nfa x) (capture nfa) (starts nfa x) (is_resting nfa) (is_match nfa) slots (Scanned-matches nfa x (is_match nfa) (λ v m. m)) turns g answer
+      IsFirstPath-found (edges nfa x) (capture nfa) (starts nfa x) (is_resting nfa) (is_match nfa) slots
+      (Scanned-matches nfa x (is_match nfa) (λ v m. m)) turns g answer
 
   -- the first front with a match has the earliest path
-  pub scan_earliest-found : {turns e : ℕ} {front : List (Pair × Slots)} → NoneBefore (edges nfa x) (starts nfa x) (is_match nfa) e
+  pub scan_earliest-found : {turns e : ℕ} {front : List (Pair × Slots)}
+      → NoneBefore (edges nfa x) (starts nfa x) (is_match nfa) e
       → IsFront (edges nfa x) (capture nfa) (starts nfa x) (is_resting nfa) (is_match nfa) slots turns front e
       → (a : Pair × Slots) → first_match (is_match nfa) front ≡ Some a
       → IsFoundBy (capture nfa) slots (IsScanAnswer nfa x LeftmostFirst true) turns (Some a)
   scan_earliest-found none f a is =
-      IsEarliestPath-found (edges nfa x) (capture nfa) (starts nfa x) (is_resting nfa) (is_match nfa) slots (Scanned-matches nfa x (is_match nfa) (λ v m. m)) none f a is
+      IsEarliestPath-found (edges nfa x) (capture nfa) (starts nfa x) (is_resting nfa) (is_match nfa) slots
+      (Scanned-matches nfa x (is_match nfa) (λ v m. m)) none f a is
 
   -- and the earliest last path
-  pub scan_earliest_last-found : {turns e : ℕ} {front : List (Pair × Slots)} → NoneBefore (edges nfa x) (starts nfa x) (is_match nfa) e
+  pub scan_earliest_last-found : {turns e : ℕ} {front : List (Pair × Slots)}
+      → NoneBefore (edges nfa x) (starts nfa x) (is_match nfa) e
       → IsFront (edges nfa x) (capture nfa) (starts nfa x) (is_resting nfa) (is_match nfa) slots turns front e
       → (a : Pair × Slots) → last_match (is_match nfa) None front ≡ Some a
       → IsFoundBy (capture nfa) slots (IsScanAnswer nfa x All true) turns (Some a)
   scan_earliest_last-found none f a is =
-      IsEarliestLastPath-found (edges nfa x) (capture nfa) (starts nfa x) (is_resting nfa) (is_match nfa) slots (Scanned-matches nfa x (is_match nfa) (λ v m. m)) none f a is
+      IsEarliestLastPath-found (edges nfa x) (capture nfa) (starts nfa x) (is_resting nfa) (is_match nfa) slots
+      (Scanned-matches nfa x (is_match nfa) (λ v m. m)) none f a is
 
   -- once every path has ended, what was found last is the last path's
-  pub scan_last-found : {turns e : ℕ} {g : Found} → LastBefore (edges nfa x) (capture nfa) (starts nfa x) (is_match nfa) slots e turns g
+  pub scan_last-found : {turns e : ℕ} {g : Found}
+      → LastBefore (edges nfa x) (capture nfa) (starts nfa x) (is_match nfa) slots e turns g
       → EndsBefore (edges nfa x) (starts nfa x) (is_match nfa) e
       → IsFoundBy (capture nfa) slots (IsScanAnswer nfa x All false) turns g
   scan_last-found so_far ends =
-      LastBefore-end (edges nfa x) (capture nfa) (starts nfa x) (is_resting nfa) (is_match nfa) slots (Scanned-matches nfa x (is_match nfa) (λ v m. m)) so_far ends
+      LastBefore-end (edges nfa x) (capture nfa) (starts nfa x) (is_resting nfa) (is_match nfa) slots
+      (Scanned-matches nfa x (is_match nfa) (λ v m. m)) so_far ends

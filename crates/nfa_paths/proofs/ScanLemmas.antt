@@ -13,29 +13,54 @@ use Rattle.nfa_paths.proofs.SearchLemmas.{Answer-starts, found-Some}
 use Rattle.nfa_paths.proofs.KindsLemmas.{first_match-is, last_match-is, IsFront-no_match, IsFront-first_match, IsFront-last_match, IsFront-pairs, is_plain, test, test-true, true-test}
 
 -- what is found in few turns is found in more
-pub IsFoundBy-more : {capture : Pair → Option ℕ} {slots : Slots} {Meant : Option (List Pair) → Type 0} {turns more : ℕ} {g : Found}
+pub IsFoundBy-more : {capture : Pair → Option ℕ} {slots : Slots} {Meant : Option (List Pair) → Type 0}
+    {turns more : ℕ} {g : Found}
     → turns ≤ more → IsFoundBy capture slots Meant turns g → IsFoundBy capture slots Meant more g
-IsFoundBy-more {more = more} le h = record { path = h.path; meant = h.meant; leads = h.leads; short = let k : option_map_or length h.path 0 ≤ more = omega (arith, h.short) in k }
+IsFoundBy-more {more = more} le h = record {
+  path = h.path;
+  meant = h.meant;
+  leads = h.leads;
+  short =
+      let k : option_map_or length h.path 0 ≤ more = omega (arith, h.short) in k;
+}
 
 -- sets that agree on the pairs to which paths lead
 
 module _ (edges : Pair → List Pair) (starts : List Pair) (P Q : Pair → Type 0)
-    (to : (m : Pair) (p : List Pair) → PathTo edges starts m p → P m → Q m) (back : (m : Pair) (p : List Pair) → PathTo edges starts m p → Q m → P m) where
+    (to : (m : Pair) (p : List Pair) → PathTo edges starts m p → P m → Q m) (back : (m : Pair) (p : List Pair)
+    → PathTo edges starts m p → Q m → P m) where
   -- no path to the one set, so none to the other
   NoPath-agree : NoPath edges starts P → NoPath edges starts Q
   NoPath-agree none m p w q = none m p w (back m p w q)
 
   -- the first path to both sets
   IsFirstTo-agree : {p : List Pair} → IsFirstTo edges starts P p → IsFirstTo edges starts Q p
-  IsFirstTo-agree {p} h = record { end = h.end; path = h.path; wanted = to h.end p h.path h.wanted; first = λ m q w t. h.first m q w (back m q w t) }
+  IsFirstTo-agree {p} h = record {
+    end = h.end;
+    path = h.path;
+    wanted = to h.end p h.path h.wanted;
+    first =
+        λ m q w t. h.first m q w (back m q w t);
+  }
 
   -- an end of both sets
   IsEnd-agree : {e : ℕ} → IsEnd edges starts P e → IsEnd edges starts Q e
-  IsEnd-agree h = record { end = h.end; along = h.along; path = h.path; wanted = to h.end h.along h.path h.wanted; at = h.at }
+  IsEnd-agree h = record {
+    end = h.end;
+    along = h.along;
+    path = h.path;
+    wanted =
+        to h.end h.along h.path h.wanted;
+    at = h.at;
+  }
 
   -- the greatest end of both sets
   IsGreatestEnd-agree : {e : ℕ} → IsGreatestEnd edges starts P e → IsGreatestEnd edges starts Q e
-  IsGreatestEnd-agree h = record { is_end = IsEnd-agree h.is_end; greatest = λ m p w t. h.greatest m p w (back m p w t) }
+  IsGreatestEnd-agree h = record {
+    is_end = IsEnd-agree h.is_end;
+    greatest =
+        λ m p w t. h.greatest m p w (back m p w t);
+  }
 
   -- the last of the first paths to both sets
   IsLastOfFirsts-agree : {e : ℕ} {p : List Pair} → IsLastOfFirsts edges starts P e p → IsLastOfFirsts edges starts Q e p
@@ -60,31 +85,48 @@ module _ (edges : Pair → List Pair) (starts : List Pair) (is_match : Pair → 
   path_within n stays s m (x ∷ (y ∷ p)) h l d b = path_within n stays y m (y ∷ p) refl l.1 d (stays x y l.0 (rw h b))
 
   -- and so every path ends there
-  pub EndsBefore-within : (n : ℕ) → ((x y : Pair) → In y (edges x) → x.1 ≤ n → y.1 ≤ n) → ((s : Pair) → In s starts → s.1 ≤ n)
+  pub EndsBefore-within : (n : ℕ) → ((x y : Pair) → In y (edges x) → x.1 ≤ n → y.1 ≤ n)
+      → ((s : Pair) → In s starts → s.1 ≤ n)
       → EndsBefore edges starts is_match (n + 1)
   EndsBefore-within n stays begins m p w t =
       let k : m.1 ≤ n = path_within n stays w.start m p w.head w.linked w.ends (begins w.start w.among) in
       omega arith
 
-module _ (edges : Pair → List Pair) (capture : Pair → Option ℕ) (starts : List Pair) (resting is_match : Pair → Bool) (slots : Slots)
+module _ (edges : Pair → List Pair) (capture : Pair → Option ℕ) (starts : List Pair) (resting is_match : Pair → Bool)
+    (slots : Slots)
     (shape : Scanned edges capture starts resting is_match) where
   -- the first match pair of a front is what the first path that ends there finds
-  pub first_match-found : {turns e : ℕ} {front : List (Pair × Slots)} → IsFront edges capture starts resting is_match slots turns front e
-      → IsFoundBy capture slots (IsFirstPath edges starts (WantedAt (Passes is_match) e)) turns (first_match is_match front)
+  pub first_match-found : {turns e : ℕ} {front : List (Pair × Slots)}
+      → IsFront edges capture starts resting is_match slots turns front e
+      → IsFoundBy capture slots (IsFirstPath edges starts (WantedAt (Passes is_match) e)) turns
+      (first_match is_match front)
   first_match-found {turns} {e} {front} f =
       elim (first_match-is is_match front) [
-        | inl lacks ↦ record { path = None; meant = IsFront-no_match edges capture starts resting is_match slots turns shape f lacks.1; leads = sym lacks.0; short = omega arith }
+        | inl lacks ↦ record {
+          path = None;
+          meant =
+              IsFront-no_match edges capture starts resting is_match slots turns shape f lacks.1;
+          leads = sym lacks.0;
+          short = omega arith;
+        }
         | inr has ↦
             let h = IsFront-first_match edges capture starts resting is_match slots turns shape f has.0 has.2 in
             record { path = Some h.0; meant = h.1; leads = h.3 ∙ sym has.1; short = h.4 }
       ]
 
   -- the last match pair of a front is what the last of the first paths that end there finds
-  pub last_match-found : {turns e : ℕ} {front : List (Pair × Slots)} → IsFront edges capture starts resting is_match slots turns front e
+  pub last_match-found : {turns e : ℕ} {front : List (Pair × Slots)}
+      → IsFront edges capture starts resting is_match slots turns front e
       → IsFoundBy capture slots (IsLastAt edges starts (Passes is_match) e) turns (last_match is_match None front)
   last_match-found {turns} {e} {front} f =
       elim (last_match-is is_match None front) [
-        | inl lacks ↦ record { path = None; meant = IsFront-no_match edges capture starts resting is_match slots turns shape f lacks.1; leads = sym lacks.0; short = omega arith }
+        | inl lacks ↦ record {
+          path = None;
+          meant =
+              IsFront-no_match edges capture starts resting is_match slots turns shape f lacks.1;
+          leads = sym lacks.0;
+          short = omega arith;
+        }
         | inr has ↦
             let h = IsFront-last_match edges capture starts resting is_match slots turns shape f has.0 has.2 in
             record { path = Some h.0; meant = h.1; leads = h.3 ∙ sym has.1; short = h.4 }
@@ -117,7 +159,8 @@ module _ (edges : Pair → List Pair) (capture : Pair → Option ℕ) (starts : 
         | inl less ↦ none m p w (record { wanted = h.wanted; before = less })
         | inr more ↦
             let j : m.1 < e + 1 = h.before in
-            IsFront-no_match edges capture starts resting is_match slots turns shape f plain m p w (record { wanted = h.wanted; at = omega arith })
+            IsFront-no_match edges capture starts resting is_match slots turns shape f plain m p w
+            (record { wanted = h.wanted; at = omega arith })
       ]
 
   -- no path ends at all
@@ -126,16 +169,21 @@ module _ (edges : Pair → List Pair) (capture : Pair → Option ℕ) (starts : 
   NoneBefore-end none ends m p w t = none m p w (record { wanted = t; before = ends m p w t })
 
   -- where no path ends before e and one ends there, e is the least end
-  least_end : {e : ℕ} → NoneBefore edges starts is_match e → (m : Pair) (p : List Pair) → PathTo edges starts m p → WantedAt (Passes is_match) e m
+  least_end : {e : ℕ} → NoneBefore edges starts is_match e → (m : Pair) (p : List Pair) → PathTo edges starts m p
+      → WantedAt (Passes is_match) e m
       → IsLeastEnd edges starts (Passes is_match) e
   least_end {e} none m p w h = record {
     is_end = record { end = m; along = p; path = w; wanted = h.wanted; at = h.at };
-    least = λ n q v t. elim (cases_lt n.1 e) [ inl less ↦ absurd (none n q v (record { wanted = t; before = less })) | inr more ↦ more ];
+    least = λ n q v t. elim (cases_lt n.1 e) [
+      | inl less ↦ absurd (none n q v (record { wanted = t; before = less }))
+      | inr more ↦ more
+    ];
   }
 
   -- the first front with a match pair: its first is the earliest
   pub IsEarliestPath-found : {turns e : ℕ} {front : List (Pair × Slots)} → NoneBefore edges starts is_match e
-      → IsFront edges capture starts resting is_match slots turns front e → (a : Pair × Slots) → first_match is_match front ≡ Some a
+      → IsFront edges capture starts resting is_match slots turns front e → (a : Pair × Slots)
+      → first_match is_match front ≡ Some a
       → IsFoundBy capture slots (IsEarliestPath edges starts (Passes is_match)) turns (Some a)
   IsEarliestPath-found {turns} {e} {front} none f a found_it =
       elim (first_match-is is_match front) [
@@ -152,7 +200,8 @@ module _ (edges : Pair → List Pair) (capture : Pair → Option ℕ) (starts : 
 
   -- and its last is the last of the first paths
   pub IsEarliestLastPath-found : {turns e : ℕ} {front : List (Pair × Slots)} → NoneBefore edges starts is_match e
-      → IsFront edges capture starts resting is_match slots turns front e → (a : Pair × Slots) → last_match is_match None front ≡ Some a
+      → IsFront edges capture starts resting is_match slots turns front e → (a : Pair × Slots)
+      → last_match is_match None front ≡ Some a
       → IsFoundBy capture slots (IsEarliestLastPath edges starts (Passes is_match)) turns (Some a)
   IsEarliestLastPath-found {turns} {e} {front} none f a found_it =
       elim (last_match-is is_match None front) [
@@ -161,7 +210,12 @@ module _ (edges : Pair → List Pair) (capture : Pair → Option ℕ) (starts : 
             let h = IsFront-last_match edges capture starts resting is_match slots turns shape f has.0 has.2 in
             record {
               path = Some h.0;
-              meant = (e, least_end none h.1.end h.0 (PathTo-along edges starts h.1.first.wanted h.1.first.path) h.1.wanted, h.1);
+              meant = (
+                e,
+                least_end none h.1.end h.0 (PathTo-along edges starts h.1.first.wanted h.1.first.path)
+                    h.1.wanted,
+                h.1,
+              );
               leads = h.3 ∙ sym has.1 ∙ found_it;
               short = h.4;
             }
@@ -181,8 +235,10 @@ module _ (edges : Pair → List Pair) (capture : Pair → Option ℕ) (starts : 
       elim (last_match-is is_match g front) [
         | inl lacks ↦ record {
           path = so_far.path;
-          meant = IsLastPath-agree edges starts (WantedBefore (Passes is_match) e) (WantedBefore (Passes is_match) (e + 1)) wider
-              (narrower (IsFront-no_match edges capture starts resting is_match slots turns shape f lacks.1)) so_far.path so_far.meant;
+          meant = IsLastPath-agree edges starts (WantedBefore (Passes is_match) e)
+              (WantedBefore (Passes is_match) (e + 1)) wider
+              (narrower (IsFront-no_match edges capture starts resting is_match slots turns shape f lacks.1))
+              so_far.path so_far.meant;
           leads = so_far.leads ∙ sym lacks.0;
           short = let k : option_map_or length so_far.path 0 ≤ turns = omega (arith, so_far.short) in k;
         }
@@ -197,11 +253,13 @@ module _ (edges : Pair → List Pair) (capture : Pair → Option ℕ) (starts : 
             }
       ]
     where
-      wider : (m : Pair) (p : List Pair) → PathTo edges starts m p → WantedBefore (Passes is_match) e m → WantedBefore (Passes is_match) (e + 1) m
+      wider : (m : Pair) (p : List Pair) → PathTo edges starts m p → WantedBefore (Passes is_match) e m
+          → WantedBefore (Passes is_match) (e + 1) m
       wider m p w h = let k : m.1 < e = h.before in record { wanted = h.wanted; before = omega arith }
 
       narrower : NoPath edges starts (WantedAt (Passes is_match) e)
-          → (m : Pair) (p : List Pair) → PathTo edges starts m p → WantedBefore (Passes is_match) (e + 1) m → WantedBefore (Passes is_match) e m
+          → (m : Pair) (p : List Pair) → PathTo edges starts m p → WantedBefore (Passes is_match) (e + 1) m
+          → WantedBefore (Passes is_match) e m
       narrower none m p w h =
           let k : m.1 < e + 1 = h.before in
           elim (cases_lt m.1 e) [
@@ -241,19 +299,22 @@ module _ (edges : Pair → List Pair) (capture : Pair → Option ℕ) (starts : 
   }
 
   -- the whole search for any match pair finds the first path
-  pub IsFirstPath-found : (turns : ℕ) (g : Found) → Answer edges is_match capture turns None [] (map Explore starts) slots g
+  pub IsFirstPath-found : (turns : ℕ) (g : Found)
+      → Answer edges is_match capture turns None [] (map Explore starts) slots g
       → IsFoundBy capture slots (IsFirstPath edges starts (Passes is_match)) turns g
   IsFirstPath-found turns g answer =
       elim (Answer-starts edges is_match capture turns starts slots g answer) [
         | inl k ↦ record {
           path = Some k.0;
-          meant = IsLeast-first edges starts is_match shape.leads_nowhere k.0 (IsLeast-from_first edges is_match starts shape.increasing (Some k.0) k.1);
+          meant = IsLeast-first edges starts is_match shape.leads_nowhere
+              k.0 (IsLeast-from_first edges is_match starts shape.increasing (Some k.0) k.1);
           leads = sym k.2;
           short = k.3;
         }
         | inr k ↦ record {
           path = None;
-          meant = IsLeast-none edges starts is_match shape.leads_nowhere (IsLeast-from_first edges is_match starts shape.increasing None k.0);
+          meant = IsLeast-none edges starts is_match shape.leads_nowhere
+              (IsLeast-from_first edges is_match starts shape.increasing None k.0);
           leads = sym k.1;
           short = omega arith;
         }
@@ -265,7 +326,10 @@ module _ (edges : Pair → List Pair) (capture : Pair → Option ℕ) (starts : 
     later : (x : Pair) → ((is_match x ≡ true) × (e ≤ x.1)) ⊎ ¬ ((is_match x ≡ true) × (e ≤ x.1))
     later x =
         elim (cases_Bool (is_match x)) [
-          | inl t ↦ elim (cases_lt x.1 e) [ inl less ↦ inr (λ h. let k : e ≤ x.1 = h.1 in omega arith) | inr more ↦ inl (t, more) ]
+          | inl t ↦ elim (cases_lt x.1 e) [
+            | inl less ↦ inr (λ h. let k : e ≤ x.1 = h.1 in omega arith)
+            | inr more ↦ inl (t, more)
+          ]
           | inr g ↦ inr (λ h. is_plain is_match (is_match x) g h.0)
         ]
 
@@ -284,7 +348,8 @@ module _ (edges : Pair → List Pair) (capture : Pair → Option ℕ) (starts : 
     is_later x = true-test (later x)
 
     -- the search for the set finds none, so there is no path to it
-    NoPath-over : {turns : ℕ} → IsOver edges capture starts is_match slots turns e → NoPath edges starts (λ x. (is_match x ≡ true) × (e ≤ x.1))
+    NoPath-over : {turns : ℕ} → IsOver edges capture starts is_match slots turns e
+        → NoPath edges starts (λ x. (is_match x ≡ true) × (e ≤ x.1))
     NoPath-over {turns} over m p w h =
         elim (Answer-starts edges later_target capture turns starts slots None (over.none later_target later_is)) [
           | inl k ↦ absurd (found-Some edges later_target capture slots k.1.2.path k.2)
@@ -294,7 +359,8 @@ module _ (edges : Pair → List Pair) (capture : Pair → Option ℕ) (starts : 
         ]
 
     -- where nothing is left to explore, every path has ended
-    pub EndsBefore-over : {turns : ℕ} → IsOver edges capture starts is_match slots turns e → EndsBefore edges starts is_match e
+    pub EndsBefore-over : {turns : ℕ} → IsOver edges capture starts is_match slots turns e
+        → EndsBefore edges starts is_match e
     EndsBefore-over over m p w t =
         elim (cases_lt m.1 e) [
           | inl less ↦ less
@@ -304,15 +370,18 @@ module _ (edges : Pair → List Pair) (capture : Pair → Option ℕ) (starts : 
   -- the patterns that are reached
   module _ (pattern : Pair → Option ℕ) (k : ℕ) where
     -- at one position: those of the match pairs of its front
-    pub IsReached-at : {turns e : ℕ} {front : List (Pair × Slots)} → IsFront edges capture starts resting is_match slots turns front e
+    pub IsReached-at : {turns e : ℕ} {front : List (Pair × Slots)}
+        → IsFront edges capture starts resting is_match slots turns front e
         → IsReached edges starts (WantedAt (Passes is_match) e) pattern k ↔ HoldsMatch is_match pattern k front
     IsReached-at {turns} f = (
       λ r.
-          let a = (IsFront-pairs edges capture starts resting is_match slots turns shape f r.end r.wanted).0 (r.along, r.path) in
+          let a = (IsFront-pairs edges capture starts resting is_match slots turns shape f r.end r.wanted).0
+          (r.along, r.path) in
           record { item = a.0; among = a.1; matches = rw a.2 r.wanted.wanted; pattern_is = rw a.2 r.pattern_is },
       λ a.
           let h = wanted_at a.item.0 a.matches (f.rest a.item a.among).1 in
-          let w = (IsFront-pairs edges capture starts resting is_match slots turns shape f a.item.0 h).1 (a.item, a.among, refl) in
+          let w = (IsFront-pairs edges capture starts resting is_match slots turns shape f a.item.0 h).1
+          (a.item, a.among, refl) in
           record { end = a.item.0; along = w.0; path = w.1; wanted = h; pattern_is = a.pattern_is },
     )
       where
@@ -320,30 +389,61 @@ module _ (edges : Pair → List Pair) (capture : Pair → Option ℕ) (starts : 
         wanted_at m t at = record { wanted = t; at = at }
 
     -- before the first start none
-    pub ReachedBefore-start : (e : ℕ) → ((s : Pair) → In s starts → e ≤ s.1) → ReachedBefore edges starts is_match pattern e k → ⊥
+    pub ReachedBefore-start : (e : ℕ) → ((s : Pair) → In s starts → e ≤ s.1)
+        → ReachedBefore edges starts is_match pattern e k → ⊥
     ReachedBefore-start e from r = NoneBefore-start e from r.end r.along r.path r.wanted
 
     -- before the next position: what was reached before, and the match pairs of the front
-    pub ReachedBefore-step : {turns e : ℕ} {front : List (Pair × Slots)} → IsFront edges capture starts resting is_match slots turns front e
-        → ReachedBefore edges starts is_match pattern (e + 1) k ↔ (ReachedBefore edges starts is_match pattern e k ⊎ HoldsMatch is_match pattern k front)
+    pub ReachedBefore-step : {turns e : ℕ} {front : List (Pair × Slots)}
+        → IsFront edges capture starts resting is_match slots turns front e
+        → ReachedBefore edges starts is_match pattern (e + 1) k
+        ↔ (ReachedBefore edges starts is_match pattern e k ⊎ HoldsMatch is_match pattern k front)
     ReachedBefore-step {e = e} f = (
       λ r.
           elim (cases_lt r.end.1 e) [
             | inl less ↦
-                inl (record { end = r.end; along = r.along; path = r.path; wanted = record { wanted = r.wanted.wanted; before = less }; pattern_is = r.pattern_is })
+                inl (record {
+                  end = r.end;
+                  along = r.along;
+                  path = r.path;
+                  wanted =
+                      record { wanted = r.wanted.wanted; before = less };
+                  pattern_is = r.pattern_is;
+                })
             | inr more ↦
                 let b : r.end.1 < e + 1 = r.wanted.before in
-                inr ((IsReached-at f).0 (record { end = r.end; along = r.along; path = r.path; wanted = record { wanted = r.wanted.wanted; at = omega arith }; pattern_is = r.pattern_is }))
+                inr ((IsReached-at f).0 (record {
+                  end = r.end;
+                  along = r.along;
+                  path = r.path;
+                  wanted =
+                      record { wanted = r.wanted.wanted; at = omega arith };
+                  pattern_is = r.pattern_is;
+                }))
           ],
       λ s.
           elim s [
             | inl r ↦
                 let b : r.end.1 < e = r.wanted.before in
-                record { end = r.end; along = r.along; path = r.path; wanted = record { wanted = r.wanted.wanted; before = omega arith }; pattern_is = r.pattern_is }
+                record {
+                  end = r.end;
+                  along = r.along;
+                  path = r.path;
+                  wanted =
+                      record { wanted = r.wanted.wanted; before = omega arith };
+                  pattern_is = r.pattern_is;
+                }
             | inr a ↦
                 let r = (IsReached-at f).1 a in
                 let b : r.end.1 ≡ e = r.wanted.at in
-                record { end = r.end; along = r.along; path = r.path; wanted = record { wanted = r.wanted.wanted; before = omega arith }; pattern_is = r.pattern_is }
+                record {
+                  end = r.end;
+                  along = r.along;
+                  path = r.path;
+                  wanted =
+                      record { wanted = r.wanted.wanted; before = omega arith };
+                  pattern_is = r.pattern_is;
+                }
           ],
     )
 

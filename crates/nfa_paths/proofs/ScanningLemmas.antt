@@ -17,78 +17,112 @@ not_true : (b c : Bool) → (b ≡ true → c ≡ true) → c ≡ false → b �
 not_true true c h f = sym (h refl) ∙ f
 not_true false c h f = refl
 
-module _ (edges : Pair → List Pair) (capture : Pair → Option ℕ) (starts : List Pair) (is_match : Pair → Bool) (slots : Slots) where
+module _ (edges : Pair → List Pair) (capture : Pair → Option ℕ) (starts : List Pair) (is_match : Pair → Bool)
+    (slots : Slots) where
   -- nothing is seen yet
   pub Scanning-start : (e : ℕ) (Seen : Pair → Type 0) → ((x : Pair) → Seen x → ⊥)
       → Scanning edges capture starts is_match slots e Seen 0 [] (map Explore starts) slots
-  Scanning-start e Seen fresh = record { searching = λ target at. Searching-start edges target capture Seen None (map Explore starts) slots fresh }
+  Scanning-start e Seen fresh = record {
+    searching =
+        λ target at. Searching-start edges target capture Seen None (map Explore starts) slots fresh;
+  }
 
   -- nothing is seen yet, and each start has its slots loaded
   pub Scanning-seeds : (e : ℕ) (Seen : Pair → Type 0) (current : Slots) → ((x : Pair) → Seen x → ⊥)
       → Scanning edges capture starts is_match slots e Seen 0 [] (Load slots ∷ seeds slots starts) current
-  Scanning-seeds e Seen current fresh = record { searching = λ target at. Searching-seeds edges target capture Seen None starts slots current fresh }
+  Scanning-seeds e Seen current fresh = record
+      { searching = λ target at. Searching-seeds edges target capture Seen None starts slots current fresh }
 
-  module _ {e : ℕ} {Seen : Pair → Type 0} {spent : ℕ} {front : List (Pair × Slots)} {rest : List Item} {current : Slots} where
+  module _ {e : ℕ} {Seen : Pair → Type 0} {spent : ℕ} {front : List (Pair × Slots)} {rest : List Item}
+      {current : Slots} where
     -- a slot is restored
-    pub Scanning-restore : {k : ℕ} {old : Option ℕ} → Scanning edges capture starts is_match slots e Seen spent front (Restore k old ∷ rest) current
+    pub Scanning-restore : {k : ℕ} {old : Option ℕ}
+        → Scanning edges capture starts is_match slots e Seen spent front (Restore k old ∷ rest) current
         → Scanning edges capture starts is_match slots e Seen spent front rest (set current k old)
-    Scanning-restore s = record { searching = λ target at. Searching-restore edges target capture (s.searching target at) }
+    Scanning-restore s = record {
+      searching =
+          λ target at. Searching-restore edges target capture (s.searching target at);
+    }
 
     -- slots are loaded
-    pub Scanning-load : {old : Slots} → Scanning edges capture starts is_match slots e Seen spent front (Load old ∷ rest) current
+    pub Scanning-load : {old : Slots} → Scanning edges capture starts is_match slots e Seen spent front
+        (Load old ∷ rest) current
         → Scanning edges capture starts is_match slots e Seen spent front rest old
     Scanning-load s = record { searching = λ target at. Searching-load edges target capture (s.searching target at) }
 
-    module _ {v : Pair} (s : Scanning edges capture starts is_match slots e Seen spent front (Explore v ∷ rest) current) where
-      -- a turn that finds its pair marked
-      pub Scanning-marked : Seen v → Scanning edges capture starts is_match slots e Seen (spent + 1) front rest current
-      Scanning-marked seen = record { searching = λ target at. Searching-marked edges target capture (s.searching target at) seen }
-
-      module _ {After : Pair → Type 0} (fresh : ¬ (Seen v)) (adds : (x : Pair) → After x ↔ ((x ≡ v) ⊎ Seen x)) where
-        -- a pair that is no match pair is in no set of them
-        plain_target : is_match v ≡ false → (target : Pair → Bool) → MatchesFrom is_match e target → target v ≡ false
-        plain_target plain target at = not_true (target v) (is_match v) (λ t. (at v t).0) plain
-
-        -- a pair that writes nothing gives way to its edges
-        pub Scanning-plain : is_match v ≡ false → (es : List Pair) → edges v ≡ es → capture v ≡ None
-            → Scanning edges capture starts is_match slots e After (spent + 1) front (map Explore es ++ rest) current
-        Scanning-plain plain es leads c =
-            record { searching = λ target at. Searching-plain edges target capture (s.searching target at) fresh adds (plain_target plain target at) es leads c }
-
-        -- a pair that writes to a slot, which is restored below its edges
-        pub Scanning-write : is_match v ≡ false → (es : List Pair) → edges v ≡ es → (k : ℕ) → capture v ≡ Some k
-            → Scanning edges capture starts is_match slots e After (spent + 1) front (map Explore es ++ Restore k (get_or current k None) ∷ rest) (set current k (Some v.1))
-        Scanning-write plain es leads k c =
-            record { searching = λ target at. Searching-write edges target capture (s.searching target at) fresh adds (plain_target plain target at) es leads k c }
-
-        -- a pair that writes to a slot that is not kept
-        pub Scanning-unkept : is_match v ≡ false → (es : List Pair) → edges v ≡ es → (k : ℕ) → capture v ≡ Some k → length current ≤ k
-            → Scanning edges capture starts is_match slots e After (spent + 1) front (map Explore es ++ rest) current
-        Scanning-unkept plain es leads k c past =
-            record { searching = λ target at. Searching-unkept edges target capture (s.searching target at) fresh adds (plain_target plain target at) es leads k c past }
-
-        -- a pair with no edge is dropped
-        pub Scanning-end : is_match v ≡ false → edges v ≡ [] → Scanning edges capture starts is_match slots e After (spent + 1) front rest current
-        Scanning-end plain leads =
-            record { searching = λ target at. Searching-end edges target capture (s.searching target at) fresh adds (plain_target plain target at) leads }
-
-        -- a pair at e whose edges all rise is put aside, a match pair too
-        pub Scanning-keep : ((x y : Pair) → In y (edges x) → x.1 ≤ y.1) → ((w : Pair) → In w (edges v) → e < w.1) → ((x : Pair) → Seen x → x.1 ≤ e)
-            → Scanning edges capture starts is_match slots e After (spent + 1) (front ++ (v, current) ∷ []) rest current
-        Scanning-keep onward leaves past = record {
-          searching = λ target at.
-              Searching-keep edges target capture (s.searching target at) fresh adds (λ x. e < x.1)
-              (λ x y a i. let k : x.1 ≤ y.1 = onward x y i in let l : e < x.1 = a in omega arith) leaves
-              (λ x h a. let k : x.1 ≤ e = past x h in let l : e < x.1 = a in omega arith);
+    module _ {v : Pair} (s : Scanning edges capture starts is_match slots e Seen spent front (Explore v ∷ rest) current)
+      where
+        -- a turn that finds its pair marked
+        pub Scanning-marked : Seen v → Scanning edges capture starts is_match slots e Seen (spent + 1) front rest current
+        Scanning-marked seen = record {
+          searching =
+              λ target at. Searching-marked edges target capture (s.searching target at) seen;
         }
 
+        module _ {After : Pair → Type 0} (fresh : ¬ (Seen v)) (adds : (x : Pair) → After x ↔ ((x ≡ v) ⊎ Seen x)) where
+          -- a pair that is no match pair is in no set of them
+          plain_target : is_match v ≡ false → (target : Pair → Bool) → MatchesFrom is_match e target → target v ≡ false
+          plain_target plain target at = not_true (target v) (is_match v) (λ t. (at v t).0) plain
+
+          -- a pair that writes nothing gives way to its edges
+          pub Scanning-plain : is_match v ≡ false → (es : List Pair) → edges v ≡ es → capture v ≡ None
+              → Scanning edges capture starts is_match slots e After (spent + 1) front (map Explore es ++ rest) current
+          Scanning-plain plain es leads c =
+              record {
+                searching = λ target at. Searching-plain edges target capture (s.searching target at) fresh adds
+                    (plain_target plain target at) es leads c;
+              }
+
+          -- a pair that writes to a slot, which is restored below its edges
+          pub Scanning-write : is_match v ≡ false → (es : List Pair) → edges v ≡ es → (k : ℕ) → capture v ≡ Some k
+              → Scanning edges capture starts is_match slots e After (spent + 1) front
+              (map Explore es ++ Restore k (get_or current k None) ∷ rest) (set current k (Some v.1))
+          Scanning-write plain es leads k c =
+              record {
+                searching = λ target at. Searching-write edges target capture (s.searching target at) fresh adds
+                    (plain_target plain target at) es leads k c;
+              }
+
+          -- a pair that writes to a slot that is not kept
+          pub Scanning-unkept : is_match v ≡ false → (es : List Pair) → edges v ≡ es → (k : ℕ) → capture v ≡ Some k
+              → length current ≤ k
+              → Scanning edges capture starts is_match slots e After (spent + 1) front (map Explore es ++ rest) current
+          Scanning-unkept plain es leads k c past =
+              record {
+                searching = λ target at. Searching-unkept edges target capture (s.searching target at) fresh adds
+                    (plain_target plain target at) es leads k c past;
+              }
+
+          -- a pair with no edge is dropped
+          pub Scanning-end : is_match v ≡ false → edges v ≡ []
+              → Scanning edges capture starts is_match slots e After (spent + 1) front rest current
+          Scanning-end plain leads =
+              record {
+                searching = λ target at. Searching-end edges target capture (s.searching target at) fresh adds
+                    (plain_target plain target at) leads;
+              }
+
+          -- a pair at e whose edges all rise is put aside, a match pair too
+          pub Scanning-keep : ((x y : Pair) → In y (edges x) → x.1 ≤ y.1) → ((w : Pair) → In w (edges v) → e < w.1)
+              → ((x : Pair) → Seen x → x.1 ≤ e)
+              → Scanning edges capture starts is_match slots e After (spent + 1) (front ++ (v, current) ∷ []) rest current
+          Scanning-keep onward leaves past = record {
+            searching = λ target at.
+                Searching-keep edges target capture (s.searching target at) fresh adds (λ x. e < x.1)
+                (λ x y a i. let k : x.1 ≤ y.1 = onward x y i in let l : e < x.1 = a in omega arith) leaves
+                (λ x h a. let k : x.1 ≤ e = past x h in let l : e < x.1 = a in omega arith);
+          }
+
   -- the next position
-  pub Scanning-round : {e : ℕ} {Seen After : Pair → Type 0} {spent : ℕ} {front : List (Pair × Slots)} {waiting : List Item} {current old : Slots}
+  pub Scanning-round : {e : ℕ} {Seen After : Pair → Type 0} {spent : ℕ} {front : List (Pair × Slots)}
+      {waiting : List Item} {current old : Slots}
       → Scanning edges capture starts is_match slots e Seen spent front (Load old ∷ waiting) current
       → ((x y : Pair) → In y (edges x) → x.1 ≤ y.1)
-      → ((a : Pair × Slots) → In a front → (capture a.0 ≡ None) × (a.0.1 ≡ e) × ((w : Pair) → In w (edges a.0) → e < w.1))
+      → ((a : Pair × Slots) → In a front → (capture a.0 ≡ None) × (a.0.1 ≡ e)
+      × ((w : Pair) → In w (edges a.0) → e < w.1))
       → ((k : Pair) → In (Explore k) waiting → e < k.1) → ((x : Pair) → Seen x → x.1 ≤ e) → ((x : Pair) → After x → ⊥)
-      → (after : Slots) → Scanning edges capture starts is_match slots (e + 1) After spent [] (round edges front (Load old ∷ waiting)) after
+      → (after : Slots) → Scanning edges capture starts is_match slots (e + 1) After spent []
+      (round edges front (Load old ∷ waiting)) after
   Scanning-round {e} s onward rests comes past fresh after = record {
     searching = λ target at.
         let sooner : (x : Pair) → target x ≡ true → (is_match x ≡ true) × (e ≤ x.1) =
@@ -106,9 +140,11 @@ module _ (edges : Pair → List Pair) (capture : Pair → Option ℕ) (starts : 
   }
 
   -- the scan has no more to explore at e: its front is complete
-  pub Scanning-front : {resting : Pair → Bool} {e : ℕ} {Seen : Pair → Type 0} {spent : ℕ} {front : List (Pair × Slots)} {waiting : List Item} {current : Slots}
+  pub Scanning-front : {resting : Pair → Bool} {e : ℕ} {Seen : Pair → Type 0} {spent : ℕ} {front : List (Pair × Slots)}
+      {waiting : List Item} {current : Slots}
       → Scanning edges capture starts is_match slots e Seen spent front waiting current
-      → ((a : Pair × Slots) → In a front → (resting a.0 ≡ true) × (a.0.1 ≡ e)) → NoRepeats (map (λ a. a.0) front) → ((k : Pair) → In (Explore k) waiting → e < k.1)
+      → ((a : Pair × Slots) → In a front → (resting a.0 ≡ true) × (a.0.1 ≡ e)) → NoRepeats (map (λ a. a.0) front)
+      → ((k : Pair) → In (Explore k) waiting → e < k.1)
       → IsFront edges capture starts resting is_match slots spent front e
   Scanning-front {e = e} {spent = spent} {waiting = waiting} {current} s rest once later = record {
     waiting = waiting;
@@ -122,7 +158,8 @@ module _ (edges : Pair → List Pair) (capture : Pair → Option ℕ) (starts : 
   }
 
   -- nothing was put aside and nothing waits
-  pub Scanning-over : {e : ℕ} {Seen : Pair → Type 0} {spent : ℕ} {current : Slots} → Scanning edges capture starts is_match slots e Seen spent [] [] current
+  pub Scanning-over : {e : ℕ} {Seen : Pair → Type 0} {spent : ℕ} {current : Slots}
+      → Scanning edges capture starts is_match slots e Seen spent [] [] current
       → IsOver edges capture starts is_match slots spent e
   Scanning-over s = record { none = λ target at. Searching-done edges target capture (s.searching target at) }
 
@@ -135,28 +172,36 @@ once-keep (b ∷ front) v slots n other = (
   once-keep front v slots n.1 (λ a i. other a (inr i)),
 )
   where
-    in_more : (front : List (Pair × Slots)) (x : Pair) → In x (map (λ a. a.0) (front ++ (v, slots) ∷ [])) → In x (map (λ a. a.0) front) ⊎ (x ≡ v)
+    in_more : (front : List (Pair × Slots)) (x : Pair) → In x (map (λ a. a.0) (front ++ (v, slots) ∷ []))
+        → In x (map (λ a. a.0) front) ⊎ (x ≡ v)
     in_more [] x i = elim i [ inl e ↦ inr e | inr h ↦ absurd h ]
-    in_more (c ∷ front) x i = elim i [ inl e ↦ inl (inl e) | inr j ↦ elim (in_more front x j) [ inl h ↦ inl (inr h) | inr h ↦ inr h ] ]
+    in_more (c ∷ front) x i = elim i [
+      | inl e ↦ inl (inl e)
+      | inr j ↦ elim (in_more front x j) [ inl h ↦ inl (inr h) | inr h ↦ inr h ]
+    ]
 
 -- The search for any match pair, whose answer is the first path: a match pair in the front drops what stands behind it.
 module _ (edges : Pair → List Pair) (target : Pair → Bool) (capture : Pair → Option ℕ) where
   -- a target that was put aside answers, if nothing before it does
-  AnswerBehind-cut : (left : ℕ) (before : List (Pair × Slots)) (a : Pair × Slots) (after : List (Pair × Slots)) (otherwise : Found) (m n : List Pair)
+  AnswerBehind-cut : (left : ℕ) (before : List (Pair × Slots)) (a : Pair × Slots) (after : List (Pair × Slots))
+      (otherwise : Found) (m n : List Pair)
       (work : List Item) (current slots : Slots) (g : Found) → target a.0 ≡ true
       → AnswerBehind edges target capture left before (found capture (a.0 ∷ []) a.1) m [] current g
       → AnswerBehind edges target capture left (before ++ a ∷ after) otherwise n work slots g
   unfolding Answer AnswerBehind
   AnswerBehind-cut left [] a after otherwise m n work current slots g t h =
-      let short : length (a.0 ∷ []) ≤ suc left = omega arith in inl (a.0 ∷ [], IsFirst-target edges target [] a.0 (λ i. i) t, h, short)
+      let short : length (a.0 ∷ []) ≤ suc left = omega arith in
+      inl (a.0 ∷ [], IsFirst-target edges target [] a.0 (λ i. i) t, h, short)
   AnswerBehind-cut left (b ∷ before) a after otherwise m n work current slots g t (inl h) = inl h
   AnswerBehind-cut left (b ∷ before) a after otherwise m n work current slots g t (inr h) =
       inr (h.0, AnswerBehind-cut left before a after otherwise m n work current slots g t h.1)
 
   -- what stands behind a target is dropped, and the target becomes the answer otherwise
-  pub Searching-cut : {goal : Found → ℕ → Type 0} {Seen : Pair → Type 0} {spent : ℕ} {otherwise : Found} {work : List Item} {slots : Slots}
+  pub Searching-cut : {goal : Found → ℕ → Type 0} {Seen : Pair → Type 0} {spent : ℕ} {otherwise : Found}
+      {work : List Item} {slots : Slots}
       (before : List (Pair × Slots)) (a : Pair × Slots) (after : List (Pair × Slots))
-      → Searching edges target capture goal Seen spent (before ++ a ∷ after) otherwise work slots → target a.0 ≡ true → capture a.0 ≡ None
+      → Searching edges target capture goal Seen spent (before ++ a ∷ after) otherwise work slots → target a.0 ≡ true
+      → capture a.0 ≡ None
       → Searching edges target capture goal Seen spent before (Some a) [] slots
   Searching-cut {otherwise = otherwise} {work} {slots} before a after s t c = record {
     marks = s.marks;
@@ -168,13 +213,17 @@ module _ (edges : Pair → List Pair) (target : Pair → Bool) (capture : Pair �
   }
 
   -- no work is left but to load
-  pub Searching-wait : {goal : Found → ℕ → Type 0} {Seen : Pair → Type 0} {spent : ℕ} {front : List (Pair × Slots)} {otherwise : Found} {slots : Slots} (old : Slots)
-      → Searching edges target capture goal Seen spent front otherwise [] slots → Searching edges target capture goal Seen spent front otherwise (Load old ∷ []) slots
+  pub Searching-wait : {goal : Found → ℕ → Type 0} {Seen : Pair → Type 0} {spent : ℕ} {front : List (Pair × Slots)}
+      {otherwise : Found} {slots : Slots} (old : Slots)
+      → Searching edges target capture goal Seen spent front otherwise [] slots
+      → Searching edges target capture goal Seen spent front otherwise (Load old ∷ []) slots
   unfolding Answer
   Searching-wait {front = front} {otherwise} {slots} old s = record {
     marks = s.marks;
     agrees = s.agrees;
-    leads = λ g left total e h. s.leads g left total e (AnswerBehind-along edges target capture front left left (omega arith) otherwise otherwise s.marks s.marks (Load old ∷ []) [] slots slots g (λ k. k) h);
+    leads = λ g left total e h. s.leads g left total e
+        (AnswerBehind-along edges target capture front left left (omega arith) otherwise otherwise s.marks s.marks
+        (Load old ∷ []) [] slots slots g (λ k. k) h);
   }
 
   -- the items of a front before its first match pair, and that pair, if there is one
@@ -192,7 +241,8 @@ module _ (edges : Pair → List Pair) (target : Pair → Bool) (capture : Pair �
       plain : (c : Bool) → c ≡ false → c ≡ true → ⊥
       plain c f g = cc
 
-      of : (c : Bool) → target a.0 ≡ c → NoMatch target (before_match target front) → NoMatch target (cond c [] (a ∷ before_match target front))
+      of : (c : Bool) → target a.0 ≡ c → NoMatch target (before_match target front)
+          → NoMatch target (cond c [] (a ∷ before_match target front))
       of true e rest b i t = i
       of false e rest b i t = elim i [ inl here ↦ plain (target a.0) e (rw (← here) t) | inr later ↦ rest b later t ]
 
@@ -201,7 +251,8 @@ module _ (edges : Pair → List Pair) (target : Pair → Bool) (capture : Pair �
   before_match-among [] b = λ i. i
   before_match-among (a ∷ front) b = of (target a.0) (before_match-among front b)
     where
-      of : (c : Bool) → (In b (before_match target front) → In b front) → In b (cond c [] (a ∷ before_match target front)) → In b (a ∷ front)
+      of : (c : Bool) → (In b (before_match target front) → In b front)
+          → In b (cond c [] (a ∷ before_match target front)) → In b (a ∷ front)
       of true rest i = absurd i
       of false rest i = elim i [ inl here ↦ inl here | inr later ↦ inr (rest later) ]
 
@@ -215,40 +266,59 @@ module _ (edges : Pair → List Pair) (target : Pair → Bool) (capture : Pair �
         | inr f ↦
             elim (front_cases front) [
               | inl n ↦ inl (rw f n.0, rw f (ap (λ x. a ∷ x) n.1))
-              | inr h ↦ inr (h.0, record { after = h.1.after; first = rw f h.1.first; split = rw f (ap (λ x. a ∷ x) h.1.split); matches = h.1.matches })
+              | inr h ↦ inr (
+                h.0,
+                record {
+                  after = h.1.after;
+                  first = rw f h.1.first;
+                  split =
+                      rw f (ap (λ x. a ∷ x) h.1.split);
+                  matches = h.1.matches;
+                },
+              )
             ]
       ]
 
-  -- The next position of the search that drops what stands behind a match pair: the items before the front's first match pair go on,
+  -- The next position of the search that drops what stands behind a match pair: the items before the front's first
+  -- match pair go on,
   -- and that pair becomes the answer otherwise.
-  pub Searching-cut_round : {goal : Found → ℕ → Type 0} {e : ℕ} {Seen After : Pair → Type 0} {spent : ℕ} {front : List (Pair × Slots)} {otherwise : Found} {waiting : List Item} {slots old : Slots}
+  pub Searching-cut_round : {goal : Found → ℕ → Type 0} {e : ℕ} {Seen After : Pair → Type 0} {spent : ℕ}
+      {front : List (Pair × Slots)} {otherwise : Found} {waiting : List Item} {slots old : Slots}
       → Searching edges target capture goal Seen spent front otherwise (Load old ∷ waiting) slots
       → ((x y : Pair) → In y (edges x) → x.1 ≤ y.1)
-      → ((a : Pair × Slots) → In a front → (capture a.0 ≡ None) × (a.0.1 ≡ e) × ((w : Pair) → In w (edges a.0) → e < w.1))
+      → ((a : Pair × Slots) → In a front → (capture a.0 ≡ None) × (a.0.1 ≡ e)
+      × ((w : Pair) → In w (edges a.0) → e < w.1))
       → ((k : Pair) → In (Explore k) waiting → e < k.1) → ((x : Pair) → Seen x → x.1 ≤ e) → ((x : Pair) → After x → ⊥)
       → (after : Slots)
       → Searching edges target capture goal After spent [] (option_or (first_match target front) otherwise)
       (round edges (before_match target front) (Load old ∷ behind_match (first_match target front) waiting)) after
-  Searching-cut_round {goal} {e} {Seen} {After} {spent} {front} {otherwise} {waiting} {slots} {old} s onward rests comes past fresh after =
+  Searching-cut_round {goal} {e} {Seen} {After} {spent} {front} {otherwise} {waiting} {slots} {old} s onward rests comes
+      past fresh after =
       elim (front_cases front) [
         | inl n ↦
-            let go_on : Searching edges target capture goal Seen spent (before_match target front) otherwise (Load old ∷ waiting) slots = rw n.1 s in
+            let go_on : Searching edges target capture goal Seen spent (before_match target front) otherwise
+            (Load old ∷ waiting) slots = rw n.1 s in
             rw n.0 (next otherwise waiting go_on comes)
         | inr h ↦
-            let split : Searching edges target capture goal Seen spent (before_match target front ++ h.0 ∷ h.1.after) otherwise (Load old ∷ waiting) slots =
-            subst (λ f. Searching edges target capture goal Seen spent f otherwise (Load old ∷ waiting) slots) h.1.split s in
+            let split : Searching edges target capture goal Seen spent (before_match target front ++ h.0 ∷ h.1.after)
+            otherwise (Load old ∷ waiting) slots =
+            subst (λ f. Searching edges target capture goal Seen spent f otherwise (Load old ∷ waiting) slots) h.1.split
+            s in
             let here : In h.0 front = rw h.1.split (In-middle (before_match target front) h.0 h.1.after) in
             let cut = Searching-cut (before_match target front) h.0 h.1.after split h.1.matches (rests h.0 here).0 in
             rw h.1.first (next (Some h.0) [] (Searching-wait old cut) (λ k i. absurd i))
       ]
     where
-      In-middle : (before : List (Pair × Slots)) (a : Pair × Slots) (later : List (Pair × Slots)) → In a (before ++ a ∷ later)
+      In-middle : (before : List (Pair × Slots)) (a : Pair × Slots) (later : List (Pair × Slots))
+          → In a (before ++ a ∷ later)
       In-middle [] a later = inl refl
       In-middle (b ∷ before) a later = inr (In-middle before a later)
 
-      next : (other : Found) (waits : List Item) → Searching edges target capture goal Seen spent (before_match target front) other (Load old ∷ waits) slots
+      next : (other : Found) (waits : List Item)
+          → Searching edges target capture goal Seen spent (before_match target front) other (Load old ∷ waits) slots
           → ((k : Pair) → In (Explore k) waits → e < k.1)
-          → Searching edges target capture goal After spent [] other (round edges (before_match target front) (Load old ∷ waits)) after
+          → Searching edges target capture goal After spent [] other
+          (round edges (before_match target front) (Load old ∷ waits)) after
       next other waits t waiting_later =
           Searching-round edges target capture t (λ x. e < x.1)
           (λ x y a i. let k : x.1 ≤ y.1 = onward x y i in let l : e < x.1 = a in omega arith)

@@ -18,24 +18,30 @@ last_or-Some f x (y ∷ ys) e = last_or-Some f y ys e
 
 module _ (edges : Pair → List Pair) (target : Pair → Bool) (capture : Pair → Option ℕ) where
   -- with nothing to do
-  pub Answer-none : (left : ℕ) (otherwise : Found) (marks : List Pair) (slots : Slots) → Answer edges target capture left otherwise marks [] slots otherwise
+  pub Answer-none : (left : ℕ) (otherwise : Found) (marks : List Pair) (slots : Slots)
+      → Answer edges target capture left otherwise marks [] slots otherwise
   unfolding Answer
   Answer-none left otherwise marks slots = refl
 
   -- a slot is restored
-  pub Answer-restore : (left : ℕ) (otherwise : Found) (marks : List Pair) (k : ℕ) (old : Option ℕ) (rest : List Item) (slots : Slots) (g : Found)
-      → Answer edges target capture left otherwise marks rest (set slots k old) g ↔ Answer edges target capture left otherwise marks (Restore k old ∷ rest) slots g
+  pub Answer-restore : (left : ℕ) (otherwise : Found) (marks : List Pair) (k : ℕ) (old : Option ℕ) (rest : List Item)
+      (slots : Slots) (g : Found)
+      → Answer edges target capture left otherwise marks rest (set slots k old) g
+      ↔ Answer edges target capture left otherwise marks (Restore k old ∷ rest) slots g
   unfolding Answer
   Answer-restore left otherwise marks k old rest slots g = (λ h. h, λ h. h)
 
   -- slots are loaded
-  pub Answer-load : (left : ℕ) (otherwise : Found) (marks : List Pair) (old : Slots) (rest : List Item) (slots : Slots) (g : Found)
-      → Answer edges target capture left otherwise marks rest old g ↔ Answer edges target capture left otherwise marks (Load old ∷ rest) slots g
+  pub Answer-load : (left : ℕ) (otherwise : Found) (marks : List Pair) (old : Slots) (rest : List Item)
+      (slots : Slots) (g : Found)
+      → Answer edges target capture left otherwise marks rest old g
+      ↔ Answer edges target capture left otherwise marks (Load old ∷ rest) slots g
   unfolding Answer
   Answer-load left otherwise marks old rest slots g = (λ h. h, λ h. h)
 
   -- what the pairs at the head of the work come to
-  pub Answer-among : (left : ℕ) (otherwise : Found) (marks es : List Pair) (rest : List Item) (slots : Slots) (g : Found)
+  pub Answer-among : (left : ℕ) (otherwise : Found) (marks es : List Pair) (rest : List Item)
+      (slots : Slots) (g : Found)
       → Answer edges target capture left otherwise marks (map Explore es ++ rest) slots g
       → ((p : List Pair) × FirstAmong edges target marks es (Some p) × (g ≡ found capture p slots) × (length p ≤ left))
       ⊎ (FirstAmong edges target marks es None × Answer edges target capture left otherwise marks rest slots g)
@@ -47,9 +53,12 @@ module _ (edges : Pair → List Pair) (target : Pair → Bool) (capture : Pair �
       [ inl k ↦ inl (k.0, inr (h.0, k.1), k.2, k.3) | inr k ↦ inr (inr (h.0, k.0), k.1) ]
 
   -- marks that agree at what is to be explored, and no fewer turns
-  Answer-along : (left more : ℕ) → left ≤ more → (otherwise : Found) (m n : List Pair) (work : List Item) (slots : Slots) (g : Found)
-      → ((k : Pair) → In (Explore k) work → (r : Option (List Pair)) → IsFirst edges target m k r → IsFirst edges target n k r)
-      → Answer edges target capture left otherwise m work slots g → Answer edges target capture more otherwise n work slots g
+  Answer-along : (left more : ℕ) → left ≤ more
+      → (otherwise : Found) (m n : List Pair) (work : List Item) (slots : Slots) (g : Found)
+      → ((k : Pair) → In (Explore k) work → (r : Option (List Pair)) → IsFirst edges target m k r
+      → IsFirst edges target n k r)
+      → Answer edges target capture left otherwise m work slots g
+      → Answer edges target capture more otherwise n work slots g
   unfolding Answer
   Answer-along left more le otherwise m n [] slots g f h = h
   Answer-along left more le otherwise m n (Explore k ∷ rest) slots g f (inl h) =
@@ -63,25 +72,31 @@ module _ (edges : Pair → List Pair) (target : Pair → Bool) (capture : Pair �
       Answer-along left more le otherwise m n rest old g (λ j i. f j (inr i)) h
 
   -- more turns may be left
-  pub Answer-more : (left more : ℕ) → left ≤ more → (otherwise : Found) (marks : List Pair) (work : List Item) (slots : Slots) (g : Found)
-      → Answer edges target capture left otherwise marks work slots g → Answer edges target capture more otherwise marks work slots g
+  pub Answer-more : (left more : ℕ) → left ≤ more
+      → (otherwise : Found) (marks : List Pair) (work : List Item) (slots : Slots) (g : Found)
+      → Answer edges target capture left otherwise marks work slots g
+      → Answer edges target capture more otherwise marks work slots g
   Answer-more left more le otherwise marks work slots g =
       Answer-along left more le otherwise marks marks work slots g (λ k i r h. h)
 
   -- marking a pair that leads to no target loses nothing, and takes a turn
   pub Answer-mark : (left : ℕ) (otherwise : Found) (marks : List Pair) (v : Pair) → IsFirst edges target marks v None
       → (work : List Item) (slots : Slots) (g : Found)
-      → Answer edges target capture left otherwise (v ∷ marks) work slots g → Answer edges target capture (suc left) otherwise marks work slots g
+      → Answer edges target capture left otherwise (v ∷ marks) work slots g
+      → Answer edges target capture (suc left) otherwise marks work slots g
   Answer-mark left otherwise marks v none work slots g =
-      Answer-along left (suc left) (omega arith) otherwise (v ∷ marks) marks work slots g (λ k i r. (IsFirst-mark edges target marks v none k r).0)
+      Answer-along left (suc left) (omega arith) otherwise (v ∷ marks) marks work slots g
+      (λ k i r. (IsFirst-mark edges target marks v none k r).0)
 
   -- only which pairs are marked matters
   pub Answer-same : (left : ℕ) (otherwise : Found) (m n : List Pair) → ((x : Pair) → In x m ↔ In x n)
       → (work : List Item) (slots : Slots) (g : Found)
-      → Answer edges target capture left otherwise m work slots g → Answer edges target capture left otherwise n work slots g
+      → Answer edges target capture left otherwise m work slots g
+      → Answer edges target capture left otherwise n work slots g
   Answer-same left otherwise m n agree work slots g =
       Answer-along left left (omega arith) otherwise m n work slots g
-      (λ k i. IsFirst-ahead edges target (λ x. Unit {0}) (λ x y a e. tt) m n (λ x a. (agree x).0) (λ x a. (agree x).1) k tt)
+      (λ k i. IsFirst-ahead edges target (λ x. Unit {0}) (λ x y a e. tt) m n (λ x a. (agree x).0)
+      (λ x a. (agree x).1) k tt)
 
   -- the first pair of a path writes first
   found-cons : (v : Pair) {w : Pair} {p : List Pair} (slots : Slots) → Path edges target w p
@@ -89,16 +104,22 @@ module _ (edges : Pair → List Pair) (target : Pair → Bool) (capture : Pair �
   found-cons v slots (stop t) = refl
   found-cons v slots (go t e n h) = refl
 
-  module _ (left : ℕ) (otherwise : Found) (marks : List Pair) (v : Pair) (rest : List Item) (slots : Slots) (g : Found) where
+  module _ (left : ℕ) (otherwise : Found) (marks : List Pair) (v : Pair) (rest : List Item) (slots : Slots)
+      (g : Found) where
     -- a marked pair is dropped
     pub Answer-marked : In v marks
-        → Answer edges target capture left otherwise marks rest slots g → Answer edges target capture (suc left) otherwise marks (Explore v ∷ rest) slots g
+        → Answer edges target capture left otherwise marks rest slots g
+        → Answer edges target capture (suc left) otherwise marks (Explore v ∷ rest) slots g
     unfolding Answer
-    Answer-marked m h = inr (IsFirst-marked edges target marks v m, Answer-more left (suc left) (omega arith) otherwise marks rest slots g h)
+    Answer-marked m h = inr (
+      IsFirst-marked edges target marks v m,
+      Answer-more left (suc left) (omega arith) otherwise marks rest slots g h,
+    )
 
     -- a pair from which nothing can be reached is dropped, with no turn
     pub Answer-dead : target v ≡ false → edges v ≡ []
-        → Answer edges target capture left otherwise marks rest slots g → Answer edges target capture left otherwise marks (Explore v ∷ rest) slots g
+        → Answer edges target capture left otherwise marks rest slots g
+        → Answer edges target capture left otherwise marks (Explore v ∷ rest) slots g
     unfolding Answer
     Answer-dead plain leads h = inr (IsFirst-dead edges target marks v plain leads, h)
 
@@ -106,12 +127,14 @@ module _ (edges : Pair → List Pair) (target : Pair → Bool) (capture : Pair �
     pub Answer-target : ¬ (In v marks) → target v ≡ true → g ≡ Some (v, write (capture v) v.1 slots)
         → Answer edges target capture (suc left) otherwise marks (Explore v ∷ rest) slots g
     unfolding Answer
-    Answer-target free t e = let short : length (v ∷ []) ≤ suc left = omega arith in inl (v ∷ [], IsFirst-target edges target marks v free t, e, short)
+    Answer-target free t e = let short : length (v ∷ []) ≤ suc left = omega arith in
+        inl (v ∷ [], IsFirst-target edges target marks v free t, e, short)
 
     module _ (free : ¬ (In v marks)) (plain : target v ≡ false) (es : List Pair) (leads : edges v ≡ es) where
       -- a pair gives way to its edges, and to `next` below them, which leads back to `rest`
       pub Answer-step : (next : List Item) (after : Slots) → write (capture v) v.1 slots ≡ after
-          → (Answer edges target capture left otherwise (v ∷ marks) next after g → Answer edges target capture left otherwise (v ∷ marks) rest slots g)
+          → (Answer edges target capture left otherwise (v ∷ marks) next after g
+          → Answer edges target capture left otherwise (v ∷ marks) rest slots g)
           → Answer edges target capture left otherwise (v ∷ marks) (map Explore es ++ next) after g
           → Answer edges target capture (suc left) otherwise marks (Explore v ∷ rest) slots g
       unfolding Answer
@@ -120,7 +143,13 @@ module _ (edges : Pair → List Pair) (target : Pair → Bool) (capture : Pair �
             | inl k ↦
                 let some = IsFirstOfAll-from_among edges target (v ∷ marks) es (Some k.0) k.1 in
                 let short : length (v ∷ k.0) ≤ suc left = omega (arith, k.3) in
-                inl (v ∷ k.0, IsFirst-step edges target marks v free plain (Some k.0) (rw leads k.1), k.2 ∙ sym (rw wrote at (found-cons v slots some.2.path)), short)
+                inl (
+                  v ∷ k.0,
+                  IsFirst-step edges target marks v free plain (Some k.0) (rw leads k.1),
+                  k.2
+                      ∙ sym (rw wrote at (found-cons v slots some.2.path)),
+                  short,
+                )
             | inr k ↦
                 let none = IsFirst-step edges target marks v free plain None (rw leads k.0) in
                 inr (none, Answer-mark left otherwise marks v none rest slots g (back k.1))
@@ -134,7 +163,8 @@ module _ (edges : Pair → List Pair) (target : Pair → Bool) (capture : Pair �
 
       -- a pair that writes to a slot, which is restored below its edges
       pub Answer-write : (k : ℕ) → capture v ≡ Some k
-          → Answer edges target capture left otherwise (v ∷ marks) (map Explore es ++ Restore k (get_or slots k None) ∷ rest) (set slots k (Some v.1)) g
+          → Answer edges target capture left otherwise (v ∷ marks)
+          (map Explore es ++ Restore k (get_or slots k None) ∷ rest) (set slots k (Some v.1)) g
           → Answer edges target capture (suc left) otherwise marks (Explore v ∷ rest) slots g
       unfolding Answer
       Answer-write k e =
@@ -157,18 +187,23 @@ module _ (edges : Pair → List Pair) (target : Pair → Bool) (capture : Pair �
         inr (none, Answer-mark left otherwise marks v none rest slots g h)
 
   -- there is one answer, however many turns are left
-  pub Answer-unique : (left more : ℕ) (otherwise : Found) (marks : List Pair) (work : List Item) (slots : Slots) (g h : Found)
-      → Answer edges target capture left otherwise marks work slots g → Answer edges target capture more otherwise marks work slots h → g ≡ h
+  pub Answer-unique : (left more : ℕ) (otherwise : Found) (marks : List Pair) (work : List Item)
+      (slots : Slots) (g h : Found)
+      → Answer edges target capture left otherwise marks work slots g
+      → Answer edges target capture more otherwise marks work slots h → g ≡ h
   unfolding Answer
   Answer-unique left more otherwise marks [] slots g h a b = a ∙ sym b
-  Answer-unique left more otherwise marks (Restore k old ∷ rest) slots g h a b = Answer-unique left more otherwise marks rest (set slots k old) g h a b
-  Answer-unique left more otherwise marks (Load old ∷ rest) slots g h a b = Answer-unique left more otherwise marks rest old g h a b
+  Answer-unique left more otherwise marks (Restore k old ∷ rest) slots g h a b =
+      Answer-unique left more otherwise marks rest (set slots k old) g h a b
+  Answer-unique left more otherwise marks (Load old ∷ rest) slots g h a b =
+      Answer-unique left more otherwise marks rest old g h a b
   Answer-unique left more otherwise marks (Explore v ∷ rest) slots g h (inl a) (inl b) =
       let e : a.0 ≡ b.0 = let s = IsFirst-unique edges target marks v (Some a.0) (Some b.0) a.1 b.1 in cc in
       a.2 ∙ rw e (sym b.2)
   Answer-unique left more otherwise marks (Explore v ∷ rest) slots g h (inl a) (inr b) = absurd (b.0 a.0 a.1.0)
   Answer-unique left more otherwise marks (Explore v ∷ rest) slots g h (inr a) (inl b) = absurd (a.0 b.0 b.1.0)
-  Answer-unique left more otherwise marks (Explore v ∷ rest) slots g h (inr a) (inr b) = Answer-unique left more otherwise marks rest slots g h a.1 b.1
+  Answer-unique left more otherwise marks (Explore v ∷ rest) slots g h (inr a) (inr b) =
+      Answer-unique left more otherwise marks rest slots g h a.1 b.1
 
   -- a path finds something
   pub found-Some : {v : Pair} {p : List Pair} (slots : Slots) → Path edges target v p → None ≡ found capture p slots → ⊥
@@ -178,14 +213,16 @@ module _ (edges : Pair → List Pair) (target : Pair → Bool) (capture : Pair �
   -- what the answer says where one pair is all the work
   pub Answer-first : (left : ℕ) (marks : List Pair) (v : Pair) (slots : Slots) (g : Found)
       → Answer edges target capture left None marks (Explore v ∷ []) slots g
-      → ((p : List Pair) × IsFirst edges target marks v (Some p) × (g ≡ found capture p slots) × (length p ≤ left)) ⊎ (IsFirst edges target marks v None × (g ≡ None))
+      → ((p : List Pair) × IsFirst edges target marks v (Some p) × (g ≡ found capture p slots) × (length p ≤ left))
+      ⊎ (IsFirst edges target marks v None × (g ≡ None))
   unfolding Answer
   Answer-first left marks v slots g h = h
 
   -- several starts, one after another, with the marks kept
   pub Answer-starts : (left : ℕ) (starts : List Pair) (slots : Slots) (g : Found)
       → Answer edges target capture left None [] (map Explore starts) slots g
-      → ((p : List Pair) × IsFirstOfAll edges target [] starts (Some p) × (g ≡ found capture p slots) × (length p ≤ left))
+      → ((p : List Pair) × IsFirstOfAll edges target [] starts (Some p) × (g ≡ found capture p slots)
+      × (length p ≤ left))
       ⊎ (IsFirstOfAll edges target [] starts None × (g ≡ None))
   unfolding Answer
   Answer-starts left starts slots g h =
@@ -196,17 +233,20 @@ module _ (edges : Pair → List Pair) (target : Pair → Bool) (capture : Pair �
 
   -- the starts with their slots loaded anew are the starts
   pub Answer-seeds : (left : ℕ) (otherwise : Found) (marks starts : List Pair) (slots : Slots) (g : Found)
-      → Answer edges target capture left otherwise marks (seeds slots starts) slots g → Answer edges target capture left otherwise marks (map Explore starts) slots g
+      → Answer edges target capture left otherwise marks (seeds slots starts) slots g
+      → Answer edges target capture left otherwise marks (map Explore starts) slots g
   unfolding Answer seeds
   Answer-seeds left otherwise marks [] slots g h = h
   Answer-seeds left otherwise marks (s ∷ starts) slots g (inl h) = inl h
-  Answer-seeds left otherwise marks (s ∷ starts) slots g (inr h) = inr (h.0, Answer-seeds left otherwise marks starts slots g h.1)
+  Answer-seeds left otherwise marks (s ∷ starts) slots g (inr h) =
+      inr (h.0, Answer-seeds left otherwise marks starts slots g h.1)
 
   -- behind what was put aside, each step goes on as before
   pub AnswerBehind-along : (front : List (Pair × Slots)) (left more : ℕ) → left ≤ more
       → (o u : Found) (m n : List Pair) (work later : List Item) (slots after : Slots) (g : Found)
       → (Answer edges target capture left o m work slots g → Answer edges target capture more u n later after g)
-      → AnswerBehind edges target capture left front o m work slots g → AnswerBehind edges target capture more front u n later after g
+      → AnswerBehind edges target capture left front o m work slots g
+      → AnswerBehind edges target capture more front u n later after g
   unfolding AnswerBehind
   AnswerBehind-along [] left more le o u m n work later slots after g f h = f h
   AnswerBehind-along (a ∷ front) left more le o u m n work later slots after g f (inl h) =
@@ -215,7 +255,8 @@ module _ (edges : Pair → List Pair) (target : Pair → Bool) (capture : Pair �
       inr (h.0, AnswerBehind-along front left more le o u m n work later slots after g f h.1)
 
   -- a target: what is below it is dropped, and what was put aside comes first
-  pub AnswerBehind-target : (left : ℕ) (front : List (Pair × Slots)) (otherwise : Found) (marks : List Pair) (v : Pair) (rest : List Item) (slots : Slots) (g : Found)
+  pub AnswerBehind-target : (left : ℕ) (front : List (Pair × Slots)) (otherwise : Found) (marks : List Pair) (v : Pair)
+      (rest : List Item) (slots : Slots) (g : Found)
       → ¬ (In v marks) → target v ≡ true
       → AnswerBehind edges target capture left front (Some (v, write (capture v) v.1 slots)) marks [] slots g
       → AnswerBehind edges target capture (suc left) front otherwise marks (Explore v ∷ rest) slots g
@@ -226,7 +267,8 @@ module _ (edges : Pair → List Pair) (target : Pair → Bool) (capture : Pair �
 
   module _ (ahead : Pair → Type 0) (closed : (x y : Pair) → ahead x → In y (edges x) → ahead y) where
     -- a resting pair is put aside: its edges lead to pairs ahead of all that is marked
-    pub AnswerBehind-keep : (left : ℕ) (front : List (Pair × Slots)) (otherwise : Found) (marks : List Pair) (v : Pair) (rest : List Item) (slots : Slots) (g : Found)
+    pub AnswerBehind-keep : (left : ℕ) (front : List (Pair × Slots)) (otherwise : Found) (marks : List Pair) (v : Pair)
+        (rest : List Item) (slots : Slots) (g : Found)
         → ¬ (In v marks) → ((w : Pair) → In w (edges v) → ahead w) → ((x : Pair) → In x marks → ahead x → ⊥)
         → AnswerBehind edges target capture left (front ++ (v, slots) ∷ []) otherwise (v ∷ marks) rest slots g
         → AnswerBehind edges target capture (suc left) front otherwise marks (Explore v ∷ rest) slots g
@@ -244,13 +286,16 @@ module _ (edges : Pair → List Pair) (target : Pair → Bool) (capture : Pair �
     -- marks that are not ahead do not matter to work that is
     pub Answer-ahead : (left : ℕ) (otherwise : Found) (marks : List Pair) (work : List Item) (slots : Slots) (g : Found)
         → ((k : Pair) → In (Explore k) work → ahead k) → ((x : Pair) → In x marks → ahead x → ⊥)
-        → Answer edges target capture left otherwise [] work slots g → Answer edges target capture left otherwise marks work slots g
+        → Answer edges target capture left otherwise [] work slots g
+        → Answer edges target capture left otherwise marks work slots g
     Answer-ahead left otherwise marks work slots g comes past =
         Answer-along left left (omega arith) otherwise [] marks work slots g
-        (λ k i. IsFirst-ahead edges target ahead closed [] marks (λ x b m. absurd m) (λ x b m. past x m b) k (comes k i))
+        (λ k i. IsFirst-ahead edges target ahead closed [] marks (λ x b m. absurd m)
+        (λ x b m. past x m b) k (comes k i))
 
     -- a pair that is not ahead, marked, does not matter to pairs that are
-    FirstAmong-ahead : (v : Pair) → (ahead v → ⊥) → (es : List Pair) → ((w : Pair) → In w es → ahead w) → (r : Option (List Pair))
+    FirstAmong-ahead : (v : Pair) → (ahead v → ⊥) → (es : List Pair) → ((w : Pair) → In w es → ahead w)
+        → (r : Option (List Pair))
         → FirstAmong edges target [] es r → FirstAmong edges target (v ∷ []) es r
     FirstAmong-ahead v behind [] leaves r h = h
     FirstAmong-ahead v behind (e ∷ es) leaves r h =
@@ -263,8 +308,10 @@ module _ (edges : Pair → List Pair) (target : Pair → Bool) (capture : Pair �
         ]
 
     -- the next position: what was put aside is taken up in turn, with no marks
-    pub AnswerBehind-round : (left : ℕ) (front : List (Pair × Slots)) (otherwise : Found) (marks : List Pair) (waiting : List Item) (slots old after : Slots) (g : Found)
-        → ((a : Pair × Slots) → In a front → (target a.0 ≡ false) × (capture a.0 ≡ None) × (ahead a.0 → ⊥) × ((w : Pair) → In w (edges a.0) → ahead w))
+    pub AnswerBehind-round : (left : ℕ) (front : List (Pair × Slots)) (otherwise : Found) (marks : List Pair)
+        (waiting : List Item) (slots old after : Slots) (g : Found)
+        → ((a : Pair × Slots) → In a front → (target a.0 ≡ false) × (capture a.0 ≡ None) × (ahead a.0 → ⊥)
+        × ((w : Pair) → In w (edges a.0) → ahead w))
         → ((k : Pair) → In (Explore k) waiting → ahead k) → ((x : Pair) → In x marks → ahead x → ⊥)
         → Answer edges target capture left otherwise [] (round edges front (Load old ∷ waiting)) after g
         → AnswerBehind edges target capture left front otherwise marks (Load old ∷ waiting) slots g
@@ -273,7 +320,8 @@ module _ (edges : Pair → List Pair) (target : Pair → Bool) (capture : Pair �
         Answer-ahead left otherwise marks waiting old g comes past h
     AnswerBehind-round left (a ∷ front) otherwise marks waiting slots old after g rests comes past h =
         let at = rests a (inl refl) in
-        let first : (r : Option (List Pair)) → FirstAmong edges target [] (edges a.0) r → IsFirst edges target [] a.0 (option_map (λ p. a.0 ∷ p) r) =
+        let first : (r : Option (List Pair)) → FirstAmong edges target [] (edges a.0) r
+        → IsFirst edges target [] a.0 (option_map (λ p. a.0 ∷ p) r) =
         λ r f. IsFirst-step edges target [] a.0 (λ m. m) at.0 r (FirstAmong-ahead a.0 at.2 (edges a.0) at.3 r f) in
         elim (Answer-among left otherwise [] (edges a.0) (round edges front (Load old ∷ waiting)) a.1 g h) [
           | inl k ↦
@@ -281,5 +329,9 @@ module _ (edges : Pair → List Pair) (target : Pair → Bool) (capture : Pair �
               let short : length (a.0 ∷ k.0) ≤ suc left = omega (arith, k.3) in
               inl (a.0 ∷ k.0, first (Some k.0) k.1, k.2 ∙ sym (rw at.1 at (found-cons a.0 a.1 some.2.path)), short)
           | inr k ↦
-              inr (first None k.0, AnswerBehind-round left front otherwise marks waiting slots old a.1 g (λ b i. rests b (inr i)) comes past k.1)
+              inr (
+                first None k.0,
+                AnswerBehind-round left front otherwise marks waiting slots old a.1 g
+                    (λ b i. rests b (inr i)) comes past k.1,
+              )
         ]

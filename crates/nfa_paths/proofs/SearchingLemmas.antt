@@ -8,8 +8,10 @@ use Rattle.nfa_paths.proofs.SearchLemmas.{Answer-more, Answer-seeds, Answer-rest
 
 module _ (edges : Pair → List Pair) (target : Pair → Bool) (capture : Pair → Option ℕ) where
   -- nothing is seen yet
-  pub Searching-start : (Seen : Pair → Type 0) (otherwise : Found) (work : List Item) (slots : Slots) → ((x : Pair) → Seen x → ⊥)
-      → Searching edges target capture (λ g total. Answer edges target capture total otherwise [] work slots g) Seen 0 [] otherwise work slots
+  pub Searching-start : (Seen : Pair → Type 0) (otherwise : Found) (work : List Item) (slots : Slots)
+      → ((x : Pair) → Seen x → ⊥)
+      → Searching edges target capture (λ g total. Answer edges target capture total otherwise [] work slots g) Seen 0
+      [] otherwise work slots
   unfolding AnswerBehind
   Searching-start Seen otherwise work slots fresh = record {
     marks = [];
@@ -18,8 +20,10 @@ module _ (edges : Pair → List Pair) (target : Pair → Bool) (capture : Pair �
   }
 
   -- nothing is seen yet, and each start has its slots loaded
-  pub Searching-seeds : (Seen : Pair → Type 0) (otherwise : Found) (starts : List Pair) (slots current : Slots) → ((x : Pair) → Seen x → ⊥)
-      → Searching edges target capture (λ g total. Answer edges target capture total otherwise [] (map Explore starts) slots g) Seen 0 [] otherwise (Load slots ∷ seeds slots starts) current
+  pub Searching-seeds : (Seen : Pair → Type 0) (otherwise : Found) (starts : List Pair) (slots current : Slots)
+      → ((x : Pair) → Seen x → ⊥)
+      → Searching edges target capture (λ g total. Answer edges target capture total otherwise [] (map Explore starts)
+      slots g) Seen 0 [] otherwise (Load slots ∷ seeds slots starts) current
   unfolding Answer AnswerBehind
   Searching-seeds Seen otherwise starts slots current fresh = record {
     marks = [];
@@ -30,38 +34,45 @@ module _ (edges : Pair → List Pair) (target : Pair → Bool) (capture : Pair �
   }
 
   -- nothing is left to do, and nothing was put aside
-  pub Searching-done : {goal : Found → ℕ → Type 0} {Seen : Pair → Type 0} {spent : ℕ} {otherwise : Found} {slots : Slots}
+  pub Searching-done : {goal : Found → ℕ → Type 0} {Seen : Pair → Type 0} {spent : ℕ} {otherwise : Found}
+      {slots : Slots}
       → Searching edges target capture goal Seen spent [] otherwise [] slots → goal otherwise spent
   unfolding Answer AnswerBehind
   Searching-done {spent = spent} s = s.leads _ 0 spent (omega arith) refl
 
-  module _ {goal : Found → ℕ → Type 0} {Seen : Pair → Type 0} {spent : ℕ} {front : List (Pair × Slots)} {otherwise : Found} where
+  module _ {goal : Found → ℕ → Type 0} {Seen : Pair → Type 0} {spent : ℕ} {front : List (Pair × Slots)}
+      {otherwise : Found} where
     module _ {rest : List Item} {slots : Slots} where
       -- a slot is restored
-      pub Searching-restore : {k : ℕ} {old : Option ℕ} → Searching edges target capture goal Seen spent front otherwise (Restore k old ∷ rest) slots
+      pub Searching-restore : {k : ℕ} {old : Option ℕ}
+          → Searching edges target capture goal Seen spent front otherwise (Restore k old ∷ rest) slots
           → Searching edges target capture goal Seen spent front otherwise rest (set slots k old)
       Searching-restore {k} {old} s = record {
         marks = s.marks;
         agrees = s.agrees;
         leads = λ g left total e h.
             s.leads g left total e
-            (AnswerBehind-along edges target capture front left left (omega arith) otherwise otherwise s.marks s.marks rest (Restore k old ∷ rest) (set slots k old) slots g
+            (AnswerBehind-along edges target capture front left left (omega arith) otherwise otherwise s.marks s.marks
+            rest (Restore k old ∷ rest) (set slots k old) slots g
             (Answer-restore edges target capture left otherwise s.marks k old rest slots g).0 h);
       }
 
       -- slots are loaded
-      pub Searching-load : {old : Slots} → Searching edges target capture goal Seen spent front otherwise (Load old ∷ rest) slots
+      pub Searching-load : {old : Slots} → Searching edges target capture goal Seen spent front otherwise
+          (Load old ∷ rest) slots
           → Searching edges target capture goal Seen spent front otherwise rest old
       Searching-load {old} s = record {
         marks = s.marks;
         agrees = s.agrees;
         leads = λ g left total e h.
             s.leads g left total e
-            (AnswerBehind-along edges target capture front left left (omega arith) otherwise otherwise s.marks s.marks rest (Load old ∷ rest) old slots g
+            (AnswerBehind-along edges target capture front left left (omega arith) otherwise otherwise s.marks s.marks
+            rest (Load old ∷ rest) old slots g
             (Answer-load edges target capture left otherwise s.marks old rest slots g).0 h);
       }
 
-  module _ {goal : Found → ℕ → Type 0} {Seen : Pair → Type 0} {spent : ℕ} {front : List (Pair × Slots)} {otherwise : Found} {v : Pair} {rest : List Item} {slots : Slots}
+  module _ {goal : Found → ℕ → Type 0} {Seen : Pair → Type 0} {spent : ℕ} {front : List (Pair × Slots)}
+      {otherwise : Found} {v : Pair} {rest : List Item} {slots : Slots}
       (s : Searching edges target capture goal Seen spent front otherwise (Explore v ∷ rest) slots) where
     -- a turn that finds its pair marked
     pub Searching-marked : Seen v → Searching edges target capture goal Seen (spent + 1) front otherwise rest slots
@@ -70,16 +81,19 @@ module _ (edges : Pair → List Pair) (target : Pair → Bool) (capture : Pair �
       agrees = s.agrees;
       leads = λ g left total e h.
           s.leads g (suc left) total (omega arith)
-          (AnswerBehind-along edges target capture front left (suc left) (omega arith) otherwise otherwise s.marks s.marks rest (Explore v ∷ rest) slots slots g
+          (AnswerBehind-along edges target capture front left (suc left) (omega arith) otherwise otherwise s.marks
+          s.marks rest (Explore v ∷ rest) slots slots g
           (Answer-marked edges target capture left otherwise s.marks v rest slots g ((s.agrees v).1 seen)) h);
     }
 
     -- with nothing put aside
-    pub Searching-found : ¬ (Seen v) → target v ≡ true → front ≡ [] → goal (Some (v, write (capture v) v.1 slots)) (spent + 1)
+    pub Searching-found : ¬ (Seen v) → target v ≡ true → front ≡ []
+        → goal (Some (v, write (capture v) v.1 slots)) (spent + 1)
     unfolding AnswerBehind
     Searching-found fresh t e =
         s.leads _ 1 (spent + 1) refl
-        (rw e (Answer-target edges target capture 0 otherwise s.marks v rest slots _ (λ i. fresh ((s.agrees v).0 i)) t refl))
+        (rw e (Answer-target edges target capture 0 otherwise s.marks v rest slots _
+        (λ i. fresh ((s.agrees v).0 i)) t refl))
 
     module _ {After : Pair → Type 0} (fresh : ¬ (Seen v)) (adds : (x : Pair) → After x ↔ ((x ≡ v) ⊎ Seen x)) where
       -- the pair is unmarked
@@ -103,7 +117,8 @@ module _ (edges : Pair → List Pair) (target : Pair → Bool) (capture : Pair �
         agrees = grows;
         leads = λ g left total e h.
             s.leads g (suc left) total (omega arith)
-            (AnswerBehind-along edges target capture front left (suc left) (omega arith) otherwise otherwise (v ∷ s.marks) s.marks next (Explore v ∷ rest) after slots g
+            (AnswerBehind-along edges target capture front left (suc left) (omega arith) otherwise otherwise
+            (v ∷ s.marks) s.marks next (Explore v ∷ rest) after slots g
             (back left g) h);
       }
 
@@ -116,22 +131,27 @@ module _ (edges : Pair → List Pair) (target : Pair → Bool) (capture : Pair �
 
       -- a pair that writes to a slot, which is restored below its edges
       pub Searching-write : target v ≡ false → (es : List Pair) → edges v ≡ es → (k : ℕ) → capture v ≡ Some k
-          → Searching edges target capture goal After (spent + 1) front otherwise (map Explore es ++ Restore k (get_or slots k None) ∷ rest) (set slots k (Some v.1))
+          → Searching edges target capture goal After (spent + 1) front otherwise
+          (map Explore es ++ Restore k (get_or slots k None) ∷ rest) (set slots k (Some v.1))
       Searching-write plain es leads k e =
           Searching-next (map Explore es ++ Restore k (get_or slots k None) ∷ rest) (set slots k (Some v.1))
           (λ left g. Answer-write edges target capture left otherwise s.marks v rest slots g free plain es leads k e)
 
       -- a pair that writes to a slot that is not kept
-      pub Searching-unkept : target v ≡ false → (es : List Pair) → edges v ≡ es → (k : ℕ) → capture v ≡ Some k → length slots ≤ k
+      pub Searching-unkept : target v ≡ false → (es : List Pair) → edges v ≡ es → (k : ℕ) → capture v ≡ Some k
+          → length slots ≤ k
           → Searching edges target capture goal After (spent + 1) front otherwise (map Explore es ++ rest) slots
       Searching-unkept plain es leads k e past =
           Searching-next (map Explore es ++ rest) slots
-          (λ left g. Answer-unkept edges target capture left otherwise s.marks v rest slots g free plain es leads k e past)
+          (λ left g. Answer-unkept edges target capture left otherwise s.marks v rest slots g free plain es
+          leads k e past)
 
       -- a pair with no edge is dropped
-      pub Searching-end : target v ≡ false → edges v ≡ [] → Searching edges target capture goal After (spent + 1) front otherwise rest slots
+      pub Searching-end : target v ≡ false → edges v ≡ []
+          → Searching edges target capture goal After (spent + 1) front otherwise rest slots
       Searching-end plain leads =
-          Searching-next rest slots (λ left g. Answer-end edges target capture left otherwise s.marks v rest slots g free plain leads)
+          Searching-next rest slots (λ left g. Answer-end edges target capture left otherwise s.marks v rest slots g
+          free plain leads)
 
       -- a target, where pairs were put aside
       pub Searching-target : target v ≡ true
@@ -142,7 +162,9 @@ module _ (edges : Pair → List Pair) (target : Pair → Bool) (capture : Pair �
         agrees = grows;
         leads = λ g left total e h.
             s.leads g (suc left) total (omega arith)
-            (AnswerBehind-along edges target capture front left (suc left) (omega arith) (Some (v, write (capture v) v.1 slots)) otherwise (v ∷ s.marks) s.marks [] (Explore v ∷ rest) slots slots g
+            (AnswerBehind-along edges target capture front left (suc left) (omega arith)
+            (Some (v, write (capture v) v.1 slots)) otherwise (v ∷ s.marks) s.marks []
+            (Explore v ∷ rest) slots slots g
             (Answer-target edges target capture left otherwise s.marks v rest slots g free t) h);
       }
 
@@ -160,18 +182,24 @@ module _ (edges : Pair → List Pair) (target : Pair → Bool) (capture : Pair �
       }
 
   -- the next position
-  pub Searching-round : {goal : Found → ℕ → Type 0} {Seen After : Pair → Type 0} {spent : ℕ} {front : List (Pair × Slots)} {otherwise : Found} {waiting : List Item} {slots old : Slots}
+  pub Searching-round : {goal : Found → ℕ → Type 0} {Seen After : Pair → Type 0} {spent : ℕ}
+      {front : List (Pair × Slots)} {otherwise : Found} {waiting : List Item} {slots old : Slots}
       → Searching edges target capture goal Seen spent front otherwise (Load old ∷ waiting) slots
       → (ahead : Pair → Type 0) → ((x y : Pair) → ahead x → In y (edges x) → ahead y)
-      → ((a : Pair × Slots) → In a front → (target a.0 ≡ false) × (capture a.0 ≡ None) × (ahead a.0 → ⊥) × ((w : Pair) → In w (edges a.0) → ahead w))
-      → ((k : Pair) → In (Explore k) waiting → ahead k) → ((x : Pair) → Seen x → ahead x → ⊥) → ((x : Pair) → After x → ⊥)
-      → (after : Slots) → Searching edges target capture goal After spent [] otherwise (round edges front (Load old ∷ waiting)) after
+      → ((a : Pair × Slots) → In a front → (target a.0 ≡ false) × (capture a.0 ≡ None) × (ahead a.0 → ⊥)
+      × ((w : Pair) → In w (edges a.0) → ahead w))
+      → ((k : Pair) → In (Explore k) waiting → ahead k) → ((x : Pair) → Seen x → ahead x → ⊥)
+      → ((x : Pair) → After x → ⊥)
+      → (after : Slots) → Searching edges target capture goal After spent [] otherwise
+      (round edges front (Load old ∷ waiting)) after
   unfolding AnswerBehind
-  Searching-round {front = front} {otherwise} {waiting} {slots} {old} s ahead closed rests comes past fresh after = record {
-    marks = [];
-    agrees = λ x. (λ i. absurd i, λ a. absurd (fresh x a));
-    leads = λ g left total e h.
-        s.leads g left total e
-        (AnswerBehind-round edges target capture ahead closed left front otherwise s.marks waiting slots old after g rests comes
-        (λ x i. past x ((s.agrees x).0 i)) h);
-  }
+  Searching-round {front = front} {otherwise} {waiting} {slots} {old} s ahead closed rests comes past fresh after =
+      record {
+        marks = [];
+        agrees = λ x. (λ i. absurd i, λ a. absurd (fresh x a));
+        leads = λ g left total e h.
+            s.leads g left total e
+            (AnswerBehind-round edges target capture ahead closed left front otherwise s.marks waiting slots old
+            after g rests comes
+            (λ x i. past x ((s.agrees x).0 i)) h);
+      }

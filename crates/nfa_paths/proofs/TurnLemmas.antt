@@ -68,15 +68,18 @@ Within-begin ws n = record { bound = omega arith }
 
 module _ {ws : List ℕ} {starts rounds done waiting : ℕ} {marks : List Bool} where
   -- one more start waits
-  pub Within-start : {after : ℕ} → after ≤ waiting + 1 → Within ws starts rounds done waiting marks → Within ws (starts + 1) rounds done after marks
+  pub Within-start : {after : ℕ} → after ≤ waiting + 1 → Within ws starts rounds done waiting marks
+      → Within ws (starts + 1) rounds done after marks
   Within-start one h = record { bound = omega arith }
 
   -- less may wait
-  pub Within-fewer : {after : ℕ} → after ≤ waiting → Within ws starts rounds done waiting marks → Within ws starts rounds done after marks
+  pub Within-fewer : {after : ℕ} → after ≤ waiting → Within ws starts rounds done waiting marks
+      → Within ws starts rounds done after marks
   Within-fewer less h = record { bound = omega arith }
 
   -- a turn that finds its pair marked
-  pub Within-marked : {after : ℕ} → after + 1 ≤ waiting → Within ws starts rounds done waiting marks → Within ws starts rounds (done + 1) after marks
+  pub Within-marked : {after : ℕ} → after + 1 ≤ waiting → Within ws starts rounds done waiting marks
+      → Within ws starts rounds (done + 1) after marks
   Within-marked less h = record { bound = omega arith }
 
   -- a turn that marks bit k, for which no more comes to wait than its weight
@@ -90,7 +93,8 @@ module _ {ws : List ℕ} {starts rounds done waiting : ℕ} {marks : List Bool} 
   Within-mark k clear more h = record { bound = omega (arith, marked_sum-set ws marks k clear) }
 
   -- the next position, with cleared marks; what was put aside still waits
-  pub Within-round : {after : ℕ} (n : ℕ) → after ≤ waiting → Within ws starts rounds done waiting marks → Within ws starts (rounds + 1) done after (replicate n false)
+  pub Within-round : {after : ℕ} (n : ℕ) → after ≤ waiting → Within ws starts rounds done waiting marks
+      → Within ws starts (rounds + 1) done after (replicate n false)
   Within-round n less h = record { bound = omega (arith, marked_sum-le ws marks, marked_sum-clear ws n) }
 
   -- when a search ends, what was done is within the starts and the weights of all rounds
@@ -98,13 +102,15 @@ module _ {ws : List ℕ} {starts rounds done waiting : ℕ} {marks : List Bool} 
   Within-done h = omega (arith, marked_sum-le ws marks)
 
   -- n + 1 starts, over positions up to one past the end
-  pub Within-rounds : (n : ℕ) → starts ≤ n + 1 → rounds ≤ n + 1 → Within ws starts rounds done waiting marks → done ≤ (1 + sum ws) * (n + 2)
+  pub Within-rounds : (n : ℕ) → starts ≤ n + 1 → rounds ≤ n + 1 → Within ws starts rounds done waiting marks
+      → done ≤ (1 + sum ws) * (n + 2)
   Within-rounds n few short h = omega (arith, marked_sum-le ws marks, mul-le-mul_left (sum ws) short)
 
 -- n + 1 starts over n + 1 positions, with a row of marks for each
 pub Within-rows : (ws : List ℕ) (n : ℕ) {starts done waiting : ℕ} {marks : List Bool}
     → starts ≤ n + 1 → Within (repeated (n + 1) ws) starts 0 done waiting marks → done ≤ (1 + sum ws) * (n + 1)
-Within-rows ws n {marks = marks} few h = omega (arith, marked_sum-le (repeated (n + 1) ws) marks, sum-repeated (n + 1) ws)
+Within-rows ws n {marks = marks} few h = omega
+    (arith, marked_sum-le (repeated (n + 1) ws) marks, sum-repeated (n + 1) ws)
 
 -- marking a pair adds it to the pairs that are set
 pub IsSet-set : (states : ℕ) (marks : List Bool) (q at : ℕ) → q < states → at * states + q < length marks
@@ -187,20 +193,26 @@ pub Framed-then : {rooms : List ℕ} {f : ℕ} {m : List Bool} {g : ℕ} {n : Li
 Framed-then a b = record { bound = omega (arith, a.bound, b.bound) }
 
 -- the top frame is taken up: its pair is in hand, or its slot is restored
-pub Framed-pop : (rooms : List ℕ) (frames after : ℕ) (marks : List Bool) → after ≤ frames → Framed rooms frames marks after marks
+pub Framed-pop : (rooms : List ℕ) (frames after : ℕ) (marks : List Bool) → after ≤ frames
+    → Framed rooms frames marks after marks
 Framed-pop rooms frames after marks less = record { bound = omega arith }
 
--- The pair in hand is marked, and no more frames are pushed than its state has room: none for a byte, a look or a match, the other
+-- The pair in hand is marked, and no more frames are pushed than its state has room: none for a byte, a look or a
+-- match, the other
 -- alternatives for a union, one for a capture.
-pub Framed-mark : (rooms : List ℕ) (frames after : ℕ) (marks : List Bool) (k : ℕ) → get_or marks k true ≡ false → after ≤ frames + get_or rooms k 0
+pub Framed-mark : (rooms : List ℕ) (frames after : ℕ) (marks : List Bool) (k : ℕ) → get_or marks k true ≡ false
+    → after ≤ frames + get_or rooms k 0
     → Framed rooms frames marks after (set marks k true)
 Framed-mark rooms frames after marks k clear fits = record { bound = omega (arith, marked_sum-set rooms marks k clear) }
 
 -- from a root alone on the stack
-pub Framed-all : {rooms : List ℕ} {marks : List Bool} {after : ℕ} {marked : List Bool} → Framed rooms 1 marks after marked → after ≤ 1 + sum rooms
+pub Framed-all : {rooms : List ℕ} {marks : List Bool} {after : ℕ} {marked : List Bool}
+    → Framed rooms 1 marks after marked → after ≤ 1 + sum rooms
 Framed-all {rooms} {marked = marked} h = omega (arith, h.bound, marked_sum-le rooms marked)
 
 -- the measure of the closure
-pub Framed-falls : {rooms : List ℕ} {frames : ℕ} {marks : List Bool} {after : ℕ} {marked : List Bool} → Framed rooms frames marks after marked
+pub Framed-falls : {rooms : List ℕ} {frames : ℕ} {marks : List Bool} {after : ℕ} {marked : List Bool}
+    → Framed rooms frames marks after marked
     → after + (sum rooms - marked_sum rooms marked) ≤ frames + (sum rooms - marked_sum rooms marks)
-Framed-falls {rooms} {marks = marks} {marked = marked} h = omega (arith, h.bound, marked_sum-le rooms marks, marked_sum-le rooms marked)
+Framed-falls {rooms} {marks = marks} {marked = marked} h =
+    omega (arith, h.bound, marked_sum-le rooms marks, marked_sum-le rooms marked)

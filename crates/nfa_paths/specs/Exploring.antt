@@ -52,7 +52,8 @@ module _ (edges : Pair → List Pair) (target : Pair → Bool) (capture : Pair �
   Answer left otherwise marks (Explore v ∷ rest) slots g =
       ((p : List Pair) × IsFirst edges target marks v (Some p) × (g ≡ found capture p slots) × (length p ≤ left))
       ⊎ (IsFirst edges target marks v None × Answer left otherwise marks rest slots g)
-  Answer left otherwise marks (Restore k old ∷ rest) slots g = Answer left otherwise marks rest (slice_set slots k old) g
+  Answer left otherwise marks (Restore k old ∷ rest) slots g =
+      Answer left otherwise marks rest (slice_set slots k old) g
   Answer left otherwise marks (Load old ∷ rest) slots g = Answer left otherwise marks rest old g
 
   -- the same behind pairs that were put aside, each with its slots, after its turn
@@ -62,9 +63,12 @@ module _ (edges : Pair → List Pair) (target : Pair → Bool) (capture : Pair �
       ((p : List Pair) × IsFirst edges target [] a.0 (Some p) × (g ≡ found capture p a.1) × (length p ≤ suc left))
       ⊎ (IsFirst edges target [] a.0 None × AnswerBehind left front otherwise marks work slots g)
 
-  -- A search under way, in the form that a loop keeps: some list holds just the pairs that are `Seen`, and whatever is the answer
+  -- A search under way, in the form that a loop keeps: some list holds just the pairs that are `Seen`, and whatever is
+  -- the answer
   -- from here on meets `goal`, with the number of turns when the search ends. `spent` turns were taken.
-  pub record Searching (goal : Found → ℕ → Type 0) (Seen : Pair → Type 0) (spent : ℕ) (front : List (Pair × Slots)) (otherwise : Found) (work : List Item) (slots : Slots) : Type 0 where
+  pub record Searching (goal : Found → ℕ → Type 0) (Seen : Pair → Type 0) (spent : ℕ) (front : List (Pair × Slots))
+      (otherwise : Found) (work : List Item) (slots : Slots) : Type 0 where
     pub marks : List Pair
     pub agrees : (x : Pair) → In x marks ↔ Seen x
-    pub leads : (g : Found) (left total : ℕ) → spent + left ≡ total → AnswerBehind left front otherwise marks work slots g → goal g total
+    pub leads : (g : Found) (left total : ℕ) → spent + left ≡ total
+        → AnswerBehind left front otherwise marks work slots g → goal g total

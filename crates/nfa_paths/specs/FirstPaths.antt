@@ -1,4 +1,5 @@
--- The first path of a graph to a target, of those that avoid what is marked: the words that a search with marks is proved in.
+-- The first path of a graph to a target, of those that avoid what is marked: the words that a search with marks is
+-- proved in.
 use Rattle.std.specs.Prelude.{◌≡◌, ◌⊎◌, Bool, true, false, List, [], ◌∷◌, Option, None, Some, ◌<◌}
 use Rattle.nfa_paths.specs.Graphs.{Pair, In, Earlier, Before}
 
@@ -8,7 +9,8 @@ Increasing [] = Unit {0}
 Increasing (e ∷ es) = ((d : Pair) → In d es → e.1 < d.1) × Increasing es
 
 module _ (edges : Pair → List Pair) (target : Pair → Bool) where
-  -- the list is an accepting path that begins with the pair: it follows edges, repeats no pair, and ends with its only target
+  -- the list is an accepting path that begins with the pair: it follows edges, repeats no pair, and ends with its only
+  -- target
   pub data Path : Pair → List Pair → Type 0 where
     stop : {v : Pair} → target v ≡ true → Path v (v ∷ [])
     go : {v w : Pair} {p : List Pair} → target v ≡ false → In w (edges v) → ¬ (In v p) → Path w p → Path v (v ∷ p)

@@ -107,7 +107,8 @@ module _ (edges : Pair → List Pair) (starts : List Pair) where
       pub end : Pair
       pub wanted : WantedAt Wanted e end
       pub first : IsFirstTo (λ x. x ≡ end) p
-      pub last : (m : Pair) (q : List Pair) → WantedAt Wanted e m → IsFirstTo (λ x. x ≡ m) q → (q ≡ p) ⊎ ComesBefore edges q p
+      pub last : (m : Pair) (q : List Pair) → WantedAt Wanted e m → IsFirstTo (λ x. x ≡ m) q
+          → (q ≡ p) ⊎ ComesBefore edges q p
 
     -- the first path, or that there is none
     abbrev pub IsFirstPath : Option (List Pair) → Type 0

@@ -29,14 +29,16 @@ found_along capture None slots = None
 found_along capture (Some p) slots = found capture p slots
 
 -- the found pair and slots are those of the path that is meant, which has no more pairs than there were turns
-pub record IsFoundBy (capture : Pair → Option ℕ) (slots : Slots) (Meant : Option (List Pair) → Type 0) (turns : ℕ) (g : Found) : Type 0 where
+pub record IsFoundBy (capture : Pair → Option ℕ) (slots : Slots) (Meant : Option (List Pair) → Type 0) (turns : ℕ)
+    (g : Found) : Type 0 where
   pub path : Option (List Pair)
   pub meant : Meant path
   pub leads : found_along capture path slots ≡ g
   pub short : option_map_or length path 0 ≤ turns
 
 -- a path leads to a wanted pair of pattern k
-pub record IsReached (edges : Pair → List Pair) (starts : List Pair) (Wanted : Pair → Type 0) (pattern : Pair → Option ℕ) (k : ℕ) : Type 0 where
+pub record IsReached (edges : Pair → List Pair) (starts : List Pair) (Wanted : Pair → Type 0)
+    (pattern : Pair → Option ℕ) (k : ℕ) : Type 0 where
   pub end : Pair
   pub along : List Pair
   pub path : PathTo edges starts end along
@@ -48,8 +50,10 @@ abbrev pub NoneBefore : (Pair → List Pair) → List Pair → (Pair → Bool) �
 NoneBefore edges starts is_match e = NoPath edges starts (WantedBefore (Passes is_match) e)
 
 -- g is what the last of the first paths that end before e finds: of those with the greatest end
-abbrev pub LastBefore : (Pair → List Pair) → (Pair → Option ℕ) → List Pair → (Pair → Bool) → Slots → ℕ → ℕ → Found → Type 0
-LastBefore edges capture starts is_match slots e turns g = IsFoundBy capture slots (IsLastPath edges starts (WantedBefore (Passes is_match) e)) turns g
+abbrev pub LastBefore : (Pair → List Pair) → (Pair → Option ℕ) → List Pair → (Pair → Bool) → Slots → ℕ → ℕ
+    → Found → Type 0
+LastBefore edges capture starts is_match slots e turns g =
+    IsFoundBy capture slots (IsLastPath edges starts (WantedBefore (Passes is_match) e)) turns g
 
 -- a path to a match pair of pattern k ends before e
 abbrev pub ReachedBefore : (Pair → List Pair) → List Pair → (Pair → Bool) → (Pair → Option ℕ) → ℕ → ℕ → Type 0
@@ -84,15 +88,18 @@ abbrev pub NoMatch : (Pair → Bool) → List (Pair × Slots) → Type 0
 NoMatch is_match front = (b : Pair × Slots) → In b front → is_match b.0 ≡ true → ⊥
 
 -- the front holds a match pair of pattern k
-pub record HoldsMatch (is_match : Pair → Bool) (pattern : Pair → Option ℕ) (k : ℕ) (front : List (Pair × Slots)) : Type 0 where
+pub record HoldsMatch (is_match : Pair → Bool) (pattern : Pair → Option ℕ) (k : ℕ)
+    (front : List (Pair × Slots)) : Type 0 where
   pub item : Pair × Slots
   pub among : In item front
   pub matches : is_match item.0 ≡ true
   pub pattern_is : pattern item.0 ≡ Some k
 
--- What a scan goes over: positions never fall along an edge and rise at a resting pair, a match pair leads nowhere and writes
+-- What a scan goes over: positions never fall along an edge and rise at a resting pair, a match pair leads nowhere and
+-- writes
 -- nothing, and the starts rise.
-pub record Scanned (edges : Pair → List Pair) (capture : Pair → Option ℕ) (starts : List Pair) (resting is_match : Pair → Bool) : Type 0 where
+pub record Scanned (edges : Pair → List Pair) (capture : Pair → Option ℕ) (starts : List Pair)
+    (resting is_match : Pair → Bool) : Type 0 where
   pub onward : (x y : Pair) → In y (edges x) → x.1 ≤ y.1
   pub rises : (x y : Pair) → resting x ≡ true → In y (edges x) → x.1 < y.1
   pub leads_nowhere : (x : Pair) → is_match x ≡ true → edges x ≡ []
@@ -107,8 +114,10 @@ MatchesAt is_match e target = (x : Pair) → target x ≡ true → (is_match x �
 abbrev pub MatchesFrom : (Pair → Bool) → ℕ → (Pair → Bool) → Type 0
 MatchesFrom is_match e target = (x : Pair) → target x ≡ true → (is_match x ≡ true) × (e ≤ x.1)
 
--- `front` holds the resting pairs that are reached at e, as the search finds them in `turns` turns, whichever match pairs at e it is for
-pub record IsFront (edges : Pair → List Pair) (capture : Pair → Option ℕ) (starts : List Pair) (resting is_match : Pair → Bool) (slots : Slots)
+-- `front` holds the resting pairs that are reached at e, as the search finds them in `turns` turns, whichever match
+-- pairs at e it is for
+pub record IsFront (edges : Pair → List Pair) (capture : Pair → Option ℕ) (starts : List Pair)
+    (resting is_match : Pair → Bool) (slots : Slots)
     (turns : ℕ) (front : List (Pair × Slots)) (e : ℕ) : Type 0 where
   pub waiting : List Item
   pub current : Slots
@@ -121,16 +130,22 @@ pub record IsFront (edges : Pair → List Pair) (capture : Pair → Option ℕ) 
       → Answer edges target capture turns None [] (map Explore starts) slots g)
 
 -- nothing is left to explore at position e or behind it: whichever match pairs there the search is for, it finds none
-pub record IsOver (edges : Pair → List Pair) (capture : Pair → Option ℕ) (starts : List Pair) (is_match : Pair → Bool) (slots : Slots)
+pub record IsOver (edges : Pair → List Pair) (capture : Pair → Option ℕ) (starts : List Pair) (is_match : Pair → Bool)
+    (slots : Slots)
     (turns e : ℕ) : Type 0 where
-  pub none : (target : Pair → Bool) → MatchesFrom is_match e target → Answer edges target capture turns None [] (map Explore starts) slots None
+  pub none : (target : Pair → Bool) → MatchesFrom is_match e target
+      → Answer edges target capture turns None [] (map Explore starts) slots None
 
--- A scan at position e, in the form that a loop keeps: the searches for every set of match pairs at e or behind it, all in one state,
+-- A scan at position e, in the form that a loop keeps: the searches for every set of match pairs at e or behind it, all
+-- in one state,
 -- after `spent` turns.
-pub record Scanning (edges : Pair → List Pair) (capture : Pair → Option ℕ) (starts : List Pair) (is_match : Pair → Bool) (slots : Slots)
-    (e : ℕ) (Seen : Pair → Type 0) (spent : ℕ) (front : List (Pair × Slots)) (work : List Item) (current : Slots) : Type 0 where
+pub record Scanning (edges : Pair → List Pair) (capture : Pair → Option ℕ) (starts : List Pair) (is_match : Pair → Bool)
+    (slots : Slots)
+    (e : ℕ) (Seen : Pair → Type 0) (spent : ℕ) (front : List (Pair × Slots)) (work : List Item)
+    (current : Slots) : Type 0 where
   pub searching : (target : Pair → Bool) → MatchesFrom is_match e target
-      → Searching edges target capture (λ g total. Answer edges target capture total None [] (map Explore starts) slots g) Seen spent front None work current
+      → Searching edges target capture (λ g total. Answer edges target capture total None [] (map Explore starts) slots
+      g) Seen spent front None work current
 
 -- a state whose edges lead to the next position or nowhere, and that writes nothing: a byte state, a Fail or a Match
 abbrev pub rests : Node → Bool

@@ -19,7 +19,8 @@ abbrev pub pattern_at : Automaton → Pair → Option ℕ
 pattern_at nfa v = pattern_of (node_at nfa v.0)
 
 module _ (nfa : Automaton) (x : Search) where
-  -- a match may end at the position: at any, or where empty matches are possible and text is UTF-8 at boundaries of characters alone
+  -- a match may end at the position: at any, or where empty matches are possible and text is UTF-8 at boundaries of
+  -- characters alone
   abbrev pub IsPermittedEnd : ℕ → Type 0
   IsPermittedEnd at = is_utf8_empty nfa ≡ true → IsBoundary x.haystack at
 
@@ -47,13 +48,16 @@ module _ (nfa : Automaton) (x : Search) where
   abbrev pub IsEarliestHeld : ℕ → Option (List Pair) → Type 0
   IsEarliestHeld capacity = IsEarliestPath (edges nfa x) (starts nfa x) (IsHeld capacity)
 
-  -- The pattern is meant by `All`: some accepting path of it has a permitted end. With `earliest` that end is the least one of
+  -- The pattern is meant by `All`: some accepting path of it has a permitted end. With `earliest` that end is the least
+  -- one of
   -- those of all patterns below the capacity.
   abbrev pub IsMeantByAll : Bool → ℕ → ℕ → Type 0
   IsMeantByAll false capacity pattern = IsPatternOf IsPermitted pattern
-  IsMeantByAll true capacity pattern = (e : ℕ) × IsLeastEnd (edges nfa x) (starts nfa x) (IsHeld capacity) e × IsPatternOf (WantedAt IsPermitted e) pattern
+  IsMeantByAll true capacity pattern = (e : ℕ) × IsLeastEnd (edges nfa x) (starts nfa x) (IsHeld capacity) e
+      × IsPatternOf (WantedAt IsPermitted e) pattern
 
-  -- the set holds the pattern of the path, and else only patterns of accepting paths with a permitted end before that of the path
+  -- the set holds the pattern of the path, and else only patterns of accepting paths with a permitted end before that
+  -- of the path
   pub record HoldsUpTo (path : List Pair) (set : List Bool) : Type 0 where
     pub end : Pair
     pub ends : last_of path ≡ Some end
@@ -76,7 +80,8 @@ module _ (nfa : Automaton) (x : Search) where
   HoldsPath false (Some path) set = HoldsUpTo path set
   HoldsPath true (Some path) set = HoldsOnly path set
 
-  -- The path that is meant by `LeftmostFirst`. Matches of patterns at or above the capacity do not count: with room for each
+  -- The path that is meant by `LeftmostFirst`. Matches of patterns at or above the capacity do not count: with room for
+  -- each
   -- pattern of the NFA those are none.
   abbrev pub IsMeantPath : Bool → ℕ → Option (List Pair) → Type 0
   IsMeantPath false capacity path = IsFirstHeld capacity path
@@ -90,7 +95,8 @@ module _ (nfa : Automaton) (x : Search) where
 
   -- what the set gains
   pub record GainsAll (earliest : Bool) (old new : List Bool) : Type 0 where
-    pub gained : (k : ℕ) → HoldsPattern new k ↔ (HoldsPattern old k ⊎ ((k < length old) × IsMeantByAll earliest (length old) k))
+    pub gained : (k : ℕ) → HoldsPattern new k
+        ↔ (HoldsPattern old k ⊎ ((k < length old) × IsMeantByAll earliest (length old) k))
 
   pub record GainsFirst (earliest : Bool) (old new : List Bool) : Type 0 where
     -- a set that holds a pattern gains none
@@ -102,7 +108,8 @@ module _ (nfa : Automaton) (x : Search) where
   Gains All earliest old new = GainsAll earliest old new
   Gains LeftmostFirst earliest old new = GainsFirst earliest old new
 
-  -- The set after is what the search makes of the set before. It keeps its capacity and loses nothing, and gains only patterns below its
+  -- The set after is what the search makes of the set before. It keeps its capacity and loses nothing, and gains only
+  -- patterns below its
   -- capacity, each of an accepting path with a permitted end.
   pub record IsOverlapResult (kind : MatchKind) (earliest : Bool) (old new : List Bool) : Type 0 where
     pub capacity : length new ≡ length old

@@ -82,7 +82,8 @@ module _ (x : Search) where
   edges_of (Capture next slot) p = (next, p) ∷ []
   edges_of Fail p = []
   edges_of (Match pattern) p = []
-  edges_of node p = option_to_list (option_and_then (λ b. option_map (λ next. (next, p + 1)) (target_on node b)) (byte_at p))
+  edges_of node p = option_to_list (option_and_then
+      (λ b. option_map (λ next. (next, p + 1)) (target_on node b)) (byte_at p))
 
 -- the last pair of a path
 abbrev pub last_of : List Pair → Option Pair
@@ -123,7 +124,8 @@ module _ (nfa : Automaton) where
     abbrev pub edges : Pair → List Pair
     edges v = edges_of x (node_at v.0) v.1
 
-    -- how many positions a path may start at: none past the end of the span, the first alone where the search or the NFA
+    -- how many positions a path may start at: none past the end of the span, the first alone where the search or the
+    -- NFA
     -- is anchored, else each position of the span, its end included
     abbrev pub start_count : ℕ
     start_count =
@@ -149,7 +151,8 @@ module _ (nfa : Automaton) where
   -- where the last of the pairs that writes the slot stands
   abbrev pub slot_among : List Pair → ℕ → Option ℕ
   slot_among [] slot = None
-  slot_among (v ∷ p) slot = option_or (slot_among p slot) (if option_map_or (λ k. k == slot) (capture v) false then Some v.1 else None)
+  slot_among (v ∷ p) slot = option_or (slot_among p slot)
+      (if option_map_or (λ k. k == slot) (capture v) false then Some v.1 else None)
 
   -- the first `count` slots of the path: each the position of the last Capture of the slot; of no path all are none
   unfoldable pub slot_row : ℕ → Option (List Pair) → List (Option ℕ)
@@ -189,7 +192,8 @@ module _ (nfa : Automaton) (kind : MatchKind) (earliest : Bool) where
   abbrev pub IsSearchAnswer : Search → ℕ → Option (List Pair) → Type 0
   IsSearchAnswer x restarts answer =
       MatchBool (is_utf8_empty nfa)
-      (MatchBool (is_anchored x.anchored) ((restarts ≡ 0) × IsKeptAnswer x answer) (IsRestartedAnswer x restarts answer))
+      (MatchBool (is_anchored x.anchored) ((restarts ≡ 0) × IsKeptAnswer x answer)
+      (IsRestartedAnswer x restarts answer))
       ((restarts ≡ 0) × IsScanAnswer nfa x kind earliest answer)
 
   -- pattern and slots are those of the search's answer
@@ -212,7 +216,8 @@ module _ (nfa : Automaton) (kind : MatchKind) (earliest : Bool) where
     pub restarts : ℕ
     pub path : Option (List Pair)
     pub answers : IsSearchAnswer x restarts path
-    pub found_is : found ≡ match_of (option_and_then (path_pattern nfa) path) (slot_row nfa (slot_count nfa.groups) path)
+    pub found_is : found ≡ match_of (option_and_then (path_pattern nfa) path)
+        (slot_row nfa (slot_count nfa.groups) path)
 
   -- One scan more than restarts were made, and a turn at least for each pair of the answer's path.
   pub record IsWork (x : Search) (scans turns : ℕ) : Type 0 where
@@ -224,7 +229,8 @@ module _ (nfa : Automaton) (kind : MatchKind) (earliest : Bool) where
 
   -- no more scans than the search's answer takes
   abbrev pub IsWithinScans : Search → ℕ → Type 0
-  IsWithinScans x scans = (restarts : ℕ) (path : Option (List Pair)) → IsSearchAnswer x restarts path → scans ≤ restarts + 1
+  IsWithinScans x scans = (restarts : ℕ) (path : Option (List Pair)) → IsSearchAnswer x restarts path
+      → scans ≤ restarts + 1
 
 -- how many scans a search makes at most
 abbrev pub scan_limit : Automaton → Search → ℕ

@@ -46,7 +46,8 @@ module _ (nfa : Automaton) (kind : MatchKind) (earliest : Bool) (x : Search) whe
     pub scans_are : scans ≡ restarts + 1
     pub turns_reach : option_map_or length path 0 ≤ turns
 
-  -- A search that is not over: it scans y next, after so many scans, each of which had its answer end inside a character.
+  -- A search that is not over: it scans y next, after so many scans, each of which had its answer end inside a
+  -- character.
   pub record Restarts (y : Search) (scans turns : ℕ) : Type 0 where
     pub is : y ≡ raised x scans
     pub split : (i : ℕ) → i < scans → SplitsCharacter nfa kind earliest (raised x i)

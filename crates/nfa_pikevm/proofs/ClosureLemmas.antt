@@ -20,7 +20,8 @@ use Rattle.nfa_pikevm.specs.declared.frame.FollowEpsilon.{FollowEpsilon}
 use Rattle.nfa_pikevm.proofs.FollowLemmas.{Follows-then, Follows-none}
 use Rattle.nfa_pikevm.proofs.EdgeLemmas.{moves-one}
 
-pub moves-append : (edges : Pair → List Pair) (front more : Front) → moves edges (front ++ more) ≡ moves edges front ++ moves edges more
+pub moves-append : (edges : Pair → List Pair) (front more : Front)
+    → moves edges (front ++ more) ≡ moves edges front ++ moves edges more
 moves-append edges [] more = refl
 moves-append edges (a ∷ front) more =
     ap (λ l. map (λ v. (v.0, a.1)) (edges a.0) ++ l) (moves-append edges front more)
@@ -40,66 +41,88 @@ module _ (test : Pair → Bool) where
 
   pub NoMatch-append : (front more : Front) → NoMatch test front → NoMatch test more → NoMatch test (front ++ more)
   NoMatch-append [] more f m = m
-  NoMatch-append (a ∷ front) more f m = λ b i t. elim i [ inl e ↦ f b (inl e) t | inr j ↦ NoMatch-append front more (tail-plain a front f) m b j t ]
+  NoMatch-append (a ∷ front) more f m = λ b i t.
+      elim i [ inl e ↦ f b (inl e) t | inr j ↦ NoMatch-append front more (tail-plain a front f) m b j t ]
 
   first_match-none : (front : Front) → NoMatch test front → first_match test front ≡ None
   first_match-none [] plain = refl
   first_match-none (a ∷ front) plain = rw (head-plain a front plain) (first_match-none front (tail-plain a front plain))
 
-  first_match-plain : (front more : Front) → NoMatch test more → first_match test (front ++ more) ≡ first_match test front
+  first_match-plain : (front more : Front) → NoMatch test more
+      → first_match test (front ++ more) ≡ first_match test front
   first_match-plain [] more plain = first_match-none more plain
   first_match-plain (a ∷ front) more plain = ap (λ g. cond (test a.0) (Some a) g) (first_match-plain front more plain)
 
   last_match-none : (g : Found) (front : Front) → NoMatch test front → last_match test g front ≡ g
   last_match-none g [] plain = refl
-  last_match-none g (a ∷ front) plain = rw (head-plain a front plain) (last_match-none g front (tail-plain a front plain))
+  last_match-none g (a ∷ front) plain = rw (head-plain a front plain)
+      (last_match-none g front (tail-plain a front plain))
 
-  last_match-plain : (g : Found) (front more : Front) → NoMatch test more → last_match test g (front ++ more) ≡ last_match test g front
+  last_match-plain : (g : Found) (front more : Front) → NoMatch test more
+      → last_match test g (front ++ more) ≡ last_match test g front
   last_match-plain g [] more plain = last_match-none g more plain
   last_match-plain g (a ∷ front) more plain = last_match-plain (cond (test a.0) (Some a) g) front more plain
 
-  first_match-new : (front : Front) (a : Pair × Slots) → NoMatch test front → test a.0 ≡ true → first_match test (front ++ a ∷ []) ≡ Some a
+  first_match-new : (front : Front) (a : Pair × Slots) → NoMatch test front → test a.0 ≡ true
+      → first_match test (front ++ a ∷ []) ≡ Some a
   first_match-new [] a plain t = rw t refl
-  first_match-new (b ∷ front) a plain t = rw (head-plain b front plain) (first_match-new front a (tail-plain b front plain) t)
+  first_match-new (b ∷ front) a plain t = rw (head-plain b front plain)
+      (first_match-new front a (tail-plain b front plain) t)
 
-  last_match-new : (g : Found) (front : Front) (a : Pair × Slots) → test a.0 ≡ true → last_match test g (front ++ a ∷ []) ≡ Some a
+  last_match-new : (g : Found) (front : Front) (a : Pair × Slots) → test a.0 ≡ true
+      → last_match test g (front ++ a ∷ []) ≡ Some a
   last_match-new g [] a t = rw t refl
   last_match-new g (b ∷ front) a t = last_match-new (cond (test b.0) (Some b) g) front a t
 
   pub before_match-plain : (front : Front) → NoMatch test front → before_match test front ≡ front
   before_match-plain [] plain = refl
-  before_match-plain (a ∷ front) plain = rw (head-plain a front plain) (ap (λ l. a ∷ l) (before_match-plain front (tail-plain a front plain)))
+  before_match-plain (a ∷ front) plain = rw (head-plain a front plain)
+      (ap (λ l. a ∷ l) (before_match-plain front (tail-plain a front plain)))
 
-  before_match-new : (front : Front) (a : Pair × Slots) → NoMatch test front → test a.0 ≡ true → before_match test (front ++ a ∷ []) ≡ front
+  before_match-new : (front : Front) (a : Pair × Slots) → NoMatch test front → test a.0 ≡ true
+      → before_match test (front ++ a ∷ []) ≡ front
   before_match-new [] a plain t = rw t refl
-  before_match-new (b ∷ front) a plain t = rw (head-plain b front plain) (ap (λ l. b ∷ l) (before_match-new front a (tail-plain b front plain) t))
+  before_match-new (b ∷ front) a plain t = rw (head-plain b front plain)
+      (ap (λ l. b ∷ l) (before_match-new front a (tail-plain b front plain) t))
 
   pub meant-nil : (past : Bool) → meant past test [] ≡ None
   meant-nil true = refl
   meant-nil false = refl
 
-  pub meant-plain : (past : Bool) (front more : Front) → NoMatch test more → meant past test (front ++ more) ≡ meant past test front
+  pub meant-plain : (past : Bool) (front more : Front) → NoMatch test more
+      → meant past test (front ++ more) ≡ meant past test front
   meant-plain true front more plain = last_match-plain None front more plain
   meant-plain false front more plain = first_match-plain front more plain
 
-  pub meant-new : (past : Bool) (front : Front) (a : Pair × Slots) → (past ≡ false → NoMatch test front) → test a.0 ≡ true → meant past test (front ++ a ∷ []) ≡ Some a
+  pub meant-new : (past : Bool) (front : Front) (a : Pair × Slots) → (past ≡ false → NoMatch test front)
+      → test a.0 ≡ true → meant past test (front ++ a ∷ []) ≡ Some a
   meant-new true front a plain t = last_match-new None front a t
   meant-new false front a plain t = first_match-new front a (plain refl) t
 
 -- only the kept states change
-pub same-items : (a b c : Active) → b ≡ record a { items = b.items } → c ≡ record b { items = c.items } → c ≡ record a { items = c.items }
+pub same-items : (a b c : Active) → b ≡ record a { items = b.items } → c ≡ record b { items = c.items }
+    → c ≡ record a { items = c.items }
 same-items a b c e f = cc
 
 -- what was paid for, one after the other
-pub Paid-then : {nfa : Automaton} {m n o : Marks} {i j k : ℕ} {stack above top : List FollowEpsilon} {hand middle left : ℕ}
-    → Paid nfa m i stack hand n j above middle → Paid nfa n j above middle o k top left → Paid nfa m i stack hand o k top left
-Paid-then a b = record { tried = omega (arith, a.tried, b.tried); framed = omega (arith, a.framed, b.framed); entered = omega (arith, a.entered, b.entered) }
+pub Paid-then : {nfa : Automaton} {m n o : Marks} {i j k : ℕ} {stack above top : List FollowEpsilon}
+    {hand middle left : ℕ}
+    → Paid nfa m i stack hand n j above middle → Paid nfa n j above middle o k top left
+    → Paid nfa m i stack hand o k top left
+Paid-then a b = record {
+  tried = omega (arith, a.tried, b.tried);
+  framed = omega (arith, a.framed, b.framed);
+  entered =
+      omega (arith, a.entered, b.entered);
+}
 
-pub Paid-begin : (nfa : Automaton) (m : Marks) (i : ℕ) (stack : List FollowEpsilon) (hand : ℕ) → Paid nfa m i stack hand m i stack hand
+pub Paid-begin : (nfa : Automaton) (m : Marks) (i : ℕ) (stack : List FollowEpsilon) (hand : ℕ)
+    → Paid nfa m i stack hand m i stack hand
 Paid-begin nfa m i stack hand = record { tried = omega arith; framed = omega arith; entered = omega arith }
 
 -- frames that are taken up
-pub Paid-resumed : {nfa : Automaton} {m n : Marks} {i j : ℕ} {stack : List FollowEpsilon} {hand : ℕ} (t u : ℕ) (frames : List FollowEpsilon) (left : ℕ)
+pub Paid-resumed : {nfa : Automaton} {m n : Marks} {i j : ℕ} {stack : List FollowEpsilon} {hand : ℕ} (t u : ℕ)
+    (frames : List FollowEpsilon) (left : ℕ)
     → u ≤ t → t ≤ length frames → sum_by tries (take u frames) + left ≡ sum_by tries (take t frames)
     → Paid nfa m i stack hand n j (take t frames) 0 → Paid nfa m i stack hand n j (take u frames) left
 Paid-resumed t u frames left less inside e p = record {
@@ -109,8 +132,10 @@ Paid-resumed t u frames left less inside e p = record {
 }
 
 -- there is still room
-pub HasRoom-paid : {nfa : Automaton} {m n : Marks} {size kept places more : ℕ} {hand left : ℕ} (top : ℕ) (frames : List FollowEpsilon)
-    → HasRoom nfa m.bits 0 size kept places → Paid nfa m kept [] hand n more (take top frames) left → length n.bits ≡ length m.bits → top ≤ length frames
+pub HasRoom-paid : {nfa : Automaton} {m n : Marks} {size kept places more : ℕ} {hand left : ℕ} (top : ℕ)
+    (frames : List FollowEpsilon)
+    → HasRoom nfa m.bits 0 size kept places → Paid nfa m kept [] hand n more (take top frames) left
+    → length n.bits ≡ length m.bits → top ≤ length frames
     → HasRoom nfa n.bits top size more places
 HasRoom-paid top frames room paid same inside = record {
   marks = omega (arith, room.marks);
@@ -119,8 +144,10 @@ HasRoom-paid top frames room paid same inside = record {
 }
 
 -- What comes of the state s from its row, with a state in hand and a stack that are still to be followed.
-pub record Followed (nfa : Automaton) (x : Search) (at : ℕ) (past : Bool) (s : ℕ) (met : Marks) (items : List (ℕ × Slots)) (row slots : Slots)
-    (after : Marks) (kept : List (ℕ × Slots)) (state : Option ℕ) (stack : List FollowEpsilon) (now : Slots) (hit : Option PatternID) (written : Slots) : Type 0 where
+pub record Followed (nfa : Automaton) (x : Search) (at : ℕ) (past : Bool) (s : ℕ) (met : Marks)
+    (items : List (ℕ × Slots)) (row slots : Slots)
+    (after : Marks) (kept : List (ℕ × Slots)) (state : Option ℕ) (stack : List FollowEpsilon) (now : Slots)
+    (hit : Option PatternID) (written : Slots) : Type 0 where
   pub front : Front
   pub added : kept ≡ items ++ moves (edges nfa x) front
   pub is_hit : IsHit nfa (meant past (is_match nfa) front) slots hit written
@@ -131,7 +158,8 @@ pub record Followed (nfa : Automaton) (x : Search) (at : ℕ) (past : Bool) (s :
       after (before ++ front) (with_state at state (work_onto at stack (ToLoad old ∷ work))) now
 
 -- nothing was followed yet
-pub Followed-begin : (nfa : Automaton) (x : Search) (at : ℕ) (past : Bool) (s : ℕ) (met : Marks) (items : List (ℕ × Slots)) (row slots : Slots)
+pub Followed-begin : (nfa : Automaton) (x : Search) (at : ℕ) (past : Bool) (s : ℕ) (met : Marks)
+    (items : List (ℕ × Slots)) (row slots : Slots)
     → Followed nfa x at past s met items row slots met items (Some s) [] row None slots
 Followed-begin nfa x at past s met items row slots = record {
   front = [];
@@ -139,13 +167,17 @@ Followed-begin nfa x at past s met items row slots = record {
   is_hit = (meant-nil (is_match nfa) past, refl);
   plain = λ e b i. absurd i;
   formed = λ before f. rw (append-nil before) f;
-  follows = λ before old work. rw (append-nil before) (Follows-none nfa x at met before (ToExplore (s, at) ∷ ToLoad old ∷ work) row);
+  follows = λ before old work. rw (append-nil before)
+      (Follows-none nfa x at met before (ToExplore (s, at) ∷ ToLoad old ∷ work) row);
 }
 
 -- all was followed
-pub Arrives-whole : {nfa : Automaton} {x : Search} {at : ℕ} {past : Bool} {s : ℕ} {met : Marks} {items : List (ℕ × Slots)} {row slots : Slots}
-    {m : Marks} {i : List (ℕ × Slots)} {stack : List FollowEpsilon} {now : Slots} {hit : Option PatternID} {written : Slots} → stack ≡ []
-    → Followed nfa x at past s met items row slots m i None stack now hit written → Paid nfa met (length items) [] 1 m (length i) [] 0
+pub Arrives-whole : {nfa : Automaton} {x : Search} {at : ℕ} {past : Bool} {s : ℕ} {met : Marks}
+    {items : List (ℕ × Slots)} {row slots : Slots}
+    {m : Marks} {i : List (ℕ × Slots)} {stack : List FollowEpsilon} {now : Slots} {hit : Option PatternID}
+    {written : Slots} → stack ≡ []
+    → Followed nfa x at past s met items row slots m i None stack now hit written
+    → Paid nfa met (length items) [] 1 m (length i) [] 0
     → Arrives nfa x at past s met items row slots hit m i written
 Arrives-whole {nfa} {x} {at} {row = row} {m = m} {stack = stack} {now = now} empty f paid = record {
   front = f.front;
@@ -154,30 +186,43 @@ Arrives-whole {nfa} {x} {at} {row = row} {m = m} {stack = stack} {now = now} emp
   cut = λ e. ap (moves (edges nfa x)) (before_match-plain (is_match nfa) f.front (f.plain e));
   formed = f.formed;
   paid = paid;
-  leads = λ before old work. record { left = ToLoad old ∷ work; written = now; follows = rw empty at (f.follows before old work); whole = λ g. refl };
+  leads = λ before old work. record {
+    left = ToLoad old ∷ work;
+    written = now;
+    follows =
+        rw empty at (f.follows before old work);
+    whole = λ g. refl;
+  };
 }
 
-module _ {nfa : Automaton} {x : Search} {at : ℕ} {past : Bool} {s : ℕ} {met : Marks} {items : List (ℕ × Slots)} {row slots : Slots}
-    {m : Marks} {i : List (ℕ × Slots)} {stack : List FollowEpsilon} {now : Slots} {hit : Option PatternID} {written : Slots} where
+module _ {nfa : Automaton} {x : Search} {at : ℕ} {past : Bool} {s : ℕ} {met : Marks} {items : List (ℕ × Slots)}
+    {row slots : Slots}
+    {m : Marks} {i : List (ℕ × Slots)} {stack : List FollowEpsilon} {now : Slots} {hit : Option PatternID}
+    {written : Slots} where
   -- frames are taken up
   pub Followed-resumed : (state : Option ℕ) (above : List FollowEpsilon) (then : Slots)
-      → ((front : Front) (work : List Item) → Follows nfa x at m front (work_onto at stack work) now m front (with_state at state (work_onto at above work)) then)
-      → Followed nfa x at past s met items row slots m i None stack now hit written → Followed nfa x at past s met items row slots m i state above then hit written
+      → ((front : Front) (work : List Item) → Follows nfa x at m front (work_onto at stack work) now m front
+      (with_state at state (work_onto at above work)) then)
+      → Followed nfa x at past s met items row slots m i None stack now hit written
+      → Followed nfa x at past s met items row slots m i state above then hit written
   Followed-resumed state above then takes f = record {
     front = f.front;
     added = f.added;
     is_hit = f.is_hit;
     plain = f.plain;
     formed = f.formed;
-    follows = λ before old work. Follows-then nfa x at (f.follows before old work) (takes (before ++ f.front) (ToLoad old ∷ work));
+    follows = λ before old work. Follows-then nfa x at (f.follows before old work)
+        (takes (before ++ f.front) (ToLoad old ∷ work));
   }
 
-  module _ {sid : ℕ} {n : Marks} {j : List (ℕ × Slots)} {above : List FollowEpsilon} {then : Slots} (f : Followed nfa x at past s met items row slots m i (Some sid) stack now hit written) where
+  module _ {sid : ℕ} {n : Marks} {j : List (ℕ × Slots)} {above : List FollowEpsilon} {then : Slots}
+      (f : Followed nfa x at past s met items row slots m i (Some sid) stack now hit written) where
     -- A turn adds its front.
     module _ {turn : Move} (h : Enters nfa x at sid m i stack now turn n j above then) where
       added : j ≡ items ++ moves (edges nfa x) (f.front ++ h.front)
       added =
-          h.added ∙ ap (λ l. l ++ moves (edges nfa x) h.front) f.added ∙ append_assoc items (moves (edges nfa x) f.front) (moves (edges nfa x) h.front)
+          h.added ∙ ap (λ l. l ++ moves (edges nfa x) h.front) f.added
+          ∙ append_assoc items (moves (edges nfa x) f.front) (moves (edges nfa x) h.front)
           ∙ ap (λ l. items ++ l) (sym (moves-append (edges nfa x) f.front h.front))
 
       formed : (before : Front) → Formed nfa at met.bits before → Formed nfa at n.bits (before ++ (f.front ++ h.front))
@@ -185,11 +230,14 @@ module _ {nfa : Automaton} {x : Search} {at : ℕ} {past : Bool} {s : ℕ} {met 
 
       follows : (before : Front) (old : Slots) (work : List Item)
           → Follows nfa x at met before (ToExplore (s, at) ∷ ToLoad old ∷ work) row
-          n (before ++ (f.front ++ h.front)) (with_state at (state_on turn) (work_onto at above (ToLoad old ∷ work))) then
-      follows before old work = rw (← append_assoc before f.front h.front) (Follows-then nfa x at (f.follows before old work) (h.follows (before ++ f.front) old work))
+          n (before ++ (f.front ++ h.front)) (with_state at (state_on turn) (work_onto at above (ToLoad old ∷ work)))
+          then
+      follows before old work = rw (← append_assoc before f.front h.front)
+          (Follows-then nfa x at (f.follows before old work) (h.follows (before ++ f.front) old work))
 
       -- a turn that leads to no match
-      pub Followed-plain : NoMatch (is_match nfa) h.front → Followed nfa x at past s met items row slots n j (state_on turn) above then hit written
+      pub Followed-plain : NoMatch (is_match nfa) h.front
+          → Followed nfa x at past s met items row slots n j (state_on turn) above then hit written
       Followed-plain plain = record {
         front = f.front ++ h.front;
         added = added;
@@ -205,10 +253,15 @@ module _ {nfa : Automaton} {x : Search} {at : ℕ} {past : Bool} {s : ℕ} {met 
       matches = rw h.is_met.1 refl
 
       hits : IsHit nfa (meant past (is_match nfa) (f.front ++ h.front)) slots (Some pattern) then
-      hits = ((sid, at), rw h.is_met.0 (meant-new (is_match nfa) past f.front ((sid, at), then) f.plain matches), h.is_met.1)
+      hits = (
+        (sid, at),
+        rw h.is_met.0 (meant-new (is_match nfa) past f.front ((sid, at), then) f.plain matches),
+        h.is_met.1,
+      )
 
       -- past it all is followed
-      pub Followed-matched : past ≡ true → Followed nfa x at past s met items row slots n j None above then (Some pattern) then
+      pub Followed-matched : past ≡ true → Followed nfa x at past s met items row slots n j None above then
+          (Some pattern) then
       Followed-matched goes = record {
         front = f.front ++ h.front;
         added = added h;
@@ -219,16 +272,21 @@ module _ {nfa : Automaton} {x : Search} {at : ℕ} {past : Bool} {s : ℕ} {met 
       }
 
       -- else it ends the position, and leads nowhere
-      pub Arrives-cut : past ≡ false → Paid nfa met (length items) [] 1 n (length j) [] 0 → Arrives nfa x at past s met items row slots (Some pattern) n j then
+      pub Arrives-cut : past ≡ false → Paid nfa met (length items) [] 1 n (length j) [] 0
+          → Arrives nfa x at past s met items row slots (Some pattern) n j then
       Arrives-cut stops paid =
           let v : Pair = (sid, at) in
-          let none : moves (edges nfa x) h.front ≡ [] = rw h.is_met.0 (moves-one (edges nfa x) v then [] (IsMatch-edges nfa x v matches)) in
-          let before : before_match (is_match nfa) (f.front ++ h.front) ≡ f.front = rw h.is_met.0 (before_match-new (is_match nfa) f.front (v, then) (f.plain stops) matches) in
+          let none : moves (edges nfa x) h.front ≡ [] =
+          rw h.is_met.0 (moves-one (edges nfa x) v then [] (IsMatch-edges nfa x v matches)) in
+          let before : before_match (is_match nfa) (f.front ++ h.front) ≡ f.front =
+          rw h.is_met.0 (before_match-new (is_match nfa) f.front (v, then) (f.plain stops) matches) in
           record {
             front = f.front ++ h.front;
             added = added h;
             is_hit = hits;
-            cut = λ e. ap (moves (edges nfa x)) before ∙ sym (moves-append (edges nfa x) f.front h.front ∙ ap (λ l. moves (edges nfa x) f.front ++ l) none ∙ append-nil (moves (edges nfa x) f.front));
+            cut = λ e. ap (moves (edges nfa x)) before
+                ∙ sym (moves-append (edges nfa x) f.front h.front ∙ ap (λ l. moves (edges nfa x) f.front ++ l) none
+                ∙ append-nil (moves (edges nfa x) f.front));
             formed = formed h;
             paid = paid;
             leads = λ before old work. record {
@@ -240,5 +298,6 @@ module _ {nfa : Automaton} {x : Search} {at : ℕ} {past : Bool} {s : ℕ} {met 
           }
 
 -- what is left on the stack at a match is dropped
-pub Paid-dropped : {nfa : Automaton} {m n : Marks} {i j : ℕ} {stack above : List FollowEpsilon} {hand left : ℕ} → Paid nfa m i stack hand n j above left → Paid nfa m i stack hand n j [] 0
+pub Paid-dropped : {nfa : Automaton} {m n : Marks} {i j : ℕ} {stack above : List FollowEpsilon} {hand left : ℕ}
+    → Paid nfa m i stack hand n j above left → Paid nfa m i stack hand n j [] 0
 Paid-dropped p = record { tried = omega (arith, p.tried); framed = omega (arith, p.framed); entered = p.entered }

@@ -27,19 +27,26 @@ use Rattle.nfa_pikevm.proofs.RowLemmas.{drop-items_of, length-items_of}
 -- rows
 
 -- the i-th item, and those behind it, where the rows from the i-th on are as they were
-pub items-next : (width i n : ℕ) (kept : List ℕ) (cells rows : Slots) (k : ℕ) → i < length kept → k ≡ get_or kept i k → n ≡ width → drop (i * width) rows ≡ drop (i * width) cells
-    → drop i (items_of width kept cells) ≡ (k, take n (drop (i * width) rows)) ∷ drop (i + 1) (items_of width kept cells)
+pub items-next : (width i n : ℕ) (kept : List ℕ) (cells rows : Slots) (k : ℕ) → i < length kept → k ≡ get_or kept i k
+    → n ≡ width → drop (i * width) rows ≡ drop (i * width) cells
+    → drop i (items_of width kept cells) ≡ (k, take n (drop (i * width) rows))
+    ∷ drop (i + 1) (items_of width kept cells)
 items-next width i n kept cells rows k h is wide same =
     let more : (i + 1) * width ≡ i * width + width = omega arith in
     drop-items_of width i kept cells ∙ ap (λ s. items_of width s (drop (i * width) cells)) (drop_more kept i k h)
-    ∙ ap (λ s. (s, take width (drop (i * width) cells)) ∷ items_of width (drop (i + 1) kept) (drop width (drop (i * width) cells))) (sym is)
-    ∙ ap (λ t. (k, take width (drop (i * width) cells)) ∷ items_of width (drop (i + 1) kept) t) (drop-drop width (i * width) cells ∙ ap (λ n. drop n cells) (sym more))
+    ∙ ap (λ s. (s, take width (drop (i * width) cells)) ∷ items_of width (drop (i + 1) kept)
+    (drop width (drop (i * width) cells))) (sym is)
+    ∙ ap (λ t. (k, take width (drop (i * width) cells)) ∷ items_of width (drop (i + 1) kept) t)
+    (drop-drop width (i * width) cells ∙ ap (λ n. drop n cells) (sym more))
     ∙ ap (λ t. (k, take width (drop (i * width) cells)) ∷ t) (sym (drop-items_of width (i + 1) kept cells))
-    ∙ ap (λ t. (k, t) ∷ drop (i + 1) (items_of width kept cells)) (ap (take width) (sym same) ∙ ap (λ m. take m (drop (i * width) rows)) (sym wide))
+    ∙ ap (λ t. (k, t) ∷ drop (i + 1) (items_of width kept cells))
+    (ap (take width) (sym same) ∙ ap (λ m. take m (drop (i * width) rows)) (sym wide))
 
 -- no item is behind the last
-pub items-over : (width i : ℕ) (kept : List ℕ) (cells : Slots) → length kept ≤ i → drop i (items_of width kept cells) ≡ []
-items-over width i kept cells over = drop_all i (items_of width kept cells) (omega (arith, length-items_of width kept cells))
+pub items-over : (width i : ℕ) (kept : List ℕ) (cells : Slots) → length kept ≤ i
+    → drop i (items_of width kept cells) ≡ []
+items-over width i kept cells over = drop_all i (items_of width kept cells)
+    (omega (arith, length-items_of width kept cells))
 
 -- the i-th row lies within all rows
 row-fits : (width i count cells : ℕ) → i < count → count * width ≤ cells → i * width + width ≤ cells
@@ -49,25 +56,29 @@ row-fits width i count cells h fits =
     omega arith
 
 -- and has its width
-pub row-long : (width i count n : ℕ) (rows cells : Slots) → i < count → count * width ≤ length cells → length rows ≡ length cells → n ≡ width
+pub row-long : (width i count n : ℕ) (rows cells : Slots) → i < count → count * width ≤ length cells
+    → length rows ≡ length cells → n ≡ width
     → length (take n (drop (i * width) rows)) ≡ width
 row-long width i count n rows cells h fits long wide =
     let inside = row-fits width i count (length cells) h fits in
     length-take-le n (drop (i * width) rows) (omega (arith, length-drop (i * width) rows)) ∙ wide
 
 -- a written row leaves those behind it
-pub rows-behind : (width i count n : ℕ) (cells rows row : Slots) → i < count → count * width ≤ length cells → length rows ≡ length cells → n ≡ width
+pub rows-behind : (width i count n : ℕ) (cells rows row : Slots) → i < count → count * width ≤ length cells
+    → length rows ≡ length cells → n ≡ width
     → length row ≡ length (take n (drop (i * width) rows)) → drop (i * width) rows ≡ drop (i * width) cells
     → drop ((i + 1) * width) (put_mid (i * width) n rows row) ≡ drop ((i + 1) * width) cells
 rows-behind width i count n cells rows row h fits long wide whole same =
     let inside = row-fits width i count (length cells) h fits in
     let more : (i + 1) * width ≡ i * width + width = omega arith in
-    drop-put_mid (i * width) n rows row ((i + 1) * width) (omega arith) (omega arith) (whole ∙ row-long width i count n rows cells h fits long wide ∙ sym wide)
+    drop-put_mid (i * width) n rows row ((i + 1) * width) (omega arith) (omega arith)
+    (whole ∙ row-long width i count n rows cells h fits long wide ∙ sym wide)
     ∙ ap (λ k. drop k rows) more ∙ sym (drop-drop width (i * width) rows) ∙ ap (drop width) same
     ∙ drop-drop width (i * width) cells ∙ ap (λ k. drop k cells) (sym more)
 
 -- each item's state is one of so many
-pub states-below : (count width : ℕ) (states : List ℕ) (cells : Slots) → All (λ i. i.0 < count) (items_of width states cells) → All (λ s. s < count) states
+pub states-below : (count width : ℕ) (states : List ℕ) (cells : Slots)
+    → All (λ i. i.0 < count) (items_of width states cells) → All (λ s. s < count) states
 states-below count width [] cells all = All-nil (λ s. s < count)
 states-below count width (s ∷ states) cells all =
     All-cons (λ s. s < count) s states
@@ -76,7 +87,8 @@ states-below count width (s ∷ states) cells all =
     (All-tail (λ (i : ℕ × Slots). i.0 < count) (s, take width cells) (items_of width states (drop width cells)) all))
 
 -- one change of the kept states after another
-pub same-then : (a b c : Active) → b ≡ record a { items = b.items } → c ≡ record b { items = c.items } → c ≡ record a { items = c.items }
+pub same-then : (a b c : Active) → b ≡ record a { items = b.items } → c ≡ record b { items = c.items }
+    → c ≡ record a { items = c.items }
 same-then a b c f g = g ∙ ap (λ (z : Active). record z { items = c.items }) f
 
 -- fronts
@@ -94,30 +106,36 @@ module _ (m : Pair → Bool) where
   last_match-or : (g : Found) (front : Front) → last_match m g front ≡ option_or (last_match m None front) g
   last_match-or g [] = refl
   last_match-or g (a ∷ front) =
-      elim (m a.0) as (λ b. last_match m (cond b (Some a) g) front ≡ option_or (last_match m (cond b (Some a) None) front) g) [
+      elim (m a.0) as (λ b. last_match m (cond b (Some a) g) front
+      ≡ option_or (last_match m (cond b (Some a) None) front) g) [
         | true ↦
             let here = last_match-or (Some a) front in
             here ∙ sym (or-some (last_match m None front) a g) ∙ ap (λ o. option_or o g) (sym here)
         | false ↦ last_match-or g front
       ]
 
-  last_match-append : (g : Found) (front more : Front) → last_match m g (front ++ more) ≡ last_match m (last_match m g front) more
+  last_match-append : (g : Found) (front more : Front)
+      → last_match m g (front ++ more) ≡ last_match m (last_match m g front) more
   last_match-append g [] more = refl
   last_match-append g (a ∷ front) more = last_match-append (cond (m a.0) (Some a) g) front more
 
-  first_match-append : (front more : Front) → first_match m (front ++ more) ≡ option_or (first_match m front) (first_match m more)
+  first_match-append : (front more : Front) → first_match m (front ++ more)
+      ≡ option_or (first_match m front) (first_match m more)
   first_match-append [] more = refl
   first_match-append (a ∷ front) more =
-      elim (m a.0) as (λ b. cond b (Some a) (first_match m (front ++ more)) ≡ option_or (cond b (Some a) (first_match m front)) (first_match m more)) [
+      elim (m a.0) as (λ b. cond b (Some a) (first_match m (front ++ more))
+      ≡ option_or (cond b (Some a) (first_match m front)) (first_match m more)) [
         | true ↦ refl
         | false ↦ first_match-append front more
       ]
 
   -- behind a front with no match
-  before_match-append : (front more : Front) → first_match m front ≡ None → before_match m (front ++ more) ≡ front ++ before_match m more
+  before_match-append : (front more : Front) → first_match m front ≡ None
+      → before_match m (front ++ more) ≡ front ++ before_match m more
   before_match-append [] more none = refl
   before_match-append (a ∷ front) more none =
-      elim (m a.0) as (λ b. cond b (Some a) (first_match m front) ≡ None → cond b [] (a ∷ before_match m (front ++ more)) ≡ a ∷ (front ++ before_match m more)) [
+      elim (m a.0) as (λ b. cond b (Some a) (first_match m front) ≡ None
+      → cond b [] (a ∷ before_match m (front ++ more)) ≡ a ∷ (front ++ before_match m more)) [
         | true ↦ λ e. absurd (cc e)
         | false ↦ λ e. ap (λ l. a ∷ l) (before_match-append front more e)
       ]
@@ -129,21 +147,28 @@ module _ (m : Pair → Bool) where
       ap (before_match m) (sym (append-nil front)) ∙ before_match-append front [] none ∙ append-nil front
 
   -- a front with no match that is meant
-  meant-same : (past : Bool) (front more : Front) → meant past m more ≡ None → meant past m (front ++ more) ≡ meant past m front
+  meant-same : (past : Bool) (front more : Front) → meant past m more ≡ None
+      → meant past m (front ++ more) ≡ meant past m front
   meant-same true front more none =
-      last_match-append None front more ∙ last_match-or (last_match m None front) more ∙ ap (λ o. option_or o (last_match m None front)) none
-  meant-same false front more none = first_match-append front more ∙ ap (option_or (first_match m front)) none ∙ or-none (first_match m front)
+      last_match-append None front more ∙ last_match-or (last_match m None front) more
+      ∙ ap (λ o. option_or o (last_match m None front)) none
+  meant-same false front more none = first_match-append front more ∙ ap (option_or (first_match m front)) none
+      ∙ or-none (first_match m front)
 
   -- a later match
-  meant-last : (past : Bool) (front more : Front) (a : Pair × Slots) → past ≡ true → meant past m more ≡ Some a → meant past m (front ++ more) ≡ Some a
+  meant-last : (past : Bool) (front more : Front) (a : Pair × Slots) → past ≡ true → meant past m more ≡ Some a
+      → meant past m (front ++ more) ≡ Some a
   meant-last true front more a on some =
-      last_match-append None front more ∙ last_match-or (last_match m None front) more ∙ ap (λ o. option_or o (last_match m None front)) some
+      last_match-append None front more ∙ last_match-or (last_match m None front) more
+      ∙ ap (λ o. option_or o (last_match m None front)) some
   meant-last false front more a on some = absurd (cc on)
 
   -- the first match
-  meant-first : (past : Bool) (front more : Front) → past ≡ false → meant past m front ≡ None → meant past m (front ++ more) ≡ meant past m more
+  meant-first : (past : Bool) (front more : Front) → past ≡ false → meant past m front ≡ None
+      → meant past m (front ++ more) ≡ meant past m more
   meant-first true front more off none = absurd (cc off)
-  meant-first false front more off none = first_match-append front more ∙ ap (λ o. option_or o (first_match m more)) none
+  meant-first false front more off none = first_match-append front more
+      ∙ ap (λ o. option_or o (first_match m more)) none
 
   meant-nil : (past : Bool) → meant past m [] ≡ None
   meant-nil true = refl
@@ -158,7 +183,8 @@ module _ (m : Pair → Bool) where
 
 module _ (nfa : Automaton) (past : Bool) (front more : Front) (slots written new : Slots) where
   -- no match comes
-  pub hit-none : (hit : Option PatternID) → IsHit nfa (meant past (is_match nfa) front) slots hit written → IsHit nfa (meant past (is_match nfa) more) written None new
+  pub hit-none : (hit : Option PatternID) → IsHit nfa (meant past (is_match nfa) front) slots hit written
+      → IsHit nfa (meant past (is_match nfa) more) written None new
       → IsHit nfa (meant past (is_match nfa) (front ++ more)) slots hit new
   hit-none hit before none =
       subst (λ g. IsHit nfa g slots hit new) (sym (meant-same (is_match nfa) past front more none.0))
@@ -170,7 +196,9 @@ module _ (nfa : Automaton) (past : Bool) (front more : Front) (slots written new
   hit-last p on some = (some.0, meant-last (is_match nfa) past front more (some.0, new) on some.1, some.2)
 
   -- the first match comes
-  pub hit-first : (hit : Option PatternID) → past ≡ false → IsHit nfa (meant past (is_match nfa) front) slots None written → IsHit nfa (meant past (is_match nfa) more) written hit new
+  pub hit-first : (hit : Option PatternID) → past ≡ false
+      → IsHit nfa (meant past (is_match nfa) front) slots None written
+      → IsHit nfa (meant past (is_match nfa) more) written hit new
       → IsHit nfa (meant past (is_match nfa) (front ++ more)) slots hit new
   hit-first hit off before after =
       subst (λ g. IsHit nfa g slots hit new) (sym (meant-first (is_match nfa) past front more off before.0))
@@ -194,11 +222,18 @@ module _ (nfa : Automaton) (x : Search) (at : ℕ) where
   Follows-then : {m : Marks} {f : Front} {w : List Item} {s : Slots} {n : Marks} {g : Front} {y : List Item} {t : Slots}
       {o : Marks} {h : Front} {z : List Item} {u : Slots}
       → Follows nfa x at m f w s n g y t → Follows nfa x at n g y t o h z u → Follows nfa x at m f w s o h z u
-  Follows-then a b = record { leads = λ target ok starts entry otherwise h. b.leads target ok starts entry otherwise (a.leads target ok starts entry otherwise h) }
+  Follows-then a b = record {
+    leads = λ target ok starts entry otherwise h. b.leads target ok starts entry otherwise
+        (a.leads target ok starts entry otherwise h);
+  }
 
   -- slots are loaded
-  Follows-load : (m : Marks) (f : Front) (rest : List Item) (slots old : Slots) → Follows nfa x at m f (Load old ∷ rest) slots m f rest old
-  Follows-load m f rest slots old = record { leads = λ target ok starts entry otherwise h. Searching-load (edges nfa x) target (capture nfa) h }
+  Follows-load : (m : Marks) (f : Front) (rest : List Item) (slots old : Slots)
+      → Follows nfa x at m f (Load old ∷ rest) slots m f rest old
+  Follows-load m f rest slots old = record {
+    leads =
+        λ target ok starts entry otherwise h. Searching-load (edges nfa x) target (capture nfa) h;
+  }
 
   -- what is loaded does not depend on the slots before
   Follows-any : (m : Marks) (f : Front) (old : Slots) (rest : List Item) (slots after : Slots)
@@ -209,27 +244,35 @@ module _ (nfa : Automaton) (x : Search) (at : ℕ) where
       agrees = h.agrees;
       leads = λ g left total e k.
           h.leads g left total e
-          (AnswerBehind-along (edges nfa x) target (capture nfa) f left left (omega arith) otherwise otherwise h.marks h.marks (Load old ∷ rest) (Load old ∷ rest) after slots g
-          (λ a. (Answer-load (edges nfa x) target (capture nfa) left otherwise h.marks old rest slots g).0 ((Answer-load (edges nfa x) target (capture nfa) left otherwise h.marks old rest after g).1 a)) k);
+          (AnswerBehind-along (edges nfa x) target (capture nfa) f left left (omega arith) otherwise otherwise h.marks
+          h.marks (Load old ∷ rest) (Load old ∷ rest) after slots g
+          (λ a. (Answer-load (edges nfa x) target (capture nfa) left otherwise h.marks old rest slots g).0
+          ((Answer-load (edges nfa x) target (capture nfa) left otherwise h.marks old rest after g).1 a)) k);
     };
   }
 
   -- so it is with the work of a position
-  Follows-tasks : (m : Marks) (f : Front) (items : List (ℕ × Slots)) (old : Slots) (waiting : List Item) (slots after : Slots)
+  Follows-tasks : (m : Marks) (f : Front) (items : List (ℕ × Slots)) (old : Slots) (waiting : List Item)
+      (slots after : Slots)
       → Follows nfa x at m f (tasks at items (Load old ∷ waiting)) slots m f (tasks at items (Load old ∷ waiting)) after
   Follows-tasks m f [] old waiting slots after = Follows-any m f old waiting slots after
-  Follows-tasks m f (i ∷ items) old waiting slots after = Follows-any m f i.1 (Explore (i.0, at) ∷ tasks at items (Load old ∷ waiting)) slots after
+  Follows-tasks m f (i ∷ items) old waiting slots after =
+      Follows-any m f i.1 (Explore (i.0, at) ∷ tasks at items (Load old ∷ waiting)) slots after
 
   -- a state is followed, above those that wait
   Leads-tasks : (m n : Marks) (f g : Front) (s : ℕ) (row : Slots) (goes_on : Type 0) (items : List (ℕ × Slots))
-      → ((old : Slots) (work : List Item) → Leads nfa x at m f (Explore (s, at) ∷ Load old ∷ work) row goes_on n g (Load old ∷ work))
+      → ((old : Slots) (work : List Item) → Leads nfa x at m f (Explore (s, at) ∷ Load old ∷ work) row goes_on n g
+      (Load old ∷ work))
       → (old : Slots) (waiting : List Item)
-      → Leads nfa x at m f (Explore (s, at) ∷ tasks at items (Load old ∷ waiting)) row goes_on n g (tasks at items (Load old ∷ waiting))
+      → Leads nfa x at m f (Explore (s, at) ∷ tasks at items (Load old ∷ waiting)) row goes_on n g
+      (tasks at items (Load old ∷ waiting))
   Leads-tasks m n f g s row goes_on [] leads old waiting = leads old waiting
-  Leads-tasks m n f g s row goes_on (i ∷ items) leads old waiting = leads i.1 (Explore (i.0, at) ∷ tasks at items (Load old ∷ waiting))
+  Leads-tasks m n f g s row goes_on (i ∷ items) leads old waiting =
+      leads i.1 (Explore (i.0, at) ∷ tasks at items (Load old ∷ waiting))
 
 -- What came of a position's states so far, where some are left to follow.
-pub record CrossesTo (nfa : Automaton) (x : Search) (at : ℕ) (past : Bool) (met : Marks) (items : List (ℕ × Slots)) (slots : Slots) (left : List (ℕ × Slots))
+pub record CrossesTo (nfa : Automaton) (x : Search) (at : ℕ) (past : Bool) (met : Marks) (items : List (ℕ × Slots))
+    (slots : Slots) (left : List (ℕ × Slots))
     (hit : Option PatternID) (after : Marks) (kept : List (ℕ × Slots)) (written : Slots) : Type 0 where
   pub front : Front
   pub added : kept ≡ moves (edges nfa x) front
@@ -237,11 +280,14 @@ pub record CrossesTo (nfa : Automaton) (x : Search) (at : ℕ) (past : Bool) (me
   pub formed : Formed nfa at after.bits front
   pub paid : Paid nfa (unmarked met) 0 [] (length items) after (length kept) [] (length left)
   pub follows : (current old : Slots) (waiting : List Item) (last : Slots)
-      → Follows nfa x at (unmarked met) [] (tasks at items (Load old ∷ waiting)) current after front (tasks at left (Load old ∷ waiting)) last
+      → Follows nfa x at (unmarked met) [] (tasks at items (Load old ∷ waiting)) current after front
+      (tasks at left (Load old ∷ waiting)) last
 
-module _ (nfa : Automaton) (x : Search) (at : ℕ) (past : Bool) (met : Marks) (items : List (ℕ × Slots)) (slots : Slots) where
+module _ (nfa : Automaton) (x : Search) (at : ℕ) (past : Bool) (met : Marks) (items : List (ℕ × Slots))
+    (slots : Slots) where
   -- all are left
-  pub CrossesTo-begin : (kept : List (ℕ × Slots)) → kept ≡ [] → met.bits ≡ replicate (length met.bits) false → CrossesTo nfa x at past met items slots items None met kept slots
+  pub CrossesTo-begin : (kept : List (ℕ × Slots)) → kept ≡ [] → met.bits ≡ replicate (length met.bits) false
+      → CrossesTo nfa x at past met items slots items None met kept slots
   CrossesTo-begin kept empty clear = record {
     front = [];
     added = empty;
@@ -260,13 +306,16 @@ module _ (nfa : Automaton) (x : Search) (at : ℕ) (past : Bool) (met : Marks) (
     };
     follows = λ current old waiting last.
         let same : met ≡ unmarked met = ap (λ b. record met { bits = b }) clear in
-        subst (λ (n : Marks). Follows nfa x at n [] (tasks at items (Load old ∷ waiting)) current met [] (tasks at items (Load old ∷ waiting)) last) same
+        subst (λ (n : Marks). Follows nfa x at n [] (tasks at items (Load old ∷ waiting)) current met []
+        (tasks at items (Load old ∷ waiting)) last) same
         (Follows-tasks nfa x at met [] items old waiting current last);
   }
 
   -- there is room for what the next state leads to
-  pub HasRoom-next : (left : List (ℕ × Slots)) (hit : Option PatternID) (after : Marks) (kept : List (ℕ × Slots)) (written : Slots) (frames places f p : ℕ)
-      → met.bits ≡ replicate (length met.bits) false → HasRoom nfa met.bits 0 frames 0 places → length after.bits ≡ length met.bits → f ≡ frames → p ≡ places
+  pub HasRoom-next : (left : List (ℕ × Slots)) (hit : Option PatternID) (after : Marks) (kept : List (ℕ × Slots))
+      (written : Slots) (frames places f p : ℕ)
+      → met.bits ≡ replicate (length met.bits) false → HasRoom nfa met.bits 0 frames 0 places
+      → length after.bits ≡ length met.bits → f ≡ frames → p ≡ places
       → CrossesTo nfa x at past met items slots left hit after kept written → HasRoom nfa after.bits 0 f (length kept) p
   HasRoom-next left hit after kept written frames places f p clear room size same_frames same_places c =
       let rooms = ap (marked_sum (map room_of nfa.states)) clear in
@@ -277,12 +326,15 @@ module _ (nfa : Automaton) (x : Search) (at : ℕ) (past : Bool) (met : Marks) (
         states_fit = omega (arith, room.states_fit, c.paid.entered, ones);
       }
 
-  module _ (left rest : List (ℕ × Slots)) (hit : Option PatternID) (after : Marks) (kept : List (ℕ × Slots)) (written : Slots) (k : ℕ) (row : Slots) (next : left ≡ (k, row) ∷ rest)
+  module _ (left rest : List (ℕ × Slots)) (hit : Option PatternID) (after : Marks) (kept : List (ℕ × Slots))
+      (written : Slots) (k : ℕ) (row : Slots) (next : left ≡ (k, row) ∷ rest)
       (c : CrossesTo nfa x at past met items slots left hit after kept written) where
-    module _ (one : Option PatternID) (then : Marks) (more : List (ℕ × Slots)) (new : Slots) (a : Arrives nfa x at past k after kept row written one then more new) where
+    module _ (one : Option PatternID) (then : Marks) (more : List (ℕ × Slots)) (new : Slots)
+        (a : Arrives nfa x at past k after kept row written one then more new) where
       added : more ≡ moves (edges nfa x) (c.front ++ a.front)
       added =
-          a.added ∙ ap (λ l. l ++ moves (edges nfa x) a.front) c.added ∙ sym (moves-append (edges nfa x) c.front a.front)
+          a.added ∙ ap (λ l. l ++ moves (edges nfa x) a.front) c.added
+          ∙ sym (moves-append (edges nfa x) c.front a.front)
 
       paid : Paid nfa (unmarked met) 0 [] (length items) then (length more) [] (length rest)
       paid =
@@ -295,28 +347,35 @@ module _ (nfa : Automaton) (x : Search) (at : ℕ) (past : Bool) (met : Marks) (
 
       -- up to where the state is followed
       reaches : (current old : Slots) (waiting : List Item)
-          → Follows nfa x at (unmarked met) [] (tasks at items (Load old ∷ waiting)) current after c.front (Explore (k, at) ∷ tasks at rest (Load old ∷ waiting)) row
+          → Follows nfa x at (unmarked met) [] (tasks at items (Load old ∷ waiting)) current after c.front
+          (Explore (k, at) ∷ tasks at rest (Load old ∷ waiting)) row
       reaches current old waiting =
           Follows-then nfa x at
-          (subst (λ l. Follows nfa x at (unmarked met) [] (tasks at items (Load old ∷ waiting)) current after c.front (tasks at l (Load old ∷ waiting)) row) next
+          (subst (λ l. Follows nfa x at (unmarked met) [] (tasks at items (Load old ∷ waiting)) current after c.front
+          (tasks at l (Load old ∷ waiting)) row) next
           (c.follows current old waiting row))
           (Follows-load nfa x at after c.front (Explore (k, at) ∷ tasks at rest (Load old ∷ waiting)) row row)
 
       leads : (old : Slots) (waiting : List Item)
-          → Leads nfa x at after c.front (Explore (k, at) ∷ tasks at rest (Load old ∷ waiting)) row (GoesOn past one) then (c.front ++ a.front) (tasks at rest (Load old ∷ waiting))
-      leads = Leads-tasks nfa x at after then c.front (c.front ++ a.front) k row (GoesOn past one) rest (a.leads c.front)
+          → Leads nfa x at after c.front (Explore (k, at) ∷ tasks at rest (Load old ∷ waiting)) row (GoesOn past one)
+          then (c.front ++ a.front) (tasks at rest (Load old ∷ waiting))
+      leads = Leads-tasks nfa x at after then c.front (c.front ++ a.front) k row (GoesOn past one) rest
+          (a.leads c.front)
 
       follows : GoesOn past one → (current old : Slots) (waiting : List Item) (last : Slots)
-          → Follows nfa x at (unmarked met) [] (tasks at items (Load old ∷ waiting)) current then (c.front ++ a.front) (tasks at rest (Load old ∷ waiting)) last
+          → Follows nfa x at (unmarked met) [] (tasks at items (Load old ∷ waiting)) current then (c.front ++ a.front)
+          (tasks at rest (Load old ∷ waiting)) last
       follows on current old waiting last =
           let l = leads old waiting in
           Follows-then nfa x at (reaches current old waiting)
           (Follows-then nfa x at
-          (subst (λ w. Follows nfa x at after c.front (Explore (k, at) ∷ tasks at rest (Load old ∷ waiting)) row then (c.front ++ a.front) w l.written) (l.whole on) l.follows)
+          (subst (λ w. Follows nfa x at after c.front (Explore (k, at) ∷ tasks at rest (Load old ∷ waiting)) row then
+          (c.front ++ a.front) w l.written) (l.whole on) l.follows)
           (Follows-tasks nfa x at then (c.front ++ a.front) rest old waiting l.written last))
 
       -- the state is followed to its end
-      pub CrossesTo-next : (found : Option PatternID) → GoesOn past one → IsHit nfa (meant past (is_match nfa) (c.front ++ a.front)) slots found new
+      pub CrossesTo-next : (found : Option PatternID) → GoesOn past one
+          → IsHit nfa (meant past (is_match nfa) (c.front ++ a.front)) slots found new
           → CrossesTo nfa x at past met items slots rest found then more new
       CrossesTo-next found on is_hit = record {
         front = c.front ++ a.front;
@@ -328,7 +387,8 @@ module _ (nfa : Automaton) (x : Search) (at : ℕ) (past : Bool) (met : Marks) (
       }
 
       -- the first match ends the position
-      pub CrossesTo-first : past ≡ false → hit ≡ None → (GoesOn past one → ⊥) → Crosses nfa x at past met items slots one then more new
+      pub CrossesTo-first : past ≡ false → hit ≡ None → (GoesOn past one → ⊥)
+          → Crosses nfa x at past met items slots one then more new
       CrossesTo-first off none ends =
           let before : IsHit nfa (meant past (is_match nfa) c.front) slots None written =
           subst (λ h. IsHit nfa (meant past (is_match nfa) c.front) slots h written) none c.is_hit in
@@ -337,7 +397,8 @@ module _ (nfa : Automaton) (x : Search) (at : ℕ) (past : Bool) (met : Marks) (
             added = added;
             is_hit = hit-first nfa past c.front a.front slots written new one off before a.is_hit;
             cut = λ _.
-                ap (moves (edges nfa x)) (before_match-append (is_match nfa) c.front a.front (meant-off (is_match nfa) past c.front off before.0))
+                ap (moves (edges nfa x)) (before_match-append (is_match nfa) c.front a.front
+                (meant-off (is_match nfa) past c.front off before.0))
                 ∙ moves-append (edges nfa x) c.front (before_match (is_match nfa) a.front)
                 ∙ ap (λ l. moves (edges nfa x) c.front ++ l) (a.cut off)
                 ∙ sym (moves-append (edges nfa x) c.front a.front);
@@ -354,8 +415,10 @@ module _ (nfa : Automaton) (x : Search) (at : ℕ) (past : Bool) (met : Marks) (
           }
 
   -- all were followed
-  pub CrossesTo-over : (left : List (ℕ × Slots)) (hit : Option PatternID) (after : Marks) (kept : List (ℕ × Slots)) (written : Slots) → left ≡ [] → (past ≡ false → hit ≡ None)
-      → CrossesTo nfa x at past met items slots left hit after kept written → Crosses nfa x at past met items slots hit after kept written
+  pub CrossesTo-over : (left : List (ℕ × Slots)) (hit : Option PatternID) (after : Marks) (kept : List (ℕ × Slots))
+      (written : Slots) → left ≡ [] → (past ≡ false → hit ≡ None)
+      → CrossesTo nfa x at past met items slots left hit after kept written
+      → Crosses nfa x at past met items slots hit after kept written
   CrossesTo-over left hit after kept written over none c = record {
     front = c.front;
     added = c.added;
@@ -363,14 +426,16 @@ module _ (nfa : Automaton) (x : Search) (at : ℕ) (past : Bool) (met : Marks) (
     cut = λ off.
         let before : IsHit nfa (meant past (is_match nfa) c.front) slots None written =
         subst (λ h. IsHit nfa (meant past (is_match nfa) c.front) slots h written) (none off) c.is_hit in
-        ap (moves (edges nfa x)) (before_match-all (is_match nfa) c.front (meant-off (is_match nfa) past c.front off before.0));
+        ap (moves (edges nfa x)) (before_match-all (is_match nfa) c.front
+        (meant-off (is_match nfa) past c.front off before.0));
     formed = c.formed;
     paid = record { tried = omega (arith, c.paid.tried); framed = c.paid.framed; entered = c.paid.entered };
     leads = λ current old waiting. record {
       left = Load old ∷ waiting;
       written = current;
       follows =
-          subst (λ l. Follows nfa x at (unmarked met) [] (tasks at items (Load old ∷ waiting)) current after c.front (tasks at l (Load old ∷ waiting)) current) over
+          subst (λ l. Follows nfa x at (unmarked met) [] (tasks at items (Load old ∷ waiting)) current after c.front
+          (tasks at l (Load old ∷ waiting)) current) over
           (c.follows current old waiting current);
       whole = λ _. refl;
     };

@@ -19,18 +19,21 @@ node_at-get nfa s node is = get_or_from_slice_get nfa.states s node Fail is
 
 -- a byte state's pairs by its target
 pairs-target : (node : Node) (at : ℕ) (byte : Option ℕ)
-    → option_to_list (option_and_then (λ b. option_map (λ next. (let v : Pair = (next, at + 1) in v)) (target_on node b)) byte)
+    → option_to_list (option_and_then (λ b. option_map (λ next. (let v : Pair = (next, at + 1) in v))
+    (target_on node b)) byte)
     ≡ option_to_list (option_map (λ next. (let v : Pair = (next, at + 1) in v)) (option_and_then (target_on node) byte))
 pairs-target node at None = refl
 pairs-target node at (Some b) = refl
 
-no-target : (node : Node) → ((b : ℕ) → target_on node b ≡ None) → (byte : Option ℕ) (t : ℕ) → option_and_then (target_on node) byte ≡ Some t → {P : Type 0} → P
+no-target : (node : Node) → ((b : ℕ) → target_on node b ≡ None) → (byte : Option ℕ) (t : ℕ)
+    → option_and_then (target_on node) byte ≡ Some t → {P : Type 0} → P
 no-target node none None t e = cc
 no-target node none (Some b) t e = cc (none b)
 
 module _ (x : Search) (at : ℕ) where
   -- a state that leads on has one edge
-  pub edges-some : (node : Node) (t : ℕ) → option_and_then (target_on node) (byte_at x at) ≡ Some t → edges_of x node at ≡ (t, at + 1) ∷ []
+  pub edges-some : (node : Node) (t : ℕ) → option_and_then (target_on node) (byte_at x at) ≡ Some t
+      → edges_of x node at ≡ (t, at + 1) ∷ []
   unfolding edges_of
   edges-some (ByteRange trans) t e = pairs-target (ByteRange trans) at (byte_at x at) ∙ rw e refl
   edges-some (Sparse ts) t e = pairs-target (Sparse ts) at (byte_at x at) ∙ rw e refl
@@ -43,7 +46,8 @@ module _ (x : Search) (at : ℕ) where
   edges-some (Match pattern) t e = no-target (Match pattern) (λ b. refl) (byte_at x at) t e
 
   -- a resting state that does not has none
-  pub edges-none : (node : Node) → rests node ≡ true → option_and_then (target_on node) (byte_at x at) ≡ None → edges_of x node at ≡ []
+  pub edges-none : (node : Node) → rests node ≡ true → option_and_then (target_on node) (byte_at x at) ≡ None
+      → edges_of x node at ≡ []
   unfolding edges_of
   edges-none (ByteRange trans) r e = pairs-target (ByteRange trans) at (byte_at x at) ∙ rw e refl
   edges-none (Sparse ts) r e = pairs-target (Sparse ts) at (byte_at x at) ∙ rw e refl
@@ -56,5 +60,6 @@ module _ (x : Search) (at : ℕ) where
   edges-none (Match pattern) r e = refl
 
 -- what memory holds of one pair
-pub moves-one : (edges : Pair → List Pair) (v : Pair) (slots : Slots) (es : List Pair) → edges v ≡ es → moves edges ((v, slots) ∷ []) ≡ map (λ u. (u.0, slots)) es
+pub moves-one : (edges : Pair → List Pair) (v : Pair) (slots : Slots) (es : List Pair) → edges v ≡ es
+    → moves edges ((v, slots) ∷ []) ≡ map (λ u. (u.0, slots)) es
 moves-one edges v slots es e = append-nil (map (λ u. (u.0, slots)) (edges v)) ∙ ap (map (λ u. (u.0, slots))) e

@@ -22,9 +22,12 @@ use Rattle.nfa_pikevm.specs.Scans.{blank, Searched}
 use Rattle.nfa_search_base.specs.Lists.{IsInside, IsSlotInside}
 
 module _ (nfa : Automaton) where
-  -- A search was handed as many slots as the NFA has, or fewer, and the rest are none: together they are a row of the path.
-  pub row-whole : IsAutomaton nfa → (row rest : Slots) (len width : ℕ) → width ≡ min len (slot_count nfa.groups) → length row ≡ width → length rest + width ≡ len
-      → rest ≡ blank (length rest) → (path : Option (List Pair)) → row ≡ slot_row nfa (length row) path → row ++ rest ≡ slot_row nfa (length (row ++ rest)) path
+  -- A search was handed as many slots as the NFA has, or fewer, and the rest are none: together they are a row of the
+  -- path.
+  pub row-whole : IsAutomaton nfa → (row rest : Slots) (len width : ℕ) → width ≡ min len (slot_count nfa.groups)
+      → length row ≡ width → length rest + width ≡ len
+      → rest ≡ blank (length rest) → (path : Option (List Pair)) → row ≡ slot_row nfa (length row) path
+      → row ++ rest ≡ slot_row nfa (length (row ++ rest)) path
   row-whole valid row rest len width cut size left unset path is =
       elim (cases_lt len (slot_count nfa.groups)) [
         | inl few ↦
@@ -33,7 +36,8 @@ module _ (nfa : Automaton) where
             same ∙ is ∙ ap (λ l. slot_row nfa (length l) path) (sym same)
         | inr many ↦
             let past : slot_count nfa.groups ≤ width = omega arith in
-            let long : length (row ++ rest) ≡ width + length rest = length-append row rest ∙ ap (λ n. n + length rest) size in
+            let long : length (row ++ rest) ≡ width + length rest = length-append row rest
+            ∙ ap (λ n. n + length rest) size in
             ap (λ l. l ++ rest) (is ∙ ap (λ n. slot_row nfa n path) size) ∙ ap (λ l. slot_row nfa width path ++ l) unset
             ∙ sym (slot_row-more nfa valid width (length rest) past path) ∙ ap (λ n. slot_row nfa n path) (sym long)
       ]
@@ -45,20 +49,44 @@ module _ (nfa : Automaton) where
 module _ (nfa : Automaton) (kind : MatchKind) (earliest : Bool) where
   module _ (x : Search) {slots : Slots} {scans turns : ℕ} where
     -- the pattern and the slots, of which the searched ones are a part
-    pub answer-of : (half : Option HalfMatch) (pattern : Option ℕ) → pattern ≡ option_map (λ h. (half_found_of h).pattern) half → Searched nfa x kind earliest half slots scans turns
-        → (all : Slots) → ((path : Option (List Pair)) → slots ≡ slot_row nfa (length slots) path → all ≡ slot_row nfa (length all) path) → IsAnswer nfa kind earliest x pattern all
+    pub answer-of : (half : Option HalfMatch) (pattern : Option ℕ)
+        → pattern ≡ option_map (λ h. (half_found_of h).pattern) half
+        → Searched nfa x kind earliest half slots scans turns
+        → (all : Slots) → ((path : Option (List Pair)) → slots ≡ slot_row nfa (length slots) path
+        → all ≡ slot_row nfa (length all) path) → IsAnswer nfa kind earliest x pattern all
     answer-of half pattern is s all whole =
-        record { restarts = s.restarts; path = s.path; answers = s.answers; pattern_is = is ∙ s.pattern_is; slots_are = whole s.path s.slots_are }
+        record {
+          restarts = s.restarts;
+          path = s.path;
+          answers = s.answers;
+          pattern_is = is ∙ s.pattern_is;
+          slots_are =
+              whole s.path s.slots_are;
+        }
 
     -- the work
-    pub work : (half : Option HalfMatch) → Searched nfa x kind earliest half slots scans turns → IsWork nfa kind earliest x scans turns
-    work half s = record { restarts = s.restarts; path = s.path; answers = s.answers; scans_are = s.scans_are; turns_reach = s.turns_reach }
+    pub work : (half : Option HalfMatch) → Searched nfa x kind earliest half slots scans turns
+        → IsWork nfa kind earliest x scans turns
+    work half s = record {
+      restarts = s.restarts;
+      path = s.path;
+      answers = s.answers;
+      scans_are = s.scans_are;
+      turns_reach = s.turns_reach;
+    }
 
     -- the match
     pub match-none : Searched nfa x kind earliest None slots scans turns → IsMatchAnswer nfa kind earliest x None
-    match-none s = record { restarts = s.restarts; path = s.path; answers = s.answers; found_is = rw (← s.pattern_is) refl }
+    match-none s = record {
+      restarts = s.restarts;
+      path = s.path;
+      answers = s.answers;
+      found_is =
+          rw (← s.pattern_is) refl;
+    }
 
-    pub match-some : IsAutomaton nfa → (half : HalfMatch) (k : ℕ) → k ≡ (half_found_of half).pattern → length slots ≡ 2 * length nfa.groups
+    pub match-some : IsAutomaton nfa → (half : HalfMatch) (k : ℕ) → k ≡ (half_found_of half).pattern
+        → length slots ≡ 2 * length nfa.groups
         → (s : Searched nfa x kind earliest (Some half) slots scans turns)
         → (found : Option Found) → found ≡ match_of (Some k) slots → IsMatchAnswer nfa kind earliest x found
     match-some valid half k is size s found leads = record {
@@ -72,18 +100,23 @@ module _ (nfa : Automaton) (kind : MatchKind) (earliest : Bool) where
 
   -- what callers learn of the numbers in an answer
   module _ (x : Search) where
-    pub inside-of : (r : Option Match) → IsMatchAnswer nfa kind earliest x (option_map found_of r) → IfSome r (λ m. IsInside x (found_of m))
+    pub inside-of : (r : Option Match) → IsMatchAnswer nfa kind earliest x (option_map found_of r)
+        → IfSome r (λ m. IsInside x (found_of m))
     inside-of None h = tt
-    inside-of (Some m) h = let k = match-within nfa kind earliest x (found_of m) h in record { from = k.0; ordered = k.1; to = k.2 }
+    inside-of (Some m) h = let k = match-within nfa kind earliest x (found_of m) h in
+        record { from = k.0; ordered = k.1; to = k.2 }
 
-    pub pattern-of : IsAutomaton nfa → (r : Option Match) → IsMatchAnswer nfa kind earliest x (option_map found_of r) → IfSome r (λ m. (found_of m).pattern < length nfa.patterns)
+    pub pattern-of : IsAutomaton nfa → (r : Option Match) → IsMatchAnswer nfa kind earliest x (option_map found_of r)
+        → IfSome r (λ m. (found_of m).pattern < length nfa.patterns)
     pattern-of valid None h = tt
     pattern-of valid (Some m) h = match-pattern nfa kind earliest valid x (found_of m) h
 
-    pub slots-inside : (pattern : Option ℕ) (slots : List (Option ℕ)) → IsAnswer nfa kind earliest x pattern slots → All (IsSlotInside x) slots
+    pub slots-inside : (pattern : Option ℕ) (slots : List (Option ℕ)) → IsAnswer nfa kind earliest x pattern slots
+        → All (IsSlotInside x) slots
     slots-inside pattern slots a = slots-within nfa kind earliest x pattern slots a
 
-    pub slots-pattern : IsAutomaton nfa → (r : Option PatternID) (slots : List (Option ℕ)) → IsAnswer nfa kind earliest x (option_map number_of r) slots
+    pub slots-pattern : IsAutomaton nfa → (r : Option PatternID) (slots : List (Option ℕ))
+        → IsAnswer nfa kind earliest x (option_map number_of r) slots
         → IfSome r (λ p. number_of p < length nfa.patterns)
     slots-pattern valid None slots a = tt
     slots-pattern valid (Some p) slots a = pattern-within nfa kind earliest valid x (Some (number_of p)) slots a

@@ -31,16 +31,45 @@ use Rattle.nfa_pikevm.specs.declared.find_iter.FindMatches.{FindMatches}
 -- a search like another is that one with a start of its own
 pub like-is : (x t : Search) (start : ℕ) → SameButStart x t → record x { start = start } ≡ record t { start = start }
 like-is x t start same =
-    ap (λ (h : List ℕ). record { haystack = h; start = start; end = x.end; anchored = x.anchored; earliest = x.earliest }) (sym same.haystack)
-    ∙ ap (λ (e : ℕ). record { haystack = t.haystack; start = start; end = e; anchored = x.anchored; earliest = x.earliest }) (sym same.end)
-    ∙ ap (λ (a : Anchored). record { haystack = t.haystack; start = start; end = t.end; anchored = a; earliest = x.earliest }) (sym same.anchored)
-    ∙ ap (λ (e : Bool). record { haystack = t.haystack; start = start; end = t.end; anchored = t.anchored; earliest = e }) (sym same.earliest)
+    ap (λ (h : List ℕ). record {
+      haystack = h;
+      start = start;
+      end = x.end;
+      anchored = x.anchored;
+      earliest =
+          x.earliest;
+    }) (sym same.haystack)
+    ∙ ap (λ (e : ℕ). record {
+      haystack = t.haystack;
+      start = start;
+      end = e;
+      anchored = x.anchored;
+      earliest =
+          x.earliest;
+    }) (sym same.end)
+    ∙ ap (λ (a : Anchored). record {
+      haystack = t.haystack;
+      start = start;
+      end = t.end;
+      anchored = a;
+      earliest =
+          x.earliest;
+    }) (sym same.anchored)
+    ∙ ap (λ (e : Bool). record {
+      haystack = t.haystack;
+      start = start;
+      end = t.end;
+      anchored = t.anchored;
+      earliest =
+          e;
+    }) (sym same.earliest)
 
 -- what is known of searches is known of the ones like them
 pub known-like : (vm : Pike) (x t : Search) (known : Option Match) → SameButStart x t → IsKnownFrom vm x known
     → IsKnownFrom vm t known
 known-like vm x t known same knows = λ m is.
-    subst (λ (y : Search). IsSureMatch vm.nfa (kind_of vm) y.earliest y (found_of m)) (like-is x t m.span.end same) (knows m is)
+    subst (λ (y : Search). IsSureMatch vm.nfa (kind_of vm) y.earliest y (found_of m))
+    (like-is x t m.span.end same) (knows m is)
 
 -- the match that is known answers, where it is some
 pub known-answer : (vm : Pike) (t : Search) (known kept : Option Match) → IsKnownFrom vm t known
@@ -60,7 +89,8 @@ known-kept vm t found kept finds ends = λ m is.
     let e = ends m is in
     let here : record t { start = m.span.end } ≡ t = ap (λ (n : ℕ). record t { start = n }) e.1 in
     let sure : IsSureMatch vm.nfa (kind_of vm) t.earliest t (found_of m) =
-    match-sure vm.nfa (kind_of vm) t.earliest t (found_of m) (subst (λ (o : Option Match). IsFindOf vm t (answer_of o)) e.0 finds) in
+    match-sure vm.nfa (kind_of vm) t.earliest t (found_of m)
+    (subst (λ (o : Option Match). IsFindOf vm t (answer_of o)) e.0 finds) in
     subst (λ (y : Search). IsSureMatch vm.nfa (kind_of vm) t.earliest y (found_of m)) (sym here) sure
 
 -- the match of a search is its answer
@@ -91,13 +121,20 @@ pub record Goes (x : Search) (s : Asked) : Type 0 where
 
 same_start-back : (x t : Search) → SameButStart x t → SameButStart t x
 same_start-back x t same =
-    record { haystack = sym same.haystack; end = sym same.end; anchored = sym same.anchored; earliest = sym same.earliest }
+    record {
+      haystack = sym same.haystack;
+      end = sym same.end;
+      anchored = sym same.anchored;
+      earliest =
+          sym same.earliest;
+    }
 
 -- a search leaves it so
 asked-goes : (x : Search) (s : Asked) (t : Search) (a : Answer Found) (s' : Asked) → SameButStart x t → Goes x s
     → AsksPike s t a s' → Goes x s'
 asked-goes x s t a s' same goes asked = record {
-  fits = still-fits s.cache s'.cache s.asker.engine.now.nfa s'.asker.engine.now.nfa (ap (λ (e : Pike). e.nfa) asked.engine) asked.numbers goes.fits;
+  fits = still-fits s.cache s'.cache s.asker.engine.now.nfa s'.asker.engine.now.nfa
+      (ap (λ (e : Pike). e.nfa) asked.engine) asked.numbers goes.fits;
   knows = known-like s'.asker.engine.now t x s'.asker.known (same_start-back x t same) asked.knows;
 }
 
@@ -112,7 +149,11 @@ find-serves s =
     let x = (find_walk s).at in
     ServesOnAlong-by MayFind AsksPike SameButStart same_start-self same_start-then (IsSurelyInside span_of)
     (λ (q : Asked). Goes x q) (find_state s).asker x (record { fits = s.fits; knows = s.knows })
-    (λ q t same goes. record { fits = goes.fits; knows = known-like q.asker.engine.now x t q.asker.known same goes.knows })
+    (λ q t same goes. record {
+      fits = goes.fits;
+      knows =
+          known-like q.asker.engine.now x t q.asker.known same goes.knows;
+    })
     (λ q t a q' same goes asked. (find-tells q t a q' asked, asked-goes x q t a q' same goes asked))
 
 -- and goes on after a step
@@ -127,20 +168,27 @@ step-goes s r t st = of s.steps.done st
     here = record { fits = s.fits; knows = s.knows }
 
     of : (b : Bool) → MatchBool b ((r ≡ None) × (t ≡ find_state s))
-        (TakesStep span_of AsksPike (λ q. GivesItem found_of) (find_state s).asker (find_walk s) r t.asker (steps_walk t) t.done)
+        (TakesStep span_of AsksPike (λ q. GivesItem found_of) (find_state s).asker (find_walk s) r t.asker
+        (steps_walk t) t.done)
         → Goes (steps_walk t).at t.asker
     of true h = subst (λ (q : Steps Asked). Goes (steps_walk q).at q.asker) (sym h.1) here
     of false h =
-        let on : Goes x t.asker = step-holds span_of AsksPike (Goes x) (find_state s).asker (find_walk s) h.answer t.asker (steps_walk t)
+        let on : Goes x t.asker = step-holds span_of AsksPike (Goes x) (find_state s).asker (find_walk s) h.answer
+        t.asker (steps_walk t)
         (λ q u a q' same goes asked. asked-goes x q u a q' same goes asked) here h.step in
-        record { fits = on.fits; knows = known-like t.asker.asker.engine.now x (steps_walk t).at t.asker.asker.known h.same on.knows }
+        record {
+          fits = on.fits;
+          knows = known-like t.asker.asker.engine.now x (steps_walk t).at t.asker.asker.known
+              h.same on.knows;
+        }
 
 -- the PikeVM answers the matches of its searches, and stays the one that it is
 pub pike-acts : (vm : Pike) (x : Search) (s : Asked) (t : Search) (a : Answer Found) (s' : Asked) → SameButStart x t
     → s.asker.engine.now ≡ vm → AsksPike s t a s'
     → TellsMatch vm.nfa (kind_of vm) x.earliest t a × (s'.asker.engine.now ≡ vm)
 pike-acts vm x s t a s' same is asked = (
-  subst (λ (b : Bool). TellsMatch vm.nfa (kind_of vm) b t a) same.earliest (subst (λ (e : Pike). IsFindOf e t a) is asked.finds),
+  subst (λ (b : Bool). TellsMatch vm.nfa (kind_of vm) b t a) same.earliest
+      (subst (λ (e : Pike). IsFindOf e t a) is asked.finds),
   asked.engine ∙ is,
 )
 
@@ -160,7 +208,8 @@ same_numbers-then a b c f g = record {
 step-keeps_cache : (s : FindMatches) (r : Option Match) (t : FindMatches) → find_steps s r t → KeepsCache s t
 step-keeps_cache s r t st =
     let numbers : SameNumbers s.cache.now t.cache.now =
-    step-keeps span_of AsksPike (λ q. GivesItem found_of) (λ (p q : Asked). SameNumbers p.cache q.cache) (λ q. same_numbers q.cache)
+    step-keeps span_of AsksPike (λ q. GivesItem found_of) (λ (p q : Asked). SameNumbers p.cache q.cache)
+    (λ q. same_numbers q.cache)
     (λ p q u f g. same_numbers-then p.cache q.cache u.cache f g) (λ p x a q asked. asked.numbers)
     (find_state s) (option_map (λ m. Ok m) r) (find_state t) st.step in
     record { cache = st.cache; numbers = numbers }
@@ -169,5 +218,9 @@ step-keeps_cache s r t st =
 pub gives-cache : (s : FindMatches) → GivesCache s
 gives-cache s = λ xs t r u ran st.
     calls-keep find_steps KeepsCache (λ q. record { cache = refl; numbers = same_numbers q.cache.now })
-    (λ a b c f g. record { cache = g.cache ∙ f.cache; numbers = same_numbers-then a.cache.now b.cache.now c.cache.now f.numbers g.numbers })
+    (λ a b c f g. record {
+      cache = g.cache ∙ f.cache;
+      numbers =
+          same_numbers-then a.cache.now b.cache.now c.cache.now f.numbers g.numbers;
+    })
     step-keeps_cache s xs t r u ran st

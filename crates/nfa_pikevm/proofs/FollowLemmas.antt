@@ -15,7 +15,8 @@ use Rattle.nfa_pikevm.specs.Rows.{Marks}
 use Rattle.nfa_pikevm.specs.States.{Front, SeenAt, AreMatches, Follows}
 
 -- a pair that is no match is in no set of matches
-plain-target : (nfa : Automaton) (target : Pair → Bool) (v : Pair) → AreMatches nfa target → is_match nfa v ≡ false → target v ≡ false
+plain-target : (nfa : Automaton) (target : Pair → Bool) (v : Pair) → AreMatches nfa target → is_match nfa v ≡ false
+    → target v ≡ false
 plain-target nfa target v ok plain = of (target v) (ok v)
   where
     of : (b : Bool) → (b ≡ true → is_match nfa v ≡ true) → b ≡ false
@@ -23,7 +24,8 @@ plain-target nfa target v ok plain = of (target v) (ok v)
     of false h = refl
 
 -- marking a state marks its pair and no other
-pub SeenAt-set : (at s : ℕ) (bits : List Bool) → s < length bits → (v : Pair) → SeenAt at (set bits s true) v ↔ ((v ≡ (s, at)) ⊎ SeenAt at bits v)
+pub SeenAt-set : (at s : ℕ) (bits : List Bool) → s < length bits → (v : Pair)
+    → SeenAt at (set bits s true) v ↔ ((v ≡ (s, at)) ⊎ SeenAt at bits v)
 SeenAt-set at s bits inside v = (
   λ m.
       elim (ℕ_discrete v.0 s) [
@@ -42,15 +44,18 @@ SeenAt-set at s bits inside v = (
 )
 
 -- what is not marked was not seen
-pub SeenAt-clear : (at s : ℕ) (bits : List Bool) → s < length bits → get_or bits s true ≡ false → ¬ (SeenAt at bits (s, at))
+pub SeenAt-clear : (at s : ℕ) (bits : List Bool) → s < length bits → get_or bits s true ≡ false
+    → ¬ (SeenAt at bits (s, at))
 SeenAt-clear at s bits inside clear m =
     let e : get_or bits s false ≡ false = get_or_default bits s false true inside ∙ clear in
     absurd (cc (m.set, e))
 
 -- Behind a pair a slot need not be restored where slots are loaded next.
 Searching-unrestored : (edges : Pair → List Pair) (target : Pair → Bool) (capture : Pair → Option ℕ)
-    {goal : Found → ℕ → Type 0} {Seen : Pair → Type 0} {spent : ℕ} {front : Front} {otherwise : Found} {v : Pair} {k : ℕ} {back : Option ℕ} {old : Slots} {rest : List Item} {slots : Slots}
-    → Searching edges target capture goal Seen spent front otherwise (Explore v ∷ Restore k back ∷ Load old ∷ rest) slots
+    {goal : Found → ℕ → Type 0} {Seen : Pair → Type 0} {spent : ℕ} {front : Front} {otherwise : Found} {v : Pair}
+    {k : ℕ} {back : Option ℕ} {old : Slots} {rest : List Item} {slots : Slots}
+    → Searching edges target capture goal Seen spent front otherwise
+    (Explore v ∷ Restore k back ∷ Load old ∷ rest) slots
     → Searching edges target capture goal Seen spent front otherwise (Explore v ∷ Load old ∷ rest) slots
 unfolding Answer
 Searching-unrestored edges target capture {front = front} {otherwise} {v} {k} {back} {old} {rest} {slots} s = record {
@@ -64,66 +69,93 @@ Searching-unrestored edges target capture {front = front} {otherwise} {v} {k} {b
 
 module _ (nfa : Automaton) (x : Search) (at : ℕ) where
   -- one after the other
-  pub Follows-then : {m : Marks} {i : Front} {w : List Item} {s : Slots} {n : Marks} {j : Front} {y : List Item} {t : Slots}
+  pub Follows-then : {m : Marks} {i : Front} {w : List Item} {s : Slots} {n : Marks} {j : Front}
+      {y : List Item} {t : Slots}
       {o : Marks} {k : Front} {z : List Item} {u : Slots}
       → Follows nfa x at m i w s n j y t → Follows nfa x at n j y t o k z u → Follows nfa x at m i w s o k z u
-  Follows-then f g = record { leads = λ target ok starts entry otherwise h. g.leads target ok starts entry otherwise (f.leads target ok starts entry otherwise h) }
+  Follows-then f g = record {
+    leads = λ target ok starts entry otherwise h. g.leads target ok starts entry otherwise
+        (f.leads target ok starts entry otherwise h);
+  }
 
   pub Follows-none : (m : Marks) (i : Front) (w : List Item) (s : Slots) → Follows nfa x at m i w s m i w s
   Follows-none m i w s = record { leads = λ target ok starts entry otherwise h. h }
 
   module _ (m : Marks) (i : Front) (rest : List Item) (slots : Slots) where
-    pub Follows-restore : (k : ℕ) (old : Option ℕ) → Follows nfa x at m i (Restore k old ∷ rest) slots m i rest (set slots k old)
-    Follows-restore k old = record { leads = λ target ok starts entry otherwise h. Searching-restore (edges nfa x) target (capture nfa) h }
+    pub Follows-restore : (k : ℕ) (old : Option ℕ)
+        → Follows nfa x at m i (Restore k old ∷ rest) slots m i rest (set slots k old)
+    Follows-restore k old = record {
+      leads = λ target ok starts entry otherwise h.
+          Searching-restore (edges nfa x) target (capture nfa) h;
+    }
 
     pub Follows-load : (old : Slots) → Follows nfa x at m i (Load old ∷ rest) slots m i rest old
-    Follows-load old = record { leads = λ target ok starts entry otherwise h. Searching-load (edges nfa x) target (capture nfa) h }
+    Follows-load old = record {
+      leads = λ target ok starts entry otherwise h. Searching-load (edges nfa x) target
+          (capture nfa) h;
+    }
 
     pub Follows-unrestored : (v : Pair) (k : ℕ) (back : Option ℕ) (old : Slots)
-        → Follows nfa x at m i (Explore v ∷ Restore k back ∷ Load old ∷ rest) slots m i (Explore v ∷ Load old ∷ rest) slots
-    Follows-unrestored v k back old = record { leads = λ target ok starts entry otherwise h. Searching-unrestored (edges nfa x) target (capture nfa) h }
+        → Follows nfa x at m i (Explore v ∷ Restore k back ∷ Load old ∷ rest) slots m i
+        (Explore v ∷ Load old ∷ rest) slots
+    Follows-unrestored v k back old = record {
+      leads =
+          λ target ok starts entry otherwise h. Searching-unrestored (edges nfa x) target (capture nfa) h;
+    }
 
     module _ (s : ℕ) (n : Marks) (counted : n.turns ≡ m.turns + 1) where
       -- a turn that finds its state marked
-      pub Follows-marked : get_or m.bits s false ≡ true → n.bits ≡ m.bits → Follows nfa x at m i (Explore (s, at) ∷ rest) slots n i rest slots
+      pub Follows-marked : get_or m.bits s false ≡ true → n.bits ≡ m.bits
+          → Follows nfa x at m i (Explore (s, at) ∷ rest) slots n i rest slots
       Follows-marked seen same = record {
         leads = λ target ok starts entry otherwise h.
-            rw (counted, same) (Searching-marked (edges nfa x) target (capture nfa) h (record { here = refl; set = seen }));
+            rw (counted, same) (Searching-marked (edges nfa x) target (capture nfa) h
+            (record { here = refl; set = seen }));
       }
 
       -- a turn that marks its state
-      module _ (inside : s < length m.bits) (clear : get_or m.bits s true ≡ false) (marked : n.bits ≡ set m.bits s true) where
-        pub Follows-plain : is_match nfa (s, at) ≡ false → (es : List Pair) → edges nfa x (s, at) ≡ es → capture nfa (s, at) ≡ None
+      module _ (inside : s < length m.bits) (clear : get_or m.bits s true ≡ false)
+          (marked : n.bits ≡ set m.bits s true) where
+        pub Follows-plain : is_match nfa (s, at) ≡ false → (es : List Pair) → edges nfa x (s, at) ≡ es
+            → capture nfa (s, at) ≡ None
             → Follows nfa x at m i (Explore (s, at) ∷ rest) slots n i (map Explore es ++ rest) slots
         Follows-plain plain es leads writes = record {
           leads = λ target ok starts entry otherwise h.
               rw (counted, marked)
-              (Searching-plain (edges nfa x) target (capture nfa) h (SeenAt-clear at s m.bits inside clear) (SeenAt-set at s m.bits inside) (plain-target nfa target (s, at) ok plain) es leads writes);
+              (Searching-plain (edges nfa x) target (capture nfa) h (SeenAt-clear at s m.bits inside clear)
+              (SeenAt-set at s m.bits inside) (plain-target nfa target (s, at) ok plain) es leads writes);
         }
 
-        pub Follows-write : is_match nfa (s, at) ≡ false → (es : List Pair) → edges nfa x (s, at) ≡ es → (k : ℕ) → capture nfa (s, at) ≡ Some k
-            → Follows nfa x at m i (Explore (s, at) ∷ rest) slots n i (map Explore es ++ Restore k (get_or slots k None) ∷ rest) (set slots k (Some at))
+        pub Follows-write : is_match nfa (s, at) ≡ false → (es : List Pair) → edges nfa x (s, at) ≡ es → (k : ℕ)
+            → capture nfa (s, at) ≡ Some k
+            → Follows nfa x at m i (Explore (s, at) ∷ rest) slots n i
+            (map Explore es ++ Restore k (get_or slots k None) ∷ rest) (set slots k (Some at))
         Follows-write plain es leads k writes = record {
           leads = λ target ok starts entry otherwise h.
               rw (counted, marked)
-              (Searching-write (edges nfa x) target (capture nfa) h (SeenAt-clear at s m.bits inside clear) (SeenAt-set at s m.bits inside) (plain-target nfa target (s, at) ok plain) es leads k writes);
+              (Searching-write (edges nfa x) target (capture nfa) h (SeenAt-clear at s m.bits inside clear)
+              (SeenAt-set at s m.bits inside) (plain-target nfa target (s, at) ok plain) es leads k writes);
         }
 
-        pub Follows-unkept : is_match nfa (s, at) ≡ false → (es : List Pair) → edges nfa x (s, at) ≡ es → (k : ℕ) → capture nfa (s, at) ≡ Some k → length slots ≤ k
+        pub Follows-unkept : is_match nfa (s, at) ≡ false → (es : List Pair) → edges nfa x (s, at) ≡ es → (k : ℕ)
+            → capture nfa (s, at) ≡ Some k → length slots ≤ k
             → Follows nfa x at m i (Explore (s, at) ∷ rest) slots n i (map Explore es ++ rest) slots
         Follows-unkept plain es leads k writes past = record {
           leads = λ target ok starts entry otherwise h.
               rw (counted, marked)
-              (Searching-unkept (edges nfa x) target (capture nfa) h (SeenAt-clear at s m.bits inside clear) (SeenAt-set at s m.bits inside) (plain-target nfa target (s, at) ok plain) es leads k writes past);
+              (Searching-unkept (edges nfa x) target (capture nfa) h (SeenAt-clear at s m.bits inside clear)
+              (SeenAt-set at s m.bits inside) (plain-target nfa target (s, at) ok plain) es leads k writes past);
         }
 
         -- a state whose edges lead to later positions is put into the front
-        pub Follows-keep : ((v y : Pair) → In y (edges nfa x v) → v.1 ≤ y.1) → ((w : Pair) → In w (edges nfa x (s, at)) → at < w.1)
+        pub Follows-keep : ((v y : Pair) → In y (edges nfa x v) → v.1 ≤ y.1)
+            → ((w : Pair) → In w (edges nfa x (s, at)) → at < w.1)
             → Follows nfa x at m i (Explore (s, at) ∷ rest) slots n (i ++ ((s, at), slots) ∷ []) rest slots
         Follows-keep onward leaves = record {
           leads = λ target ok starts entry otherwise h.
               rw (counted, marked)
-              (Searching-keep (edges nfa x) target (capture nfa) h (SeenAt-clear at s m.bits inside clear) (SeenAt-set at s m.bits inside) (λ v. at < v.1)
+              (Searching-keep (edges nfa x) target (capture nfa) h (SeenAt-clear at s m.bits inside clear)
+              (SeenAt-set at s m.bits inside) (λ v. at < v.1)
               (λ v y a j. let k : v.1 ≤ y.1 = onward v y j in let l : at < v.1 = a in omega arith) leaves
               (λ v seen a. let k : v.1 ≡ at = seen.here in let l : at < v.1 = a in omega arith));
         }

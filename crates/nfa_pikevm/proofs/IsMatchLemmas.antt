@@ -9,12 +9,15 @@ use Rattle.nfa_paths.specs.Paths.{is_utf8_empty, IsAnswer, IsFoundAnswer, IsWork
 use Rattle.nfa_paths.proofs.EarliestLemmas.{search_answer-asked, found_answer-earliest}
 use Rattle.nfa_paths.proofs.PatternLemmas.{found-of}
 
-module _ (nfa : Automaton) (kind : MatchKind) (x y : Search) (e : Bool) (is_e : e ≡ not (is_utf8_empty nfa)) (is_y : y ≡ record x { earliest = e }) where
+module _ (nfa : Automaton) (kind : MatchKind) (x y : Search) (e : Bool) (is_e : e ≡ not (is_utf8_empty nfa))
+    (is_y : y ≡ record x { earliest = e }) where
   -- the work for the answer
-  pub work-free : (scans turns : ℕ) → IsWork nfa kind y.earliest y scans turns → IsWork nfa kind (not (is_utf8_empty nfa)) x scans turns
+  pub work-free : (scans turns : ℕ) → IsWork nfa kind y.earliest y scans turns
+      → IsWork nfa kind (not (is_utf8_empty nfa)) x scans turns
   work-free scans turns w = of (rw is_y at w)
     where
-      of : IsWork nfa kind e (record x { earliest = e }) scans turns → IsWork nfa kind (not (is_utf8_empty nfa)) x scans turns
+      of : IsWork nfa kind e (record x { earliest = e }) scans turns
+          → IsWork nfa kind (not (is_utf8_empty nfa)) x scans turns
       of w = rw (← is_e)
           (record {
             restarts = w.restarts;
@@ -25,9 +28,12 @@ module _ (nfa : Automaton) (kind : MatchKind) (x y : Search) (e : Bool) (is_e : 
           })
 
   -- whether there is a match
-  pub found-free : (slots : Slots) (pattern : Option ℕ) → IsAnswer nfa kind y.earliest y pattern slots → IsFoundAnswer nfa kind false x (is_some pattern)
+  pub found-free : (slots : Slots) (pattern : Option ℕ) → IsAnswer nfa kind y.earliest y pattern slots
+      → IsFoundAnswer nfa kind false x (is_some pattern)
   found-free slots pattern a = of (found-of nfa kind e (record x { earliest = e }) slots pattern (rw is_y at a))
     where
-      of : IsFoundAnswer nfa kind e (record x { earliest = e }) (is_some pattern) → IsFoundAnswer nfa kind false x (is_some pattern)
+      of : IsFoundAnswer nfa kind e (record x { earliest = e }) (is_some pattern)
+          → IsFoundAnswer nfa kind false x (is_some pattern)
       of f = rw f.found_is
-          (found_answer-earliest nfa kind x f.restarts f.path (rw is_e at (search_answer-asked nfa kind e x e f.restarts f.path f.answers)))
+          (found_answer-earliest nfa kind x f.restarts f.path
+          (rw is_e at (search_answer-asked nfa kind e x e f.restarts f.path f.answers)))

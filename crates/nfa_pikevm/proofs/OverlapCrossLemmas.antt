@@ -21,7 +21,8 @@ pub unmarked-same : (met : Marks) → met.bits ≡ replicate (length met.bits) f
 unmarked-same met clear = ap (λ (b : List Bool). record met { bits = b }) (sym clear)
 
 -- the i-th state, and those behind it
-pub rowless-next : (states : List ℕ) (i s : ℕ) → i < length states → s ≡ get_or states i s → rowless (drop i states) ≡ (s, []) ∷ rowless (drop (i + 1) states)
+pub rowless-next : (states : List ℕ) (i s : ℕ) → i < length states → s ≡ get_or states i s
+    → rowless (drop i states) ≡ (s, []) ∷ rowless (drop (i + 1) states)
 rowless-next states i s less is = ap rowless (drop_more states i s less ∙ ap (λ t. t ∷ drop (i + 1) states) (sym is))
 
 -- rows of no slots
@@ -42,22 +43,27 @@ record BeginsByLoad (work : List Item) : Type 0 where
   rest : List Item
   is : work ≡ ToLoad slots ∷ rest
 
-tasks-load : (at : ℕ) (items : List (ℕ × Slots)) (old : Slots) (waiting : List Item) → BeginsByLoad (tasks at items (ToLoad old ∷ waiting))
+tasks-load : (at : ℕ) (items : List (ℕ × Slots)) (old : Slots) (waiting : List Item)
+    → BeginsByLoad (tasks at items (ToLoad old ∷ waiting))
 tasks-load at [] old waiting = record { slots = old; rest = waiting; is = refl }
-tasks-load at (i ∷ items) old waiting = record { slots = i.1; rest = ToExplore (i.0, at) ∷ tasks at items (ToLoad old ∷ waiting); is = refl }
+tasks-load at (i ∷ items) old waiting = record
+    { slots = i.1; rest = ToExplore (i.0, at) ∷ tasks at items (ToLoad old ∷ waiting); is = refl }
 
 module _ (nfa : Automaton) (x : Search) (at n : ℕ) where
   -- the position so far: some items are left
-  pub record Crossing (past : Bool) (met : Marks) (items left : List (ℕ × Slots)) (set : List Bool) (hit : Bool) (after : Marks) (kept : List (ℕ × Slots)) (gathered : List Bool) : Type 0 where
+  pub record Crossing (past : Bool) (met : Marks) (items left : List (ℕ × Slots)) (set : List Bool) (hit : Bool)
+      (after : Marks) (kept : List (ℕ × Slots)) (gathered : List Bool) : Type 0 where
     pub front : Front
     pub added : kept ≡ moves (edges nfa x) front
     pub gathers : Gathers nfa past (wants nfa x n) front set hit gathered
     pub cut : past ≡ false → moves (edges nfa x) (before_match (wants nfa x n) front) ≡ moves (edges nfa x) front
     pub formed : Formed nfa at after.bits front
     pub follows : (old : Slots) (waiting : List Item)
-        → Follows nfa x at met [] (tasks at items (ToLoad old ∷ waiting)) [] after front (tasks at left (ToLoad old ∷ waiting)) []
+        → Follows nfa x at met [] (tasks at items (ToLoad old ∷ waiting)) [] after front
+        (tasks at left (ToLoad old ∷ waiting)) []
 
-  pub Crossing-start : (past : Bool) (met : Marks) (items : List (ℕ × Slots)) (set : List Bool) (kept : List (ℕ × Slots)) → kept ≡ []
+  pub Crossing-start : (past : Bool) (met : Marks) (items : List (ℕ × Slots)) (set : List Bool)
+      (kept : List (ℕ × Slots)) → kept ≡ []
       → Crossing past met items items set false met kept set
   Crossing-start past met items set kept none = record {
     front = [];
@@ -74,10 +80,13 @@ module _ (nfa : Automaton) (x : Search) (at n : ℕ) where
     follows = λ old waiting. follows-none nfa x at met [] (tasks at items (ToLoad old ∷ waiting)) [];
   }
 
-  module _ (past : Bool) (met : Marks) (items : List (ℕ × Slots)) (s : ℕ) (left : List (ℕ × Slots)) (set : List Bool) (hit : Bool) (middle : Marks) (kept : List (ℕ × Slots)) (mid : List Bool)
-      (now : Bool) (after : Marks) (more : List (ℕ × Slots)) (gathered : List Bool) (whole : List (ℕ × Slots)) (next : whole ≡ (s, []) ∷ left)
+  module _ (past : Bool) (met : Marks) (items : List (ℕ × Slots)) (s : ℕ) (left : List (ℕ × Slots)) (set : List Bool)
+      (hit : Bool) (middle : Marks) (kept : List (ℕ × Slots)) (mid : List Bool)
+      (now : Bool) (after : Marks) (more : List (ℕ × Slots)) (gathered : List Bool) (whole : List (ℕ × Slots))
+      (next : whole ≡ (s, []) ∷ left)
       (off : past ≡ false → hit ≡ false) (size : length set ≡ n)
-      (a : Crossing past met items whole set hit middle kept mid) (c : ArrivesInSet nfa x at past (length mid) s middle kept mid now after more gathered) where
+      (a : Crossing past met items whole set hit middle kept mid)
+      (c : ArrivesInSet nfa x at past (length mid) s middle kept mid now after more gathered) where
     -- what comes of the state, in terms of the capacity of the set before
     b : ArrivesInSet nfa x at past n s middle kept mid now after more gathered
     b =
@@ -85,34 +94,43 @@ module _ (nfa : Automaton) (x : Search) (at n : ℕ) where
         subst (λ m. ArrivesInSet nfa x at past m s middle kept mid now after more gathered) same c
 
     both_added : more ≡ moves (edges nfa x) (a.front ++ b.front)
-    both_added = b.added ∙ ap (λ l. l ++ moves (edges nfa x) b.front) a.added ∙ sym (moves-append (edges nfa x) a.front b.front)
+    both_added = b.added ∙ ap (λ l. l ++ moves (edges nfa x) b.front) a.added
+        ∙ sym (moves-append (edges nfa x) a.front b.front)
 
     both_gather : Gathers nfa past (wants nfa x n) (a.front ++ b.front) set (now || hit) gathered
     both_gather = Gathers-then nfa (wants nfa x n) past a.front b.front set mid gathered hit now off a.gathers b.gathers
 
-    both_cut : past ≡ false → moves (edges nfa x) (before_match (wants nfa x n) (a.front ++ b.front)) ≡ moves (edges nfa x) (a.front ++ b.front)
+    both_cut : past ≡ false → moves (edges nfa x) (before_match (wants nfa x n) (a.front ++ b.front))
+        ≡ moves (edges nfa x) (a.front ++ b.front)
     both_cut stops =
         let first : Gathers nfa false (wants nfa x n) a.front set false mid =
-        subst (λ h. Gathers nfa false (wants nfa x n) a.front set h mid) (off stops) (subst (λ p. Gathers nfa p (wants nfa x n) a.front set hit mid) stops a.gathers) in
+        subst (λ h. Gathers nfa false (wants nfa x n) a.front set h mid) (off stops)
+        (subst (λ p. Gathers nfa p (wants nfa x n) a.front set hit mid) stops a.gathers) in
         rw (before-then nfa (wants nfa x n) a.front b.front set mid first)
         (moves-append (edges nfa x) a.front (before_match (wants nfa x n) b.front)
         ∙ ap (λ l. moves (edges nfa x) a.front ++ l) (b.cut stops) ∙ sym (moves-append (edges nfa x) a.front b.front))
 
     -- the state's work, behind that of the states before it
     both_lead : (old : Slots) (waiting : List Item)
-        → Leads nfa x at met [] (tasks at items (ToLoad old ∷ waiting)) [] (GoesPast past now) after (a.front ++ b.front) (tasks at left (ToLoad old ∷ waiting))
+        → Leads nfa x at met [] (tasks at items (ToLoad old ∷ waiting)) [] (GoesPast past now) after
+        (a.front ++ b.front) (tasks at left (ToLoad old ∷ waiting))
     both_lead old waiting =
         let begins = tasks-load at left old waiting in
         let l = b.leads a.front begins.slots begins.rest in
-        let start : Follows nfa x at met [] (tasks at items (ToLoad old ∷ waiting)) [] middle a.front (ToLoad [] ∷ ToExplore (s, at) ∷ tasks at left (ToLoad old ∷ waiting)) [] =
-        subst (λ w. Follows nfa x at met [] (tasks at items (ToLoad old ∷ waiting)) [] middle a.front (tasks at w (ToLoad old ∷ waiting)) []) next (a.follows old waiting) in
-        let loaded : Follows nfa x at met [] (tasks at items (ToLoad old ∷ waiting)) [] middle a.front (ToExplore (s, at) ∷ tasks at left (ToLoad old ∷ waiting)) [] =
-        follows-then nfa x at start (follows-load nfa x at middle a.front (ToExplore (s, at) ∷ tasks at left (ToLoad old ∷ waiting)) [] []) in
+        let start : Follows nfa x at met [] (tasks at items (ToLoad old ∷ waiting)) [] middle a.front
+        (ToLoad [] ∷ ToExplore (s, at) ∷ tasks at left (ToLoad old ∷ waiting)) [] =
+        subst (λ w. Follows nfa x at met [] (tasks at items (ToLoad old ∷ waiting)) [] middle a.front
+        (tasks at w (ToLoad old ∷ waiting)) []) next (a.follows old waiting) in
+        let loaded : Follows nfa x at met [] (tasks at items (ToLoad old ∷ waiting)) [] middle a.front
+        (ToExplore (s, at) ∷ tasks at left (ToLoad old ∷ waiting)) [] =
+        follows-then nfa x at start (follows-load nfa x at middle a.front
+        (ToExplore (s, at) ∷ tasks at left (ToLoad old ∷ waiting)) [] []) in
         record {
           left = l.left;
           written = l.written;
           follows = follows-then nfa x at
-              (subst (λ w. Follows nfa x at met [] (tasks at items (ToLoad old ∷ waiting)) [] middle a.front (ToExplore (s, at) ∷ w) []) begins.is loaded)
+              (subst (λ w. Follows nfa x at met [] (tasks at items (ToLoad old ∷ waiting)) [] middle a.front
+              (ToExplore (s, at) ∷ w) []) begins.is loaded)
               l.follows;
           whole = λ goes. l.whole goes ∙ sym begins.is;
         }
@@ -129,20 +147,26 @@ module _ (nfa : Automaton) (x : Search) (at n : ℕ) where
           let l = both_lead old waiting in
           let begins = tasks-load at left old waiting in
           let here : l.left ≡ tasks at left (ToLoad old ∷ waiting) = l.whole goes in
-          let at_load : Follows nfa x at met [] (tasks at items (ToLoad old ∷ waiting)) [] after (a.front ++ b.front) (ToLoad begins.slots ∷ begins.rest) l.written =
-          subst (λ w. Follows nfa x at met [] (tasks at items (ToLoad old ∷ waiting)) [] after (a.front ++ b.front) w l.written) (here ∙ begins.is) l.follows in
-          subst (λ w. Follows nfa x at met [] (tasks at items (ToLoad old ∷ waiting)) [] after (a.front ++ b.front) w []) (sym begins.is)
-          (follows-then nfa x at at_load (follows-any nfa x at after (a.front ++ b.front) begins.slots begins.rest l.written []));
+          let at_load : Follows nfa x at met [] (tasks at items (ToLoad old ∷ waiting)) [] after (a.front ++ b.front)
+          (ToLoad begins.slots ∷ begins.rest) l.written =
+          subst (λ w. Follows nfa x at met [] (tasks at items (ToLoad old ∷ waiting)) [] after (a.front ++ b.front) w
+          l.written) (here ∙ begins.is) l.follows in
+          subst (λ w. Follows nfa x at met [] (tasks at items (ToLoad old ∷ waiting)) [] after (a.front ++ b.front) w
+          []) (sym begins.is)
+          (follows-then nfa x at at_load (follows-any nfa x at after (a.front ++ b.front) begins.slots begins.rest
+          l.written []));
     }
 
     -- or it ends there
-    pub Crossing-stop : past ≡ false → now ≡ true → All (λ i. i.1 ≡ []) items → unmarked met ≡ met → Paid nfa met 0 [] (length items) after (length more) [] 0
+    pub Crossing-stop : past ≡ false → now ≡ true → All (λ i. i.1 ≡ []) items → unmarked met ≡ met
+        → Paid nfa met 0 [] (length items) after (length more) [] 0
         → CrossesInSet nfa x at past n met items set true after more gathered
     Crossing-stop stops met_it rows same paid = record {
       front = a.front ++ b.front;
       rows = rows;
       added = both_added;
-      gathers = subst (λ h. Gathers nfa past (wants nfa x n) (a.front ++ b.front) set h gathered) (ap (λ h. h || hit) met_it) both_gather;
+      gathers = subst (λ h. Gathers nfa past (wants nfa x n) (a.front ++ b.front) set h gathered)
+          (ap (λ h. h || hit) met_it) both_gather;
       cut = both_cut;
       formed = b.formed a.front a.formed;
       paid = rw same paid;
@@ -152,13 +176,18 @@ module _ (nfa : Automaton) (x : Search) (at n : ℕ) where
             left = l.left;
             written = l.written;
             follows = rw same l.follows;
-            whole = λ goes. absurd (elim goes [ inl p ↦ let never : true ≡ false = sym p ∙ stops in cc | inr h ↦ let never : true ≡ false = h in cc ]);
+            whole = λ goes. absurd (elim goes [
+              | inl p ↦ let never : true ≡ false = sym p ∙ stops in cc
+              | inr h ↦ let never : true ≡ false = h in cc
+            ]);
           };
     }
 
   -- no state is left
-  pub Crossing-end : (past : Bool) (met : Marks) (items left : List (ℕ × Slots)) (set : List Bool) (hit : Bool) (after : Marks) (kept : List (ℕ × Slots)) (gathered : List Bool)
-      → Crossing past met items left set hit after kept gathered → left ≡ [] → All (λ i. i.1 ≡ []) items → unmarked met ≡ met
+  pub Crossing-end : (past : Bool) (met : Marks) (items left : List (ℕ × Slots)) (set : List Bool) (hit : Bool)
+      (after : Marks) (kept : List (ℕ × Slots)) (gathered : List Bool)
+      → Crossing past met items left set hit after kept gathered → left ≡ [] → All (λ i. i.1 ≡ []) items
+      → unmarked met ≡ met
       → Paid nfa met 0 [] (length items) after (length kept) [] 0
       → CrossesInSet nfa x at past n met items set hit after kept gathered
   Crossing-end past met items left set hit after kept gathered a none rows same paid = record {
@@ -173,7 +202,8 @@ module _ (nfa : Automaton) (x : Search) (at n : ℕ) where
       left = ToLoad old ∷ waiting;
       written = [];
       follows = rw same
-          (subst (λ w. Follows nfa x at met [] (tasks at items (ToLoad old ∷ waiting)) [] after a.front (tasks at w (ToLoad old ∷ waiting)) []) none (a.follows old waiting));
+          (subst (λ w. Follows nfa x at met [] (tasks at items (ToLoad old ∷ waiting)) [] after a.front
+          (tasks at w (ToLoad old ∷ waiting)) []) none (a.follows old waiting));
       whole = λ goes. refl;
     };
   }
@@ -181,10 +211,15 @@ module _ (nfa : Automaton) (x : Search) (at n : ℕ) where
 -- one more state is paid for
 pub Paid-state : {nfa : Automaton} {a : Marks} {n : ℕ} {b : Marks} {kb : ℕ} {c : Marks} {kc : ℕ} (i : ℕ) → i < n
     → Paid nfa a 0 [] n b kb [] (n - i) → Paid nfa b kb [] 1 c kc [] 0 → Paid nfa a 0 [] n c kc [] (n - (i + 1))
-Paid-state i less p q = record { tried = omega (arith, p.tried, q.tried); framed = omega (arith, p.framed, q.framed); entered = omega (arith, p.entered, q.entered) }
+Paid-state i less p q = record {
+  tried = omega (arith, p.tried, q.tried);
+  framed = omega (arith, p.framed, q.framed);
+  entered = omega (arith, p.entered, q.entered);
+}
 
 -- where a state goes on none was met, without matches that are passed
-pub going-next : (past now hit met : Bool) → GoesPast past now → (past ≡ false → hit ≡ false) → met ≡ (now || hit) → past ≡ false → met ≡ false
+pub going-next : (past now hit met : Bool) → GoesPast past now → (past ≡ false → hit ≡ false) → met ≡ (now || hit)
+    → past ≡ false → met ≡ false
 going-next past now hit met goes off is stops =
     elim goes [
       | inl p ↦ let never : true ≡ false = sym p ∙ stops in cc
@@ -192,10 +227,12 @@ going-next past now hit met goes off is stops =
     ]
 
 -- the kept states of memory with rows of no slots
-pub kept-rowless : (width len : ℕ) (kept : List ℕ) (cells : Slots) (a : Active) → active_of width kept cells len ≡ a → a.width ≡ 0 → a.items ≡ rowless (take len kept)
+pub kept-rowless : (width len : ℕ) (kept : List ℕ) (cells : Slots) (a : Active) → active_of width kept cells len ≡ a
+    → a.width ≡ 0 → a.items ≡ rowless (take len kept)
 kept-rowless width len kept cells a view none =
     let w : width ≡ 0 = ap (λ (z : Active). z.width) view ∙ none in
-    sym (ap (λ (z : Active). z.items) view) ∙ ap (λ n. items_of n (take len kept) cells) w ∙ items-rowless (take len kept) cells
+    sym (ap (λ (z : Active). z.items) view) ∙ ap (λ n. items_of n (take len kept) cells) w
+    ∙ items-rowless (take len kept) cells
 
 pub rowless-all : (n : ℕ) (states : List ℕ) → All (λ i. i.0 < n) (rowless states) → All (λ s. s < n) states
 rowless-all n [] h = All-nil (λ s. s < n)
@@ -204,11 +241,14 @@ rowless-all n (s ∷ states) h =
     (rowless-all n states (All-tail (λ (i : ℕ × Slots). i.0 < n) (s, []) (rowless states) h))
 
 -- the same from marks that were taken away
-pub crosses-cleared : (nfa : Automaton) (x : Search) (at : ℕ) (past : Bool) (n : ℕ) (met cleared : Marks) (items whole : List (ℕ × Slots)) (set : List Bool) (hit : Bool) (after : Marks)
+pub crosses-cleared : (nfa : Automaton) (x : Search) (at : ℕ) (past : Bool) (n : ℕ) (met cleared : Marks)
+    (items whole : List (ℕ × Slots)) (set : List Bool) (hit : Bool) (after : Marks)
     (kept : List (ℕ × Slots)) (gathered : List Bool) → cleared ≡ unmarked met → whole ≡ items
-    → CrossesInSet nfa x at past n cleared items set hit after kept gathered → CrossesInSet nfa x at past n met whole set hit after kept gathered
+    → CrossesInSet nfa x at past n cleared items set hit after kept gathered
+    → CrossesInSet nfa x at past n met whole set hit after kept gathered
 crosses-cleared nfa x at past n met cleared items whole set hit after kept gathered clear same c =
-    let e : unmarked cleared ≡ unmarked met = ap unmarked clear ∙ ap (λ k. record met { bits = replicate k false }) (length-replicate (length met.bits) false) in
+    let e : unmarked cleared ≡ unmarked met = ap unmarked clear
+    ∙ ap (λ k. record met { bits = replicate k false }) (length-replicate (length met.bits) false) in
     rw same (record {
       front = c.front;
       rows = c.rows;

@@ -24,10 +24,13 @@ boundary-from : (haystack : List ℕ) (i : ℕ) → IsBoundary haystack i → is
 boundary-from haystack i h = grind (arith, nat_tests)
 
 -- the test that the program makes
-pub permits-is : (nfa : Automaton) (x : Search) (at : ℕ) (b : Bool) → (b ≡ true → IsBoundary x.haystack at) → (IsBoundary x.haystack at → b ≡ true)
+pub permits-is : (nfa : Automaton) (x : Search) (at : ℕ) (b : Bool) → (b ≡ true → IsBoundary x.haystack at)
+    → (IsBoundary x.haystack at → b ≡ true)
     → (not (is_utf8_empty nfa) || b) ≡ permits nfa x at
 unfolding permits
-permits-is nfa x at b to back = ap (λ c. not (is_utf8_empty nfa) || c) (same b (is_boundary x.haystack at) (λ t. boundary-from x.haystack at (to t)) (λ t. back (boundary-to x.haystack at t)))
+permits-is nfa x at b to back = ap (λ c. not (is_utf8_empty nfa) || c)
+    (same b (is_boundary x.haystack at) (λ t. boundary-from x.haystack at (to t))
+    (λ t. back (boundary-to x.haystack at t)))
   where
     same : (b c : Bool) → (b ≡ true → c ≡ true) → (c ≡ true → b ≡ true) → b ≡ c
     same true c f g = sym (f refl)
@@ -52,7 +55,8 @@ module _ (nfa : Automaton) (x : Search) where
     pub wants-tells : (v : Pair) → (wants nfa x n v ≡ true) ↔ IsHeld nfa x n v
     unfolding wants
     wants-tells v = (
-      λ t. let both = parts (permits nfa x v.1) (is_below n (pattern_at nfa v)) t in of (pattern_at nfa v) refl ((permits-tells v.1).0 both.0) both.1,
+      λ t. let both = parts (permits nfa x v.1) (is_below n (pattern_at nfa v)) t in
+          of (pattern_at nfa v) refl ((permits-tells v.1).0 both.0) both.1,
       λ h.
           let p : permits nfa x v.1 ≡ true = (permits-tells v.1).1 h.permitted.ends in
           let is : pattern_at nfa v ≡ Some h.pattern = h.pattern_is in
@@ -70,14 +74,18 @@ module _ (nfa : Automaton) (x : Search) where
           permitted = record { matches = rw e refl; ends = ends };
           pattern = k;
           pattern_is = e;
-          below = elim (cases_lt k n) [ inl less ↦ less | inr more ↦ let f : nat_lt k n ≡ false = le-ltb k n more in cc ];
+          below = elim (cases_lt k n) [
+            | inl less ↦ less
+            | inr more ↦ let f : nat_lt k n ≡ false = le-ltb k n more in cc
+          ];
         }
 
     pub wants-match : (v : Pair) → wants nfa x n v ≡ true → is_match nfa v ≡ true
     wants-match v t = ((wants-tells v).0 t).permitted.matches
 
     -- the test of a match of this pattern
-    pub wants-here : (s at : ℕ) (k : ℕ) → pattern_of (node_at nfa s) ≡ Some k → wants nfa x n (s, at) ≡ (permits nfa x at && nat_lt k n)
+    pub wants-here : (s at : ℕ) (k : ℕ) → pattern_of (node_at nfa s) ≡ Some k
+        → wants nfa x n (s, at) ≡ (permits nfa x at && nat_lt k n)
     unfolding wants
     wants-here s at k is = rw is refl
 
@@ -85,7 +93,8 @@ module _ (nfa : Automaton) (x : Search) where
 
 module _ (nfa : Automaton) (wanted : Pair → Bool) where
   -- no wanted pair: the set stays
-  pub Gathers-none : (past : Bool) (front : Front) (set : List Bool) → NoMatch wanted front → Gathers nfa past wanted front set false set
+  pub Gathers-none : (past : Bool) (front : Front) (set : List Bool) → NoMatch wanted front
+      → Gathers nfa past wanted front set false set
   Gathers-none true front set plain = record {
     capacity = refl;
     gained = λ k. (λ h. inl h, λ s. elim s [ inl h ↦ h | inr h ↦ absurd (plain h.1.item h.1.among h.1.matches) ]);
@@ -111,7 +120,8 @@ module _ (nfa : Automaton) (wanted : Pair → Bool) where
       ]
 
   -- one wanted pair, of a pattern that the set has room for
-  pub Gathers-one : (past : Bool) (a : Pair × Slots) (k : ℕ) (set : List Bool) → wanted a.0 ≡ true → pattern_at nfa a.0 ≡ Some k → k < length set
+  pub Gathers-one : (past : Bool) (a : Pair × Slots) (k : ℕ) (set : List Bool) → wanted a.0 ≡ true
+      → pattern_at nfa a.0 ≡ Some k → k < length set
       → Gathers nfa past wanted (a ∷ []) set true (with_pattern set k)
   Gathers-one true a k set t is room = record {
     capacity = length-with set k;
@@ -129,13 +139,15 @@ module _ (nfa : Automaton) (wanted : Pair → Bool) where
       only : (j : ℕ) → HoldsMatch wanted (pattern_at nfa) j (a ∷ []) → k ≡ j
       only j h =
           elim h.among [
-            | inl e ↦ let at : pattern_at nfa a.0 ≡ Some j = rw (← e) h.pattern_is in let both : Some k ≡ Some j = sym is ∙ at in cc
+            | inl e ↦ let at : pattern_at nfa a.0 ≡ Some j = rw (← e) h.pattern_is in let both : Some k ≡ Some j =
+                sym is ∙ at in cc
             | inr never ↦ absurd never
           ]
   Gathers-one false a k set t is room = rw t (refl, (k, is, refl))
 
   -- the set keeps its capacity
-  pub Gathers-capacity : (past : Bool) (front : Front) (old : List Bool) (met : Bool) (new : List Bool) → Gathers nfa past wanted front old met new
+  pub Gathers-capacity : (past : Bool) (front : Front) (old : List Bool) (met : Bool) (new : List Bool)
+      → Gathers nfa past wanted front old met new
       → length new ≡ length old
   Gathers-capacity true front old met new g = g.capacity
   Gathers-capacity false front old met new g = of (first_match wanted front) g
@@ -155,7 +167,10 @@ module _ (nfa : Automaton) (wanted : Pair → Bool) where
 
   in-either : (b : Pair × Slots) (f g : Front) → In b (f ++ g) → In b f ⊎ In b g
   in-either b [] g i = inr i
-  in-either b (c ∷ f) g i = elim i [ inl h ↦ inl (inl h) | inr j ↦ elim (in-either b f g j) [ inl h ↦ inl (inr h) | inr h ↦ inr h ] ]
+  in-either b (c ∷ f) g i = elim i [
+    | inl h ↦ inl (inl h)
+    | inr j ↦ elim (in-either b f g j) [ inl h ↦ inl (inr h) | inr h ↦ inr h ]
+  ]
 
   -- where none is wanted in the first front, the first of both is that of the second
   first-append : (f g : Front) → first_match wanted f ≡ None → first_match wanted (f ++ g) ≡ first_match wanted g
@@ -166,28 +181,33 @@ module _ (nfa : Automaton) (wanted : Pair → Bool) where
         | inr e ↦ let rest : first_match wanted f ≡ None = rw e at none in rw e (first-append f g rest)
       ]
 
-  before-append : (f g : Front) → first_match wanted f ≡ None → before_match wanted (f ++ g) ≡ f ++ before_match wanted g
+  before-append : (f g : Front) → first_match wanted f ≡ None
+      → before_match wanted (f ++ g) ≡ f ++ before_match wanted g
   before-append [] g none = refl
   before-append (a ∷ f) g none =
       elim (cases_Bool (wanted a.0)) [
         | inl t ↦ let some : Some a ≡ None = rw t at none in cc
-        | inr e ↦ let rest : first_match wanted f ≡ None = rw e at none in rw e (ap (λ l. a ∷ l) (before-append f g rest))
+        | inr e ↦ let rest : first_match wanted f ≡ None = rw e at none in
+            rw e (ap (λ l. a ∷ l) (before-append f g rest))
       ]
 
   -- what was met in no front
-  pub first-none : (front : Front) (set new : List Bool) → Gathers nfa false wanted front set false new → first_match wanted front ≡ None
+  pub first-none : (front : Front) (set new : List Bool) → Gathers nfa false wanted front set false new
+      → first_match wanted front ≡ None
   first-none front set new = of (first_match wanted front)
     where
       of : (o : Found) → GathersFirst nfa o set false new → o ≡ None
       of None h = refl
       of (Some a) h = let never : false ≡ true = h.0 in cc
 
-  pub before-then : (f g : Front) (set new : List Bool) → Gathers nfa false wanted f set false new → before_match wanted (f ++ g) ≡ f ++ before_match wanted g
+  pub before-then : (f g : Front) (set new : List Bool) → Gathers nfa false wanted f set false new
+      → before_match wanted (f ++ g) ≡ f ++ before_match wanted g
   before-then f g set new h = before-append f g (first-none f set new h)
 
   -- one front behind another
   pub Gathers-then : (past : Bool) (f g : Front) (old mid new : List Bool) (h k : Bool) → (past ≡ false → h ≡ false)
-      → Gathers nfa past wanted f old h mid → Gathers nfa past wanted g mid k new → Gathers nfa past wanted (f ++ g) old (k || h) new
+      → Gathers nfa past wanted f old h mid → Gathers nfa past wanted g mid k new
+      → Gathers nfa past wanted (f ++ g) old (k || h) new
   Gathers-then true f g old mid new h k on a b = record {
     capacity = b.capacity ∙ a.capacity;
     gained = λ j. (
@@ -221,12 +241,23 @@ module _ (nfa : Automaton) (wanted : Pair → Bool) where
   }
     where
       left : (j : ℕ) → HoldsMatch wanted (pattern_at nfa) j f → HoldsMatch wanted (pattern_at nfa) j (f ++ g)
-      left j w = record { item = w.item; among = in-left w.item f g w.among; matches = w.matches; pattern_is = w.pattern_is }
+      left j w = record {
+        item = w.item;
+        among = in-left w.item f g w.among;
+        matches = w.matches;
+        pattern_is = w.pattern_is;
+      }
 
       right : (j : ℕ) → HoldsMatch wanted (pattern_at nfa) j g → HoldsMatch wanted (pattern_at nfa) j (f ++ g)
-      right j w = record { item = w.item; among = in-right w.item f g w.among; matches = w.matches; pattern_is = w.pattern_is }
+      right j w = record {
+        item = w.item;
+        among = in-right w.item f g w.among;
+        matches = w.matches;
+        pattern_is = w.pattern_is;
+      }
 
-      either : (j : ℕ) → HoldsMatch wanted (pattern_at nfa) j (f ++ g) → HoldsMatch wanted (pattern_at nfa) j f ⊎ HoldsMatch wanted (pattern_at nfa) j g
+      either : (j : ℕ) → HoldsMatch wanted (pattern_at nfa) j (f ++ g) → HoldsMatch wanted (pattern_at nfa) j f
+          ⊎ HoldsMatch wanted (pattern_at nfa) j g
       either j w =
           elim (in-either w.item f g w.among) [
             | inl i ↦ inl (record { item = w.item; among = i; matches = w.matches; pattern_is = w.pattern_is })
@@ -246,12 +277,14 @@ module _ (nfa : Automaton) (wanted : Pair → Bool) where
       of (Some c) false off w = let never : false ≡ true = w.0 in cc
 
 -- where an NFA asks for no boundaries any end is permitted
-pub permits-any : (nfa : Automaton) (x : Search) (at : ℕ) (b : Bool) → b ≡ is_utf8_empty nfa → b ≡ false → not b ≡ permits nfa x at
+pub permits-any : (nfa : Automaton) (x : Search) (at : ℕ) (b : Bool) → b ≡ is_utf8_empty nfa → b ≡ false
+    → not b ≡ permits nfa x at
 unfolding permits
 permits-any nfa x at b is off = let e : is_utf8_empty nfa ≡ false = sym is ∙ off in rw (off, e) refl
 
 -- else the boundaries
-pub permits-boundary : (nfa : Automaton) (x : Search) (at : ℕ) (b r : Bool) → b ≡ is_utf8_empty nfa → b ≡ true → (r ≡ true → IsBoundary x.haystack at) → (IsBoundary x.haystack at → r ≡ true)
+pub permits-boundary : (nfa : Automaton) (x : Search) (at : ℕ) (b r : Bool) → b ≡ is_utf8_empty nfa → b ≡ true
+    → (r ≡ true → IsBoundary x.haystack at) → (IsBoundary x.haystack at → r ≡ true)
     → r ≡ permits nfa x at
 permits-boundary nfa x at b r is on to back =
     let e : is_utf8_empty nfa ≡ true = sym is ∙ on in

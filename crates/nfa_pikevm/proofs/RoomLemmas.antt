@@ -19,10 +19,12 @@ pub none_of : {A : Type 0} (xs : List A) → length xs ≡ 0 → xs ≡ []
 none_of [] e = refl
 none_of (x ∷ xs) e = absurd (omega arith)
 
-module _ (nfa : Automaton) (x : Search) (begins : Starts) (are : AreStarts nfa x begins) (width at : ℕ) (items : List (ℕ × Slots)) where
+module _ (nfa : Automaton) (x : Search) (begins : Starts) (are : AreStarts nfa x begins) (width at : ℕ)
+    (items : List (ℕ × Slots)) where
   -- the states at a position, with the start
   pub below-push : AreAt nfa items → All (λ i. i.0 < length nfa.states) (items ++ (begins.state, blank width) ∷ [])
-  below-push a = All-push (λ (i : ℕ × Slots). i.0 < length nfa.states) items (begins.state, blank width) a.states are.state
+  below-push a = All-push (λ (i : ℕ × Slots). i.0 < length nfa.states) items (begins.state, blank width)
+      a.states are.state
 
   pub below-joined : AreAt nfa items → All (λ i. i.0 < length nfa.states) (with_start begins width at items)
   below-joined a =
@@ -35,7 +37,8 @@ module _ (nfa : Automaton) (x : Search) (begins : Starts) (are : AreStarts nfa x
   pub few-joined : length (with_start begins width at items) ≤ length items + 1
   few-joined =
       elim (cases_lt at begins.limit) [
-        | inl less ↦ rw (lt-ltb at begins.limit less) (omega (arith, length-append items ((begins.state, blank width) ∷ [])))
+        | inl less ↦ rw (lt-ltb at begins.limit less)
+            (omega (arith, length-append items ((begins.state, blank width) ∷ [])))
         | inr past ↦ rw (le-ltb at begins.limit past) (omega arith)
       ]
 
@@ -45,12 +48,17 @@ module _ (nfa : Automaton) (x : Search) (begins : Starts) (are : AreStarts nfa x
       elim (cases_lt at begins.limit) [
         | inl less ↦
             let more : items ++ (begins.state, blank width) ∷ [] ≡ [] = rw (lt-ltb at begins.limit less) at none in
-            absurd (omega (arith, ap (λ (xs : List (ℕ × Slots)). length xs) more, length-append items ((begins.state, blank width) ∷ [])))
+            absurd (omega (
+              arith,
+              ap (λ (xs : List (ℕ × Slots)). length xs) more,
+              length-append items ((begins.state, blank width) ∷ []),
+            ))
         | inr past ↦ past
       ]
 
   -- the same where starts are passed over
-  module _ (table : List Bool) (limit to : ℕ) (kept : List (ℕ × Slots)) (j : Joins table x begins limit width at items to kept) where
+  module _ (table : List Bool) (limit to : ℕ) (kept : List (ℕ × Slots))
+      (j : Joins table x begins limit width at items to kept) where
     pub below-joins : AreAt nfa items → All (λ i. i.0 < length nfa.states) kept
     below-joins a = elim j.last [ inl h ↦ rw h.1 (below-push a) | inr h ↦ rw h.0 a.states ]
 
@@ -64,20 +72,35 @@ module _ (nfa : Automaton) (x : Search) (begins : Starts) (are : AreStarts nfa x
     pub over-joins : kept ≡ [] → limit ≤ to
     over-joins none =
         elim (cases_lt at limit) [
-          | inl less ↦ let some : 0 < length kept = j.some less in absurd (omega (arith, ap (λ (xs : List (ℕ × Slots)). length xs) none))
+          | inl less ↦ let some : 0 < length kept = j.some less in
+              absurd (omega (arith, ap (λ (xs : List (ℕ × Slots)). length xs) none))
           | inr past ↦ let le : at ≤ to = j.ahead in omega arith
         ]
 
 -- where the start goes on from a position, as passing over goes up to `stop` at most
 
-pub skip-within : (at to stop end : ℕ) → (stop ≤ at → to ≡ at) → (at ≤ stop → to ≤ stop) → stop ≤ end → at ≤ end → to ≤ end
-skip-within at to stop end stays until le within = elim (cases_lt at stop) [ inl less ↦ let k : to ≤ stop = until (omega arith) in omega arith | inr past ↦ let k : to ≡ at = stays past in omega arith ]
+pub skip-within : (at to stop end : ℕ) → (stop ≤ at → to ≡ at) → (at ≤ stop → to ≤ stop) → stop ≤ end
+    → at ≤ end → to ≤ end
+skip-within at to stop end stays until le within =
+    elim (cases_lt at stop) [
+      | inl less ↦ let k : to ≤ stop = until (omega arith) in omega arith
+      | inr past ↦ let k : to ≡ at = stays past in omega arith
+    ]
 
 pub skip-early : (at to stop k : ℕ) → (stop ≤ at → to ≡ at) → (at ≤ stop → to ≤ stop) → at ≤ k → k < to → k < stop
-skip-early at to stop k stays until le less = elim (cases_lt at stop) [ inl early ↦ let m : to ≤ stop = until (omega arith) in omega arith | inr past ↦ let m : to ≡ at = stays past in absurd (omega arith) ]
+skip-early at to stop k stays until le less =
+    elim (cases_lt at stop) [
+      | inl early ↦ let m : to ≤ stop = until (omega arith) in omega arith
+      | inr past ↦ let m : to ≡ at = stays past in absurd (omega arith)
+    ]
 
-pub skip-less : (at to stop limit : ℕ) → (stop ≤ at → to ≡ at) → (at ≤ stop → to ≤ stop) → stop < limit → at < limit → to < limit
-skip-less at to stop limit stays until le less = elim (cases_lt at stop) [ inl early ↦ let m : to ≤ stop = until (omega arith) in omega arith | inr past ↦ let m : to ≡ at = stays past in omega arith ]
+pub skip-less : (at to stop limit : ℕ) → (stop ≤ at → to ≡ at) → (at ≤ stop → to ≤ stop) → stop < limit
+    → at < limit → to < limit
+skip-less at to stop limit stays until le less =
+    elim (cases_lt at stop) [
+      | inl early ↦ let m : to ≤ stop = until (omega arith) in omega arith
+      | inr past ↦ let m : to ≡ at = stays past in omega arith
+    ]
 
 -- a list with one more item has some
 pub some-push : {A : Type 0} (xs : List A) (a : A) → 0 < length (xs ++ a ∷ [])
@@ -88,20 +111,26 @@ some_of [] n = absurd (n refl)
 some_of (x ∷ xs) n = omega arith
 
 -- all but the items stays
-pub same-items : (a b : Active) (items : List (ℕ × Slots)) → b ≡ record a { items = items } → b ≡ record a { items = b.items }
-same-items a b items e = e ∙ sym (ap (λ (is : List (ℕ × Slots)). record a { items = is }) (ap (λ (z : Active). z.items) e))
+pub same-items : (a b : Active) (items : List (ℕ × Slots)) → b ≡ record a { items = items }
+    → b ≡ record a { items = b.items }
+same-items a b items e = e ∙ sym (ap (λ (is : List (ℕ × Slots)). record a { items = is })
+    (ap (λ (z : Active). z.items) e))
 
 pub same-all : (a b : Active) → b ≡ a → b ≡ record a { items = b.items }
 same-all a b e = e ∙ sym (ap (λ (is : List (ℕ × Slots)). record a { items = is }) (ap (λ (z : Active). z.items) e))
 
 -- the items after the start has joined
-pub joined-items : (begins : Starts) (at width : ℕ) (curr now : Active) → now ≡ record curr { items = with_start begins curr.width at curr.items } → curr.width ≡ width
+pub joined-items : (begins : Starts) (at width : ℕ) (curr now : Active)
+    → now ≡ record curr { items = with_start begins curr.width at curr.items } → curr.width ≡ width
     → now.items ≡ with_start begins width at curr.items
-joined-items begins at width curr now e w = ap (λ (a : Active). a.items) e ∙ ap (λ (n : ℕ). with_start begins n at curr.items) w
+joined-items begins at width curr now e w = ap (λ (a : Active). a.items) e
+    ∙ ap (λ (n : ℕ). with_start begins n at curr.items) w
 
 -- sizes that stay
-pub AreSized-kept : (size : Sizes) (met after : Marks) (frames more : ℕ) (curr next now later : Active) → length after.bits ≡ length met.bits → more ≡ frames
-    → now ≡ record curr { items = now.items } → later ≡ record next { items = later.items } → AreSized size met frames curr next → AreSized size after more now later
+pub AreSized-kept : (size : Sizes) (met after : Marks) (frames more : ℕ) (curr next now later : Active)
+    → length after.bits ≡ length met.bits → more ≡ frames
+    → now ≡ record curr { items = now.items } → later ≡ record next { items = later.items }
+    → AreSized size met frames curr next → AreSized size after more now later
 AreSized-kept size met after frames more curr next now later bits same e f h = record {
   marks = bits ∙ h.marks;
   frames_are = same ∙ h.frames_are;
@@ -112,8 +141,10 @@ AreSized-kept size met after frames more curr next now later bits same e f h = r
 }
 
 -- no state is kept, and rows get another width
-pub AreSized-set_up : (size : Sizes) (width : ℕ) (met after : Marks) (frames more : ℕ) (curr next now later : Active) → after ≡ met → more ≡ frames
-    → now ≡ record curr { items = []; width = width } → later ≡ record next { items = []; width = width } → AreSized size met frames curr next → AreSized size after more now later
+pub AreSized-set_up : (size : Sizes) (width : ℕ) (met after : Marks) (frames more : ℕ) (curr next now later : Active)
+    → after ≡ met → more ≡ frames
+    → now ≡ record curr { items = []; width = width } → later ≡ record next { items = []; width = width }
+    → AreSized size met frames curr next → AreSized size after more now later
 AreSized-set_up size width met after frames more curr next now later bits same e f h = record {
   marks = ap (λ (m : Marks). length m.bits) bits ∙ h.marks;
   frames_are = same ∙ h.frames_are;
@@ -124,8 +155,10 @@ AreSized-set_up size width met after frames more curr next now later bits same e
 }
 
 -- the two sets of states change places
-pub AreSized-swap : (size : Sizes) (met after : Marks) (frames more : ℕ) (curr next now later : Active) → after ≡ met → more ≡ frames
-    → now ≡ next → later ≡ record curr { items = [] } → AreSized size met frames curr next → AreSized size after more now later
+pub AreSized-swap : (size : Sizes) (met after : Marks) (frames more : ℕ) (curr next now later : Active) → after ≡ met
+    → more ≡ frames
+    → now ≡ next → later ≡ record curr { items = [] } → AreSized size met frames curr next
+    → AreSized size after more now later
 AreSized-swap size met after frames more curr next now later bits same e f h = record {
   marks = ap (λ (m : Marks). length m.bits) bits ∙ h.marks;
   frames_are = same ∙ h.frames_are;
@@ -135,8 +168,10 @@ AreSized-swap size met after frames more curr next now later bits same e f h = r
   next_cells = ap (λ (a : Active). a.cells) f ∙ h.curr_cells;
 }
 
-pub HasThreads-swap : (nfa : Automaton) (width : ℕ) (met after : Marks) (frames more : ℕ) (curr next now later : Active) → after ≡ met → more ≡ frames
-    → now ≡ next → later ≡ record curr { items = [] } → HasThreads nfa width met frames curr next → HasThreads nfa width after more now later
+pub HasThreads-swap : (nfa : Automaton) (width : ℕ) (met after : Marks) (frames more : ℕ) (curr next now later : Active)
+    → after ≡ met → more ≡ frames
+    → now ≡ next → later ≡ record curr { items = [] } → HasThreads nfa width met frames curr next
+    → HasThreads nfa width after more now later
 HasThreads-swap nfa width met after frames more curr next now later bits same e f h =
     rw (bits, same, e, f) (record {
       serves = record {

@@ -29,31 +29,39 @@ module _ (nfa : Automaton) (x : Search) (at width state limit : ℕ) where
   waits-later = seeds-later (blank width) state at (limit - (at + 1))
 
   -- what is kept for the next position
-  pub AreAt-cross : {past : Bool} {met : Marks} {items : List (ℕ × Slots)} {slots : Slots} {hit : Option PatternID} {after : Marks} {kept : List (ℕ × Slots)} {written : Slots}
-      → All (LeadsBelow (length nfa.states)) nfa.states → Crosses nfa x at past met items slots hit after kept written → AreAt nfa kept
+  pub AreAt-cross : {past : Bool} {met : Marks} {items : List (ℕ × Slots)} {slots : Slots} {hit : Option PatternID}
+      {after : Marks} {kept : List (ℕ × Slots)} {written : Slots}
+      → All (LeadsBelow (length nfa.states)) nfa.states → Crosses nfa x at past met items slots hit after kept written
+      → AreAt nfa kept
   AreAt-cross {met = met} {items} {after = after} {kept} leads c = record {
     states = rw c.added (Formed-below nfa x at after.bits leads c.front c.formed);
     few = Paid-few nfa x met (length items) after (length kept) c.paid;
   }
 
   -- at the end nothing is
-  pub over-cross : {past : Bool} {met : Marks} {items : List (ℕ × Slots)} {slots : Slots} {hit : Option PatternID} {after : Marks} {kept : List (ℕ × Slots)} {written : Slots}
+  pub over-cross : {past : Bool} {met : Marks} {items : List (ℕ × Slots)} {slots : Slots} {hit : Option PatternID}
+      {after : Marks} {kept : List (ℕ × Slots)} {written : Slots}
       → x.end ≤ at → Crosses nfa x at past met items slots hit after kept written → kept ≡ []
   over-cross {after = after} past c = c.added ∙ Formed-over nfa x at after.bits past c.front c.formed
 
   -- the first path
 
-  module _ {met : Marks} {items : List (ℕ × Slots)} {slots : Slots} {hit : Option PatternID} {after : Marks} {kept : List (ℕ × Slots)} {written : Slots} {so_far : Found}
+  module _ {met : Marks} {items : List (ℕ × Slots)} {slots : Slots} {hit : Option PatternID} {after : Marks}
+      {kept : List (ℕ × Slots)} {written : Slots} {so_far : Found}
       (c : Crosses nfa x at false met items slots hit after kept written)
       (s : SearchingAt nfa x at (is_match nfa) (starts nfa x) (blank width) so_far (unmarked met) []
       (tasks at items (Load (blank width) ∷ starts_from width state (at + 1) limit)) (blank width)) where
     -- the next position's work is that of what is kept
     kept-work : (waiting : List Item) → AnswersFor (edges nfa x) (is_match nfa) (capture nfa)
-        (round (edges nfa x) (before_match (is_match nfa) c.front) (Load (blank width) ∷ waiting)) (tasks (at + 1) kept (Load (blank width) ∷ waiting))
+        (round (edges nfa x) (before_match (is_match nfa) c.front) (Load (blank width) ∷ waiting))
+        (tasks (at + 1) kept (Load (blank width) ∷ waiting))
     kept-work waiting =
         let same : moves (edges nfa x) (before_match (is_match nfa) c.front) ≡ kept = c.cut refl ∙ sym c.added in
-        subst (λ (ks : List (ℕ × Slots)). AnswersFor (edges nfa x) (is_match nfa) (capture nfa) (round (edges nfa x) (before_match (is_match nfa) c.front) (Load (blank width) ∷ waiting)) (tasks (at + 1) ks (Load (blank width) ∷ waiting))) same
-        (AnswersFor-round (edges nfa x) (is_match nfa) (capture nfa) at (before_match (is_match nfa) c.front) (blank width) waiting
+        subst (λ (ks : List (ℕ × Slots)). AnswersFor (edges nfa x) (is_match nfa) (capture nfa)
+        (round (edges nfa x) (before_match (is_match nfa) c.front) (Load (blank width) ∷ waiting))
+        (tasks (at + 1) ks (Load (blank width) ∷ waiting))) same
+        (AnswersFor-round (edges nfa x) (is_match nfa) (capture nfa) at (before_match (is_match nfa) c.front)
+        (blank width) waiting
         (λ a i. Formed-next nfa x at after.bits c.front c.formed a (before_match-among (is_match nfa) c.front a i)))
 
     -- no match at the position
@@ -64,9 +72,13 @@ module _ (nfa : Automaton) (x : Search) (at width state limit : ℕ) where
         let l = c.leads (blank width) (blank width) (starts_from width state (at + 1) limit) in
         let left = l.follows.leads (is_match nfa) (λ v t. t) (starts nfa x) (blank width) so_far s in
         let whole = rw (l.whole goes_on) at left in
-        let next = Searching-cut_round (edges nfa x) (is_match nfa) (capture nfa) {e = at} {After = SeenAt (at + 1) (replicate (length after.bits) false)} whole (edges-onward nfa x) (Formed-rests nfa x at after.bits c.front c.formed) waits-later
-        (λ v seen. let h : v.1 ≡ at = seen.here in omega arith) (SeenAt-none (at + 1) (length after.bits)) (blank width) in
-        Searching-for (edges nfa x) (is_match nfa) (capture nfa) (rw none at next) (kept-work (starts_from width state (at + 1) limit)) (blank width)
+        let next = Searching-cut_round (edges nfa x) (is_match nfa) (capture nfa) {e = at}
+        {After = SeenAt (at + 1) (replicate (length after.bits) false)} whole (edges-onward nfa x)
+        (Formed-rests nfa x at after.bits c.front c.formed) waits-later
+        (λ v seen. let h : v.1 ≡ at = seen.here in omega arith) (SeenAt-none (at + 1) (length after.bits))
+        (blank width) in
+        Searching-for (edges nfa x) (is_match nfa) (capture nfa) (rw none at next)
+        (kept-work (starts_from width state (at + 1) limit)) (blank width)
 
     -- a match at the position
     first-hit : (a : Pair × Slots) → first_match (is_match nfa) c.front ≡ Some a
@@ -76,9 +88,12 @@ module _ (nfa : Automaton) (x : Search) (at width state limit : ℕ) where
         let l = c.leads (blank width) (blank width) (starts_from width state (at + 1) limit) in
         let left = l.follows.leads (is_match nfa) (λ v t. t) (starts nfa x) (blank width) so_far s in
         let h = first_match-cut (is_match nfa) c.front a some in
-        let split = subst (λ (f : Front). SearchingAt nfa x at (is_match nfa) (starts nfa x) (blank width) so_far after f l.left l.written) h.split left in
-        let cut = Searching-cut (edges nfa x) (is_match nfa) (capture nfa) (before_match (is_match nfa) c.front) a h.after split h.matches (IsMatch-capture nfa a.0 h.matches) in
-        let next = Searching-round (edges nfa x) (is_match nfa) (capture nfa) {After = SeenAt (at + 1) (replicate (length after.bits) false)}
+        let split = subst (λ (f : Front). SearchingAt nfa x at (is_match nfa) (starts nfa x) (blank width) so_far after
+        f l.left l.written) h.split left in
+        let cut = Searching-cut (edges nfa x) (is_match nfa) (capture nfa) (before_match (is_match nfa) c.front) a
+        h.after split h.matches (IsMatch-capture nfa a.0 h.matches) in
+        let next = Searching-round (edges nfa x) (is_match nfa) (capture nfa)
+        {After = SeenAt (at + 1) (replicate (length after.bits) false)}
         (Searching-wait (edges nfa x) (is_match nfa) (capture nfa) (blank width) cut) (λ v. at < v.1)
         (λ v w k i. let m : v.1 ≤ w.1 = edges-onward nfa x v w i in let n : at < v.1 = k in omega arith)
         (λ b i.
@@ -88,7 +103,8 @@ module _ (nfa : Automaton) (x : Search) (at width state limit : ℕ) where
           λ k. let m : at < b.0.1 = k in let n : b.0.1 ≡ at = r.1 in omega arith,
           r.2,
         ))
-        (λ k i. absurd (none_waits k i)) (λ v seen k. let m : v.1 ≡ at = seen.here in let n : at < v.1 = k in omega arith) (SeenAt-none (at + 1) (length after.bits)) (blank width) in
+        (λ k i. absurd (none_waits k i)) (λ v seen k. let m : v.1 ≡ at = seen.here in let n : at < v.1 = k in
+        omega arith) (SeenAt-none (at + 1) (length after.bits)) (blank width) in
         Searching-for (edges nfa x) (is_match nfa) (capture nfa) next (kept-work []) (blank width)
       where
         none_waits : (k : Pair) → In (Explore k) [] → ⊥
@@ -96,11 +112,13 @@ module _ (nfa : Automaton) (x : Search) (at width state limit : ℕ) where
 
 module _ (nfa : Automaton) (x : Search) (at width state limit : ℕ) where
   -- a position with no match
-  pub SearchesFirst-miss : {met : Marks} {items : List (ℕ × Slots)} {slots : Slots} {hit : Option PatternID} {after : Marks} {kept : List (ℕ × Slots)} {written : Slots} {so_far : Found} {found : Option HalfMatch}
+  pub SearchesFirst-miss : {met : Marks} {items : List (ℕ × Slots)} {slots : Slots} {hit : Option PatternID}
+      {after : Marks} {kept : List (ℕ × Slots)} {written : Slots} {so_far : Found} {found : Option HalfMatch}
       → (c : Crosses nfa x at false met items slots hit after kept written)
       → SearchingAt nfa x at (is_match nfa) (starts nfa x) (blank width) so_far (unmarked met) []
       (tasks at items (Load (blank width) ∷ starts_from width state (at + 1) limit)) (blank width)
-      → IsSoFar nfa x found slots so_far → hit ≡ None → SearchesFirst nfa x (at + 1) width state limit found written after kept
+      → IsSoFar nfa x found slots so_far → hit ≡ None
+      → SearchesFirst nfa x (at + 1) width state limit found written after kept
   SearchesFirst-miss {slots = slots} {written = written} {so_far = so_far} {found} c s is_so_far none =
       let h = rw none at c.is_hit in
       record {
@@ -110,11 +128,13 @@ module _ (nfa : Automaton) (x : Search) (at width state limit : ℕ) where
       }
 
   -- a position with a match: no start is left
-  pub SearchesFirst-hit : {met : Marks} {items : List (ℕ × Slots)} {slots : Slots} {hit : Option PatternID} {after : Marks} {kept : List (ℕ × Slots)} {written : Slots} {so_far : Found}
+  pub SearchesFirst-hit : {met : Marks} {items : List (ℕ × Slots)} {slots : Slots} {hit : Option PatternID}
+      {after : Marks} {kept : List (ℕ × Slots)} {written : Slots} {so_far : Found}
       → (c : Crosses nfa x at false met items slots hit after kept written)
       → SearchingAt nfa x at (is_match nfa) (starts nfa x) (blank width) so_far (unmarked met) []
       (tasks at items (Load (blank width) ∷ starts_from width state (at + 1) limit)) (blank width)
-      → (pattern : PatternID) → hit ≡ Some pattern → (half : HalfMatch) → half_found_of half ≡ half_found (number_of pattern) at
+      → (pattern : PatternID) → hit ≡ Some pattern → (half : HalfMatch)
+      → half_found_of half ≡ half_found (number_of pattern) at
       → SearchesFirst nfa x (at + 1) width state 0 (Some half) written after kept
   SearchesFirst-hit {written = written} c s pattern some half is =
       let h = rw some at c.is_hit in

@@ -11,14 +11,17 @@ use Rattle.nfa_pikevm.specs.Scans.{Sizes, AreSized}
 use Rattle.nfa_pikevm.specs.Sizes.{sizes_for, IsRoomFor}
 
 -- the frames of some states pass the greatest `usize`, and so do those of all
-pub rooms-past : (states : List State) (i : ℕ) (item : State) (sum room : ℕ) → sum ≡ sum_by (λ s. room_of (node_of s)) (take i states) → item ≡ get_or states i item
-    → room ≡ room_of (node_of item) → i < length states → ¬ (sum + room < 2 ^ 64) → 2 ^ 64 ≤ sum_by (λ s. room_of (node_of s)) states
+pub rooms-past : (states : List State) (i : ℕ) (item : State) (sum room : ℕ)
+    → sum ≡ sum_by (λ s. room_of (node_of s)) (take i states) → item ≡ get_or states i item
+    → room ≡ room_of (node_of item) → i < length states → ¬ (sum + room < 2 ^ 64)
+    → 2 ^ 64 ≤ sum_by (λ s. room_of (node_of s)) states
 rooms-past states i item sum room so_far is e inside past =
     let more = rw (← is) at (sum_by_more_le (λ s. room_of (node_of s)) states i item inside) in
     elim (cases_lt (sum + room) (2 ^ 64)) [ inl less ↦ absurd (past less) | inr reached ↦ omega (arith, more) ]
 
 -- the turns are not among the sizes
-pub sized-restarted : (size : Sizes) {met met' : Marks} {stack : ℕ} {curr next : Active} → met' ≡ record met { turns = 0 } → AreSized size met stack curr next
+pub sized-restarted : (size : Sizes) {met met' : Marks} {stack : ℕ} {curr next : Active}
+    → met' ≡ record met { turns = 0 } → AreSized size met stack curr next
     → AreSized size met' stack curr next
 sized-restarted size restarted a = record {
   marks = ap (λ (m : Marks). length m.bits) restarted ∙ a.marks;
@@ -30,13 +33,15 @@ sized-restarted size restarted a = record {
 }
 
 -- A search keeps the sizes of a cache, and so its invariant.
-module _ (slots found : ℕ) {met met' : Marks} {stack stack' : ℕ} {curr curr' next next' : Active} (room : IsRoomFor (length met.bits) slots stack met stack curr next found)
+module _ (slots found : ℕ) {met met' : Marks} {stack stack' : ℕ} {curr curr' next next' : Active}
+    (room : IsRoomFor (length met.bits) slots stack met stack curr next found)
     (keeps : (size : Sizes) → AreSized size met stack curr next → AreSized size met' stack' curr' next') where
   -- the sizes are still those
   pub sized-after : AreSized (sizes_for (length met.bits) slots stack) met' stack' curr' next'
   sized-after = keeps (sizes_for (length met.bits) slots stack) room.sized
 
-  pub room-after : (found' : ℕ) → found' ≡ found → IsRoomFor (length met'.bits) slots stack' met' stack' curr' next' found'
+  pub room-after : (found' : ℕ) → found' ≡ found
+      → IsRoomFor (length met'.bits) slots stack' met' stack' curr' next' found'
   room-after found' same =
       let a = sized-after in
       record {

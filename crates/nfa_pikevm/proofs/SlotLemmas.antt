@@ -4,15 +4,18 @@ use Rattle.std.specs.Prelude.{Option, None}
 use Rattle.nfa_paths.specs.Exploring.{Slots}
 
 -- two slots are copied at once
-pub copied-two : (to from : Slots) (x y : Option ℕ) → length to ≡ length from → length from ≡ 2 → x ≡ get_or from 0 x → y ≡ get_or from 1 y
+pub copied-two : (to from : Slots) (x y : Option ℕ) → length to ≡ length from → length from ≡ 2 → x ≡ get_or from 0 x
+    → y ≡ get_or from 1 y
     → set (set to 0 x) 1 y ≡ from
 copied-two (a ∷ b ∷ []) (c ∷ d ∷ []) x y size two is also = cc (is, also)
 copied-two to from x y size two is also = absurd (omega arith)
 
 -- and four
 pub copied-four : (to from : Slots) (w x y z : Option ℕ) → length to ≡ length from → length from ≡ 4
-    → w ≡ get_or from 0 w → x ≡ get_or from 1 x → y ≡ get_or from 2 y → z ≡ get_or from 3 z → set (set (set (set to 0 w) 1 x) 2 y) 3 z ≡ from
-copied-four (a ∷ b ∷ c ∷ d ∷ []) (e ∷ f ∷ g ∷ h ∷ []) w x y z size four is-w is-x is-y is-z = cc (is-w, is-x, is-y, is-z)
+    → w ≡ get_or from 0 w → x ≡ get_or from 1 x → y ≡ get_or from 2 y → z ≡ get_or from 3 z
+    → set (set (set (set to 0 w) 1 x) 2 y) 3 z ≡ from
+copied-four (a ∷ b ∷ c ∷ d ∷ []) (e ∷ f ∷ g ∷ h ∷ []) w x y z size four is-w is-x is-y is-z =
+    cc (is-w, is-x, is-y, is-z)
 copied-four to from w x y z size four is-w is-x is-y is-z = absurd (omega arith)
 
 -- one slot more is handed out, of those that are left

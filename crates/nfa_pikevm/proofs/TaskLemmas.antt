@@ -18,11 +18,13 @@ use Rattle.nfa_pikevm.specs.declared.scan.Starts.{Starts}
 pub tasks-join : (at : ℕ) (items : List (ℕ × Slots)) (state : ℕ) (row : Slots) (work : List Item)
     → tasks at (items ++ (state, row) ∷ []) work ≡ tasks at items (Load row ∷ Explore (state, at) ∷ work)
 tasks-join at [] state row work = refl
-tasks-join at (i ∷ items) state row work = ap (λ w. Load i.1 ∷ Explore (i.0, at) ∷ w) (tasks-join at items state row work)
+tasks-join at (i ∷ items) state row work = ap (λ w. Load i.1 ∷ Explore (i.0, at) ∷ w)
+    (tasks-join at items state row work)
 
 -- the first of the starts that are left
 pub starts_from-step : (width state : ℕ) {at limit : ℕ} → at < limit
-    → starts_from width state at limit ≡ Explore (state, at) ∷ Load (blank width) ∷ starts_from width state (at + 1) limit
+    → starts_from width state at limit ≡ Explore (state, at) ∷ Load (blank width)
+    ∷ starts_from width state (at + 1) limit
 unfolding seeds
 starts_from-step width state less = ap (seeds (blank width)) (pairs_from-step state less)
 
@@ -45,12 +47,14 @@ pub tasks-alone : (width state at limit : ℕ) (items : List (ℕ × Slots)) →
     ≡ tasks at items (Load (blank width) ∷ starts_from width state (at + 1) limit)
 tasks-alone width state at limit items past =
     let later : limit ≤ at + 1 = omega arith in
-    ap (λ w. tasks at items (Load (blank width) ∷ w)) (starts_from-end width state past ∙ sym (starts_from-end width state later))
+    ap (λ w. tasks at items (Load (blank width) ∷ w))
+    (starts_from-end width state past ∙ sym (starts_from-end width state later))
 
 -- both
 pub tasks-joined : (starts : Starts) (width at : ℕ) (items : List (ℕ × Slots))
     → tasks at items (Load (blank width) ∷ starts_from width starts.state at starts.limit)
-    ≡ tasks at (with_start starts width at items) (Load (blank width) ∷ starts_from width starts.state (at + 1) starts.limit)
+    ≡ tasks at (with_start starts width at items)
+    (Load (blank width) ∷ starts_from width starts.state (at + 1) starts.limit)
 tasks-joined starts width at items =
     elim (cases_lt at starts.limit) [
       | inl less ↦ rw (lt-ltb at starts.limit less) (tasks-joins width starts.state at starts.limit items less)
@@ -60,31 +64,43 @@ tasks-joined starts width at items =
 -- work that answers for other work
 
 -- Whatever the work `less` answers, `more` answers too; and what is loaded before does not matter to either.
-pub record AnswersFor (edges : Pair → List Pair) (target : Pair → Bool) (capture : Pair → Option ℕ) (more less : List Item) : Type 0 where
+pub record AnswersFor (edges : Pair → List Pair) (target : Pair → Bool) (capture : Pair → Option ℕ)
+    (more less : List Item) : Type 0 where
   pub back : (left : ℕ) (otherwise : Found) (marks : List Pair) (slots after : Slots) (g : Found)
-      → Answer edges target capture left otherwise marks less after g → Answer edges target capture left otherwise marks more slots g
+      → Answer edges target capture left otherwise marks less after g
+      → Answer edges target capture left otherwise marks more slots g
 
 module _ (edges : Pair → List Pair) (target : Pair → Bool) (capture : Pair → Option ℕ) where
   -- work that loads slots first answers for itself
-  pub AnswersFor-same : (old : Slots) (work : List Item) → AnswersFor edges target capture (Load old ∷ work) (Load old ∷ work)
+  pub AnswersFor-same : (old : Slots) (work : List Item)
+      → AnswersFor edges target capture (Load old ∷ work) (Load old ∷ work)
   unfolding Answer
   AnswersFor-same old work = record { back = λ left otherwise marks slots after g h. h }
 
   -- one after the other
-  pub AnswersFor-then : {a b c : List Item} → AnswersFor edges target capture a b → AnswersFor edges target capture b c → AnswersFor edges target capture a c
-  AnswersFor-then f k = record { back = λ left otherwise marks slots after g h. f.back left otherwise marks slots after g (k.back left otherwise marks after after g h) }
+  pub AnswersFor-then : {a b c : List Item} → AnswersFor edges target capture a b → AnswersFor edges target capture b c
+      → AnswersFor edges target capture a c
+  AnswersFor-then f k = record {
+    back = λ left otherwise marks slots after g h. f.back left otherwise marks slots after
+        g (k.back left otherwise marks after after g h);
+  }
 
   -- slots that are loaded in vain
-  pub AnswersFor-load : {a b : List Item} (old : Slots) → AnswersFor edges target capture a b → AnswersFor edges target capture (Load old ∷ a) b
+  pub AnswersFor-load : {a b : List Item} (old : Slots) → AnswersFor edges target capture a b
+      → AnswersFor edges target capture (Load old ∷ a) b
   unfolding Answer
-  AnswersFor-load old f = record { back = λ left otherwise marks slots after g h. f.back left otherwise marks old after g h }
+  AnswersFor-load old f = record {
+    back = λ left otherwise marks slots after g h.
+        f.back left otherwise marks old after g h;
+  }
 
   -- below one more state
   pub AnswersFor-item : {a b : List Item} (old : Slots) (v : Pair) → AnswersFor edges target capture a b
       → AnswersFor edges target capture (Load old ∷ Explore v ∷ a) (Load old ∷ Explore v ∷ b)
   unfolding Answer
   AnswersFor-item old v f = record {
-    back = λ left otherwise marks slots after g h. elim h [ inl k ↦ inl k | inr k ↦ inr (k.0, f.back left otherwise marks old old g k.1) ];
+    back = λ left otherwise marks slots after g h.
+        elim h [ inl k ↦ inl k | inr k ↦ inr (k.0, f.back left otherwise marks old old g k.1) ];
   }
 
   -- below the states of a position
@@ -94,7 +110,8 @@ module _ (edges : Pair → List Pair) (target : Pair → Bool) (capture : Pair �
   AnswersFor-tasks at (i ∷ items) f = AnswersFor-item i.1 (i.0, at) (AnswersFor-tasks at items f)
 
   -- a start from which no target is reached
-  pub AnswersFor-dead : (slots : Slots) (v : Pair) (work : List Item) → ((marks : List Pair) → IsFirst edges target marks v None)
+  pub AnswersFor-dead : (slots : Slots) (v : Pair) (work : List Item)
+      → ((marks : List Pair) → IsFirst edges target marks v None)
       → AnswersFor edges target capture (Load slots ∷ Explore v ∷ Load slots ∷ work) (Load slots ∷ work)
   unfolding Answer
   AnswersFor-dead slots v work dead = record { back = λ left otherwise marks s after g h. inr (dead marks, h) }
@@ -102,7 +119,8 @@ module _ (edges : Pair → List Pair) (target : Pair → Bool) (capture : Pair �
   -- what was put aside, as the states of the next position
   pub AnswersFor-round : (at : ℕ) (front : Front) (old : Slots) (waiting : List Item)
       → ((a : Pair × Slots) → In a front → (edges a.0 ≡ []) ⊎ ((t : ℕ) × (edges a.0 ≡ (t, at + 1) ∷ [])))
-      → AnswersFor edges target capture (round edges front (Load old ∷ waiting)) (tasks (at + 1) (moves edges front) (Load old ∷ waiting))
+      → AnswersFor edges target capture (round edges front (Load old ∷ waiting))
+      (tasks (at + 1) (moves edges front) (Load old ∷ waiting))
   unfolding round
   AnswersFor-round at [] old waiting one = AnswersFor-same old waiting
   AnswersFor-round at (a ∷ front) old waiting one =
@@ -113,21 +131,26 @@ module _ (edges : Pair → List Pair) (target : Pair → Bool) (capture : Pair �
       ]
 
   -- the search goes on with the work that answers for what was left
-  pub Searching-for : {goal : Found → ℕ → Type 0} {Seen : Pair → Type 0} {spent : ℕ} {front : List (Pair × Slots)} {otherwise : Found} {more less : List Item} {slots : Slots}
-      → Searching edges target capture goal Seen spent front otherwise more slots → AnswersFor edges target capture more less → (after : Slots)
+  pub Searching-for : {goal : Found → ℕ → Type 0} {Seen : Pair → Type 0} {spent : ℕ} {front : List (Pair × Slots)}
+      {otherwise : Found} {more less : List Item} {slots : Slots}
+      → Searching edges target capture goal Seen spent front otherwise more slots
+      → AnswersFor edges target capture more less → (after : Slots)
       → Searching edges target capture goal Seen spent front otherwise less after
   Searching-for {front = front} {otherwise} {more} {less} {slots} s f after = record {
     marks = s.marks;
     agrees = s.agrees;
     leads = λ g left total e h.
         s.leads g left total e
-        (AnswerBehind-along edges target capture front left left (omega arith) otherwise otherwise s.marks s.marks less more after slots g
+        (AnswerBehind-along edges target capture front left left (omega arith) otherwise otherwise s.marks s.marks less
+        more after slots g
         (f.back left otherwise s.marks slots after g) h);
   }
 
   -- other words for what is seen
-  pub Searching-seen : {goal : Found → ℕ → Type 0} {Seen : Pair → Type 0} {spent : ℕ} {front : List (Pair × Slots)} {otherwise : Found} {work : List Item} {slots : Slots}
-      → Searching edges target capture goal Seen spent front otherwise work slots → (After : Pair → Type 0) → ((v : Pair) → Seen v ↔ After v)
+  pub Searching-seen : {goal : Found → ℕ → Type 0} {Seen : Pair → Type 0} {spent : ℕ} {front : List (Pair × Slots)}
+      {otherwise : Found} {work : List Item} {slots : Slots}
+      → Searching edges target capture goal Seen spent front otherwise work slots → (After : Pair → Type 0)
+      → ((v : Pair) → Seen v ↔ After v)
       → Searching edges target capture goal After spent front otherwise work slots
   Searching-seen s After agree = record {
     marks = s.marks;
@@ -136,8 +159,10 @@ module _ (edges : Pair → List Pair) (target : Pair → Bool) (capture : Pair �
   }
 
   -- a search begins, where some turns were taken before
-  pub Searching-begin : (Seen : Pair → Type 0) (spent : ℕ) (otherwise : Found) (starts : List Pair) (slots current : Slots) → ((v : Pair) → Seen v → ⊥)
-      → Searching edges target capture (λ g total. Answer edges target capture total otherwise [] (map Explore starts) slots g) Seen spent [] otherwise (Load slots ∷ seeds slots starts) current
+  pub Searching-begin : (Seen : Pair → Type 0) (spent : ℕ) (otherwise : Found) (starts : List Pair)
+      (slots current : Slots) → ((v : Pair) → Seen v → ⊥)
+      → Searching edges target capture (λ g total. Answer edges target capture total otherwise [] (map Explore starts)
+      slots g) Seen spent [] otherwise (Load slots ∷ seeds slots starts) current
   unfolding Answer AnswerBehind
   Searching-begin Seen spent otherwise starts slots current fresh = record {
     marks = [];
@@ -152,25 +177,32 @@ module _ (edges : Pair → List Pair) (target : Pair → Bool) (capture : Pair �
 module _ (edges : Pair → List Pair) (target : Pair → Bool) (capture : Pair → Option ℕ) (width state limit : ℕ) where
   -- one that is passed over
   pub AnswersFor-pass : (at : ℕ) → ((marks : List Pair) → IsFirst edges target marks (state, at) None)
-      → AnswersFor edges target capture (Load (blank width) ∷ starts_from width state at limit) (Load (blank width) ∷ starts_from width state (at + 1) limit)
+      → AnswersFor edges target capture (Load (blank width) ∷ starts_from width state at limit)
+      (Load (blank width) ∷ starts_from width state (at + 1) limit)
   AnswersFor-pass at dead =
       elim (cases_lt at limit) [
         | inl less ↦
-            subst (λ (w : List Item). AnswersFor edges target capture (Load (blank width) ∷ w) (Load (blank width) ∷ starts_from width state (at + 1) limit)) (sym (starts_from-step width state less))
-            (AnswersFor-dead edges target capture (blank width) (state, at) (starts_from width state (at + 1) limit) dead)
+            subst (λ (w : List Item). AnswersFor edges target capture (Load (blank width) ∷ w)
+            (Load (blank width) ∷ starts_from width state (at + 1) limit)) (sym (starts_from-step width state less))
+            (AnswersFor-dead edges target capture (blank width) (state, at)
+            (starts_from width state (at + 1) limit) dead)
         | inr past ↦
             let later : limit ≤ at + 1 = omega arith in
-            subst (λ (w : List Item). AnswersFor edges target capture (Load (blank width) ∷ w) (Load (blank width) ∷ starts_from width state (at + 1) limit))
+            subst (λ (w : List Item). AnswersFor edges target capture (Load (blank width) ∷ w)
+            (Load (blank width) ∷ starts_from width state (at + 1) limit))
             (starts_from-end width state later ∙ sym (starts_from-end width state past))
             (AnswersFor-same edges target capture (blank width) (starts_from width state (at + 1) limit))
       ]
 
   -- and so all up to a position
-  pub AnswersFor-skip : (count at to : ℕ) → to ≡ at + count → ((k : ℕ) → at ≤ k → k < to → (marks : List Pair) → IsFirst edges target marks (state, k) None)
-      → AnswersFor edges target capture (Load (blank width) ∷ starts_from width state at limit) (Load (blank width) ∷ starts_from width state to limit)
+  pub AnswersFor-skip : (count at to : ℕ) → to ≡ at + count
+      → ((k : ℕ) → at ≤ k → k < to → (marks : List Pair) → IsFirst edges target marks (state, k) None)
+      → AnswersFor edges target capture (Load (blank width) ∷ starts_from width state at limit)
+      (Load (blank width) ∷ starts_from width state to limit)
   AnswersFor-skip zero at to is dead =
       let same : to ≡ at = omega arith in
-      subst (λ (n : ℕ). AnswersFor edges target capture (Load (blank width) ∷ starts_from width state at limit) (Load (blank width) ∷ starts_from width state n limit)) (sym same)
+      subst (λ (n : ℕ). AnswersFor edges target capture (Load (blank width) ∷ starts_from width state at limit)
+      (Load (blank width) ∷ starts_from width state n limit)) (sym same)
       (AnswersFor-same edges target capture (blank width) (starts_from width state at limit))
   AnswersFor-skip (suc count) at to is dead =
       let next : to ≡ at + 1 + count = omega arith in

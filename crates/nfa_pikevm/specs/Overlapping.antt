@@ -16,7 +16,8 @@ use Rattle.nfa_pikevm.specs.declared.frame.FollowEpsilon.{FollowEpsilon}
 -- whether the position is a boundary of characters
 abbrev pub is_boundary : List ℕ → ℕ → Bool
 is_boundary haystack i =
-    (i == length haystack) || (nat_lt i (length haystack) && (nat_le (slice_index haystack i) 0x7F || nat_le 0xC0 (slice_index haystack i)))
+    (i == length haystack) || (nat_lt i (length haystack) &&
+    (nat_le (slice_index haystack i) 0x7F || nat_le 0xC0 (slice_index haystack i)))
 
 -- whether a match may end at the position
 unfoldable pub permits : Automaton → Search → ℕ → Bool
@@ -31,17 +32,21 @@ is_below n (Some k) = nat_lt k n
 unfoldable pub wants : Automaton → Search → ℕ → Pair → Bool
 wants nfa x capacity v = permits nfa x v.1 && is_below capacity (pattern_at nfa v)
 
--- Each pattern below the capacity of which the front holds a wanted pair is put into the set, and it is told whether there is one.
-pub record GathersAll (nfa : Automaton) (wanted : Pair → Bool) (front : Front) (old : List Bool) (met : Bool) (new : List Bool) : Type 0 where
+-- Each pattern below the capacity of which the front holds a wanted pair is put into the set, and it is told whether
+-- there is one.
+pub record GathersAll (nfa : Automaton) (wanted : Pair → Bool) (front : Front) (old : List Bool) (met : Bool)
+    (new : List Bool) : Type 0 where
   pub capacity : length new ≡ length old
-  pub gained : (k : ℕ) → HoldsPattern new k ↔ (HoldsPattern old k ⊎ ((k < length old) × HoldsMatch wanted (pattern_at nfa) k front))
+  pub gained : (k : ℕ) → HoldsPattern new k ↔ (HoldsPattern old k
+      ⊎ ((k < length old) × HoldsMatch wanted (pattern_at nfa) k front))
   pub some : met ≡ true → (k : ℕ) × (k < length old) × HoldsMatch wanted (pattern_at nfa) k front
   pub none : met ≡ false → (k : ℕ) → k < length old → HoldsMatch wanted (pattern_at nfa) k front → ⊥
 
 -- the pattern of the first wanted pair is put into the set, if there is one
 abbrev pub GathersFirst : Automaton → Found → List Bool → Bool → List Bool → Type 0
 GathersFirst nfa None old met new = (met ≡ false) × (new ≡ old)
-GathersFirst nfa (Some a) old met new = (met ≡ true) × ((k : ℕ) × (pattern_at nfa a.0 ≡ Some k) × (new ≡ with_pattern old k))
+GathersFirst nfa (Some a) old met new = (met ≡ true)
+    × ((k : ℕ) × (pattern_at nfa a.0 ≡ Some k) × (new ≡ with_pattern old k))
 
 -- what is put into the set at a position: with `past` of all wanted pairs, else of the first one
 abbrev pub Gathers : Automaton → Bool → (Pair → Bool) → Front → List Bool → Bool → List Bool → Type 0
@@ -57,10 +62,13 @@ abbrev pub rowless : List ℕ → List (ℕ × Slots)
 rowless states = map (λ s. (s, [])) states
 
 module _ (nfa : Automaton) (x : Search) where
-  -- Of a set of capacity n: what comes of a turn that tries to enter a state, and of what was put off where it leads nowhere: the front that it adds, and
+  -- Of a set of capacity n: what comes of a turn that tries to enter a state, and of what was put off where it leads
+  -- nowhere: the front that it adds, and
   -- what of it is put into the set.
-  pub record AdvancesInSet (at : ℕ) (past : Bool) (n : ℕ) (s : ℕ) (met : Marks) (items : List (ℕ × Slots)) (stack : List FollowEpsilon) (set : List Bool) (hit : Bool)
-      (on : Option ℕ) (after : Marks) (kept : List (ℕ × Slots)) (above : List FollowEpsilon) (gathered : List Bool) (now : Bool) : Type 0 where
+  pub record AdvancesInSet (at : ℕ) (past : Bool) (n : ℕ) (s : ℕ) (met : Marks) (items : List (ℕ × Slots))
+      (stack : List FollowEpsilon) (set : List Bool) (hit : Bool)
+      (on : Option ℕ) (after : Marks) (kept : List (ℕ × Slots)) (above : List FollowEpsilon) (gathered : List Bool)
+      (now : Bool) : Type 0 where
     pub front : Front
     pub found : Bool
     pub added : kept ≡ items ++ moves (edges nfa x) front
@@ -73,7 +81,8 @@ module _ (nfa : Automaton) (x : Search) where
         after (before ++ front) (with_state at on (work_onto at above (ToLoad old ∷ work))) []
 
   -- The same of all that a state leads to up to the position's next byte.
-  pub record ArrivesInSet (at : ℕ) (past : Bool) (n : ℕ) (s : ℕ) (met : Marks) (items : List (ℕ × Slots)) (set : List Bool)
+  pub record ArrivesInSet (at : ℕ) (past : Bool) (n : ℕ) (s : ℕ) (met : Marks) (items : List (ℕ × Slots))
+      (set : List Bool)
       (hit : Bool) (after : Marks) (kept : List (ℕ × Slots)) (gathered : List Bool) : Type 0 where
     pub front : Front
     pub added : kept ≡ items ++ moves (edges nfa x) front
@@ -82,7 +91,8 @@ module _ (nfa : Automaton) (x : Search) where
     pub formed : (before : Front) → Formed nfa at met.bits before → Formed nfa at after.bits (before ++ front)
     pub paid : Paid nfa met (length items) [] 1 after (length kept) [] 0
     pub leads : (before : Front) (old : Slots) (work : List Item)
-        → Leads nfa x at met before (ToExplore (s, at) ∷ ToLoad old ∷ work) [] (GoesPast past hit) after (before ++ front) (ToLoad old ∷ work)
+        → Leads nfa x at met before (ToExplore (s, at) ∷ ToLoad old ∷ work) [] (GoesPast past hit) after
+        (before ++ front) (ToLoad old ∷ work)
 
   -- The same of all states at a position, where none was marked before. They have rows of no slots.
   pub record CrossesInSet (at : ℕ) (past : Bool) (n : ℕ) (met : Marks) (items : List (ℕ × Slots)) (set : List Bool)
@@ -95,4 +105,5 @@ module _ (nfa : Automaton) (x : Search) where
     pub formed : Formed nfa at after.bits front
     pub paid : Paid nfa (unmarked met) 0 [] (length items) after (length kept) [] 0
     pub leads : (old : Slots) (waiting : List Item)
-        → Leads nfa x at (unmarked met) [] (tasks at items (ToLoad old ∷ waiting)) [] (GoesPast past hit) after front (ToLoad old ∷ waiting)
+        → Leads nfa x at (unmarked met) [] (tasks at items (ToLoad old ∷ waiting)) [] (GoesPast past hit) after front
+        (ToLoad old ∷ waiting)

@@ -16,7 +16,8 @@ pub record Marks : Type 0 where
   pub bits : List Bool
   pub turns : ℕ
 
--- the states that are kept, each with its row, the cells of a row, for how many states there is room, and the cells of all rows
+-- the states that are kept, each with its row, the cells of a row, for how many states there is room, and the cells of
+-- all rows
 pub record Active : Type 0 where
   pub items : List (ℕ × Slots)
   pub width : ℕ

@@ -42,7 +42,8 @@ pub record HasThreads (nfa : Automaton) (width : ℕ) (met : Marks) (frames : �
   pub curr_width : curr.width ≡ width
   pub next_width : next.width ≡ width
 
--- for how many states there are marks, for how many there is room in each of the two sets, the cells of the rows of each, and the frames
+-- for how many states there are marks, for how many there is room in each of the two sets, the cells of the rows of
+-- each, and the frames
 pub record Sizes : Type 0 where
   pub states : ℕ
   pub places : ℕ
@@ -85,7 +86,8 @@ pub record AreStarts (nfa : Automaton) (x : Search) (starts_at : Starts) : Type 
 
 -- the states at a position with the start behind them, where it may still join
 abbrev pub with_start : Starts → ℕ → ℕ → List (ℕ × Slots) → List (ℕ × Slots)
-with_start starts_at width at items = if nat_lt at starts_at.limit then items ++ (starts_at.state, blank width) ∷ [] else items
+with_start starts_at width at items = if nat_lt at starts_at.limit then items ++ (starts_at.state, blank width)
+    ∷ [] else items
 
 -- a match that ends at the position
 abbrev pub half_found : ℕ → ℕ → HalfFound
@@ -95,9 +97,11 @@ half_found pattern at = record { pattern = pattern; offset = at }
 abbrev pub IsPassed : List Bool → Search → Starts → ℕ → Type 0
 IsPassed table x starts_at k = (k < starts_at.stop) × IsRefused table x k
 
--- The position that a scan goes on at, where the start has joined the states, or no match begins there. While starts are left some state
+-- The position that a scan goes on at, where the start has joined the states, or no match begins there. While starts
+-- are left some state
 -- is there.
-pub record Joins (table : List Bool) (x : Search) (starts_at : Starts) (limit width at : ℕ) (items : List (ℕ × Slots)) (to : ℕ) (now : List (ℕ × Slots)) : Type 0 where
+pub record Joins (table : List Bool) (x : Search) (starts_at : Starts) (limit width at : ℕ) (items : List (ℕ × Slots))
+    (to : ℕ) (now : List (ℕ × Slots)) : Type 0 where
   pub ahead : at ≤ to
   pub within : at ≤ x.end → to ≤ x.end
   pub stays : 0 < length items → to ≡ at
@@ -116,7 +120,8 @@ module _ (nfa : Automaton) (x : Search) where
   abbrev pub IsSoFar : Option HalfMatch → Slots → Found → Type 0
   IsSoFar None slots g = (g ≡ None) × (slots ≡ blank (length slots))
   IsSoFar (Some half) slots g =
-      (state : ℕ) × (g ≡ Some ((state, (half_found_of half).offset), slots)) × (pattern_of (node_at nfa state) ≡ Some (half_found_of half).pattern)
+      (state : ℕ) × (g ≡ Some ((state, (half_found_of half).offset), slots))
+      × (pattern_of (node_at nfa state) ≡ Some (half_found_of half).pattern)
 
   -- the scan's answer is this path, of which the match and the slots are
   pub record Finds (kind : MatchKind) (earliest : Bool) (half : HalfMatch) (slots : Slots) (turns : ℕ) : Type 0 where
@@ -142,7 +147,8 @@ module _ (nfa : Automaton) (x : Search) where
     pub bound : turns + items ≤ before + (at - x.start) * (1 + turn_weight nfa)
 
   -- The search for the first path, at a position where it has followed no state yet.
-  pub record SearchesFirst (at width start limit : ℕ) (found : Option HalfMatch) (slots : Slots) (met : Marks) (items : List (ℕ × Slots)) : Type 0 where
+  pub record SearchesFirst (at width start limit : ℕ) (found : Option HalfMatch) (slots : Slots) (met : Marks)
+      (items : List (ℕ × Slots)) : Type 0 where
     pub so_far : Found
     pub is_so_far : IsSoFar found slots so_far
     pub searching : SearchingAt nfa x at (is_match nfa) (starts nfa x) (blank width) so_far (unmarked met) []
@@ -150,11 +156,13 @@ module _ (nfa : Automaton) (x : Search) where
 
   -- The scan for each match, at a position where it has followed no state yet.
   pub record ScansAll (at width start limit : ℕ) (met : Marks) (items : List (ℕ × Slots)) : Type 0 where
-    pub scanning : Scanning (edges nfa x) (capture nfa) (starts nfa x) (is_match nfa) (blank width) at (SeenAt at (unmarked met).bits) met.turns []
+    pub scanning : Scanning (edges nfa x) (capture nfa) (starts nfa x) (is_match nfa) (blank width) at
+        (SeenAt at (unmarked met).bits) met.turns []
         (tasks at items (Load (blank width) ∷ starts_from width start at limit)) (blank width)
 
   -- the search's answer is this, after so many scans and turns
-  pub record Searched (kind : MatchKind) (earliest : Bool) (half : Option HalfMatch) (slots : Slots) (scans turns : ℕ) : Type 0 where
+  pub record Searched (kind : MatchKind) (earliest : Bool) (half : Option HalfMatch) (slots : Slots)
+      (scans turns : ℕ) : Type 0 where
     pub restarts : ℕ
     pub path : Option (List Pair)
     pub answers : IsSearchAnswer nfa kind earliest x restarts path

@@ -7,11 +7,18 @@ use Rattle.nfa_pikevm.specs.Engines.{stack_places}
 use Rattle.nfa_pikevm.specs.Scans.{Sizes, AreSized}
 use Rattle.nfa_pikevm.specs.declared.sizes.Size.{Size}
 
--- the sizes for so many states and slots, and such a stack: in each set a place more than states, with a row of all slots
+-- the sizes for so many states and slots, and such a stack: in each set a place more than states, with a row of all
+-- slots
 abbrev pub sizes_for : ℕ → ℕ → ℕ → Sizes
-sizes_for states slots frames = record { states = states; places = states + 1; cells = (states + 1) * slots; frames = frames }
+sizes_for states slots frames = record {
+  states = states;
+  places = states + 1;
+  cells = (states + 1) * slots;
+  frames = frames;
+}
 
--- The parts of a cache are for so many states and slots, and their stack is of so many frames. `found` is the length of the row that a search fills.
+-- The parts of a cache are for so many states and slots, and their stack is of so many frames. `found` is the length of
+-- the row that a search fills.
 pub record IsRoomFor (states slots frames : ℕ) (met : Marks) (stack : ℕ) (curr next : Active) (found : ℕ) : Type 0 where
   pub sized : AreSized (sizes_for states slots frames) met stack curr next
   pub row : found ≡ slots
@@ -31,4 +38,5 @@ pub record IsSizeOf (nfa : Automaton) (size : Size) : Type 0 where
 -- No `usize` says how much that is: the places of a set, the cells of its rows or the places of the stack are too many.
 abbrev pub IsPast : Automaton → Type 0
 IsPast nfa =
-    (2 ^ 64 ≤ length nfa.states + 1) ⊎ ((2 ^ 64 ≤ (length nfa.states + 1) * slot_count nfa.groups) ⊎ (2 ^ 64 ≤ stack_places nfa))
+    (2 ^ 64 ≤ length nfa.states + 1) ⊎ ((2 ^ 64 ≤ (length nfa.states + 1) * slot_count nfa.groups)
+    ⊎ (2 ^ 64 ≤ stack_places nfa))

@@ -1,4 +1,5 @@
--- What a PikeVM keeps at a position, in the words of its proof: its marks as pairs that were seen, its stack as work that is left, what it
+-- What a PikeVM keeps at a position, in the words of its proof: its marks as pairs that were seen, its stack as work
+-- that is left, what it
 -- keeps for the next position as a front.
 use Rattle.std.specs.Prelude.{◌≡◌, ◌⊎◌, ℕ, ◌+◌, ◌<◌, ◌≤◌, Bool, true, false, List, [], ◌∷◌, ◌++◌, Option, None, Some, cond, length, map, replicate, All, slice_index_or, slice_set}
 use Rattle.std.specs.List.{sum_by}
@@ -19,7 +20,8 @@ use Rattle.nfa_pikevm.specs.declared.closure.Move.TheVariants.{On, Matched, Over
 use Rattle.nfa_pikevm.specs.declared.frame.FollowEpsilon.{FollowEpsilon}
 use Rattle.nfa_pikevm.specs.declared.frame.FollowEpsilon.TheVariants.{Explore, Restore}
 
--- The resting pairs that were reached at a position, in order, each with its slots. Of each that a byte leads on from only
+-- The resting pairs that were reached at a position, in order, each with its slots. Of each that a byte leads on from
+-- only
 -- the state that it leads to is kept in memory; matches and pairs that lead nowhere are not.
 abbrev pub Front : Type 0
 Front = List (Pair × Slots)
@@ -114,13 +116,15 @@ meant past is_match front = cond past (last_match is_match None front) (first_ma
 -- what comes of a position: no match, and the slots as before; or a match of the pattern, and its slots
 abbrev pub IsHit : Automaton → Found → Slots → Option PatternID → Slots → Type 0
 IsHit nfa g before None after = (g ≡ None) × (after ≡ before)
-IsHit nfa g before (Some pattern) after = (v : Pair) × (g ≡ Some (v, after)) × (pattern_of (node_at nfa v.0) ≡ Some (number_of pattern))
+IsHit nfa g before (Some pattern) after = (v : Pair) × (g ≡ Some (v, after))
+    × (pattern_of (node_at nfa v.0) ≡ Some (number_of pattern))
 
 -- all that waits is followed: past matches always, else where there is none
 abbrev pub GoesOn : Bool → Option PatternID → Type 0
 GoesOn past hit = (past ≡ true) ⊎ (hit ≡ None)
 
--- Each pair of the front is of one of the NFA's states, stands at the position, rests, is marked, and stands there once.
+-- Each pair of the front is of one of the NFA's states, stands at the position, rests, is marked, and stands there
+-- once.
 pub record Formed (nfa : Automaton) (at : ℕ) (bits : List Bool) (front : Front) : Type 0 where
   pub here : All (λ a. a.0.1 ≡ at) front
   pub states : All (λ a. a.0.0 < length nfa.states) front
@@ -134,16 +138,20 @@ pub record HasRoom (nfa : Automaton) (bits : List Bool) (top frames kept places 
   pub frames_fit : top + sum_by room_of nfa.states ≤ frames + marked_sum (map room_of nfa.states) bits
   pub states_fit : kept + length nfa.states ≤ places + marked_sum (map one_of nfa.states) bits
 
--- From one moment to a later one: what came in turns and what waits is paid for by what was marked, and so are frames and kept states.
+-- From one moment to a later one: what came in turns and what waits is paid for by what was marked, and so are frames
+-- and kept states.
 pub record Paid (nfa : Automaton) (met : Marks) (kept : ℕ) (stack : List FollowEpsilon) (hand : ℕ)
     (after : Marks) (more : ℕ) (above : List FollowEpsilon) (left : ℕ) : Type 0 where
   pub tried : after.turns + left + sum_by tries above + more + marked_sum (map degree nfa.states) met.bits
       ≤ met.turns + hand + sum_by tries stack + kept + marked_sum (map degree nfa.states) after.bits
-  pub framed : length above + marked_sum (map room_of nfa.states) met.bits ≤ length stack + marked_sum (map room_of nfa.states) after.bits
-  pub entered : more + marked_sum (map one_of nfa.states) met.bits ≤ kept + marked_sum (map one_of nfa.states) after.bits
+  pub framed : length above + marked_sum (map room_of nfa.states) met.bits ≤ length stack
+      + marked_sum (map room_of nfa.states) after.bits
+  pub entered : more + marked_sum (map one_of nfa.states) met.bits ≤ kept
+      + marked_sum (map one_of nfa.states) after.bits
 
 module _ (nfa : Automaton) (x : Search) where
-  -- the search for a set of match pairs, from these starts and with these slots, with such states met and such a front at position `at`
+  -- the search for a set of match pairs, from these starts and with these slots, with such states met and such a front
+  -- at position `at`
   abbrev pub SearchingAt : ℕ → (Pair → Bool) → List Pair → Slots → Found → Marks → Front → List Item → Slots → Type 0
   SearchingAt at target starts entry otherwise met front work slots =
       Searching (edges nfa x) target (capture nfa)
@@ -153,19 +161,24 @@ module _ (nfa : Automaton) (x : Search) where
   -- The search for any set of match pairs goes on from the state after as it did from the state before.
   pub record Follows (at : ℕ) (met : Marks) (front : Front) (work : List Item) (slots : Slots)
       (after : Marks) (more : Front) (rest : List Item) (written : Slots) : Type 0 where
-    pub leads : (target : Pair → Bool) → AreMatches nfa target → (starts : List Pair) (entry : Slots) (otherwise : Found)
-        → SearchingAt at target starts entry otherwise met front work slots → SearchingAt at target starts entry otherwise after more rest written
+    pub leads : (target : Pair → Bool) → AreMatches nfa target
+        → (starts : List Pair) (entry : Slots) (otherwise : Found)
+        → SearchingAt at target starts entry otherwise met front work slots
+        → SearchingAt at target starts entry otherwise after more rest written
 
   -- what a turn adds to the front: a match that it led to, and no other match
   abbrev pub IsMet : Pair → Slots → Move → Front → Type 0
   IsMet v slots (On sid) front = NoMatch (is_match nfa) front
-  IsMet v slots (Matched pattern) front = (front ≡ (v, slots) ∷ []) × (pattern_of (node_at nfa v.0) ≡ Some (number_of pattern))
+  IsMet v slots (Matched pattern) front = (front ≡ (v, slots) ∷ [])
+      × (pattern_of (node_at nfa v.0) ≡ Some (number_of pattern))
   IsMet v slots Over front = NoMatch (is_match nfa) front
 
-  -- What comes of a turn that tries to enter the state: it adds a front, which memory holds the moves of, and leaves its work to do. What is
+  -- What comes of a turn that tries to enter the state: it adds a front, which memory holds the moves of, and leaves
+  -- its work to do. What is
   -- left below the stack begins by loading slots.
   pub record Enters (at s : ℕ) (met : Marks) (items : List (ℕ × Slots)) (stack : List FollowEpsilon) (slots : Slots)
-      (turn : Move) (after : Marks) (kept : List (ℕ × Slots)) (above : List FollowEpsilon) (written : Slots) : Type 0 where
+      (turn : Move) (after : Marks) (kept : List (ℕ × Slots)) (above : List FollowEpsilon)
+      (written : Slots) : Type 0 where
     pub front : Front
     pub added : kept ≡ items ++ moves (edges nfa x) front
     pub is_met : IsMet (s, at) written turn front
@@ -182,7 +195,8 @@ module _ (nfa : Automaton) (x : Search) where
     pub follows : Follows at met before work slots after front left written
     pub whole : goes_on → left ≡ rest
 
-  -- What comes of a state that is followed with a row of slots, up to the position's next byte: a front, which memory holds the moves of, and
+  -- What comes of a state that is followed with a row of slots, up to the position's next byte: a front, which memory
+  -- holds the moves of, and
   -- the match of it that is meant. Without `past` nothing is kept behind the first match.
   pub record Arrives (at : ℕ) (past : Bool) (s : ℕ) (met : Marks) (items : List (ℕ × Slots)) (row slots : Slots)
       (hit : Option PatternID) (after : Marks) (kept : List (ℕ × Slots)) (written : Slots) : Type 0 where
@@ -193,7 +207,8 @@ module _ (nfa : Automaton) (x : Search) where
     pub formed : (before : Front) → Formed nfa at met.bits before → Formed nfa at after.bits (before ++ front)
     pub paid : Paid nfa met (length items) [] 1 after (length kept) [] 0
     pub leads : (before : Front) (old : Slots) (work : List Item)
-        → Leads at met before (ToExplore (s, at) ∷ ToLoad old ∷ work) row (GoesOn past hit) after (before ++ front) (ToLoad old ∷ work)
+        → Leads at met before (ToExplore (s, at) ∷ ToLoad old ∷ work) row (GoesOn past hit) after (before ++ front)
+        (ToLoad old ∷ work)
 
   -- The same of all states at a position, where none was marked before.
   pub record Crosses (at : ℕ) (past : Bool) (met : Marks) (items : List (ℕ × Slots)) (slots : Slots)
@@ -205,4 +220,5 @@ module _ (nfa : Automaton) (x : Search) where
     pub formed : Formed nfa at after.bits front
     pub paid : Paid nfa (unmarked met) 0 [] (length items) after (length kept) [] 0
     pub leads : (current old : Slots) (waiting : List Item)
-        → Leads at (unmarked met) [] (tasks at items (ToLoad old ∷ waiting)) current (GoesOn past hit) after front (ToLoad old ∷ waiting)
+        → Leads at (unmarked met) [] (tasks at items (ToLoad old ∷ waiting)) current (GoesOn past hit) after front
+        (ToLoad old ∷ waiting)

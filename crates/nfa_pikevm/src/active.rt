@@ -32,9 +32,16 @@ impl Model for ActiveStates {
 
     ghost Value = { Active };
 
-    ghost view = { λ a. let p = a.parts.value in record { items = items_of p.width (take p.len p.kept.items) p.rows.items; width = p.width; places = length p.kept.items; cells = length p.rows.items } };
+    ghost view = { λ a. let p = a.parts.value in record {
+      items = items_of p.width (take p.len p.kept.items) p.rows.items;
+      width =
+          p.width;
+      places = length p.kept.items;
+      cells = length p.rows.items;
+    } };
 
-    ghost invariant = { λ a. let p = a.parts.value in (p.len ≤ length p.kept.items) × (length p.kept.items * p.width ≤ length p.rows.items) };
+    ghost invariant = { λ a. let p = a.parts.value in (p.len ≤ length p.kept.items)
+        × (length p.kept.items * p.width ≤ length p.rows.items) };
 }
 
 /// Writes a row behind so many others.

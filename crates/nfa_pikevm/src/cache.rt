@@ -11,7 +11,8 @@ use regex_search_core::Refused;
 use std::alloc::Global;
 use std::marker::Model;
 
-/// What a PikeVM writes while it searches: the states that it follows, each with a row of slots, and its stack. A search
+/// What a PikeVM writes while it searches: the states that it follows, each with a row of slots, and its stack. A
+/// search
 /// takes no memory beside it; the caller owes a cache that is large enough: [`Cache::fits`].
 ///
 /// A contract sees for how many states, slots and patterns it was made, the places of its stack, and how many scans its
@@ -35,9 +36,21 @@ impl Model for Cache {
 
     ghost Value = { PikeCache };
 
-    ghost view = { λ c. record { states = length c.threads.seen.bits; slots = c.slots; patterns = c.patterns; places = length c.threads.frames.items; scans = c.threads.scans; turns = c.threads.seen.turns; all_scans = c.past_scans + c.threads.scans; all_turns = c.past_turns + c.threads.seen.turns } };
+    ghost view = { λ c. record {
+      states = length c.threads.seen.bits;
+      slots = c.slots;
+      patterns = c.patterns;
+      places =
+          length c.threads.frames.items;
+      scans = c.threads.scans;
+      turns = c.threads.seen.turns;
+      all_scans =
+          c.past_scans + c.threads.scans;
+      all_turns = c.past_turns + c.threads.seen.turns;
+    } };
 
-    ghost invariant = { λ c. IsRoomFor (length c.threads.seen.bits) c.slots (length c.threads.frames.items) c.threads.seen (length c.threads.frames.items) c.threads.curr c.threads.next (length c.found.items) };
+    ghost invariant = { λ c. IsRoomFor (length c.threads.seen.bits) c.slots (length c.threads.frames.items) c.threads.seen
+        (length c.threads.frames.items) c.threads.curr c.threads.next (length c.found.items) };
 }
 
 impl Cache {
@@ -61,7 +74,8 @@ impl Cache {
         })
     }
 
-    /// Gives the cache the numbers of the PikeVM, also where they are smaller; memory that it has stays with it. The error
+    /// Gives the cache the numbers of the PikeVM, also where they are smaller; memory that it has stays with it. The
+    /// error
     /// is `Memory` alone; the cache then is as it was, and fits what it fitted.
     pub fn reset(&mut self, vm: &PikeVM) -> Result<(), SearchError>
         ensures made { OnOk result (self.new ≡ refitted self.old vm.now.nfa) }

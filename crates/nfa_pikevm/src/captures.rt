@@ -57,7 +57,8 @@ impl PikeVM {
         ensures work { let x = search_of input.entry in
             IsWork self.now.nfa (kind_of self.now) x.earliest x cache.new.scans cache.new.turns }
         ensures scans { cache.new.scans ≤ scan_limit self.now.nfa (search_of input.entry) }
-        ensures turns { cache.new.turns ≤ cache.new.scans * ((1 + turn_weight self.now.nfa) * (span_len (search_of input.entry) + 1)) }
+        ensures turns { cache.new.turns ≤ cache.new.scans * ((1 + turn_weight self.now.nfa)
+            * (span_len (search_of input.entry) + 1)) }
     {
         self.search(cache, &input, captures);
     }

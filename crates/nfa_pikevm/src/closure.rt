@@ -65,7 +65,8 @@ fn keep_old(frames: &mut [FollowEpsilon], top: &mut usize, slots: &[Slot], slot:
     requires slot { slot < length slots.now }
     ensures empty { top.old ≡ 0 → top.new ≡ 0 }
     ensures top { 0 < top.old → top.new ≡ top.old + 1 }
-    ensures stack { 0 < top.old → take top.new frames.new ≡ take top.old frames.old ++ Restore slot (slice_index_or slots.now slot None) ∷ [] }
+    ensures stack { 0 < top.old → take top.new frames.new ≡ take top.old frames.old
+        ++ Restore slot (slice_index_or slots.now slot None) ∷ [] }
 {
     if *top > 0 {
         let old = slots[slot];
@@ -114,8 +115,10 @@ pub fn enter(
     ensures top { top.new ≤ length frames.new }
     ensures state { IsBelow (length nfa.now.states) (state_on result) }
     ensures within { All (IsWithin (length nfa.now.states) (length row.old)) (take top.new frames.new) }
-    ensures paid { Paid nfa.now seen.old (length next.old.items) (take top.old frames.old) 1 seen.new (length next.new.items) (take top.new frames.new) (tries_of (state_on result)) }
-    ensures enters { Enters nfa.now (search_of input.now) at sid seen.old next.old.items (take top.old frames.old) row.old result seen.new next.new.items (take top.new frames.new) row.new }
+    ensures paid { Paid nfa.now seen.old (length next.old.items) (take top.old frames.old) 1 seen.new (length next.new.items)
+        (take top.new frames.new) (tries_of (state_on result)) }
+    ensures enters { Enters nfa.now (search_of input.now) at sid seen.old next.old.items (take top.old frames.old) row.old result
+        seen.new next.new.items (take top.new frames.new) row.new }
 {
     if !seen.insert(sid.as_usize()) {
         return Move::Over;
@@ -188,7 +191,9 @@ pub fn resume(frames: &[FollowEpsilon], top: &mut usize, row: &mut [Slot]) -> Op
     ensures tried { sum_by tries (take top.new frames.now) + tries_of result ≡ sum_by tries (take top.old frames.now) }
     ensures state { (states : ℕ) → All (IsWithin states (length row.old)) (take top.old frames.now) → IsBelow states result }
     ensures over { result ≡ None → top.new ≡ 0 }
-    ensures follows { (nfa : Automaton) (x : Search) (at : ℕ) (met : Marks) (front : Front) (work : List Item) → Follows nfa x at met front (work_onto at (take top.old frames.now) work) row.old met front (with_state at result (work_onto at (take top.new frames.now) work)) row.new }
+    ensures follows { (nfa : Automaton) (x : Search) (at : ℕ) (met : Marks) (front : Front) (work : List Item)
+        → Follows nfa x at met front (work_onto at (take top.old frames.now) work) row.old met front
+        (with_state at result (work_onto at (take top.new frames.now) work)) row.new }
 {
     while *top > 0 {
         *top -= 1;
@@ -225,7 +230,8 @@ pub fn follow(
     ensures size { length seen.new.bits ≡ length seen.old.bits }
     ensures grows { seen.old.turns ≤ seen.new.turns }
     ensures same { next.new ≡ record next.old { items = next.new.items } }
-    ensures arrives { Arrives nfa.now (search_of input.now) at past_match root seen.old next.old.items row.old slots.old result seen.new next.new.items slots.new }
+    ensures arrives { Arrives nfa.now (search_of input.now) at past_match root seen.old next.old.items row.old slots.old result
+        seen.new next.new.items slots.new }
 {
     let mut top = 0;
     let mut sid = root;

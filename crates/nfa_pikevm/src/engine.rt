@@ -25,7 +25,8 @@ use thompson_nfa::{BuildError, NFA};
 
 /// A search of one NFA that follows all states side by side.
 ///
-/// Its answers are those of the match kind that was set, and of the input's `earliest`. A contract sees the NFA and that
+/// Its answers are those of the match kind that was set, and of the input's `earliest`. A contract sees the NFA and
+/// that
 /// kind.
 #[derive(Debug, Drop)]
 pub struct PikeVM {
@@ -166,7 +167,8 @@ impl PikeVM {
         slots: &mut [Option<NonMaxUsize>],
     ) -> Option<PatternID>
         requires { Fits cache.old self.now.nfa }
-        ensures answer { IsAnswer self.now.nfa (kind_of self.now) (search_of input.now).earliest (search_of input.now) (option_map number_of result) slots.new }
+        ensures answer { IsAnswer self.now.nfa (kind_of self.now) (search_of input.now).earliest (search_of input.now)
+            (option_map number_of result) slots.new }
         ensures pattern { IfSome result (λ p. number_of p < length self.now.nfa.patterns) }
         ensures inside { All (IsSlotInside (search_of input.now)) slots.new }
 
@@ -174,7 +176,8 @@ impl PikeVM {
         ensures total { AddsWork cache.old cache.new }
 
         // What was done for it: exactly one scan more than restarts, within stated bounds.
-        ensures work { IsWork self.now.nfa (kind_of self.now) (search_of input.now).earliest (search_of input.now) cache.new.scans cache.new.turns }
+        ensures work { IsWork self.now.nfa (kind_of self.now) (search_of input.now).earliest (search_of input.now) cache.new.scans
+            cache.new.turns }
         ensures scans { cache.new.scans ≤ scan_limit self.now.nfa (search_of input.now) }
         ensures turns { cache.new.turns ≤ cache.new.scans * ((1 + turn_weight self.now.nfa) * (span_len (search_of input.now) + 1)) }
     {
@@ -202,9 +205,11 @@ impl PikeVM {
         requires serves { HaveRoom self.now.nfa (min (length slots.old) (slot_count self.now.nfa.groups)) threads.old }
         requires counted { threads.old.scans ≡ 0 }
         requires turned { threads.old.seen.turns ≡ 0 }
-        ensures answer { IsAnswer self.now.nfa (kind_of self.now) (search_of input.now).earliest (search_of input.now) (option_map number_of result) slots.new }
+        ensures answer { IsAnswer self.now.nfa (kind_of self.now) (search_of input.now).earliest (search_of input.now)
+            (option_map number_of result) slots.new }
         ensures pattern { IfSome result (λ p. number_of p < length self.now.nfa.patterns) }
-        ensures work { IsWork self.now.nfa (kind_of self.now) (search_of input.now).earliest (search_of input.now) threads.new.scans threads.new.seen.turns }
+        ensures work { IsWork self.now.nfa (kind_of self.now) (search_of input.now).earliest (search_of input.now)
+            threads.new.scans threads.new.seen.turns }
         ensures sizes { SameSizes threads.old threads.new }
         ensures scans { threads.new.scans ≤ scan_limit self.now.nfa (search_of input.now) }
         ensures turns { threads.new.seen.turns ≤ threads.new.scans * scan_turns self.now.nfa (search_of input.now) }
@@ -234,9 +239,11 @@ impl PikeVM {
         requires serves { HaveRoom self.now.nfa (2 * length self.now.nfa.groups) threads.old }
         requires counted { threads.old.scans ≡ 0 }
         requires turned { threads.old.seen.turns ≡ 0 }
-        ensures answer { IsMatchAnswer self.now.nfa (kind_of self.now) (search_of input.now).earliest (search_of input.now) (option_map found_of result) }
+        ensures answer { IsMatchAnswer self.now.nfa (kind_of self.now) (search_of input.now).earliest (search_of input.now)
+            (option_map found_of result) }
         ensures pattern { IfSome result (λ m. (found_of m).pattern < length self.now.nfa.patterns) }
-        ensures work { IsWork self.now.nfa (kind_of self.now) (search_of input.now).earliest (search_of input.now) threads.new.scans threads.new.seen.turns }
+        ensures work { IsWork self.now.nfa (kind_of self.now) (search_of input.now).earliest (search_of input.now)
+            threads.new.scans threads.new.seen.turns }
         ensures sizes { SameSizes threads.old threads.new }
         ensures scans { threads.new.scans ≤ scan_limit self.now.nfa (search_of input.now) }
         ensures turns { threads.new.seen.turns ≤ threads.new.scans * scan_turns self.now.nfa (search_of input.now) }
@@ -260,16 +267,19 @@ impl PikeVM {
     /// The caller owes a cache that fits. A search leaves its numbers as they are.
     pub fn find<'h>(&self, cache: &mut Cache, input: Input<'h>) -> Option<Match>
         requires { Fits cache.old self.now.nfa }
-        ensures answer { IsMatchAnswer self.now.nfa (kind_of self.now) (search_of input.entry).earliest (search_of input.entry) (option_map found_of result) }
+        ensures answer { IsMatchAnswer self.now.nfa (kind_of self.now) (search_of input.entry).earliest (search_of input.entry)
+            (option_map found_of result) }
         ensures pattern { IfSome result (λ m. (found_of m).pattern < length self.now.nfa.patterns) }
         ensures inside { IfSome result (λ m. IsInside (search_of input.entry) (found_of m)) }
 
         ensures numbers { SameNumbers cache.old cache.new }
         ensures total { AddsWork cache.old cache.new }
 
-        ensures work { IsWork self.now.nfa (kind_of self.now) (search_of input.entry).earliest (search_of input.entry) cache.new.scans cache.new.turns }
+        ensures work { IsWork self.now.nfa (kind_of self.now) (search_of input.entry).earliest (search_of input.entry)
+            cache.new.scans cache.new.turns }
         ensures scans { cache.new.scans ≤ scan_limit self.now.nfa (search_of input.entry) }
-        ensures turns { cache.new.turns ≤ cache.new.scans * ((1 + turn_weight self.now.nfa) * (span_len (search_of input.entry) + 1)) }
+        ensures turns { cache.new.turns ≤ cache.new.scans * ((1 + turn_weight self.now.nfa)
+            * (span_len (search_of input.entry) + 1)) }
     {
         let Cache {
             threads,
@@ -294,16 +304,19 @@ impl PikeVM {
         ensures numbers { SameNumbers cache.old cache.new }
         ensures total { AddsWork cache.old cache.new }
 
-        ensures work { IsWork self.now.nfa (kind_of self.now) (not (is_utf8_empty self.now.nfa)) (search_of input.entry) cache.new.scans cache.new.turns }
+        ensures work { IsWork self.now.nfa (kind_of self.now) (not (is_utf8_empty self.now.nfa)) (search_of input.entry)
+            cache.new.scans cache.new.turns }
         ensures scans { cache.new.scans ≤ scan_limit self.now.nfa (search_of input.entry) }
-        ensures turns { cache.new.turns ≤ cache.new.scans * ((1 + turn_weight self.now.nfa) * (span_len (search_of input.entry) + 1)) }
+        ensures turns { cache.new.turns ≤ cache.new.scans * ((1 + turn_weight self.now.nfa)
+            * (span_len (search_of input.entry) + 1)) }
     {
         let earliest = !(self.nfa.has_empty() && self.nfa.is_utf8());
         let input = input.earliest(earliest);
         self.search_slots(cache, &input, &mut []).is_some()
     }
 
-    /// Puts the patterns of all matches into the set, also of those that overlap. The set keeps what it holds, and gains
+    /// Puts the patterns of all matches into the set, also of those that overlap. The set keeps what it holds, and
+    /// gains
     /// patterns below its capacity alone.
     ///
     /// With the kind `All` it gains every pattern that matches somewhere in the span; with `earliest`, those whose
@@ -320,7 +333,8 @@ impl PikeVM {
         patterns: &mut PatternSet,
     )
         requires { Fits cache.old self.now.nfa }
-        ensures result { IsOverlapResult self.now.nfa (search_of input.now) (kind_of self.now) (search_of input.now).earliest patterns.old patterns.new }
+        ensures result { IsOverlapResult self.now.nfa (search_of input.now) (kind_of self.now) (search_of input.now).earliest
+            patterns.old patterns.new }
 
         ensures numbers { SameNumbers cache.old cache.new }
         ensures total { AddsWork cache.old cache.new }

@@ -42,7 +42,8 @@ impl PikeVM {
     ghost use Rattle.nfa_pikevm.specs.Runs.{GivesCache};
     ghost use Rattle.nfa_search_base.specs.MatchRuns.{MatchesRun, MatchesAre, MatchesApart, MatchesFirst, MatchesNext};
 
-    /// The matches of the input that do not overlap, from left to right. To make this takes no memory. The caller owes a
+    /// The matches of the input that do not overlap, from left to right. To make this takes no memory. The caller owes
+    /// a
     /// cache that fits.
     ///
     /// The next match is searched for from the end of the last one. In place of an empty match where the last one ended

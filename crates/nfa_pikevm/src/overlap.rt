@@ -91,8 +91,11 @@ fn advance_to_set(
     ensures within { All (IsWithin (length nfa.now.states) 0) (take top.new frames.new) }
     ensures over { result ≡ None → (top.new ≡ 0) ⊎ ((past_match ≡ false) × (met.new ≡ true)) }
     ensures stops { past_match ≡ false → met.new ≡ true → (met.old ≡ true) ⊎ (result ≡ None) }
-    ensures paid { Paid nfa.now seen.old (length next.old.items) (take top.old frames.old) 1 seen.new (length next.new.items) (take top.new frames.new) (tries_of result) }
-    ensures advances { AdvancesInSet nfa.now (search_of input.now) at past_match (length patterns.old) sid seen.old next.old.items (take top.old frames.old) patterns.old met.old result seen.new next.new.items (take top.new frames.new) patterns.new met.new }
+    ensures paid { Paid nfa.now seen.old (length next.old.items) (take top.old frames.old) 1 seen.new (length next.new.items)
+        (take top.new frames.new) (tries_of result) }
+    ensures advances { AdvancesInSet nfa.now (search_of input.now) at past_match (length patterns.old) sid seen.old next.old.items
+        (take top.old frames.old) patterns.old met.old result seen.new next.new.items (take top.new frames.new)
+        patterns.new met.new }
 {
     match enter(nfa, input, at, byte, sid, frames, top, seen, next, &mut []) {
         Move::On(on) => return Some(on),
@@ -131,7 +134,8 @@ fn follow_to_set(
     requires width { next.old.width ≡ 0 }
     ensures size { length seen.new.bits ≡ length seen.old.bits }
     ensures same { next.new ≡ record next.old { items = next.new.items } }
-    ensures arrives { ArrivesInSet nfa.now (search_of input.now) at past_match (length patterns.old) root seen.old next.old.items patterns.old result seen.new next.new.items patterns.new }
+    ensures arrives { ArrivesInSet nfa.now (search_of input.now) at past_match (length patterns.old) root seen.old next.old.items
+        patterns.old result seen.new next.new.items patterns.new }
 {
     let mut top = 0;
     let mut sid = root;
@@ -165,7 +169,8 @@ fn cross_states_to_set(
     requires width { next.old.width ≡ 0 }
     ensures size { length seen.new.bits ≡ length seen.old.bits }
     ensures same { next.new ≡ record next.old { items = next.new.items } }
-    ensures crosses { CrossesInSet nfa.now (search_of input.now) at past_match (length patterns.old) seen.old (rowless kept.now) patterns.old result seen.new next.new.items patterns.new }
+    ensures crosses { CrossesInSet nfa.now (search_of input.now) at past_match (length patterns.old) seen.old (rowless kept.now)
+        patterns.old result seen.new next.new.items patterns.new }
 {
     let byte = byte_at(input, at);
     let permitted = permits(nfa, input, at);
@@ -203,7 +208,8 @@ fn cross_to_set(
     ensures next { threads.new.next ≡ record threads.old.next { items = threads.new.next.items } }
     ensures frames { length threads.new.frames.items ≡ length threads.old.frames.items }
     ensures scans { threads.new.scans ≡ threads.old.scans }
-    ensures crosses { CrossesInSet nfa.now (search_of input.now) at past_match (length patterns.old) threads.old.seen threads.old.curr.items patterns.old result threads.new.seen threads.new.next.items patterns.new }
+    ensures crosses { CrossesInSet nfa.now (search_of input.now) at past_match (length patterns.old) threads.old.seen
+        threads.old.curr.items patterns.old result threads.new.seen threads.new.next.items patterns.new }
 {
     let Threads {
         frames,
@@ -280,7 +286,8 @@ fn overlap_earliest(
     ensures sizes { SameSizes threads.old threads.new }
     ensures scans { threads.new.scans ≡ threads.old.scans }
     ensures turns { threads.new.seen.turns ≤ threads.old.seen.turns + scan_turns nfa.now (search_of input.now) }
-    ensures gains { IsOverlapResult nfa.now (search_of input.now) (cond past_match AllMatches LeftmostFirst) true patterns.old patterns.new }
+    ensures gains { IsOverlapResult nfa.now (search_of input.now) (cond past_match AllMatches LeftmostFirst) true
+        patterns.old patterns.new }
 {
     for at in input.start()..input.end() + 1 {
         join(starts, at, threads);
@@ -363,7 +370,8 @@ fn overlap_from(
     }
 }
 
-/// Puts the patterns of the matches that the kind means, also of those that overlap, into the set, in one scan. There is
+/// Puts the patterns of the matches that the kind means, also of those that overlap, into the set, in one scan. There
+/// is
 /// none where the first match alone is meant and the set holds a pattern.
 pub fn overlap(
     nfa: &NFA,

@@ -26,7 +26,8 @@ pub struct Starts {
 #[inline(always)]
 pub fn join(starts: &Starts, at: usize, threads: &mut Threads)
     requires room { length threads.old.curr.items < threads.old.curr.places }
-    ensures curr { threads.new.curr ≡ record threads.old.curr { items = with_start starts.now threads.old.curr.width at threads.old.curr.items } }
+    ensures curr { threads.new.curr ≡ record threads.old.curr
+        { items = with_start starts.now threads.old.curr.width at threads.old.curr.items } }
     ensures next { threads.new.next ≡ threads.old.next }
     ensures seen { threads.new.seen ≡ threads.old.seen }
     ensures frames { threads.new.frames.items ≡ threads.old.frames.items }
@@ -37,7 +38,8 @@ pub fn join(starts: &Starts, at: usize, threads: &mut Threads)
     }
 }
 
-/// Lets the start state join the states at the position, or, where no state is there, at the next position where a match
+/// Lets the start state join the states at the position, or, where no state is there, at the next position where a
+/// match
 /// may begin. Where none may begin here, or at the limit, it does not join. Answers the position.
 fn join_or_skip(
     first: &FirstBytes,
@@ -56,7 +58,8 @@ fn join_or_skip(
     ensures seen { threads.new.seen ≡ threads.old.seen }
     ensures frames { threads.new.frames.items ≡ threads.old.frames.items }
     ensures scans { threads.new.scans ≡ threads.old.scans }
-    ensures joins { Joins first.now.may_begin (search_of input.now) starts.now limit threads.old.curr.width at threads.old.curr.items result threads.new.curr.items }
+    ensures joins { Joins first.now.may_begin (search_of input.now) starts.now limit threads.old.curr.width at
+        threads.old.curr.items result threads.new.curr.items }
 {
     if at >= limit {
         return at;
@@ -174,7 +177,8 @@ fn scan_earliest(
     ensures sizes { SameSizes threads.old threads.new }
     ensures scans { threads.new.scans ≡ threads.old.scans }
     ensures turns { threads.new.seen.turns ≤ threads.old.seen.turns + scan_turns nfa.now (search_of input.now) }
-    ensures answer { Scans nfa.now (search_of input.now) (cond past_match All LeftmostFirst) true result slots.new threads.new.seen.turns }
+    ensures answer { Scans nfa.now (search_of input.now) (cond past_match All LeftmostFirst) true result slots.new
+        threads.new.seen.turns }
 {
     for at in input.start()..input.end() + 1 {
         join(starts, at, threads);

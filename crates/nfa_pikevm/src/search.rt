@@ -32,7 +32,8 @@ fn search_once(
     requires counted { threads.old.scans ≡ 0 }
     requires turned { threads.old.seen.turns ≡ 0 }
     requires mode { is_utf8_empty nfa.now ≡ false }
-    ensures answer { Searched nfa.now (search_of input.now) kind (search_of input.now).earliest result slots.new threads.new.scans threads.new.seen.turns }
+    ensures answer { Searched nfa.now (search_of input.now) kind (search_of input.now).earliest result slots.new threads.new.scans
+        threads.new.seen.turns }
     ensures sizes { SameSizes threads.old threads.new }
     ensures scans { threads.new.scans ≤ scan_limit nfa.now (search_of input.now) }
     ensures turns { threads.new.seen.turns ≤ threads.new.scans * scan_turns nfa.now (search_of input.now) }
@@ -55,7 +56,8 @@ fn search_kept(
     requires turned { threads.old.seen.turns ≡ 0 }
     requires mode { is_utf8_empty nfa.now ≡ true }
     requires anchored { is_anchored (search_of input.now).anchored ≡ true }
-    ensures answer { Searched nfa.now (search_of input.now) kind (search_of input.now).earliest result slots.new threads.new.scans threads.new.seen.turns }
+    ensures answer { Searched nfa.now (search_of input.now) kind (search_of input.now).earliest result slots.new threads.new.scans
+        threads.new.seen.turns }
     ensures sizes { SameSizes threads.old threads.new }
     ensures scans { threads.new.scans ≤ scan_limit nfa.now (search_of input.now) }
     ensures turns { threads.new.seen.turns ≤ threads.new.scans * scan_turns nfa.now (search_of input.now) }
@@ -83,7 +85,8 @@ fn search_whole(
     requires turned { threads.old.seen.turns ≡ 0 }
     requires mode { is_utf8_empty nfa.now ≡ true }
     requires anchored { is_anchored (search_of input.now).anchored ≡ false }
-    ensures answer { Searched nfa.now (search_of input.now) kind (search_of input.now).earliest result slots.new threads.new.scans threads.new.seen.turns }
+    ensures answer { Searched nfa.now (search_of input.now) kind (search_of input.now).earliest result slots.new threads.new.scans
+        threads.new.seen.turns }
     ensures sizes { SameSizes threads.old threads.new }
     ensures scans { threads.new.scans ≤ scan_limit nfa.now (search_of input.now) }
     ensures turns { threads.new.seen.turns ≤ threads.new.scans * scan_turns nfa.now (search_of input.now) }
@@ -112,7 +115,8 @@ pub fn search(
     requires serves { HaveRoom nfa.now (length slots.old) threads.old }
     requires counted { threads.old.scans ≡ 0 }
     requires turned { threads.old.seen.turns ≡ 0 }
-    ensures answer { Searched nfa.now (search_of input.now) kind (search_of input.now).earliest result slots.new threads.new.scans threads.new.seen.turns }
+    ensures answer { Searched nfa.now (search_of input.now) kind (search_of input.now).earliest result slots.new threads.new.scans
+        threads.new.seen.turns }
     ensures sizes { SameSizes threads.old threads.new }
     ensures scans { threads.new.scans ≤ scan_limit nfa.now (search_of input.now) }
     ensures turns { threads.new.seen.turns ≤ threads.new.scans * scan_turns nfa.now (search_of input.now) }

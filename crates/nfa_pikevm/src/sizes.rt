@@ -80,7 +80,8 @@ pub fn make_room(
     filler: StateID,
 ) -> Result<(), Refused>
     requires { IsSize size.now }
-    ensures room { OnOk result (IsRoomFor size.now.states size.now.slots size.now.frames threads.new.seen (length threads.new.frames.items) threads.new.curr threads.new.next (length found.new.items)) }
+    ensures room { OnOk result (IsRoomFor size.now.states size.now.slots size.now.frames threads.new.seen
+        (length threads.new.frames.items) threads.new.curr threads.new.next (length found.new.items)) }
     ensures turns { threads.new.seen.turns ≡ threads.old.seen.turns }
     ensures scans { threads.new.scans ≡ threads.old.scans }
     ensures seen { OnErr result (threads.new.seen ≡ threads.old.seen) }

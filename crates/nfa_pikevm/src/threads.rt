@@ -84,7 +84,8 @@ fn cross_states(
     ensures size { length seen.new.bits ≡ length seen.old.bits }
     ensures grows { seen.old.turns ≤ seen.new.turns }
     ensures same { next.new ≡ record next.old { items = next.new.items } }
-    ensures crosses { Crosses nfa.now (search_of input.now) at past_match seen.old (items_of (length slots.old) kept.now rows.old) slots.old result seen.new next.new.items slots.new }
+    ensures crosses { Crosses nfa.now (search_of input.now) at past_match seen.old (items_of (length slots.old) kept.now rows.old)
+        slots.old result seen.new next.new.items slots.new }
 {
     let width = slots.len();
     let mut hit = None;
@@ -104,7 +105,8 @@ fn cross_states(
     hit
 }
 
-/// Follows the states at the position, and keeps what its byte leads to for the next one. It answers the last match, and
+/// Follows the states at the position, and keeps what its byte leads to for the next one. It answers the last match,
+/// and
 /// its slots; without `past_match` it stops at the first match.
 #[inline(always)]
 pub fn cross(
@@ -126,7 +128,8 @@ pub fn cross(
     ensures next { threads.new.next ≡ record threads.old.next { items = threads.new.next.items } }
     ensures frames { length threads.new.frames.items ≡ length threads.old.frames.items }
     ensures scans { threads.new.scans ≡ threads.old.scans }
-    ensures crosses { Crosses nfa.now (search_of input.now) at past_match threads.old.seen threads.old.curr.items slots.old result threads.new.seen threads.new.next.items slots.new }
+    ensures crosses { Crosses nfa.now (search_of input.now) at past_match threads.old.seen threads.old.curr.items slots.old result
+        threads.new.seen threads.new.next.items slots.new }
 {
     let Threads {
         frames,

@@ -50,7 +50,10 @@ impl Row<'_> {
                 next: state_id(next, at)?,
             },
             Row::Match(pattern) => State::Match {
-                pattern_id: PatternID::new(pattern).ok_or(BuildError::Pattern { state: at, pattern })?,
+                pattern_id: PatternID::new(pattern).ok_or(BuildError::Pattern {
+                    state: at,
+                    pattern,
+                })?,
             },
         })
     }

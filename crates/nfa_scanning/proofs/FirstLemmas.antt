@@ -42,12 +42,14 @@ Grows-set table i = record {
 }
 
 -- what the first of some transitions that holds the byte is let through by
-pub admits-first : (table : List Bool) (ts : List Transition) → All (λ t. (b : ℕ) → holds_byte t b ≡ true → Admits table b) ts
+pub admits-first : (table : List Bool) (ts : List Transition)
+    → All (λ t. (b : ℕ) → holds_byte t b ≡ true → Admits table b) ts
     → (b u : ℕ) → first_target ts b ≡ Some u → Admits table b
 admits-first table [] all b u e = cc
 admits-first table (t ∷ ts) all b u e =
     let here : (b : ℕ) → holds_byte t b ≡ true → Admits table b = all 0 t (omega arith) in
-    (elim (holds_byte t b) as (λ h. holds_byte t b ≡ h → (if h then Some t.next else first_target ts b) ≡ Some u → Admits table b) [
+    (elim (holds_byte t b) as (λ h. holds_byte t b ≡ h → (if h then Some t.next else first_target ts b) ≡ Some u
+    → Admits table b) [
       | true ↦ λ holds s. here b holds
       | false ↦ λ no s. admits-first table ts (λ k d h. all (suc k) d (omega arith)) b u s
     ]) refl e
@@ -64,10 +66,16 @@ Extends-then f g = record {
 }
 
 pub IsReached-extends : {a b : Reached} {s : ℕ} → Extends a b → IsReached a s → IsReached b s
-IsReached-extends f r = record { place = r.place; below = omega (arith, f.more, r.below); is = f.same r.place r.below ∙ r.is }
+IsReached-extends f r = record {
+  place = r.place;
+  below = omega (arith, f.more, r.below);
+  is =
+      f.same r.place r.below ∙ r.is;
+}
 
 -- what is covered stays covered
-pub Covers-more : (a b : Reached) (t u : List Bool) → Extends a b → Grows t u → (node : Node) → Covers a t node → Covers b u node
+pub Covers-more : (a b : Reached) (t u : List Bool) → Extends a b → Grows t u → (node : Node) → Covers a t node
+    → Covers b u node
 Covers-more a b t u f g (ByteRange trans) c = λ k s e. g.still k (c k s e)
 Covers-more a b t u f g (Sparse ts) c = λ k s e. g.still k (c k s e)
 Covers-more a b t u f g (Dense targets) c = λ k s e. g.still k (c k s e)
@@ -80,13 +88,15 @@ Covers-more a b t u f g (Match pattern) c = c
 
 module _ (nfa : Automaton) where
   -- one state more is followed
-  pub covers-step : (a b : Reached) (t u : List Bool) (done d : ℕ) (node : Node) → done < a.len → done < length a.states → Extends a b → Grows t u
+  pub covers-step : (a b : Reached) (t u : List Bool) (done d : ℕ) (node : Node) → done < a.len → done < length a.states
+      → Extends a b → Grows t u
       → slice_get nfa.states (get_or a.states done d) ≡ Some node → Covers b u node
       → ((k : ℕ) → k < done → Covers a t (node_at nfa (get_or a.states k 0)))
       → (k : ℕ) → k < done + 1 → Covers b u (node_at nfa (get_or b.states k 0))
   unfolding node_at
   covers-step a b t u done d node less inside f g is here below =
-      let at : slice_get nfa.states (get_or a.states done 0) ≡ Some node = rw (get_or_default a.states done 0 d inside) is in
+      let at : slice_get nfa.states (get_or a.states done 0) ≡ Some node =
+      rw (get_or_default a.states done 0 d inside) is in
       below_more (λ k. Covers b u (node_at nfa (get_or b.states k 0))) done
       (λ k h.
       let in' : k < a.len = omega arith in
@@ -100,7 +110,8 @@ module _ (nfa : Automaton) where
   covers-all r table done all below s i = rw (← i.is) (below i.place (omega (arith, i.below)))
 
 -- the byte at a position before the end of the span
-pub byte_at-inside : (x : Search) (at : ℕ) → at < x.end → x.end ≤ length x.haystack → byte_at x at ≡ Some (get_or x.haystack at 0)
+pub byte_at-inside : (x : Search) (at : ℕ) → at < x.end → x.end ≤ length x.haystack
+    → byte_at x at ≡ Some (get_or x.haystack at 0)
 byte_at-inside x at less fits =
     let inside : at < length x.haystack = omega arith in
     rw (lt-ltb at x.end less) (slice_get-get_or x.haystack at 0 inside)
@@ -110,29 +121,36 @@ byte_at-inside x at less fits =
 lands : (r : Reached) (next at : ℕ) (w : Pair) → w ≡ (next, at) → IsReached r next → (w.1 ≡ at) × IsReached r w.0
 lands r next at w e reached = (ap (λ (v : Pair). v.1) e, subst (λ (v : Pair). IsReached r v.0) (sym e) reached)
 
-lands-among : (r : Reached) (at : ℕ) (w : Pair) (es : List ℕ) → All (IsReached r) es → In w (map (λ next. (next, at)) es) → (w.1 ≡ at) × IsReached r w.0
+lands-among : (r : Reached) (at : ℕ) (w : Pair) (es : List ℕ) → All (IsReached r) es
+    → In w (map (λ next. (next, at)) es) → (w.1 ≡ at) × IsReached r w.0
 lands-among r at w [] all i = absurd i
 lands-among r at w (e ∷ es) all (inl same) = lands r e at w same (all 0 e (omega arith))
 lands-among r at w (e ∷ es) all (inr i) = lands-among r at w es (λ k d h. all (suc k) d (omega arith)) i
 
-lands-if : (r : Reached) (next at : ℕ) (w : Pair) (holds : Bool) → In w (if holds then (next, at) ∷ [] else []) → IsReached r next → (w.1 ≡ at) × IsReached r w.0
+lands-if : (r : Reached) (next at : ℕ) (w : Pair) (holds : Bool) → In w (if holds then (next, at) ∷ [] else [])
+    → IsReached r next → (w.1 ≡ at) × IsReached r w.0
 lands-if r next at w true (inl e) reached = lands r next at w e reached
 lands-if r next at w true (inr never) reached = absurd never
 lands-if r next at w false i reached = absurd i
 
 -- a state that reads only what is let through leads nowhere on a byte that is refused
-no-target : (table : List Bool) (x : Search) (node : Node) (at : ℕ) → IsRefused table x at → ((b t : ℕ) → target_on node b ≡ Some t → Admits table b)
-    → (w : Pair) → In w (option_to_list (option_and_then (λ b. option_map (λ next. (next, at + 1)) (target_on node b)) (byte_at x at))) → ⊥
+no-target : (table : List Bool) (x : Search) (node : Node) (at : ℕ) → IsRefused table x at
+    → ((b t : ℕ) → target_on node b ≡ Some t → Admits table b)
+    → (w : Pair) → In w (option_to_list (option_and_then (λ b. option_map (λ next. (next, at + 1)) (target_on node b))
+    (byte_at x at))) → ⊥
 no-target table x node at f admits w i =
     none (target_on node f.byte) refl
-    (subst (λ (o : Option ℕ). In w (option_to_list (option_and_then (λ b. option_map (λ next. (next, at + 1)) (target_on node b)) o))) f.read i)
+    (subst (λ (o : Option ℕ). In w (option_to_list
+    (option_and_then (λ b. option_map (λ next. (next, at + 1)) (target_on node b)) o))) f.read i)
   where
-    none : (o : Option ℕ) → target_on node f.byte ≡ o → In w (option_to_list (option_map (λ next. (next, at + 1)) o)) → ⊥
+    none : (o : Option ℕ) → target_on node f.byte ≡ o
+        → In w (option_to_list (option_map (λ next. (next, at + 1)) o)) → ⊥
     none None e i = i
     none (Some t) e i = let a = admits f.byte t e in let r = f.refused in absurd (cc (a, r))
 
 module _ (r : Reached) (table : List Bool) (x : Search) (at : ℕ) (f : IsRefused table x at) where
-  edge-lands : (node : Node) → Covers r table node → (w : Pair) → In w (edges_of x node at) → (w.1 ≡ at) × IsReached r w.0
+  edge-lands : (node : Node) → Covers r table node → (w : Pair) → In w (edges_of x node at)
+      → (w.1 ≡ at) × IsReached r w.0
   unfolding edges_of
   edge-lands (ByteRange trans) c w i = absurd (no-target table x (ByteRange trans) at f c w i)
   edge-lands (Sparse ts) c w i = absurd (no-target table x (Sparse ts) at f c w i)
@@ -160,14 +178,16 @@ no-match r table Fail c e = cc
 
 module _ (nfa : Automaton) (table : List Bool) where
   -- where all that is reached is covered, a path from there on a byte that is refused ends nowhere
-  no-path : (r : Reached) → ((s : ℕ) → IsReached r s → Covers r table (node_at nfa s)) → (x : Search) → {v : Pair} {p : List Pair}
+  no-path : (r : Reached) → ((s : ℕ) → IsReached r s → Covers r table (node_at nfa s)) → (x : Search)
+      → {v : Pair} {p : List Pair}
       → Path (edges nfa x) (is_match nfa) v p → IsReached r v.0 → IsRefused table x v.1 → ⊥
   no-path r covers x (stop {v = v} t) at f = no-match r table (node_at nfa v.0) (covers v.0 at) t
   no-path r covers x (go {v = v} {w = w} t i n h) at f =
       let s = edge-lands r table x v.1 f (node_at nfa v.0) (covers v.0 at) w i in
       no-path r covers x h s.1 (rw s.0 f)
 
-  pub IsFirstBytes-covered : (r : Reached) → IsReached r nfa.anchored → ((s : ℕ) → IsReached r s → Covers r table (node_at nfa s))
+  pub IsFirstBytes-covered : (r : Reached) → IsReached r nfa.anchored
+      → ((s : ℕ) → IsReached r s → Covers r table (node_at nfa s))
       → IsFirstBytes nfa table
   IsFirstBytes-covered r start covers = record { none = λ x at f marks p a. no-path r covers x a.path start f }
 

@@ -12,4 +12,5 @@ bytes = vstruct vnil
 
 pub made : {M : Type 1} {𝓤 : Ura M} (𝓛 : Logic 𝓤) (n : ℕ) → ent 𝓤 (emp 𝓤) (sem 𝓛 (the_row.own_val n (bytes ∷ [])))
 made 𝓛 n =
-    makes_shadow 𝓛 (the_row.own_val n (bytes ∷ [])) (λ a. (((λ vss. (tt, tt)), tt), tt)) ((record { count = n }, (refl, tt)), (((tt, (refl, tt)), tt), tt))
+    makes_shadow 𝓛 (the_row.own_val n (bytes ∷ [])) (λ a. (((λ vss. (tt, tt)), tt), tt))
+    ((record { count = n }, (refl, tt)), (((tt, (refl, tt)), tt), tt))

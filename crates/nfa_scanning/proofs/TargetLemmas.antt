@@ -47,11 +47,13 @@ dense-below n u (Some t ∷ targets) zero below e =
     let same : t ≡ u = cc in rw (← same) here
 dense-below n u (o ∷ targets) (suc b) below e = dense-below n u targets b (λ k d h. below (suc k) d (omega arith)) e
 
-dense-some : (u : ℕ) (targets : List (Option ℕ)) (b : ℕ) → option_and_then (λ t. t) (slice_get targets b) ≡ Some u → 1 ≤ count_by is_some targets
+dense-some : (u : ℕ) (targets : List (Option ℕ)) (b : ℕ) → option_and_then (λ t. t) (slice_get targets b) ≡ Some u
+    → 1 ≤ count_by is_some targets
 dense-some u [] b e = cc
 dense-some u (None ∷ targets) zero e = cc
 dense-some u (Some t ∷ targets) zero e = omega (arith, sum_by-cons (λ o. cond (is_some o) 1 0) (Some t) targets)
-dense-some u (o ∷ targets) (suc b) e = omega (arith, sum_by-cons (λ p. cond (is_some p) 1 0) o targets, dense-some u targets b e)
+dense-some u (o ∷ targets) (suc b) e = omega
+    (arith, sum_by-cons (λ p. cond (is_some p) 1 0) o targets, dense-some u targets b e)
 
 -- a target is a state
 pub target-below : (n : ℕ) (node : Node) (b t : ℕ) → LeadsBelow n node → target_on node b ≡ Some t → t < n
@@ -79,10 +81,12 @@ target-degree (Match pattern) b t e = cc
 
 -- a resting state has no more edges than its degree
 byte-edges : (node : Node) (at : ℕ) (byte : Option ℕ)
-    → length {A = Pair} (option_to_list (option_and_then (λ b. option_map (λ next. (next, at + 1)) (target_on node b)) byte)) ≤ degree node
+    → length {A = Pair} (option_to_list (option_and_then (λ b. option_map (λ next. (next, at + 1)) (target_on node b))
+    byte)) ≤ degree node
 byte-edges node at None = omega arith
 byte-edges node at (Some b) =
-    (elim (target_on node b) as (λ o. target_on node b ≡ o → length {A = Pair} (option_to_list (option_map (λ next. (next, at + 1)) o)) ≤ degree node) [
+    (elim (target_on node b) as (λ o. target_on node b ≡ o
+    → length {A = Pair} (option_to_list (option_map (λ next. (next, at + 1)) o)) ≤ degree node) [
       | None ↦ λ none. omega arith
       | Some t ↦ λ some. let k : 1 ≤ degree node = target-degree node b t some in k
     ]) refl

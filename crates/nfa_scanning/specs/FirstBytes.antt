@@ -51,4 +51,5 @@ pub record IsRefused (table : List Bool) (x : Search) (at : ℕ) : Type 0 where
 
 -- from where an anchored search starts, no path leads to a match from a position that the table refuses
 pub record IsFirstBytes (nfa : Automaton) (table : List Bool) : Type 0 where
-  pub none : (x : Search) (at : ℕ) → IsRefused table x at → (marks : List Pair) → IsFirst (edges nfa x) (is_match nfa) marks (nfa.anchored, at) None
+  pub none : (x : Search) (at : ℕ) → IsRefused table x at → (marks : List Pair)
+      → IsFirst (edges nfa x) (is_match nfa) marks (nfa.anchored, at) None

@@ -43,7 +43,8 @@ pub fn skip_limit(nfa: &NFA, input: &Input<'_>) -> usize
     requires { (search_of input.now).start ≤ (search_of input.now).end }
     ensures count { result + 1 ≡ (search_of input.now).start + start_count nfa.now (search_of input.now) }
     ensures within { result ≤ (search_of input.now).end }
-    ensures anchored { (search_of input.now).start < result → start_state nfa.now (search_of input.now).anchored ≡ Some nfa.now.anchored }
+    ensures anchored { (search_of input.now).start < result → start_state nfa.now (search_of input.now).anchored
+        ≡ Some nfa.now.anchored }
 {
     start_limit(nfa, input) - 1
 }

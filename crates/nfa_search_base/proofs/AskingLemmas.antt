@@ -13,7 +13,13 @@ same_start-self s = record { haystack = refl; end = refl; anchored = refl; earli
 
 -- and the same as one that is the same as its like
 pub same_start-then : (s t u : Search) → SameButStart s t → SameButStart t u → SameButStart s u
-same_start-then s t u a b = record { haystack = b.haystack ∙ a.haystack; end = b.end ∙ a.end; anchored = b.anchored ∙ a.anchored; earliest = b.earliest ∙ a.earliest }
+same_start-then s t u a b = record {
+  haystack = b.haystack ∙ a.haystack;
+  end = b.end ∙ a.end;
+  anchored = b.anchored
+      ∙ a.anchored;
+  earliest = b.earliest ∙ a.earliest;
+}
 
 -- each search is the same as itself
 pub same_end-self : (s : Search) → SameButEnd s s
@@ -21,31 +27,43 @@ same_end-self s = record { haystack = refl; start = refl; anchored = refl; earli
 
 -- and the same as one that is the same as its like
 pub same_end-then : (s t u : Search) → SameButEnd s t → SameButEnd t u → SameButEnd s u
-same_end-then s t u a b = record { haystack = b.haystack ∙ a.haystack; start = b.start ∙ a.start; anchored = b.anchored ∙ a.anchored; earliest = b.earliest ∙ a.earliest }
+same_end-then s t u a b = record {
+  haystack = b.haystack ∙ a.haystack;
+  start = b.start ∙ a.start;
+  anchored = b.anchored
+      ∙ a.anchored;
+  earliest = b.earliest ∙ a.earliest;
+}
 
-module _ {S R : Type 0} (accepts : S → Search → Type 0) (asks : S → Search → R → S → Type 0) (Same : Search → Search → Type 0)
+module _ {S R : Type 0} (accepts : S → Search → Type 0) (asks : S → Search → R → S → Type 0)
+    (Same : Search → Search → Type 0)
     (same-self : (s : Search) → Same s s) (same-then : (s t u : Search) → Same s t → Same t u → Same s u) where
   -- calls on searches like t are calls on searches like s
-  pub LeadsOn-from : (s t : Search) (f : S) (calls : List (Search × R)) (f' : S) → Same s t → LeadsOn accepts asks Same t f calls f' → LeadsOn accepts asks Same s f calls f'
+  pub LeadsOn-from : (s t : Search) (f : S) (calls : List (Search × R)) (f' : S) → Same s t
+      → LeadsOn accepts asks Same t f calls f' → LeadsOn accepts asks Same s f calls f'
   LeadsOn-from s t f [] f' same leads = leads
   LeadsOn-from s t f (x ∷ calls) f' same leads =
       (leads.0, (same-then s t x.0 same leads.1.0, leads.1.1), LeadsOn-from s t leads.0 calls f' same leads.2)
 
   module _ (P : Search → R → Type 0) where
     -- the same from a search like it
-    pub ServesOnAlong-same : (f : S) (s t : Search) → Same s t → ServesOnAlong accepts asks Same P f s → ServesOnAlong accepts asks Same P f t
+    pub ServesOnAlong-same : (f : S) (s t : Search) → Same s t → ServesOnAlong accepts asks Same P f s
+        → ServesOnAlong accepts asks Same P f t
     ServesOnAlong-same f s t same serves = record {
-      at = λ calls f' u leads like. serves.at calls f' u (LeadsOn-from s t f calls f' same leads) (same-then s t u same like);
+      at = λ calls f' u leads like. serves.at calls f' u (LeadsOn-from s t f calls f' same leads)
+          (same-then s t u same like);
     }
 
     -- after a call
-    pub ServesOnAlong-call : (f : S) (s t : Search) (reply : R) (f' : S) → Same s t → asks f t reply f' → ServesOnAlong accepts asks Same P f s → ServesOnAlong accepts asks Same P f' s
+    pub ServesOnAlong-call : (f : S) (s t : Search) (reply : R) (f' : S) → Same s t → asks f t reply f'
+        → ServesOnAlong accepts asks Same P f s → ServesOnAlong accepts asks Same P f' s
     ServesOnAlong-call f s t reply f' same asked serves = record {
       at = λ calls f'' u leads like. serves.at ((t, reply) ∷ calls) f'' u (f', (same, asked), leads) like;
     }
 
     -- the next call
-    pub ServesOn-now : (f : S) (s t : Search) → Same s t → ServesOnAlong accepts asks Same P f s → ServesOn accepts asks P f t
+    pub ServesOn-now : (f : S) (s t : Search) → Same s t → ServesOnAlong accepts asks Same P f s
+        → ServesOn accepts asks P f t
     ServesOn-now f s t same serves = serves.at [] f t refl same
 
     -- where an invariant of the state holds now and after each call, what it gives holds along the calls
@@ -64,10 +82,12 @@ module _ {S R : Type 0} (accepts : S → Search → Type 0) (asks : S → Search
       where
         kept : (calls : List (Search × R)) (q q' : S) → Inv q → LeadsOn accepts asks Same s q calls q' → Inv q'
         kept [] q q' inv leads = subst (λ (z : S). Inv z) leads inv
-        kept (x ∷ calls) q q' inv leads = kept calls leads.0 q' (says q x.0 x.1 leads.0 leads.1.0 inv leads.1.1).1 leads.2
+        kept (x ∷ calls) q q' inv leads = kept calls leads.0 q'
+            (says q x.0 x.1 leads.0 leads.1.0 inv leads.1.1).1 leads.2
 
   -- what holds of each reply may be weakened
-  pub ServesOnAlong-weaker : (P Q : Search → R → Type 0) (f : S) (s : Search) → ((t : Search) (reply : R) → P t reply → Q t reply)
+  pub ServesOnAlong-weaker : (P Q : Search → R → Type 0) (f : S) (s : Search)
+      → ((t : Search) (reply : R) → P t reply → Q t reply)
       → ServesOnAlong accepts asks Same P f s → ServesOnAlong accepts asks Same Q f s
   ServesOnAlong-weaker P Q f s weaker serves = record {
     at = λ calls f' t leads same.
@@ -76,13 +96,16 @@ module _ {S R : Type 0} (accepts : S → Search → Type 0) (asks : S → Search
   }
 
 module _ {F R : Type 0} (g : Mut F (Bor Input × Unit {0}) R) (Same : Search → Search → Type 0)
-    (same-self : (s : Search) → Same s s) (same-then : (s t u : Search) → Same s t → Same t u → Same s u) (P : Search → R → Type 0) where
+    (same-self : (s : Search) → Same s s) (same-then : (s t u : Search) → Same s t → Same t u → Same s u)
+    (P : Search → R → Type 0) where
   -- where an invariant of the finder holds now and after each call, what it gives holds along the calls
   pub ServesAlong-by : (Inv : F → Type 0) (f : F) (s : Search) → Inv f
       → ((q : F) (p : Bor Input) → Same s (search_of p.now) → Inv q → g.pre q (p, tt))
-      → ((q : F) (p : Bor Input) (reply : R) (q' : F) → Same s (search_of p.now) → Inv q → Called g q (p, tt) reply q' → P (search_of p.now) reply × Inv q')
+      → ((q : F) (p : Bor Input) (reply : R) (q' : F) → Same s (search_of p.now) → Inv q → Called g q (p, tt) reply q'
+      → P (search_of p.now) reply × Inv q')
       → ServesAlong g Same P f s
-  ServesAlong-by Inv f s now may says = ServesOnAlong-by (IsCallableOn g) (Asks g) Same same-self same-then P Inv f s now
+  ServesAlong-by Inv f s now may says = ServesOnAlong-by (IsCallableOn g) (Asks g) Same same-self
+      same-then P Inv f s now
       (λ q t same inv p e. may q p (rw e same) inv)
       (λ q t reply q' same inv asked.
       let k = says q asked.shown reply q' (rw asked.shows same) inv asked.called in
@@ -91,6 +114,8 @@ module _ {F R : Type 0} (g : Mut F (Bor Input × Unit {0}) R) (Same : Search →
   -- what holds of each call in any state of the finder holds along the calls
   pub ServesAlong-always : (f : F) (s : Search)
       → ((q : F) (p : Bor Input) → Same s (search_of p.now) → g.pre q (p, tt))
-      → ((q : F) (p : Bor Input) (reply : R) (q' : F) → Same s (search_of p.now) → Called g q (p, tt) reply q' → P (search_of p.now) reply)
+      → ((q : F) (p : Bor Input) (reply : R) (q' : F) → Same s (search_of p.now) → Called g q (p, tt) reply q'
+      → P (search_of p.now) reply)
       → ServesAlong g Same P f s
-  ServesAlong-always f s may says = ServesAlong-by (λ (q : F). Unit {0}) f s tt (λ q p same u. may q p same) (λ q p reply q' same u called. (says q p reply q' same called, tt))
+  ServesAlong-always f s may says = ServesAlong-by (λ (q : F). Unit {0}) f s tt (λ q p same u. may q p same)
+      (λ q p reply q' same u called. (says q p reply q' same called, tt))

@@ -30,15 +30,18 @@ abbrev value : Caught → Item Row
 value r = item_by row_of r
 
 -- no item came: the step had no match
-at_none : {F : Type 0} (c : Catching F) (a : Answer Row) (rest : List (Item Row)) → GivesCaptures c a None → UpToRefusal (items_from row_span a rest) []
+at_none : {F : Type 0} (c : Catching F) (a : Answer Row) (rest : List (Item Row)) → GivesCaptures c a None
+    → UpToRefusal (items_from row_span a rest) []
 at_none c (Ok (Some m)) rest (inl h) = let k : None ≡ Some (Ok c.captures) = h.0 in cc
 at_none c (Ok (Some m)) rest (inr h) = let k : None ≡ Some (Err Memory) = h in cc
 at_none c (Ok None) rest h = tt
 at_none c (Err e) rest h = let k : None ≡ Some (Err e) = h in cc
 
 -- an item came: it is the step's, or a refusal
-at_some : {F : Type 0} (c : Catching F) (a : Answer Row) (rest : List (Item Row)) (x : Caught) (xs : List (Item Row)) → GivesCaptures c a (Some x)
-    → (ends_at (Some x) ≡ true → xs ≡ []) → (ends_at (Some x) ≡ false → UpToRefusal rest xs) → UpToRefusal (items_from row_span a rest) (value x ∷ xs)
+at_some : {F : Type 0} (c : Catching F) (a : Answer Row) (rest : List (Item Row)) (x : Caught) (xs : List (Item Row))
+    → GivesCaptures c a (Some x)
+    → (ends_at (Some x) ≡ true → xs ≡ []) → (ends_at (Some x) ≡ false → UpToRefusal rest xs)
+    → UpToRefusal (items_from row_span a rest) (value x ∷ xs)
 at_some c (Ok (Some m)) rest (Ok d) xs (inl h) end onward =
     let k : Some (Ok d) ≡ Some (Ok c.captures) = h.0 in
     let same : d ≡ c.captures = cc in
@@ -60,7 +63,8 @@ goes_on (Ok d) = inr refl
 goes_on (Err e) = inl refl
 
 -- where the finder does not err, the only error is a refusal
-at_most : {F : Type 0} (c : Catching F) (a : Answer Row) (r : Option Caught) → IsOk a → GivesCaptures c a r → IsAtMostMemory r
+at_most : {F : Type 0} (c : Catching F) (a : Answer Row) (r : Option Caught) → IsOk a → GivesCaptures c a r
+    → IsAtMostMemory r
 at_most c a None ok h = tt
 at_most c a (Some (Ok d)) ok h = tt
 at_most c (Ok (Some m)) (Some (Err e)) ok (inl h) = let k : Some (Err e) ≡ Some (Ok c.captures) = h.0 in cc
@@ -68,7 +72,8 @@ at_most c (Ok (Some m)) (Some (Err e)) ok (inr h) = let k : Some (Err e) ≡ Som
 at_most c (Ok None) (Some (Err e)) ok h = let k : Some (Err e) ≡ None = h in cc
 at_most c (Err x) (Some (Err e)) ok h = let k : false ≡ true = ok in cc
 
-module _ {F : Type 0} (g : Mut F (Bor Input × (MutBor Captured × Unit {0})) (Result (Unit {0}) SearchError × (MutBor Captured × Unit {0}))) where
+module _ {F : Type 0} (g : Mut F (Bor Input × (MutBor Captured × Unit {0}))
+    (Result (Unit {0}) SearchError × (MutBor Captured × Unit {0}))) where
   abbrev steps : Steps (Catching F) → Option Caught → Steps (Catching F) → Type 0
   steps s r t = takes_steps row_span (Catches g) GivesCaptures s r t
 
@@ -92,43 +97,56 @@ module _ {F : Type 0} (g : Mut F (Bor Input × (MutBor Captured × Unit {0})) (R
       of false e m = cc
 
   -- where the finder never errs, a step has no error but a refusal
-  pub sure-step : (s t : Steps (Catching F)) (r : Option Caught) → can_step_surely (CanCatch g) (Catches g) row_span s → steps s r t → takes_sure_catches g s r t
+  pub sure-step : (s t : Steps (Catching F)) (r : Option Caught) → can_step_surely (CanCatch g) (Catches g) row_span s
+      → steps s r t → takes_sure_catches g s r t
   sure-step s t r can st = (st, at_done s.done st)
     where
       at_done : (b : Bool) → MatchBool b ((r ≡ None) × (t ≡ s)) (turn s r t) → IsAtMostMemory r
       at_done true x = subst (λ (q : Option Caught). IsAtMostMemory q) (sym x.0) tt
       at_done false x = at_most t.asker x.answer r
-          (Along-answer (CanCatch g) (Catches g) row_span (IsSurelyInside row_span) s.asker (steps_walk s) x.answer t.asker (steps_walk t) x.step can).1.1 x.item
+          (Along-answer (CanCatch g) (Catches g) row_span (IsSurelyInside row_span) s.asker (steps_walk s) x.answer
+          t.asker (steps_walk t) x.step can).1.1 x.item
 
   module _ (h : Search → Answer Row) where
-    acts : (f : Catching F) (s : Search) (a : Answer Row) (f' : Catching F) → CatchesBy g h f s → Catches g f s a f' → (a ≡ h s) × CatchesBy g h f' s
+    acts : (f : Catching F) (s : Search) (a : Answer Row) (f' : Catching F) → CatchesBy g h f s → Catches g f s a f'
+        → (a ≡ h s) × CatchesBy g h f' s
     acts f s a f' computes asked = (
-      Along-now (CanCatch g) (Catches g) row_span (λ (t : Search) (b : Answer Row). b ≡ h t) f s s a f' (same_start-self s) asked computes,
-      Along-call (CanCatch g) (Catches g) row_span (λ (t : Search) (b : Answer Row). b ≡ h t) f s s a f' (same_start-self s) asked computes,
+      Along-now (CanCatch g) (Catches g) row_span (λ (t : Search) (b : Answer Row). b ≡ h t) f s s a f'
+          (same_start-self s) asked computes,
+      Along-call (CanCatch g) (Catches g) row_span (λ (t : Search) (b : Answer Row). b ≡ h t) f s s a f'
+          (same_start-self s) asked computes,
     )
 
     moves : (f : Catching F) (s t : Search) → SameButStart s t → CatchesBy g h f s → CatchesBy g h f t
-    moves f s t same computes = Along-same (CanCatch g) (Catches g) row_span (λ (u : Search) (b : Answer Row). b ≡ h u) f s t same computes
+    moves f s t same computes = Along-same (CanCatch g) (Catches g) row_span (λ (u : Search) (b : Answer Row). b ≡ h u)
+        f s t same computes
 
     -- R takes these steps
-    module _ (R : Steps (Catching F) → Option Caught → Steps (Catching F) → Type 0) (takes : (s : Steps (Catching F)) (r : Option Caught) (t : Steps (Catching F)) → R s r t → steps s r t) where
+    module _ (R : Steps (Catching F) → Option Caught → Steps (Catching F) → Type 0)
+        (takes : (s : Steps (Catching F)) (r : Option Caught) (t : Steps (Catching F)) → R s r t → steps s r t) where
       after_end : (s t : Steps (Catching F)) (xs : List Caught) → s.done ≡ true → Yields R s xs t → xs ≡ []
       after_end s t [] d ran = refl
-      after_end s t (x ∷ xs) d ran = let e : Some x ≡ None = none_of s ran.0 (Some x) d (takes s (Some x) ran.0 ran.1) in cc
+      after_end s t (x ∷ xs) d ran = let e : Some x ≡ None =
+          none_of s ran.0 (Some x) d (takes s (Some x) ran.0 ran.1) in cc
 
-      within : (n : ℕ) (s : Steps (Catching F)) (xs : List Caught) (t u : Steps (Catching F)) → CatchesBy g h s.asker (steps_walk s).at → s.done ≡ false → ends_left (steps_walk s) < n
+      within : (n : ℕ) (s : Steps (Catching F)) (xs : List Caught) (t u : Steps (Catching F))
+          → CatchesBy g h s.asker (steps_walk s).at → s.done ≡ false → ends_left (steps_walk s) < n
           → Yields R s xs t → R t None u → UpToRefusal (items_within row_span h n (steps_walk s)) (map value xs)
       within zero s xs t u computes d lt ran over = absurd (omega arith)
       within (suc n) s [] t u computes d lt ran over =
           let x = turn_of s u None d (takes s None u (subst (λ (q : Steps (Catching F)). R q None u) (sym ran) over)) in
-          let e = step-computes row_span (Catches g) h (CatchesBy g h) acts moves s.asker (steps_walk s) x.answer u.asker (steps_walk u) computes x.step in
-          at_none u.asker (step_answer row_span h (steps_walk s)) (items_within row_span h n (step_walk row_span h (steps_walk s)))
+          let e = step-computes row_span (Catches g) h (CatchesBy g h) acts moves s.asker (steps_walk s) x.answer
+          u.asker (steps_walk u) computes x.step in
+          at_none u.asker (step_answer row_span h (steps_walk s))
+          (items_within row_span h n (step_walk row_span h (steps_walk s)))
           (subst (λ (a : Answer Row). GivesCaptures u.asker a None) e.0 x.item)
       within (suc n) s (y ∷ xs) t u computes d lt ran over =
           let q = ran.0 in
           let x = turn_of s q (Some y) d (takes s (Some y) q ran.1) in
-          let e = step-computes row_span (Catches g) h (CatchesBy g h) acts moves s.asker (steps_walk s) x.answer q.asker (steps_walk q) computes x.step in
-          at_some q.asker (step_answer row_span h (steps_walk s)) (items_within row_span h n (step_walk row_span h (steps_walk s))) y (map value xs)
+          let e = step-computes row_span (Catches g) h (CatchesBy g h) acts moves s.asker (steps_walk s) x.answer
+          q.asker (steps_walk q) computes x.step in
+          at_some q.asker (step_answer row_span h (steps_walk s))
+          (items_within row_span h n (step_walk row_span h (steps_walk s))) y (map value xs)
           (subst (λ (a : Answer Row). GivesCaptures q.asker a (Some y)) e.0 x.item)
           (λ ends. ap (map value) (after_end q t xs (x.ends ∙ ends) ran.2))
           (λ on.
@@ -136,37 +154,55 @@ module _ {F : Type 0} (g : Mut F (Bor Input × (MutBor Captured × Unit {0})) (R
           let less : items_left q.done (steps_walk q) < items_left false (steps_walk s) = x.fewer in
           let fewer : ends_left (steps_walk q) + 1 < ends_left (steps_walk s) + 1 = rw going at less in
           subst (λ (w : Walk). UpToRefusal (items_within row_span h n w) (map value xs)) e.1
-          (within n q xs t u (moves q.asker (steps_walk s).at (steps_walk q).at x.same e.2) going (omega arith) ran.2 over))
+          (within n q xs t u (moves q.asker (steps_walk s).at (steps_walk q).at x.same e.2) going
+          (omega arith) ran.2 over))
 
       -- whoever runs the iterator to its end has the greedy list, up to a refusal
-      pub catches-list : (s : Steps (Catching F)) → CatchesBy g h s.asker (steps_walk s).at → YieldsUpToRefusal R value s (greedy_unless row_span s.done h (steps_walk s))
+      pub catches-list : (s : Steps (Catching F)) → CatchesBy g h s.asker (steps_walk s).at
+          → YieldsUpToRefusal R value s (greedy_unless row_span s.done h (steps_walk s))
       unfolding greedy
-      catches-list s computes = record { at = λ xs drains. at_done s.done refl xs drains.1.0 drains.0 drains.1.1 drains.1.2 }
+      catches-list s computes = record {
+        at = λ xs drains. at_done s.done refl xs drains.1.0 drains.0
+            drains.1.1 drains.1.2;
+      }
         where
-          at_done : (b : Bool) → s.done ≡ b → (xs : List Caught) (t u : Steps (Catching F)) → Yields R s xs t → R t None u → UpToRefusal (greedy_unless row_span b h (steps_walk s)) (map value xs)
-          at_done true d xs t u ran over = subst (λ (zs : List Caught). UpToRefusal [] (map value zs)) (sym (after_end s t xs d ran)) tt
-          at_done false d xs t u ran over = within (suc (ends_left (steps_walk s))) s xs t u computes d (omega arith) ran over
+          at_done : (b : Bool) → s.done ≡ b → (xs : List Caught) (t u : Steps (Catching F)) → Yields R s xs t
+              → R t None u → UpToRefusal (greedy_unless row_span b h (steps_walk s)) (map value xs)
+          at_done true d xs t u ran over = subst (λ (zs : List Caught). UpToRefusal [] (map value zs))
+              (sym (after_end s t xs d ran)) tt
+          at_done false d xs t u ran over = within (suc (ends_left (steps_walk s))) s xs t u computes d
+              (omega arith) ran over
 
 -- where an invariant of the finder and its captures holds now and after each call, what it gives holds along the calls
-module _ {F : Type 0} (g : Mut F (Bor Input × (MutBor Captured × Unit {0})) (Result (Unit {0}) SearchError × (MutBor Captured × Unit {0}))) (P : Search → Answer Row → Type 0) where
+module _ {F : Type 0} (g : Mut F (Bor Input × (MutBor Captured × Unit {0}))
+    (Result (Unit {0}) SearchError × (MutBor Captured × Unit {0}))) (P : Search → Answer Row → Type 0) where
   pub CatchesAlong-by : (Inv : F → Captured → Type 0) (c : Catching F) (s : Search) → Inv c.finder c.captures
-      → ((f : F) (p : Bor Input) (q : MutBor Captured) → SameButStart s (search_of p.now) → Inv f q.now → g.pre f (p, (q, tt)))
-      → ((f : F) (p : Bor Input) (q : MutBor Captured) (reply : Result (Unit {0}) SearchError) (left : MutBor Captured) (f' : F) → SameButStart s (search_of p.now) → Inv f q.now
-      → Called g f (p, (q, tt)) (reply, (left, tt)) f' → P (search_of p.now) (caught_by left.now reply) × Inv f' left.now)
+      → ((f : F) (p : Bor Input) (q : MutBor Captured) → SameButStart s (search_of p.now) → Inv f q.now
+      → g.pre f (p, (q, tt)))
+      → ((f : F) (p : Bor Input) (q : MutBor Captured) (reply : Result (Unit {0}) SearchError) (left : MutBor Captured)
+      (f' : F) → SameButStart s (search_of p.now) → Inv f q.now
+      → Called g f (p, (q, tt)) (reply, (left, tt)) f' → P (search_of p.now) (caught_by left.now reply)
+      × Inv f' left.now)
       → CatchesAlong g P c s
-  CatchesAlong-by Inv c s now may says = ServesOnAlong-by (CanCatch g) (Catches g) SameButStart same_start-self same_start-then P (λ (q : Catching F). Inv q.finder q.captures) c s now
+  CatchesAlong-by Inv c s now may says = ServesOnAlong-by (CanCatch g) (Catches g) SameButStart same_start-self
+      same_start-then P (λ (q : Catching F). Inv q.finder q.captures) c s now
       (λ q t same inv p m e k. may q.finder p m (rw e same) (rw k inv))
       (λ q t a q' same inv caught.
       let asked = caught.asked in
-      let says_now = says q.finder asked.shown asked.lent caught.reply asked.left q'.finder (rw asked.shows same) (rw asked.lends inv) asked.called in (
+      let says_now = says q.finder asked.shown asked.lent caught.reply asked.left q'.finder (rw asked.shows same)
+      (rw asked.lends inv) asked.called in (
         subst (λ (b : Answer Row). P t b) (sym caught.answers)
-            (subst (λ (d : Captured). P t (caught_by d caught.reply)) asked.leaves (subst (λ (u : Search). P u (caught_by asked.left.now caught.reply)) asked.shows says_now.0)),
+            (subst (λ (d : Captured). P t (caught_by d caught.reply)) asked.leaves
+            (subst (λ (u : Search). P u (caught_by asked.left.now caught.reply)) asked.shows says_now.0)),
         subst (λ (d : Captured). Inv q'.finder d) asked.leaves says_now.1,
       ))
 
 -- what `collect` makes of such an iterator
-pub refusal_from_collect : {T R X Z E : Type 0} {steps : T → Option R → T → Type 0} {worth : R → Item X} {s : T} {all : List (Item X)} (r : Result (Vec R Z) E)
-    → IsCollectResult steps s r → YieldsUpToRefusal steps worth s all → IfOk r (λ w. UpToRefusal all (map worth (vec_items w)))
+pub refusal_from_collect : {T R X Z E : Type 0} {steps : T → Option R → T → Type 0} {worth : R → Item X} {s : T}
+    {all : List (Item X)} (r : Result (Vec R Z) E)
+    → IsCollectResult steps s r → YieldsUpToRefusal steps worth s all
+    → IfOk r (λ w. UpToRefusal all (map worth (vec_items w)))
 refusal_from_collect {R = R} {worth = worth} {all = all} (Ok w) d e =
-    let end = d.1.2 tt in subst (λ (ys : List R). UpToRefusal all (map worth ys)) (sym d.2.0) (e.at d.0 (end.0, (d.1.0, d.1.1, end.1)))
+    let end = d.1.2 tt in subst (λ (ys : List R). UpToRefusal all (map worth ys)) (sym d.2.0)
+    (e.at d.0 (end.0, (d.1.0, d.1.1, end.1)))
 refusal_from_collect (Err x) d e = tt

@@ -9,7 +9,8 @@ use Rattle.nfa_search_base.specs.Catching.{Row, row_span}
 use Rattle.nfa_search_base.specs.Finders.{answer_by}
 use Rattle.nfa_search_base.specs.Walks.{Answer, IsInside, LiesIn, place_of}
 
-pub empty_found : (s : Search) (m : Match) → found_of m ≡ record { pattern = 0; start = s.start; end = s.start } → s.start ≤ s.end → answer_by found_of (Ok (Some m)) ≡ empty_answer s
+pub empty_found : (s : Search) (m : Match) → found_of m ≡ record { pattern = 0; start = s.start; end = s.start }
+    → s.start ≤ s.end → answer_by found_of (Ok (Some m)) ≡ empty_answer s
 empty_found s m is low = rw (le-leb s.start s.end low) (ap (λ (x : Found). let a : Answer Found = Ok (Some x) in a) is)
 
 pub empty_none : (s : Search) → s.end < s.start → ◌≡◌ {A = Answer Found} (Ok None) (empty_answer s)
@@ -17,7 +18,8 @@ empty_none s done = rw (lt-leb s.start s.end done)
 
 -- the empty match at the start of the haystack lies in the span of a search that starts there
 pub zero_inside : (s : Search) (a : Answer Row) → a ≡ zero_row s → IsInside row_span s a
-zero_inside s a is = subst (λ (b : Answer Row). IsInside row_span s b) (sym is) (of (nat_eq s.start 0) (λ e. eqb-true s.start 0 e))
+zero_inside s a is = subst (λ (b : Answer Row). IsInside row_span s b) (sym is)
+    (of (nat_eq s.start 0) (λ e. eqb-true s.start 0 e))
   where
     found : Row
     found = record { pattern = Some 0; slots = Some 0 ∷ Some 0 ∷ [] }

@@ -17,7 +17,8 @@ if-false b x y h = rw h
 
 module _ {X : Type 0} (span : X → Span) where
   -- one turn over a search that is the function h
-  pub record IsTurnOf (h : Search → Answer X) (w : Walk) (item : Option (Item X)) (w' : Walk) (done' : Bool) : Type 0 where
+  pub record IsTurnOf (h : Search → Answer X) (w : Walk) (item : Option (Item X)) (w' : Walk)
+      (done' : Bool) : Type 0 where
     pub gives : item ≡ item_of (step_answer span h w)
     pub walk : w' ≡ step_walk span h w
     pub ends : done' ≡ ends_with (step_answer span h w)
@@ -32,32 +33,39 @@ module _ {X : Type 0} (span : X → Span) where
     back w = record { haystack = refl; end = refl; anchored = refl; earliest = refl }
 
     -- a step is the step of the function
-    pub step-computes : (s : S) (w : Walk) (r : Answer X) (s' : S) (w' : Walk) → Good s w.at → Advances span asks s w r s' w'
+    pub step-computes : (s : S) (w : Walk) (r : Answer X) (s' : S) (w' : Walk) → Good s w.at
+        → Advances span asks s w r s' w'
         → (r ≡ step_answer span h w) × (w' ≡ step_walk span h w) × Good s' w.at
     step-computes s w r s' w' good step =
         let one = acts s w.at step.answer step.between good step.first in
         let e : step.answer ≡ h w.at = one.0 in
         elim (chosen (repeats w (place_of span step.answer)) step.rest) [
           | inl p ↦
-              let b : repeats w (place_of span (h w.at)) ≡ true = subst (λ (a : Answer X). repeats w (place_of span a) ≡ true) e p.0 in
-              let two = acts step.between (shifted w).at r s' (moves step.between w.at (shifted w).at (same_start-shifted w) one.1) p.1.0 in
+              let b : repeats w (place_of span (h w.at)) ≡ true =
+              subst (λ (a : Answer X). repeats w (place_of span a) ≡ true) e p.0 in
+              let two = acts step.between (shifted w).at r s'
+              (moves step.between w.at (shifted w).at (same_start-shifted w) one.1) p.1.0 in
               let f : r ≡ h (shifted w).at = two.0 in (
                 f ∙ sym (if-true (repeats w (place_of span (h w.at))) (h (shifted w).at) (h w.at) b),
                 p.1.1 ∙ ap (λ (a : Answer X). after (shifted w) (place_of span a)) f
-                    ∙ sym (if-true (repeats w (place_of span (h w.at))) (after (shifted w) (place_of span (h (shifted w).at))) (after w (place_of span (h w.at))) b),
+                    ∙ sym (if-true (repeats w (place_of span (h w.at)))
+                    (after (shifted w) (place_of span (h (shifted w).at))) (after w (place_of span (h w.at))) b),
                 moves s' (shifted w).at w.at (back w) two.1,
               )
           | inr p ↦
-              let b : repeats w (place_of span (h w.at)) ≡ false = subst (λ (a : Answer X). repeats w (place_of span a) ≡ false) e p.0 in (
+              let b : repeats w (place_of span (h w.at)) ≡ false =
+              subst (λ (a : Answer X). repeats w (place_of span a) ≡ false) e p.0 in (
                 p.1.0 ∙ e ∙ sym (if-false (repeats w (place_of span (h w.at))) (h (shifted w).at) (h w.at) b),
                 p.1.2 ∙ ap (λ (a : Answer X). after w (place_of span a)) (p.1.0 ∙ e)
-                    ∙ sym (if-false (repeats w (place_of span (h w.at))) (after (shifted w) (place_of span (h (shifted w).at))) (after w (place_of span (h w.at))) b),
+                    ∙ sym (if-false (repeats w (place_of span (h w.at)))
+                    (after (shifted w) (place_of span (h (shifted w).at))) (after w (place_of span (h w.at))) b),
                 subst (λ (q : S). Good q w.at) (sym p.1.1) one.1,
               )
         ]
 
     -- and a turn is one of the function
-    pub turn-computes : (s : S) (w : Walk) (item : Option (Item X)) (s' : S) (w' : Walk) (d : Bool) → Good s w.at → TakesTurn span asks s w item s' w' d
+    pub turn-computes : (s : S) (w : Walk) (item : Option (Item X)) (s' : S) (w' : Walk) (d : Bool) → Good s w.at
+        → TakesTurn span asks s w item s' w' d
         → IsTurnOf h w item w' d × Good s' w'.at
     turn-computes s w item s' w' d good turn =
         let e = step-computes s w turn.answer s' w' good turn.step in (
@@ -71,10 +79,13 @@ module _ {X : Type 0} (span : X → Span) where
         )
 
   -- an iterator in a state of which Good holds takes the turns of h
-  module _ {T R : Type 0} (steps : T → Option R → T → Type 0) (value : R → Item X) (walk : T → Walk) (done : T → Bool) (h : Search → Answer X) (Good : T → Type 0)
-      (turns : (s : T) (r : Option R) (t : T) → Good s → steps s r t → MatchBool (done s) (r ≡ None) (IsTurnOf h (walk s) (option_map value r) (walk t) (done t) × Good t)) where
+  module _ {T R : Type 0} (steps : T → Option R → T → Type 0) (value : R → Item X) (walk : T → Walk) (done : T → Bool)
+      (h : Search → Answer X) (Good : T → Type 0)
+      (turns : (s : T) (r : Option R) (t : T) → Good s → steps s r t
+      → MatchBool (done s) (r ≡ None) (IsTurnOf h (walk s) (option_map value r) (walk t) (done t) × Good t)) where
     -- the turn at a state that goes on
-    turn-at : (s : T) (r : Option R) (t : T) → Good s → done s ≡ false → steps s r t → IsTurnOf h (walk s) (option_map value r) (walk t) (done t) × Good t
+    turn-at : (s : T) (r : Option R) (t : T) → Good s → done s ≡ false → steps s r t
+        → IsTurnOf h (walk s) (option_map value r) (walk t) (done t) × Good t
     turn-at s r t good d st = rw d at (turns s r t good st)
 
     -- and at one that has ended
@@ -104,16 +115,19 @@ module _ {X : Type 0} (span : X → Span) where
     )
 
     -- n steps are enough where fewer ends than n are left
-    within : (n : ℕ) (s : T) → Good s → done s ≡ false → ends_left (walk s) < n → AlwaysYields steps value s (items_within span h n (walk s))
+    within : (n : ℕ) (s : T) → Good s → done s ≡ false → ends_left (walk s) < n
+        → AlwaysYields steps value s (items_within span h n (walk s))
     within zero s good d lt = absurd (omega arith)
-    within (suc n) s good d lt = by_answer (step_answer span h (walk s)) s (items_within span h n (step_walk span h (walk s)))
+    within (suc n) s good d lt = by_answer (step_answer span h (walk s)) s
+        (items_within span h n (step_walk span h (walk s)))
         (λ r t st. let k = turn-at s r t good d st in (k.0.gives, k.0.ends, k.1))
         (λ y x t e st.
         let k = turn-at s (Some x) t good d st in
         let going : done t ≡ false = k.0.ends ∙ ap ends_with e in
         let less : items_left (done t) (walk t) < items_left false (walk s) = k.0.fewer (value x) refl in
         let fewer : ends_left (walk t) + 1 < ends_left (walk s) + 1 = rw going at less in
-        subst (λ (w : Walk). AlwaysYields steps value t (items_within span h n w)) k.0.walk (within n t k.1 going (omega arith)))
+        subst (λ (w : Walk). AlwaysYields steps value t (items_within span h n w)) k.0.walk
+        (within n t k.1 going (omega arith)))
 
     -- every run from s gives the list, and then `None`
     pub yields-greedy : (s : T) → Good s → AlwaysYields steps value s (greedy_unless span (done s) h (walk s))

@@ -71,7 +71,8 @@ module _ {X : Type 0} (span : X → Span) (tells : Search → Answer X → Type 
     step-unique w a b h k =
         let first : h.first ≡ k.first = one w.at h.first k.first h.is_first k.is_first in
         of (repeats w (place_of span h.first)) h.rest
-        (subst (λ (o : Answer X). MatchBool (repeats w (place_of span o)) (tells (shifted w).at b) (b ≡ o)) (sym first) k.rest)
+        (subst (λ (o : Answer X). MatchBool (repeats w (place_of span o)) (tells (shifted w).at b) (b ≡ o))
+        (sym first) k.rest)
       where
         of : (again : Bool) → MatchBool again (tells (shifted w).at a) (a ≡ h.first)
             → MatchBool again (tells (shifted w).at b) (b ≡ h.first) → a ≡ b
@@ -88,9 +89,11 @@ module _ {X : Type 0} (span : X → Span) (tells : Search → Answer X → Type 
         let there = subst (λ (m : X). Last (past w m) ys) (sym same) k.1 in
         let rest = next-rest (past w x) xs ys h.1 there in
         (rest.0, ap (λ (m : X). Ok m ∷ ys) (sym same) ∙ ap (λ (l : List (Item X)). Ok x ∷ l) rest.1)
-    next-rest w (Ok x ∷ xs) (Err q ∷ ys) h k = let e : Ok (Some x) ≡ Err q = step-unique w (Ok (Some x)) (Err q) h.0 k.0 in cc
+    next-rest w (Ok x ∷ xs) (Err q ∷ ys) h k = let e : Ok (Some x) ≡ Err q =
+        step-unique w (Ok (Some x)) (Err q) h.0 k.0 in cc
     next-rest w (Err e ∷ xs) [] h k = let is : Err e ≡ Ok None = step-unique w (Err e) (Ok None) h.0 k in cc
-    next-rest w (Err e ∷ xs) (Ok y ∷ ys) h k = let is : Err e ≡ Ok (Some y) = step-unique w (Err e) (Ok (Some y)) h.0 k.0 in cc
+    next-rest w (Err e ∷ xs) (Ok y ∷ ys) h k = let is : Err e ≡ Ok (Some y) =
+        step-unique w (Err e) (Ok (Some y)) h.0 k.0 in cc
     next-rest w (Err e ∷ xs) (Err q ∷ ys) h k =
         let same : e ≡ q = error-same e q (step-unique w (Err e) (Err q) h.0 k.0) in
         ([], rw (h.1, k.1, same) refl)
@@ -105,9 +108,11 @@ module _ {X : Type 0} (span : X → Span) (tells : Search → Answer X → Type 
         let same : x ≡ y = match-same x y (step-unique w (Ok (Some x)) (Ok (Some y)) h.0 k.0) in
         let there = subst (λ (m : X). Last (past w m) ys) (sym same) k.1 in
         rw (same, last-unique (past w x) xs ys h.1 there) refl
-    last-unique w (Ok x ∷ xs) (Err q ∷ ys) h k = let e : Ok (Some x) ≡ Err q = step-unique w (Ok (Some x)) (Err q) h.0 k.0 in cc
+    last-unique w (Ok x ∷ xs) (Err q ∷ ys) h k = let e : Ok (Some x) ≡ Err q =
+        step-unique w (Ok (Some x)) (Err q) h.0 k.0 in cc
     last-unique w (Err e ∷ xs) [] h k = let is : Err e ≡ Ok None = step-unique w (Err e) (Ok None) h.0 k in cc
-    last-unique w (Err e ∷ xs) (Ok y ∷ ys) h k = let is : Err e ≡ Ok (Some y) = step-unique w (Err e) (Ok (Some y)) h.0 k.0 in cc
+    last-unique w (Err e ∷ xs) (Ok y ∷ ys) h k = let is : Err e ≡ Ok (Some y) =
+        step-unique w (Err e) (Ok (Some y)) h.0 k.0 in cc
     last-unique w (Err e ∷ xs) (Err q ∷ ys) h k =
         let same : e ≡ q = error-same e q (step-unique w (Err e) (Err q) h.0 k.0) in
         rw (h.1, k.1, same) refl
@@ -126,7 +131,13 @@ module _ {X : Type 0} (span : X → Span) (tells : Search → Answer X → Type 
 
     -- a step as one of a searcher
     advances : (w : Walk) (x : X) → Step w (Ok (Some x)) → Advances span asks tt w (Ok (Some x)) tt (past w x)
-    advances w x h = record { answer = h.first; between = tt; first = h.is_first; rest = of tt (repeats w (place_of span h.first)) h.rest }
+    advances w x h = record {
+      answer = h.first;
+      between = tt;
+      first = h.is_first;
+      rest =
+          of tt (repeats w (place_of span h.first)) h.rest;
+    }
       where
         of : (u : Unit {0}) (again : Bool)
             → MatchBool again (tells (shifted w).at (Ok (Some x))) (Ok (Some x) ≡ h.first)
@@ -187,10 +198,12 @@ module _ {X : Type 0} (span : X → Span) (tells : Search → Answer X → Type 
       come-greedy : (n : ℕ) (w : Walk) → ends_left w < n → IsBehind w.last w.at.start → Gives w.at
           → Last w (items_within span h n w)
       come-greedy zero w lt behind gives = absurd (omega arith)
-      come-greedy (suc n) w lt behind gives = of (λ v less after_it same. come-greedy n v less after_it same) (repeats w (place_of span (h w.at))) refl
+      come-greedy (suc n) w lt behind gives = of (λ v less after_it same. come-greedy n v less after_it same)
+          (repeats w (place_of span (h w.at))) refl
         where
           Rest : Type 0
-          Rest = (v : Walk) → ends_left v < n → IsBehind v.last v.at.start → Gives v.at → Last v (items_within span h n v)
+          Rest = (v : Walk) → ends_left v < n → IsBehind v.last v.at.start → Gives v.at
+              → Last v (items_within span h n v)
 
           onward : Rest → (a : Answer X) → Step w a → (x : X) → a ≡ Ok (Some x)
               → Last (past w x) (items_within span h n (past w x))
@@ -201,14 +214,27 @@ module _ {X : Type 0} (span : X → Span) (tells : Search → Answer X → Type 
 
           of : Rest → (again : Bool) → repeats w (place_of span (h w.at)) ≡ again
               → Last w (items_from span (if again then h (shifted w).at else h w.at)
-              (items_within span h n (if again then after (shifted w) (place_of span (h (shifted w).at)) else after w (place_of span (h w.at)))))
+              (items_within span h n (if again then after (shifted w) (place_of span (h (shifted w).at)) else after w
+              (place_of span (h w.at)))))
           of rec true e =
               let step : Step w (h (shifted w).at) =
-              record { first = h w.at; is_first = gives w.at (same_start-self w.at); rest = rw e (gives (shifted w).at (same_start-shifted w)) } in
+              record {
+                first = h w.at;
+                is_first = gives w.at (same_start-self w.at);
+                rest =
+                    rw e (gives (shifted w).at (same_start-shifted w));
+              } in
               built n w (h (shifted w).at) _ step
-              (λ x is. (ap (λ (a : Answer X). after (shifted w) (place_of span a)) is, onward rec (h (shifted w).at) step x is))
+              (λ x is. (
+                ap (λ (a : Answer X). after (shifted w) (place_of span a)) is,
+                onward rec (h (shifted w).at) step x is,
+              ))
           of rec false e =
-              let step : Step w (h w.at) = record { first = h w.at; is_first = gives w.at (same_start-self w.at); rest = rw e refl } in
+              let step : Step w (h w.at) = record {
+                first = h w.at;
+                is_first = gives w.at (same_start-self w.at);
+                rest = rw e refl;
+              } in
               built n w (h w.at) _ step
               (λ x is. (ap (λ (a : Answer X). after w (place_of span a)) is, onward rec (h w.at) step x is))
 
@@ -315,7 +341,8 @@ module _ (nfa : Automaton) (kind : MatchKind) (earliest : Bool) where
       → AreMatches nfa kind earliest x ys → xs ≡ ys
   matches-unique x xs ys h k =
       sym (matches_in-as_items xs)
-      ∙ ap (λ (l : List (Item Found)). matches_in l) (last-unique span_of tells one-answer (fresh x) (as_items xs) (as_items ys) h.come k.come)
+      ∙ ap (λ (l : List (Item Found)). matches_in l)
+      (last-unique span_of tells one-answer (fresh x) (as_items xs) (as_items ys) h.come k.come)
       ∙ matches_in-as_items ys
 
   -- the rest of the list follows the first matches

@@ -25,7 +25,8 @@ use Rattle.nfa_search_base.proofs.RunLemmas.{Says, item-says, gives-first_matche
 use Rattle.nfa_search_base.proofs.RunLemmas.{gives-next}
 
 -- the calls of a shell are those of the iterator in it
-pub yields-inner : {T U R : Type 0} (outer : T → Option R → T → Type 0) (steps : U → Option R → U → Type 0) (inner : T → U)
+pub yields-inner : {T U R : Type 0} (outer : T → Option R → T → Type 0) (steps : U → Option R → U → Type 0)
+    (inner : T → U)
     → ((s : T) (r : Option R) (t : T) → outer s r t → steps (inner s) r (inner t))
     → (xs : List R) (s t : T) → Yields outer s xs t → Yields steps (inner s) xs (inner t)
 yields-inner outer steps inner is [] s t ran = ap inner ran
@@ -39,7 +40,8 @@ no-more xs more e = omega (arith, ap length e, length-append xs more)
 all-inside : (x : Search) (last : Option ℕ) (ms : List Match) → AreApart x last (map found_of ms)
     → All (λ m. IsInside x (found_of m)) ms
 all-inside x last [] h = All-nil (λ m. IsInside x (found_of m))
-all-inside x last (m ∷ ms) h = All-cons (λ m. IsInside x (found_of m)) m ms h.0 (all-inside x (Some (found_of m).end) ms h.2)
+all-inside x last (m ∷ ms) h = All-cons (λ m. IsInside x (found_of m)) m ms h.0
+    (all-inside x (Some (found_of m).end) ms h.2)
 
 module _ (nfa : Automaton) (kind : MatchKind) (x : Search) where
   abbrev tells : Search → Answer Found → Type 0
@@ -53,22 +55,27 @@ module _ (nfa : Automaton) (kind : MatchKind) (x : Search) where
   -- Whoever is asked stays `Good`, and on searches like x answers their matches; a shell's calls are those of the
   -- iterator in it.
   module _ {S T : Type 0} (asks : S → Search → Answer Found → S → Type 0) (Good : S → Type 0)
-      (acts : (s : S) (t : Search) (a : Answer Found) (s' : S) → SameButStart x t → Good s → asks s t a s' → tells t a × Good s')
+      (acts : (s : S) (t : Search) (a : Answer Found) (s' : S) → SameButStart x t → Good s → asks s t a s'
+      → tells t a × Good s')
       (steps : T → Option Match → T → Type 0) (inner : T → Steps S)
-      (is : (s : T) (r : Option Match) (t : T) → steps s r t → takes_sure_steps span_of asks (λ q. GivesItem found_of) (inner s) r (inner t))
-      (s : T) (walk : steps_walk (inner s) ≡ fresh x) (going : (inner s).done ≡ false) (good : Good (inner s).asker) where
+      (is : (s : T) (r : Option Match) (t : T) → steps s r t
+      → takes_sure_steps span_of asks (λ q. GivesItem found_of) (inner s) r (inner t))
+      (s : T) (walk : steps_walk (inner s) ≡ fresh x) (going : (inner s).done ≡ false)
+      (good : Good (inner s).asker) where
     abbrev core : Steps S → Option Match → Steps S → Type 0
     core = takes_sure_steps span_of asks (λ q. GivesItem found_of)
 
     pub matches-first_given : MatchesFirst nfa kind x steps s
     matches-first_given = λ xs t ran. record {
-      come = gives-first_matches span_of asks (λ q. GivesItem found_of) found_of tells (Fails span_of tells) x Good acts says (inner s) walk going good
+      come = gives-first_matches span_of asks (λ q. GivesItem found_of) found_of tells (Fails span_of tells) x Good acts
+          says (inner s) walk going good
           xs (inner t) (yields-inner steps core inner is xs s t ran);
     }
 
     matches-all_given : (xs : List Match) (t u : T) → Yields steps s xs t → steps t None u → AreAll nfa kind x xs
     matches-all_given = λ xs t u ran st. record {
-      come = gives-all_matches span_of asks (λ q. GivesItem found_of) found_of tells (Fails span_of tells) x Good acts says (inner s) walk going good
+      come = gives-all_matches span_of asks (λ q. GivesItem found_of) found_of tells (Fails span_of tells) x Good acts
+          says (inner s) walk going good
           xs (inner t) (inner u) (yields-inner steps core inner is xs s t ran) (is t None u st);
     }
 
@@ -88,5 +95,6 @@ module _ (nfa : Automaton) (kind : MatchKind) (x : Search) where
         let k = matches-run p seen from in
         let rest = matches-rest nfa kind x.earliest x (map found_of p.items) all k.0 them in
         lists p found_of all rest.0 (λ whole.
-        let same : map found_of p.items ≡ all = matches-unique nfa kind x.earliest x (map found_of p.items) all (k.1 whole) them in
+        let same : map found_of p.items ≡ all = matches-unique nfa kind x.earliest x (map found_of p.items) all
+        (k.1 whole) them in
         no-more (map found_of p.items) rest.0 (same ∙ rest.1)) rest.1

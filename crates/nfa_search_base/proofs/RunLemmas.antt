@@ -40,7 +40,8 @@ module _ {T R : Type 0} (steps : T → Option R → T → Type 0) where
     gives-next = λ xs t r u ran st. first (xs ++ r ∷ []) u (yields-more xs s t u r ran st)
 
   -- what each call keeps, all calls keep
-  module _ (Keeps : T → T → Type 0) (self : (s : T) → Keeps s s) (then : (s t u : T) → Keeps s t → Keeps t u → Keeps s u)
+  module _ (Keeps : T → T → Type 0) (self : (s : T) → Keeps s s) (then : (s t u : T) → Keeps s t
+      → Keeps t u → Keeps s u)
       (step : (s : T) (r : Option R) (t : T) → steps s r t → Keeps s t) where
     pub run-keeps : (s : T) (xs : List R) (t : T) → Yields steps s xs t → Keeps s t
     run-keeps s [] t e = subst (λ (q : T). Keeps s q) e (self s)
@@ -58,7 +59,8 @@ module _ {X Y : Type 0} (view : Y → X) (a : Answer X) (ends : SearchError → 
   Says (Some (Err e)) = ends e
 
 -- an item that is its answer says that it is
-pub item-says : {X Y : Type 0} (view : Y → X) (step : Answer X → Type 0) (a : Answer X) (r : Option (Result Y SearchError))
+pub item-says : {X Y : Type 0} (view : Y → X) (step : Answer X → Type 0) (a : Answer X)
+    (r : Option (Result Y SearchError))
     → GivesItem view a r → step a → Says view a (λ e. step (Err e)) r
 item-says view step (Ok (Some x)) None gives is = let k : None ≡ Some (Ok x) = gives in cc
 item-says view step (Ok (Some x)) (Some (Ok y)) gives is = let k : Some (Ok (view y)) ≡ Some (Ok x) = gives in cc
@@ -77,7 +79,8 @@ item-says {X} view step (Err q) (Some (Err e)) gives is =
 module _ {S X Y : Type 0} (span : X → Span) (asks : S → Search → Answer X → S → Type 0)
     (gives : S → Answer X → Option (Result Y SearchError) → Type 0) (view : Y → X) (tells : Search → Answer X → Type 0)
     (ends : Walk → SearchError → Type 0) (x : Search) (Good : S → Type 0)
-    (acts : (s : S) (t : Search) (a : Answer X) (s' : S) → SameButStart x t → Good s → asks s t a s' → tells t a × Good s')
+    (acts : (s : S) (t : Search) (a : Answer X) (s' : S) → SameButStart x t → Good s → asks s t a s'
+    → tells t a × Good s')
     (says : (w : Walk) (s : S) (a : Answer X) (r : Option (Result Y SearchError)) → gives s a r → IsStep span tells w a
     → Says view a (ends w) r) where
   abbrev steps : Steps S → Option (Result Y SearchError) → Steps S → Type 0
@@ -93,7 +96,8 @@ module _ {S X Y : Type 0} (span : X → Span) (asks : S → Search → Answer X 
   -- a step of the iteration tells its answer, and where a match leads
   advance : (w : Walk) (s : S) (a : Answer X) (s' : S) (w' : Walk) → SameButStart x w.at → Good s
       → Advances span asks s w a s' w'
-      → IsStep span tells w a × Good s' × ((w' ≡ after w (place_of span a)) ⊎ (w' ≡ after (shifted w) (place_of span a)))
+      → IsStep span tells w a × Good s' × ((w' ≡ after w (place_of span a))
+      ⊎ (w' ≡ after (shifted w) (place_of span a)))
   advance w s a s' w' like good step =
       let one = acts s w.at step.answer step.between like good step.first in
       elim (chosen (repeats w (place_of span step.answer)) step.rest) [
@@ -101,8 +105,11 @@ module _ {S X Y : Type 0} (span : X → Span) (asks : S → Search → Answer X 
             let on = same_start-then x w.at (shifted w).at like (same_start-shifted w) in
             let two = acts step.between (shifted w).at a s' on one.1 p.1.0 in
             (record { first = step.answer; is_first = one.0; rest = rw p.0 two.0 }, two.1, inr p.1.1)
-        | inr p ↦
-            (record { first = step.answer; is_first = one.0; rest = rw p.0 p.1.0 }, subst (λ (q : S). Good q) (sym p.1.1) one.1, inl p.1.2)
+        | inr p ↦ (
+          record { first = step.answer; is_first = one.0; rest = rw p.0 p.1.0 },
+          subst (λ (q : S). Good q) (sym p.1.1) one.1,
+          inl p.1.2,
+        )
       ]
 
   -- what comes of a call
@@ -116,7 +123,8 @@ module _ {S X Y : Type 0} (span : X → Span) (asks : S → Search → Answer X 
   turn-at w s r t at st = of s.done at.going st
     where
       of : (b : Bool) → b ≡ false
-          → MatchBool b ((r ≡ None) × (t ≡ s)) (TakesStep span asks gives s.asker (steps_walk s) r t.asker (steps_walk t) t.done)
+          → MatchBool b ((r ≡ None) × (t ≡ s)) (TakesStep span asks gives s.asker (steps_walk s) r t.asker
+          (steps_walk t) t.done)
           → TakesStep span asks gives s.asker w r t.asker (steps_walk t) t.done
       of true e h = cc
       of false e h = rw at.walk at h
@@ -141,7 +149,8 @@ module _ {S X Y : Type 0} (span : X → Span) (asks : S → Search → Answer X 
             | inr two ↦ two ∙ ap (λ (b : Answer X). after (shifted w) (place_of span b)) is
           ];
           going = done;
-          like = same_start-then x w.at (after w (Some (span (view y)))).at at.like (same_start-after w (Some (span (view y))));
+          like = same_start-then x w.at (after w (Some (span (view y)))).at at.like
+              (same_start-after w (Some (span (view y))));
           good = good;
         },
       )
@@ -154,7 +163,8 @@ module _ {S X Y : Type 0} (span : X → Span) (asks : S → Search → Answer X 
     where
       of : (b : Bool) → b ≡ true
           → MatchBool b ((Some y ≡ None) × (h.0 ≡ s))
-          (TakesStep span asks gives s.asker (steps_walk s) (Some y) (h.0).asker (steps_walk h.0) (h.0).done) → y ∷ ys ≡ []
+          (TakesStep span asks gives s.asker (steps_walk s) (Some y) (h.0).asker (steps_walk h.0) (h.0).done)
+          → y ∷ ys ≡ []
       of true e k = let never : Some y ≡ None = k.0 in cc
       of false e k = cc
 
@@ -208,7 +218,8 @@ module _ {S X Y : Type 0} (span : X → Span) (asks : S → Search → Answer X 
     as_items-view [] = refl
     as_items-view (y ∷ ys) = ap (λ (l : List (Item X)). Ok (view y) ∷ l) (as_items-view ys)
 
-    pub gives-first_matches : GivesFirst sure_steps (λ xs. ItemsNext span tells ends (fresh x) (as_items (map view xs))) s
+    pub gives-first_matches : GivesFirst sure_steps
+        (λ xs. ItemsNext span tells ends (fresh x) (as_items (map view xs))) s
     gives-first_matches = λ xs t ran.
         subst (λ (l : List (Item X)). ItemsNext span tells ends (fresh x) l) (as_items-view xs)
         (gives-first (map (λ y. Ok y) xs) t (oked xs s t ran))
@@ -221,21 +232,25 @@ module _ {S X Y : Type 0} (span : X → Span) (asks : S → Search → Answer X 
 
 -- What each call to the asker keeps, each call of the iterator keeps.
 module _ {S X Y : Type 0} (span : X → Span) (asks : S → Search → Answer X → S → Type 0)
-    (gives : S → Answer X → Option (Result Y SearchError) → Type 0) (Keeps : S → S → Type 0) (self : (s : S) → Keeps s s)
-    (then : (s t u : S) → Keeps s t → Keeps t u → Keeps s u) (asked : (s : S) (t : Search) (a : Answer X) (s' : S) → asks s t a s' → Keeps s s') where
+    (gives : S → Answer X → Option (Result Y SearchError) → Type 0) (Keeps : S → S → Type 0)
+    (self : (s : S) → Keeps s s)
+    (then : (s t u : S) → Keeps s t → Keeps t u → Keeps s u) (asked : (s : S) (t : Search) (a : Answer X) (s' : S)
+    → asks s t a s' → Keeps s s') where
   pub step-keeps : (s : Steps S) (r : Option (Result Y SearchError)) (t : Steps S) → takes_steps span asks gives s r t
       → Keeps s.asker t.asker
   step-keeps s r t st = of s.done st
     where
       of : (b : Bool)
-          → MatchBool b ((r ≡ None) × (t ≡ s)) (TakesStep span asks gives s.asker (steps_walk s) r t.asker (steps_walk t) t.done)
+          → MatchBool b ((r ≡ None) × (t ≡ s)) (TakesStep span asks gives s.asker (steps_walk s) r t.asker
+          (steps_walk t) t.done)
           → Keeps s.asker t.asker
       of true h = subst (λ (q : Steps S). Keeps s.asker q.asker) (sym h.1) (self s.asker)
       of false h =
           let step = h.step in
           let one = asked s.asker (steps_walk s).at step.answer step.between step.first in
           elim (chosen (repeats (steps_walk s) (place_of span step.answer)) step.rest) [
-            | inl p ↦ then s.asker step.between t.asker one (asked step.between (shifted (steps_walk s)).at h.answer t.asker p.1.0)
+            | inl p ↦ then s.asker step.between t.asker one
+                (asked step.between (shifted (steps_walk s)).at h.answer t.asker p.1.0)
             | inr p ↦ subst (λ (q : S). Keeps s.asker q) (sym p.1.1) one
           ]
 

@@ -33,7 +33,8 @@ pub same_start-after_shifted : (w : Walk) (place : Option Span) → SameButStart
 same_start-after_shifted w None = record { haystack = refl; end = refl; anchored = refl; earliest = refl }
 same_start-after_shifted w (Some p) = record { haystack = refl; end = refl; anchored = refl; earliest = refl }
 
-module _ {S X : Type 0} (accepts : S → Search → Type 0) (asks : S → Search → Answer X → S → Type 0) (span : X → Span) where
+module _ {S X : Type 0} (accepts : S → Search → Type 0) (asks : S → Search → Answer X → S → Type 0)
+    (span : X → Span) where
   -- what holds along the calls
   module _ (P : Search → Answer X → Type 0) where
     -- it holds along the calls from s on searches like t
@@ -42,52 +43,71 @@ module _ {S X : Type 0} (accepts : S → Search → Type 0) (asks : S → Search
 
     -- the same from a search like it
     pub Along-same : (f : S) (s t : Search) → SameButStart s t → Along f s → Along f t
-    Along-same f s t same h = ServesOnAlong-same accepts asks SameButStart same_start-self same_start-then P f s t same h
+    Along-same f s t same h = ServesOnAlong-same accepts asks SameButStart same_start-self
+        same_start-then P f s t same h
 
     -- after a call
-    pub Along-call : (f : S) (s t : Search) (a : Answer X) (f' : S) → SameButStart s t → asks f t a f' → Along f s → Along f' s
-    Along-call f s t a f' same asked h = ServesOnAlong-call accepts asks SameButStart same_start-self same_start-then P f s t a f' same asked h
+    pub Along-call : (f : S) (s t : Search) (a : Answer X) (f' : S) → SameButStart s t → asks f t a f'
+        → Along f s → Along f' s
+    Along-call f s t a f' same asked h = ServesOnAlong-call accepts asks SameButStart same_start-self same_start-then P
+        f s t a f' same asked h
 
     -- what it gives of a call
-    pub Along-now : (f : S) (s t : Search) (a : Answer X) (f' : S) → SameButStart s t → asks f t a f' → Along f s → P t a
-    Along-now f s t a f' same asked h = (ServesOn-now accepts asks SameButStart same_start-self same_start-then P f s t same h).replies a f' asked
+    pub Along-now : (f : S) (s t : Search) (a : Answer X) (f' : S) → SameButStart s t → asks f t a f'
+        → Along f s → P t a
+    Along-now f s t a f' same asked h = (ServesOn-now accepts asks SameButStart same_start-self same_start-then P f s t
+        same h).replies a f' asked
 
     -- a step may be made
     pub ServesTurn-now : (f : S) (w : Walk) → Along f w.at → ServesTurn accepts asks span P f w
     ServesTurn-now f w h = record {
-      first = ServesOn-now accepts asks SameButStart same_start-self same_start-then P f w.at w.at (same_start-self w.at) h;
-      second = λ a f' asked again. ServesOn-now accepts asks SameButStart same_start-self same_start-then P f' w.at (shifted w).at (same_start-shifted w)
+      first = ServesOn-now accepts asks SameButStart same_start-self same_start-then P f w.at w.at
+          (same_start-self w.at) h;
+      second = λ a f' asked again. ServesOn-now accepts asks SameButStart same_start-self same_start-then P f' w.at
+          (shifted w).at (same_start-shifted w)
           (Along-call f w.at w.at a f' (same_start-self w.at) asked h);
     }
 
     -- after a step
-    pub Along-step : (f : S) (w : Walk) (r : Answer X) (f' : S) (w' : Walk) → Advances span asks f w r f' w' → Along f w.at → Along f' w.at
+    pub Along-step : (f : S) (w : Walk) (r : Answer X) (f' : S) (w' : Walk) → Advances span asks f w r f' w'
+        → Along f w.at → Along f' w.at
     Along-step f w r f' w' step h =
-        let once : Along step.between w.at = Along-call f w.at w.at step.answer step.between (same_start-self w.at) step.first h in
+        let once : Along step.between w.at = Along-call f w.at w.at step.answer step.between (same_start-self w.at)
+        step.first h in
         elim (chosen (repeats w (place_of span step.answer)) step.rest) [
           | inl p ↦ Along-call step.between w.at (shifted w).at r f' (same_start-shifted w) p.1.0 once
           | inr p ↦ subst (λ (q : S). Along q w.at) (sym p.1.1) once
         ]
 
     -- and from where the iteration then stands
-    pub Along-turn : (f : S) (w : Walk) (r : Answer X) (f' : S) (w' : Walk) → Advances span asks f w r f' w' → SameButStart w.at w'.at → Along f w.at → Along f' w'.at
+    pub Along-turn : (f : S) (w : Walk) (r : Answer X) (f' : S) (w' : Walk) → Advances span asks f w r f' w'
+        → SameButStart w.at w'.at → Along f w.at → Along f' w'.at
     Along-turn f w r f' w' step same h = Along-same f' w.at w'.at same (Along-step f w r f' w' step h)
 
     -- the answer of a step is one of a call
-    pub Along-answer : (f : S) (w : Walk) (r : Answer X) (f' : S) (w' : Walk) → Advances span asks f w r f' w' → Along f w.at → (s : Search) × P s r
+    pub Along-answer : (f : S) (w : Walk) (r : Answer X) (f' : S) (w' : Walk) → Advances span asks f w r f' w'
+        → Along f w.at → (s : Search) × P s r
     Along-answer f w r f' w' step h =
-        let once : Along step.between w.at = Along-call f w.at w.at step.answer step.between (same_start-self w.at) step.first h in
+        let once : Along step.between w.at = Along-call f w.at w.at step.answer step.between (same_start-self w.at)
+        step.first h in
         elim (chosen (repeats w (place_of span step.answer)) step.rest) [
           | inl p ↦ ((shifted w).at, Along-now step.between w.at (shifted w).at r f' (same_start-shifted w) p.1.0 once)
-          | inr p ↦ (w.at, subst (λ (b : Answer X). P w.at b) (sym p.1.0) (Along-now f w.at w.at step.answer step.between (same_start-self w.at) step.first h))
+          | inr p ↦ (
+            w.at,
+            subst (λ (b : Answer X). P w.at b) (sym p.1.0)
+                (Along-now f w.at w.at step.answer step.between (same_start-self w.at) step.first h),
+          )
         ]
 
   -- what holds of each answer may be weakened
-  pub Along-weaker : (P Q : Search → Answer X → Type 0) (f : S) (s : Search) → ((t : Search) (a : Answer X) → P t a → Q t a) → Along P f s → Along Q f s
-  Along-weaker P Q f s weaker h = ServesOnAlong-weaker accepts asks SameButStart same_start-self same_start-then P Q f s weaker h
+  pub Along-weaker : (P Q : Search → Answer X → Type 0) (f : S) (s : Search)
+      → ((t : Search) (a : Answer X) → P t a → Q t a) → Along P f s → Along Q f s
+  Along-weaker P Q f s weaker h = ServesOnAlong-weaker accepts asks SameButStart same_start-self same_start-then
+      P Q f s weaker h
 
   -- so may what is asked of a step
-  pub ServesTurn-surely : (f : S) (w : Walk) → ServesTurn accepts asks span (IsSurelyInside span) f w → ServesTurn accepts asks span (IsInside span) f w
+  pub ServesTurn-surely : (f : S) (w : Walk) → ServesTurn accepts asks span (IsSurelyInside span) f w
+      → ServesTurn accepts asks span (IsInside span) f w
   ServesTurn-surely f w h = record {
     first = record { callable = h.first.callable; replies = λ a f' asked. (h.first.replies a f' asked).0 };
     second = λ a f' asked again.
@@ -96,24 +116,29 @@ module _ {S X : Type 0} (accepts : S → Search → Type 0) (asks : S → Search
   }
 
   -- where no call errs, a step has no error
-  pub step-surely : (f : S) (w : Walk) (r : Answer X) (f' : S) (w' : Walk) → ServesTurn accepts asks span (IsSurelyInside span) f w → Advances span asks f w r f' w' → IsOk r
+  pub step-surely : (f : S) (w : Walk) (r : Answer X) (f' : S) (w' : Walk)
+      → ServesTurn accepts asks span (IsSurelyInside span) f w → Advances span asks f w r f' w' → IsOk r
   step-surely f w r f' w' h step = elim (chosen (repeats w (place_of span step.answer)) step.rest) [
     | inl p ↦ ((h.second step.answer step.between step.first p.0).replies r f' p.1.0).1
     | inr p ↦ subst (λ (b : Answer X). IsOk b) (sym p.1.0) (h.first.replies step.answer step.between step.first).1
   ]
 
 -- What is asked for a step of the iteration w, from the state s.
-module _ {S X : Type 0} (accepts : S → Search → Type 0) (asks : S → Search → Answer X → S → Type 0) (span : X → Span) (s : S) (w : Walk)
+module _ {S X : Type 0} (accepts : S → Search → Type 0) (asks : S → Search → Answer X → S → Type 0) (span : X → Span)
+    (s : S) (w : Walk)
     (serves : ServesTurn accepts asks span (IsInside span) s w) (behind : IsBehind w.last w.at.start) where
   -- a first answer that does not repeat the last match is the step's
-  pub step-once : (a : Answer X) (s' : S) (place : Option Span) (w' : Walk) → asks s w.at a s' → place ≡ place_of span a → IsOrdered place
+  pub step-once : (a : Answer X) (s' : S) (place : Option Span) (w' : Walk) → asks s w.at a s' → place ≡ place_of span a
+      → IsOrdered place
       → repeats w place ≡ false → w' ≡ after w place → StepDone accepts asks span s w a s' w'
   step-once a s' place w' asked is ordered new moved =
-      let lies : LiesIn w.at place = subst (λ (p : Option Span). LiesIn w.at p) (sym is) ((serves.first).replies a s' asked) in
+      let lies : LiesIn w.at place = subst (λ (p : Option Span). LiesIn w.at p) (sym is)
+      ((serves.first).replies a s' asked) in
       let rises : ComesAfter w place = ComesAfter-first w place behind lies ordered new in
       let here : w' ≡ after w (place_of span a) = moved ∙ ap (λ (p : Option Span). after w p) is in
       let not_again : repeats w (place_of span a) ≡ false = subst (λ (p : Option Span). repeats w p ≡ false) is new in
-      let fewer : LeavesFewer w place w' = subst (λ (v : Walk). LeavesFewer w place v) (sym moved) (LeavesFewer-first w place lies ordered rises) in
+      let fewer : LeavesFewer w place w' = subst (λ (v : Walk). LeavesFewer w place v) (sym moved)
+      (LeavesFewer-first w place lies ordered rises) in
       record {
         step = record { answer = a; between = s'; first = asked; rest = rw not_again (refl, refl, here) };
         rises = subst (λ (p : Option Span). ComesAfter w p) is rises;
@@ -122,8 +147,10 @@ module _ {S X : Type 0} (accepts : S → Search → Type 0) (asks : S → Search
       }
 
   -- after one that repeats it, the second answer is
-  pub step-twice : (b : Answer X) (between : S) (first : Option Span) (w1 : Walk) (a : Answer X) (s' : S) (place : Option Span) (w' : Walk)
-      → asks s w.at b between → first ≡ place_of span b → repeats w first ≡ true → w1 ≡ shifted w → asks between w1.at a s'
+  pub step-twice : (b : Answer X) (between : S) (first : Option Span) (w1 : Walk) (a : Answer X) (s' : S)
+      (place : Option Span) (w' : Walk)
+      → asks s w.at b between → first ≡ place_of span b → repeats w first ≡ true → w1 ≡ shifted w
+      → asks between w1.at a s'
       → place ≡ place_of span a → IsOrdered place → w' ≡ after w1 place → StepDone accepts asks span s w a s' w'
   step-twice b between first w1 a s' place w' asked was again one asked_again is ordered moved =
       let repeated : repeats w (place_of span b) ≡ true = subst (λ (p : Option Span). repeats w p ≡ true) was again in
@@ -132,7 +159,8 @@ module _ {S X : Type 0} (accepts : S → Search → Type 0) (asks : S → Search
       let lies : LiesIn (shifted w).at place = subst (λ (p : Option Span). LiesIn (shifted w).at p) (sym is) inside in
       let rises : ComesAfter w place = ComesAfter-second w place behind lies ordered in
       let here : w' ≡ after (shifted w) place = moved ∙ ap (λ (v : Walk). after v place) one in
-      let fewer : LeavesFewer w place w' = subst (λ (v : Walk). LeavesFewer w place v) (sym here) (LeavesFewer-second w place lies ordered rises) in
+      let fewer : LeavesFewer w place w' = subst (λ (v : Walk). LeavesFewer w place v) (sym here)
+      (LeavesFewer-second w place lies ordered rises) in
       record {
         step = record {
           answer = b;
@@ -146,35 +174,47 @@ module _ {S X : Type 0} (accepts : S → Search → Type 0) (asks : S → Search
       }
 
 -- a finder's answers along its calls are its replies' values
-module _ {A X F : Type 0} (view : A → X) (g : Mut F (Bor Input × Unit {0}) (Result (Option A) SearchError)) (P : Search → Answer X → Type 0) where
+module _ {A X F : Type 0} (view : A → X) (g : Mut F (Bor Input × Unit {0}) (Result (Option A) SearchError))
+    (P : Search → Answer X → Type 0) where
   pub AnswersAlong-by : (Inv : F → Type 0) (f : F) (s : Search) → Inv f
       → ((q : F) (p : Bor Input) → SameButStart s (search_of p.now) → Inv q → g.pre q (p, tt))
-      → ((q : F) (p : Bor Input) (reply : Result (Option A) SearchError) (q' : F) → SameButStart s (search_of p.now) → Inv q → Called g q (p, tt) reply q' → P (search_of p.now) (answer_by view reply) × Inv q')
+      → ((q : F) (p : Bor Input) (reply : Result (Option A) SearchError) (q' : F) → SameButStart s (search_of p.now)
+      → Inv q → Called g q (p, tt) reply q' → P (search_of p.now) (answer_by view reply) × Inv q')
       → AnswersAlong view g P f s
-  AnswersAlong-by Inv f s now may says = ServesOnAlong-by (IsCallableOn g) (Finds view g) SameButStart same_start-self same_start-then P Inv f s now
+  AnswersAlong-by Inv f s now may says = ServesOnAlong-by (IsCallableOn g) (Finds view g) SameButStart same_start-self
+      same_start-then P Inv f s now
       (λ q t same inv p e. may q p (rw e same) inv)
       (λ q t a q' same inv found.
       let asked = found.asked in
-      let k = says q asked.shown found.reply q' (rw asked.shows same) inv asked.called in
-      (subst (λ (b : Answer X). P t b) (sym found.shows) (subst (λ (u : Search). P u (answer_by view found.reply)) asked.shows k.0), k.1))
+      let k = says q asked.shown found.reply q' (rw asked.shows same) inv asked.called in (
+        subst (λ (b : Answer X). P t b) (sym found.shows)
+            (subst (λ (u : Search). P u (answer_by view found.reply)) asked.shows k.0),
+        k.1,
+      ))
 
   pub AnswersAlong-always : (f : F) (s : Search)
       → ((q : F) (p : Bor Input) → SameButStart s (search_of p.now) → g.pre q (p, tt))
-      → ((q : F) (p : Bor Input) (reply : Result (Option A) SearchError) (q' : F) → SameButStart s (search_of p.now) → Called g q (p, tt) reply q' → P (search_of p.now) (answer_by view reply))
+      → ((q : F) (p : Bor Input) (reply : Result (Option A) SearchError) (q' : F) → SameButStart s (search_of p.now)
+      → Called g q (p, tt) reply q' → P (search_of p.now) (answer_by view reply))
       → AnswersAlong view g P f s
-  AnswersAlong-always f s may says = AnswersAlong-by (λ (q : F). Unit {0}) f s tt (λ q p same u. may q p same) (λ q p reply q' same u called. (says q p reply q' same called, tt))
+  AnswersAlong-always f s may says = AnswersAlong-by (λ (q : F). Unit {0}) f s tt (λ q p same u. may q p same)
+      (λ q p reply q' same u called. (says q p reply q' same called, tt))
 
 -- A step of any searcher whose answers lie in the span, as an engine over a cache.
 module _ {X S : Type 0} (span : X → Span) (asks : S → Search → Answer X → S → Type 0)
-    (good : (s : S) (t : Search) (a : Answer X) (s' : S) → asks s t a s' → IsInside span t a × IsOrdered (place_of span a))
-    (s : S) (w : Walk) (r : Answer X) (s' : S) (w' : Walk) (behind : IsBehind w.last w.at.start) (step : Advances span asks s w r s' w') where
+    (good : (s : S) (t : Search) (a : Answer X) (s' : S) → asks s t a s' → IsInside span t a
+    × IsOrdered (place_of span a))
+    (s : S) (w : Walk) (r : Answer X) (s' : S) (w' : Walk) (behind : IsBehind w.last w.at.start)
+    (step : Advances span asks s w r s' w') where
   -- its match comes after the last one
   pub Advances-rises : ComesAfter w (place_of span r)
   Advances-rises = elim (chosen (repeats w (place_of span step.answer)) step.rest) [
-    | inl p ↦ let second = good step.between (shifted w).at r s' p.1.0 in ComesAfter-second w (place_of span r) behind second.0 second.1
+    | inl p ↦ let second = good step.between (shifted w).at r s' p.1.0 in
+        ComesAfter-second w (place_of span r) behind second.0 second.1
     | inr p ↦
         let first = good s w.at step.answer step.between step.first in
-        subst (λ (a : Answer X). ComesAfter w (place_of span a)) (sym p.1.0) (ComesAfter-first w (place_of span step.answer) behind first.0 first.1 p.0)
+        subst (λ (a : Answer X). ComesAfter w (place_of span a)) (sym p.1.0)
+        (ComesAfter-first w (place_of span step.answer) behind first.0 first.1 p.0)
   ]
 
   -- it leaves fewer ends
@@ -183,12 +223,15 @@ module _ {X S : Type 0} (span : X → Span) (asks : S → Search → Answer X �
     | inl p ↦
         let second = good step.between (shifted w).at r s' p.1.0 in
         subst (λ (v : Walk). LeavesFewer w (place_of span r) v) (sym p.1.1)
-        (LeavesFewer-second w (place_of span r) second.0 second.1 (ComesAfter-second w (place_of span r) behind second.0 second.1))
+        (LeavesFewer-second w (place_of span r) second.0 second.1
+        (ComesAfter-second w (place_of span r) behind second.0 second.1))
     | inr p ↦
         let first = good s w.at step.answer step.between step.first in
         let here : LeavesFewer w (place_of span step.answer) (after w (place_of span step.answer)) =
-        LeavesFewer-first w (place_of span step.answer) first.0 first.1 (ComesAfter-first w (place_of span step.answer) behind first.0 first.1 p.0) in
-        let there : LeavesFewer w (place_of span r) (after w (place_of span r)) = subst (λ (a : Answer X). LeavesFewer w (place_of span a) (after w (place_of span a))) (sym p.1.0) here in
+        LeavesFewer-first w (place_of span step.answer) first.0 first.1
+        (ComesAfter-first w (place_of span step.answer) behind first.0 first.1 p.0) in
+        let there : LeavesFewer w (place_of span r) (after w (place_of span r)) =
+        subst (λ (a : Answer X). LeavesFewer w (place_of span a) (after w (place_of span a))) (sym p.1.0) here in
         subst (λ (v : Walk). LeavesFewer w (place_of span r) v) (sym p.1.2) there
   ]
 

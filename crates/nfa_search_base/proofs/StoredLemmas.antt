@@ -18,7 +18,8 @@ use Rattle.nfa_search_base.proofs.StepLemmas.{Along-same, Along-call, Along-now,
 use Rattle.nfa_search_base.proofs.GreedyLemmas.{IsTurnOf, step-computes, yields-greedy}
 
 -- after a match fewer ends are left, and after an error nothing is
-step-fewer : {X Y : Type 0} (span : X → Span) (w w' : Walk) (a : Answer X) (r : Option (Result Y SearchError)) → ComesOfMatch a r → LeavesFewer w (place_of span a) w'
+step-fewer : {X Y : Type 0} (span : X → Span) (w w' : Walk) (a : Answer X) (r : Option (Result Y SearchError))
+    → ComesOfMatch a r → LeavesFewer w (place_of span a) w'
     → OnSome r (items_left (ends_at r) w' < items_left false w)
 step-fewer span w w' a None comes less = tt
 step-fewer span w w' (Ok (Some x)) (Some (Ok y)) comes less = omega (arith, less)
@@ -27,9 +28,11 @@ step-fewer span w w' (Err e) (Some (Ok y)) comes less = absurd comes
 step-fewer span w w' a (Some (Err e)) comes less = omega arith
 
 -- a step of the iteration is one of the iterator
-pub takes-step : {S X Y : Type 0} (accepts : S → Search → Type 0) (asks : S → Search → Answer X → S → Type 0) (span : X → Span) (gives : S → Answer X → Option (Result Y SearchError) → Type 0)
+pub takes-step : {S X Y : Type 0} (accepts : S → Search → Type 0) (asks : S → Search → Answer X → S → Type 0)
+    (span : X → Span) (gives : S → Answer X → Option (Result Y SearchError) → Type 0)
     (s : S) (w : Walk) (a : Answer X) (s' : S) (w' : Walk) (r : Option (Result Y SearchError)) (d : Bool)
-    → StepDone accepts asks span s w a s' w' → gives s' a r → ComesOfMatch a r → d ≡ ends_at r → TakesStep span asks gives s w r s' w' d
+    → StepDone accepts asks span s w a s' w' → gives s' a r → ComesOfMatch a r → d ≡ ends_at r
+    → TakesStep span asks gives s w r s' w' d
 takes-step accepts asks span gives s w a s' w' r d done item comes ends = record {
   answer = a;
   step = done.step;
@@ -40,7 +43,8 @@ takes-step accepts asks span gives s w a s' w' r d done item comes ends = record
   fewer = rw ends (step-fewer span w w' a r comes done.fewer);
 }
 
-ends-as : {X Y : Type 0} (view : Y → X) (a : Answer X) (r : Option (Result Y SearchError)) → GivesItem view a r → ends_at r ≡ ends_with a
+ends-as : {X Y : Type 0} (view : Y → X) (a : Answer X) (r : Option (Result Y SearchError)) → GivesItem view a r
+    → ends_at r ≡ ends_with a
 ends-as view (Ok (Some x)) (Some (Ok y)) h = refl
 ends-as view (Ok (Some x)) (Some (Err e)) h = let k : Some (Err e) ≡ Some (Ok x) = h in cc
 ends-as view (Ok (Some x)) None h = let k : None ≡ Some (Ok x) = h in cc
@@ -57,17 +61,22 @@ no_err (Ok None) e ok is = let k : Some (Err e) ≡ None = is in cc
 no_err (Err x) e ok is = let k : false ≡ true = ok in cc
 
 -- such a step leaves an iterator that may go on, with fewer items to come
-module _ {S X Y : Type 0} (accepts : S → Search → Type 0) (asks : S → Search → Answer X → S → Type 0) (span : X → Span) (gives : S → Answer X → Option (Result Y SearchError) → Type 0)
+module _ {S X Y : Type 0} (accepts : S → Search → Type 0) (asks : S → Search → Answer X → S → Type 0) (span : X → Span)
+    (gives : S → Answer X → Option (Result Y SearchError) → Type 0)
     (P : Search → Answer X → Type 0) (s t : Steps S) (r : Option (Result Y SearchError)) where
   abbrev can : Steps S → Type 0
   can q = ServesOnAlong accepts asks SameButStart P q.asker (steps_walk q).at
 
-  pub steps-progress : can s → s.done ≡ false → TakesStep span asks gives s.asker (steps_walk s) r t.asker (steps_walk t) t.done → MakesProgress can steps_left s r t
+  pub steps-progress : can s → s.done ≡ false
+      → TakesStep span asks gives s.asker (steps_walk s) r t.asker (steps_walk t) t.done
+      → MakesProgress can steps_left s r t
   steps-progress may going x =
-      let after : can t = Along-turn accepts asks span P s.asker (steps_walk s) x.answer t.asker (steps_walk t) x.step x.same may in
+      let after : can t = Along-turn accepts asks span P s.asker (steps_walk s) x.answer t.asker (steps_walk t)
+      x.step x.same may in
       record { on = λ f. on_some r x.fewer after; keeps = keeps_on r after; rests = λ f. rests_on r }
     where
-      on_some : (q : Option (Result Y SearchError)) → OnSome q (items_left t.done (steps_walk t) < items_left false (steps_walk s)) → can t
+      on_some : (q : Option (Result Y SearchError))
+          → OnSome q (items_left t.done (steps_walk t) < items_left false (steps_walk s)) → can t
           → OnSome q (can t × IsFinite (steps_left t) × (size (steps_left t) < size (steps_left s)))
       on_some None less after = tt
       on_some (Some y) less after = (after, tt, rw going less)
@@ -84,11 +93,15 @@ module _ {S X Y : Type 0} (accepts : S → Search → Type 0) (asks : S → Sear
   pub takes-progress : can s → takes_steps span asks gives s r t → MakesProgress can steps_left s r t
   takes-progress may st = at_done s.done refl st
     where
-      at_done : (b : Bool) → s.done ≡ b → MatchBool b ((r ≡ None) × (t ≡ s)) (TakesStep span asks gives s.asker (steps_walk s) r t.asker (steps_walk t) t.done) → MakesProgress can steps_left s r t
-      at_done true d x = subst (λ (q : Option (Result Y SearchError)). MakesProgress can steps_left s q t) (sym x.0) (record { on = λ f. tt; keeps = tt; rests = λ f. tt })
+      at_done : (b : Bool) → s.done ≡ b → MatchBool b ((r ≡ None) × (t ≡ s))
+          (TakesStep span asks gives s.asker (steps_walk s) r t.asker (steps_walk t) t.done)
+          → MakesProgress can steps_left s r t
+      at_done true d x = subst (λ (q : Option (Result Y SearchError)). MakesProgress can steps_left s q t) (sym x.0)
+          (record { on = λ f. tt; keeps = tt; rests = λ f. tt })
       at_done false d x = steps-progress may d x
 
-module _ {S X Y : Type 0} (accepts : S → Search → Type 0) (asks : S → Search → Answer X → S → Type 0) (span : X → Span) (view : Y → X) where
+module _ {S X Y : Type 0} (accepts : S → Search → Type 0) (asks : S → Search → Answer X → S → Type 0) (span : X → Span)
+    (view : Y → X) where
   abbrev steps : Steps S → Option (Result Y SearchError) → Steps S → Type 0
   steps s r t = takes_steps span asks (λ q. GivesItem view) s r t
 
@@ -104,27 +117,36 @@ module _ {S X Y : Type 0} (accepts : S → Search → Type 0) (asks : S → Sear
 
     acts : (f : S) (s : Search) (a : Answer X) (f' : S) → Good f s → asks f s a f' → (a ≡ h s) × Good f' s
     acts f s a f' computes asked = (
-      Along-now accepts asks span (λ (t : Search) (b : Answer X). b ≡ h t) f s s a f' (same_start-self s) asked computes,
-      Along-call accepts asks span (λ (t : Search) (b : Answer X). b ≡ h t) f s s a f' (same_start-self s) asked computes,
+      Along-now accepts asks span (λ (t : Search) (b : Answer X). b ≡ h t) f s s a f' (same_start-self s)
+          asked computes,
+      Along-call accepts asks span (λ (t : Search) (b : Answer X). b ≡ h t) f s s a f' (same_start-self s)
+          asked computes,
     )
 
     moves : (f : S) (s t : Search) → SameButStart s t → Good f s → Good f t
-    moves f s t same computes = Along-same accepts asks span (λ (u : Search) (b : Answer X). b ≡ h u) f s t same computes
+    moves f s t same computes = Along-same accepts asks span (λ (u : Search) (b : Answer X). b ≡ h u) f s
+        t same computes
 
-    turns : (s : Steps S) (r : Option (Result Y SearchError)) (t : Steps S) → Good s.asker (steps_walk s).at → steps s r t
-        → MatchBool s.done (r ≡ None) (IsTurnOf span h (steps_walk s) (option_map (item_by view) r) (steps_walk t) t.done × Good t.asker (steps_walk t).at)
+    turns : (s : Steps S) (r : Option (Result Y SearchError)) (t : Steps S)
+        → Good s.asker (steps_walk s).at → steps s r t
+        → MatchBool s.done (r ≡ None) (IsTurnOf span h (steps_walk s) (option_map (item_by view) r) (steps_walk t)
+        t.done × Good t.asker (steps_walk t).at)
     turns s r t computes st = at_done s.done st
       where
-        some_fewer : (r : Option (Result Y SearchError)) → OnSome r (items_left t.done (steps_walk t) < items_left false (steps_walk s))
-            → (x : Item X) → option_map (item_by view) r ≡ Some x → items_left t.done (steps_walk t) < items_left false (steps_walk s)
+        some_fewer : (r : Option (Result Y SearchError))
+            → OnSome r (items_left t.done (steps_walk t) < items_left false (steps_walk s))
+            → (x : Item X) → option_map (item_by view) r ≡ Some x
+            → items_left t.done (steps_walk t) < items_left false (steps_walk s)
         some_fewer None less x is = let k : None ≡ Some x = is in cc
         some_fewer (Some y) less x is = less
 
         at_done : (b : Bool) → MatchBool b ((r ≡ None) × (t ≡ s)) (turn s r t)
-            → MatchBool b (r ≡ None) (IsTurnOf span h (steps_walk s) (option_map (item_by view) r) (steps_walk t) t.done × Good t.asker (steps_walk t).at)
+            → MatchBool b (r ≡ None) (IsTurnOf span h (steps_walk s) (option_map (item_by view) r) (steps_walk t) t.done
+            × Good t.asker (steps_walk t).at)
         at_done true x = x.0
         at_done false x =
-            let e = step-computes span asks h Good acts moves s.asker (steps_walk s) x.answer t.asker (steps_walk t) computes x.step in (
+            let e = step-computes span asks h Good acts moves s.asker (steps_walk s) x.answer t.asker (steps_walk t)
+            computes x.step in (
               record {
                 gives = x.item ∙ ap item_of e.0;
                 walk = e.1;
@@ -135,16 +157,20 @@ module _ {S X Y : Type 0} (accepts : S → Search → Type 0) (asks : S → Sear
             )
 
     -- the items are the greedy list
-    pub try-yields : (s : Steps S) → Good s.asker (steps_walk s).at → YieldsList steps (item_by view) s (greedy_unless span s.done h (steps_walk s))
+    pub try-yields : (s : Steps S) → Good s.asker (steps_walk s).at
+        → YieldsList steps (item_by view) s (greedy_unless span s.done h (steps_walk s))
     try-yields s computes = record {
-      runs = yields-greedy span steps (item_by view) (λ (q : Steps S). steps_walk q) (λ (q : Steps S). q.done) h (λ (q : Steps S). Good q.asker (steps_walk q).at) turns s computes;
+      runs = yields-greedy span steps (item_by view) (λ (q : Steps S). steps_walk q) (λ (q : Steps S). q.done) h
+          (λ (q : Steps S). Good q.asker (steps_walk q).at) turns s computes;
     }
 
   -- where no call errs, the matches stay in the span
   pub surely-inside : (s : Steps S) → can_step_surely accepts asks span s → can_step accepts asks span s
-  surely-inside s h = Along-weaker accepts asks span (IsSurelyInside span) (IsInside span) s.asker (steps_walk s).at (λ t a p. p.0) h
+  surely-inside s h = Along-weaker accepts asks span (IsSurelyInside span) (IsInside span) s.asker (steps_walk s).at
+      (λ t a p. p.0) h
 
-  module _ (s t : Steps S) (r : Option (Result Y SearchError)) (h : can_step_surely accepts asks span s) (st : steps s r t) where
+  module _ (s t : Steps S) (r : Option (Result Y SearchError)) (h : can_step_surely accepts asks span s)
+      (st : steps s r t) where
     -- and no error comes
     pub never-err : (e : SearchError) → r ≡ Some (Err e) → ⊥
     never-err e is = at_done s.done st
@@ -153,47 +179,62 @@ module _ {S X Y : Type 0} (accepts : S → Search → Type 0) (asks : S → Sear
         at_done true x = let k : None ≡ Some (Err e) = sym x.0 ∙ is in cc
         at_done false x =
             let gives = x.item in
-            no_err x.answer e (Along-answer accepts asks span (IsSurelyInside span) s.asker (steps_walk s) x.answer t.asker (steps_walk t) x.step h).1.1 (rw is at gives)
+            no_err x.answer e (Along-answer accepts asks span (IsSurelyInside span) s.asker (steps_walk s) x.answer
+            t.asker (steps_walk t) x.step h).1.1 (rw is at gives)
 
     -- after a match the iterator may go on, and fewer ends are left
     pub after-match : (m : Y) → r ≡ Some (Ok m)
-        → (s.done ≡ false) × (t.done ≡ false) × (ends_left (steps_walk t) < ends_left (steps_walk s)) × can_step_surely accepts asks span t
+        → (s.done ≡ false) × (t.done ≡ false) × (ends_left (steps_walk t) < ends_left (steps_walk s))
+        × can_step_surely accepts asks span t
     after-match m is = at_done s.done refl st
       where
         at_done : (b : Bool) → s.done ≡ b → MatchBool b ((r ≡ None) × (t ≡ s)) (turn s r t)
-            → (s.done ≡ false) × (t.done ≡ false) × (ends_left (steps_walk t) < ends_left (steps_walk s)) × can_step_surely accepts asks span t
+            → (s.done ≡ false) × (t.done ≡ false) × (ends_left (steps_walk t) < ends_left (steps_walk s))
+            × can_step_surely accepts asks span t
         at_done true d x = let k : None ≡ Some (Ok m) = sym x.0 ∙ is in cc
         at_done false d x =
             let some = x.fewer in
             let going : t.done ≡ false = x.ends ∙ ap ends_at is in
             let less : items_left t.done (steps_walk t) < items_left false (steps_walk s) = rw is at some in
-            let fewer : ends_left (steps_walk t) + 1 < ends_left (steps_walk s) + 1 = rw going at less in
-            (d, going, omega arith, Along-turn accepts asks span (IsSurelyInside span) s.asker (steps_walk s) x.answer t.asker (steps_walk t) x.step x.same h)
+            let fewer : ends_left (steps_walk t) + 1 < ends_left (steps_walk s) + 1 = rw going at less in (
+              d,
+              going,
+              omega arith,
+              Along-turn accepts asks span (IsSurelyInside span) s.asker (steps_walk s) x.answer
+                  t.asker (steps_walk t) x.step x.same h,
+            )
 
     -- so a match is progress
-    pub sure-some : (m : Y) (r' : Option Y) → r ≡ Some (Ok m) → r' ≡ Some m → MakesProgress (can_step_surely accepts asks span) sure_left s r' t
+    pub sure-some : (m : Y) (r' : Option Y) → r ≡ Some (Ok m) → r' ≡ Some m
+        → MakesProgress (can_step_surely accepts asks span) sure_left s r' t
     sure-some m r' is is' =
         let k = after-match m is in
         let start = k.0 in
         let going = k.1 in
         let less : matches_left t.done (steps_walk t) < matches_left s.done (steps_walk s) = rw (start, going) k.2 in
-        subst (λ (q : Option Y). MakesProgress (can_step_surely accepts asks span) sure_left s q t) (sym is') (record { on = λ f. (k.3, tt, less); keeps = k.3; rests = λ f. tt })
+        subst (λ (q : Option Y). MakesProgress (can_step_surely accepts asks span) sure_left s q t) (sym is')
+        (record { on = λ f. (k.3, tt, less); keeps = k.3; rests = λ f. tt })
 
   -- and so is none
-  pub sure-none : (s t : Steps S) (r : Option Y) → r ≡ None → MakesProgress (can_step_surely accepts asks span) sure_left s r t
-  sure-none s t r is = subst (λ (q : Option Y). MakesProgress (can_step_surely accepts asks span) sure_left s q t) (sym is) (record { on = λ f. tt; keeps = tt; rests = λ f. tt })
+  pub sure-none : (s t : Steps S) (r : Option Y) → r ≡ None
+      → MakesProgress (can_step_surely accepts asks span) sure_left s r t
+  sure-none s t r is = subst (λ (q : Option Y). MakesProgress (can_step_surely accepts asks span) sure_left s q t)
+      (sym is) (record { on = λ f. tt; keeps = tt; rests = λ f. tt })
 
   -- where no step is, any list is given
-  no_steps : (zs : List X) (s : Steps S) → ((j : Steps S) → ¬ (sure_steps s None j)) → ((x : Y) (j : Steps S) → ¬ (sure_steps s (Some x) j)) → AlwaysYields sure_steps view s zs
+  no_steps : (zs : List X) (s : Steps S) → ((j : Steps S) → ¬ (sure_steps s None j))
+      → ((x : Y) (j : Steps S) → ¬ (sure_steps s (Some x) j)) → AlwaysYields sure_steps view s zs
   no_steps [] s none some = some
   no_steps (z ∷ zs) s none some = (none, λ x j st. absurd (some x j st))
 
   -- the matches are those of the items
-  yields : (ys : List (Item X)) (s : Steps S) → AlwaysYields steps (item_by view) s ys → AlwaysYields sure_steps view s (matches_in ys)
+  yields : (ys : List (Item X)) (s : Steps S) → AlwaysYields steps (item_by view) s ys
+      → AlwaysYields sure_steps view s (matches_in ys)
   yields [] s h = λ x j st. h (Ok x) j st
   yields (Ok y ∷ ys) s h = (
     (λ j st. h.0 j st),
-    (λ x j st. let k = h.1 (Ok x) j st in let e : Ok (view x) ≡ Ok y = k.0 in let same : view x ≡ y = cc in (same, yields ys j k.1)),
+    (λ x j st. let k = h.1 (Ok x) j st in let e : Ok (view x) ≡ Ok y = k.0 in let same : view x ≡ y = cc in
+        (same, yields ys j k.1)),
   )
   yields (Err e ∷ ys) s h = no_steps (matches_in ys) s (λ j st. h.0 j st)
       (λ x j st. let k : Ok (view x) ≡ Err e = (h.1 (Ok x) j st).0 in cc)
@@ -201,4 +242,7 @@ module _ {S X Y : Type 0} (accepts : S → Search → Type 0) (asks : S → Sear
   -- so they are the matches of the greedy list
   pub sure-yields : (h : Search → Answer X) (s : Steps S) → Good h s.asker (steps_walk s).at
       → YieldsList sure_steps view s (matches_in (greedy_unless span s.done h (steps_walk s)))
-  sure-yields h s computes = record { runs = yields (greedy_unless span s.done h (steps_walk s)) s (try-yields h s computes).runs }
+  sure-yields h s computes = record {
+    runs =
+        yields (greedy_unless span s.done h (steps_walk s)) s (try-yields h s computes).runs;
+  }

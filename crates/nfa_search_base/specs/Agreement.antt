@@ -40,5 +40,6 @@ pub record FindsEnds (h : Search → Answer Found) (k : Search → Answer HalfFo
 
 -- half iteration gives the ends of full iteration
 abbrev pub HalfAndFullAgree : Type 0
-HalfAndFullAgree = (h : Search → Answer Found) (k : Search → Answer HalfFound) (w : Walk) → IsWalk w → FindsEnds h k w.at
+HalfAndFullAgree = (h : Search → Answer Found) (k : Search → Answer HalfFound) (w : Walk) → IsWalk w
+    → FindsEnds h k w.at
     → greedy half_span_of k w ≡ map end_item (greedy span_of h w)

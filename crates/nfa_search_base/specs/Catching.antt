@@ -64,16 +64,20 @@ UpToRefusal [] (x ∷ xs) = ⊥
 UpToRefusal (y ∷ ys) (x ∷ xs) = ((x ≡ y) × UpToRefusal ys xs) ⊎ ((x ≡ Err Memory) × (xs ≡ []))
 
 -- whoever runs the iterator s to its end has the items of the list, up to a refusal
-pub record YieldsUpToRefusal {T R X : Type 0} (steps : T → Option R → T → Type 0) (value : R → Item X) (s : T) (all : List (Item X)) : Type 0 where
+pub record YieldsUpToRefusal {T R X : Type 0} (steps : T → Option R → T → Type 0) (value : R → Item X) (s : T)
+    (all : List (Item X)) : Type 0 where
   pub at : (xs : List R) → Drains steps s xs → UpToRefusal all (map value xs)
 
-module _ {F : Type 0} (g : Mut F (Bor Input × (MutBor Captured × Unit {0})) (Result (Unit {0}) SearchError × (MutBor Captured × Unit {0}))) where
+module _ {F : Type 0} (g : Mut F (Bor Input × (MutBor Captured × Unit {0}))
+    (Result (Unit {0}) SearchError × (MutBor Captured × Unit {0}))) where
   -- the finder may be called on this search, with these captures
   abbrev pub IsCallableWith : F → Captured → Search → Type 0
   IsCallableWith f c s = (p : Bor Input) (q : MutBor Captured) → search_of p.now ≡ s → q.now ≡ c → g.pre f (p, (q, tt))
 
-  -- a call of the finder f on this search, with the captures c, gave the reply, and left the finder as f' and the captures as c'
-  pub record AsksWith (f : F) (c : Captured) (s : Search) (reply : Result (Unit {0}) SearchError) (f' : F) (c' : Captured) : Type 0 where
+  -- a call of the finder f on this search, with the captures c, gave the reply, and left the finder as f' and the
+  -- captures as c'
+  pub record AsksWith (f : F) (c : Captured) (s : Search) (reply : Result (Unit {0}) SearchError) (f' : F)
+      (c' : Captured) : Type 0 where
     pub shown : Bor Input
     pub lent : MutBor Captured
     pub shows : search_of shown.now ≡ s
@@ -92,7 +96,8 @@ module _ {F : Type 0} (g : Mut F (Bor Input × (MutBor Captured × Unit {0})) (R
     pub asked : AsksWith c.finder c.captures s reply c'.finder c'.captures
     pub answers : a ≡ caught_by c'.captures reply
 
-  -- wherever calls on searches that differ from s in their start alone lead, the next may be made, and P holds of its answer
+  -- wherever calls on searches that differ from s in their start alone lead, the next may be made, and P holds of its
+  -- answer
   abbrev pub CatchesAlong : (Search → Answer Row → Type 0) → Catching F → Search → Type 0
   CatchesAlong P c s = ServesOnAlong CanCatch Catches SameButStart P c s
 

@@ -7,7 +7,8 @@ use Rattle.nfa_search_base.specs.Walks.{Answer}
 
 -- an empty match of the first pattern at the start of the span, if the span has one
 abbrev pub empty_answer : Search → Answer Found
-empty_answer s = Ok (if nat_le s.start s.end then Some (record { pattern = 0; start = s.start; end = s.start }) else None)
+empty_answer s = Ok (if nat_le s.start s.end then Some
+    (record { pattern = 0; start = s.start; end = s.start }) else None)
 
 -- the row of the empty match of the first pattern at the start of the haystack
 abbrev pub zero_row : Search → Answer Row

@@ -27,11 +27,13 @@ module _ {A X F : Type 0} (view : A → X) (g : Mut F (Bor Input × Unit {0}) (R
     pub asked : Asks g f s reply f'
     pub shows : a ≡ answer_by view reply
 
-  -- P holds of the answers of f for a step of the iteration w, for which it may be called once, and again one on where the first answer is an empty match at the last end
+  -- P holds of the answers of f for a step of the iteration w, for which it may be called once, and again one on where
+  -- the first answer is an empty match at the last end
   abbrev pub ServesStep : (X → Span) → (Search → Answer X → Type 0) → F → Walk → Type 0
   ServesStep span P f w = ServesTurn (IsCallableOn g) Finds span P f w
 
-  -- wherever calls on searches that differ from s in their start alone lead from f, the next may be made, and P holds of its answer
+  -- wherever calls on searches that differ from s in their start alone lead from f, the next may be made, and P holds
+  -- of its answer
   abbrev pub AnswersAlong : (Search → Answer X → Type 0) → F → Search → Type 0
   AnswersAlong P f s = ServesOnAlong (IsCallableOn g) Finds SameButStart P f s
 

@@ -46,7 +46,8 @@ matches_left false w = ends_left w
 -- A match is an X, which lies at `span`.
 module _ {X : Type 0} (span : X → Span) where
   -- a turn of an iterator that has not ended: a step of the iteration gives its item, and says whether it ends
-  pub record TakesTurn {S : Type 0} (asks : S → Search → Answer X → S → Type 0) (s : S) (w : Walk) (item : Option (Item X)) (s' : S) (w' : Walk) (done' : Bool) : Type 0 where
+  pub record TakesTurn {S : Type 0} (asks : S → Search → Answer X → S → Type 0) (s : S) (w : Walk)
+      (item : Option (Item X)) (s' : S) (w' : Walk) (done' : Bool) : Type 0 where
     pub answer : Answer X
     pub step : Advances span asks s w answer s' w'
     pub gives : item ≡ item_of answer
@@ -61,7 +62,8 @@ module _ {X : Type 0} (span : X → Span) where
 
   -- the iteration after that step
   abbrev pub step_walk : (Search → Answer X) → Walk → Walk
-  step_walk h w = if repeats w (place_of span (h w.at)) then after (shifted w) (place_of span (h (shifted w).at)) else after w (place_of span (h w.at))
+  step_walk h w = if repeats w (place_of span (h w.at)) then after (shifted w) (place_of span (h (shifted w).at)) else
+      after w (place_of span (h w.at))
 
   -- a match and the items after it; an error alone; nothing
   abbrev pub items_from : Answer X → List (Item X) → List (Item X)
@@ -74,7 +76,8 @@ module _ {X : Type 0} (span : X → Span) where
   items_within h zero w = []
   items_within h (suc n) w = items_from (step_answer h w) (items_within h n (step_walk h w))
 
-  -- all items from w on of a search that is the function h, from left to right; each step leaves fewer ends, so that these steps are enough
+  -- all items from w on of a search that is the function h, from left to right; each step leaves fewer ends, so that
+  -- these steps are enough
   unfoldable pub greedy : (Search → Answer X) → Walk → List (Item X)
   greedy h w = items_within h (suc (ends_left w)) w
 

@@ -34,8 +34,10 @@ module _ (nfa : Automaton) (kind : MatchKind) (x : Search) where
     -- Where a list is that of the matches of x, the items of each run are its first elements, and all of them where the
     -- run goes on to `None`.
     abbrev pub MatchesAre : T → Type 0
-    MatchesAre s = EachRunFrom steps s (λ p. (all : List Found) → AreMatches nfa kind x.earliest x all → ItemsMapTo p found_of all)
+    MatchesAre s = EachRunFrom steps s (λ p. (all : List Found) → AreMatches nfa kind x.earliest x all
+        → ItemsMapTo p found_of all)
 
     -- the items of each run are apart, in order, and in the span
     abbrev pub MatchesApart : T → Type 0
-    MatchesApart s = EachRunFrom steps s (λ p. AreApart x None (map found_of p.items) × All (λ m. IsInside x (found_of m)) p.items)
+    MatchesApart s = EachRunFrom steps s (λ p. AreApart x None (map found_of p.items)
+        × All (λ m. IsInside x (found_of m)) p.items)

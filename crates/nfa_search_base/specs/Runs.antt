@@ -21,7 +21,8 @@ module _ {T R : Type 0} (steps : T → Option R → T → Type 0) where
 
     -- after an item the items so far and that one are
     abbrev pub GivesNext : T → Type 0
-    GivesNext s = (xs : List R) (t : T) (r : R) (u : T) → Yields steps s xs t → steps t (Some r) u → First (xs ++ r ∷ [])
+    GivesNext s = (xs : List R) (t : T) (r : R) (u : T) → Yields steps s xs t → steps t (Some r) u
+        → First (xs ++ r ∷ [])
 
   -- the calls keep what `Keeps` says
   abbrev pub GivesKept : (T → T → Type 0) → T → Type 0

@@ -12,7 +12,8 @@ use Rattle.nfa_search_base.specs.declared.iter.searcher.Offered.TheVariants.{Don
 abbrev pub walk_of : Searcher → Walk
 walk_of s = record { at = search_of s.input; last = s.last_match_end }
 
--- what becomes of an answer that is offered: it is done, and moves the iteration, or it is an empty match at the last end, and the start moves one on
+-- what becomes of an answer that is offered: it is done, and moves the iteration, or it is an empty match at the last
+-- end, and the start moves one on
 abbrev pub OfferGives : Walk → Option Match → Offered → Walk → Type 0
 OfferGives w o (Done p) w' = (p ≡ o) × (repeats w (match_place (Ok o)) ≡ false) × (w' ≡ after w (match_place (Ok o)))
 OfferGives w o Again w' = (repeats w (match_place (Ok o)) ≡ true) × (w' ≡ shifted w) × IsPast w'

@@ -23,13 +23,17 @@ module _ {S R : Type 0} (accepts : S → Search → Type 0) (asks : S → Search
       pub at : (calls : List (Search × R)) (s' : S) (u : Search) → LeadsOn t s calls s' → Same t u → ServesOn P s' u
 
 -- Its replies are answers, whose matches lie at `span`.
-module _ {S X : Type 0} (accepts : S → Search → Type 0) (asks : S → Search → Answer X → S → Type 0) (span : X → Span) where
-  -- P holds of its answers for a step of the iteration w, for which it may be called once, and again one on where the first answer is an empty match at the last end
+module _ {S X : Type 0} (accepts : S → Search → Type 0) (asks : S → Search → Answer X → S → Type 0)
+    (span : X → Span) where
+  -- P holds of its answers for a step of the iteration w, for which it may be called once, and again one on where the
+  -- first answer is an empty match at the last end
   pub record ServesTurn (P : Search → Answer X → Type 0) (s : S) (w : Walk) : Type 0 where
     pub first : ServesOn accepts asks P s w.at
-    pub second : (a : Answer X) (s' : S) → asks s w.at a s' → repeats w (place_of span a) ≡ true → ServesOn accepts asks P s' (shifted w).at
+    pub second : (a : Answer X) (s' : S) → asks s w.at a s' → repeats w (place_of span a) ≡ true
+        → ServesOn accepts asks P s' (shifted w).at
 
-  -- what a step gives: it is one of the iteration, its match comes after the last one and leaves fewer ends, and only the search's start moved
+  -- what a step gives: it is one of the iteration, its match comes after the last one and leaves fewer ends, and only
+  -- the search's start moved
   pub record StepDone (s : S) (w : Walk) (a : Answer X) (s' : S) (w' : Walk) : Type 0 where
     pub step : Advances span asks s w a s' w'
     pub rises : ComesAfter w (place_of span a)

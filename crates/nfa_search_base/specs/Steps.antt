@@ -29,10 +29,13 @@ ends_at (Some (Err e)) = true
 abbrev pub GivesItem : {X Y : Type 0} → (Y → X) → Answer X → Option (Result Y SearchError) → Type 0
 GivesItem view a r = option_map (item_by view) r ≡ item_of a
 
--- A match is an X, which lies at `span`; a call `asks`; an item is a Y, and `gives` says which an answer gives, in the state that the call left.
-module _ {S X Y : Type 0} (span : X → Span) (asks : S → Search → Answer X → S → Type 0) (gives : S → Answer X → Option (Result Y SearchError) → Type 0) where
+-- A match is an X, which lies at `span`; a call `asks`; an item is a Y, and `gives` says which an answer gives, in the
+-- state that the call left.
+module _ {S X Y : Type 0} (span : X → Span) (asks : S → Search → Answer X → S → Type 0)
+    (gives : S → Answer X → Option (Result Y SearchError) → Type 0) where
   -- a step of an iterator that has not ended
-  pub record TakesStep (s : S) (w : Walk) (r : Option (Result Y SearchError)) (s' : S) (w' : Walk) (done' : Bool) : Type 0 where
+  pub record TakesStep (s : S) (w : Walk) (r : Option (Result Y SearchError)) (s' : S) (w' : Walk)
+      (done' : Bool) : Type 0 where
     pub answer : Answer X
     pub step : Advances span asks s w answer s' w'
     pub item : gives s' answer r

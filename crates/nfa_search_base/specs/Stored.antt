@@ -24,7 +24,8 @@ steps_left s = at_most (items_left s.done (steps_walk s))
 abbrev pub sure_left : {S : Type 0} → Steps S → Count
 sure_left s = at_most (matches_left s.done (steps_walk s))
 
-module _ {S X : Type 0} (accepts : S → Search → Type 0) (asks : S → Search → Answer X → S → Type 0) (span : X → Span) where
+module _ {S X : Type 0} (accepts : S → Search → Type 0) (asks : S → Search → Answer X → S → Type 0)
+    (span : X → Span) where
   -- wherever calls lead, the next on a search of the iteration may be made, and its match lies in the span
   abbrev pub can_step : Steps S → Type 0
   can_step s = ServesOnAlong accepts asks SameButStart (IsInside span) s.asker (steps_walk s).at
@@ -33,7 +34,8 @@ module _ {S X : Type 0} (accepts : S → Search → Type 0) (asks : S → Search
   abbrev pub can_step_surely : Steps S → Type 0
   can_step_surely s = ServesOnAlong accepts asks SameButStart (IsSurelyInside span) s.asker (steps_walk s).at
 
-module _ {S X Y : Type 0} (span : X → Span) (asks : S → Search → Answer X → S → Type 0) (gives : S → Answer X → Option (Result Y SearchError) → Type 0) where
+module _ {S X Y : Type 0} (span : X → Span) (asks : S → Search → Answer X → S → Type 0)
+    (gives : S → Answer X → Option (Result Y SearchError) → Type 0) where
   -- nothing comes, and nothing changes, once it has ended; else it takes a step
   abbrev pub takes_steps : Steps S → Option (Result Y SearchError) → Steps S → Type 0
   takes_steps s r t = MatchBool s.done

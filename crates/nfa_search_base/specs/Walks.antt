@@ -92,8 +92,10 @@ module _ {X : Type 0} (span : X → Span) where
   abbrev pub IsSurelyInside : Search → Answer X → Type 0
   IsSurelyInside s a = IsInside s a × IsOk a
 
-  -- A step, of what is asked in the state s and of the iteration w, gave r: the first answer, or, where that is an empty match at the last end, the answer one on.
-  pub record Advances {S : Type 0} (asks : S → Search → Answer X → S → Type 0) (s : S) (w : Walk) (r : Answer X) (s' : S) (w' : Walk) : Type 0 where
+  -- A step, of what is asked in the state s and of the iteration w, gave r: the first answer, or, where that is an
+  -- empty match at the last end, the answer one on.
+  pub record Advances {S : Type 0} (asks : S → Search → Answer X → S → Type 0) (s : S) (w : Walk) (r : Answer X)
+      (s' : S) (w' : Walk) : Type 0 where
     pub answer : Answer X
     pub between : S
     pub first : asks s w.at answer between

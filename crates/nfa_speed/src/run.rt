@@ -71,12 +71,7 @@ fn matches_of_words<R: Read>(alloc: Global, words: &[&str], haystack: &mut R) ->
 }
 
 /// The matches of the last round, with one cache for all. No round has none.
-fn backtrack_rounds(
-    alloc: Global,
-    nfa: NFA,
-    input: Input<'_>,
-    rounds: u64,
-) -> Result<u64, Stop> {
+fn backtrack_rounds(alloc: Global, nfa: NFA, input: Input<'_>, rounds: u64) -> Result<u64, Stop> {
     let engine = BoundedBacktracker::new_from_nfa(nfa)?;
     let mut cache = engine.create_cache(alloc);
     let mut count = 0;

@@ -16,12 +16,7 @@ pub struct Highlighter {
 impl Highlighter {
     /// Counts matches of this NFA. The error is that a growth was refused.
     pub fn new(alloc: Global, nfa: NFA) -> Result<Highlighter, SearchError> {
-        let choice = Choice::new(
-            alloc,
-            nfa,
-            backtrack::Config::new(),
-            pikevm::Config::new(),
-        )?;
+        let choice = Choice::new(alloc, nfa, backtrack::Config::new(), pikevm::Config::new())?;
         Ok(Highlighter { choice })
     }
 

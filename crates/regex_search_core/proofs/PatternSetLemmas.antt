@@ -20,12 +20,14 @@ pub places_from_hold : (n : ℕ) (bs : List Bool) → All (HoldsFrom n bs) (plac
 places_from_hold n [] = All-nil (HoldsFrom n [])
 places_from_hold n (true ∷ bs) =
     All-cons (HoldsFrom n (true ∷ bs)) n (places_from (n + 1) bs) (omega arith, here)
-    (All-weaker (HoldsFrom (n + 1) bs) (HoldsFrom n (true ∷ bs)) (one_later n true bs) (places_from (n + 1) bs) (places_from_hold (n + 1) bs))
+    (All-weaker (HoldsFrom (n + 1) bs) (HoldsFrom n (true ∷ bs)) (one_later n true bs) (places_from (n + 1) bs)
+    (places_from_hold (n + 1) bs))
   where
     here : slice_index_or (true ∷ bs) (n - n) false ≡ true
     here = let at : n - n ≡ 0 = omega arith in rw at refl
 places_from_hold n (false ∷ bs) =
-    All-weaker (HoldsFrom (n + 1) bs) (HoldsFrom n (false ∷ bs)) (one_later n false bs) (places_from (n + 1) bs) (places_from_hold (n + 1) bs)
+    All-weaker (HoldsFrom (n + 1) bs) (HoldsFrom n (false ∷ bs)) (one_later n false bs) (places_from (n + 1) bs)
+    (places_from_hold (n + 1) bs)
 
 -- a number after the first
 later : (x : ℕ) (xs : List ℕ) (p q : ℕ) → p ≡ q → Contains xs p → Contains (x ∷ xs) q
@@ -49,7 +51,8 @@ places_from_contain n (false ∷ bs) (suc i) h =
 pub patterns_of_contain : (which : List Bool) (p : ℕ)
     → Contains (patterns_of which) p ↔ (slice_index_or which p false ≡ true)
 patterns_of_contain which p = (
-  λ among. let held = All-contains (HoldsFrom 0 which) (patterns_of which) p (places_from_hold 0 which) among in let same : p - 0 ≡ p = omega arith in rw same at held.1,
+  λ among. let held = All-contains (HoldsFrom 0 which) (patterns_of which) p (places_from_hold 0 which) among in
+      let same : p - 0 ≡ p = omega arith in rw same at held.1,
   λ holds. let at : Contains (patterns_of which) (0 + p) = places_from_contain 0 which p holds in rw (zero-add p) at at,
 )
 
@@ -64,7 +67,8 @@ pub places_from_rise : (n : ℕ) (bs : List Bool) → IsStrictlyIncreasing (plac
 places_from_rise n [] = λ k h. absurd (omega arith)
 places_from_rise n (true ∷ bs) =
     rise_later n (places_from (n + 1) bs)
-    (All-weaker (HoldsFrom (n + 1) bs) (λ p. n < p) (λ p h. omega (arith, h.0)) (places_from (n + 1) bs) (places_from_hold (n + 1) bs))
+    (All-weaker (HoldsFrom (n + 1) bs) (λ p. n < p) (λ p h. omega (arith, h.0)) (places_from (n + 1) bs)
+    (places_from_hold (n + 1) bs))
     (places_from_rise (n + 1) bs)
 places_from_rise n (false ∷ bs) = places_from_rise (n + 1) bs
 

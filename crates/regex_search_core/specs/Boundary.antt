@@ -4,4 +4,5 @@ use Rattle.std.specs.Prelude.{◌≡◌, ℕ, ◌<◌, ◌≤◌, ◌⊎◌, Lis
 -- the position is the end, or its byte is no continuation byte of UTF-8
 abbrev pub IsBoundary : List ℕ → ℕ → Type 0
 IsBoundary haystack i =
-    (i ≡ length haystack) ⊎ ((i < length haystack) × ((slice_index haystack i ≤ 0x7F) ⊎ (0xC0 ≤ slice_index haystack i)))
+    (i ≡ length haystack) ⊎ ((i < length haystack)
+    × ((slice_index haystack i ≤ 0x7F) ⊎ (0xC0 ≤ slice_index haystack i)))

@@ -27,4 +27,5 @@ look_holds Start haystack at = at == 0
 look_holds End haystack at = at == length haystack
 look_holds WordAscii haystack at = differ (is_word_before haystack at) (is_word_after haystack at)
 look_holds WordAsciiNegate haystack at = not (differ (is_word_before haystack at) (is_word_after haystack at))
-look_holds WordUnicode haystack at = differ (is_some_word (char_before haystack at)) (is_some_word (char_after haystack at))
+look_holds WordUnicode haystack at = differ (is_some_word (char_before haystack at))
+    (is_some_word (char_after haystack at))

@@ -161,7 +161,8 @@ fn pieces(
     haystack: &[u8],
     len: usize,
 ) -> Result<Vec<Result<Match, SearchError>>, AllocError>
-    ensures { IfOk result (λ v. map (item_by found_of) v.items ≡ greedy span_of (piece_answer len) (fresh (whole haystack.now))) }
+    ensures { IfOk result (λ v. map (item_by found_of) v.items ≡ greedy span_of (piece_answer len)
+        (fresh (whole haystack.now))) }
 {
     let input = Input::new(haystack);
     let searcher = Searcher::new(input);

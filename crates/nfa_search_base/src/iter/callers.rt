@@ -74,7 +74,8 @@ fn collected_captures(
     captures: Captures,
 ) -> Result<Vec<Result<Captures, SearchError>>, AllocError>
     requires { captures.slots ≡ Some 0 ∷ Some 0 ∷ [] }
-    ensures { IfOk result (λ v. UpToRefusal (greedy row_span zero_row (fresh (whole haystack.now))) (map (item_by row_of) v.items)) }
+    ensures { IfOk result (λ v. UpToRefusal (greedy row_span zero_row (fresh (whole haystack.now)))
+        (map (item_by row_of) v.items)) }
 {
     let input = Input::new(haystack);
     let searcher = Searcher::new(input);

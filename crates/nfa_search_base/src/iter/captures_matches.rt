@@ -50,7 +50,9 @@ impl<'h> Searcher<'h> {
         ensures finder { result.asker ≡ record { finder = finder; captures = captures } }
         ensures going { result.done ≡ false }
         // Where the finder computes h, the items hold the rows of the greedy list of h, up to a refusal of memory.
-        ensures list { (h : Search → Answer Row) → CatchesBy F.FnMut h (record { finder = finder; captures = captures }) (walk_of self.entry).at → YieldsUpToRefusal (takes_steps row_span (Catches F.FnMut) GivesCaptures) (item_by row_of) result (greedy row_span h (walk_of self.entry)) }
+        ensures list { (h : Search → Answer Row) → CatchesBy F.FnMut h (record { finder = finder; captures = captures })
+            (walk_of self.entry).at → YieldsUpToRefusal (takes_steps row_span (Catches F.FnMut) GivesCaptures)
+            (item_by row_of) result (greedy row_span h (walk_of self.entry)) }
     {
         TryCapturesIter {
             steps: Steps {
@@ -87,7 +89,9 @@ impl<'h, F> TryCapturesIter<'h, F> {
         ensures can { can_step_surely (CanCatch F.FnMut) (Catches F.FnMut) row_span result }
         ensures same { result ≡ self.entry }
         // Where the finder computes h, the items hold the rows of the greedy list of h, up to a refusal of memory.
-        ensures list { (h : Search → Answer Row) → CatchesBy F.FnMut h self.entry.asker (steps_walk self.entry).at → YieldsUpToRefusal (takes_sure_catches F.FnMut) (item_by row_of) result (greedy_unless row_span self.entry.done h (steps_walk self.entry)) }
+        ensures list { (h : Search → Answer Row) → CatchesBy F.FnMut h self.entry.asker (steps_walk self.entry).at
+            → YieldsUpToRefusal (takes_sure_catches F.FnMut) (item_by row_of) result
+            (greedy_unless row_span self.entry.done h (steps_walk self.entry)) }
     {
         CapturesIter { tries: self }
     }

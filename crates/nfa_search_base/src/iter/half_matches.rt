@@ -52,7 +52,9 @@ impl<'h> Searcher<'h> {
         ensures finder { result.asker ≡ finder }
         ensures going { result.done ≡ false }
         // Where the finder computes h, the items are the greedy list of h, whoever asks for them.
-        ensures list { (h : Search → Answer HalfFound) → Computes half_found_of F.FnMut h finder (walk_of self.entry).at → YieldsList (takes_steps half_span_of (Finds half_found_of F.FnMut) (λ _. GivesItem half_found_of)) (item_by half_found_of) result (greedy half_span_of h (walk_of self.entry)) }
+        ensures list { (h : Search → Answer HalfFound) → Computes half_found_of F.FnMut h finder (walk_of self.entry).at
+            → YieldsList (takes_steps half_span_of (Finds half_found_of F.FnMut) (λ _. GivesItem half_found_of))
+            (item_by half_found_of) result (greedy half_span_of h (walk_of self.entry)) }
     {
         TryHalfMatchesIter {
             steps: Steps {
@@ -92,7 +94,10 @@ impl<'h, F> TryHalfMatchesIter<'h, F> {
         ensures can { can_step_surely (IsCallableOn F.FnMut) (Finds half_found_of F.FnMut) half_span_of result }
         ensures same { result ≡ self.entry }
         // Where the finder computes h, the matches are those of the greedy list of h.
-        ensures list { (h : Search → Answer HalfFound) → Computes half_found_of F.FnMut h self.entry.asker (steps_walk self.entry).at → YieldsList (takes_sure_steps half_span_of (Finds half_found_of F.FnMut) (λ _. GivesItem half_found_of)) half_found_of result (matches_in (greedy_unless half_span_of self.entry.done h (steps_walk self.entry))) }
+        ensures list { (h : Search → Answer HalfFound) → Computes half_found_of F.FnMut h self.entry.asker
+            (steps_walk self.entry).at → YieldsList
+            (takes_sure_steps half_span_of (Finds half_found_of F.FnMut) (λ _. GivesItem half_found_of))
+            half_found_of result (matches_in (greedy_unless half_span_of self.entry.done h (steps_walk self.entry))) }
     {
         HalfMatchesIter { tries: self }
     }

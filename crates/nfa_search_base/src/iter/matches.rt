@@ -52,7 +52,9 @@ impl<'h> Searcher<'h> {
         ensures finder { result.asker ≡ finder }
         ensures going { result.done ≡ false }
         // Where the finder computes h, the items are the greedy list of h, whoever asks for them.
-        ensures list { (h : Search → Answer Found) → Computes found_of F.FnMut h finder (walk_of self.entry).at → YieldsList (takes_steps span_of (Finds found_of F.FnMut) (λ _. GivesItem found_of)) (item_by found_of) result (greedy span_of h (walk_of self.entry)) }
+        ensures list { (h : Search → Answer Found) → Computes found_of F.FnMut h finder (walk_of self.entry).at
+            → YieldsList (takes_steps span_of (Finds found_of F.FnMut) (λ _. GivesItem found_of)) (item_by found_of)
+            result (greedy span_of h (walk_of self.entry)) }
     {
         TryMatchesIter {
             steps: Steps {
@@ -92,7 +94,9 @@ impl<'h, F> TryMatchesIter<'h, F> {
         ensures can { can_step_surely (IsCallableOn F.FnMut) (Finds found_of F.FnMut) span_of result }
         ensures same { result ≡ self.entry }
         // Where the finder computes h, the matches are those of the greedy list of h.
-        ensures list { (h : Search → Answer Found) → Computes found_of F.FnMut h self.entry.asker (steps_walk self.entry).at → YieldsList (takes_sure_steps span_of (Finds found_of F.FnMut) (λ _. GivesItem found_of)) found_of result (matches_in (greedy_unless span_of self.entry.done h (steps_walk self.entry))) }
+        ensures list { (h : Search → Answer Found) → Computes found_of F.FnMut h self.entry.asker (steps_walk self.entry).at
+            → YieldsList (takes_sure_steps span_of (Finds found_of F.FnMut) (λ _. GivesItem found_of)) found_of
+            result (matches_in (greedy_unless span_of self.entry.done h (steps_walk self.entry))) }
     {
         MatchesIter { tries: self }
     }

@@ -169,7 +169,8 @@ impl<'h> Searcher<'h> {
     // A step, of whatever answers searches.
     pub(crate) fn step_by<A: Answers>(&mut self, asker: &mut A) -> A::Reply
         requires { ServesTurn A.accepts A.asks A.span (IsInside A.span) asker.old (walk_of self.old) }
-        ensures { StepDone A.accepts A.asks A.span asker.old (walk_of self.old) (A.shows asker.new result) asker.new (walk_of self.new) }
+        ensures { StepDone A.accepts A.asks A.span asker.old (walk_of self.old) (A.shows asker.new result) asker.new
+            (walk_of self.new) }
     {
         let first = asker.answer(&self.input);
         let place = asker.place(first);
@@ -186,8 +187,10 @@ impl<'h> Searcher<'h> {
     // The same step, where each search is lent a cache.
     #[inline]
     pub(crate) fn step_with<A: Searches>(&mut self, asker: &mut A, cache: &mut A::Cache) -> A::Reply
-        requires { ServesTurn A.accepts A.asks A.span (IsInside A.span) (record { asker = asker.old; cache = cache.old }) (walk_of self.old) }
-        ensures { StepDone A.accepts A.asks A.span (record { asker = asker.old; cache = cache.old }) (walk_of self.old) (A.shows asker.new result) (record { asker = asker.new; cache = cache.new }) (walk_of self.new) }
+        requires { ServesTurn A.accepts A.asks A.span (IsInside A.span) (record { asker = asker.old; cache = cache.old })
+            (walk_of self.old) }
+        ensures { StepDone A.accepts A.asks A.span (record { asker = asker.old; cache = cache.old }) (walk_of self.old)
+            (A.shows asker.new result) (record { asker = asker.new; cache = cache.new }) (walk_of self.new) }
     {
         let once = asker.answer(cache, &self.input);
         let place = asker.place(once);

@@ -21,7 +21,8 @@ fn collected(
     input: Input<'_>,
 ) -> Result<Vec<Match>, AllocError>
     requires { Fits cache.old vm.now.nfa }
-    ensures { IfOk result (λ v. AreMatches vm.now.nfa (kind_of vm.now) (search_of input.entry).earliest (search_of input.entry) (map found_of v.items)) }
+    ensures { IfOk result (λ v. AreMatches vm.now.nfa (kind_of vm.now) (search_of input.entry).earliest
+        (search_of input.entry) (map found_of v.items)) }
 {
     vm.find_iter(cache, input).collect(alloc)
 }

@@ -25,5 +25,6 @@ returns-else-not-mark-clause-begins c =
     let below = rw c.in-Capture.is at c.state_at.ensures.leads in
     let unset = c.is_unset.ensures c.if-not-is_unset.false in
     rw (c.to.ensures, c.write.ensures)
-    (BeginsAt-write c.args.nfa.now (search_of c.args.input.now) t c.requires.place c.in-Capture.next c.in-Capture.slot is
+    (BeginsAt-write c.args.nfa.now (search_of c.args.input.now) t c.requires.place c.in-Capture.next
+    c.in-Capture.slot is
     below c.args.slots.now unset.0 unset.1)

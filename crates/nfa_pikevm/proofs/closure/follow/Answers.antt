@@ -19,7 +19,8 @@ loop-on-init c =
       same = refl;
       within = λ k d h. absurd (omega arith);
       paid = Paid-begin c.args.nfa.now c.args.seen.now (length c.args.next.now.items) [] 1;
-      followed = Followed-begin c.args.nfa.now (search_of c.args.input.now) c.args.at c.args.past_match c.args.root c.args.seen.now c.args.next.now.items c.args.row.now c.args.slots.now;
+      followed = Followed-begin c.args.nfa.now (search_of c.args.input.now) c.args.at c.args.past_match c.args.root
+          c.args.seen.now c.args.next.now.items c.args.row.now c.args.slots.now;
     }
 
 pub enter-requires-clause-room : goal.enter-requires-clause-room
@@ -30,7 +31,13 @@ enter-requires-clause-room c =
 
 pub loop-on-smaller-in-On : goal.loop-on-smaller-in-On
 loop-on-smaller-in-On c =
-    omega (arith, c.in-On.ensures.paid.tried, c.in-On.ensures.turns, marked_sum-le (map degree c.args.nfa.now.states) c.loop-on.seen.bits, marked_sum-le (map degree c.args.nfa.now.states) c.enter.new.seen.bits)
+    omega (
+      arith,
+      c.in-On.ensures.paid.tried,
+      c.in-On.ensures.turns,
+      marked_sum-le (map degree c.args.nfa.now.states) c.loop-on.seen.bits,
+      marked_sum-le (map degree c.args.nfa.now.states) c.enter.new.seen.bits,
+    )
 
 pub loop-on-preserved-in-On : goal.loop-on-preserved-in-On
 loop-on-preserved-in-On c =
@@ -48,21 +55,26 @@ loop-on-preserved-in-On c =
 pub returns-then-not-past_match-clause-arrives : goal.returns-then-not-past_match-clause-arrives
 returns-then-not-past_match-clause-arrives c =
     rw c.copy_row.ensures
-    (Arrives-cut c.loop-on.invariant.followed c.in-Matched.ensures.enters c.if-not-past_match.true (Paid-dropped (Paid-then c.loop-on.invariant.paid c.in-Matched.ensures.paid)))
+    (Arrives-cut c.loop-on.invariant.followed c.in-Matched.ensures.enters c.if-not-past_match.true
+    (Paid-dropped (Paid-then c.loop-on.invariant.paid c.in-Matched.ensures.paid)))
 
 -- the turn, with what it paid
 turned-Some : (c : goal.In-Some)
-    → Followed c.args.nfa.now (search_of c.args.input.now) c.args.at c.args.past_match c.args.root c.args.seen.now c.args.next.now.items c.args.row.now c.args.slots.now
-    c.enter.new.seen c.enter.new.next.items None (take c.enter.new.top c.enter.new.frames) c.enter.new.row c.match-enter.hit c.match-enter.slots
+    → Followed c.args.nfa.now (search_of c.args.input.now) c.args.at c.args.past_match c.args.root c.args.seen.now
+    c.args.next.now.items c.args.row.now c.args.slots.now
+    c.enter.new.seen c.enter.new.next.items None (take c.enter.new.top c.enter.new.frames) c.enter.new.row
+    c.match-enter.hit c.match-enter.slots
     × Paid c.args.nfa.now c.loop-on.seen (length c.loop-on.next.items) (take c.loop-on.top c.loop-on.frames) 1
     c.enter.new.seen (length c.enter.new.next.items) (take c.enter.new.top c.enter.new.frames) 0
 turned-Some c = elim c.match-enter.branch [
   | in-Matched+else-not-past_match w ↦ (
-    rw (w.hit-is, w.slots-is, w.copy_row.ensures) (Followed-matched c.loop-on.invariant.followed w.in-Matched.ensures.enters w.if-not-past_match.false),
+    rw (w.hit-is, w.slots-is, w.copy_row.ensures)
+        (Followed-matched c.loop-on.invariant.followed w.in-Matched.ensures.enters w.if-not-past_match.false),
     w.in-Matched.ensures.paid,
   )
   | in-Over w ↦ (
-    rw (w.hit-is, w.slots-is) (Followed-plain c.loop-on.invariant.followed w.in-Over.ensures.enters w.in-Over.ensures.enters.is_met),
+    rw (w.hit-is, w.slots-is) (Followed-plain c.loop-on.invariant.followed w.in-Over.ensures.enters
+        w.in-Over.ensures.enters.is_met),
     w.in-Over.ensures.paid,
   )
 ]
@@ -70,7 +82,14 @@ turned-Some c = elim c.match-enter.branch [
 pub loop-on-smaller : goal.loop-on-smaller
 loop-on-smaller c =
     let paid = (turned-Some c).1 in
-    omega (arith, paid.tried, c.enter.ensures.turns, c.in-Some.ensures.tried, marked_sum-le (map degree c.args.nfa.now.states) c.loop-on.seen.bits, marked_sum-le (map degree c.args.nfa.now.states) c.enter.new.seen.bits)
+    omega (
+      arith,
+      paid.tried,
+      c.enter.ensures.turns,
+      c.in-Some.ensures.tried,
+      marked_sum-le (map degree c.args.nfa.now.states) c.loop-on.seen.bits,
+      marked_sum-le (map degree c.args.nfa.now.states) c.enter.new.seen.bits,
+    )
 
 pub loop-on-preserved : goal.loop-on-preserved
 loop-on-preserved c =
@@ -81,24 +100,31 @@ loop-on-preserved c =
       size = c.enter.ensures.size ∙ c.loop-on.invariant.size;
       grows = omega (arith, c.enter.ensures.turns);
       same = same-items c.args.next.now c.loop-on.next c.enter.new.next c.loop-on.invariant.same c.enter.ensures.same;
-      within = rw (c.resume.auto.row, c.enter.auto.row) (within-lower _ _ _ _ _ c.in-Some.ensures.top c.enter.ensures.within);
-      paid = Paid-resumed c.enter.new.top c.resume.new.top c.enter.new.frames 1 c.in-Some.ensures.top c.enter.ensures.top c.in-Some.ensures.tried (Paid-then c.loop-on.invariant.paid turned.1);
-      followed = Followed-resumed _ _ _ (λ front work. c.in-Some.ensures.follows c.args.nfa.now (search_of c.args.input.now) c.args.at c.enter.new.seen front work) turned.0;
+      within = rw (c.resume.auto.row, c.enter.auto.row)
+          (within-lower _ _ _ _ _ c.in-Some.ensures.top c.enter.ensures.within);
+      paid = Paid-resumed c.enter.new.top c.resume.new.top c.enter.new.frames 1 c.in-Some.ensures.top
+          c.enter.ensures.top c.in-Some.ensures.tried (Paid-then c.loop-on.invariant.paid turned.1);
+      followed = Followed-resumed _ _ _ (λ front work. c.in-Some.ensures.follows c.args.nfa.now
+          (search_of c.args.input.now) c.args.at c.enter.new.seen front work) turned.0;
     }
 
 -- the turn, with what it paid
 turned-None : (c : goal.In-None)
-    → Followed c.args.nfa.now (search_of c.args.input.now) c.args.at c.args.past_match c.args.root c.args.seen.now c.args.next.now.items c.args.row.now c.args.slots.now
-    c.enter.new.seen c.enter.new.next.items None (take c.enter.new.top c.enter.new.frames) c.enter.new.row c.match-enter.hit c.match-enter.slots
+    → Followed c.args.nfa.now (search_of c.args.input.now) c.args.at c.args.past_match c.args.root c.args.seen.now
+    c.args.next.now.items c.args.row.now c.args.slots.now
+    c.enter.new.seen c.enter.new.next.items None (take c.enter.new.top c.enter.new.frames) c.enter.new.row
+    c.match-enter.hit c.match-enter.slots
     × Paid c.args.nfa.now c.loop-on.seen (length c.loop-on.next.items) (take c.loop-on.top c.loop-on.frames) 1
     c.enter.new.seen (length c.enter.new.next.items) (take c.enter.new.top c.enter.new.frames) 0
 turned-None c = elim c.match-enter.branch [
   | in-Matched+else-not-past_match w ↦ (
-    rw (w.hit-is, w.slots-is, w.copy_row.ensures) (Followed-matched c.loop-on.invariant.followed w.in-Matched.ensures.enters w.if-not-past_match.false),
+    rw (w.hit-is, w.slots-is, w.copy_row.ensures)
+        (Followed-matched c.loop-on.invariant.followed w.in-Matched.ensures.enters w.if-not-past_match.false),
     w.in-Matched.ensures.paid,
   )
   | in-Over w ↦ (
-    rw (w.hit-is, w.slots-is) (Followed-plain c.loop-on.invariant.followed w.in-Over.ensures.enters w.in-Over.ensures.enters.is_met),
+    rw (w.hit-is, w.slots-is) (Followed-plain c.loop-on.invariant.followed w.in-Over.ensures.enters
+        w.in-Over.ensures.enters.is_met),
     w.in-Over.ensures.paid,
   )
 ]
@@ -113,5 +139,6 @@ returns-in-None-clause-arrives c =
     let none : c.resume.new.top ≡ 0 = c.in-None.ensures.over refl in
     let empty : take c.resume.new.top c.enter.new.frames ≡ [] = rw none refl in
     Arrives-whole empty
-    (Followed-resumed _ _ _ (λ front work. c.in-None.ensures.follows c.args.nfa.now (search_of c.args.input.now) c.args.at c.enter.new.seen front work) turned.0)
+    (Followed-resumed _ _ _ (λ front work. c.in-None.ensures.follows c.args.nfa.now (search_of c.args.input.now)
+    c.args.at c.enter.new.seen front work) turned.0)
     (Paid-dropped (Paid-then c.loop-on.invariant.paid turned.1))

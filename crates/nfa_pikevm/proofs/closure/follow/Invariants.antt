@@ -17,11 +17,13 @@ invariant-loop-on l = record {
   same : l.next ≡ record l.fn.next { items = l.next.items };
   within : All (IsWithin (length l.nfa.states) (length l.row)) (take l.top l.frames);
   paid : Paid l.nfa l.fn.seen (length l.fn.next.items) [] 1 l.seen (length l.next.items) (take l.top l.frames) 1;
-  followed : Followed l.nfa (search_of l.input) l.at l.past_match l.fn.root l.fn.seen l.fn.next.items l.fn.row l.fn.slots
+  followed : Followed l.nfa (search_of l.input) l.at l.past_match l.fn.root l.fn.seen l.fn.next.items
+      l.fn.row l.fn.slots
       l.seen l.next.items (Some l.sid) (take l.top l.frames) l.row l.hit l.slots;
 }
 
 -- the turns that wait on the stack, and those that the states may still bring that are not marked
 abbrev pub decreases-loop-on : goal.decreases-loop-on
 decreases-loop-on l =
-    sum_by tries (take l.top l.frames) + length l.next.items + (sum (map degree l.nfa.states) - marked_sum (map degree l.nfa.states) l.seen.bits)
+    sum_by tries (take l.top l.frames) + length l.next.items
+    + (sum (map degree l.nfa.states) - marked_sum (map degree l.nfa.states) l.seen.bits)

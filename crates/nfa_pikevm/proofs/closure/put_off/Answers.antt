@@ -12,4 +12,5 @@ drop-low xs (suc (suc left)) low none = absurd (omega arith)
 pub returns-clause-stack : goal.returns-clause-stack
 returns-clause-stack c =
     c.loop-left.invariant.pushed
-    ∙ ap (λ es. take c.args.top.now c.args.frames.now ++ map (λ sid. Explore sid) (reverse es)) (drop-low c.args.alternates.now c.loop-left.left c.loop-left-test.false c.loop-left.invariant.none)
+    ∙ ap (λ es. take c.args.top.now c.args.frames.now ++ map (λ sid. Explore sid) (reverse es))
+    (drop-low c.args.alternates.now c.loop-left.left c.loop-left-test.false c.loop-left.invariant.none)

@@ -7,7 +7,8 @@ invariant-loop-left l = record {
   inside : l.left ≤ length l.alternates;
   none : l.left ≡ 0 → length l.alternates ≡ 0;
   above : l.top + l.left ≡ l.fn.top + length l.alternates;
-  pushed : take l.top l.frames ≡ take l.fn.top l.fn.frames ++ map (λ sid. Explore sid) (reverse (drop l.left l.alternates));
+  pushed : take l.top l.frames ≡ take l.fn.top l.fn.frames
+      ++ map (λ sid. Explore sid) (reverse (drop l.left l.alternates));
 }
 
 abbrev pub decreases-loop-left : goal.decreases-loop-left

@@ -14,7 +14,8 @@ invariant-loop-top l = record {
   slots : All (HasSlot (length l.row)) (take l.top l.frames);
   tried : sum_by tries (take l.top l.frames) ≡ sum_by tries (take l.fn.top l.frames);
   follows : (nfa : Automaton) (x : Search) (at : ℕ) (met : Marks) (front : Front) (work : List Item)
-      → Follows nfa x at met front (work_onto at (take l.fn.top l.frames) work) l.fn.row met front (work_onto at (take l.top l.frames) work) l.row;
+      → Follows nfa x at met front (work_onto at (take l.fn.top l.frames) work) l.fn.row met front
+      (work_onto at (take l.top l.frames) work) l.row;
 }
 
 abbrev pub decreases-loop-top : goal.decreases-loop-top

@@ -14,7 +14,9 @@ loop-i-init c = record {
   same = refl;
   going = λ off. refl;
   paid = Paid-states _ _ (length c.args.kept.now) _ (ap length c.requires.empty);
-  crossing = Crossing-start c.args.nfa.now (search_of c.args.input.now) c.args.at (length c.args.patterns.now) c.args.past_match c.args.seen.now (rowless c.args.kept.now) c.args.patterns.now c.args.next.now.items c.requires.empty;
+  crossing = Crossing-start c.args.nfa.now (search_of c.args.input.now) c.args.at (length c.args.patterns.now)
+      c.args.past_match c.args.seen.now (rowless c.args.kept.now) c.args.patterns.now c.args.next.now.items
+      c.requires.empty;
 }
 
 pub loop-i-preserved : goal.loop-i-preserved
@@ -32,12 +34,18 @@ loop-i-preserved c =
     ] in
     record {
       size = c.follow_to_set.ensures.size ∙ c.loop-i.invariant.size;
-      same = same-after c.args.next.now c.loop-i.next c.follow_to_set.new.next c.loop-i.invariant.same c.follow_to_set.ensures.same;
-      going = going-next c.args.past_match c.follow_to_set.result c.loop-i.met c.if-follow_to_set.met goes c.loop-i.invariant.going noted;
+      same = same-after c.args.next.now c.loop-i.next c.follow_to_set.new.next c.loop-i.invariant.same
+          c.follow_to_set.ensures.same;
+      going = going-next c.args.past_match c.follow_to_set.result c.loop-i.met c.if-follow_to_set.met goes
+          c.loop-i.invariant.going noted;
       paid = Paid-state c.loop-i.i less c.loop-i.invariant.paid c.follow_to_set.ensures.arrives.paid;
       crossing = rw noted
-          (Crossing-step c.args.nfa.now (search_of c.args.input.now) c.args.at (length c.args.patterns.now) c.args.past_match c.args.seen.now (rowless c.args.kept.now) c.index-kept-i.result (rowless (drop (c.loop-i.i + 1) c.args.kept.now))
-          c.args.patterns.now c.loop-i.met _ _ _ c.follow_to_set.result _ _ _ _ (rowless-next c.args.kept.now c.loop-i.i c.index-kept-i.result less c.index-kept-i.is) c.loop-i.invariant.going refl
+          (Crossing-step c.args.nfa.now (search_of c.args.input.now) c.args.at (length c.args.patterns.now)
+          c.args.past_match c.args.seen.now (rowless c.args.kept.now) c.index-kept-i.result
+          (rowless (drop (c.loop-i.i + 1) c.args.kept.now))
+          c.args.patterns.now c.loop-i.met _ _ _ c.follow_to_set.result _ _ _ _
+          (rowless-next c.args.kept.now c.loop-i.i c.index-kept-i.result less c.index-kept-i.is)
+          c.loop-i.invariant.going refl
           c.loop-i.invariant.crossing c.follow_to_set.ensures.arrives goes);
     }
 
@@ -45,14 +53,21 @@ pub returns-then-not-past_match-clause-crosses : goal.returns-then-not-past_matc
 returns-then-not-past_match-clause-crosses c =
     let less = c.loop-i-test.true in
     let paid = Paid-drop (Paid-state c.loop-i.i less c.loop-i.invariant.paid c.follow_to_set.ensures.arrives.paid) in
-    Crossing-stop c.args.nfa.now (search_of c.args.input.now) c.args.at (length c.args.patterns.now) c.args.past_match c.args.seen.now (rowless c.args.kept.now) c.index-kept-i.result (rowless (drop (c.loop-i.i + 1) c.args.kept.now))
-    c.args.patterns.now c.loop-i.met _ _ _ c.follow_to_set.result _ _ _ _ (rowless-next c.args.kept.now c.loop-i.i c.index-kept-i.result less c.index-kept-i.is) c.loop-i.invariant.going refl
-    c.loop-i.invariant.crossing c.follow_to_set.ensures.arrives c.if-not-past_match.true c.if-follow_to_set.true (rowless-rows c.args.kept.now)
+    Crossing-stop c.args.nfa.now (search_of c.args.input.now) c.args.at (length c.args.patterns.now) c.args.past_match
+    c.args.seen.now (rowless c.args.kept.now) c.index-kept-i.result
+    (rowless (drop (c.loop-i.i + 1) c.args.kept.now))
+    c.args.patterns.now c.loop-i.met _ _ _ c.follow_to_set.result _ _ _ _
+    (rowless-next c.args.kept.now c.loop-i.i c.index-kept-i.result less c.index-kept-i.is)
+    c.loop-i.invariant.going refl
+    c.loop-i.invariant.crossing c.follow_to_set.ensures.arrives c.if-not-past_match.true c.if-follow_to_set.true
+    (rowless-rows c.args.kept.now)
     (unmarked-same c.args.seen.now c.requires.clear) (rw (length-rowless c.args.kept.now) paid)
 
 pub returns-clause-crosses : goal.returns-clause-crosses
 returns-clause-crosses c =
     let none = ap rowless (drop_all c.loop-i.i c.args.kept.now c.loop-i-test.false) in
-    Crossing-end c.args.nfa.now (search_of c.args.input.now) c.args.at (length c.args.patterns.now) c.args.past_match c.args.seen.now (rowless c.args.kept.now) (rowless (drop c.loop-i.i c.args.kept.now)) c.args.patterns.now c.loop-i.met _ _ _
+    Crossing-end c.args.nfa.now (search_of c.args.input.now) c.args.at (length c.args.patterns.now) c.args.past_match
+    c.args.seen.now (rowless c.args.kept.now) (rowless (drop c.loop-i.i c.args.kept.now)) c.args.patterns.now
+    c.loop-i.met _ _ _
     c.loop-i.invariant.crossing none (rowless-rows c.args.kept.now) (unmarked-same c.args.seen.now c.requires.clear)
     (rw (length-rowless c.args.kept.now) (Paid-drop c.loop-i.invariant.paid))

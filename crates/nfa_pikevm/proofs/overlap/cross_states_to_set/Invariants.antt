@@ -11,5 +11,6 @@ invariant-loop-i l = record {
   same : l.next ≡ record l.fn.next { items = l.next.items };
   going : l.past_match ≡ false → l.met ≡ false;
   paid : Paid l.nfa l.fn.seen 0 [] (length l.kept) l.seen (length l.next.items) [] (length l.kept - l.i);
-  crossing : Crossing l.nfa (search_of l.input) l.at (length l.fn.patterns) l.past_match l.fn.seen (rowless l.kept) (rowless (drop l.i l.kept)) l.fn.patterns l.met l.seen l.next.items l.patterns;
+  crossing : Crossing l.nfa (search_of l.input) l.at (length l.fn.patterns) l.past_match l.fn.seen (rowless l.kept)
+      (rowless (drop l.i l.kept)) l.fn.patterns l.met l.seen l.next.items l.patterns;
 }

@@ -17,7 +17,8 @@ invariant-loop-following l = record {
   within : All (IsWithin (length l.nfa.states) 0) (take l.top l.frames);
   going : l.past_match ≡ false → l.met ≡ false;
   paid : Paid l.nfa l.fn.seen (length l.fn.next.items) [] 1 l.seen (length l.next.items) (take l.top l.frames) 1;
-  arriving : Arriving l.nfa (search_of l.input) l.at (length l.fn.patterns) l.past_match l.fn.root l.fn.seen l.fn.next.items l.fn.patterns l.met (Some l.sid) l.seen l.next.items (take l.top l.frames) l.patterns;
+  arriving : Arriving l.nfa (search_of l.input) l.at (length l.fn.patterns) l.past_match l.fn.root l.fn.seen
+      l.fn.next.items l.fn.patterns l.met (Some l.sid) l.seen l.next.items (take l.top l.frames) l.patterns;
 }
 
 abbrev pub decreases-loop-following : goal.decreases-loop-following

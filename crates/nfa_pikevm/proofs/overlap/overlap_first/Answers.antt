@@ -16,53 +16,77 @@ loop-at-init c = record {
   last = λ past. c.requires.curr;
   keeps = Keeps-start _ _ _ _ _ c.requires.room c.requires.next;
   so_far = rw c.start-at.ensures
-      (FirstWay-start c.args.nfa.now (search_of c.args.input.now) c.args.patterns.now c.args.starts.now c.requires.starts c.args.threads.now.seen c.args.threads.now.curr.items c.requires.curr);
+      (FirstWay-start c.args.nfa.now (search_of c.args.input.now) c.args.patterns.now c.args.starts.now
+      c.requires.starts c.args.threads.now.seen c.args.threads.now.curr.items c.requires.curr);
 }
 
 pub returns-then-is_empty-clause-sizes : goal.returns-then-is_empty-clause-sizes
 returns-then-is_empty-clause-sizes c = λ size s.
-    sizes-joined _ _ _ _ _ (c.loop-at.invariant.keeps.sizes size s) c.join.ensures.curr c.join.ensures.seen (ap (λ l. length l) c.join.ensures.frames) c.join.ensures.next
+    sizes-joined _ _ _ _ _ (c.loop-at.invariant.keeps.sizes size s) c.join.ensures.curr c.join.ensures.seen
+    (ap (λ l. length l) c.join.ensures.frames) c.join.ensures.next
 
 pub returns-then-is_empty-clause-gains : goal.returns-then-is_empty-clause-gains
 returns-then-is_empty-clause-gains c =
-    let items = joined-items c.loop-at.joining c.loop-at.at c.loop-at.threads.curr c.join.new.threads.curr c.join.ensures.curr c.loop-at.invariant.keeps.room.curr_width in
-    FirstWay-over c.args.nfa.now (search_of c.args.input.now) c.args.patterns.now c.requires.valid c.requires.empty c.loop-at.invariant.so_far
+    let items = joined-items c.loop-at.joining c.loop-at.at c.loop-at.threads.curr c.join.new.threads.curr
+    c.join.ensures.curr c.loop-at.invariant.keeps.room.curr_width in
+    FirstWay-over c.args.nfa.now (search_of c.args.input.now) c.args.patterns.now c.requires.valid c.requires.empty
+    c.loop-at.invariant.so_far
     (sym items ∙ no-items c.join.new.threads.curr.items (c.is_empty.ensures.0 c.if-is_empty.true))
 
 pub cross_to_set-met-requires-clause-states : goal.cross_to_set-met-requires-clause-states
 cross_to_set-met-requires-clause-states c =
-    let items = joined-items c.loop-at.joining c.loop-at.at c.loop-at.threads.curr c.join.new.threads.curr c.join.ensures.curr c.loop-at.invariant.keeps.room.curr_width in
-    rw items (joined-below c.args.nfa.now c.loop-at.joining c.loop-at.at c.loop-at.threads.curr.items c.loop-at.invariant.state c.loop-at.invariant.so_far.states.states)
+    let items = joined-items c.loop-at.joining c.loop-at.at c.loop-at.threads.curr c.join.new.threads.curr
+    c.join.ensures.curr c.loop-at.invariant.keeps.room.curr_width in
+    rw items (joined-below c.args.nfa.now c.loop-at.joining c.loop-at.at c.loop-at.threads.curr.items
+    c.loop-at.invariant.state c.loop-at.invariant.so_far.states.states)
 
 pub loop-at-preserved : goal.loop-at-preserved
 loop-at-preserved c =
-    let items = joined-items c.loop-at.joining c.loop-at.at c.loop-at.threads.curr c.join.new.threads.curr c.join.ensures.curr c.loop-at.invariant.keeps.room.curr_width in
-    let crosses = crosses-joined (length c.args.patterns.now) c.loop-at.threads.seen _ (FirstWay-capacity c.args.nfa.now (search_of c.args.input.now) c.args.patterns.now c.loop-at.invariant.so_far) c.join.ensures.seen items c.cross_to_set-met.ensures.crosses in
+    let items = joined-items c.loop-at.joining c.loop-at.at c.loop-at.threads.curr c.join.new.threads.curr
+    c.join.ensures.curr c.loop-at.invariant.keeps.room.curr_width in
+    let crosses = crosses-joined (length c.args.patterns.now) c.loop-at.threads.seen _
+    (FirstWay-capacity c.args.nfa.now (search_of c.args.input.now) c.args.patterns.now c.loop-at.invariant.so_far)
+    c.join.ensures.seen items c.cross_to_set-met.ensures.crosses in
     record {
-      counted = c.move_on.ensures.scans ∙ c.cross_to_set-met.ensures.scans ∙ c.join.ensures.scans ∙ c.loop-at.invariant.counted;
+      counted = c.move_on.ensures.scans ∙ c.cross_to_set-met.ensures.scans ∙ c.join.ensures.scans
+          ∙ c.loop-at.invariant.counted;
       low = omega arith;
-      state = elim c.if-met.branch [ then-met w ↦ rw w.joining-is c.loop-at.invariant.state | else-met w ↦ rw w.joining-is c.loop-at.invariant.state ];
-      limit = elim c.if-met.branch [ then-met w ↦ rw w.joining-is (omega arith) | else-met w ↦ rw w.joining-is c.loop-at.invariant.limit ];
-      last = λ past. rw c.move_on.ensures.curr (kept-none c.args.nfa.now (search_of c.args.input.now) c.args.patterns.now crosses (omega arith));
-      keeps = Keeps-next c.loop-at.threads.seen _ c.loop-at.threads.curr c.loop-at.threads.next c.join.new.threads.curr c.cross_to_set-met.new.threads.curr c.cross_to_set-met.new.threads.next _ _ _ _ _
+      state = elim c.if-met.branch [
+        | then-met w ↦ rw w.joining-is c.loop-at.invariant.state
+        | else-met w ↦ rw w.joining-is c.loop-at.invariant.state
+      ];
+      limit = elim c.if-met.branch [
+        | then-met w ↦ rw w.joining-is (omega arith)
+        | else-met w ↦ rw w.joining-is c.loop-at.invariant.limit
+      ];
+      last = λ past. rw c.move_on.ensures.curr
+          (kept-none c.args.nfa.now (search_of c.args.input.now) c.args.patterns.now crosses (omega arith));
+      keeps = Keeps-next c.loop-at.threads.seen _ c.loop-at.threads.curr c.loop-at.threads.next c.join.new.threads.curr
+          c.cross_to_set-met.new.threads.curr c.cross_to_set-met.new.threads.next _ _ _ _ _
           c.loop-at.invariant.keeps c.join.ensures.curr c.cross_to_set-met.ensures.curr
-          (c.cross_to_set-met.ensures.next ∙ ap (λ (n : Active). record n { items = c.cross_to_set-met.new.threads.next.items }) c.join.ensures.next)
+          (c.cross_to_set-met.ensures.next ∙ ap (λ (n : Active).
+          record n { items = c.cross_to_set-met.new.threads.next.items }) c.join.ensures.next)
           c.move_on.ensures.curr c.move_on.ensures.next
-          (ap (λ (m : Marks). length m.bits) c.move_on.ensures.seen ∙ c.cross_to_set-met.ensures.size ∙ ap (λ (m : Marks). length m.bits) c.join.ensures.seen)
-          (ap (λ l. length l) c.move_on.ensures.frames ∙ c.cross_to_set-met.ensures.frames ∙ ap (λ l. length l) c.join.ensures.frames);
+          (ap (λ (m : Marks). length m.bits) c.move_on.ensures.seen ∙ c.cross_to_set-met.ensures.size
+          ∙ ap (λ (m : Marks). length m.bits) c.join.ensures.seen)
+          (ap (λ l. length l) c.move_on.ensures.frames ∙ c.cross_to_set-met.ensures.frames
+          ∙ ap (λ l. length l) c.join.ensures.frames);
       so_far = rw (c.move_on.ensures.seen, c.move_on.ensures.curr)
           (elim c.if-met.branch [
             | then-met w ↦
                 rw w.joining-is
-                (FirstWay-cut c.args.nfa.now (search_of c.args.input.now) c.args.patterns.now c.requires.valid c.loop-at.invariant.low c.loop-at.invariant.so_far crosses c.requires.empty w.if-met.true)
+                (FirstWay-cut c.args.nfa.now (search_of c.args.input.now) c.args.patterns.now c.requires.valid
+                c.loop-at.invariant.low c.loop-at.invariant.so_far crosses c.requires.empty w.if-met.true)
             | else-met w ↦
                 rw w.joining-is
-                (FirstWay-next c.args.nfa.now (search_of c.args.input.now) c.args.patterns.now c.requires.valid c.loop-at.invariant.low c.loop-at.invariant.so_far crosses w.if-met.false)
+                (FirstWay-next c.args.nfa.now (search_of c.args.input.now) c.args.patterns.now c.requires.valid
+                c.loop-at.invariant.low c.loop-at.invariant.so_far crosses w.if-met.false)
           ]);
     }
 
 pub returns-clause-gains : goal.returns-clause-gains
 returns-clause-gains c =
-    FirstWay-end c.args.nfa.now (search_of c.args.input.now) c.args.patterns.now c.requires.valid c.requires.empty c.loop-at.invariant.so_far
+    FirstWay-end c.args.nfa.now (search_of c.args.input.now) c.args.patterns.now c.requires.valid c.requires.empty
+    c.loop-at.invariant.so_far
     (c.loop-at.invariant.last (omega (arith, c.end-at-end.ensures.value, c.loop-at-test.false)))
     (omega (arith, c.loop-at.invariant.limit, c.end-at-end.ensures.value, c.loop-at-test.false))

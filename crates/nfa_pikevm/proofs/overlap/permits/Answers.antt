@@ -8,16 +8,21 @@ pub returns-then-not-is_utf8 : goal.returns-then-not-is_utf8
 returns-then-not-is_utf8 c =
     permits-any c.args.nfa.now (search_of c.args.input.now) c.args.at c.if-has_empty.value
     (elim c.if-has_empty.branch [
-      | then-has_empty w ↦ let e = sym c.has_empty.ensures ∙ w.if-has_empty.true in rw e (w.value-is ∙ w.is_utf8.ensures)
-      | else-has_empty w ↦ let e = sym c.has_empty.ensures ∙ w.if-has_empty.false in rw e (w.value-is ∙ w.if-has_empty.false)
+      | then-has_empty w ↦ let e = sym c.has_empty.ensures ∙ w.if-has_empty.true in
+          rw e (w.value-is ∙ w.is_utf8.ensures)
+      | else-has_empty w ↦ let e = sym c.has_empty.ensures ∙ w.if-has_empty.false in
+          rw e (w.value-is ∙ w.if-has_empty.false)
     ])
     c.if-not-is_utf8.true
 
 pub returns-else-not-is_utf8 : goal.returns-else-not-is_utf8
 returns-else-not-is_utf8 c =
-    permits-boundary c.args.nfa.now (search_of c.args.input.now) c.args.at c.if-has_empty.value c.is_char_boundary.result
+    permits-boundary c.args.nfa.now (search_of c.args.input.now) c.args.at c.if-has_empty.value
+    c.is_char_boundary.result
     (elim c.if-has_empty.branch [
-      | then-has_empty w ↦ let e = sym c.has_empty.ensures ∙ w.if-has_empty.true in rw e (w.value-is ∙ w.is_utf8.ensures)
-      | else-has_empty w ↦ let e = sym c.has_empty.ensures ∙ w.if-has_empty.false in rw e (w.value-is ∙ w.if-has_empty.false)
+      | then-has_empty w ↦ let e = sym c.has_empty.ensures ∙ w.if-has_empty.true in
+          rw e (w.value-is ∙ w.is_utf8.ensures)
+      | else-has_empty w ↦ let e = sym c.has_empty.ensures ∙ w.if-has_empty.false in
+          rw e (w.value-is ∙ w.if-has_empty.false)
     ])
     c.if-not-is_utf8.false c.is_char_boundary.ensures.0 c.is_char_boundary.ensures.1

@@ -15,11 +15,21 @@ returns-then-is_empty-clause-joins c =
     let same = ap (λ (a : Active). a.items) c.push_blank.ensures in
     record {
       ahead = next.low;
-      within = λ w. skip-within c.args.at c.next_start-next.result c.args.starts.now.stop (search_of c.args.input.now).end next.stays next.near c.requires.stop w;
+      within = λ w. skip-within c.args.at c.next_start-next.result c.args.starts.now.stop
+          (search_of c.args.input.now).end next.stays next.near c.requires.stop w;
       stays = λ some. absurd (omega arith);
-      passed = λ k h l. (skip-early c.args.at c.next_start-next.result c.args.starts.now.stop k next.stays next.near h l, next.passed k h l);
-      some = λ less. rw same (some-push c.args.threads.now.curr.items (c.args.starts.now.state, blank c.args.threads.now.curr.width));
-      last = inl (skip-less c.args.at c.next_start-next.result c.args.starts.now.stop c.args.limit next.stays next.near order c.if-at-limit.false, same);
+      passed = λ k h l. (
+        skip-early c.args.at c.next_start-next.result c.args.starts.now.stop k next.stays next.near h
+            l,
+        next.passed k h l,
+      );
+      some = λ less. rw same (some-push c.args.threads.now.curr.items
+          (c.args.starts.now.state, blank c.args.threads.now.curr.width));
+      last = inl (
+        skip-less c.args.at c.next_start-next.result c.args.starts.now.stop c.args.limit next.stays next.near
+            order c.if-at-limit.false,
+        same,
+      );
     }
 
 pub returns-else-not-refuses-clause-joins : goal.returns-else-not-refuses-clause-joins
@@ -36,6 +46,7 @@ returns-else-not-refuses-clause-joins c =
       within = λ w. w;
       stays = λ some. refl;
       passed = λ k h l. absurd (omega arith);
-      some = λ less. some_of c.args.threads.now.curr.items (λ none. absurd (cc (c.if-is_empty.false, c.is_empty.ensures.1 none)));
+      some = λ less. some_of c.args.threads.now.curr.items
+          (λ none. absurd (cc (c.if-is_empty.false, c.is_empty.ensures.1 none)));
       last = inr (refl, inr (c.if-at-starts.false, here));
     }

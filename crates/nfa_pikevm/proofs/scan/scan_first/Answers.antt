@@ -25,14 +25,18 @@ loop-at-init c =
       over = λ _. c.requires.curr;
       paid = rw (start, c.requires.curr) (record { bound = omega arith });
       searches = rw (start, c.requires.curr)
-          (SearchesFirst-begin c.args.nfa.now (search_of c.args.input.now) c.args.starts.now c.requires.starts c.args.slots.now c.args.threads.now.seen c.requires.unset);
+          (SearchesFirst-begin c.args.nfa.now (search_of c.args.input.now) c.args.starts.now c.requires.starts
+          c.args.slots.now c.args.threads.now.seen c.requires.unset);
     }
 
 pub returns-then-is_empty-clause-sizes : goal.returns-then-is_empty-clause-sizes
 returns-then-is_empty-clause-sizes c = λ size h.
-    AreSized-kept size c.loop-at.threads.seen c.join_or_skip-at.new.threads.seen _ _ c.loop-at.threads.curr c.loop-at.threads.next c.join_or_skip-at.new.threads.curr c.join_or_skip-at.new.threads.next
-    (ap (λ (m : Marks). length m.bits) c.join_or_skip-at.ensures.seen) (ap length c.join_or_skip-at.ensures.frames) c.join_or_skip-at.ensures.curr
-    (same-all c.loop-at.threads.next c.join_or_skip-at.new.threads.next c.join_or_skip-at.ensures.next) (c.loop-at.invariant.sizes size h)
+    AreSized-kept size c.loop-at.threads.seen c.join_or_skip-at.new.threads.seen _ _ c.loop-at.threads.curr
+    c.loop-at.threads.next c.join_or_skip-at.new.threads.curr c.join_or_skip-at.new.threads.next
+    (ap (λ (m : Marks). length m.bits) c.join_or_skip-at.ensures.seen) (ap length c.join_or_skip-at.ensures.frames)
+    c.join_or_skip-at.ensures.curr
+    (same-all c.loop-at.threads.next c.join_or_skip-at.new.threads.next c.join_or_skip-at.ensures.next)
+    (c.loop-at.invariant.sizes size h)
 
 pub returns-then-is_empty-clause-answer : goal.returns-then-is_empty-clause-answer
 returns-then-is_empty-clause-answer c =
@@ -41,18 +45,25 @@ returns-then-is_empty-clause-answer c =
     let to = c.join_or_skip-at.result in
     let none = none_of c.join_or_skip-at.new.threads.curr.items (c.is_empty.ensures.0 c.if-is_empty.true) in
     let joins = rw c.loop-at.invariant.room.curr_width at c.join_or_skip-at.ensures.joins in
-    let past : c.loop-at.limit ≤ to = over-joins c.args.nfa.now x c.args.starts.now c.requires.starts width c.loop-at.at c.loop-at.threads.curr.items c.args.first.now.may_begin c.loop-at.limit to
+    let past : c.loop-at.limit ≤ to = over-joins c.args.nfa.now x c.args.starts.now c.requires.starts width c.loop-at.at
+    c.loop-at.threads.curr.items c.args.first.now.may_begin c.loop-at.limit to
     c.join_or_skip-at.new.threads.curr.items joins none in
     let next : c.loop-at.limit ≤ to + 1 = omega arith in
-    let s = SearchesFirst-joins c.args.nfa.now x c.args.first.now.may_begin c.requires.first c.args.starts.now c.requires.starts c.loop-at.limit width c.loop-at.at to c.loop-at.invariant.low joins c.loop-at.invariant.searches in
+    let s = SearchesFirst-joins c.args.nfa.now x c.args.first.now.may_begin c.requires.first c.args.starts.now
+    c.requires.starts c.loop-at.limit width c.loop-at.at to c.loop-at.invariant.low joins
+    c.loop-at.invariant.searches in
     rw c.join_or_skip-at.ensures.seen
-    (first-over c.args.nfa.now x to (to + 1) width c.args.starts.now.state c.loop-at.limit c.loop-at.found c.loop-at.slots c.loop-at.threads.seen c.loop-at.invariant.searches.so_far
-    c.join_or_skip-at.new.threads.curr.items c.loop-at.invariant.searches.is_so_far next none s (sym c.loop-at.auto.slots))
+    (first-over c.args.nfa.now x to (to + 1) width c.args.starts.now.state c.loop-at.limit c.loop-at.found
+    c.loop-at.slots c.loop-at.threads.seen c.loop-at.invariant.searches.so_far
+    c.join_or_skip-at.new.threads.curr.items c.loop-at.invariant.searches.is_so_far next none s
+    (sym c.loop-at.auto.slots))
 
 pub cross-requires-clause-states : goal.cross-requires-clause-states
 cross-requires-clause-states c =
-    below-joins c.args.nfa.now (search_of c.args.input.now) c.args.starts.now c.requires.starts (length c.args.slots.now) c.loop-at.at c.loop-at.threads.curr.items c.args.first.now.may_begin c.loop-at.limit
-    c.join_or_skip-at.result c.join_or_skip-at.new.threads.curr.items (rw c.loop-at.invariant.room.curr_width at c.join_or_skip-at.ensures.joins) c.loop-at.invariant.items
+    below-joins c.args.nfa.now (search_of c.args.input.now) c.args.starts.now c.requires.starts
+    (length c.args.slots.now) c.loop-at.at c.loop-at.threads.curr.items c.args.first.now.may_begin c.loop-at.limit
+    c.join_or_skip-at.result c.join_or_skip-at.new.threads.curr.items
+    (rw c.loop-at.invariant.room.curr_width at c.join_or_skip-at.ensures.joins) c.loop-at.invariant.items
 
 pub loop-at-preserved : goal.loop-at-preserved
 loop-at-preserved c =
@@ -68,47 +79,69 @@ loop-at-preserved c =
     let ends : to ≤ x.end = joins.within before in
     let from : x.start ≤ to = omega arith in
     let s = rw (← c.join_or_skip-at.ensures.seen) at
-    (SearchesFirst-joins c.args.nfa.now x c.args.first.now.may_begin c.requires.first c.args.starts.now c.requires.starts c.loop-at.limit width c.loop-at.at to low joins c.loop-at.invariant.searches) in
+    (SearchesFirst-joins c.args.nfa.now x c.args.first.now.may_begin c.requires.first c.args.starts.now
+    c.requires.starts c.loop-at.limit width c.loop-at.at to low joins c.loop-at.invariant.searches) in
     let crosses = c.cross.ensures.crosses in
-    let few = few-joins c.args.nfa.now x c.args.starts.now c.requires.starts width c.loop-at.at c.loop-at.threads.curr.items c.args.first.now.may_begin c.loop-at.limit to
+    let few = few-joins c.args.nfa.now x c.args.starts.now c.requires.starts width c.loop-at.at
+    c.loop-at.threads.curr.items c.args.first.now.may_begin c.loop-at.limit to
     c.join_or_skip-at.new.threads.curr.items joins in
     let kept = ap (λ (a : Active). a.items) c.move_on.ensures.curr in
     record {
-      counted = c.move_on.ensures.scans ∙ c.cross.ensures.scans ∙ c.join_or_skip-at.ensures.scans ∙ c.loop-at.invariant.counted;
-      room = HasThreads-swap c.args.nfa.now width c.cross.new.threads.seen c.move_on.new.threads.seen _ _ c.cross.new.threads.curr c.cross.new.threads.next c.move_on.new.threads.curr c.move_on.new.threads.next
-          c.move_on.ensures.seen (ap length c.move_on.ensures.frames) c.move_on.ensures.curr c.move_on.ensures.next (rw c.loop-at.auto.slots at c.cross.ensures.room);
-      sizes = λ size h.
-          AreSized-swap size c.cross.new.threads.seen c.move_on.new.threads.seen _ _ c.cross.new.threads.curr c.cross.new.threads.next c.move_on.new.threads.curr c.move_on.new.threads.next
+      counted = c.move_on.ensures.scans ∙ c.cross.ensures.scans ∙ c.join_or_skip-at.ensures.scans
+          ∙ c.loop-at.invariant.counted;
+      room = HasThreads-swap c.args.nfa.now width c.cross.new.threads.seen c.move_on.new.threads.seen _ _
+          c.cross.new.threads.curr c.cross.new.threads.next c.move_on.new.threads.curr c.move_on.new.threads.next
           c.move_on.ensures.seen (ap length c.move_on.ensures.frames) c.move_on.ensures.curr c.move_on.ensures.next
-          (AreSized-kept size c.join_or_skip-at.new.threads.seen c.cross.new.threads.seen _ _ c.join_or_skip-at.new.threads.curr c.join_or_skip-at.new.threads.next c.cross.new.threads.curr c.cross.new.threads.next
+          (rw c.loop-at.auto.slots at c.cross.ensures.room);
+      sizes = λ size h.
+          AreSized-swap size c.cross.new.threads.seen c.move_on.new.threads.seen _ _ c.cross.new.threads.curr
+          c.cross.new.threads.next c.move_on.new.threads.curr c.move_on.new.threads.next
+          c.move_on.ensures.seen (ap length c.move_on.ensures.frames) c.move_on.ensures.curr c.move_on.ensures.next
+          (AreSized-kept size c.join_or_skip-at.new.threads.seen c.cross.new.threads.seen _ _
+          c.join_or_skip-at.new.threads.curr c.join_or_skip-at.new.threads.next c.cross.new.threads.curr
+          c.cross.new.threads.next
           c.cross.ensures.size c.cross.ensures.frames c.cross.ensures.curr c.cross.ensures.next
-          (AreSized-kept size c.loop-at.threads.seen c.join_or_skip-at.new.threads.seen _ _ c.loop-at.threads.curr c.loop-at.threads.next c.join_or_skip-at.new.threads.curr c.join_or_skip-at.new.threads.next
-          (ap (λ (m : Marks). length m.bits) c.join_or_skip-at.ensures.seen) (ap length c.join_or_skip-at.ensures.frames) c.join_or_skip-at.ensures.curr
-          (same-all c.loop-at.threads.next c.join_or_skip-at.new.threads.next c.join_or_skip-at.ensures.next) (c.loop-at.invariant.sizes size h)));
+          (AreSized-kept size c.loop-at.threads.seen c.join_or_skip-at.new.threads.seen _ _ c.loop-at.threads.curr
+          c.loop-at.threads.next c.join_or_skip-at.new.threads.curr c.join_or_skip-at.new.threads.next
+          (ap (λ (m : Marks). length m.bits) c.join_or_skip-at.ensures.seen)
+          (ap length c.join_or_skip-at.ensures.frames) c.join_or_skip-at.ensures.curr
+          (same-all c.loop-at.threads.next c.join_or_skip-at.new.threads.next c.join_or_skip-at.ensures.next)
+          (c.loop-at.invariant.sizes size h)));
       next = ap (λ (a : Active). a.items) c.move_on.ensures.next;
       items = rw kept (AreAt-cross c.args.nfa.now x to width state c.loop-at.limit c.requires.starts.leads crosses);
       low = omega arith;
       high = omega arith;
       limits = elim c.if-is_some.branch [
         | then-is_some w ↦ inr w.limit-is
-        | else-is_some w ↦ elim c.loop-at.invariant.limits [ inl e ↦ inl (w.limit-is ∙ e) | inr e ↦ inr (w.limit-is ∙ e) ]
+        | else-is_some w ↦ elim c.loop-at.invariant.limits [
+          | inl e ↦ inl (w.limit-is ∙ e)
+          | inr e ↦ inr (w.limit-is ∙ e)
+        ]
       ];
-      over = λ past. kept ∙ over-cross c.args.nfa.now x to width state c.loop-at.limit (let h : x.end ≤ to = omega arith in h) crosses;
+      over = λ past. kept ∙ over-cross c.args.nfa.now x to width state c.loop-at.limit
+          (let h : x.end ≤ to = omega arith in h) crosses;
       paid = rw (c.move_on.ensures.seen, kept)
-          (IsPaidAt-cross c.args.nfa.now x to c.args.threads.now.seen.turns c.loop-at.threads.seen.turns (length c.loop-at.threads.curr.items) (length c.join_or_skip-at.new.threads.curr.items)
+          (IsPaidAt-cross c.args.nfa.now x to c.args.threads.now.seen.turns c.loop-at.threads.seen.turns
+          (length c.loop-at.threads.curr.items) (length c.join_or_skip-at.new.threads.curr.items)
           c.cross.new.threads.seen.turns (length c.cross.new.threads.next.items) from
-          (IsPaidAt-later c.args.nfa.now x c.loop-at.at to c.args.threads.now.seen.turns c.loop-at.threads.seen.turns (length c.loop-at.threads.curr.items) ahead c.loop-at.invariant.paid) few
+          (IsPaidAt-later c.args.nfa.now x c.loop-at.at to c.args.threads.now.seen.turns c.loop-at.threads.seen.turns
+          (length c.loop-at.threads.curr.items) ahead c.loop-at.invariant.paid) few
           (rw c.join_or_skip-at.ensures.seen at
-          (Paid-next c.args.nfa.now x c.join_or_skip-at.new.threads.seen (length c.join_or_skip-at.new.threads.curr.items) c.cross.new.threads.seen (length c.cross.new.threads.next.items) crosses.paid)));
+          (Paid-next c.args.nfa.now x c.join_or_skip-at.new.threads.seen
+          (length c.join_or_skip-at.new.threads.curr.items) c.cross.new.threads.seen
+          (length c.cross.new.threads.next.items) crosses.paid)));
       searches = rw (c.move_on.ensures.seen, kept)
           (elim c.if-is_some.branch [
             | then-is_some w ↦
                 rw (w.limit-is, w.found-is)
-                (SearchesFirst-some c.args.nfa.now x to width state c.loop-at.limit crosses s c.half_at-hit.result c.half_at-hit.ensures (sym c.is_some.ensures ∙ w.if-is_some.true))
+                (SearchesFirst-some c.args.nfa.now x to width state c.loop-at.limit crosses s c.half_at-hit.result
+                c.half_at-hit.ensures (sym c.is_some.ensures ∙ w.if-is_some.true))
             | else-is_some w ↦
                 rw (w.limit-is, w.found-is)
-                (SearchesFirst-miss c.args.nfa.now x to width state c.loop-at.limit crosses s c.loop-at.invariant.searches.is_so_far
-                (EndsAt-none to c.cross.result c.half_at-hit.result c.half_at-hit.ensures (sym c.is_some.ensures ∙ w.if-is_some.false)))
+                (SearchesFirst-miss c.args.nfa.now x to width state c.loop-at.limit crosses s
+                c.loop-at.invariant.searches.is_so_far
+                (EndsAt-none to c.cross.result c.half_at-hit.result c.half_at-hit.ensures
+                (sym c.is_some.ensures ∙ w.if-is_some.false)))
           ]);
     }
 
@@ -119,6 +152,9 @@ returns-clause-answer c =
     let past : x.end < c.loop-at.at = omega (arith, c.loop-at-test.false) in
     let high : c.loop-at.at ≤ x.end + 1 = c.loop-at.invariant.high in
     let limit : c.args.starts.now.limit ≤ x.end + 1 = c.requires.starts.high in
-    let over : c.loop-at.limit ≤ c.loop-at.at = elim c.loop-at.invariant.limits [ inl same ↦ omega arith | inr none ↦ omega arith ] in
-    first-over c.args.nfa.now x c.loop-at.at c.loop-at.at (length c.args.slots.now) c.args.starts.now.state c.loop-at.limit c.loop-at.found c.loop-at.slots c.loop-at.threads.seen
-    c.loop-at.invariant.searches.so_far c.loop-at.threads.curr.items c.loop-at.invariant.searches.is_so_far over (c.loop-at.invariant.over past) c.loop-at.invariant.searches.searching (sym c.loop-at.auto.slots)
+    let over : c.loop-at.limit ≤ c.loop-at.at =
+    elim c.loop-at.invariant.limits [ inl same ↦ omega arith | inr none ↦ omega arith ] in
+    first-over c.args.nfa.now x c.loop-at.at c.loop-at.at (length c.args.slots.now) c.args.starts.now.state
+    c.loop-at.limit c.loop-at.found c.loop-at.slots c.loop-at.threads.seen
+    c.loop-at.invariant.searches.so_far c.loop-at.threads.curr.items c.loop-at.invariant.searches.is_so_far over
+    (c.loop-at.invariant.over past) c.loop-at.invariant.searches.searching (sym c.loop-at.auto.slots)

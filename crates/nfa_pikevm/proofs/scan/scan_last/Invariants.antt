@@ -6,13 +6,17 @@ use Rattle.nfa_pikevm.proofs.scan.scan_last.Given as goal
 
 abbrev pub invariant-loop-at : goal.invariant-loop-at
 invariant-loop-at l = record {
-  room : HasThreads l.nfa (length l.fn.slots) l.threads.seen (length l.threads.frames.items) l.threads.curr l.threads.next;
-  sizes : (size : Sizes) → AreSized size l.fn.threads.seen (length l.fn.threads.frames.items) l.fn.threads.curr l.fn.threads.next
+  room : HasThreads l.nfa (length l.fn.slots) l.threads.seen (length l.threads.frames.items) l.threads.curr
+      l.threads.next;
+  sizes : (size : Sizes) → AreSized size l.fn.threads.seen (length l.fn.threads.frames.items) l.fn.threads.curr
+      l.fn.threads.next
       → AreSized size l.threads.seen (length l.threads.frames.items) l.threads.curr l.threads.next;
   next : l.threads.next.items ≡ [];
   items : AreAt l.nfa l.threads.curr.items;
-  paid : IsPaidAt l.nfa (search_of l.input) l.at l.fn.threads.seen.turns l.threads.seen.turns (length l.threads.curr.items);
-  scans : ScansAll l.nfa (search_of l.input) l.at (length l.fn.slots) l.starts.state l.starts.limit l.threads.seen l.threads.curr.items;
+  paid : IsPaidAt l.nfa (search_of l.input) l.at l.fn.threads.seen.turns l.threads.seen.turns
+      (length l.threads.curr.items);
+  scans : ScansAll l.nfa (search_of l.input) l.at (length l.fn.slots) l.starts.state l.starts.limit l.threads.seen
+      l.threads.curr.items;
   last : HasLast l.nfa (search_of l.input) l.at (length l.fn.slots) l.found l.slots l.threads.seen.turns;
   counted : l.threads.scans ≡ l.fn.threads.scans;
 }

@@ -4,5 +4,6 @@ use Rattle.nfa_pikevm.proofs.search.search_once.Goals as goal
 
 pub returns-clause-answer : goal.returns-clause-answer
 returns-clause-answer c =
-    Searched-once c.args.nfa.now c.args.kind _ (search_of c.args.input.now) c.requires.mode c.scan.result c.scan.new.slots _ c.scan.new.threads.scans _
+    Searched-once c.args.nfa.now c.args.kind _ (search_of c.args.input.now) c.requires.mode c.scan.result
+    c.scan.new.slots _ c.scan.new.threads.scans _
     c.scan.ensures.answer c.requires.counted c.scan.ensures.scans

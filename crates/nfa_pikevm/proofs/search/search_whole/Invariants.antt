@@ -7,9 +7,11 @@ use Rattle.nfa_pikevm.proofs.search.search_whole.Given as goal
 abbrev pub invariant-loop-half : goal.invariant-loop-half
 invariant-loop-half l = record {
   is : search_of l.search ≡ raised (search_of l.input) l.threads.scans;
-  split : (i : ℕ) → i < l.threads.scans → SplitsCharacter l.nfa l.kind (search_of l.input).earliest (raised (search_of l.input) i);
+  split : (i : ℕ) → i < l.threads.scans → SplitsCharacter l.nfa l.kind (search_of l.input).earliest
+      (raised (search_of l.input) i);
   serves : Serves l.nfa (length l.slots) l.threads.seen (length l.threads.frames.items) l.threads.curr l.threads.next;
-  sizes : (size : Sizes) → AreSized size l.fn.threads.seen (length l.fn.threads.frames.items) l.fn.threads.curr l.fn.threads.next
+  sizes : (size : Sizes) → AreSized size l.fn.threads.seen (length l.fn.threads.frames.items) l.fn.threads.curr
+      l.fn.threads.next
       → AreSized size l.threads.seen (length l.threads.frames.items) l.threads.curr l.threads.next;
   turns : l.threads.seen.turns ≤ l.threads.scans * scan_turns l.nfa (search_of l.input);
 }

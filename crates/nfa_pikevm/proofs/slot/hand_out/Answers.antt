@@ -17,8 +17,10 @@ loop-i-preserved c =
     let next : suc i ≡ i + 1 = omega arith in
     record {
       handed =
-          ap (λ l. slice_set l i c.get.result) (c.loop-i.invariant.handed ∙ ap (λ k. take i c.args.row.now ++ replicate k None) left)
-          ∙ handed-more c.args.row.now i (n - (i + 1)) c.get.result c.loop-i-test.true (rw (← c.get.ensures) at c.index-row-i.is)
+          ap (λ l. slice_set l i c.get.result) (c.loop-i.invariant.handed
+          ∙ ap (λ k. take i c.args.row.now ++ replicate k None) left)
+          ∙ handed-more c.args.row.now i (n - (i + 1)) c.get.result c.loop-i-test.true
+          (rw (← c.get.ensures) at c.index-row-i.is)
           ∙ ap (λ k. take k c.args.row.now ++ replicate (n - (i + 1)) None) next;
     }
 

@@ -12,53 +12,65 @@ loop-i-init c = record {
   same = refl;
   behind = refl;
   off = λ _. refl;
-  crosses = CrossesTo-begin c.args.nfa.now (search_of c.args.input.now) c.args.at c.args.past_match c.args.seen.now _ c.args.slots.now _ c.requires.empty c.requires.clear;
+  crosses = CrossesTo-begin c.args.nfa.now (search_of c.args.input.now) c.args.at c.args.past_match c.args.seen.now _
+      c.args.slots.now _ c.requires.empty c.requires.clear;
 }
 
 pub follow-requires-clause-room : goal.follow-requires-clause-room
 follow-requires-clause-room c =
-    HasRoom-next c.args.nfa.now (search_of c.args.input.now) c.args.at c.args.past_match c.args.seen.now _ c.args.slots.now _ _ _ _ _ _ _ _ _
-    c.requires.clear c.requires.room c.loop-i.invariant.size c.loop-i.auto.frames (ap (λ (z : Active). z.places) c.loop-i.invariant.same) c.loop-i.invariant.crosses
+    HasRoom-next c.args.nfa.now (search_of c.args.input.now) c.args.at c.args.past_match c.args.seen.now _
+    c.args.slots.now _ _ _ _ _ _ _ _ _
+    c.requires.clear c.requires.room c.loop-i.invariant.size c.loop-i.auto.frames
+    (ap (λ (z : Active). z.places) c.loop-i.invariant.same) c.loop-i.invariant.crosses
 
 pub follow-requires-clause-width : goal.follow-requires-clause-width
 follow-requires-clause-width c =
-    row-long (length c.args.slots.now) c.loop-i.i (length c.args.kept.now) _ c.loop-i.rows c.args.rows.now c.loop-i-test.true c.requires.rows c.loop-i.auto.rows (omega arith)
+    row-long (length c.args.slots.now) c.loop-i.i (length c.args.kept.now) _ c.loop-i.rows c.args.rows.now
+    c.loop-i-test.true c.requires.rows c.loop-i.auto.rows (omega arith)
     ∙ c.requires.width ∙ sym (ap (λ (z : Active). z.width) c.loop-i.invariant.same)
 
 pub loop-i-preserved-in_default : goal.loop-i-preserved-in_default
 loop-i-preserved-in_default c =
     let width = length c.args.slots.now in
     let wide : c.loop-i.i * width + width - c.loop-i.i * width ≡ width = omega arith in
-    let items = items-next width c.loop-i.i _ c.args.kept.now c.args.rows.now c.loop-i.rows c.index-kept-i.result c.loop-i-test.true c.index-kept-i.is wide c.loop-i.invariant.behind in
+    let items = items-next width c.loop-i.i _ c.args.kept.now c.args.rows.now c.loop-i.rows c.index-kept-i.result
+    c.loop-i-test.true c.index-kept-i.is wide c.loop-i.invariant.behind in
     let arrives = c.in_default.ensures.arrives in
     record {
       size = c.follow.ensures.size ∙ c.loop-i.invariant.size;
       grows = omega (arith, c.follow.ensures.grows);
       same = same-then c.args.next.now c.loop-i.next c.follow.new.next c.loop-i.invariant.same c.follow.ensures.same;
-      behind = rows-behind width c.loop-i.i (length c.args.kept.now) _ c.args.rows.now c.loop-i.rows c.follow.new.row c.loop-i-test.true c.requires.rows c.loop-i.auto.rows wide c.follow.auto.row c.loop-i.invariant.behind;
+      behind = rows-behind width c.loop-i.i (length c.args.kept.now) _ c.args.rows.now c.loop-i.rows c.follow.new.row
+          c.loop-i-test.true c.requires.rows c.loop-i.auto.rows wide c.follow.auto.row c.loop-i.invariant.behind;
       off = c.loop-i.invariant.off;
       crosses =
-          CrossesTo-next c.args.nfa.now (search_of c.args.input.now) c.args.at c.args.past_match c.args.seen.now _ c.args.slots.now _ _ _ _ _ _ _ _ items
+          CrossesTo-next c.args.nfa.now (search_of c.args.input.now) c.args.at c.args.past_match c.args.seen.now _
+          c.args.slots.now _ _ _ _ _ _ _ _ items
           c.loop-i.invariant.crosses _ _ _ _ arrives c.loop-i.hit (inr refl)
-          (hit-none c.args.nfa.now c.args.past_match c.loop-i.invariant.crosses.front arrives.front c.args.slots.now c.loop-i.slots c.follow.new.slots c.loop-i.hit c.loop-i.invariant.crosses.is_hit arrives.is_hit);
+          (hit-none c.args.nfa.now c.args.past_match c.loop-i.invariant.crosses.front arrives.front c.args.slots.now
+          c.loop-i.slots c.follow.new.slots c.loop-i.hit c.loop-i.invariant.crosses.is_hit arrives.is_hit);
     }
 
 pub loop-i-preserved : goal.loop-i-preserved
 loop-i-preserved c =
     let width = length c.args.slots.now in
     let wide : c.loop-i.i * width + width - c.loop-i.i * width ≡ width = omega arith in
-    let items = items-next width c.loop-i.i _ c.args.kept.now c.args.rows.now c.loop-i.rows c.index-kept-i.result c.loop-i-test.true c.index-kept-i.is wide c.loop-i.invariant.behind in
+    let items = items-next width c.loop-i.i _ c.args.kept.now c.args.rows.now c.loop-i.rows c.index-kept-i.result
+    c.loop-i-test.true c.index-kept-i.is wide c.loop-i.invariant.behind in
     let arrives = c.in-Some.ensures.arrives in
     record {
       size = c.follow.ensures.size ∙ c.loop-i.invariant.size;
       grows = omega (arith, c.follow.ensures.grows);
       same = same-then c.args.next.now c.loop-i.next c.follow.new.next c.loop-i.invariant.same c.follow.ensures.same;
-      behind = rows-behind width c.loop-i.i (length c.args.kept.now) _ c.args.rows.now c.loop-i.rows c.follow.new.row c.loop-i-test.true c.requires.rows c.loop-i.auto.rows wide c.follow.auto.row c.loop-i.invariant.behind;
+      behind = rows-behind width c.loop-i.i (length c.args.kept.now) _ c.args.rows.now c.loop-i.rows c.follow.new.row
+          c.loop-i-test.true c.requires.rows c.loop-i.auto.rows wide c.follow.auto.row c.loop-i.invariant.behind;
       off = λ off. absurd (cc (c.if-not-past_match.false, off));
       crosses =
-          CrossesTo-next c.args.nfa.now (search_of c.args.input.now) c.args.at c.args.past_match c.args.seen.now _ c.args.slots.now _ _ _ _ _ _ _ _ items
+          CrossesTo-next c.args.nfa.now (search_of c.args.input.now) c.args.at c.args.past_match c.args.seen.now _
+          c.args.slots.now _ _ _ _ _ _ _ _ items
           c.loop-i.invariant.crosses _ _ _ _ arrives (Some c.in-Some.pattern) (inl c.if-not-past_match.false)
-          (hit-last c.args.nfa.now c.args.past_match c.loop-i.invariant.crosses.front arrives.front c.args.slots.now c.loop-i.slots c.follow.new.slots c.in-Some.pattern c.if-not-past_match.false arrives.is_hit);
+          (hit-last c.args.nfa.now c.args.past_match c.loop-i.invariant.crosses.front arrives.front c.args.slots.now
+          c.loop-i.slots c.follow.new.slots c.in-Some.pattern c.if-not-past_match.false arrives.is_hit);
     }
 
 pub returns-then-not-past_match-clause-size : goal.returns-then-not-past_match-clause-size
@@ -72,12 +84,17 @@ pub returns-then-not-past_match-clause-crosses : goal.returns-then-not-past_matc
 returns-then-not-past_match-clause-crosses c =
     let width = length c.args.slots.now in
     let wide : c.loop-i.i * width + width - c.loop-i.i * width ≡ width = omega arith in
-    let items = items-next width c.loop-i.i _ c.args.kept.now c.args.rows.now c.loop-i.rows c.index-kept-i.result c.loop-i-test.true c.index-kept-i.is wide c.loop-i.invariant.behind in
-    CrossesTo-first c.args.nfa.now (search_of c.args.input.now) c.args.at c.args.past_match c.args.seen.now _ c.args.slots.now _ _ _ _ _ _ _ _ items
-    c.loop-i.invariant.crosses _ _ _ _ c.in-Some.ensures.arrives c.if-not-past_match.true (c.loop-i.invariant.off c.if-not-past_match.true)
+    let items = items-next width c.loop-i.i _ c.args.kept.now c.args.rows.now c.loop-i.rows c.index-kept-i.result
+    c.loop-i-test.true c.index-kept-i.is wide c.loop-i.invariant.behind in
+    CrossesTo-first c.args.nfa.now (search_of c.args.input.now) c.args.at c.args.past_match c.args.seen.now _
+    c.args.slots.now _ _ _ _ _ _ _ _ items
+    c.loop-i.invariant.crosses _ _ _ _ c.in-Some.ensures.arrives c.if-not-past_match.true
+    (c.loop-i.invariant.off c.if-not-past_match.true)
     (stops c.args.past_match c.in-Some.pattern c.if-not-past_match.true)
 
 pub returns-clause-crosses : goal.returns-clause-crosses
 returns-clause-crosses c =
-    CrossesTo-over c.args.nfa.now (search_of c.args.input.now) c.args.at c.args.past_match c.args.seen.now _ c.args.slots.now _ _ _ _ _
-    (items-over (length c.args.slots.now) c.loop-i.i c.args.kept.now c.args.rows.now c.loop-i-test.false) c.loop-i.invariant.off c.loop-i.invariant.crosses
+    CrossesTo-over c.args.nfa.now (search_of c.args.input.now) c.args.at c.args.past_match c.args.seen.now _
+    c.args.slots.now _ _ _ _ _
+    (items-over (length c.args.slots.now) c.loop-i.i c.args.kept.now c.args.rows.now c.loop-i-test.false)
+    c.loop-i.invariant.off c.loop-i.invariant.crosses

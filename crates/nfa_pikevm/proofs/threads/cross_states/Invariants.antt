@@ -12,6 +12,7 @@ invariant-loop-i l = record {
   same : l.next ≡ record l.fn.next { items = l.next.items };
   behind : drop (l.i * l.width) l.rows ≡ drop (l.i * l.width) l.fn.rows;
   off : l.past_match ≡ false → l.hit ≡ None;
-  crosses : CrossesTo l.nfa (search_of l.input) l.at l.past_match l.fn.seen (items_of l.width l.kept l.fn.rows) l.fn.slots
+  crosses : CrossesTo l.nfa (search_of l.input) l.at l.past_match l.fn.seen
+      (items_of l.width l.kept l.fn.rows) l.fn.slots
       (drop l.i (items_of l.width l.kept l.fn.rows)) l.hit l.seen l.next.items l.slots;
 }

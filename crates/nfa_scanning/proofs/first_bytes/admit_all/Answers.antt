@@ -5,4 +5,5 @@ use Rattle.nfa_scanning.proofs.first_bytes.admit_all.Goals as goal
 
 pub returns-clause-admits : goal.returns-clause-admits
 returns-clause-admits c =
-    admits-first c.loop-i.table c.args.transitions.now (λ k d h b. c.loop-i.invariant.done k (omega (arith, c.loop-i-test.false)) d b)
+    admits-first c.loop-i.table c.args.transitions.now
+    (λ k d h b. c.loop-i.invariant.done k (omega (arith, c.loop-i-test.false)) d b)

@@ -8,5 +8,6 @@ use Rattle.nfa_scanning.proofs.first_bytes.admit_all.Given as goal
 abbrev pub invariant-loop-i : goal.invariant-loop-i
 invariant-loop-i l = record {
   grows : Grows l.fn.table l.table;
-  done : (k : ℕ) → k < l.i → (d : Transition) (b : ℕ) → holds_byte (get_or l.transitions k d) b ≡ true → Admits l.table b;
+  done : (k : ℕ) → k < l.i → (d : Transition) (b : ℕ) → holds_byte (get_or l.transitions k d) b ≡ true
+      → Admits l.table b;
 }

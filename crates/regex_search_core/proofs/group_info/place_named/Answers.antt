@@ -8,6 +8,7 @@ use Rattle.regex_search_core.proofs.group_info.place_named.Goals as goal
 
 pub returns : goal.returns
 returns c =
-    position_from_yields_List (λ group. is_named c.args.name.now (option_map string_bytes group)) _ _ _ c.position.ensures.ran
+    position_from_yields_List (λ group. is_named c.args.name.now (option_map string_bytes group)) _ _ _
+    c.position.ensures.ran
     (YieldsList-from_slice c.args.groups.now cc) (λ x b q k. search (rules, tests))
     ∙ sym (position-map (is_named c.args.name.now) (option_map string_bytes) c.args.groups.now)

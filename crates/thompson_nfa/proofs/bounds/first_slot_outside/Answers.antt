@@ -8,9 +8,9 @@ use Rattle.thompson_nfa.proofs.bounds.first_slot_outside.Goals as goal
 pub returns-in-Some : goal.returns-in-Some
 returns-in-Some c = (
   first-fails (SlotBelow c.args.len) node_of _ _ _ Fail c.loop-index-test.true c.index-states-index.is
-  c.loop-index.invariant (λ passes. cc (c.in-Some.ensures.none.1 passes)),
+      c.loop-index.invariant (λ passes. cc (c.in-Some.ensures.none.1 passes)),
   ap slot_of (image-at node_of _ _ _ Fail c.loop-index-test.true c.index-states-index.is)
-  ∙ c.in-Some.ensures.slot,
+      ∙ c.in-Some.ensures.slot,
 )
 
 pub loop-index-preserved : goal.loop-index-preserved

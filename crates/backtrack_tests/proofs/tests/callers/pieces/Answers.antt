@@ -9,7 +9,10 @@ use Rattle.backtrack_tests.proofs.tests.callers.pieces.Goals as goal
 
 pub returns : goal.returns
 returns c =
-    subst (λ (w : Walk). IfOk c.collect.result (λ v. map (item_by found_of) v.items ≡ greedy span_of (piece_answer c.args.len) w)) (c.new-searcher.ensures ∙ ap fresh c.new-input.ensures)
-    (map_from_collect c.collect.result c.collect.ensures.ran (c.into_matches_iter-items.ensures.list (piece_answer c.args.len)
+    subst (λ (w : Walk). IfOk c.collect.result
+    (λ v. map (item_by found_of) v.items ≡ greedy span_of (piece_answer c.args.len) w))
+    (c.new-searcher.ensures ∙ ap fresh c.new-input.ensures)
+    (map_from_collect c.collect.result c.collect.ensures.ran
+    (c.into_matches_iter-items.ensures.list (piece_answer c.args.len)
     (AnswersAlong-by found_of _ (λ s a. a ≡ piece_answer c.args.len s) (λ q. q.0.now ≡ c.args.len) _ _ refl
     (λ q p same is. search rules) (λ q p reply q' same is called. (search rules, search rules)))))

@@ -12,7 +12,8 @@ use Rattle.nfa_backtrack.proofs.find_iter.FinderSearches.answer.Goals as goal
 pub returns-then-is_some : goal.returns-then-is_some
 returns-then-is_some c = record {
   finds = found-answer c.args.self.now.engine.now (search_of c.args.input.now) c.ending_at-known.result
-      (known-answer c.args.self.now.engine.now (search_of c.args.input.now) c.args.self.now.known c.ending_at-known.result c.requires.knows
+      (known-answer c.args.self.now.engine.now (search_of c.args.input.now) c.args.self.now.known
+      c.ending_at-known.result c.requires.knows
       (λ m is. let k = c.ending_at-known.ensures m is in (k.0, k.1 ∙ c.start.ensures)) (search rules));
   engine = refl;
   knows = c.requires.knows;
@@ -28,7 +29,8 @@ returns c =
       engine = refl;
       knows = known-kept c.args.self.now.engine.now (search_of c.args.input.now) c.ending_at-self.result (λ m is.
           let k = c.ending_at-self.ensures m is in (
-            subst (λ (r : Result (Option Match) SearchError). IsFindOf e x (answer_by found_of r)) (c.found_in.ensures m k.0) c.find_at-reply.ensures.finds,
+            subst (λ (r : Result (Option Match) SearchError). IsFindOf e x (answer_by found_of r))
+                (c.found_in.ensures m k.0) c.find_at-reply.ensures.finds,
             k.1 ∙ c.start-2.ensures,
           ));
       work = inr c.find_at-reply.ensures.once;

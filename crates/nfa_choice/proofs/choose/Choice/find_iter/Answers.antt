@@ -9,27 +9,32 @@ use Rattle.nfa_choice.proofs.choose.Choice.find_iter.Goals as goal
 
 pub returns-clause-runs : goal.returns-clause-runs
 returns-clause-runs c = let e = c.args.self.now in let x = search_of c.args.input in
-    matches-run e.nfa (kind_in e) x AsksByRule (λ q. IsOf e q) (choice-acts e x) find_steps find_state (λ s r t st. st.step) _
+    matches-run e.nfa (kind_in e) x AsksByRule (λ q. IsOf e q) (choice-acts e x) find_steps find_state
+    (λ s r t st. st.step) _
     c.new.ensures refl (record { nfa = refl; kind = refl })
 
 pub returns-clause-are : goal.returns-clause-are
 returns-clause-are c = let e = c.args.self.now in let x = search_of c.args.input in
-    matches-are e.nfa (kind_in e) x AsksByRule (λ q. IsOf e q) (choice-acts e x) find_steps find_state (λ s r t st. st.step) _
+    matches-are e.nfa (kind_in e) x AsksByRule (λ q. IsOf e q) (choice-acts e x) find_steps find_state
+    (λ s r t st. st.step) _
     c.new.ensures refl (record { nfa = refl; kind = refl })
 
 pub returns-clause-apart : goal.returns-clause-apart
 returns-clause-apart c = let e = c.args.self.now in let x = search_of c.args.input in
-    matches-apart_run e.nfa (kind_in e) x AsksByRule (λ q. IsOf e q) (choice-acts e x) find_steps find_state (λ s r t st. st.step) _
+    matches-apart_run e.nfa (kind_in e) x AsksByRule (λ q. IsOf e q) (choice-acts e x) find_steps find_state
+    (λ s r t st. st.step) _
     c.new.ensures refl (record { nfa = refl; kind = refl })
 
 pub returns-clause-first : goal.returns-clause-first
 returns-clause-first c = let e = c.args.self.now in let x = search_of c.args.input in
-    matches-first_given e.nfa (kind_in e) x AsksByRule (λ q. IsOf e q) (choice-acts e x) find_steps find_state (λ s r t st. st.step) _
+    matches-first_given e.nfa (kind_in e) x AsksByRule (λ q. IsOf e q) (choice-acts e x) find_steps find_state
+    (λ s r t st. st.step) _
     c.new.ensures refl (record { nfa = refl; kind = refl })
 
 pub returns-clause-next : goal.returns-clause-next
 returns-clause-next c = let e = c.args.self.now in let x = search_of c.args.input in
-    matches-next e.nfa (kind_in e) x AsksByRule (λ q. IsOf e q) (choice-acts e x) find_steps find_state (λ s r t st. st.step) _
+    matches-next e.nfa (kind_in e) x AsksByRule (λ q. IsOf e q) (choice-acts e x) find_steps find_state
+    (λ s r t st. st.step) _
     c.new.ensures refl (record { nfa = refl; kind = refl })
 
 pub returns-clause-keeps : goal.returns-clause-keeps

@@ -19,10 +19,12 @@ returns-clause-answer c =
       ap length c.group_info.ensures.value,
     ) in
     rw (← c.self.view_is, ← c.get_match_kind.ensures)
-    (match-some c.self.inside.nfa c.get_match_kind.result _ (search_of c.args.input.now) c.group_info.ensures.valid c.in_ok-half.half (number_of c.pattern.result) c.pattern.ensures size
+    (match-some c.self.inside.nfa c.get_match_kind.result _ (search_of c.args.input.now) c.group_info.ensures.valid
+    c.in_ok-half.half (number_of c.pattern.result) c.pattern.ensures size
     c.in_ok-half.ensures.answer _ c.match_in.ensures)
 
 pub returns-clause-pattern : goal.returns-clause-pattern
 returns-clause-pattern c =
     let valid : IsAutomaton c.args.self.now.nfa = rw (← c.self.view_is) c.group_info.ensures.valid in
-    pattern-of c.args.self.now.nfa (kind_of c.args.self.now) _ (search_of c.args.input.now) valid c.match_in.result (returns-clause-answer c)
+    pattern-of c.args.self.now.nfa (kind_of c.args.self.now) _ (search_of c.args.input.now) valid c.match_in.result
+    (returns-clause-answer c)

@@ -22,7 +22,8 @@ returns-clause-answer c =
       | else-has_empty w ↦ rw (← c.self.view_is, ← w.if-has_empty.ensures) (w.earliest-is ∙ w.if-has_empty.false)
     ] in
     rw (c.is_some.ensures, ← is_some-map c.search_slots.result)
-    (found-free c.args.self.now.nfa (kind_of c.args.self.now) (search_of c.args.input) (search_of c.earliest-input.result) _ (ap not mode) c.earliest-input.ensures _ _ c.search_slots.ensures.answer)
+    (found-free c.args.self.now.nfa (kind_of c.args.self.now) (search_of c.args.input)
+    (search_of c.earliest-input.result) _ (ap not mode) c.earliest-input.ensures _ _ c.search_slots.ensures.answer)
 
 pub returns-clause-work : goal.returns-clause-work
 returns-clause-work c =
@@ -31,4 +32,5 @@ returns-clause-work c =
       | then-has_empty w ↦ rw (← c.self.view_is, ← w.if-has_empty.ensures) (w.earliest-is ∙ w.is_utf8.ensures)
       | else-has_empty w ↦ rw (← c.self.view_is, ← w.if-has_empty.ensures) (w.earliest-is ∙ w.if-has_empty.false)
     ] in
-    work-free c.args.self.now.nfa (kind_of c.args.self.now) (search_of c.args.input) (search_of c.earliest-input.result) _ (ap not mode) c.earliest-input.ensures _ _ c.search_slots.ensures.work
+    work-free c.args.self.now.nfa (kind_of c.args.self.now) (search_of c.args.input) (search_of c.earliest-input.result)
+    _ (ap not mode) c.earliest-input.ensures _ _ c.search_slots.ensures.work

@@ -16,4 +16,5 @@ pub returns-clause-none : goal.returns-clause-none
 returns-clause-none c =
     let vm = c.args.self.now in
     let x = search_of c.args.input.now in
-    slots-none vm.nfa (kind_of vm) x.earliest x (length c.args.captures.now.slots) _ _ (returns-clause-answer c) (returns-clause-size c)
+    slots-none vm.nfa (kind_of vm) x.earliest x (length c.args.captures.now.slots) _ _ (returns-clause-answer c)
+    (returns-clause-size c)

@@ -16,29 +16,50 @@ pub returns-in_err-half-clause-answer : goal.returns-in_err-half-clause-answer
 returns-in_err-half-clause-answer c =
     let row = c.search-half.new.slots in
     let cut : c.min-width.result ≡ min (length c.args.slots.now) (slot_count c.self.inside.nfa.groups) =
-    c.min-width.ensures ∙ ap (min (length c.args.slots.now)) (c.slot_len.ensures.value ∙ ap slot_count c.group_info.ensures.value) in
-    let size : length row ≡ c.min-width.result = omega (arith, c.search-half.auto.slots, length-take c.min-width.result c.args.found.now, cut, rw (← c.self.view_is) at c.requires.row) in
+    c.min-width.ensures ∙ ap (min (length c.args.slots.now))
+    (c.slot_len.ensures.value ∙ ap slot_count c.group_info.ensures.value) in
+    let size : length row ≡ c.min-width.result =
+    omega (
+      arith,
+      c.search-half.auto.slots,
+      length-take c.min-width.result c.args.found.now,
+      cut,
+      rw (← c.self.view_is) at c.requires.row,
+    ) in
     let k = length c.args.slots.now - length row in
     let rest : Slots = blank k in
     let left : length rest + c.min-width.result ≡ length c.args.slots.now = omega (arith, length-blank k, size, cut) in
     rw (← c.self.view_is, ← c.get_match_kind.ensures, c.from_residual.ensures, c.hand_out.ensures)
-    (answer-of c.self.inside.nfa c.get_match_kind.result _ (search_of c.args.input.now) None None refl c.in_err-half.ensures.answer _
-    (row-whole c.self.inside.nfa c.group_info.ensures.valid row rest _ _ cut size left (ap blank (sym (length-blank k)))))
+    (answer-of c.self.inside.nfa c.get_match_kind.result _ (search_of c.args.input.now) None None refl
+    c.in_err-half.ensures.answer _
+    (row-whole c.self.inside.nfa c.group_info.ensures.valid row rest _ _ cut size left
+    (ap blank (sym (length-blank k)))))
 
 pub returns-clause-answer : goal.returns-clause-answer
 returns-clause-answer c =
     let row = c.search-half.new.slots in
     let cut : c.min-width.result ≡ min (length c.args.slots.now) (slot_count c.self.inside.nfa.groups) =
-    c.min-width.ensures ∙ ap (min (length c.args.slots.now)) (c.slot_len.ensures.value ∙ ap slot_count c.group_info.ensures.value) in
-    let size : length row ≡ c.min-width.result = omega (arith, c.search-half.auto.slots, length-take c.min-width.result c.args.found.now, cut, rw (← c.self.view_is) at c.requires.row) in
+    c.min-width.ensures ∙ ap (min (length c.args.slots.now))
+    (c.slot_len.ensures.value ∙ ap slot_count c.group_info.ensures.value) in
+    let size : length row ≡ c.min-width.result =
+    omega (
+      arith,
+      c.search-half.auto.slots,
+      length-take c.min-width.result c.args.found.now,
+      cut,
+      rw (← c.self.view_is) at c.requires.row,
+    ) in
     let k = length c.args.slots.now - length row in
     let rest : Slots = blank k in
     let left : length rest + c.min-width.result ≡ length c.args.slots.now = omega (arith, length-blank k, size, cut) in
     rw (← c.self.view_is, ← c.get_match_kind.ensures, c.hand_out.ensures)
-    (answer-of c.self.inside.nfa c.get_match_kind.result _ (search_of c.args.input.now) (Some c.in_ok-half.field-0) (Some (number_of c.pattern.result)) (ap Some c.pattern.ensures)
-    c.in_ok-half.ensures.answer _ (row-whole c.self.inside.nfa c.group_info.ensures.valid row rest _ _ cut size left (ap blank (sym (length-blank k)))))
+    (answer-of c.self.inside.nfa c.get_match_kind.result _ (search_of c.args.input.now) (Some c.in_ok-half.field-0)
+    (Some (number_of c.pattern.result)) (ap Some c.pattern.ensures)
+    c.in_ok-half.ensures.answer _ (row-whole c.self.inside.nfa c.group_info.ensures.valid row rest _ _ cut size left
+    (ap blank (sym (length-blank k)))))
 
 pub returns-clause-pattern : goal.returns-clause-pattern
 returns-clause-pattern c =
     let valid : IsAutomaton c.args.self.now.nfa = rw (← c.self.view_is) c.group_info.ensures.valid in
-    slots-pattern c.args.self.now.nfa (kind_of c.args.self.now) _ (search_of c.args.input.now) valid (Some c.pattern.result) _ (returns-clause-answer c)
+    slots-pattern c.args.self.now.nfa (kind_of c.args.self.now) _ (search_of c.args.input.now) valid
+    (Some c.pattern.result) _ (returns-clause-answer c)

@@ -8,9 +8,11 @@ use Rattle.nfa_pikevm.proofs.FindLemmas.{find-serves, step-goes}
 use Rattle.nfa_pikevm.proofs.find_iter.FindMatchesIterator.next.Goals as goal
 
 pub next_with-requires : goal.next_with-requires
-next_with-requires c = surely-inside MayFind AsksPike span_of found_of (find_state c.args.self.now) (find-serves c.args.self.now)
+next_with-requires c = surely-inside MayFind AsksPike span_of found_of (find_state c.args.self.now)
+    (find-serves c.args.self.now)
 
 pub invariant_of-self : goal.invariant_of-self
 invariant_of-self c =
-    let k = step-goes c.args.self.now c.next_with.result (lend c.next_with.new.self c.next_with.new.cache) c.next_with.ensures in
+    let k = step-goes c.args.self.now c.next_with.result (lend c.next_with.new.self c.next_with.new.cache)
+    c.next_with.ensures in
     record { fits = k.fits; knows = k.knows }

@@ -22,7 +22,8 @@ returns c =
     record {
       finds = finds;
       engine = refl;
-      knows = known-kept c.args.self.now.engine.now (search_of c.args.input.now) c.find-found.result c.ending_at-self.result finds
+      knows = known-kept c.args.self.now.engine.now (search_of c.args.input.now) c.find-found.result
+          c.ending_at-self.result finds
           (λ m is. let k = c.ending_at-self.ensures m is in (k.0, k.1 ∙ c.start-2.ensures));
       numbers = e.numbers;
       work = inr (record { total = e.total; work = e.work; scans = e.scans; turns = e.turns });

@@ -6,8 +6,10 @@ use Rattle.nfa_pikevm.proofs.seen.Seen.insert.Goals as goal
 
 pub returns-clause-fresh : goal.returns-clause-fresh
 returns-clause-fresh c = λ _.
-    let within : c.args.state < length (marks_of c.self.inside.newest c.self.inside.stamps.items) = rw (← c.self.view_is) at c.requires in
+    let within : c.args.state < length (marks_of c.self.inside.newest c.self.inside.stamps.items) =
+    rw (← c.self.view_is) at c.requires in
     rw (← c.self.view_is) (
-      marks_of-other c.self.inside.newest c.self.inside.stamps.items c.args.state _ true (omega (arith, simp length-map at within)) c.index.ensures c.if-index-self.false,
+      marks_of-other c.self.inside.newest c.self.inside.stamps.items c.args.state _ true
+          (omega (arith, simp length-map at within)) c.index.ensures c.if-index-self.false,
       marks_of-set c.self.inside.newest c.self.inside.stamps.items c.args.state,
     )

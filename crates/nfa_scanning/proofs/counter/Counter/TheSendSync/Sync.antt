@@ -5,4 +5,9 @@ use Rattle.nfa_scanning.specs.contracts.counter.Counter.{the_row}
 
 pub sync : IsSync the_row
 unfolding part_of
-sync = record { shared = λ d b o κ a. ((λ q vs. (cell_keyless q (raw_all the_row.mir) vs b o, ((λ _. (tt, tt)), tt))), tt) }
+sync = record {
+  shared = λ d b o κ a. (
+    (λ q vs. (cell_keyless q (raw_all the_row.mir) vs b o, ((λ _. (tt, tt)), tt))),
+    tt,
+  );
+}

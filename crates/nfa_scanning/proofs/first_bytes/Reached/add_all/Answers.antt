@@ -8,13 +8,16 @@ use Rattle.nfa_scanning.proofs.first_bytes.Reached.add_all.Goals as goal
 pub loop-i-preserved : goal.loop-i-preserved
 loop-i-preserved c =
     let inside : c.loop-i.i < length c.args.sids.now = c.loop-i-test.true in
-    let is : c.index-sids-i.result ≡ get_or c.args.sids.now c.loop-i.i 0 = c.index-sids-i.is ∙ get_or_default c.args.sids.now c.loop-i.i _ 0 inside in
-    let here : IsReached c.add.new.self (get_or c.args.sids.now c.loop-i.i 0) = subst (λ s. IsReached c.add.new.self s) is (c.add.ensures.added c.if-not-add.false) in
+    let is : c.index-sids-i.result ≡ get_or c.args.sids.now c.loop-i.i 0 = c.index-sids-i.is
+    ∙ get_or_default c.args.sids.now c.loop-i.i _ 0 inside in
+    let here : IsReached c.add.new.self (get_or c.args.sids.now c.loop-i.i 0) =
+    subst (λ s. IsReached c.add.new.self s) is (c.add.ensures.added c.if-not-add.false) in
     record {
       room = c.add.ensures.room;
       extends = Extends-then c.loop-i.invariant.extends c.add.ensures.extends;
       added = λ k d h. below_more (λ k. IsReached c.add.new.self (get_or c.args.sids.now k d)) c.loop-i.i
           (λ k l. IsReached-extends c.add.ensures.extends (c.loop-i.invariant.added k d l))
           (rw (get_or_default c.args.sids.now c.loop-i.i d 0 inside) here) k h;
-      below = λ n all prior. c.add.ensures.below n (subst (λ s. s < n) (sym is) (all c.loop-i.i 0 inside)) (c.loop-i.invariant.below n all prior);
+      below = λ n all prior. c.add.ensures.below n (subst (λ s. s < n) (sym is) (all c.loop-i.i 0 inside))
+          (c.loop-i.invariant.below n all prior);
     }

@@ -9,7 +9,8 @@ use Rattle.nfa_search_base.proofs.iter.callers.collected.Goals as goal
 
 pub returns : goal.returns
 returns c =
-    subst (λ (w : Walk). IfOk c.collect.result (λ v. map (item_by found_of) v.items ≡ greedy span_of empty_answer w)) (c.new-searcher.ensures ∙ ap fresh c.new-input.ensures)
+    subst (λ (w : Walk). IfOk c.collect.result (λ v. map (item_by found_of) v.items ≡ greedy span_of empty_answer w))
+    (c.new-searcher.ensures ∙ ap fresh c.new-input.ensures)
     (map_from_collect c.collect.result c.collect.ensures.ran (c.into_matches_iter-items.ensures.list empty_answer
     (AnswersAlong-always found_of _ (λ s a. a ≡ empty_answer s) _ _
     (λ q p same. search rules) (λ q p reply q' same called. search rules))))

@@ -15,7 +15,9 @@ into_captures_iter-items-requires c =
 
 pub returns : goal.returns
 returns c =
-    subst (λ (w : Walk). IfOk c.collect.result (λ v. UpToRefusal (greedy row_span zero_row w) (map (item_by row_of) v.items))) (c.new-searcher.ensures ∙ ap fresh c.new-input.ensures)
+    subst (λ (w : Walk). IfOk c.collect.result
+    (λ v. UpToRefusal (greedy row_span zero_row w) (map (item_by row_of) v.items)))
+    (c.new-searcher.ensures ∙ ap fresh c.new-input.ensures)
     (refusal_from_collect c.collect.result c.collect.ensures.ran (c.into_captures_iter-items.ensures.list zero_row
     (CatchesAlong-by _ (λ s a. a ≡ zero_row s) (λ f (k : Captured). k.slots ≡ Some 0 ∷ Some 0 ∷ []) _ _ c.requires
     (λ f p q same inv. search rules) (λ f p q reply left f' same inv called. search rules))))

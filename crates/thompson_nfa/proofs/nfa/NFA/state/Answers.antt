@@ -15,7 +15,8 @@ within c =
 pub returns-clause-leads : goal.returns-clause-leads
 returns-clause-leads c =
     rw (← c.self.view_is)
-    (passes-at (LeadsBelow (length (map node_of c.self.inside.states.items))) node_of c.self.inside.states.items _ _ (within c)
+    (passes-at (LeadsBelow (length (map node_of c.self.inside.states.items))) node_of
+    c.self.inside.states.items _ _ (within c)
     c.index.ensures c.self.invariant.numbered.targets_in)
 
 pub returns-clause-slot : goal.returns-clause-slot

@@ -8,4 +8,9 @@ pub returns : goal.returns
 returns c =
     let e = c.find.ensures in
     let x = search_of c.args.input.now in
-    record { finds = find-answered c.args.choice.now.nfa (kind_in c.args.choice.now) x.earliest x c.find.result e.answer; runs = e.runs; keeps = e.keeps }
+    record {
+      finds = find-answered c.args.choice.now.nfa (kind_in c.args.choice.now) x.earliest x c.find.result
+          e.answer;
+      runs = e.runs;
+      keeps = e.keeps;
+    }

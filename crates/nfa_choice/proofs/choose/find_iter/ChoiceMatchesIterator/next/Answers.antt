@@ -7,4 +7,5 @@ use Rattle.nfa_choice.proofs.FindLemmas.{choice-serves}
 use Rattle.nfa_choice.proofs.choose.find_iter.ChoiceMatchesIterator.next.Goals as goal
 
 pub next_with-requires : goal.next_with-requires
-next_with-requires c = surely-inside may_ask AsksByRule span_of found_of (find_state c.args.self.now) (choice-serves (find_state c.args.self.now))
+next_with-requires c = surely-inside may_ask AsksByRule span_of found_of (find_state c.args.self.now)
+    (choice-serves (find_state c.args.self.now))

@@ -7,13 +7,19 @@ use Rattle.nfa_search_base.proofs.iter.half_matches.HalfMatchesIterIterator.next
 use Rattle.nfa_search_base.proofs.iter.half_matches.HalfMatchesIterIterator.next.Goals.{in-Some-Ok, in-None}
 
 pub next-requires : goal.next-requires
-next-requires g c = surely-inside (IsCallableOn g.F.FnMut) (Finds half_found_of g.F.FnMut) half_span_of half_found_of c.self.inside.tries (rw (← c.self.view_is) at c.requires)
+next-requires g c = surely-inside (IsCallableOn g.F.FnMut) (Finds half_found_of g.F.FnMut) half_span_of half_found_of
+    c.self.inside.tries (rw (← c.self.view_is) at c.requires)
 
 pub unreachable-requires : goal.unreachable-requires
-unreachable-requires g c = never-err (IsCallableOn g.F.FnMut) (Finds half_found_of g.F.FnMut) half_span_of half_found_of c.self.inside.tries c.next.new.self c.next.result (rw (← c.self.view_is) at c.requires) c.next.ensures.steps c.in-Some-Err.field-0-0 (cc)
+unreachable-requires g c = never-err (IsCallableOn g.F.FnMut) (Finds half_found_of g.F.FnMut) half_span_of half_found_of
+    c.self.inside.tries c.next.new.self c.next.result (rw (← c.self.view_is) at c.requires) c.next.ensures.steps
+    c.in-Some-Err.field-0-0 (cc)
 
 pub returns-clause-goes : goal.returns-clause-goes
 returns-clause-goes g c = elim c.match-next.branch [
-  | in-Some-Ok w ↦ rw c.self.view_is at (sure-some (IsCallableOn g.F.FnMut) (Finds half_found_of g.F.FnMut) half_span_of half_found_of c.self.inside.tries c.next.new.self c.next.result (rw (← c.self.view_is) at c.requires) c.next.ensures.steps w.in-Some-Ok.found _ (cc) w.result-is)
-  | in-None w ↦ sure-none (IsCallableOn g.F.FnMut) (Finds half_found_of g.F.FnMut) half_span_of half_found_of c.args.self.now c.next.new.self _ w.result-is
+  | in-Some-Ok w ↦ rw c.self.view_is at (sure-some (IsCallableOn g.F.FnMut) (Finds half_found_of g.F.FnMut) half_span_of
+      half_found_of c.self.inside.tries c.next.new.self c.next.result (rw (← c.self.view_is) at c.requires)
+      c.next.ensures.steps w.in-Some-Ok.found _ (cc) w.result-is)
+  | in-None w ↦ sure-none (IsCallableOn g.F.FnMut) (Finds half_found_of g.F.FnMut) half_span_of half_found_of
+      c.args.self.now c.next.new.self _ w.result-is
 ]

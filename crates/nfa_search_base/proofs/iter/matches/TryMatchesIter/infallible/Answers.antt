@@ -6,4 +6,5 @@ use Rattle.nfa_search_base.proofs.StoredLemmas.{sure-yields}
 use Rattle.nfa_search_base.proofs.iter.matches.TryMatchesIter.infallible.Goals as goal
 
 pub returns-clause-list : goal.returns-clause-list
-returns-clause-list g c = λ h computes. sure-yields (IsCallableOn g.F.FnMut) (Finds found_of g.F.FnMut) span_of found_of h c.args.self computes
+returns-clause-list g c = λ h computes. sure-yields (IsCallableOn g.F.FnMut) (Finds found_of g.F.FnMut) span_of found_of
+    h c.args.self computes

@@ -6,5 +6,10 @@ use Rattle.nfa_search_base.proofs.iter.searcher.Searcher.into_captures_iter.Goal
 
 pub returns-clause-list : goal.returns-clause-list
 returns-clause-list g c = λ h computes.
-    let made : Steps (Catching g.row.F.Denot) = record { searcher = c.args.self; asker = record { finder = c.args.finder; captures = c.args.captures }; done = false } in
+    let made : Steps (Catching g.row.F.Denot) =
+    record {
+      searcher = c.args.self;
+      asker = record { finder = c.args.finder; captures = c.args.captures };
+      done = false;
+    } in
     catches-list g.F.FnMut h _ (λ s r t st. st) made computes

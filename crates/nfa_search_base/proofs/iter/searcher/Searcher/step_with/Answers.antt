@@ -10,7 +10,8 @@ returns-then-not-moves_on g c =
     let a = g.A.Searches in
     let w = walk_of c.args.self.now in
     let once : c.moves_on.result ≡ false = search rules in
-    step-once a.accepts a.asks a.span _ w c.requires c.args.self.now.behind _ _ c.place-place.result (walk_of c.take.new.self)
+    step-once a.accepts a.asks a.span _ w c.requires c.args.self.now.behind _ _ c.place-place.result
+    (walk_of c.take.new.self)
     c.answer-once.ensures c.place-place.ensures.place c.place-place.ensures.ordered (search rules)
     (c.take.ensures ∙ ap (λ (v : Walk). after v c.place-place.result) (c.moves_on.ensures.stays once))
 
@@ -19,6 +20,8 @@ returns g c =
     let a = g.A.Searches in
     let w = walk_of c.args.self.now in
     let again : c.moves_on.result ≡ true = search rules in
-    step-twice a.accepts a.asks a.span _ w c.requires c.args.self.now.behind _ _ c.place-place.result (walk_of c.moves_on.new.self) _ _
-    c.place-place-2.result (walk_of c.take-2.new.self) c.answer-once.ensures c.place-place.ensures.place (search rules) (search rules)
+    step-twice a.accepts a.asks a.span _ w c.requires c.args.self.now.behind _ _ c.place-place.result
+    (walk_of c.moves_on.new.self) _ _
+    c.place-place-2.result (walk_of c.take-2.new.self) c.answer-once.ensures c.place-place.ensures.place
+    (search rules) (search rules)
     c.answer-twice.ensures c.place-place-2.ensures.place c.place-place-2.ensures.ordered c.take-2.ensures

@@ -9,5 +9,6 @@ use Rattle.nfa_search_base.proofs.iter.steps.Steps.next_with.Goals as goal
 pub step_with-reply-requires : goal.step_with-reply-requires
 step_with-reply-requires g c =
     let a = g.A.Searches in
-    ServesTurn-now a.accepts a.asks a.span (IsInside a.span) (record { asker = c.args.self.now.asker; cache = c.args.cache.now })
+    ServesTurn-now a.accepts a.asks a.span (IsInside a.span)
+    (record { asker = c.args.self.now.asker; cache = c.args.cache.now })
     (walk_of c.args.self.now.searcher) c.requires
