@@ -31,8 +31,7 @@ pub enum Engine {
 ///
 /// The backtracker runs where the match kind is leftmost first, `earliest` is off and the span is at most as long as
 /// [`BoundedBacktracker::max_haystack_len`]. Where it refuses, and everywhere else, the PikeVM runs. A contract sees
-/// the
-/// NFA, what was set for both, what both caches show, and which engine gave the last answer.
+/// the NFA, what was set for both, what both caches show, and which engine gave the last answer.
 #[derive(Debug, Drop)]
 pub struct Choice {
     back: BoundedBacktracker,
@@ -183,8 +182,7 @@ impl Choice {
 
     /// Searches, and fills captures: their pattern is the one that matched, and their slots get what
     /// [`Choice::search_slots`] gives as many slots. Their groups stay. After no match they show none: no pattern, and
-    /// no
-    /// slot set. Any captures may be handed in, those of another NFA too.
+    /// no slot set. Any captures may be handed in, those of another NFA too.
     pub fn search(&mut self, input: &Input<'_>, captures: &mut Captures)
         ensures answer { IsAnswer self.old.nfa (kind_in self.old) (search_of input.now).earliest (search_of input.now)
             captures.new.pattern captures.new.slots }

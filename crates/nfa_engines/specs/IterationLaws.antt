@@ -7,8 +7,7 @@ use Rattle.nfa_paths.specs.Paths.{span_len}
 use Rattle.nfa_search_base.specs.Walks.{Walk, fresh, after, shifted, ComesAfter, LeavesFewer}
 
 -- What each call that asks a `Searcher` for the next match promises of the iteration before it, of where its match lies
--- (`None` where it
--- gave no match), and of the iteration after it.
+-- (`None` where it gave no match), and of the iteration after it.
 pub record IsCall (w : Walk) (place : Option Span) (w' : Walk) : Type 0 where
   pub rises : ComesAfter w place
   pub fewer : LeavesFewer w place w'

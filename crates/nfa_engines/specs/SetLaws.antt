@@ -13,8 +13,7 @@ OneSet kind =
     → IsOverlapResult nfa x kind earliest old new → IsOverlapResult nfa x kind earliest old other → new ≡ other
 
 -- Afterwards the set holds what it held, and each pattern below its capacity that some accepting path with a permitted
--- end has; and
--- nothing else.
+-- end has; and nothing else.
 abbrev pub SetIsComplete : Bool → Type 0
 SetIsComplete earliest =
     (nfa : Automaton) (x : Search) (old new : List Bool) → IsOverlapResult nfa x All earliest old new

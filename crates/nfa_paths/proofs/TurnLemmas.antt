@@ -198,8 +198,7 @@ pub Framed-pop : (rooms : List ℕ) (frames after : ℕ) (marks : List Bool) →
 Framed-pop rooms frames after marks less = record { bound = omega arith }
 
 -- The pair in hand is marked, and no more frames are pushed than its state has room: none for a byte, a look or a
--- match, the other
--- alternatives for a union, one for a capture.
+-- match, the other alternatives for a union, one for a capture.
 pub Framed-mark : (rooms : List ℕ) (frames after : ℕ) (marks : List Bool) (k : ℕ) → get_or marks k true ≡ false
     → after ≤ frames + get_or rooms k 0
     → Framed rooms frames marks after (set marks k true)

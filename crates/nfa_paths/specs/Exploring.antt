@@ -64,8 +64,7 @@ module _ (edges : Pair → List Pair) (target : Pair → Bool) (capture : Pair �
       ⊎ (IsFirst edges target [] a.0 None × AnswerBehind left front otherwise marks work slots g)
 
   -- A search under way, in the form that a loop keeps: some list holds just the pairs that are `Seen`, and whatever is
-  -- the answer
-  -- from here on meets `goal`, with the number of turns when the search ends. `spent` turns were taken.
+  -- the answer from here on meets `goal`, with the number of turns when the search ends. `spent` turns were taken.
   pub record Searching (goal : Found → ℕ → Type 0) (Seen : Pair → Type 0) (spent : ℕ) (front : List (Pair × Slots))
       (otherwise : Found) (work : List Item) (slots : Slots) : Type 0 where
     pub marks : List Pair

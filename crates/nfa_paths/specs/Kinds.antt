@@ -96,8 +96,7 @@ pub record HoldsMatch (is_match : Pair → Bool) (pattern : Pair → Option ℕ)
   pub pattern_is : pattern item.0 ≡ Some k
 
 -- What a scan goes over: positions never fall along an edge and rise at a resting pair, a match pair leads nowhere and
--- writes
--- nothing, and the starts rise.
+-- writes nothing, and the starts rise.
 pub record Scanned (edges : Pair → List Pair) (capture : Pair → Option ℕ) (starts : List Pair)
     (resting is_match : Pair → Bool) : Type 0 where
   pub onward : (x y : Pair) → In y (edges x) → x.1 ≤ y.1

@@ -49,8 +49,7 @@ module _ (nfa : Automaton) (x : Search) where
   IsEarliestHeld capacity = IsEarliestPath (edges nfa x) (starts nfa x) (IsHeld capacity)
 
   -- The pattern is meant by `All`: some accepting path of it has a permitted end. With `earliest` that end is the least
-  -- one of
-  -- those of all patterns below the capacity.
+  -- one of those of all patterns below the capacity.
   abbrev pub IsMeantByAll : Bool → ℕ → ℕ → Type 0
   IsMeantByAll false capacity pattern = IsPatternOf IsPermitted pattern
   IsMeantByAll true capacity pattern = (e : ℕ) × IsLeastEnd (edges nfa x) (starts nfa x) (IsHeld capacity) e
@@ -81,8 +80,7 @@ module _ (nfa : Automaton) (x : Search) where
   HoldsPath true (Some path) set = HoldsOnly path set
 
   -- The path that is meant by `LeftmostFirst`. Matches of patterns at or above the capacity do not count: with room for
-  -- each
-  -- pattern of the NFA those are none.
+  -- each pattern of the NFA those are none.
   abbrev pub IsMeantPath : Bool → ℕ → Option (List Pair) → Type 0
   IsMeantPath false capacity path = IsFirstHeld capacity path
   IsMeantPath true capacity path = IsEarliestHeld capacity path
@@ -109,8 +107,7 @@ module _ (nfa : Automaton) (x : Search) where
   Gains LeftmostFirst earliest old new = GainsFirst earliest old new
 
   -- The set after is what the search makes of the set before. It keeps its capacity and loses nothing, and gains only
-  -- patterns below its
-  -- capacity, each of an accepting path with a permitted end.
+  -- patterns below its capacity, each of an accepting path with a permitted end.
   pub record IsOverlapResult (kind : MatchKind) (earliest : Bool) (old new : List Bool) : Type 0 where
     pub capacity : length new ≡ length old
     pub keeps : (k : ℕ) → HoldsPattern old k → HoldsPattern new k

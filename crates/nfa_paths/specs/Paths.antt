@@ -125,8 +125,7 @@ module _ (nfa : Automaton) where
     edges v = edges_of x (node_at v.0) v.1
 
     -- how many positions a path may start at: none past the end of the span, the first alone where the search or the
-    -- NFA
-    -- is anchored, else each position of the span, its end included
+    -- NFA is anchored, else each position of the span, its end included
     abbrev pub start_count : ℕ
     start_count =
         if nat_lt x.end x.start then 0

@@ -17,8 +17,7 @@ repeated zero ws = []
 repeated (suc count) ws = ws ++ repeated count ws
 
 -- What was done, with what still waits, is within the starts that were tried and the weights of the marks, also of the
--- marks
--- that were cleared `rounds` times. (A record, so that a lemma finds its arguments.)
+-- marks that were cleared `rounds` times. (A record, so that a lemma finds its arguments.)
 pub record Within (weights : List ℕ) (starts rounds done waiting : ℕ) (marks : List Bool) : Type 0 where
   pub bound : done + waiting ≤ starts + rounds * sum weights + marked_sum weights marks
 

@@ -34,8 +34,7 @@ abbrev pub stack_places : Automaton → ℕ
 stack_places nfa = max (sum_by room_of nfa.states) 1
 
 -- What a cache shows: for how many states, slots and patterns it is made, the places of its stack, the scans and turns
--- of its last search, and
--- those of all its searches.
+-- of its last search, and those of all its searches.
 pub record PikeCache : Type 0 where
   pub states : ℕ
   pub slots : ℕ
@@ -47,8 +46,7 @@ pub record PikeCache : Type 0 where
   pub all_turns : ℕ
 
 -- How many scans a search for the patterns of all matches makes: one, or none where the first match alone is meant and
--- the set holds
--- a pattern.
+-- the set holds a pattern.
 abbrev pub overlap_scans : MatchKind → List Bool → ℕ
 overlap_scans All set = 1
 overlap_scans LeftmostFirst set = if nat_lt 0 (size_of_set set) then 0 else 1
@@ -99,8 +97,7 @@ abbrev pub saturated : ℕ → ℕ
 saturated n = min n (2 ^ 64 - 1)
 
 -- The bytes that a cache holds: 24 for a frame; 8 for each slot of the row that a search fills and of those of the two
--- sets, which have a row more
--- than states; 4 for each state's mark and for each place of the two sets.
+-- sets, which have a row more than states; 4 for each state's mark and for each place of the two sets.
 abbrev pub memory_of : PikeCache → ℕ
 memory_of cache = saturated (24 * cache.places + 8 * ((2 * cache.states + 3) * cache.slots)
     + 4 * (3 * cache.states + 2))

@@ -98,8 +98,7 @@ abbrev pub IsPassed : List Bool → Search → Starts → ℕ → Type 0
 IsPassed table x starts_at k = (k < starts_at.stop) × IsRefused table x k
 
 -- The position that a scan goes on at, where the start has joined the states, or no match begins there. While starts
--- are left some state
--- is there.
+-- are left some state is there.
 pub record Joins (table : List Bool) (x : Search) (starts_at : Starts) (limit width at : ℕ) (items : List (ℕ × Slots))
     (to : ℕ) (now : List (ℕ × Slots)) : Type 0 where
   pub ahead : at ≤ to

@@ -1,6 +1,5 @@
 -- What a PikeVM keeps at a position, in the words of its proof: its marks as pairs that were seen, its stack as work
--- that is left, what it
--- keeps for the next position as a front.
+-- that is left, what it keeps for the next position as a front.
 use Rattle.std.specs.Prelude.{◌≡◌, ◌⊎◌, ℕ, ◌+◌, ◌<◌, ◌≤◌, Bool, true, false, List, [], ◌∷◌, ◌++◌, Option, None, Some, cond, length, map, replicate, All, slice_index_or, slice_set}
 use Rattle.std.specs.List.{sum_by}
 use Rattle.regex_search_core.specs.Search.{Search}
@@ -21,8 +20,7 @@ use Rattle.nfa_pikevm.specs.declared.frame.FollowEpsilon.{FollowEpsilon}
 use Rattle.nfa_pikevm.specs.declared.frame.FollowEpsilon.TheVariants.{Explore, Restore}
 
 -- The resting pairs that were reached at a position, in order, each with its slots. Of each that a byte leads on from
--- only
--- the state that it leads to is kept in memory; matches and pairs that lead nowhere are not.
+-- only the state that it leads to is kept in memory; matches and pairs that lead nowhere are not.
 abbrev pub Front : Type 0
 Front = List (Pair × Slots)
 
@@ -174,8 +172,7 @@ module _ (nfa : Automaton) (x : Search) where
   IsMet v slots Over front = NoMatch (is_match nfa) front
 
   -- What comes of a turn that tries to enter the state: it adds a front, which memory holds the moves of, and leaves
-  -- its work to do. What is
-  -- left below the stack begins by loading slots.
+  -- its work to do. What is left below the stack begins by loading slots.
   pub record Enters (at s : ℕ) (met : Marks) (items : List (ℕ × Slots)) (stack : List FollowEpsilon) (slots : Slots)
       (turn : Move) (after : Marks) (kept : List (ℕ × Slots)) (above : List FollowEpsilon)
       (written : Slots) : Type 0 where
@@ -196,8 +193,7 @@ module _ (nfa : Automaton) (x : Search) where
     pub whole : goes_on → left ≡ rest
 
   -- What comes of a state that is followed with a row of slots, up to the position's next byte: a front, which memory
-  -- holds the moves of, and
-  -- the match of it that is meant. Without `past` nothing is kept behind the first match.
+  -- holds the moves of, and the match of it that is meant. Without `past` nothing is kept behind the first match.
   pub record Arrives (at : ℕ) (past : Bool) (s : ℕ) (met : Marks) (items : List (ℕ × Slots)) (row slots : Slots)
       (hit : Option PatternID) (after : Marks) (kept : List (ℕ × Slots)) (written : Slots) : Type 0 where
     pub front : Front

@@ -12,8 +12,7 @@ use std::alloc::Global;
 use std::marker::Model;
 
 /// What a PikeVM writes while it searches: the states that it follows, each with a row of slots, and its stack. A
-/// search
-/// takes no memory beside it; the caller owes a cache that is large enough: [`Cache::fits`].
+/// search takes no memory beside it; the caller owes a cache that is large enough: [`Cache::fits`].
 ///
 /// A contract sees for how many states, slots and patterns it was made, the places of its stack, and how many scans its
 /// last search made, and how many turns they took.
@@ -75,8 +74,7 @@ impl Cache {
     }
 
     /// Gives the cache the numbers of the PikeVM, also where they are smaller; memory that it has stays with it. The
-    /// error
-    /// is `Memory` alone; the cache then is as it was, and fits what it fitted.
+    /// error is `Memory` alone; the cache then is as it was, and fits what it fitted.
     pub fn reset(&mut self, vm: &PikeVM) -> Result<(), SearchError>
         ensures made { OnOk result (self.new ≡ refitted self.old vm.now.nfa) }
         ensures kept { OnErr result (self.new ≡ self.old) }

@@ -26,8 +26,7 @@ use thompson_nfa::{BuildError, NFA};
 /// A search of one NFA that follows all states side by side.
 ///
 /// Its answers are those of the match kind that was set, and of the input's `earliest`. A contract sees the NFA and
-/// that
-/// kind.
+/// that kind.
 #[derive(Debug, Drop)]
 pub struct PikeVM {
     config: Config,
@@ -316,8 +315,7 @@ impl PikeVM {
     }
 
     /// Puts the patterns of all matches into the set, also of those that overlap. The set keeps what it holds, and
-    /// gains
-    /// patterns below its capacity alone.
+    /// gains patterns below its capacity alone.
     ///
     /// With the kind `All` it gains every pattern that matches somewhere in the span; with `earliest`, those whose
     /// matches end where the first of them does. With `LeftmostFirst` a set that holds a pattern gains nothing; an

@@ -43,8 +43,7 @@ impl PikeVM {
     ghost use Rattle.nfa_search_base.specs.MatchRuns.{MatchesRun, MatchesAre, MatchesApart, MatchesFirst, MatchesNext};
 
     /// The matches of the input that do not overlap, from left to right. To make this takes no memory. The caller owes
-    /// a
-    /// cache that fits.
+    /// a cache that fits.
     ///
     /// The next match is searched for from the end of the last one. In place of an empty match where the last one ended
     /// comes what a search from one byte further on finds. The numbers of the cache stay as they are, so it fits

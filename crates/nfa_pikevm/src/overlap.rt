@@ -371,8 +371,7 @@ fn overlap_from(
 }
 
 /// Puts the patterns of the matches that the kind means, also of those that overlap, into the set, in one scan. There
-/// is
-/// none where the first match alone is meant and the set holds a pattern.
+/// is none where the first match alone is meant and the set holds a pattern.
 pub fn overlap(
     nfa: &NFA,
     kind: MatchKind,

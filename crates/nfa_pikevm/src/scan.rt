@@ -39,8 +39,7 @@ pub fn join(starts: &Starts, at: usize, threads: &mut Threads)
 }
 
 /// Lets the start state join the states at the position, or, where no state is there, at the next position where a
-/// match
-/// may begin. Where none may begin here, or at the limit, it does not join. Answers the position.
+/// match may begin. Where none may begin here, or at the limit, it does not join. Answers the position.
 fn join_or_skip(
     first: &FirstBytes,
     input: &Input<'_>,

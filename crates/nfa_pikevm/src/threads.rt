@@ -106,8 +106,7 @@ fn cross_states(
 }
 
 /// Follows the states at the position, and keeps what its byte leads to for the next one. It answers the last match,
-/// and
-/// its slots; without `past_match` it stops at the first match.
+/// and its slots; without `past_match` it stops at the first match.
 #[inline(always)]
 pub fn cross(
     nfa: &NFA,

@@ -1,7 +1,6 @@
 //! What is left where memory was refused: every call answers that it was refused, or what it answers otherwise, and the
 //! next one has its memory. A refusal is made by the option of `rt try` that refuses one allocation; `.ci/refusals`
-//! runs
-//! this once for each request that it makes.
+//! runs this once for each request that it makes.
 #![tactic(auto)]
 
 mod cases;
@@ -32,8 +31,7 @@ fn number_in(text: &[u8]) -> usize {
 
 /// Reads how many requests to make before all cases, runs these, and says what came of them: `wrong` and the case, or
 /// `ok`; whether a call said that it was refused; and whether one of the requests behind all cases was, which shows
-/// that
-/// no earlier one was.
+/// that no earlier one was.
 fn main(rt: HostRuntime) -> io::Result<ExitCode> {
     let mut text = [0; 16];
     let mut input = rt.stdin();
