@@ -5,7 +5,6 @@ use Rattle.regex_search_core.specs.declared.search.MatchKind.{MatchKind}
 use Rattle.regex_search_core.specs.declared.search.MatchKind.TheVariants.{All, LeftmostFirst}
 use Rattle.thompson_nfa.specs.Automaton.{Automaton}
 use Rattle.nfa_paths.specs.Paths.{span_len, scan_limit, turn_weight}
-use Rattle.nfa_search_base.specs.Walks.{Walk, shifted}
 use Rattle.nfa_backtrack.specs.Backtrack.{Backtracker, Work, AddsWork, CountsAnswer, CountsRefusal, max_haystack_len_of}
 use Rattle.nfa_pikevm.specs.Engines.{Pike, PikeCache, AddsWork as AddsPikeWork, Fits, SameNumbers, kind_of, refitted}
 use Rattle.nfa_choice.specs.declared.choose.Engine.{Engine}
@@ -76,11 +75,6 @@ abbrev pub RunsByRule : Choosing → Search → Choosing → Type 0
 RunsByRule old x new = MatchBool (is_for_backtracker old x)
     (BacktrackerRan x old new ⊎ PikeStoodIn x old new)
     (PikeRan x old new)
-
--- one search, or a second one from one byte further on
-abbrev pub AsksOnceOrTwice : Choosing → Walk → Choosing → Type 0
-AsksOnceOrTwice old w new = RunsByRule old w.at new
-    ⊎ ((between : Choosing) × RunsByRule old w.at between × RunsByRule between (shifted w).at new)
 
 -- what a search leaves as it is
 pub record KeepsEngines (old new : Choosing) : Type 0 where

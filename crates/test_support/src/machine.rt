@@ -3,7 +3,7 @@
 use crate::made::MakeError;
 use regex_search_core::{GroupInfo, PatternID, StateID};
 use std::alloc::Global;
-use thompson_nfa::{BuildError, Look, NFA, State, Transition};
+use thompson_nfa::{Look, NFA, State, Transition};
 
 /// An NFA in the making: its states in the order of their numbers, and its patterns. It is not in UTF-8 mode and said
 /// to have no empty match, until that is changed.
@@ -115,7 +115,7 @@ impl Machine {
 
     /// Adds a state at which the pattern matches.
     pub fn accept(&mut self, pattern: usize) -> Result<(), MakeError> {
-        let pattern_id = PatternID::new(pattern).ok_or(MakeError::Malformed(BuildError::Pattern))?;
+        let pattern_id = PatternID::new(pattern).ok_or(MakeError::TooLarge)?;
         self.states.push(State::Match { pattern_id })?;
         Ok(())
     }
@@ -138,7 +138,7 @@ impl Machine {
 
     /// The NFA with these two starts.
     pub fn build(self, anchored: usize, unanchored: usize) -> Result<NFA, MakeError> {
-        let groups = GroupInfo::new(self.groups).ok_or(MakeError::Malformed(BuildError::Groups))?;
+        let groups = GroupInfo::new(self.groups).ok_or(MakeError::TooLarge)?;
         Ok(NFA::from_states(
             self.states,
             state_id(anchored)?,
@@ -152,7 +152,7 @@ impl Machine {
 }
 
 fn state_id(index: usize) -> Result<StateID, MakeError> {
-    StateID::new(index).ok_or(MakeError::Malformed(BuildError::State))
+    StateID::new(index).ok_or(MakeError::TooLarge)
 }
 
 fn transition(start: u8, end: u8, next: usize) -> Result<Transition, MakeError> {

@@ -50,6 +50,8 @@ pub enum MakeError {
     Memory,
     /// No sample has that name.
     UnknownName,
+    /// A number of a state or a pattern, or of slots, is too large.
+    TooLarge,
     /// The states make no NFA.
     Malformed(BuildError),
 }

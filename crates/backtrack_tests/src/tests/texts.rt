@@ -28,7 +28,7 @@ fn an_iterator_over_an_engine_is_shown(rt: HostRuntime) -> Result<(), Fail> {
     let mut cache = engine.create_cache(alloc);
     let matches = engine.try_find_iter(&mut cache, Input::new(b"ab"));
     let want = format!(in alloc;
-        "TryFindMatches {{ engine: BoundedBacktracker {{ config: Config {{ visited_capacity: None }}, first: FirstBytes {{ .. }}, nfa: {NEVER} }}, cache: {UNUSED}, searcher: {FRESH}, known: None, done: false }}"
+        "TryFindMatches {{ cache: {UNUSED}, steps: Steps {{ searcher: {FRESH}, asker: Finder {{ engine: BoundedBacktracker {{ config: Config {{ visited_capacity: None }}, first: FirstBytes {{ .. }}, nfa: {NEVER} }}, known: None }}, done: false }} }}"
     )?;
     assert_eq!(rt; format!(in alloc; "{matches:?}")?.as_str(), want.as_str());
     Ok(())
