@@ -3,7 +3,7 @@
 use crate::{Draft, DraftError, Expr};
 use std::alloc::Global;
 use std::test::Fail;
-use thompson_nfa::{BuildError, Look, NFA, State};
+use thompson_nfa::{BuildError, Look, NFA, State, Transition};
 
 const DIGIT: Expr<'static> = Expr::Bytes(&[(b'0', b'9')]);
 
@@ -213,32 +213,51 @@ fn errors_are_told(rt: HostRuntime) -> Result<(), Fail> {
     Ok(())
 }
 
+/// The bytes of a transition in hexadecimal.
+fn bytes_text(alloc: Global, trans: &Transition) -> Result<String, Fail> {
+    if trans.start == trans.end {
+        return Ok(format!(in alloc; "{:02X} ", trans.start)?);
+    }
+    Ok(format!(in alloc; "{:02X}-{:02X} ", trans.start, trans.end)?)
+}
+
+/// A slot in decimal.
+fn slot_text(alloc: Global, slot: usize) -> Result<String, Fail> {
+    Ok(format!(in alloc; "{slot} ")?)
+}
+
+/// The pattern of a Match.
+fn match_text(alloc: Global, pattern: usize) -> Result<String, Fail> {
+    Ok(format!(in alloc; ") {pattern}")?)
+}
+
+/// What a state does, and the state after it, if it has just one.
+fn step_text(alloc: Global, state: &State) -> Result<(String, Option<usize>), Fail> {
+    match state {
+        State::ByteRange { trans } => {
+            Ok((bytes_text(alloc, trans)?, Some(trans.next.as_usize())))
+        }
+        State::Capture { next, slot } => Ok((slot_text(alloc, *slot)?, Some(next.as_usize()))),
+        State::Match { pattern_id } => Ok((match_text(alloc, pattern_id.as_usize())?, None)),
+        _ => Ok((String::new(alloc), None)),
+    }
+}
+
 /// The states from this one to the first that has not one next state, as their slots in decimal and their bytes in
 /// hexadecimal, and the pattern if it is a Match.
 fn way(alloc: Global, nfa: &NFA, start: usize) -> Result<String, Fail> {
     let mut text = String::from_str(alloc, "(")?;
     let mut at = start;
     for _ in 0..nfa.states().len() {
-        at = match nfa.states().get(at) {
-            Some(State::ByteRange { trans }) if trans.start == trans.end => {
-                text.push_str(format!(in alloc; "{:02X} ", trans.start)?.as_str())?;
-                trans.next.as_usize()
-            }
-            Some(State::ByteRange { trans }) => {
-                let range = format!(in alloc; "{:02X}-{:02X} ", trans.start, trans.end)?;
-                text.push_str(range.as_str())?;
-                trans.next.as_usize()
-            }
-            Some(State::Capture { next, slot }) => {
-                text.push_str(format!(in alloc; "{slot} ")?.as_str())?;
-                next.as_usize()
-            }
-            Some(State::Match { pattern_id }) => {
-                text.push_str(format!(in alloc; ") {}", pattern_id.as_usize())?.as_str())?;
-                break;
-            }
-            _ => break,
+        let Some(state) = nfa.states().get(at) else {
+            break;
         };
+        let (step, next) = step_text(alloc, state)?;
+        text.push_str(step.as_str())?;
+        let Some(next) = next else {
+            break;
+        };
+        at = next;
     }
     Ok(text)
 }
