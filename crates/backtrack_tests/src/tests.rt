@@ -1,6 +1,5 @@
 //! Tests of the backtracker.
 
-mod callers;
 mod calls;
 mod engines;
 mod iteration;

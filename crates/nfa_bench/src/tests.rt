@@ -1,5 +1,4 @@
 use crate::run::run;
-use std::alloc::Global;
 use std::io;
 use std::io::Write;
 use std::test::Fail;
@@ -126,38 +125,6 @@ fn writes_nothing_after_a_write_that_failed(rt: HostRuntime) -> Result<(), Fail>
             }
         }
         assert!(rt; taken_all);
-    }
-    Ok(())
-}
-
-// The text, so many times.
-fn repeated(alloc: Global, text: &str, count: usize) -> Result<String, Fail> {
-    let mut all = String::new(alloc);
-    for _ in 0..count {
-        all.push_str(text)?;
-    }
-    Ok(all)
-}
-
-// An engine, a name, how often which text is the haystack, and what is printed. A haystack of 19972 full stops is too
-// long for the backtracker alone, and offsets have more digits than one.
-#[test]
-fn prints_what_each_engine_finds(rt: HostRuntime) -> Result<(), Fail> {
-    let alloc = rt.alloc();
-    for &(engine, name, text, count, want, status) in &[
-        ("pike", "alnum100", ".", 19972, "end\n", 0),
-        ("back", "abc_a", "..........abc", 1, "0 10..13\nend\n", 0),
-        ("pike", "abc_a", "..........abc", 1, "0 10..13\nend\n", 0),
-        ("back", "abc_a", "x y z ", 1, "end\n", 0),
-        ("pike", "empty", "", 0, "0 0..0\nend\n", 0),
-        ("back", "abc", ".", 100000, "end\n", 0),
-        ("pike", "abc", ".", 100000, "end\n", 0),
-    ] {
-        let haystack = repeated(alloc, text, count)?;
-        let mut out = Vec::new(alloc);
-        let ended = run(alloc, &[engine, name, haystack.as_str()], &mut out);
-        assert_eq!(rt; out.as_slice(), want.as_bytes(), "{engine} {name} {count}");
-        assert_eq!(rt; ended, status, "{engine} {name} {count}");
     }
     Ok(())
 }

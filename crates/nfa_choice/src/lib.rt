@@ -3,5 +3,3 @@
 #![tactic(auto)]
 
 pub mod choose;
-#[cfg(test)]
-mod tests;

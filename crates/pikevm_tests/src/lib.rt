@@ -1,4 +1,4 @@
-//! Tests of the PikeVM on sample NFAs, and callers that use what its iterator promises.
+//! Tests of the PikeVM on sample NFAs, and of both engines side by side.
 #![tactic(auto)]
 
 #[cfg(test)]

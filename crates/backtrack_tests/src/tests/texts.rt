@@ -1,12 +1,11 @@
 ghost use Rattle.std.specs.Prelude.{Ok};
 ghost use Rattle.regex_search_core.specs.Search.{search_of};
-ghost use Rattle.nfa_search_base.specs.Finders.{half_place};
+ghost use Rattle.nfa_search_base.specs.Finders.{half_place, match_place};
 ghost use Rattle.nfa_search_base.specs.Walks.{LiesIn};
 
-use super::callers::next_piece;
 use nfa_engines::backtrack::BoundedBacktracker;
 use nfa_engines::iter::Searcher;
-use regex_search_core::{HalfMatch, Input, PatternID};
+use regex_search_core::{HalfMatch, Input, Match, PatternID, Span};
 use std::test::Fail;
 
 const FRESH: &str =
@@ -32,6 +31,22 @@ fn an_iterator_over_an_engine_is_shown(rt: HostRuntime) -> Result<(), Fail> {
     )?;
     assert_eq!(rt; format!(in alloc; "{matches:?}")?.as_str(), want.as_str());
     Ok(())
+}
+
+// The match that takes at most `len` bytes from the start of the span.
+fn next_piece(input: &Input<'_>, len: usize) -> Option<Match>
+    ensures { LiesIn (search_of input.now) (match_place (Ok result)) }
+{
+    let start = input.start();
+    let end = input.end();
+    if start > end {
+        return None;
+    }
+    let end = if end - start > len { start + len } else { end };
+    match PatternID::new(0) {
+        Some(pattern) => Some(Match::new(pattern, Span { start, end })),
+        None => unreachable!(),
+    }
 }
 
 // The end of the next byte, or of the span where no byte is left.

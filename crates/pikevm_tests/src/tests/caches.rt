@@ -1,13 +1,12 @@
-//! Which caches fit which engines, and serve them.
-
+use super::{found_text, pikevm, slots_text};
+use nfa_engines::error::SearchError;
 use nfa_engines::pikevm::{Cache, PikeVM};
 use nfa_samples::answers::{GROUPS_ON_AB, OF_SLOT_LENS};
+use nfa_samples::sample;
 use regex_search_core::{Anchored, Input, NonMaxUsize, PatternID};
 use std::alloc::Global;
 use std::process::Abort;
 use std::test::Fail;
-use test_support::made::pikevm;
-use test_support::text::{piked_match, piked_slots};
 
 // `groups` on "ab" fills its six slots.
 fn expect_groups(rt: &impl Abort, groups: &PikeVM, cache: &mut Cache) {
@@ -24,14 +23,12 @@ fn expect_groups(rt: &impl Abort, groups: &PikeVM, cache: &mut Cache) {
 fn expect_abc(rt: &impl Abort, alloc: Global, abc: &PikeVM, cache: &mut Cache) -> Result<(), Fail> {
     for &(haystack, slot_len, want) in OF_SLOT_LENS {
         let input = Input::new(haystack.as_bytes()).anchored(Anchored::Yes);
-        assert!(rt; cache.fits(abc));
-        let text = piked_slots(alloc, abc, cache, &input, slot_len)?;
+        let text = slots_text(rt, alloc, abc, cache, &input, slot_len)?;
         assert_eq!(rt; text.as_str(), want, "{slot_len} slots on {haystack}");
     }
     let unknown = PatternID::new(5).ok_or("too great a number")?;
     let input = Input::new(b"abc").anchored(Anchored::Pattern(unknown));
-    assert!(rt; cache.fits(abc));
-    let text = piked_slots(alloc, abc, cache, &input, 4)?;
+    let text = slots_text(rt, alloc, abc, cache, &input, 4)?;
     assert_eq!(rt; text.as_str(), "none - - - -");
     Ok(())
 }
@@ -93,10 +90,40 @@ fn one_cache_serves_one_engine_after_the_other(rt: HostRuntime) -> Result<(), Fa
         for &(name, haystack, want) in searches {
             let vm = pikevm(alloc, name)?;
             let input = Input::new(haystack.as_bytes());
-            assert!(rt; cache.fits(&vm));
-            let text = piked_match(alloc, &vm, &mut cache, input)?;
+            let text = found_text(&rt, alloc, &vm, &mut cache, input)?;
             assert_eq!(rt; text.as_str(), want, "{name} with a cache for {made_for}");
         }
     }
+    Ok(())
+}
+
+// The engine, of an NFA that was refused memory once at most.
+fn made(alloc: Global, name: &str) -> Result<PikeVM, Fail> {
+    let nfa = match sample(alloc, name) {
+        Ok(nfa) => nfa,
+        Err(_) => sample(alloc, name)?,
+    };
+    Ok(PikeVM::new_from_nfa(nfa.ok_or("unknown name")?)?)
+}
+
+// Meant for runs in which one allocation, whichever, is refused: the cache then fits what it fitted, and a second reset
+// has its memory.
+#[test]
+fn a_refused_reset_changes_nothing(rt: HostRuntime) -> Result<(), Fail> {
+    let alloc = rt.alloc();
+    let (groups, alnum100) = (made(alloc, "groups")?, made(alloc, "alnum100")?);
+    let mut cache = match groups.create_cache(alloc) {
+        Ok(cache) => cache,
+        Err(error) => {
+            assert_eq!(rt; error, SearchError::Memory);
+            groups.create_cache(alloc)?
+        }
+    };
+    if let Err(error) = cache.reset(&alnum100) {
+        assert_eq!(rt; error, SearchError::Memory);
+        expect_groups(&rt, &groups, &mut cache);
+        cache.reset(&alnum100)?;
+    }
+    assert!(rt; cache.fits(&alnum100));
     Ok(())
 }

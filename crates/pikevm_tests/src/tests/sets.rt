@@ -1,12 +1,10 @@
-//! Sets of overlapping matches.
-
+use super::{input_in, of_kind};
 use nfa_engines::pikevm::{Cache, PikeVM};
 use regex_search_core::MatchKind::{All, LeftmostFirst};
 use regex_search_core::{Input, MatchKind, PatternID, PatternSet};
 use std::alloc::Global;
 use std::process::Abort;
 use std::test::Fail;
-use test_support::made::{input_in, of_kind};
 
 // A name, a kind, a haystack, the capacity of a set, and the patterns that an empty set gains: in a search, and in one
 // with `earliest`.
@@ -88,7 +86,7 @@ fn an_empty_set_gains_what_matches_in_a_span(rt: HostRuntime) -> Result<(), Fail
         let vm = of_kind(alloc, name, All)?;
         let mut cache = vm.create_cache(alloc)?;
         let mut set = PatternSet::new(alloc, capacity)?;
-        let input = input_in(haystack.as_bytes(), start, end, anchored).ok_or("no span")?;
+        let input = input_in(&rt, haystack.as_bytes(), start, end, anchored);
         let text = set_text(&rt, alloc, &vm, &mut cache, &input, &mut set)?;
         assert_eq!(rt;
             text.as_str(),

@@ -1,10 +1,11 @@
-//! Both engines over each sample, each span of some haystacks, and three ways to be anchored.
-
+use super::pikevm;
+use nfa_engines::backtrack::{self, BoundedBacktracker};
+use nfa_engines::pikevm::{self, PikeVM};
+use nfa_samples::sample;
 use regex_search_core::{Anchored, Input, NonMaxUsize, PatternID};
 use std::alloc::Global;
 use std::process::Abort;
 use std::test::Fail;
-use test_support::engines::Engines;
 
 // A name, and the number that `fold` makes of the answers of all searches of `sum_of_answers`. The numbers were made of
 // the answers of regex-automata 0.4.18, whose two engines agree on all of them. Where three numbers are one, the NFA
@@ -40,8 +41,7 @@ const SUMS: &[(&str, u64)] = &[
     ("six", 13687004155275439929),
 ];
 
-/// Haystacks of which both engines search each span.
-pub const HAYSTACKS: &[&[u8]] = &[
+const HAYSTACKS: &[&[u8]] = &[
     b"",
     b"a",
     b"ab",
@@ -73,20 +73,28 @@ fn fold_answer(sum: u64, pattern: Option<PatternID>, slots: &[Option<NonMaxUsize
     sum
 }
 
-// Both engines, with the slots that they write.
+// Both engines, with what they write.
 #[derive(Drop)]
 struct Both {
-    engines: Engines,
+    backtracker: BoundedBacktracker,
+    marks: backtrack::Cache,
+    vm: PikeVM,
+    threads: pikevm::Cache,
     slots: Vec<Option<NonMaxUsize>>,
     same_slots: Vec<Option<NonMaxUsize>>,
 }
 
 impl Both {
     fn new(alloc: Global, name: &str) -> Result<Both, Fail> {
-        let engines = Engines::of_sample(alloc, name)?;
-        let slot_len = engines.slot_len();
+        let nfa = sample(alloc, name)?.ok_or("unknown name")?;
+        let backtracker = BoundedBacktracker::new_from_nfa(nfa)?;
+        let vm = pikevm(alloc, name)?;
+        let slot_len = vm.get_nfa().group_info().slot_len();
         Ok(Both {
-            engines,
+            marks: backtracker.create_cache(alloc),
+            threads: vm.create_cache(alloc)?,
+            backtracker,
+            vm,
             slots: vec![in alloc; NonMaxUsize::new(7); slot_len]?,
             same_slots: vec![in alloc; NonMaxUsize::new(8); slot_len]?,
         })
@@ -94,16 +102,20 @@ impl Both {
 
     // The answer that both give.
     fn fold_search(&mut self, rt: &impl Abort, sum: u64, input: &Input<'_>) -> Result<u64, Fail> {
-        let Both {
-            engines,
-            slots,
-            same_slots,
-        } = self;
-        let (found, same) = engines.search_slots(input, slots, same_slots);
-        let found = found?;
+        let found = self
+            .backtracker
+            .try_search_slots(&mut self.marks, input, &mut self.slots)?;
+        assert!(rt; self.threads.fits(&self.vm));
+        let same = self
+            .vm
+            .search_slots(&mut self.threads, input, &mut self.same_slots);
         assert_eq!(rt; found, same, "{input:?}");
-        assert_eq!(rt; slots.as_slice(), same_slots.as_slice(), "{input:?}");
-        Ok(fold_answer(sum, found, slots.as_slice()))
+        assert_eq!(rt;
+            self.slots.as_slice(),
+            self.same_slots.as_slice(),
+            "{input:?}"
+        );
+        Ok(fold_answer(sum, found, self.slots.as_slice()))
     }
 }
 
