@@ -1,4 +1,4 @@
-//! Tests of the PikeVM on sample NFAs, and of both engines side by side.
+//! Both engines side by side over the sample NFAs.
 #![tactic(auto)]
 
 #[cfg(test)]

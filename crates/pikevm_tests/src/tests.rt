@@ -1,7 +1,4 @@
-mod caches;
 mod grid;
-mod searches;
-mod sets;
 
 use nfa_engines::pikevm::{Cache, Config, PikeVM};
 use nfa_samples::sample;
