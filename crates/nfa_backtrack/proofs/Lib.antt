@@ -9,3 +9,4 @@ pub mod ScanLemmas
 pub mod EngineLemmas
 pub mod FindLemmas
 pub mod RunLemmas
+pub mod CaughtLemmas

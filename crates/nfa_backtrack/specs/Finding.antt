@@ -7,16 +7,28 @@ use Rattle.regex_search_core.specs.declared.search.Match.{Match}
 use Rattle.regex_search_core.specs.declared.search.MatchKind.TheVariants.{LeftmostFirst}
 use Rattle.nfa_paths.specs.Known.{IsSureMatch}
 use Rattle.nfa_paths.specs.Paths.{IsMatchAnswer, scan_limit, span_len, turn_weight}
+use Rattle.nfa_search_base.specs.Catching.{Row}
+use Rattle.nfa_search_base.specs.CaughtLists.{TellsRow}
 use Rattle.nfa_search_base.specs.Walks.{Answer}
+use Rattle.nfa_search_base.specs.declared.error.SearchError.{SearchError}
 use Rattle.nfa_search_base.specs.declared.error.SearchError.TheVariants.{HaystackTooLong, Memory}
 use Rattle.nfa_backtrack.specs.Backtrack.{Backtracker, Work, AddsWork, CountsAnswer, CountsRefusal, GrowsBlocks}
 use Rattle.nfa_backtrack.specs.Backtrack.{IsTooLong}
 
--- what one search for a match answers: too long a span is refused, and any other search has its match or no memory
+-- too long a span is refused, and for any other search there may be no memory
+abbrev pub IsRefusal : Backtracker → Search → SearchError → Type 0
+IsRefusal e x error = (IsTooLong e x × (error ≡ HaystackTooLong (span_len x)))
+    ⊎ (¬ (IsTooLong e x) × (error ≡ Memory))
+
+-- what one search for a match answers: its match, or a refusal
 abbrev pub IsFindOf : Backtracker → Search → Answer Found → Type 0
 IsFindOf e x (Ok found) = ¬ (IsTooLong e x) × IsMatchAnswer e.nfa LeftmostFirst false x found
-IsFindOf e x (Err error) = (IsTooLong e x × (error ≡ HaystackTooLong (span_len x)))
-    ⊎ (¬ (IsTooLong e x) × (error ≡ Memory))
+IsFindOf e x (Err error) = IsRefusal e x error
+
+-- what one search for captures answers: its row, or a refusal
+abbrev pub IsCatchOf : Backtracker → Search → Answer Row → Type 0
+IsCatchOf e x (Ok row) = ¬ (IsTooLong e x) × TellsRow e.nfa LeftmostFirst false x (Ok row)
+IsCatchOf e x (Err error) = IsRefusal e x error
 
 -- a match that is sure to be found, by a search that is not too long
 abbrev pub IsSureAt : Backtracker → Search → Match → Type 0
@@ -27,12 +39,12 @@ abbrev pub IsKnownFrom : Backtracker → Search → Option Match → Type 0
 IsKnownFrom e x known = ForSome known (λ m. IsSureAt e (record x { start = m.span.end }) m)
 
 -- an answer is counted as one, and an error as a refusal
-abbrev pub Counts : Answer Found → Work → Work → Type 0
+abbrev pub Counts : {X : Type 0} → Answer X → Work → Work → Type 0
 Counts (Ok found) old new = CountsAnswer old new
 Counts (Err error) old new = CountsRefusal old new
 
 -- one search was made with the cache, within the bounds of its work
-pub record SearchesOnce (e : Backtracker) (x : Search) (a : Answer Found) (old new : Work) : Type 0 where
+pub record SearchesOnce {X : Type 0} (e : Backtracker) (x : Search) (a : Answer X) (old new : Work) : Type 0 where
   pub total : AddsWork old new
   pub counts : Counts a old new
   pub scans : new.scans ≤ scan_limit e.nfa x

@@ -1,6 +1,8 @@
 pub mod Backtrack
 pub mod Begin
 pub mod Bits
+pub mod CapturesMatches
+pub mod CaptureRuns
 pub mod Finding
 pub mod FindMatches
 pub mod Walk

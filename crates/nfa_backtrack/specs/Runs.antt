@@ -26,8 +26,8 @@ pub record AreAllItems (e : Backtracker) (x : Search) (items : List (Result Matc
   pub come : ItemsLast span_of (IsFindOf e) (Fails span_of (IsFindOf e)) (fresh x) (map (item_by found_of) items)
 
 -- Where the span is too long, its refusal alone comes; else any error is that of memory.
-pub record AreRefused (e : Backtracker) (x : Search) (whole : Type 0)
-    (items : List (Result Match SearchError)) : Type 0 where
+pub record AreRefused {Y : Type 0} (e : Backtracker) (x : Search) (whole : Type 0)
+    (items : List (Result Y SearchError)) : Type 0 where
   pub long : IsTooLong e x → whole → items ≡ Err (HaystackTooLong (span_len x)) ∷ []
   pub memory : ¬ (IsTooLong e x) → All (λ item. IfErr item (λ error. error ≡ Memory)) items
 

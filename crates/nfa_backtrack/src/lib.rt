@@ -8,6 +8,7 @@
 
 mod cache;
 mod captures;
+mod captures_iter;
 mod config;
 mod engine;
 mod find_iter;
@@ -18,6 +19,7 @@ mod visited;
 mod walk;
 
 pub use cache::Cache;
+pub use captures_iter::TryCapturesMatches;
 pub use config::{Builder, Config};
 pub use engine::{BoundedBacktracker, min_visited_capacity};
 pub use find_iter::TryFindMatches;

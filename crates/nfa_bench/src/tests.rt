@@ -1,6 +1,8 @@
 use crate::run::run;
+use std::alloc::Global;
 use std::io;
 use std::io::Write;
+use std::process::Abort;
 use std::test::Fail;
 
 const USAGE: &str = "usage: nfa-bench back|pike NAME HAYSTACK\n";
@@ -127,4 +129,61 @@ fn writes_nothing_after_a_write_that_failed(rt: HostRuntime) -> Result<(), Fail>
         assert!(rt; taken_all);
     }
     Ok(())
+}
+
+// The engine prints this, and ends well.
+fn expect_printed(
+    rt: &impl Abort,
+    alloc: Global,
+    engine: &str,
+    name: &str,
+    haystack: &str,
+    want: &str,
+) {
+    let mut out = Vec::new(alloc);
+    let ended = run(alloc, &[engine, name, haystack], &mut out);
+    assert_eq!(rt; out.as_slice(), want.as_bytes(), "{engine} {name}");
+    assert_eq!(rt; ended, 0, "{engine} {name}");
+}
+
+// A haystack of 19972 full stops is too long for the backtracker alone.
+#[test]
+fn the_pikevm_takes_any_length(rt: HostRuntime) -> Result<(), Fail> {
+    let alloc = rt.alloc();
+    let dots = ".".repeat(alloc, 19972)?;
+    expect_printed(&rt, alloc, "pike", "alnum100", dots.as_str(), "end\n");
+    Ok(())
+}
+
+#[test]
+fn each_engine_takes_a_long_haystack(rt: HostRuntime) -> Result<(), Fail> {
+    let alloc = rt.alloc();
+    let dots = ".".repeat(alloc, 100000)?;
+    expect_printed(&rt, alloc, "back", "abc", dots.as_str(), "end\n");
+    expect_printed(&rt, alloc, "pike", "abc", dots.as_str(), "end\n");
+    Ok(())
+}
+
+// Offsets have more digits than one, and a haystack may have spaces, or be empty.
+#[test]
+fn prints_what_each_engine_finds(rt: HostRuntime) {
+    let alloc = rt.alloc();
+    expect_printed(
+        &rt,
+        alloc,
+        "back",
+        "abc_a",
+        "..........abc",
+        "0 10..13\nend\n",
+    );
+    expect_printed(
+        &rt,
+        alloc,
+        "pike",
+        "abc_a",
+        "..........abc",
+        "0 10..13\nend\n",
+    );
+    expect_printed(&rt, alloc, "back", "abc_a", "x y z", "end\n");
+    expect_printed(&rt, alloc, "pike", "empty", "", "0 0..0\nend\n");
 }

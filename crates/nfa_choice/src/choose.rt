@@ -122,7 +122,8 @@ impl Choice {
     pub fn ran(&self) -> Option<Engine>
         ensures { result ≡ self.now.ran }
     {
-        self.ran
+        let Choice { ran, .. } = self;
+        *ran
     }
 
     /// The NFA that this searches for.
@@ -150,8 +151,8 @@ impl Choice {
     fn is_for_backtracker(&self, input: &Input<'_>) -> bool
         ensures { result ≡ is_for_backtracker self.now (search_of input.now) }
     {
-        self.pike.get_config().get_match_kind() == MatchKind::LeftmostFirst
-            && !input.get_earliest()
+        !input.get_earliest()
+            && self.pike.get_config().get_match_kind() == MatchKind::LeftmostFirst
             && input.get_span().len() <= self.back.max_haystack_len()
     }
 

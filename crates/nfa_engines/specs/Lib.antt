@@ -1,14 +1,19 @@
 pub mod CapacityLaws
+pub mod CapturesLaws
 pub mod GapLaws
 pub mod IterationLaws
 pub mod Laws
 pub mod ListLaws
 pub mod SetLaws
 pub use Rattle.nfa_backtrack.specs.Backtrack
+pub use Rattle.nfa_backtrack.specs.CaptureRuns as BacktrackCaptureRuns
+pub use Rattle.nfa_backtrack.specs.CapturesMatches as BacktrackCapturesMatches
 pub use Rattle.nfa_backtrack.specs.Finding as BacktrackFinding
 pub use Rattle.nfa_backtrack.specs.FindMatches as BacktrackFindMatches
 pub use Rattle.nfa_backtrack.specs.Runs as BacktrackRuns
 pub use Rattle.nfa_pikevm.specs.Engines
+pub use Rattle.nfa_pikevm.specs.CaptureRuns as PikeVMCaptureRuns
+pub use Rattle.nfa_pikevm.specs.CapturesMatches as PikeVMCapturesMatches
 pub use Rattle.nfa_pikevm.specs.Finding as PikeVMFinding
 pub use Rattle.nfa_pikevm.specs.FindMatches as PikeVMFindMatches
 pub use Rattle.nfa_pikevm.specs.Runs as PikeVMRuns
@@ -18,6 +23,8 @@ pub use Rattle.nfa_paths.specs.Overlaps
 pub use Rattle.nfa_paths.specs.Paths
 pub use Rattle.nfa_search_base.specs.Asking
 pub use Rattle.nfa_search_base.specs.Catching
+pub use Rattle.nfa_search_base.specs.CaughtLists
+pub use Rattle.nfa_search_base.specs.CaughtRuns
 pub use Rattle.nfa_search_base.specs.Finders
 pub use Rattle.nfa_search_base.specs.Items
 pub use Rattle.nfa_search_base.specs.Lists

@@ -2,6 +2,8 @@
 ghost use Rattle.regex_search_core.specs.declared.search.MatchKind.TheVariants.{All, LeftmostFirst};
 ghost use Rattle.std.specs.Prelude.{true, false};
 ghost use Rattle.nfa_engines.specs.CapacityLaws.{LeastCapacityIsEnough, LongerIsRefused, LongestLengthFits};
+ghost use Rattle.nfa_engines.specs.CapturesLaws.{CapturesUpToRefusal, EverySearchHasRows, FirstRowsAreMatches};
+ghost use Rattle.nfa_engines.specs.CapturesLaws.{OneRowList, RowsAreMatches, RowsAsLeftmost};
 ghost use Rattle.nfa_engines.specs.GapLaws.{NoneIsNoPath, NoneStartsBefore};
 ghost use Rattle.nfa_engines.specs.IterationLaws.{AtMostMatches, EndsIncrease};
 ghost use Rattle.nfa_engines.specs.Laws.{AnswersAgree, EveryScanHasAnAnswer, EverySearchHasAnAnswer, FewerSlots};
@@ -122,4 +124,18 @@ pub fn one_list_of_matches()
 pub fn matches_are_apart()
     ensures apart { MatchesAreApart }
     ensures count { AtMostInList 1 }
+{}
+
+/// A search has one list of its captures: of the pattern and the slots of each of its answers. Their matches are the
+/// list of its matches, so the iterators over captures and over matches agree in number, patterns and spans. Where a
+/// copy was refused the captures are the first ones of the list, then comes `Memory`, and then the end. So the list of
+/// a PikeVM that is asked for leftmost first matches, and not for the earliest, is that of a backtracker over the same
+/// NFA and input, where that one gives no error.
+pub fn one_list_of_captures()
+    ensures exists { EverySearchHasRows }
+    ensures one { OneRowList }
+    ensures engines { RowsAsLeftmost LeftmostFirst }
+    ensures matches { RowsAreMatches }
+    ensures first { FirstRowsAreMatches }
+    ensures refused { CapturesUpToRefusal }
 {}

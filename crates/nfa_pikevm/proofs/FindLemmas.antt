@@ -105,7 +105,7 @@ find-ok vm t (Ok found) h = refl
 find-ok vm t (Err error) h = absurd h
 
 -- a cache that has the same numbers fits what it fitted
-still-fits : (old new : PikeCache) (nfa nfa' : Automaton) → nfa' ≡ nfa → SameNumbers old new → Fits old nfa
+pub still-fits : (old new : PikeCache) (nfa nfa' : Automaton) → nfa' ≡ nfa → SameNumbers old new → Fits old nfa
     → Fits new nfa'
 still-fits old new nfa nfa' same k fits = subst (λ (a : Automaton). Fits new a) (sym same) (record {
   states = rw k.states fits.states;
@@ -197,7 +197,7 @@ pike-acts vm x s t a s' same is asked = (
 pub same_numbers : (a : PikeCache) → SameNumbers a a
 same_numbers a = record { states = refl; slots = refl; patterns = refl; places = refl }
 
-same_numbers-then : (a b c : PikeCache) → SameNumbers a b → SameNumbers b c → SameNumbers a c
+pub same_numbers-then : (a b c : PikeCache) → SameNumbers a b → SameNumbers b c → SameNumbers a c
 same_numbers-then a b c f g = record {
   states = g.states ∙ f.states;
   slots = g.slots ∙ f.slots;

@@ -24,3 +24,4 @@ pub mod OverlapLoopLemmas
 pub mod OverlapScanLemmas
 pub mod OverlapSetLemmas
 pub mod OverlapTurnLemmas
+pub mod CaughtLemmas

@@ -7,3 +7,5 @@ pub mod Finding
 pub mod FindMatches
 pub mod Overlapping
 pub mod Runs
+pub mod CapturesMatches
+pub mod CaptureRuns

@@ -20,8 +20,9 @@ impl PikeVM {
         ensures answer { let x = search_of input.now in
             IsAnswer self.now.nfa (kind_of self.now) x.earliest x captures.new.pattern captures.new.slots }
         ensures groups { captures.new.groups ≡ captures.old.groups }
-        ensures size { length captures.new.slots ≡ length captures.old.slots }
-        ensures none { IfNone captures.new.pattern (captures.new.slots ≡ replicate (length captures.old.slots) None) }
+        ensures count { length captures.new.slots ≡ length captures.old.slots }
+        ensures unmatched { IfNone captures.new.pattern
+            (captures.new.slots ≡ replicate (length captures.old.slots) None) }
         ensures pattern { IfSome captures.new.pattern (λ p. p < length self.now.nfa.patterns) }
         ensures inside { All (IsSlotInside (search_of input.now)) captures.new.slots }
 
@@ -31,7 +32,8 @@ impl PikeVM {
         ensures work { let x = search_of input.now in
             IsWork self.now.nfa (kind_of self.now) x.earliest x cache.new.scans cache.new.turns }
         ensures scans { cache.new.scans ≤ scan_limit self.now.nfa (search_of input.now) }
-        ensures turns { cache.new.turns ≤ cache.new.scans * ((1 + turn_weight self.now.nfa) * (span_len (search_of input.now) + 1)) }
+        ensures turns { cache.new.turns
+            ≤ cache.new.scans * ((1 + turn_weight self.now.nfa) * (span_len (search_of input.now) + 1)) }
     {
         let slots = captures.slots_mut();
         let pattern = self.search_slots(cache, input, slots);
@@ -46,8 +48,9 @@ impl PikeVM {
         ensures answer { let x = search_of input.entry in
             IsAnswer self.now.nfa (kind_of self.now) x.earliest x captures.new.pattern captures.new.slots }
         ensures groups { captures.new.groups ≡ captures.old.groups }
-        ensures size { length captures.new.slots ≡ length captures.old.slots }
-        ensures none { IfNone captures.new.pattern (captures.new.slots ≡ replicate (length captures.old.slots) None) }
+        ensures count { length captures.new.slots ≡ length captures.old.slots }
+        ensures unmatched { IfNone captures.new.pattern
+            (captures.new.slots ≡ replicate (length captures.old.slots) None) }
         ensures pattern { IfSome captures.new.pattern (λ p. p < length self.now.nfa.patterns) }
         ensures inside { All (IsSlotInside (search_of input.entry)) captures.new.slots }
 

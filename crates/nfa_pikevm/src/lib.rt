@@ -9,6 +9,7 @@
 mod active;
 mod cache;
 mod captures;
+mod captures_iter;
 mod closure;
 mod config;
 mod engine;
@@ -24,6 +25,7 @@ mod slot;
 mod threads;
 
 pub use cache::Cache;
+pub use captures_iter::CapturesMatches;
 pub use config::{Builder, Config};
 pub use engine::PikeVM;
 pub use find_iter::FindMatches;

@@ -10,3 +10,5 @@ pub mod WalkLemmas
 pub mod ListLemmas
 pub mod RunLemmas
 pub mod MatchRunLemmas
+pub mod CaughtLemmas
+pub mod CaughtRunLemmas

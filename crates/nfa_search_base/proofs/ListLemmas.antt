@@ -35,7 +35,7 @@ use Rattle.nfa_search_base.proofs.WalkLemmas.{IsOrdered}
 some-injective : {A : Type 0} (a b : A) → Some a ≡ Some b → a ≡ b
 some-injective a b e = cc
 
-match-same : {X : Type 0} (x y : X) → (let a : Answer X = Ok (Some x) in let b : Answer X = Ok (Some y) in a ≡ b)
+pub match-same : {X : Type 0} (x y : X) → (let a : Answer X = Ok (Some x) in let b : Answer X = Ok (Some y) in a ≡ b)
     → x ≡ y
 match-same x y e = cc
 
@@ -247,7 +247,7 @@ module _ {X : Type 0} (span : X → Span) (tells : Search → Answer X → Type 
 abbrev pub as_items : {X : Type 0} → List X → List (Item X)
 as_items xs = map (λ x. Ok x) xs
 
-matches_in-as_items : {X : Type 0} (xs : List X) → matches_in (as_items xs) ≡ xs
+pub matches_in-as_items : {X : Type 0} (xs : List X) → matches_in (as_items xs) ≡ xs
 matches_in-as_items [] = refl
 matches_in-as_items (x ∷ xs) = ap (λ l. x ∷ l) (matches_in-as_items xs)
 

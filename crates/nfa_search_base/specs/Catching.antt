@@ -1,8 +1,10 @@
 -- finders of captures
 use Rattle.std.specs.Prelude.{◌≡◌, ◌⊎◌, ℕ, List, [], ◌∷◌, map, Option, None, Some, Result, Ok, Err, option_map}
+use Rattle.std.specs.Prelude.{unwrap_or}
 use Rattle.std.specs.Fn.{Called, Mut}
 use Rattle.std.specs.Borrow.{Bor, MutBor}
 use Rattle.std.specs.Iterator.{Drains}
+use Rattle.regex_search_core.specs.Found.{Found}
 use Rattle.regex_search_core.specs.Search.{Search, search_of}
 use Rattle.regex_search_core.specs.Slots.{Captured, match_of}
 use Rattle.regex_search_core.specs.declared.search.Input.{Input}
@@ -22,13 +24,13 @@ pub record Row : Type 0 where
 abbrev pub row_of : Captured → Row
 row_of c = record { pattern = c.pattern; slots = c.slots }
 
--- where the match of a row lies; a row without one is no match, and its span is never asked for
+-- the match of a row; a row without one is no match, and this is never asked of it
+abbrev pub row_found : Row → Found
+row_found x = unwrap_or (match_of x.pattern x.slots) (record { pattern = 0; start = 0; end = 0 })
+
+-- where it lies
 abbrev pub row_span : Row → Span
-row_span x = or_nothing (option_map span_of (match_of x.pattern x.slots))
-  where
-    or_nothing : Option Span → Span
-    or_nothing (Some p) = p
-    or_nothing None = record { start = 0; end = 0 }
+row_span x = span_of (row_found x)
 
 -- the row that captures hold, where they have a match
 abbrev pub caught : Captured → Option Row
@@ -44,11 +46,15 @@ pub record Catching (F : Type 0) : Type 0 where
   pub finder : F
   pub captures : Captured
 
--- the item is a copy of the captures that were left, which hold the row; or memory for the copy was refused
+-- the item is a copy of these captures, which hold the row; or memory for the copy was refused
+abbrev pub GivesCopy : Captured → Answer Row → Option (Result Captured SearchError) → Type 0
+GivesCopy c (Ok (Some x)) r = ((r ≡ Some (Ok c)) × (row_of c ≡ x)) ⊎ (r ≡ Some (Err Memory))
+GivesCopy c (Ok None) r = r ≡ None
+GivesCopy c (Err e) r = r ≡ Some (Err e)
+
+-- it is one of the captures that were left
 abbrev pub GivesCaptures : {F : Type 0} → Catching F → Answer Row → Option (Result Captured SearchError) → Type 0
-GivesCaptures c (Ok (Some x)) r = ((r ≡ Some (Ok c.captures)) × (row_of c.captures ≡ x)) ⊎ (r ≡ Some (Err Memory))
-GivesCaptures c (Ok None) r = r ≡ None
-GivesCaptures c (Err e) r = r ≡ Some (Err e)
+GivesCaptures c a r = GivesCopy c.captures a r
 
 -- the item is no error but a refusal of memory
 abbrev pub IsAtMostMemory : {Y : Type 0} → Option (Result Y SearchError) → Type 0

@@ -2,6 +2,8 @@ pub mod Agreement
 pub mod Asking
 pub mod Behind
 pub mod Catching
+pub mod CaughtLists
+pub mod CaughtRuns
 pub mod CaughtSteps
 pub mod EmptyFinder
 pub mod Finders

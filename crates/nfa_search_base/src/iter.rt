@@ -7,6 +7,7 @@
 //! and one more. The rule is that of regex-automata's `util::iter`.
 
 mod captures_matches;
+pub mod catching;
 mod finder;
 mod half_matches;
 pub mod laws;

@@ -1,4 +1,4 @@
-//! Both engines side by side over the sample NFAs.
+//! Tests of the PikeVM on sample NFAs, and callers that use what its iterator promises.
 #![tactic(auto)]
 
 #[cfg(test)]

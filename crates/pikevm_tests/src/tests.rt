@@ -1,11 +1,6 @@
-mod grid;
+//! Tests of the PikeVM.
 
-use nfa_engines::pikevm::PikeVM;
-use nfa_samples::sample;
-use std::alloc::Global;
-use std::test::Fail;
-
-fn pikevm(alloc: Global, name: &str) -> Result<PikeVM, Fail> {
-    let nfa = sample(alloc, name)?.ok_or("unknown name")?;
-    Ok(PikeVM::new_from_nfa(nfa)?)
-}
+mod caches;
+mod callers;
+mod searches;
+mod sets;

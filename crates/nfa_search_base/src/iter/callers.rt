@@ -5,11 +5,13 @@ ghost use Rattle.nfa_search_base.specs.Catching.{UpToRefusal, caught_by, row_of,
 ghost use Rattle.nfa_search_base.specs.EmptyFinder.{empty_answer, zero_row};
 ghost use Rattle.nfa_search_base.specs.Finders.{answer_by};
 ghost use Rattle.nfa_search_base.specs.Items.{item_by, greedy};
-ghost use Rattle.nfa_search_base.specs.Walks.{fresh, span_of};
+ghost use Rattle.nfa_search_base.specs.Walks.{IsInside, fresh, span_of};
 
 use crate::error::SearchError;
 use crate::iter::Searcher;
-use regex_search_core::{Captures, GroupInfo, Input, Match, PatternID, Span};
+use regex_search_core::{
+    Captures, GroupInfo, Input, Match, MatchError, NonMaxUsize, PatternID, Span,
+};
 use std::alloc::{AllocError, Global};
 use std::test::Fail;
 
@@ -67,6 +69,44 @@ fn captured_at_zero(input: &Input<'_>, captures: &mut Captures) -> Result<(), Se
     Ok(())
 }
 
+// Captures of an empty match of the first pattern at the start of the haystack, and an error anywhere else.
+fn captured_or_error(input: &Input<'_>, captures: &mut Captures) -> Result<(), SearchError>
+    ensures { IsInside row_span (search_of input.now) (caught_by captures.new result) }
+{
+    if input.start() > 0 {
+        return Err(SearchError::Finder(MatchError::GaveUp { offset: 7 }));
+    }
+    captures.slots_mut().fill(NonMaxUsize::new(0));
+    captures.set_pattern(PatternID::new(0));
+    Ok(())
+}
+
+fn outcome(item: Option<Result<Captures, SearchError>>) -> &'static str {
+    match item {
+        Some(Ok(captures)) => {
+            if captures.is_match() {
+                "match, "
+            } else {
+                "no match, "
+            }
+        }
+        Some(Err(SearchError::Finder(_))) => "error, ",
+        Some(Err(_)) => "another error, ",
+        None => "none, ",
+    }
+}
+
+// What five calls give.
+fn outcomes(alloc: Global, captures: Captures) -> Result<String, AllocError> {
+    let searcher = Searcher::new(Input::new(b"ab"));
+    let mut items = searcher.into_captures_iter(captures, captured_or_error);
+    let mut text = String::new(alloc);
+    for _ in 0..5 {
+        text.push_str(outcome(items.next()))?;
+    }
+    Ok(text)
+}
+
 // All items of an iterator over captures: the greedy list of that finder, up to a refusal.
 fn collected_captures(
     alloc: Global,
@@ -81,6 +121,15 @@ fn collected_captures(
     let searcher = Searcher::new(input);
     let items = searcher.into_captures_iter(captures, captured_at_zero);
     items.collect(alloc)
+}
+
+#[test]
+fn an_error_ends_captures(rt: HostRuntime) -> Result<(), Fail> {
+    let alloc = rt.alloc();
+    let groups = GroupInfo::new(vec![in alloc; Vec::new(alloc)]?).ok_or("too many slots")?;
+    let text = outcomes(alloc, Captures::matches(alloc, groups)?)?;
+    assert_eq!(rt; text.as_str(), "match, error, none, none, none, ");
+    Ok(())
 }
 
 #[test]

@@ -8,6 +8,7 @@ ghost use Rattle.nfa_search_base.specs.declared.error.SearchError.{SearchError};
 
 use crate::asking::{ask, ask_with};
 use crate::error::SearchError;
+use crate::iter::catching::{caught_item, caught_span};
 use crate::iter::place::{half_match_span, match_span};
 use regex_search_core::{Captures, HalfMatch, Input, Match, Span};
 use std::marker::Model;
@@ -202,22 +203,10 @@ where
     }
 
     fn place(&self, reply: Result<(), SearchError>) -> Option<Span> {
-        match reply {
-            Ok(()) => Some(self.captures.get_match()?.span()),
-            Err(_) => None,
-        }
+        caught_span(&self.captures, reply)
     }
 
     fn item(&self, reply: Result<(), SearchError>) -> Option<Result<Captures, SearchError>> {
-        match reply {
-            Ok(()) => match self.captures.get_match() {
-                Some(_) => match self.captures.clone() {
-                    Ok(copy) => Some(Ok(copy)),
-                    Err(_) => Some(Err(SearchError::Memory)),
-                },
-                None => None,
-            },
-            Err(error) => Some(Err(error)),
-        }
+        caught_item(&self.captures, reply)
     }
 }

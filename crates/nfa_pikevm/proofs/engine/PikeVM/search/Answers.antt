@@ -9,12 +9,12 @@ use Rattle.nfa_pikevm.proofs.engine.PikeVM.search.Goals as goal
 pub returns-clause-answer : goal.returns-clause-answer
 returns-clause-answer c = grind (arith, common_steps)
 
-pub returns-clause-size : goal.returns-clause-size
-returns-clause-size c = grind (arith, common_steps)
+pub returns-clause-count : goal.returns-clause-count
+returns-clause-count c = grind (arith, common_steps)
 
-pub returns-clause-none : goal.returns-clause-none
-returns-clause-none c =
+pub returns-clause-unmatched : goal.returns-clause-unmatched
+returns-clause-unmatched c =
     let vm = c.args.self.now in
     let x = search_of c.args.input.now in
     slots-none vm.nfa (kind_of vm) x.earliest x (length c.args.captures.now.slots) _ _ (returns-clause-answer c)
-    (returns-clause-size c)
+    (returns-clause-count c)

@@ -1,0 +1,5 @@
+use Rattle.std.proofs.Common.{◌≡◌, Ok, map}
+use Rattle.captures_tests.proofs.tests.callers.looped.Given as goal
+
+abbrev pub invariant-loop-item : goal.invariant-loop-item
+invariant-loop-item l = l.yielded ≡ map Ok l.all.items

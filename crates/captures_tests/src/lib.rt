@@ -1,0 +1,5 @@
+//! The iterators over captures of both engines, side by side.
+#![tactic(auto)]
+
+#[cfg(test)]
+mod tests;

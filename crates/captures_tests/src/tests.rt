@@ -1,0 +1,19 @@
+mod callers;
+mod refused;
+mod table;
+
+use nfa_engines::backtrack::BoundedBacktracker;
+use nfa_engines::pikevm::PikeVM;
+use nfa_samples::sample;
+use std::alloc::Global;
+use std::test::Fail;
+
+fn pikevm(alloc: Global, name: &str) -> Result<PikeVM, Fail> {
+    let nfa = sample(alloc, name)?.ok_or("unknown name")?;
+    Ok(PikeVM::new_from_nfa(nfa)?)
+}
+
+fn backtracker(alloc: Global, name: &str) -> Result<BoundedBacktracker, Fail> {
+    let nfa = sample(alloc, name)?.ok_or("unknown name")?;
+    Ok(BoundedBacktracker::new_from_nfa(nfa)?)
+}

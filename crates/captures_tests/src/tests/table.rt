@@ -1,0 +1,151 @@
+//! Lists of captures of the sample NFAs, of both engines.
+use super::callers::{collected, looped, tries_collected, tries_looped};
+use super::{backtracker, pikevm};
+use nfa_engines::Captures;
+use nfa_engines::error::SearchError;
+use std::alloc::Global;
+use std::process::Abort;
+use std::test::Fail;
+
+// A pattern, and its slots.
+type Row = (usize, &'static [Option<usize>]);
+
+// A name, a haystack, and the list of the captures that come of it.
+const LISTS: &[(&str, &[u8], &[Row])] = &[
+    ("a_bare", b"a", &[]),
+    (
+        "foo_num",
+        b"foo1 foo12 foo123",
+        &[
+            (0, &[Some(0), Some(4), Some(3), Some(4)]),
+            (0, &[Some(5), Some(10), Some(8), Some(10)]),
+            (0, &[Some(11), Some(17), Some(14), Some(17)]),
+        ],
+    ),
+    (
+        "date",
+        b"2010-03-14",
+        &[(
+            0,
+            &[
+                Some(0),
+                Some(10),
+                Some(0),
+                Some(4),
+                Some(5),
+                Some(7),
+                Some(8),
+                Some(10),
+            ],
+        )],
+    ),
+    (
+        "groups",
+        b"abac",
+        &[
+            (0, &[Some(0), Some(2), None, None, Some(0), Some(2)]),
+            (0, &[Some(2), Some(4), Some(2), Some(3), None, None]),
+        ],
+    ),
+    ("backwards", b"aa", &[]),
+    (
+        "snowman",
+        b"a\xE2\x98\x83b\xE2\x98\x83",
+        &[(0, &[Some(1), Some(4)]), (0, &[Some(5), Some(8)])],
+    ),
+    (
+        "empty",
+        b"a\xE2\x98\x83z",
+        &[
+            (0, &[Some(0), Some(0)]),
+            (0, &[Some(1), Some(1)]),
+            (0, &[Some(4), Some(4)]),
+            (0, &[Some(5), Some(5)]),
+        ],
+    ),
+    (
+        "words_numbers",
+        b"abc 1 foo 4567 0 quux",
+        &[
+            (0, &[Some(0), Some(3), None, None]),
+            (1, &[None, None, Some(4), Some(5)]),
+            (0, &[Some(6), Some(9), None, None]),
+            (1, &[None, None, Some(10), Some(14)]),
+            (1, &[None, None, Some(15), Some(16)]),
+            (0, &[Some(17), Some(21), None, None]),
+        ],
+    ),
+    ("a_or_empty", b"a\x80", &[(0, &[Some(2), Some(2)])]),
+    ("a_or_empty", b"\x80a", &[(0, &[Some(1), Some(2)])]),
+];
+
+fn is_row(captures: &Captures, row: &Row) -> bool {
+    let (pattern, slots) = *row;
+    match captures.pattern() {
+        Some(found) => found.as_usize() == pattern && have_slots(captures, slots),
+        None => false,
+    }
+}
+
+fn have_slots(captures: &Captures, slots: &[Option<usize>]) -> bool {
+    let mut same = captures.slots().len() == slots.len();
+    for (offset, wanted) in captures.slots().iter().zip(slots) {
+        let found = offset.map(|offset| offset.get());
+        same = same && found == *wanted;
+    }
+    same
+}
+
+fn assert_rows(rt: &impl Abort, items: &[Result<Captures, SearchError>], rows: &[Row], name: &str) {
+    assert_eq!(rt; items.len(), rows.len(), "{name}");
+    for (item, row) in items.iter().zip(rows) {
+        match item {
+            Ok(captures) => assert!(rt; is_row(captures, row), "{name}"),
+            Err(error) => panic!(rt; "{name}: {error}"),
+        }
+    }
+}
+
+#[test]
+fn pikevm_gives_the_lists(rt: HostRuntime) -> Result<(), Fail> {
+    let alloc = rt.alloc();
+    for &(name, text, rows) in LISTS {
+        let vm = pikevm(alloc, name)?;
+        let mut cache = vm.create_cache(alloc)?;
+        let items = collected(&vm, alloc, &mut cache, text)?;
+        assert_rows(&rt, items.as_slice(), rows, name);
+    }
+    Ok(())
+}
+
+#[test]
+fn backtracker_gives_the_lists(rt: HostRuntime) -> Result<(), Fail> {
+    let alloc = rt.alloc();
+    for &(name, text, rows) in LISTS {
+        let engine = backtracker(alloc, name)?;
+        let mut cache = engine.create_cache(alloc);
+        let items = tries_collected(&engine, alloc, &mut cache, text)?;
+        assert_rows(&rt, items.as_slice(), rows, name);
+    }
+    Ok(())
+}
+
+#[test]
+fn pikevm_gives_them_to_a_loop(rt: HostRuntime) -> Result<(), Fail> {
+    let alloc = rt.alloc();
+    let vm = pikevm(alloc, "words_numbers")?;
+    let mut cache = vm.create_cache(alloc)?;
+    let all = looped(&vm, alloc, &mut cache, b"abc 1 foo 4567 0 quux")?;
+    assert_eq!(rt; all.len(), 6);
+    Ok(())
+}
+
+#[test]
+fn backtracker_gives_them_to_a_loop(rt: HostRuntime) -> Result<(), Fail> {
+    let alloc = rt.alloc();
+    let engine = backtracker(alloc, "words_numbers")?;
+    let mut cache = engine.create_cache(alloc);
+    let all = tries_looped(&engine, alloc, &mut cache, b"abc 1 foo 4567 0 quux")?;
+    assert_eq!(rt; all.len(), 6);
+    Ok(())
+}

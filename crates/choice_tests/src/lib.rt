@@ -1,0 +1,5 @@
+//! Tests of the engine that chooses.
+#![tactic(auto)]
+
+#[cfg(test)]
+mod tests;

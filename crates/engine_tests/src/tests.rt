@@ -1,0 +1,10 @@
+//! Both engines side by side.
+
+mod choice;
+mod expected;
+mod grid;
+mod memory;
+mod odd;
+mod random;
+mod samples;
+mod shapes;

@@ -1,0 +1,238 @@
+//! Both engines over NFAs that are made by chance, from a fixed seed.
+
+use super::expected::searches_of;
+use super::grid::{SEED, Slots, fold_searches};
+use regex_search_core::Input;
+use std::alloc::Global;
+use std::process::Abort;
+use std::test::Fail;
+use test_support::engines::Engines;
+use test_support::machine::Machine;
+use test_support::made::MakeError;
+use thompson_nfa::{Look, NFA};
+
+const HAYSTACKS: &[&[u8]] = &[b"", b"ab", b"abca", b"a\xE2\x98\x83", b"\x80b a"];
+
+const COUNT: usize = 250;
+
+const FIRST_STATE: u64 = 2010;
+
+// The number that `fold` makes of the answers of all searches of all NFAs. It was made of the answers of
+// regex-automata 0.4.18, whose two engines agree on all of them, over the NFAs that the same generator made in another
+// language.
+const SUM: u64 = 10914657245099621234;
+
+// A linear congruential generator.
+#[derive(Clone, Copy, Debug)]
+struct Chance {
+    state: u64,
+}
+
+impl Chance {
+    // The next number below the bound, which is not 0.
+    fn below(&mut self, bound: usize) -> usize {
+        self.state = self
+            .state
+            .wrapping_mul(6364136223846793005)
+            .wrapping_add(1442695040888963407);
+        let number = usize::try_from(self.state >> 33).unwrap_or(0);
+        if bound == 0 { 0 } else { number % bound }
+    }
+
+    fn yes(&mut self) -> bool {
+        self.below(2) == 1
+    }
+
+    fn byte(&mut self) -> u8 {
+        match self.below(5) {
+            0 => b'a',
+            1 => b'b',
+            2 => b'c',
+            3 => b' ',
+            _ => 0x80,
+        }
+    }
+
+    fn look(&mut self) -> Look {
+        match self.below(5) {
+            0 => Look::Start,
+            1 => Look::End,
+            2 => Look::WordAscii,
+            3 => Look::WordAsciiNegate,
+            _ => Look::WordUnicode,
+        }
+    }
+}
+
+// How many states, patterns and slots an NFA has.
+#[derive(Clone, Copy, Debug)]
+struct Size {
+    states: usize,
+    patterns: usize,
+    slots: usize,
+}
+
+// An NFA of 3 to 10 states.
+fn made(alloc: Global, chance: &mut Chance) -> Result<NFA, MakeError> {
+    let mut machine = Machine::new(alloc);
+    let states = add(&mut machine, chance)?;
+    let anchored = chance.below(states);
+    let unanchored = chance.below(states);
+    machine.build(anchored, unanchored)
+}
+
+fn add(machine: &mut Machine, chance: &mut Chance) -> Result<usize, MakeError> {
+    let states = chance.below(8).saturating_add(3);
+    let patterns = chance.below(3).saturating_add(1);
+    let slots = add_patterns(machine, chance, states, patterns)?;
+    let has_empty = !chance.yes();
+    let utf8 = !chance.yes();
+    machine.set_flags(has_empty, utf8);
+    let size = Size {
+        states,
+        patterns,
+        slots,
+    };
+    for _ in 0..states {
+        add_state(machine, chance, &size)?;
+    }
+    Ok(states)
+}
+
+// One in four has no groups. The answer is the number of slots.
+fn add_patterns(
+    machine: &mut Machine,
+    chance: &mut Chance,
+    states: usize,
+    patterns: usize,
+) -> Result<usize, MakeError> {
+    let has_groups = chance.below(4) != 0;
+    let mut slots: usize = 0;
+    for _ in 0..patterns {
+        machine.pattern(chance.below(states))?;
+        if has_groups {
+            let explicit = chance.below(3);
+            machine.groups(explicit)?;
+            slots = slots.saturating_add(explicit.saturating_add(1).saturating_mul(2));
+        }
+    }
+    Ok(slots)
+}
+
+fn add_state(machine: &mut Machine, chance: &mut Chance, size: &Size) -> Result<(), MakeError> {
+    match chance.below(12) {
+        0 | 1 => add_range(machine, chance, size.states),
+        2 => add_sparse(machine, chance, size.states),
+        3 => add_dense(machine, chance, size.states),
+        4 => machine.assert(chance.look(), chance.below(size.states)),
+        5 => add_union(machine, chance, size.states),
+        6 | 7 => machine.either(chance.below(size.states), chance.below(size.states)),
+        8 => add_capture(machine, chance, size),
+        9 | 10 => machine.accept(chance.below(size.patterns)),
+        _ => machine.fail(),
+    }
+}
+
+fn add_range(machine: &mut Machine, chance: &mut Chance, states: usize) -> Result<(), MakeError> {
+    let start = chance.byte();
+    let end = if chance.yes() {
+        start.saturating_add(30)
+    } else {
+        start
+    };
+    machine.bytes(start, end, chance.below(states))
+}
+
+fn add_sparse(machine: &mut Machine, chance: &mut Chance, states: usize) -> Result<(), MakeError> {
+    let first = chance.below(states);
+    let second = chance.below(states);
+    let third = chance.below(states);
+    machine.sparse(&[
+        (b'a', b'a', first),
+        (b'b', b'c', second),
+        (0x80, 0xFF, third),
+    ])
+}
+
+fn target(chance: &mut Chance, states: usize) -> Option<usize> {
+    if chance.below(3) == 0 {
+        None
+    } else {
+        Some(chance.below(states))
+    }
+}
+
+fn add_dense(machine: &mut Machine, chance: &mut Chance, states: usize) -> Result<(), MakeError> {
+    let first = target(chance, states);
+    let second = target(chance, states);
+    let third = target(chance, states);
+    machine.dense(97, &[first, second, third])
+}
+
+fn add_union(machine: &mut Machine, chance: &mut Chance, states: usize) -> Result<(), MakeError> {
+    let first = chance.below(states);
+    let second = chance.below(states);
+    let third = chance.below(states);
+    machine.union(&[first, second, third])
+}
+
+fn add_capture(machine: &mut Machine, chance: &mut Chance, size: &Size) -> Result<(), MakeError> {
+    let next = chance.below(size.states);
+    if size.slots == 0 {
+        return machine.fail();
+    }
+    machine.capture(chance.below(size.slots), next)
+}
+
+fn expect_same_lists(
+    rt: &impl Abort,
+    alloc: Global,
+    engines: &mut Engines,
+    haystack: &[u8],
+) -> Result<(), Fail> {
+    let [first, second] = engines.list_texts(alloc, Input::new(haystack))?;
+    assert_eq!(rt; first.as_str(), second.as_str(), "{haystack:?}");
+    Ok(())
+}
+
+fn fold_haystack(
+    rt: &impl Abort,
+    alloc: Global,
+    engines: &mut Engines,
+    sum: u64,
+    haystack: &[u8],
+) -> Result<u64, Fail> {
+    expect_same_lists(rt, alloc, engines, haystack)?;
+    let mut slots = Slots::new(alloc, engines.slot_len())?;
+    let inputs = searches_of(alloc, haystack)?;
+    fold_searches(rt, engines, &mut slots, sum, &inputs)
+}
+
+fn fold_haystacks(
+    rt: &impl Abort,
+    alloc: Global,
+    engines: &mut Engines,
+    sum: u64,
+) -> Result<u64, Fail> {
+    let mut sum = sum;
+    for &haystack in HAYSTACKS {
+        sum = fold_haystack(rt, alloc, engines, sum, haystack)?;
+    }
+    Ok(sum)
+}
+
+fn fold_made(rt: &impl Abort, alloc: Global, chance: &mut Chance, sum: u64) -> Result<u64, Fail> {
+    let mut engines = Engines::new(alloc, made(alloc, chance)?)?;
+    fold_haystacks(rt, alloc, &mut engines, sum)
+}
+
+#[test]
+fn both_search_what_chance_makes(rt: HostRuntime) -> Result<(), Fail> {
+    let mut chance = Chance { state: FIRST_STATE };
+    let mut sum = SEED;
+    for _ in 0..COUNT {
+        sum = fold_made(&rt, rt.alloc(), &mut chance, sum)?;
+    }
+    assert_eq!(rt; sum, SUM);
+    Ok(())
+}

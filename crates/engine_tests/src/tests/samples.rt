@@ -1,0 +1,129 @@
+//! What both engines answer over the samples.
+
+use super::expected::{Case, expect_is_match, expect_list, expect_match, expect_slots};
+use nfa_samples::answers::{ALL, FOUND, FOUND_IN_SPAN, OF_ONE_PATTERN, OF_SLOT_LENS, SLOTS};
+use regex_search_core::{Anchored, Input, PatternID};
+use std::alloc::Global;
+use std::process::Abort;
+use std::test::Fail;
+use test_support::engines::Engines;
+use test_support::made::input_in;
+
+#[test]
+fn both_fill_the_slots_of_each_sample(rt: HostRuntime) -> Result<(), Fail> {
+    for &(name, haystack, want) in SLOTS {
+        let input = Input::new(haystack.as_bytes());
+        expect_all_slots(&rt, rt.alloc(), &Case { name, input }, want)?;
+    }
+    Ok(())
+}
+
+fn expect_all_slots(
+    rt: &impl Abort,
+    alloc: Global,
+    case: &Case<'_>,
+    want: &str,
+) -> Result<(), Fail> {
+    let mut engines = Engines::of_sample(alloc, case.name)?;
+    let slot_len = engines.slot_len();
+    expect_slots(rt, alloc, &mut engines, case, slot_len, want)
+}
+
+#[test]
+fn both_find_the_first_match(rt: HostRuntime) -> Result<(), Fail> {
+    for &(name, haystack, want) in FOUND {
+        let input = Input::new(haystack.as_bytes());
+        expect_found(&rt, rt.alloc(), &Case { name, input }, want)?;
+    }
+    Ok(())
+}
+
+#[test]
+fn both_find_the_first_match_in_a_span(rt: HostRuntime) -> Result<(), Fail> {
+    for &(name, haystack, start, end, anchored, want) in FOUND_IN_SPAN {
+        let input = input_in(haystack.as_bytes(), start, end, anchored).ok_or("no span")?;
+        expect_found(&rt, rt.alloc(), &Case { name, input }, want)?;
+    }
+    Ok(())
+}
+
+fn expect_found(rt: &impl Abort, alloc: Global, case: &Case<'_>, want: &str) -> Result<(), Fail> {
+    let mut engines = Engines::of_sample(alloc, case.name)?;
+    expect_match(rt, alloc, &mut engines, case, want)
+}
+
+// A name, a haystack, a span, whether the search may end at the earliest match, and whether there is one.
+const IS_MATCH: &[(&str, &str, usize, usize, bool, bool)] = &[
+    ("a_star", "☃", 1, 2, false, false),
+    ("a_star_bytes", "☃", 1, 2, false, true),
+    ("a_bare", "a", 0, 1, false, true),
+    ("abc", "abc", 0, 2, false, false),
+    ("snowman", "a☃b", 0, 5, false, true),
+    ("snowman", "a☃b", 0, 5, true, true),
+    ("backwards", "aa", 0, 2, false, true),
+];
+
+#[test]
+fn both_tell_whether_there_is_a_match(rt: HostRuntime) -> Result<(), Fail> {
+    for &(name, haystack, start, end, earliest, want) in IS_MATCH {
+        let input = input_in(haystack.as_bytes(), start, end, false).ok_or("no span")?;
+        let input = input.earliest(earliest);
+        expect_told(&rt, rt.alloc(), &Case { name, input }, want)?;
+    }
+    Ok(())
+}
+
+fn expect_told(rt: &impl Abort, alloc: Global, case: &Case<'_>, want: bool) -> Result<(), Fail> {
+    let mut engines = Engines::of_sample(alloc, case.name)?;
+    expect_is_match(rt, &mut engines, case, want)
+}
+
+#[test]
+fn both_take_any_number_of_slots(rt: HostRuntime) -> Result<(), Fail> {
+    let alloc = rt.alloc();
+    let mut engines = Engines::of_sample(alloc, "abc")?;
+    expect_slot_lens(&rt, alloc, &mut engines)
+}
+
+fn expect_slot_lens(rt: &impl Abort, alloc: Global, engines: &mut Engines) -> Result<(), Fail> {
+    for &(haystack, slot_len, want) in OF_SLOT_LENS {
+        let input = Input::new(haystack.as_bytes()).anchored(Anchored::Yes);
+        let case = Case { name: "abc", input };
+        expect_slots(rt, alloc, engines, &case, slot_len, want)?;
+    }
+    Ok(())
+}
+
+#[test]
+fn both_search_for_one_pattern(rt: HostRuntime) -> Result<(), Fail> {
+    for &(name, haystack, pattern, want) in OF_ONE_PATTERN {
+        let pattern = PatternID::new(pattern).ok_or("too great a number")?;
+        let input = Input::new(haystack.as_bytes()).anchored(Anchored::Pattern(pattern));
+        expect_four_slots(&rt, rt.alloc(), &Case { name, input }, want)?;
+    }
+    Ok(())
+}
+
+fn expect_four_slots(
+    rt: &impl Abort,
+    alloc: Global,
+    case: &Case<'_>,
+    want: &str,
+) -> Result<(), Fail> {
+    let mut engines = Engines::of_sample(alloc, case.name)?;
+    expect_slots(rt, alloc, &mut engines, case, 4, want)
+}
+
+#[test]
+fn both_give_all_matches(rt: HostRuntime) -> Result<(), Fail> {
+    for &(name, haystack, want) in ALL {
+        let input = Input::new(haystack);
+        expect_all(&rt, rt.alloc(), &Case { name, input }, want)?;
+    }
+    Ok(())
+}
+
+fn expect_all(rt: &impl Abort, alloc: Global, case: &Case<'_>, want: &str) -> Result<(), Fail> {
+    let mut engines = Engines::of_sample(alloc, case.name)?;
+    expect_list(rt, alloc, &mut engines, case, want)
+}

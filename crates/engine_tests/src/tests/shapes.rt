@@ -1,0 +1,114 @@
+//! NFAs that no regular expression is compiled to.
+
+use std::alloc::Global;
+use test_support::machine::Machine;
+use test_support::made::MakeError;
+use thompson_nfa::NFA;
+
+/// What an NFA looks like.
+#[derive(Clone, Copy, Debug)]
+pub enum Shape {
+    /// Two patterns that match the same, and no captures.
+    TwoBare,
+    /// A loop of unions.
+    UnionLoop,
+    /// Two ways over each byte.
+    TwoWays,
+    /// A chain of so many states, each of which leads to the next one twice, without a byte. The last is the match.
+    Chain(usize),
+    /// The same chain, of captures.
+    Captures(usize),
+    /// A union of so many states, which all read one byte; the last one reads another, and is followed by the match.
+    Fan(usize),
+    /// A chain of so many states that reads a byte at each.
+    Word(usize),
+}
+
+/// The NFA of that shape. It starts at its first state.
+pub fn nfa_of(alloc: Global, shape: Shape) -> Result<NFA, MakeError> {
+    let mut machine = Machine::new(alloc);
+    add(alloc, &mut machine, shape)?;
+    machine.build(0, 0)
+}
+
+fn add(alloc: Global, machine: &mut Machine, shape: Shape) -> Result<(), MakeError> {
+    match shape {
+        Shape::TwoBare => add_two_bare(machine),
+        Shape::UnionLoop => add_union_loop(machine),
+        Shape::TwoWays => add_two_ways(machine),
+        Shape::Chain(len) => add_chain(machine, len),
+        Shape::Captures(len) => add_captures(machine, len),
+        Shape::Fan(len) => add_fan(alloc, machine, len),
+        Shape::Word(len) => add_word(machine, len),
+    }
+}
+
+fn add_two_bare(machine: &mut Machine) -> Result<(), MakeError> {
+    machine.either(1, 3)?;
+    machine.bytes(b'a', b'a', 2)?;
+    machine.accept(0)?;
+    machine.bytes(b'a', b'a', 4)?;
+    machine.accept(1)?;
+    machine.pattern(1)?;
+    machine.pattern(3)
+}
+
+fn add_union_loop(machine: &mut Machine) -> Result<(), MakeError> {
+    machine.either(1, 2)?;
+    machine.either(0, 1)?;
+    machine.accept(0)?;
+    machine.pattern(0)
+}
+
+fn add_two_ways(machine: &mut Machine) -> Result<(), MakeError> {
+    machine.union(&[1, 2, 3])?;
+    machine.bytes(b'a', b'a', 0)?;
+    machine.bytes(b'a', b'a', 0)?;
+    machine.bytes(b'b', b'b', 4)?;
+    machine.accept(0)?;
+    machine.pattern(0)
+}
+
+fn add_chain(machine: &mut Machine, len: usize) -> Result<(), MakeError> {
+    for next in 1..len {
+        machine.either(next, next)?;
+    }
+    machine.accept(0)?;
+    machine.pattern(0)?;
+    machine.groups(5)
+}
+
+fn add_captures(machine: &mut Machine, len: usize) -> Result<(), MakeError> {
+    for next in 1..len {
+        machine.capture(next % 12, next)?;
+    }
+    machine.accept(0)?;
+    machine.pattern(0)?;
+    machine.groups(5)
+}
+
+fn add_fan(alloc: Global, machine: &mut Machine, len: usize) -> Result<(), MakeError> {
+    let mut targets = Vec::new(alloc);
+    for target in 1..len {
+        targets.push(target)?;
+    }
+    machine.union(&targets)?;
+    add_ribs(machine, len)
+}
+
+fn add_ribs(machine: &mut Machine, len: usize) -> Result<(), MakeError> {
+    for _ in 2..len {
+        machine.bytes(b'b', b'b', 0)?;
+    }
+    machine.bytes(b'a', b'a', len)?;
+    machine.accept(0)?;
+    machine.pattern(0)
+}
+
+fn add_word(machine: &mut Machine, len: usize) -> Result<(), MakeError> {
+    for next in 1..len {
+        machine.bytes(b'a', b'a', next)?;
+    }
+    machine.accept(0)?;
+    machine.pattern(0)
+}

@@ -1,0 +1,153 @@
+//! The tokens of a text, one after the other, by anchored searches.
+ghost use Rattle.std.specs.Prelude.{◌≡◌, ◌≤◌, ◌<◌, IfErr, IfOk, IfSome, drop, flat_map, length, ◌++◌};
+ghost use Rattle.nfa_engines.specs.Engines.{Fits, SameNumbers};
+ghost use Rattle.lexer.specs.Tokens.{AreTokens, IsStuck, IsToken, end_of_tokens, text_of};
+
+use nfa_engines::pikevm::{Cache, PikeVM};
+use regex_search_core::{Anchored, Input, Match, PatternID, Span};
+use std::alloc::{AllocError, Global};
+
+/// A piece of the text, of at least one byte, and the pattern that it matches.
+#[derive(Clone, Copy, Debug, PartialEq, Eq)]
+pub struct Token {
+    pub pattern: PatternID,
+    pub span: Span,
+}
+
+/// A place in the text where no token starts, and what the search there gave in place of one: nothing, a match of no
+/// bytes, or one that starts further on, which only an NFA gives that writes where a match starts late.
+#[derive(Clone, Copy, Debug, PartialEq, Eq)]
+pub struct Stuck {
+    pub at: usize,
+    pub found: Option<Match>,
+}
+
+/// The tokens of a text up to where it ends, or up to where no token starts.
+#[derive(Debug, Drop)]
+pub struct Lexed {
+    pub tokens: Vec<Token>,
+    pub stuck: Option<Stuck>,
+}
+
+/// The token that starts at this place of the text, by the search that is bound to start there.
+///
+/// The caller owes a cache that fits. A search leaves its numbers as they are.
+pub fn token_at(vm: &PikeVM, cache: &mut Cache, text: &[u8], at: usize) -> Result<Token, Stuck>
+    requires fits { Fits cache.old vm.now.nfa }
+    requires within { at < length text.now }
+    ensures token { IfOk result (IsToken vm.now text.now) }
+    ensures start { IfOk result (λ token. token.span.start ≡ at) }
+    ensures inside { IfOk result (λ token. token.span.end ≤ length text.now) }
+    ensures stuck { IfErr result (IsStuck vm.now text.now) }
+    ensures place { IfErr result (λ stuck. stuck.at ≡ at) }
+    ensures numbers { SameNumbers cache.old cache.new }
+{
+    let input = Input::new(text)
+        .range(at..text.len())
+        .anchored(Anchored::Yes);
+    let found = vm.find(cache, input);
+    if let Some(token) = found {
+        if token.start() == at && at < token.end() {
+            return Ok(Token {
+                pattern: token.pattern(),
+                span: token.span(),
+            });
+        }
+    }
+    Err(Stuck { at, found })
+}
+
+/// The tokens of a text, from its start on; behind the last one, where the text does not end there, comes where it is
+/// stuck, and then nothing.
+#[derive(Debug, Drop)]
+pub struct Lexer<'r, 'c, 't> {
+    vm: &'r PikeVM,
+    cache: &'c mut Cache,
+    text: &'t [u8],
+    at: usize,
+    stuck: bool,
+    ghost fits: { Fits cache.now vm.now.nfa },
+    ghost within: { at ≤ length text.now },
+}
+
+impl<'r, 'c, 't> Lexer<'r, 'c, 't> {
+    ghost use Rattle.std.specs.Prelude.{false};
+    ghost use Rattle.lexer.specs.Lexers.{lexer_at, lexer_cache, lexer_is_stuck, lexer_text, lexer_vm};
+
+    /// A lexer of the text. The caller owes a cache that fits. Its numbers stay as they are.
+    pub fn new(vm: &'r PikeVM, cache: &'c mut Cache, text: &'t [u8]) -> Lexer<'r, 'c, 't>
+        requires { Fits cache.old vm.now.nfa }
+        ensures same_reference { (lexer_cache result).ghost_name ≡ cache.entry.ghost_name }
+        ensures same_cache { (lexer_cache result).now ≡ cache.entry.now }
+        ensures vm { lexer_vm result ≡ vm.now }
+        ensures text { lexer_text result ≡ text.now }
+        ensures at { lexer_at result ≡ 0 }
+        ensures going { lexer_is_stuck result ≡ false }
+    {
+        Lexer {
+            vm,
+            cache,
+            text,
+            at: 0,
+            stuck: false,
+        }
+    }
+}
+
+impl<'r, 'c, 't> Iterator for Lexer<'r, 'c, 't> {
+    ghost use Rattle.lexer.specs.Lexers.{lexer_left, lexer_steps};
+
+    type Item = Result<Token, Stuck>;
+
+    ghost next_gives = { lexer_steps };
+
+    ghost remaining = { lexer_left };
+
+    fn next(&mut self) -> Option<Result<Token, Stuck>> {
+        if self.stuck || self.at >= self.text.len() {
+            return None;
+        }
+        let item = token_at(self.vm, self.cache, self.text, self.at);
+        match &item {
+            Ok(token) => self.at = token.span.end,
+            Err(_) => self.stuck = true,
+        }
+        Some(item)
+    }
+}
+
+/// The tokens of the text, from its start on. The error is that a growth was refused.
+///
+/// The caller owes a cache that fits. Its numbers stay as they are.
+#[tactic(auto, using(std::proofs::lemmas::Grind::common_steps, std::proofs::lemmas::List::Folds::drop_split))]
+pub fn tokens(
+    alloc: Global,
+    vm: &PikeVM,
+    cache: &mut Cache,
+    text: &[u8],
+) -> Result<Lexed, AllocError>
+    requires { Fits cache.old vm.now.nfa }
+    ensures tokens { IfOk result (λ lexed. AreTokens vm.now text.now lexed.tokens.items
+        (end_of_tokens lexed.stuck (length text.now))) }
+    ensures joined { IfOk result (λ lexed. flat_map (text_of text.now) lexed.tokens.items
+        ++ drop (end_of_tokens lexed.stuck (length text.now)) text.now ≡ text.now) }
+    ensures stuck { IfOk result (λ lexed. IfSome lexed.stuck (IsStuck vm.now text.now)) }
+    ensures numbers { SameNumbers cache.old cache.new }
+{
+    let mut tokens = Vec::new(alloc);
+    for item in Lexer::new(vm, cache, text) {
+        match item {
+            Ok(token) => tokens.push(token)?,
+            Err(stuck) => {
+                return Ok(Lexed {
+                    tokens,
+                    stuck: Some(stuck),
+                });
+            }
+        }
+    }
+    Ok(Lexed {
+        tokens,
+        stuck: None,
+    })
+}

@@ -1,0 +1,42 @@
+//! A line for each token.
+ghost use Rattle.std.specs.Prelude.{◌≤◌, length};
+
+use crate::lexer::{Token, tokens};
+use crate::patterns::{NAMES, SPACE, language};
+use anyhow::{Result, anyhow};
+use nfa_engines::pikevm::PikeVM;
+use std::alloc::Global;
+use std::io;
+use std::io::Write;
+
+/// Prints the tokens of the text, and whether they are the whole of it. Where they are not, the last line says at which
+/// offset no token starts. The error is that the output was not written, or memory refused; nothing more is written
+/// then.
+pub fn run<W: Write>(alloc: Global, text: &[u8], out: &mut W) -> Result<bool> {
+    let vm = PikeVM::new_from_nfa(language(alloc)?).map_err(|error| anyhow!("{error:?}"))?;
+    let mut cache = vm.create_cache(alloc)?;
+    let lexed = tokens(alloc, &vm, &mut cache, text)?;
+    for token in &lexed.tokens {
+        write_token(out, text, token)?;
+    }
+    if let Some(stuck) = &lexed.stuck {
+        let at = stuck.at;
+        writeln!(out, "no token at {at}")?;
+    }
+    out.flush()?;
+    Ok(lexed.stuck.is_none())
+}
+
+/// The pattern's name, the span, and the text, which for white space is left out.
+fn write_token<W: Write>(out: &mut W, text: &[u8], token: &Token) -> io::Result<()> {
+    let pattern = token.pattern.as_usize();
+    let name = NAMES.get(pattern).copied().unwrap_or("?");
+    let start = token.span.start;
+    let end = token.span.end;
+    write!(out, "{name} {start}..{end}")?;
+    if pattern != SPACE {
+        out.write_all(b" ")?;
+        out.write_all(text.get(start..end).unwrap_or(b""))?;
+    }
+    out.write_all(b"\n")
+}

@@ -1,0 +1,123 @@
+//! Tests of what no clause says: the language of a line, the texts that are printed, and what ends the program.
+use crate::options::Options;
+use crate::parser::Parser;
+use crate::report::run;
+use std::io;
+use std::io::Write;
+use std::test::Fail;
+
+#[test]
+fn finds_the_fields(rt: HostRuntime) -> Result<(), Fail> {
+    let mut parser = Parser::new(rt.alloc())?;
+    let line = b"2026-11-22 14:03:07 ERROR disk full";
+    let fields = parser.parse_line(line).ok_or("no fields")?;
+    for (text, want) in [
+        (fields.date(), &b"2026-11-22"[..]),
+        (fields.time(), b"14:03:07"),
+        (fields.level(), b"ERROR"),
+        (fields.message(), b"disk full"),
+    ] {
+        assert_eq!(rt; text, want);
+    }
+    Ok(())
+}
+
+#[test]
+fn knows_which_lines_match(rt: HostRuntime) -> Result<(), Fail> {
+    let mut parser = Parser::new(rt.alloc())?;
+    for (line, want) in [
+        (&b"2026-11-22 14:03:07 INFO ready"[..], true),
+        (b"2026-11-22 14:03:07 INFO ", true),
+        (b"2026-11-22 14:03:07 INFO \xFF\xFE", true),
+        (b"2026-11-22 14:03:07 INFO", false),
+        (b"2026-11-22 14:03:07 info ready", false),
+        (b"2026-11-2 14:03:07 INFO ready", false),
+        (b" 2026-11-22 14:03:07 INFO ready", false),
+        (b"2026-11-22T14:03:07 INFO ready", false),
+        (b"", false),
+    ] {
+        assert_eq!(rt; parser.parse_line(line).is_some(), want, "{line:?}");
+    }
+    Ok(())
+}
+
+#[test]
+fn prints_the_table(rt: HostRuntime) -> Result<(), Fail> {
+    let alloc = rt.alloc();
+    let log = b"2026-11-22 14:03:07 ERROR disk full\r\nnoise\n2026-11-22 14:03:08 INFO \xFF\n";
+    let table = b"DATE        TIME      LEVEL  MESSAGE\n\
+        2026-11-22  14:03:07  ERROR  disk full\n\
+        2026-11-22  14:03:08  INFO   \xFF\n\
+        ERROR 1, INFO 1, not matching 1\n";
+    let with_rejects = b"DATE        TIME      LEVEL  MESSAGE\n\
+        2026-11-22  14:03:07  ERROR  disk full\n\
+        line 2 does not match: noise\n\
+        2026-11-22  14:03:08  INFO   \xFF\n\
+        ERROR 1, INFO 1, not matching 1\n";
+    for (rejects, want) in [(false, &table[..]), (true, with_rejects)] {
+        let mut out = Vec::new(alloc);
+        run(alloc, Options { rejects }, &log[..], &mut out)?;
+        assert_eq!(rt; out.as_slice(), want, "rejects {rejects}");
+    }
+    Ok(())
+}
+
+#[test]
+fn an_empty_input_has_no_rows(rt: HostRuntime) -> Result<(), Fail> {
+    let mut out = Vec::new(rt.alloc());
+    run(rt.alloc(), Options { rejects: true }, &b""[..], &mut out)?;
+    let want = "DATE        TIME      LEVEL  MESSAGE\nnot matching 0\n";
+    assert_eq!(rt; out.as_slice(), want.as_bytes());
+    Ok(())
+}
+
+#[test]
+fn knows_its_words(rt: HostRuntime) -> Result<(), Fail> {
+    for (words, want) in [
+        (&[][..], Some(Options { rejects: false })),
+        (&["--rejects"], Some(Options { rejects: true })),
+        (&["--reject"], None),
+        (&["--rejects", "log"], None),
+    ] {
+        assert_eq!(rt; Options::from_words(words), want, "{words:?}");
+    }
+    Ok(())
+}
+
+// Takes so many writes, and refuses each one after them.
+#[derive(Drop)]
+struct Refusing {
+    left: usize,
+    refused: usize,
+}
+
+impl Write for Refusing {
+    fn write(&mut self, buf: &[u8]) -> io::Result<usize> {
+        if self.left == 0 {
+            self.refused = self.refused.saturating_add(1);
+            return Err(io::Error::from(io::ErrorKind::BrokenPipe));
+        }
+        self.left -= 1;
+        Ok(buf.len())
+    }
+
+    fn flush(&mut self) -> io::Result<()> {
+        Ok(())
+    }
+}
+
+#[test]
+fn ends_where_a_write_fails(rt: HostRuntime) -> Result<(), Fail> {
+    let alloc = rt.alloc();
+    let log = b"2026-11-22 14:03:07 ERROR disk full\nnoise\n";
+    let mut taken_all = false;
+    for left in 0..40 {
+        let mut out = Refusing { left, refused: 0 };
+        let ended = run(alloc, Options { rejects: true }, &log[..], &mut out);
+        assert_eq!(rt; ended.is_err(), out.refused == 1, "{left} writes");
+        assert!(rt; out.refused <= 1, "{left} writes");
+        taken_all = taken_all || ended.is_ok();
+    }
+    assert!(rt; taken_all);
+    Ok(())
+}

@@ -1,0 +1,22 @@
+-- The search is made once, and answers what its captures hold.
+use Rattle.std.proofs.Common.{◌∙◌}
+use Rattle.regex_search_core.specs.Search.{search_of}
+use Rattle.nfa_backtrack.proofs.CaughtLemmas.{caught-answer, counts-caught}
+use Rattle.nfa_backtrack.proofs.engine.BoundedBacktracker.catch_at.Goals as goal
+
+pub returns-clause-tells : goal.returns-clause-tells
+returns-clause-tells c =
+    let e = c.try_search.ensures in
+    caught-answer c.args.self.now (search_of c.args.input.now) c.try_search.new.captures c.try_search.result e.answer
+    (e.count ∙ c.requires.count) e.too_long e.errors
+
+pub returns-clause-once : goal.returns-clause-once
+returns-clause-once c =
+    let e = c.try_search.ensures in
+    record {
+      total = e.total;
+      counts = counts-caught c.try_search.new.captures c.try_search.result _ _ e.answered e.refused;
+      scans = e.scans;
+      turns = e.turns;
+      blocks = e.blocks;
+    }

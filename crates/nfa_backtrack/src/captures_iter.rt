@@ -1,0 +1,188 @@
+//! Iteration over the captures of the matches of an input.
+ghost use Rattle.nfa_search_base.specs.CaughtLists.{HasGroups};
+
+use crate::cache::Cache;
+use crate::engine::BoundedBacktracker;
+use nfa_search_base::error::SearchError;
+use nfa_search_base::iter::catching::{caught_item, caught_span};
+use nfa_search_base::iter::{Searcher, Searches, Steps};
+use regex_search_core::{Captures, Input, Span};
+use std::alloc::Global;
+use std::marker::Model;
+
+/// The captures of the matches of an input that do not overlap, from left to right: what
+/// [`BoundedBacktracker::try_captures_iter`] gives.
+///
+/// Its items are `Ok` captures, each a value of its own, at most as many as the span has bytes and one more, and at
+/// most one error: a refusal of the search, or [`SearchError::Memory`] where there is no memory for a copy. It ends for
+/// good after the last match and after the error.
+#[derive(Debug, Drop)]
+pub struct TryCapturesMatches<'r, 'c, 'h> {
+    cache: &'c mut Cache,
+    steps: Steps<'h, Catcher<'r>>,
+    ghost holds: { HasGroups steps.asker.finder.nfa steps.asker.captures },
+}
+
+// A backtracker that answers the searches of one iteration, and the captures that it writes to.
+#[derive(Debug, Drop)]
+struct Catcher<'r> {
+    engine: &'r BoundedBacktracker,
+    captures: Captures,
+}
+
+impl<'r> Model for Catcher<'r> {
+    ghost use Rattle.nfa_search_base.specs.Catching.{Catching};
+    ghost use Rattle.nfa_backtrack.specs.Backtrack.{Backtracker};
+
+    ghost Value = { Catching Backtracker };
+
+    ghost view = { λ a. record { finder = a.engine.now; captures = a.captures } };
+}
+
+impl BoundedBacktracker {
+    ghost use Rattle.std.specs.Prelude.{◌≡◌, false, IfOk, IsOkUnless};
+    ghost use Rattle.regex_search_core.specs.Search.{search_of};
+    ghost use Rattle.nfa_search_base.specs.Catching.{caught_by};
+    ghost use Rattle.nfa_search_base.specs.Walks.{fresh};
+    ghost use Rattle.nfa_backtrack.specs.CapturesMatches.{catch_cache, catch_engine, catch_is_done, catch_walk};
+    ghost use Rattle.nfa_backtrack.specs.CaptureRuns.{CatchesAllMatches, CatchesApart, CatchesFirst};
+    ghost use Rattle.nfa_backtrack.specs.CaptureRuns.{CatchesFirstMatches, CatchesGroups, CatchesMatch, CatchesNext, CatchesNextMatch};
+    ghost use Rattle.nfa_backtrack.specs.CaptureRuns.{CatchesRefused, CatchesRows, CatchesRun, CatchesWithin};
+    ghost use Rattle.nfa_backtrack.specs.Finding.{IsCatchOf, SearchesOnce};
+
+    /// The captures of the matches of the input that do not overlap, from left to right, each with all groups of the
+    /// NFA. To make this changes no cache. The error is that there is no memory for the captures that are searched
+    /// with: [`SearchError::Memory`] alone.
+    ///
+    /// The next match is searched for from the end of the last one. In place of an empty match where the last one ended
+    /// comes what a search from one byte further on finds. An answer without a match, as bare patterns give it, ends
+    /// the list. Each item is a copy of its own. Where there is no memory for it the item is the error, and so it is
+    /// where a search is refused. If the span is too long the one item is that refusal. An error is given once, and is
+    /// the last item.
+    pub fn try_captures_iter<'r, 'c, 'h>(
+        &'r self,
+        alloc: Global,
+        cache: &'c mut Cache,
+        input: Input<'h>,
+    ) -> Result<TryCapturesMatches<'r, 'c, 'h>, SearchError>
+        ensures memory { IsOkUnless result SearchError.Memory }
+        ensures same_reference { IfOk result (λ made. (catch_cache made).ghost_name ≡ cache.entry.ghost_name) }
+        ensures same_cache { IfOk result (λ made. (catch_cache made).now ≡ cache.entry.now) }
+        ensures engine { IfOk result (λ made. catch_engine made ≡ self.now) }
+        ensures walk { IfOk result (λ made. catch_walk made ≡ fresh (search_of input.entry)) }
+        ensures going { IfOk result (λ made. catch_is_done made ≡ false) }
+        // Each run of calls gives the first captures of the input, and all of them where it goes on to `None`.
+        ensures runs { IfOk result (CatchesRun self.now (search_of input.entry)) }
+        ensures first { IfOk result (CatchesFirst self.now (search_of input.entry)) }
+        ensures next { IfOk result (CatchesNext self.now (search_of input.entry)) }
+        ensures refused { IfOk result (CatchesRefused self.now (search_of input.entry)) }
+        // Where no copy is refused, their rows and their matches are those of the input.
+        ensures rows { IfOk result (CatchesRows self.now (search_of input.entry)) }
+        ensures matches { IfOk result (CatchesMatch self.now (search_of input.entry)) }
+        ensures first_matches { IfOk result (CatchesFirstMatches self.now (search_of input.entry)) }
+        ensures next_match { IfOk result (CatchesNextMatch self.now (search_of input.entry)) }
+        ensures all_matches { IfOk result (CatchesAllMatches self.now (search_of input.entry)) }
+        ensures groups { IfOk result (CatchesGroups self.now) }
+        ensures inside { IfOk result (CatchesWithin (search_of input.entry)) }
+        ensures apart { IfOk result (CatchesApart (search_of input.entry)) }
+    {
+        let captures = self.create_captures(alloc)?;
+        Ok(self.catch_from(cache, input, captures))
+    }
+
+    // The iterator that searches with these captures.
+    #[inline]
+    fn catch_from<'r, 'c, 'h>(
+        &'r self,
+        cache: &'c mut Cache,
+        input: Input<'h>,
+        captures: Captures,
+    ) -> TryCapturesMatches<'r, 'c, 'h>
+        requires { HasGroups self.now.nfa captures }
+        ensures same_reference { (catch_cache result).ghost_name ≡ cache.entry.ghost_name }
+        ensures same_cache { (catch_cache result).now ≡ cache.entry.now }
+        ensures engine { catch_engine result ≡ self.now }
+        ensures walk { catch_walk result ≡ fresh (search_of input.entry) }
+        ensures going { catch_is_done result ≡ false }
+    {
+        TryCapturesMatches {
+            cache,
+            steps: Steps {
+                searcher: Searcher::new(input),
+                asker: Catcher {
+                    engine: self,
+                    captures,
+                },
+                done: false,
+            },
+        }
+    }
+
+    // The captures of one search, and the work of it.
+    #[inline]
+    fn catch_at(
+        &self,
+        cache: &mut Cache,
+        input: &Input<'_>,
+        captures: &mut Captures,
+    ) -> Result<(), SearchError>
+        requires { HasGroups self.now.nfa captures.old }
+        ensures tells { IsCatchOf self.now (search_of input.now) (caught_by captures.new result) }
+        ensures holds { HasGroups self.now.nfa captures.new }
+        ensures once { SearchesOnce self.now (search_of input.now) (caught_by captures.new result) cache.old cache.new }
+    {
+        self.try_search(cache, input, captures)
+    }
+}
+
+impl<'r> Searches for Catcher<'r> {
+    ghost use Rattle.nfa_search_base.specs.Catching.{Row, caught_by, row_span, GivesCaptures};
+    ghost use Rattle.nfa_backtrack.specs.CapturesMatches.{AsksBacktrackerRow, MayCatch};
+
+    type Cache = Cache;
+
+    type Reply = Result<(), SearchError>;
+
+    ghost Value = { Row };
+
+    ghost shows = { λ c reply. caught_by c.captures reply };
+
+    ghost span = { row_span };
+
+    ghost accepts = { λ s _. MayCatch s };
+
+    type Item = Captures;
+
+    ghost gives = { GivesCaptures };
+
+    ghost asks = { AsksBacktrackerRow };
+
+    #[inline]
+    fn answer(&mut self, cache: &mut Cache, input: &Input<'_>) -> Result<(), SearchError> {
+        self.engine.catch_at(cache, input, &mut self.captures)
+    }
+
+    #[inline]
+    fn place(&self, reply: Result<(), SearchError>) -> Option<Span> {
+        caught_span(&self.captures, reply)
+    }
+
+    #[inline]
+    fn item(&self, reply: Result<(), SearchError>) -> Option<Result<Captures, SearchError>> {
+        caught_item(&self.captures, reply)
+    }
+}
+
+impl<'r, 'c, 'h> Iterator for TryCapturesMatches<'r, 'c, 'h> {
+    ghost use Rattle.nfa_backtrack.specs.CapturesMatches.{catch_steps, catch_left};
+
+    type Item = Result<Captures, SearchError>;
+
+    ghost next_gives = { catch_steps };
+
+    ghost remaining = { catch_left };
+
+    fn next(&mut self) -> Option<Result<Captures, SearchError>> {
+        self.steps.next_with(self.cache)
+    }
+}

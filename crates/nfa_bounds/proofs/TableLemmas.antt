@@ -1,0 +1,127 @@
+-- The table of the places that were reached.
+use Rattle.std.proofs.Common.{◌≡◌, ℕ, suc, zero, ◌<◌, ◌≤◌, inl, inr, List, [], ◌∷◌, ◌++◌, length, get_or, set}
+use Rattle.std.proofs.Common.{replicate, refl, ap, sym, ◌∙◌, arith, get_or-set_other, length-set}
+use Rattle.std.specs.Prelude.{true, false, Bool, ◌⊎◌}
+use Rattle.std.specs.List.{sum_by}
+use Rattle.std.proofs.Math.Decide.{ℕ_discrete}
+use Rattle.std.proofs.lemmas.List.{append_assoc, length-append, append-nil, length-replicate}
+use Rattle.std.proofs.lemmas.List.Sums.{sum_by-cons, sum_by-set}
+use Rattle.nfa_paths.specs.Graphs.{In}
+use Rattle.nfa_paths.proofs.KindsLemmas.{In-append_left, In-append_right}
+use Rattle.nfa_bounds.specs.Places.{bit, number_of, unmarked, IsTable, Gains}
+use Rattle.nfa_bounds.specs.declared.place.Place.{Place}
+
+-- what stands in two lists in a row stands in one of them
+pub In-append : {A : Type 0} (x : A) (xs ys : List A) → In x (xs ++ ys) → In x xs ⊎ In x ys
+In-append x [] ys i = inr i
+In-append x (y ∷ xs) ys i = elim i [
+  | inl e ↦ inl (inl e)
+  | inr j ↦ elim (In-append x xs ys j) [ inl k ↦ inl (inr k) | inr k ↦ inr k ]
+]
+
+-- a bit tells its value
+bit-tells : (a b : Bool) → bit a ≡ bit b → a ≡ b
+bit-tells true true e = refl
+bit-tells false false e = refl
+bit-tells true false e = absurd (omega arith)
+bit-tells false true e = absurd (omega arith)
+
+bit-small : (a : Bool) → bit a ≤ 1
+bit-small true = omega arith
+bit-small false = omega arith
+
+same-place : {s t : ℕ} {a b c d e f : Bool} → s ≡ t → a ≡ b → c ≡ d → e ≡ f
+    → ◌≡◌ {A = Place} (record { state = s; has_read = a; start_written = c; end_written = e })
+    (record { state = t; has_read = b; start_written = d; end_written = f })
+same-place one two three four = rw (one, two, three, four) refl
+
+-- a place's number tells the place
+pub number_of-tells : (v w : Place) → number_of v ≡ number_of w → v ≡ w
+number_of-tells v w e =
+    let r = bit-small v.has_read in let r' = bit-small w.has_read in
+    let s = bit-small v.start_written in let s' = bit-small w.start_written in
+    let t = bit-small v.end_written in let t' = bit-small w.end_written in
+    let one : v.state ≡ w.state = omega arith in
+    let two : v.has_read ≡ w.has_read = bit-tells v.has_read w.has_read (omega arith) in
+    let three : v.start_written ≡ w.start_written = bit-tells v.start_written w.start_written (omega arith) in
+    let four : v.end_written ≡ w.end_written = bit-tells v.end_written w.end_written (omega arith) in
+    same-place one two three four
+
+-- nothing is reached at first
+unmarked-all : (n : ℕ) → sum_by unmarked (replicate n false) ≡ n
+unmarked-all zero = refl
+unmarked-all (suc n) = omega (arith, sum_by-cons unmarked false (replicate n false), unmarked-all n)
+
+pub IsTable-none : (n : ℕ) → IsTable (replicate n false) []
+IsTable-none n = record {
+  count = omega (arith, unmarked-all n, length-replicate n false);
+  listed = λ v m. absurd (never n (number_of v) m);
+}
+  where
+    never : (n k : ℕ) → get_or (replicate n false) k false ≡ true → ⊥
+    never zero k e = cc
+    never (suc n) zero e = cc
+    never (suc n) (suc k) e = never n k e
+
+-- a place that was not marked is marked, and listed
+pub IsTable-more : (marks : List Bool) (places : List Place) (v : Place) → number_of v < length marks
+    → get_or marks (number_of v) false ≡ false → IsTable marks places
+    → IsTable (set marks (number_of v) true) (places ++ v ∷ [])
+IsTable-more marks places v inside clear table = record {
+  count =
+      let weight : unmarked (get_or marks (number_of v) false) ≡ 1 = ap unmarked clear in
+      omega (
+        arith,
+        table.count,
+        sum_by-set unmarked marks (number_of v) true false inside,
+        length-set marks (number_of v) true,
+        length-append places (v ∷ []),
+        weight,
+      );
+  listed = λ w m.
+      elim (ℕ_discrete (number_of w) (number_of v)) [
+        | yes e ↦ In-append_right w places (v ∷ []) (inl (number_of-tells w v e))
+        | no n ↦
+            In-append_left w places (v ∷ [])
+            (table.listed w (sym (get_or-set_other marks (number_of v) (number_of w) true false n) ∙ m))
+      ];
+}
+
+-- places that were added
+
+pub Gains-none : (old : List Place) → Gains old old []
+Gains-none old = record { more = []; kept = sym (append-nil old); only = λ v i. i; all = λ v i. absurd i }
+
+pub Gains-one : (old : List Place) (v : Place) → Gains old (old ++ v ∷ []) (v ∷ [])
+Gains-one old v = record {
+  more = v ∷ [];
+  kept = refl;
+  only = λ w i. i;
+  all = λ w i. In-append_right w old (v ∷ []) i;
+}
+
+-- one that was there
+pub Gains-there : (old : List Place) (v : Place) → In v old → Gains old old (v ∷ [])
+Gains-there old v there = record {
+  more = [];
+  kept = sym (append-nil old);
+  only = λ w i. absurd i;
+  all = λ w i. elim i [ inl e ↦ rw e there | inr never ↦ absurd never ];
+}
+
+-- some, and then more
+pub Gains-then : {a b c ws us : List Place} → Gains a b ws → Gains b c us → Gains a c (ws ++ us)
+Gains-then {a = a} {b = b} {c = c} {ws = ws} {us = us} f g = record {
+  more = f.more ++ g.more;
+  kept = g.kept ∙ ap (λ l. l ++ g.more) f.kept ∙ append_assoc a f.more g.more;
+  only = λ v i.
+      elim (In-append v f.more g.more i) [
+        | inl j ↦ In-append_left v ws us (f.only v j)
+        | inr j ↦ In-append_right v ws us (g.only v j)
+      ];
+  all = λ v i.
+      elim (In-append v ws us i) [
+        | inl j ↦ rw g.kept (In-append_left v b g.more (f.all v j))
+        | inr j ↦ g.all v j
+      ];
+}

@@ -1,0 +1,12 @@
+-- What `no_gap` asks holds of each search.
+use Rattle.nfa_engines.proofs.GapLemmas.{none-is_no_path, none-starts_before}
+use Rattle.nfa_bounds.proofs.LawLemmas.{paths-recorded}
+use Rattle.nfa_bounds.proofs.laws.no_match_is_passed_over.Goals as goal
+
+pub returns-clause-none : goal.returns-clause-none
+returns-clause-none c = λ nfa kind earliest x found valid anywhere records.
+    none-is_no_path nfa valid x anywhere (paths-recorded nfa x records) kind earliest found
+
+pub returns-clause-start : goal.returns-clause-start
+returns-clause-start c = λ nfa x found valid anywhere records.
+    none-starts_before nfa valid x anywhere (paths-recorded nfa x records) found

@@ -1,0 +1,3 @@
+pub mod BoundsLaws
+pub mod Places
+pub mod Ways

@@ -1,0 +1,113 @@
+-- States with what the ways to them have done: what a test of all ways goes over.
+use Rattle.std.specs.Prelude.{◌≡◌, ℕ, ◌+◌, ◌*◌, ◌≤◌, ◌<◌, ◌↔◌, Bool, true, false, not, ◌&&◌, ◌==◌, List, [], ◌∷◌}
+use Rattle.std.specs.Prelude.{◌++◌, map, take, length, slice_index_or, Option, Some, if◌then◌else◌}
+use Rattle.std.specs.List.{sum_by}
+use Rattle.thompson_nfa.specs.Automaton.{Automaton, Node}
+use Rattle.thompson_nfa.specs.Automaton.Node.{Capture}
+use Rattle.nfa_paths.specs.Graphs.{Pair, In, HeadIs, Linked}
+use Rattle.nfa_paths.specs.Paths.{node_at, pattern_of, slot_among}
+use Rattle.nfa_bounds.specs.Ways.{targets, reads, open_edges, IsStart}
+use Rattle.nfa_bounds.specs.declared.place.Place.{Place}
+
+-- a state that a way starts with: nothing is done
+abbrev pub fresh : ℕ → Place
+fresh s = record { state = s; has_read = false; start_written = false; end_written = false }
+
+-- the same done, at another state
+abbrev pub at_state : Place → ℕ → Place
+at_state v s = record v { state = s }
+
+-- the place is one that a search starts with
+abbrev pub IsFresh : Automaton → Place → Type 0
+IsFresh nfa v = IsStart nfa v.state × (v ≡ fresh v.state)
+
+-- what is done once a way leaves the place, whose state is this node
+unfoldable pub after : ℕ → Node → Place → Place
+after pattern (Capture next slot) v =
+    record v {
+      start_written = if slot == 2 * pattern then not v.has_read else v.start_written;
+      end_written = if slot == 2 * pattern + 1 then true else v.end_written;
+    }
+after pattern node v = if reads node then record v { has_read = true; end_written = false } else v
+
+-- the places that follow
+abbrev pub next_places : Automaton → ℕ → Place → List Place
+next_places nfa pattern v =
+    map (at_state (after pattern (node_at nfa v.state) v)) (targets (node_at nfa v.state))
+
+-- both bounds are written
+abbrev pub is_recorded : Place → Bool
+is_recorded v = v.start_written && v.end_written
+
+-- 1 for true, else 0
+abbrev pub bit : Bool → ℕ
+bit true = 1
+bit false = 0
+
+-- the place's number: there are eight for each state
+abbrev pub number_of : Place → ℕ
+number_of v = 8 * v.state + 4 * bit v.has_read + 2 * bit v.start_written + bit v.end_written
+
+-- 1 for a place that is not marked
+abbrev pub unmarked : Bool → ℕ
+unmarked true = 0
+unmarked false = 1
+
+-- Each place is marked by its number. So many marks are set as there are places.
+pub record IsTable (marks : List Bool) (places : List Place) : Type 0 where
+  pub count : length places + sum_by unmarked marks ≡ length marks
+  pub listed : (v : Place) → slice_index_or marks (number_of v) false ≡ true → In v places
+
+-- the places that were reached, and how many may be at most
+pub record Reach : Type 0 where
+  pub room : ℕ
+  pub places : List Place
+
+-- these places were added, and no others
+pub record Gains (old new wanted : List Place) : Type 0 where
+  pub more : List Place
+  pub kept : new ≡ old ++ more
+  pub only : (v : Place) → In v more → In v wanted
+  pub all : (v : Place) → In v wanted → In v new
+
+-- What a way did that started at position `start` and now stands at `position`, before its state's own turn: the two
+-- slots of the pattern are these.
+pub record Describes (start position : ℕ) (start_slot end_slot : Option ℕ) (v : Place) : Type 0 where
+  pub onward : start ≤ position
+  pub unread : v.has_read ≡ false → position ≡ start
+  pub read : v.has_read ≡ true → start < position
+  pub started : (v.start_written ≡ true) ↔ (start_slot ≡ Some start)
+  pub ended : (v.end_written ≡ true) ↔ (end_slot ≡ Some position)
+  pub behind : (e : ℕ) → end_slot ≡ Some e → e ≤ position
+
+module _ (nfa : Automaton) (pattern : ℕ) where
+  -- some way leads to the place
+  pub record IsLedTo (v : Place) : Type 0 where
+    pub start : Pair
+    pub starts : IsStart nfa start.0
+    pub before : List Pair
+    pub position : ℕ
+    pub head : HeadIs start (before ++ (v.state, position) ∷ [])
+    pub linked : Linked (open_edges nfa) (before ++ (v.state, position) ∷ [])
+    pub done : Describes start.1 position (slot_among nfa before (2 * pattern))
+        (slot_among nfa before (2 * pattern + 1)) v
+
+  -- the place is no Match of the pattern, or both bounds are written
+  abbrev pub IsFine : Place → Type 0
+  IsFine v = pattern_of (node_at nfa v.state) ≡ Some pattern → is_recorded v ≡ true
+
+  -- what every search starts with is there, what follows each place too, and no Match lacks a bound
+  pub record IsClosed (places : List Place) : Type 0 where
+    pub starts : (s : ℕ) → IsStart nfa s → In (fresh s) places
+    pub covers : (v : Place) → In v places → (w : Place) → In w (next_places nfa pattern v) → In w places
+    pub fine : (v : Place) → In v places → IsFine v
+
+  -- Ways lead to these places alone. Of the first `done` what follows is there too, and none is a Match that lacks a
+  -- bound.
+  pub record IsUnderWay (done : ℕ) (places : List Place) : Type 0 where
+    pub inside : done ≤ length places
+    pub starts : (s : ℕ) → IsStart nfa s → In (fresh s) places
+    pub covers : (v : Place) → In v (take done places) → (w : Place) → In w (next_places nfa pattern v) → In w places
+    pub fine : (v : Place) → In v (take done places) → IsFine v
+    pub below : (v : Place) → In v places → v.state < length nfa.states
+    pub led : (v : Place) → In v places → IsLedTo v

@@ -1,0 +1,79 @@
+//! The test of all ways of an NFA, pattern by pattern.
+ghost use Rattle.std.specs.Prelude.{◌≡◌, ℕ, ◌+◌, ◌*◌, ◌<◌, ◌≤◌, ◌↔◌, IfOk, IfSome, IsTrue, length, slice_get};
+ghost use Rattle.thompson_nfa.specs.Automaton.{IsAutomaton};
+ghost use Rattle.nfa_paths.specs.Graphs.{In};
+ghost use Rattle.nfa_bounds.specs.Places.{fresh, IsFresh};
+ghost use Rattle.nfa_bounds.specs.Ways.{IsStart, PatternRecordsBounds, RecordsBounds};
+
+use crate::place::Place;
+use crate::reached::Reached;
+use crate::targets::targets;
+use regex_search_core::{PatternID, StateID};
+use std::alloc::{AllocError, Global};
+use thompson_nfa::NFA;
+
+/// Whether each match of the NFA can be told from its slots: every way from a state that a search starts with to a
+/// `Match` writes, into the two slots of its pattern, where it starts and where it ends. The start's slot is written
+/// before the first byte and not after it, and the end's slot behind the last byte.
+///
+/// Each byte is taken to be there on some way, and each assertion to hold, so the answer is about the states alone.
+/// Where it is true, no search passes over a match (`laws`).
+///
+/// For each pattern it takes time for eight places a state at most, and the edges of each. The error is that a growth
+/// was refused.
+pub fn records_bounds(alloc: Global, nfa: &NFA) -> Result<bool, AllocError>
+    ensures records { IfOk result (λ records. IsTrue records ↔ RecordsBounds nfa.now) }
+    ensures valid { IsAutomaton nfa.now }
+{
+    for pattern in 0..nfa.pattern_len() {
+        if !pattern_records_bounds(alloc, nfa, pattern)? {
+            return Ok(false);
+        }
+    }
+    Ok(true)
+}
+
+/// Whether each way to a `Match` of the pattern does.
+fn pattern_records_bounds(alloc: Global, nfa: &NFA, pattern: usize) -> Result<bool, AllocError>
+    ensures { IfOk result (λ records. IsTrue records ↔ PatternRecordsBounds nfa.now pattern) }
+{
+    let mut reached = starts(alloc, nfa)?;
+    let mut done = 0;
+    while done < reached.len() {
+        let place = reached.place(done);
+        let state = nfa.state(place.state);
+        if place.is_unrecorded(state, pattern) {
+            return Ok(false);
+        }
+        reached.add_all(&place.after(state, pattern), &targets(alloc, state)?)?;
+        done += 1;
+    }
+    Ok(true)
+}
+
+/// What searches start with.
+fn starts(alloc: Global, nfa: &NFA) -> Result<Reached, AllocError>
+    ensures room { IfOk result (λ made. made.room ≡ 8 * length nfa.now.states) }
+    ensures all { IfOk result (λ made. (s : ℕ) → IsStart nfa.now s → In (fresh s) made.places) }
+    ensures only { IfOk result (λ made. (v : Place) → In v made.places → IsFresh nfa.now v) }
+    ensures below { IfOk result (λ made. (v : Place) → In v made.places → v.state < length nfa.now.states) }
+{
+    let mut reached = Reached::new(alloc, nfa.states().len())?;
+    reached.add(&Place::fresh(nfa.start_anchored()))?;
+    for index in 0..nfa.pattern_len() {
+        if let Some(start) = pattern_start(nfa, index) {
+            reached.add(&Place::fresh(start))?;
+        }
+    }
+    Ok(reached)
+}
+
+/// Where a search for the pattern of this number alone starts. None where there is none, or where no search can be
+/// asked for it.
+fn pattern_start(nfa: &NFA, index: usize) -> Option<StateID>
+    ensures value { index ≤ 2147483646 → result ≡ slice_get nfa.now.patterns index }
+    ensures start { IfSome result (IsStart nfa.now) }
+    ensures below { IfSome result (λ s. s < length nfa.now.states) }
+{
+    nfa.start_pattern(PatternID::new(index)?)
+}

@@ -1,0 +1,24 @@
+//! What `records_bounds` means for searches. Each function is empty: its contract is the theorem.
+ghost use Rattle.regex_search_core.specs.declared.search.MatchKind.TheVariants.{LeftmostFirst};
+ghost use Rattle.std.specs.Prelude.{false};
+ghost use Rattle.nfa_bounds.specs.BoundsLaws.{AnchoredStartsTheSpan, EverySearchIsRecorded, NoneIsNoPathThere};
+ghost use Rattle.nfa_bounds.specs.BoundsLaws.{NoneStartsBeforeThere};
+
+/// Where `records_bounds` is true, each accepting path of each search writes its start and its end into the two slots
+/// of its pattern: what `nfa_engines::laws::no_gap` asks of an NFA.
+pub fn bounds_are_written()
+    ensures { EverySearchIsRecorded }
+{}
+
+/// So no match of such an NFA is passed over, where a match may end anywhere: of each match kind, `earliest` or not,
+/// there is none exactly where there is no accepting path; and leftmost first no accepting path starts before the
+/// match.
+pub fn no_match_is_passed_over()
+    ensures none { NoneIsNoPathThere }
+    ensures start { NoneStartsBeforeThere LeftmostFirst false }
+{}
+
+/// And the match of an anchored search starts where its span does, of each match kind, `earliest` or not.
+pub fn anchored_matches_start_the_span()
+    ensures { AnchoredStartsTheSpan }
+{}

@@ -1,0 +1,114 @@
+//! A state with what a way to it has done.
+ghost use Rattle.std.specs.Prelude.{◌≡◌, ◌+◌, ◌*◌, ◌<◌, ◌&&◌, ◌==◌, ◌↔◌, IsTrue, Some, false};
+ghost use Rattle.thompson_nfa.specs.Automaton.{node_of};
+ghost use Rattle.nfa_paths.specs.Paths.{pattern_of};
+ghost use Rattle.nfa_bounds.specs.Places.{after, at_state, fresh, is_recorded, number_of, bit};
+
+use regex_search_core::StateID;
+use thompson_nfa::State;
+
+/// A state, and what a way that leads to it has done before the state's own turn: as much of it as tells, for one
+/// pattern, whether a match writes where it starts and where it ends.
+#[derive(Clone, Copy, Debug)]
+pub struct Place {
+    pub state: StateID,
+    /// A byte was read.
+    pub has_read: bool,
+    /// The pattern's first slot holds where the way starts.
+    pub start_written: bool,
+    /// The pattern's second slot holds where the way has come to.
+    pub end_written: bool,
+}
+
+impl Place {
+    /// A state that a way starts with.
+    pub fn fresh(state: StateID) -> Place
+        ensures { result ≡ fresh state }
+    {
+        Place {
+            state,
+            has_read: false,
+            start_written: false,
+            end_written: false,
+        }
+    }
+
+    /// The same done, at another state.
+    pub fn at_state(&self, state: StateID) -> Place
+        ensures { result ≡ at_state self.now state }
+    {
+        Place { state, ..*self }
+    }
+
+    /// The place's number. There are eight for each state.
+    pub fn number(&self) -> usize
+        ensures value { result ≡ number_of self.now }
+        ensures below { result < 8 * self.now.state + 8 }
+    {
+        8 * self.state.as_usize()
+            + 4 * bit(self.has_read)
+            + 2 * bit(self.start_written)
+            + bit(self.end_written)
+    }
+
+    /// What is done once a way leaves the place, whose state this is.
+    #[tactic(auto, unfolding(crate::specs::Places::after, crate::specs::Ways::reads))]
+    pub fn after(&self, state: &State, pattern: usize) -> Place
+        ensures { result ≡ after pattern (node_of state.now) self.now }
+    {
+        match state {
+            State::ByteRange { .. } | State::Sparse(_) | State::Dense(_) => Place {
+                has_read: true,
+                end_written: false,
+                ..*self
+            },
+            State::Capture { slot, .. } => Place {
+                start_written: if is_start_slot(*slot, pattern) {
+                    !self.has_read
+                } else {
+                    self.start_written
+                },
+                end_written: self.end_written || is_end_slot(*slot, pattern),
+                ..*self
+            },
+            State::Look { .. }
+            | State::Union { .. }
+            | State::BinaryUnion { .. }
+            | State::Fail
+            | State::Match { .. } => *self,
+        }
+    }
+
+    /// Whether the place's state, which this is, is a match of the pattern that lacks one of its bounds.
+    pub fn is_unrecorded(&self, state: &State, pattern: usize) -> bool
+        ensures { IsTrue result ↔ ((pattern_of (node_of state.now) ≡ Some pattern) × (is_recorded self.now ≡ false)) }
+    {
+        match state {
+            State::Match { pattern_id } => {
+                pattern_id.as_usize() == pattern && !(self.start_written && self.end_written)
+            }
+            _ => false,
+        }
+    }
+}
+
+/// 1 for true, else 0.
+fn bit(value: bool) -> usize
+    ensures { result ≡ bit value }
+{
+    value as usize
+}
+
+/// Whether the slot takes the start of the pattern's matches.
+fn is_start_slot(slot: usize, pattern: usize) -> bool
+    ensures { result ≡ (slot == 2 * pattern) }
+{
+    slot % 2 == 0 && slot / 2 == pattern
+}
+
+/// Whether the slot takes the end of the pattern's matches.
+fn is_end_slot(slot: usize, pattern: usize) -> bool
+    ensures { result ≡ (slot == 2 * pattern + 1) }
+{
+    slot % 2 == 1 && slot / 2 == pattern
+}

@@ -1,0 +1,85 @@
+//! The places that were reached, each once, in order.
+ghost use Rattle.std.specs.Prelude.{◌≡◌, ℕ, ◌+◌, ◌*◌, ◌^◌, ◌≤◌, ◌<◌, All, IfOk, OnOk, length, map, [], ◌∷◌};
+ghost use Rattle.std.specs.Prelude.{slice_get, slice_index, Some};
+ghost use Rattle.nfa_bounds.specs.Places.{at_state, Gains};
+
+use crate::place::Place;
+use regex_search_core::StateID;
+use std::alloc::{AllocError, Global};
+use std::marker::Model;
+
+/// The places that were reached, each once, in order.
+///
+/// A contract sees them, and how many there may be at most.
+#[derive(Drop)]
+pub struct Reached {
+    places: Vec<Place>,
+    /// Whether a place was reached, at the place's number.
+    marks: Vec<bool>,
+}
+
+impl Model for Reached {
+    ghost use Rattle.std.specs.Prelude.{length};
+    ghost use Rattle.nfa_bounds.specs.Places.{Reach, IsTable};
+
+    ghost Value = { Reach };
+
+    ghost view = { λ r. record { room = length r.marks.items; places = r.places.items } };
+
+    ghost invariant = { λ r. IsTable r.marks.items r.places.items };
+}
+
+impl Reached {
+    /// None so far, of this many states.
+    pub fn new(alloc: Global, states: usize) -> Result<Reached, AllocError>
+        requires { 8 * states < 2 ^ 64 }
+        ensures { IfOk result (λ made. made ≡ record { room = 8 * states; places = [] }) }
+    {
+        Ok(Reached {
+            places: Vec::new(alloc),
+            marks: vec![in alloc; false; 8 * states]?,
+        })
+    }
+
+    /// How many were reached.
+    pub fn len(&self) -> usize
+        ensures value { result ≡ length self.now.places }
+        ensures within { result ≤ self.now.room }
+    {
+        self.places.len()
+    }
+
+    /// The place that was reached as this one in order.
+    pub fn place(&self, index: usize) -> Place
+        requires { index < length self.now.places }
+        ensures { slice_get self.now.places index ≡ Some result }
+    {
+        self.places[index]
+    }
+
+    /// Adds the place, if it was not reached before. The error is that a growth was refused.
+    pub fn add(&mut self, place: &Place) -> Result<(), AllocError>
+        requires { 8 * place.now.state + 8 ≤ self.old.room }
+        ensures room { self.new.room ≡ self.old.room }
+        ensures gains { OnOk result (Gains self.old.places self.new.places (place.now ∷ [])) }
+    {
+        let number = place.number();
+        if !self.marks[number] {
+            self.places.push(*place)?;
+            self.marks[number] = true;
+        }
+        Ok(())
+    }
+
+    /// Adds these states, each with what is done at the place. The error is that a growth was refused.
+    pub fn add_all(&mut self, place: &Place, states: &[StateID]) -> Result<(), AllocError>
+        requires { All (λ s. 8 * s + 8 ≤ self.old.room) states.now }
+        ensures room { self.new.room ≡ self.old.room }
+        ensures gains { OnOk result (Gains self.old.places self.new.places (map (at_state place.now) states.now)) }
+    {
+        for state in states {
+            self.add(&place.at_state(*state))?;
+        }
+        Ok(())
+    }
+}

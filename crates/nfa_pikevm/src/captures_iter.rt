@@ -1,0 +1,176 @@
+//! Iteration over the captures of the matches of an input.
+ghost use Rattle.nfa_search_base.specs.CaughtLists.{HasGroups};
+ghost use Rattle.nfa_pikevm.specs.Engines.{Fits};
+
+use crate::cache::Cache;
+use crate::engine::PikeVM;
+use nfa_search_base::error::SearchError;
+use nfa_search_base::iter::catching::{caught_item, caught_span};
+use nfa_search_base::iter::{Searcher, Searches, Steps};
+use regex_search_core::{Captures, Input, Span};
+use std::alloc::Global;
+use std::marker::Model;
+
+/// The captures of the matches of an input that do not overlap, from left to right: what [`PikeVM::captures_iter`]
+/// gives.
+///
+/// Its items are `Ok` captures, each a value of its own, at most as many as the span has bytes and one more, and at
+/// most one error, which is [`SearchError::Memory`]: there was no memory for a copy. It ends for good after the last
+/// match and after the error.
+#[derive(Debug, Drop)]
+pub struct CapturesMatches<'r, 'c, 'h> {
+    cache: &'c mut Cache,
+    steps: Steps<'h, Catcher<'r>>,
+    ghost fits: { Fits cache.now steps.asker.finder.nfa },
+    ghost holds: { HasGroups steps.asker.finder.nfa steps.asker.captures },
+}
+
+// A PikeVM that answers the searches of one iteration, and the captures that it writes to.
+#[derive(Debug, Drop)]
+struct Catcher<'r> {
+    engine: &'r PikeVM,
+    captures: Captures,
+}
+
+impl<'r> Model for Catcher<'r> {
+    ghost use Rattle.nfa_search_base.specs.Catching.{Catching};
+    ghost use Rattle.nfa_pikevm.specs.Engines.{Pike};
+
+    ghost Value = { Catching Pike };
+
+    ghost view = { λ a. record { finder = a.engine.now; captures = a.captures } };
+}
+
+impl PikeVM {
+    ghost use Rattle.std.specs.Prelude.{◌≡◌, false, IfOk, IsOkUnless};
+    ghost use Rattle.regex_search_core.specs.Search.{search_of};
+    ghost use Rattle.nfa_search_base.specs.Walks.{fresh};
+    ghost use Rattle.nfa_pikevm.specs.CapturesMatches.{catch_cache, catch_engine, catch_is_done, catch_walk};
+    ghost use Rattle.nfa_pikevm.specs.CaptureRuns.{CatchesAllMatches, CatchesApart, CatchesFirst, CatchesFirstMatches};
+    ghost use Rattle.nfa_pikevm.specs.CaptureRuns.{CatchesGiveCache, CatchesGroups, CatchesMatch, CatchesMemory};
+    ghost use Rattle.nfa_pikevm.specs.CaptureRuns.{CatchesNext, CatchesNextMatch, CatchesRows, CatchesRun};
+    ghost use Rattle.nfa_pikevm.specs.CaptureRuns.{CatchesWithin};
+
+    /// The captures of the matches of the input that do not overlap, from left to right, each with all groups of the
+    /// NFA. The caller owes a cache that fits. To make this changes no cache. The error is that there is no memory for
+    /// the captures that are searched with: [`SearchError::Memory`] alone.
+    ///
+    /// The next match is searched for from the end of the last one. In place of an empty match where the last one ended
+    /// comes what a search from one byte further on finds. An answer without a match, as bare patterns give it, ends
+    /// the list. Each item is a copy of its own. Where there is no memory for it the item is the error, once. The
+    /// numbers of the cache stay as they are, so it fits afterwards what it fitted before.
+    pub fn captures_iter<'r, 'c, 'h>(
+        &'r self,
+        alloc: Global,
+        cache: &'c mut Cache,
+        input: Input<'h>,
+    ) -> Result<CapturesMatches<'r, 'c, 'h>, SearchError>
+        requires { Fits cache.old self.now.nfa }
+        ensures memory { IsOkUnless result SearchError.Memory }
+        ensures same_reference { IfOk result (λ made. (catch_cache made).ghost_name ≡ cache.entry.ghost_name) }
+        ensures same_cache { IfOk result (λ made. (catch_cache made).now ≡ cache.entry.now) }
+        ensures engine { IfOk result (λ made. catch_engine made ≡ self.now) }
+        ensures walk { IfOk result (λ made. catch_walk made ≡ fresh (search_of input.entry)) }
+        ensures going { IfOk result (λ made. catch_is_done made ≡ false) }
+        // Each run of calls gives the first captures of the input, and all of them where it goes on to `None`.
+        ensures runs { IfOk result (CatchesRun self.now (search_of input.entry)) }
+        ensures first { IfOk result (CatchesFirst self.now (search_of input.entry)) }
+        ensures next { IfOk result (CatchesNext self.now (search_of input.entry)) }
+        ensures errors { IfOk result CatchesMemory }
+        // Where no copy is refused, their rows and their matches are those of the input.
+        ensures rows { IfOk result (CatchesRows self.now (search_of input.entry)) }
+        ensures matches { IfOk result (CatchesMatch self.now (search_of input.entry)) }
+        ensures first_matches { IfOk result (CatchesFirstMatches self.now (search_of input.entry)) }
+        ensures next_match { IfOk result (CatchesNextMatch self.now (search_of input.entry)) }
+        ensures all_matches { IfOk result (CatchesAllMatches self.now (search_of input.entry)) }
+        ensures groups { IfOk result (CatchesGroups self.now) }
+        ensures inside { IfOk result (CatchesWithin (search_of input.entry)) }
+        ensures apart { IfOk result (CatchesApart (search_of input.entry)) }
+        ensures keeps { IfOk result CatchesGiveCache }
+    {
+        let captures = self.create_captures(alloc)?;
+        Ok(self.catch_from(cache, input, captures))
+    }
+
+    // The iterator that searches with these captures.
+    #[inline]
+    fn catch_from<'r, 'c, 'h>(
+        &'r self,
+        cache: &'c mut Cache,
+        input: Input<'h>,
+        captures: Captures,
+    ) -> CapturesMatches<'r, 'c, 'h>
+        requires fits { Fits cache.old self.now.nfa }
+        requires holds { HasGroups self.now.nfa captures }
+        ensures same_reference { (catch_cache result).ghost_name ≡ cache.entry.ghost_name }
+        ensures same_cache { (catch_cache result).now ≡ cache.entry.now }
+        ensures engine { catch_engine result ≡ self.now }
+        ensures walk { catch_walk result ≡ fresh (search_of input.entry) }
+        ensures going { catch_is_done result ≡ false }
+    {
+        CapturesMatches {
+            cache,
+            steps: Steps {
+                searcher: Searcher::new(input),
+                asker: Catcher {
+                    engine: self,
+                    captures,
+                },
+                done: false,
+            },
+        }
+    }
+}
+
+impl<'r> Searches for Catcher<'r> {
+    ghost use Rattle.nfa_search_base.specs.Catching.{Row, caught_by, row_span, GivesCaptures};
+    ghost use Rattle.nfa_pikevm.specs.CapturesMatches.{AsksPikeRow, MayCatch};
+
+    type Cache = Cache;
+
+    type Reply = Result<(), SearchError>;
+
+    ghost Value = { Row };
+
+    ghost shows = { λ c reply. caught_by c.captures reply };
+
+    ghost span = { row_span };
+
+    ghost accepts = { λ s _. MayCatch s };
+
+    type Item = Captures;
+
+    ghost gives = { GivesCaptures };
+
+    ghost asks = { AsksPikeRow };
+
+    #[inline]
+    fn answer(&mut self, cache: &mut Cache, input: &Input<'_>) -> Result<(), SearchError> {
+        self.engine.search(cache, input, &mut self.captures);
+        Ok(())
+    }
+
+    #[inline]
+    fn place(&self, reply: Result<(), SearchError>) -> Option<Span> {
+        caught_span(&self.captures, reply)
+    }
+
+    #[inline]
+    fn item(&self, reply: Result<(), SearchError>) -> Option<Result<Captures, SearchError>> {
+        caught_item(&self.captures, reply)
+    }
+}
+
+impl<'r, 'c, 'h> Iterator for CapturesMatches<'r, 'c, 'h> {
+    ghost use Rattle.nfa_pikevm.specs.CapturesMatches.{catch_steps, catch_left};
+
+    type Item = Result<Captures, SearchError>;
+
+    ghost next_gives = { catch_steps };
+
+    ghost remaining = { catch_left };
+
+    fn next(&mut self) -> Option<Result<Captures, SearchError>> {
+        self.steps.next_with(self.cache)
+    }
+}

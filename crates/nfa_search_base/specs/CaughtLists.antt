@@ -1,0 +1,49 @@
+-- The captures of a search, as one list: said by its steps alone. And so the captures of a search of an NFA.
+use Rattle.std.specs.Prelude.{◌≡◌, ℕ, Bool, List, length, map, Option, None, Some, Result, Ok, Err}
+use Rattle.regex_search_core.specs.Groups.{slot_count}
+use Rattle.regex_search_core.specs.Search.{Search}
+use Rattle.regex_search_core.specs.Slots.{Captured, match_of}
+use Rattle.regex_search_core.specs.declared.search.MatchKind.{MatchKind}
+use Rattle.thompson_nfa.specs.Automaton.{Automaton}
+use Rattle.nfa_paths.specs.Paths.{IsAnswer, IsMatchAnswer}
+use Rattle.nfa_search_base.specs.Catching.{Row, row_found, row_of, row_span}
+use Rattle.nfa_search_base.specs.Items.{item_by}
+use Rattle.nfa_search_base.specs.Lists.{Fails, FailsOrIsRefused, ItemsNext, ItemsLast}
+use Rattle.nfa_search_base.specs.Walks.{Answer, fresh}
+use Rattle.nfa_search_base.specs.declared.error.SearchError.{SearchError}
+
+-- the captures have the groups of the NFA, and a slot for each edge of them
+pub record HasGroups (nfa : Automaton) (c : Captured) : Type 0 where
+  pub groups : c.groups ≡ nfa.groups
+  pub count : length c.slots ≡ slot_count nfa.groups
+
+module _ (nfa : Automaton) (kind : MatchKind) (earliest : Bool) where
+  -- the row is that of the search's answer, with all slots of the NFA, and has a match
+  pub record IsRow (x : Search) (row : Row) : Type 0 where
+    pub answer : IsAnswer nfa kind earliest x row.pattern row.slots
+    pub count : length row.slots ≡ slot_count nfa.groups
+    pub is_match : match_of row.pattern row.slots ≡ Some (row_found row)
+
+  -- a search tells its row where it has a match, and never errs
+  abbrev pub TellsRow : Search → Answer Row → Type 0
+  TellsRow x (Ok (Some row)) = IsRow x row
+  TellsRow x (Ok None) = IsMatchAnswer nfa kind earliest x None
+  TellsRow x (Err error) = ⊥
+
+  -- these are the first rows of x
+  pub record AreFirstRows (x : Search) (rows : List Row) : Type 0 where
+    pub come : ItemsNext row_span TellsRow (Fails row_span TellsRow) (fresh x) (map (λ row. Ok row) rows)
+
+  -- these are the rows of x, all of them
+  pub record AreRows (x : Search) (rows : List Row) : Type 0 where
+    pub come : ItemsLast row_span TellsRow (Fails row_span TellsRow) (fresh x) (map (λ row. Ok row) rows)
+
+-- A search `tells` an answer. A copy of captures may be refused.
+module _ (tells : Search → Answer Row → Type 0) (x : Search) where
+  -- the first items of the captures of x
+  pub record AreFirstCaptures (items : List (Result Captured SearchError)) : Type 0 where
+    pub come : ItemsNext row_span tells (FailsOrIsRefused row_span tells) (fresh x) (map (item_by row_of) items)
+
+  -- all of them
+  pub record AreAllCaptures (items : List (Result Captured SearchError)) : Type 0 where
+    pub come : ItemsLast row_span tells (FailsOrIsRefused row_span tells) (fresh x) (map (item_by row_of) items)

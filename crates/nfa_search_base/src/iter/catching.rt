@@ -1,0 +1,45 @@
+//! What an iterator over captures makes of a search that filled them. Engines build their iterators on it; who uses an
+//! engine does not need it.
+ghost use Rattle.std.specs.Prelude.{◌≡◌, ◌≤◌};
+ghost use Rattle.std.specs.Option.{ForSome};
+ghost use Rattle.nfa_search_base.specs.Catching.{caught_by, row_span, GivesCopy};
+ghost use Rattle.nfa_search_base.specs.Steps.{ComesOfMatch};
+ghost use Rattle.nfa_search_base.specs.Walks.{place_of};
+
+use crate::error::SearchError;
+use regex_search_core::{Captures, Span};
+
+/// Where the match lies of a search that left these captures and gave this reply. `None` where there is none, and after
+/// an error.
+#[inline]
+pub fn caught_span(captures: &Captures, reply: Result<(), SearchError>) -> Option<Span>
+    ensures place { result ≡ place_of row_span (caught_by captures.now reply) }
+    ensures ordered { ForSome result (λ p. p.start ≤ p.end) }
+{
+    match reply {
+        Ok(()) => Some(captures.get_match()?.span()),
+        Err(_) => None,
+    }
+}
+
+/// The item of that search: a copy of the captures where they have a match, [`SearchError::Memory`] where memory for
+/// the copy is refused, else the error of the reply, or none.
+#[inline]
+pub fn caught_item(
+    captures: &Captures,
+    reply: Result<(), SearchError>,
+) -> Option<Result<Captures, SearchError>>
+    ensures gives { GivesCopy captures.now (caught_by captures.now reply) result }
+    ensures found { ComesOfMatch (caught_by captures.now reply) result }
+{
+    match reply {
+        Ok(()) => match captures.get_match() {
+            Some(_) => match captures.clone() {
+                Ok(copy) => Some(Ok(copy)),
+                Err(_) => Some(Err(SearchError::Memory)),
+            },
+            None => None,
+        },
+        Err(error) => Some(Err(error)),
+    }
+}

@@ -1,0 +1,87 @@
+//! The engine that chooses never fails, whatever memory is refused.
+
+use super::iteration::WORDS_AND_NUMBERS;
+use super::searches::are_groups;
+use super::{Seen, Wrong, engines, expect};
+use nfa_choice::choose::Choice;
+use nfa_engines::error::SearchError;
+use regex_search_core::{Input, NonMaxUsize};
+use std::alloc::Global;
+use test_support::text::parts;
+
+/// Each search answers, whatever is refused.
+pub fn searches(alloc: Global, seen: &mut Seen) -> Result<(), Wrong> {
+    finds(alloc, seen)?;
+    asks(alloc, seen)?;
+    fills(alloc, seen)
+}
+
+fn finds(alloc: Global, seen: &mut Seen) -> Result<(), Wrong> {
+    let mut choice = engines::choice(alloc, seen, "groups")?;
+    let found = choice.find(Input::new(b"ab")).map(parts);
+    expect(found == Some((0, 0, 2)), "the chosen match")
+}
+
+fn asks(alloc: Global, seen: &mut Seen) -> Result<(), Wrong> {
+    let mut choice = engines::choice(alloc, seen, "groups")?;
+    let is_match = choice.is_match(Input::new(b"ab"));
+    expect(is_match, "whether there is a chosen match")
+}
+
+fn fills(alloc: Global, seen: &mut Seen) -> Result<(), Wrong> {
+    let mut choice = engines::choice(alloc, seen, "groups")?;
+    expect_groups(&mut choice, "the chosen slots")
+}
+
+fn expect_groups(choice: &mut Choice, wrong: &'static str) -> Result<(), Wrong> {
+    let mut slots = [NonMaxUsize::new(7); 6];
+    let pattern = choice.search_slots(&Input::new(b"ab"), &mut slots);
+    expect(are_groups(pattern, &slots), wrong)
+}
+
+/// The list is whole, whatever is refused.
+pub fn lists(alloc: Global, seen: &mut Seen) -> Result<(), Wrong> {
+    let mut choice = engines::choice(alloc, seen, "words_numbers")?;
+    expect_list(&mut choice)
+}
+
+fn expect_list(choice: &mut Choice) -> Result<(), Wrong> {
+    let mut wants = WORDS_AND_NUMBERS.iter();
+    for found in choice.find_iter(Input::new(b"abc 1 foo 4567 0 quux")) {
+        expect(wants.next() == Some(&parts(found)), "a chosen item")?;
+    }
+    expect(wants.next().is_none(), "the length of the chosen list")
+}
+
+/// A refused replacement changes nothing.
+pub fn replacements(alloc: Global, seen: &mut Seen) -> Result<(), Wrong> {
+    let mut choice = engines::choice(alloc, seen, "abc")?;
+    expect_replacement(alloc, seen, &mut choice)
+}
+
+fn expect_replacement(alloc: Global, seen: &mut Seen, choice: &mut Choice) -> Result<(), Wrong> {
+    expect_abc(choice, "the old match")?;
+    if is_refused(alloc, seen, choice)? {
+        expect_abc(choice, "the old match after a refusal")?;
+        let again = is_refused(alloc, seen, choice)?;
+        expect(!again, "two refusals of a replacement")?;
+    }
+    expect_groups(choice, "the new slots")
+}
+
+fn expect_abc(choice: &mut Choice, wrong: &'static str) -> Result<(), Wrong> {
+    let found = choice.find(Input::new(b"abc")).map(parts);
+    expect(found == Some((0, 0, 3)), wrong)
+}
+
+// Whether the replacement by `groups` was refused memory.
+fn is_refused(alloc: Global, seen: &mut Seen, choice: &mut Choice) -> Result<bool, Wrong> {
+    let groups = engines::nfa(alloc, seen, "groups")?;
+    match choice.replace(groups) {
+        Ok(()) => Ok(false),
+        Err(error) => {
+            seen.note(error == SearchError::Memory)?;
+            Ok(true)
+        }
+    }
+}

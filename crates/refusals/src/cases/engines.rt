@@ -1,0 +1,55 @@
+//! What the cases search with. Where it was refused memory, it was made once more.
+
+use super::{Seen, Wrong, made};
+use nfa_choice::choose::Choice;
+use nfa_engines::backtrack::{self, BoundedBacktracker};
+use nfa_engines::error::SearchError;
+use nfa_engines::pikevm::{self, PikeVM};
+use regex_search_core::Captures;
+use std::alloc::Global;
+use test_support::made as samples;
+use test_support::made::MakeError;
+use thompson_nfa::NFA;
+
+/// The NFA of the sample.
+pub fn nfa(alloc: Global, seen: &mut Seen, name: &str) -> Result<NFA, Wrong> {
+    made!(seen, MakeError::Memory, samples::nfa_named(alloc, name))
+}
+
+/// A backtracker of the sample.
+pub fn backtracker(
+    alloc: Global,
+    seen: &mut Seen,
+    name: &str,
+) -> Result<BoundedBacktracker, Wrong> {
+    made!(seen, MakeError::Memory, samples::backtracker(alloc, name))
+}
+
+/// Captures for the backtracker.
+pub fn backtracker_captures(
+    alloc: Global,
+    seen: &mut Seen,
+    engine: &BoundedBacktracker,
+) -> Result<Captures, Wrong> {
+    made!(seen, SearchError::Memory, engine.create_captures(alloc))
+}
+
+/// A PikeVM of the sample.
+pub fn pikevm(alloc: Global, seen: &mut Seen, name: &str) -> Result<PikeVM, Wrong> {
+    made!(seen, MakeError::Memory, samples::pikevm(alloc, name))
+}
+
+/// A cache for the PikeVM.
+pub fn threads(alloc: Global, seen: &mut Seen, vm: &PikeVM) -> Result<pikevm::Cache, Wrong> {
+    made!(seen, SearchError::Memory, vm.create_cache(alloc))
+}
+
+fn choice_of(alloc: Global, name: &str) -> Result<Choice, MakeError> {
+    let nfa = samples::nfa_named(alloc, name)?;
+    Ok(Choice::new(alloc, nfa, backtrack::Config::new(), pikevm::Config::new())?)
+}
+
+/// The engine that chooses, of the sample.
+pub fn choice(alloc: Global, seen: &mut Seen, name: &str) -> Result<Choice, Wrong> {
+    made!(seen, MakeError::Memory, choice_of(alloc, name))
+}

@@ -1,0 +1,70 @@
+//! Iterations that were refused memory: a beginning of the list, the refusal once, then nothing.
+
+use super::{Seen, Wrong, engines, expect};
+use nfa_engines::backtrack::{BoundedBacktracker, TryFindMatches};
+use nfa_engines::error::SearchError;
+use regex_search_core::Input;
+use std::alloc::Global;
+use test_support::text::parts;
+
+/// The matches of `words_numbers` in `abc 1 foo 4567 0 quux`: each one's pattern, start and end.
+pub const WORDS_AND_NUMBERS: &[(usize, usize, usize)] = &[
+    (0, 0, 3),
+    (1, 4, 5),
+    (0, 6, 9),
+    (1, 10, 14),
+    (1, 15, 16),
+    (0, 17, 21),
+];
+
+// The items are these matches, or those before some place and the refusal of memory, and then nothing.
+fn expect_beginning(
+    seen: &mut Seen,
+    matches: &mut TryFindMatches<'_, '_, '_>,
+    all: &[(usize, usize, usize)],
+) -> Result<(), Wrong> {
+    for want in all {
+        match matches.next() {
+            Some(Ok(found)) => expect(parts(found) == *want, "an item")?,
+            item => {
+                seen.note(item == Some(Err(SearchError::Memory)))?;
+                break;
+            }
+        }
+    }
+    let ended = matches.next().is_none() && matches.next().is_none();
+    expect(ended, "an item behind the end")
+}
+
+// The last word takes more memory than what comes before it, so a refusal may also come after a match.
+const A_LONG_WORD: &str = "a 1 abcdefghijklmnopqrstuvwxyzabcdefghijklmnopqrstuvwxyz";
+
+/// Lists of a text whose words are short, and of one that ends in a long one.
+pub fn lists(alloc: Global, seen: &mut Seen) -> Result<(), Wrong> {
+    let engine = engines::backtracker(alloc, seen, "words_numbers")?;
+    expect_lists(alloc, seen, &engine)
+}
+
+fn expect_lists(alloc: Global, seen: &mut Seen, engine: &BoundedBacktracker) -> Result<(), Wrong> {
+    expect_list(
+        alloc,
+        seen,
+        engine,
+        "abc 1 foo 4567 0 quux",
+        WORDS_AND_NUMBERS,
+    )?;
+    let all = &[(0, 0, 1), (1, 2, 3), (0, 4, 56)];
+    expect_list(alloc, seen, engine, A_LONG_WORD, all)
+}
+
+fn expect_list(
+    alloc: Global,
+    seen: &mut Seen,
+    engine: &BoundedBacktracker,
+    haystack: &str,
+    all: &[(usize, usize, usize)],
+) -> Result<(), Wrong> {
+    let mut cache = engine.create_cache(alloc);
+    let mut matches = engine.try_find_iter(&mut cache, Input::new(haystack.as_bytes()));
+    expect_beginning(seen, &mut matches, all)
+}

@@ -1,0 +1,61 @@
+//! What is left where memory was refused: every call answers that it was refused, or what it answers otherwise, and the
+//! next one has its memory. A refusal is made by the option of `rt try` that refuses one allocation; `.ci/refusals`
+//! runs this once for each request that it makes.
+#![tactic(auto)]
+
+mod cases;
+
+use std::alloc::{AllocError, Global};
+use std::io::{Read, Write};
+use std::process::ExitCode;
+use std::{io, str};
+
+/// How many requests come after all cases. The script refuses a request with a smaller number.
+const REST: usize = 1000;
+
+// Makes so many requests for memory, and gives each one back.
+fn spend(alloc: Global, count: usize) -> Result<(), AllocError> {
+    for _ in 0..count {
+        let _spent = Vec::<u8>::with_capacity(alloc, 1)?;
+    }
+    Ok(())
+}
+
+// The number in the text, 0 for none.
+fn number_in(text: &[u8]) -> usize {
+    match str::from_utf8(text) {
+        Ok(digits) => digits.trim().parse().unwrap_or(0),
+        Err(_) => 0,
+    }
+}
+
+/// Reads how many requests to make before all cases, runs these, and says what came of them: `wrong` and the case, or
+/// `ok`; whether a call said that it was refused; and whether one of the requests behind all cases was, which shows
+/// that no earlier one was.
+fn main(rt: HostRuntime) -> io::Result<ExitCode> {
+    let mut text = [0; 16];
+    let mut input = rt.stdin();
+    let len = input.read(&mut text)?.min(16);
+    let alloc = rt.alloc();
+    let before = spend(alloc, number_in(&text[..len]));
+    let mut seen = cases::Seen::new();
+    let ended = cases::run(alloc, &mut seen);
+    let behind = spend(alloc, REST);
+    let mut out = rt.stdout();
+    let right = match ended {
+        Ok(()) => "ok",
+        Err(wrong) => wrong.text(),
+    };
+    out.write_all(right.as_bytes())?;
+    out.write_all(if seen.refused() {
+        b" refused"
+    } else {
+        b" granted"
+    })?;
+    out.write_all(if before.is_ok() && behind.is_ok() {
+        b" all\n"
+    } else {
+        b" rest-refused\n"
+    })?;
+    Ok(ExitCode::from(if ended.is_ok() { 0 } else { 1 }))
+}
