@@ -2,13 +2,9 @@
 #![tactic(auto)]
 
 pub mod bounds;
-#[cfg(test)]
-mod callers;
 pub mod laws;
 mod place;
 mod reached;
 mod targets;
-#[cfg(test)]
-mod tests;
 
 pub use bounds::records_bounds;

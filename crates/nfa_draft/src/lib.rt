@@ -51,8 +51,6 @@ mod compiler;
 mod draft;
 mod error;
 mod expr;
-#[cfg(test)]
-mod tests;
 
 pub use draft::Draft;
 pub use error::DraftError;

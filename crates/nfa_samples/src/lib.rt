@@ -7,8 +7,6 @@ ghost use Rattle.nfa_samples.specs.Names.{IsNoneOf, sample_names};
 pub mod answers;
 mod draft;
 mod tables;
-#[cfg(test)]
-mod tests;
 
 use std::alloc::Global;
 use thompson_nfa::{BuildError, NFA};

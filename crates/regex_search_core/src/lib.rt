@@ -13,8 +13,6 @@ mod primitives;
 mod refused;
 mod search;
 mod slots;
-#[cfg(test)]
-mod tests;
 
 pub use captures::Captures;
 pub use group_info::GroupInfo;

@@ -10,8 +10,6 @@ mod characters;
 mod look;
 mod nfa;
 mod state;
-#[cfg(test)]
-mod tests;
 
 pub use look::{Look, look_matches};
 pub use nfa::{BuildError, Holder, NFA};

@@ -1,6 +1,6 @@
 //! Tests of drafts: the four examples of the crate's page, the order of preference, the numbers of groups, the bytes of
 //! characters, and each error.
-use crate::{Draft, DraftError, Expr};
+use nfa_draft::{Draft, DraftError, Expr};
 use std::alloc::Global;
 use std::test::Fail;
 use thompson_nfa::{BuildError, Look, NFA, State, Transition};

@@ -2,7 +2,7 @@ ghost use Rattle.std.specs.Prelude.{◌≡◌, ◌<◌, length, map, slice_set, 
 ghost use Rattle.regex_search_core.specs.Patterns.{number_of};
 ghost use Rattle.regex_search_core.specs.PatternSets.{patterns_of};
 
-use crate::{
+use regex_search_core::{
     Anchored, Captures, GroupInfo, HalfMatch, Input, Match, MatchError, MatchKind, NonMaxUsize,
     PatternID, PatternSet, Refused, Span, StateID,
 };

@@ -1,11 +1,11 @@
 ghost use Rattle.std.specs.Prelude.{◌≡◌};
 ghost use Rattle.regex_search_core.specs.Patterns.{number_of};
 
-use crate::{BuildError, Holder, Look, NFA, State, Transition, look_matches};
 use regex_search_core::{GroupInfo, PatternID, StateID};
 use std::alloc::Global;
 use std::process::Abort;
 use std::test::Fail;
+use thompson_nfa::{BuildError, Holder, Look, NFA, State, Transition, look_matches};
 
 fn id(rt: &impl Abort, number: usize) -> StateID
     ensures { result ≡ number }

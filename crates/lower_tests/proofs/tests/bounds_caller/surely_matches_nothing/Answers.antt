@@ -7,7 +7,7 @@ use Rattle.regex_search_core.specs.declared.search.Match.{Match}
 use Rattle.thompson_nfa.specs.Automaton.{IsAutomaton}
 use Rattle.nfa_engines.specs.Engines.{kind_of}
 use Rattle.nfa_bounds.specs.Ways.{RecordsBounds}
-use Rattle.nfa_bounds.proofs.callers.surely_matches_nothing.Goals as goal
+use Rattle.lower_tests.proofs.tests.bounds_caller.surely_matches_nothing.Goals as goal
 
 none-found : (o : Option Match) → is_some o ≡ false → option_map found_of o ≡ None
 none-found None e = refl

@@ -5,8 +5,8 @@ ghost use Rattle.nfa_engines.specs.Engines.{Fits};
 ghost use Rattle.nfa_paths.specs.Graphs.{NoPath};
 ghost use Rattle.nfa_paths.specs.Paths.{edges, starts, is_utf8_empty, IsMatch};
 
-use crate::laws::no_match_is_passed_over;
-use crate::records_bounds;
+use nfa_bounds::laws::no_match_is_passed_over;
+use nfa_bounds::records_bounds;
 use nfa_engines::pikevm::{Cache, PikeVM};
 use regex_search_core::Input;
 use std::alloc::{AllocError, Global};

@@ -1,5 +1,5 @@
 //! The sample NFAs, and mistakes by hand.
-use super::*;
+use nfa_bounds::records_bounds;
 use nfa_samples::sample;
 use regex_search_core::{GroupInfo, PatternID, StateID};
 use std::alloc::Global;
