@@ -1,7 +1,7 @@
 //! The first program of the README: all matches of `ab+` in a text, by an NFA that is written out.
 #![tactic(auto)]
 
-use anyhow::{Context, Result, anyhow};
+use anyhow::{Context, Result};
 use nfa_engines::pikevm::PikeVM;
 use regex_search_core::{GroupInfo, Input, PatternID, StateID};
 use std::alloc::Global;
@@ -47,15 +47,14 @@ fn ab_plus(alloc: Global) -> Result<NFA> {
     states.push(bytes(0, 255, 6)?)?;
     let groups = GroupInfo::new(vec![in alloc; Vec::new(alloc)]?).context("too many groups")?;
     let patterns = vec![in alloc; state(0)?]?;
-    NFA::from_states(states, state(0)?, state(6)?, patterns, groups, false, true).map_err(
-        |error| anyhow!("{error:?}"),
-    )
+    let nfa = NFA::from_states(states, state(0)?, state(6)?, patterns, groups, false, true)?;
+    Ok(nfa)
 }
 
 fn main(rt: HostRuntime) -> Result<()> {
     let alloc = rt.alloc();
     let nfa = ab_plus(alloc)?;
-    let vm = PikeVM::new_from_nfa(nfa).map_err(|error| anyhow!("{error:?}"))?;
+    let vm = PikeVM::new_from_nfa(nfa)?;
     let mut cache = vm.create_cache(alloc)?;
     let text = "ab, abb and b";
     for found in vm.find_iter(&mut cache, Input::new(text.as_bytes())) {

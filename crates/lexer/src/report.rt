@@ -3,7 +3,7 @@ ghost use Rattle.std.specs.Prelude.{◌≤◌, length};
 
 use crate::lexer::{Token, tokens};
 use crate::patterns::{NAMES, SPACE, language};
-use anyhow::{Result, anyhow};
+use anyhow::Result;
 use nfa_engines::pikevm::PikeVM;
 use std::alloc::Global;
 use std::io;
@@ -13,7 +13,7 @@ use std::io::Write;
 /// offset no token starts. The error is that the output was not written, or memory refused; nothing more is written
 /// then.
 pub fn run<W: Write>(alloc: Global, text: &[u8], out: &mut W) -> Result<bool> {
-    let vm = PikeVM::new_from_nfa(language(alloc)?).map_err(|error| anyhow!("{error:?}"))?;
+    let vm = PikeVM::new_from_nfa(language(alloc)?)?;
     let mut cache = vm.create_cache(alloc)?;
     let lexed = tokens(alloc, &vm, &mut cache, text)?;
     for token in &lexed.tokens {

@@ -6,7 +6,7 @@ ghost use Rattle.nfa_engines.specs.Paths.{IsAnswer};
 ghost use Rattle.log_extractor.specs.Spans.{LieInOrder};
 
 use crate::pattern::line_nfa;
-use anyhow::{Result, anyhow};
+use anyhow::Result;
 use nfa_engines::pikevm::{Cache, PikeVM};
 use regex_search_core::{Captures, Input, Span};
 use std::alloc::Global;
@@ -84,7 +84,7 @@ impl Parser {
         ensures anchored { IfOk result (λ parser. parser.nfa.anchored ≡ parser.nfa.unanchored) }
     {
         let nfa = line_nfa(alloc)?;
-        let vm = PikeVM::new_from_nfa(nfa).map_err(|error| anyhow!("{error:?}"))?;
+        let vm = PikeVM::new_from_nfa(nfa)?;
         let cache = vm.create_cache(alloc)?;
         let captures = vm.create_captures(alloc)?;
         Ok(Parser {

@@ -87,12 +87,14 @@ impl BoundedBacktracker {
         ensures apart { IfOk result (CatchesApart (search_of input.entry)) }
     {
         let captures = self.create_captures(alloc)?;
-        Ok(self.catch_from(cache, input, captures))
+        Ok(self.try_captures_iter_with(cache, input, captures))
     }
 
-    // The iterator that searches with these captures.
+    /// The same, searching with captures that the caller made, with all groups of this NFA
+    /// ([`BoundedBacktracker::create_captures`]). It cannot fail, and the caller keeps sight of its cache: what is lent in
+    /// a `Result` is lost from sight.
     #[inline]
-    fn catch_from<'r, 'c, 'h>(
+    pub fn try_captures_iter_with<'r, 'c, 'h>(
         &'r self,
         cache: &'c mut Cache,
         input: Input<'h>,
@@ -104,6 +106,20 @@ impl BoundedBacktracker {
         ensures engine { catch_engine result ≡ self.now }
         ensures walk { catch_walk result ≡ fresh (search_of input.entry) }
         ensures going { catch_is_done result ≡ false }
+        // Each run of calls gives the first captures of the input, and all of them where it goes on to `None`.
+        ensures runs { CatchesRun self.now (search_of input.entry) result }
+        ensures first { CatchesFirst self.now (search_of input.entry) result }
+        ensures next { CatchesNext self.now (search_of input.entry) result }
+        ensures refused { CatchesRefused self.now (search_of input.entry) result }
+        // Where no copy is refused, their rows and their matches are those of the input.
+        ensures rows { CatchesRows self.now (search_of input.entry) result }
+        ensures matches { CatchesMatch self.now (search_of input.entry) result }
+        ensures first_matches { CatchesFirstMatches self.now (search_of input.entry) result }
+        ensures next_match { CatchesNextMatch self.now (search_of input.entry) result }
+        ensures all_matches { CatchesAllMatches self.now (search_of input.entry) result }
+        ensures groups { CatchesGroups self.now result }
+        ensures inside { CatchesWithin (search_of input.entry) result }
+        ensures apart { CatchesApart (search_of input.entry) result }
     {
         TryCapturesMatches {
             cache,

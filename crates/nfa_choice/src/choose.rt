@@ -1,3 +1,14 @@
+//! The engine that takes one of the two for each search, and never fails.
+//!
+//! Take it where one NFA is searched and neither engine is wanted for its own sake. It holds both and their caches, so
+//! it takes the memory of both; one of the two alone is the leaner choice where its limits suit.
+//!
+//! ```
+//! let mut choice = Choice::new(alloc, nfa, backtrack::Config::new(), pikevm::Config::new())?;
+//! if let Some(found) = choice.find(Input::new(text)) {
+//!     println!(rt; "{}..{}", found.start(), found.end())?;
+//! }
+//! ```
 ghost use Rattle.std.specs.Prelude.{◌≡◌, length, None, Some, Ok, false, option_map, IfOk, OnOk, OnErr, IsOkUnless};
 ghost use Rattle.regex_search_core.specs.Search.{search_of};
 ghost use Rattle.regex_search_core.specs.Patterns.{number_of};

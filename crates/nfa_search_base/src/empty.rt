@@ -3,6 +3,9 @@
 //! Where matches are to be UTF-8, a match without bytes that lies inside a character does not
 //! count. A search that found one goes on from one byte further, as often as it takes. The rule is
 //! that of regex-automata's `util::empty`.
+//!
+//! The engines skip by themselves. Take these functions for an engine of another make, which finds matches inside characters:
+//! they are handed its first answer and call it again where that does not count.
 
 ghost use Rattle.std.specs.Prelude.{◌≡◌, Some, None, Ok, true, false};
 ghost use Rattle.regex_search_core.specs.Boundary.{IsBoundary};

@@ -5,6 +5,16 @@
 //! ended would come again and again; in its place the step asks once more from one byte further.
 //! So the ends of the matches go up, and there are at most as many matches as the span has bytes,
 //! and one more. The rule is that of regex-automata's `util::iter`.
+//!
+//! The engines have iterators of their own (`find_iter`, `captures_iter`). Take a searcher for a search of another make, or
+//! where something is to happen between the steps.
+//!
+//! ```
+//! let mut searcher = Searcher::new(Input::new(text));
+//! while let Some(found) = searcher.try_advance(|input| engine.try_find(&mut cache, *input))? {
+//!     println!(rt; "{}..{}", found.start(), found.end())?;
+//! }
+//! ```
 
 mod captures_matches;
 pub mod catching;

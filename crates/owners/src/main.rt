@@ -6,7 +6,7 @@ mod matcher;
 
 use crate::highlighter::Highlighter;
 use crate::matcher::Matcher;
-use anyhow::{Context, Result, anyhow};
+use anyhow::{Context, Result};
 use nfa_engines::pikevm::PikeVM;
 use nfa_samples::sample;
 use std::alloc::Global;
@@ -14,8 +14,7 @@ use thompson_nfa::NFA;
 
 // The sample NFA of this name.
 fn named(alloc: Global, name: &str) -> Result<NFA> {
-    let made = sample(alloc, name).map_err(|error| anyhow!("{error:?}"))?;
-    made.context("there is no NFA of this name")
+    sample(alloc, name)?.context("there is no NFA of this name")
 }
 
 fn main(rt: HostRuntime) -> Result<()> {
@@ -25,7 +24,7 @@ fn main(rt: HostRuntime) -> Result<()> {
     highlighter.look_for(named(alloc, "abc")?)?;
     println!(rt; "{}", highlighter.marked(b"foo1 foo12 abc"))?;
 
-    let vm = PikeVM::new_from_nfa(named(alloc, "abc")?).map_err(|error| anyhow!("{error:?}"))?;
+    let vm = PikeVM::new_from_nfa(named(alloc, "abc")?)?;
     let mut matcher = Matcher::new(alloc, vm)?;
     println!(rt; "{:?}", matcher.find(b"xabc").map(|found| found.start()))?;
     Ok(())

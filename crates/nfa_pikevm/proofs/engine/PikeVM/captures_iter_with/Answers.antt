@@ -1,58 +1,59 @@
 -- The iterator gives the captures of its input, and keeps the cache.
+use Rattle.std.proofs.Common.{◌≡◌, refl}
 use Rattle.regex_search_core.specs.Search.{search_of}
 use Rattle.nfa_pikevm.proofs.CaughtLemmas.{catches-run, catches-first, catches-next, catches-memory, catches-rows}
 use Rattle.nfa_pikevm.proofs.CaughtLemmas.{catches-match, catches-first_matches, catches-next_match}
 use Rattle.nfa_pikevm.proofs.CaughtLemmas.{catches-all_matches, catches-groups, catches-within, catches-apart}
 use Rattle.nfa_pikevm.proofs.CaughtLemmas.{catches-cache}
-use Rattle.nfa_pikevm.proofs.engine.PikeVM.captures_iter.Goals as goal
+use Rattle.nfa_pikevm.proofs.engine.PikeVM.captures_iter_with.Goals as goal
 
 pub returns-clause-runs : goal.returns-clause-runs
 returns-clause-runs c = catches-run c.args.self.now (search_of c.args.input) _
-    c.catch_from.ensures.engine c.catch_from.ensures.walk c.catch_from.ensures.going
+    refl c.new.ensures refl
 
 pub returns-clause-first : goal.returns-clause-first
 returns-clause-first c = catches-first c.args.self.now (search_of c.args.input) _
-    c.catch_from.ensures.engine c.catch_from.ensures.walk c.catch_from.ensures.going
+    refl c.new.ensures refl
 
 pub returns-clause-next : goal.returns-clause-next
 returns-clause-next c = catches-next c.args.self.now (search_of c.args.input) _
-    c.catch_from.ensures.engine c.catch_from.ensures.walk c.catch_from.ensures.going
+    refl c.new.ensures refl
 
 pub returns-clause-errors : goal.returns-clause-errors
 returns-clause-errors c = catches-memory c.args.self.now (search_of c.args.input) _
-    c.catch_from.ensures.engine c.catch_from.ensures.walk c.catch_from.ensures.going
+    refl c.new.ensures refl
 
 pub returns-clause-rows : goal.returns-clause-rows
 returns-clause-rows c = catches-rows c.args.self.now (search_of c.args.input) _
-    c.catch_from.ensures.engine c.catch_from.ensures.walk c.catch_from.ensures.going
+    refl c.new.ensures refl
 
 pub returns-clause-matches : goal.returns-clause-matches
 returns-clause-matches c = catches-match c.args.self.now (search_of c.args.input) _
-    c.catch_from.ensures.engine c.catch_from.ensures.walk c.catch_from.ensures.going
+    refl c.new.ensures refl
 
 pub returns-clause-first_matches : goal.returns-clause-first_matches
 returns-clause-first_matches c = catches-first_matches c.args.self.now (search_of c.args.input) _
-    c.catch_from.ensures.engine c.catch_from.ensures.walk c.catch_from.ensures.going
+    refl c.new.ensures refl
 
 pub returns-clause-next_match : goal.returns-clause-next_match
 returns-clause-next_match c = catches-next_match c.args.self.now (search_of c.args.input) _
-    c.catch_from.ensures.engine c.catch_from.ensures.walk c.catch_from.ensures.going
+    refl c.new.ensures refl
 
 pub returns-clause-all_matches : goal.returns-clause-all_matches
 returns-clause-all_matches c = catches-all_matches c.args.self.now (search_of c.args.input) _
-    c.catch_from.ensures.engine c.catch_from.ensures.walk c.catch_from.ensures.going
+    refl c.new.ensures refl
 
 pub returns-clause-groups : goal.returns-clause-groups
 returns-clause-groups c = catches-groups c.args.self.now (search_of c.args.input) _
-    c.catch_from.ensures.engine c.catch_from.ensures.walk c.catch_from.ensures.going
+    refl c.new.ensures refl
 
 pub returns-clause-inside : goal.returns-clause-inside
 returns-clause-inside c = catches-within c.args.self.now (search_of c.args.input) _
-    c.catch_from.ensures.engine c.catch_from.ensures.walk c.catch_from.ensures.going
+    refl c.new.ensures refl
 
 pub returns-clause-apart : goal.returns-clause-apart
 returns-clause-apart c = catches-apart c.args.self.now (search_of c.args.input) _
-    c.catch_from.ensures.engine c.catch_from.ensures.walk c.catch_from.ensures.going
+    refl c.new.ensures refl
 
 pub returns-clause-keeps : goal.returns-clause-keeps
 returns-clause-keeps c = catches-cache _
