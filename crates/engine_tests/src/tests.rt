@@ -1,6 +1,5 @@
 //! Both engines side by side.
 
-mod choice;
 mod expected;
 mod grid;
 mod memory;

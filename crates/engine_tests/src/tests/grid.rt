@@ -1,48 +1,55 @@
-//! Both engines over each sample, each span of some haystacks, and three ways to be anchored.
+//! Both engines and the one that chooses over each sample, each span of some haystacks, three ways to be anchored,
+//! both match kinds, with `earliest` and without it; by every call, with caches and captures that all of them share.
 
-use super::expected::searches_of;
-use regex_search_core::{Input, NonMaxUsize, PatternID};
-use std::alloc::{AllocError, Global};
+use super::shapes::{Shape, nfa_of};
+use nfa_choice::choose::Choice;
+use nfa_engines::backtrack::{self, BoundedBacktracker};
+use nfa_engines::error::SearchError;
+use nfa_engines::pikevm::{self, PikeVM};
+use regex_search_core::{
+    Anchored, Captures, Input, Match, MatchKind, NonMaxUsize, PatternID, PatternSet,
+};
+use std::alloc::Global;
 use std::process::Abort;
 use std::test::Fail;
-use test_support::engines::Engines;
+use test_support::made::{MakeError, nfa_named};
+use thompson_nfa::NFA;
 
-// A name, and the number that `fold` makes of the answers of all searches of `sum_of_answers`. The numbers were made of
-// the answers of regex-automata 0.4.18, whose two engines agree on all of them. Where three numbers are one, the NFA
-// matches in no haystack.
+// A name, and the number that is made of the answers of all searches. The numbers were made of the answers of
+// regex-automata 0.4.18 to single searches. Where three numbers are one, the NFA matches in no haystack.
 const SUMS: &[(&str, u64)] = &[
-    ("abc", 6114000370497124573),
-    ("ab_b", 7921167313159344319),
-    ("ab_abc", 18234123508851554748),
-    ("abc_ab", 2080587829107650333),
-    ("abc_b", 329028732757671169),
-    ("foo_bar", 15807519903281386649),
-    ("b_a", 15121163269742188225),
-    ("abc_a", 12766498428122868003),
-    ("a_or_empty", 9535187596980062747),
-    ("empty_or_a", 18040614013609830743),
-    ("empty", 18040614013609830743),
-    ("empty_bytes", 5693984689585640698),
-    ("empty_anchored", 18040614013609830743),
-    ("a_star", 9535187596980062747),
-    ("a_star_bytes", 18300660544919945949),
-    ("groups", 5528461885813305438),
-    ("loop", 3412657316545985367),
-    ("a_bare", 13406972351330660317),
-    ("a_pair", 4230347308789665660),
-    ("backwards", 10775096324400145177),
-    ("snowman", 17651825586890665913),
-    ("three_digits", 2536045132945509081),
-    ("alnum100", 16886453550929295065),
-    ("words_numbers", 527952213956436386),
-    ("abcd_b", 7329869646454673855),
-    ("foo_num", 16886453550929295065),
-    ("date", 16886453550929295065),
-    ("six", 13687004155275439929),
+    ("abc", 1073445205584458115),
+    ("ab_b", 17847612172637480905),
+    ("ab_abc", 3546681339073661287),
+    ("abc_ab", 18178274804827473669),
+    ("abc_b", 15896274133029312011),
+    ("foo_bar", 15115372771593587566),
+    ("b_a", 18333193516565693070),
+    ("abc_a", 13454135003102027110),
+    ("a_or_empty", 6263019830230820522),
+    ("empty_or_a", 16340759906788124876),
+    ("empty", 490430994998544126),
+    ("empty_bytes", 11881321417229971175),
+    ("empty_anchored", 11933276450334700615),
+    ("a_star", 6263019830230820522),
+    ("a_star_bytes", 7984380836405165352),
+    ("groups", 6446722319080647827),
+    ("loop", 490430994998544126),
+    ("a_bare", 3256861055375242188),
+    ("a_pair", 5709816303869469447),
+    ("backwards", 5398625117572967628),
+    ("snowman", 17430621074359912420),
+    ("three_digits", 1982576422890531712),
+    ("alnum100", 8226421845723665152),
+    ("words_numbers", 2700757995691247267),
+    ("abcd_b", 4895971592090011833),
+    ("foo_num", 8226421845723665152),
+    ("date", 9089826757109408327),
+    ("six", 11344743617873340256),
 ];
 
-/// Haystacks of which both engines search each span.
-pub const HAYSTACKS: &[&[u8]] = &[
+// Haystacks of which each span is searched.
+const HAYSTACKS: &[&[u8]] = &[
     b"",
     b"a",
     b"ab",
@@ -60,12 +67,13 @@ fn fold(sum: u64, value: u64) -> u64 {
     sum.wrapping_mul(31).wrapping_add(value)
 }
 
-// The answer: 0 for none; else the pattern, and each slot, one more than it is, a slot that is none as 0.
-fn fold_answer(sum: u64, pattern: Option<PatternID>, slots: &[Option<NonMaxUsize>]) -> u64 {
-    let Some(pattern) = pattern else {
-        return fold(sum, 0);
+// A pattern as one more than it is, none as 0; then each slot in the same way.
+fn fold_slots(sum: u64, pattern: Option<PatternID>, slots: &[Option<NonMaxUsize>]) -> u64 {
+    let number = match pattern {
+        Some(pattern) => (pattern.as_usize() as u64).wrapping_add(1),
+        None => 0,
     };
-    let mut sum = fold(sum, (pattern.as_usize() as u64).wrapping_add(1));
+    let mut sum = fold(sum, number);
     for slot in slots {
         sum = match slot {
             Some(offset) => fold(sum, (offset.get() as u64).wrapping_add(1)),
@@ -75,77 +83,320 @@ fn fold_answer(sum: u64, pattern: Option<PatternID>, slots: &[Option<NonMaxUsize
     sum
 }
 
-/// Slots for both engines.
-#[derive(Drop)]
-pub struct Slots {
-    first: Vec<Option<NonMaxUsize>>,
-    second: Vec<Option<NonMaxUsize>>,
+// One more than the pattern, the start and the end; none as 0.
+fn fold_match(sum: u64, found: Option<Match>) -> u64 {
+    match found {
+        Some(found) => {
+            let sum = fold(sum, (found.pattern().as_usize() as u64).wrapping_add(1));
+            fold(fold(sum, found.start() as u64), found.end() as u64)
+        }
+        None => fold(sum, 0),
+    }
 }
 
-impl Slots {
-    /// So many for each.
-    pub fn new(alloc: Global, len: usize) -> Result<Slots, AllocError> {
-        Ok(Slots {
-            first: vec![in alloc; NonMaxUsize::new(7); len]?,
-            second: vec![in alloc; NonMaxUsize::new(8); len]?,
+fn fold_is_match(sum: u64, is_match: bool) -> u64 {
+    fold(sum, if is_match { 1 } else { 0 })
+}
+
+/// What all searches write to, whatever it was used for before: a cache for each engine, slots, and captures of
+/// another NFA.
+#[derive(Drop)]
+pub struct Shared {
+    alloc: Global,
+    marks: backtrack::Cache,
+    threads: pikevm::Cache,
+    captures: Captures,
+    slots: [Option<NonMaxUsize>; 20],
+}
+
+impl Shared {
+    /// Things of an NFA with twelve slots.
+    pub fn new(alloc: Global) -> Result<Shared, MakeError> {
+        let vm = PikeVM::new_from_nfa(nfa_of(alloc, Shape::Captures(9))?)?;
+        Shared::of(alloc, &vm)
+    }
+
+    fn of(alloc: Global, vm: &PikeVM) -> Result<Shared, MakeError> {
+        Ok(Shared {
+            alloc,
+            marks: marks(alloc)?,
+            threads: vm.create_cache(alloc)?,
+            captures: vm.create_captures(alloc)?,
+            slots: [NonMaxUsize::new(7); 20],
         })
     }
 }
 
-// The answer that both give.
+fn marks(alloc: Global) -> Result<backtrack::Cache, MakeError> {
+    let engine = BoundedBacktracker::never_match(alloc)?;
+    Ok(engine.create_cache(alloc))
+}
+
+// What the backtracker answers, by every call.
+fn sum_backtracked(
+    engine: &BoundedBacktracker,
+    input: &Input<'_>,
+    shared: &mut Shared,
+) -> Result<u64, SearchError> {
+    let Shared {
+        marks,
+        captures,
+        slots,
+        ..
+    } = shared;
+    let pattern = engine.try_search_slots(marks, input, slots)?;
+    let sum = fold_slots(SEED, pattern, slots);
+    let sum = fold_match(sum, engine.try_find(marks, *input)?);
+    let sum = fold_is_match(sum, engine.try_is_match(marks, *input)?);
+    engine.try_search(marks, input, captures)?;
+    let mut sum = fold_slots(sum, captures.pattern(), captures.slots());
+    for found in engine.try_find_iter(marks, *input) {
+        sum = fold_match(sum, Some(found?));
+    }
+    Ok(sum)
+}
+
+// What the PikeVM answers, by every call but that for overlapping matches. 0 where the cache does not fit.
+fn sum_piked(vm: &PikeVM, input: &Input<'_>, shared: &mut Shared) -> u64 {
+    let Shared {
+        threads,
+        captures,
+        slots,
+        ..
+    } = shared;
+    if !threads.fits(vm) {
+        return 0;
+    }
+    let pattern = vm.search_slots(threads, input, slots);
+    let sum = fold_slots(SEED, pattern, slots);
+    let sum = fold_match(sum, vm.find(threads, *input));
+    let sum = fold_is_match(sum, vm.is_match(threads, *input));
+    vm.search(threads, input, captures);
+    let mut sum = fold_slots(sum, captures.pattern(), captures.slots());
+    for found in vm.find_iter(threads, *input) {
+        sum = fold_match(sum, Some(found));
+    }
+    sum
+}
+
+// What the engine that chooses answers, by every call.
+fn sum_chosen(choice: &mut Choice, input: &Input<'_>, shared: &mut Shared) -> u64 {
+    let Shared {
+        captures,
+        slots,
+        ..
+    } = shared;
+    let pattern = choice.search_slots(input, slots);
+    let sum = fold_slots(SEED, pattern, slots);
+    let sum = fold_match(sum, choice.find(*input));
+    let sum = fold_is_match(sum, choice.is_match(*input));
+    choice.search(input, captures);
+    let mut sum = fold_slots(sum, captures.pattern(), captures.slots());
+    for found in choice.find_iter(*input) {
+        sum = fold_match(sum, Some(found));
+    }
+    sum
+}
+
+// What an empty set gains in a search for overlapping matches. 0 where the cache does not fit.
+fn sum_of_set(
+    alloc: Global,
+    vm: &PikeVM,
+    threads: &mut pikevm::Cache,
+    input: &Input<'_>,
+) -> Result<u64, MakeError> {
+    if !threads.fits(vm) {
+        return Ok(0);
+    }
+    let mut set = PatternSet::new(alloc, 4)?;
+    vm.which_overlapping_matches(threads, input, &mut set);
+    let mut sum = SEED;
+    for pattern in set.iter() {
+        sum = fold(sum, (pattern.as_usize() as u64).wrapping_add(1));
+    }
+    Ok(sum)
+}
+
+// Both engines over one NFA.
+#[derive(Clone, Copy, Debug)]
+struct Pair<'a> {
+    back: &'a BoundedBacktracker,
+    vm: &'a PikeVM,
+}
+
+impl<'a> Pair<'a> {
+    fn is_leftmost(&self) -> bool {
+        self.vm.get_config().get_match_kind() == MatchKind::LeftmostFirst
+    }
+
+    // Whether regex-automata means another set of overlapping matches by the search: it means all of them in an
+    // unanchored search of the kind `All` without `earliest`.
+    fn is_unlike(&self, input: &Input<'_>) -> bool {
+        self.is_leftmost()
+            || input.get_earliest()
+            || input.get_anchored().is_anchored()
+            || self.vm.get_nfa().is_always_start_anchored()
+    }
+}
+
+// The sum with the answers of one search, which are those of all.
 fn fold_search(
     rt: &impl Abort,
-    engines: &mut Engines,
-    slots: &mut Slots,
+    pair: &Pair<'_>,
+    choice: &mut Choice,
+    shared: &mut Shared,
     sum: u64,
     input: &Input<'_>,
 ) -> Result<u64, Fail> {
-    let (found, same) = engines.search_slots(input, &mut slots.first, &mut slots.second);
-    let found = found?;
-    assert_eq!(rt; found, same, "{input:?}");
-    assert_eq!(rt;
-        slots.first.as_slice(),
-        slots.second.as_slice(),
-        "{input:?}"
-    );
-    Ok(fold_answer(sum, found, slots.first.as_slice()))
+    let piked = sum_piked(pair.vm, input, shared);
+    assert_eq!(rt; sum_chosen(choice, input, shared), piked, "{input:?}");
+    if pair.is_leftmost() && !input.get_earliest() {
+        let backtracked = sum_backtracked(pair.back, input, shared)?;
+        assert_eq!(rt; backtracked, piked, "{input:?}");
+    }
+    fold_set(pair, shared, fold(sum, piked), input)
 }
 
-/// The sum with the answers of all these searches, which are those of both.
-pub fn fold_searches(
-    rt: &impl Abort,
-    engines: &mut Engines,
-    slots: &mut Slots,
+// The set counts where regex-automata means the same.
+fn fold_set(
+    pair: &Pair<'_>,
+    shared: &mut Shared,
     sum: u64,
-    inputs: &[Input<'_>],
+    input: &Input<'_>,
 ) -> Result<u64, Fail> {
+    let set = sum_of_set(shared.alloc, pair.vm, &mut shared.threads, input)?;
+    if pair.is_unlike(input) {
+        return Ok(sum);
+    }
+    Ok(fold(sum, set))
+}
+
+// A cache that is no larger than it has to be makes no other set.
+fn expect_same_set(
+    rt: &impl Abort,
+    pair: &Pair<'_>,
+    shared: &mut Shared,
+    haystack: &[u8],
+) -> Result<(), Fail> {
+    let input = Input::new(haystack);
+    let mut own = pair.vm.create_cache(shared.alloc)?;
+    let set = sum_of_set(shared.alloc, pair.vm, &mut own, &input)?;
+    let same = sum_of_set(shared.alloc, pair.vm, &mut shared.threads, &input)?;
+    assert_eq!(rt; set, same, "{input:?}");
+    Ok(())
+}
+
+// The searches of each span of the haystack: unanchored, anchored, and anchored for the first pattern.
+fn searches_of<'h>(alloc: Global, haystack: &'h [u8]) -> Result<Vec<Input<'h>>, Fail> {
+    let mut searches = Vec::new(alloc);
+    for start in 0..haystack.len() + 1 {
+        for end in start..haystack.len() + 1 {
+            add_modes(&mut searches, Input::new(haystack).range(start..end))?;
+        }
+    }
+    Ok(searches)
+}
+
+fn add_modes<'h>(searches: &mut Vec<Input<'h>>, input: Input<'h>) -> Result<(), Fail> {
+    let first = PatternID::new(0).ok_or("too great a number")?;
+    for mode in [Anchored::No, Anchored::Yes, Anchored::Pattern(first)] {
+        searches.push(input.anchored(mode))?;
+        searches.push(input.anchored(mode).earliest(true))?;
+    }
+    Ok(())
+}
+
+fn fold_haystack(
+    rt: &impl Abort,
+    pair: &Pair<'_>,
+    choice: &mut Choice,
+    shared: &mut Shared,
+    sum: u64,
+    haystack: &[u8],
+) -> Result<u64, Fail> {
+    expect_same_set(rt, pair, shared, haystack)?;
     let mut sum = sum;
-    for input in inputs {
-        sum = fold_search(rt, engines, slots, sum, input)?;
+    for input in &searches_of(shared.alloc, haystack)? {
+        sum = fold_search(rt, pair, choice, shared, sum, input)?;
     }
     Ok(sum)
 }
 
-fn sum_of_answers(rt: &impl Abort, alloc: Global, engines: &mut Engines) -> Result<u64, Fail> {
-    let mut slots = Slots::new(alloc, engines.slot_len())?;
-    let mut sum = SEED;
-    for &haystack in HAYSTACKS {
-        let inputs = searches_of(alloc, haystack)?;
-        sum = fold_searches(rt, engines, &mut slots, sum, &inputs)?;
+// No marks, or 64 or 128 of them, so that `Choice` asks one engine, or the other, or each for its lengths.
+fn choice_of(alloc: Global, pair: &Pair<'_>) -> Result<Choice, MakeError> {
+    let nfa = pair.back.get_nfa();
+    let bytes = nfa.states().len() % 3 * 8;
+    let back = backtrack::Config::new().visited_capacity(bytes);
+    Ok(Choice::new(alloc, nfa.clone()?, back, *pair.vm.get_config())?)
+}
+
+fn fold_haystacks(
+    rt: &impl Abort,
+    pair: &Pair<'_>,
+    shared: &mut Shared,
+    sum: u64,
+    haystacks: &[&[u8]],
+) -> Result<u64, Fail> {
+    let mut choice = choice_of(shared.alloc, pair)?;
+    let mut sum = sum;
+    for haystack in haystacks {
+        sum = fold_haystack(rt, pair, &mut choice, shared, sum, haystack)?;
     }
     Ok(sum)
 }
 
-fn sum_of_sample(rt: &impl Abort, alloc: Global, name: &str) -> Result<u64, Fail> {
-    let mut engines = Engines::of_sample(alloc, name)?;
-    sum_of_answers(rt, alloc, &mut engines)
+fn pikevm_of(nfa: &NFA, kind: MatchKind) -> Result<PikeVM, MakeError> {
+    let mut builder = PikeVM::builder();
+    builder.configure(pikevm::Config::new().match_kind(kind));
+    Ok(builder.build_from_nfa(nfa.clone()?)?)
 }
 
-#[test]
-fn both_engines_give_the_answers_of_regex_automata(rt: HostRuntime) -> Result<(), Fail> {
+fn fit(vm: &PikeVM, threads: &mut pikevm::Cache) -> Result<(), SearchError> {
+    if !threads.fits(vm) {
+        vm.reset_cache(threads)?;
+    }
+    Ok(())
+}
+
+fn fold_kind(
+    rt: &impl Abort,
+    back: &BoundedBacktracker,
+    kind: MatchKind,
+    shared: &mut Shared,
+    sum: u64,
+    haystacks: &[&[u8]],
+) -> Result<u64, Fail> {
+    let vm = pikevm_of(back.get_nfa(), kind)?;
+    fit(&vm, &mut shared.threads)?;
+    let pair = Pair { back, vm: &vm };
+    fold_haystacks(rt, &pair, shared, sum, haystacks)
+}
+
+/// The sum with the answers of all searches of the NFA: leftmost first, then those of the kind `All`.
+pub fn fold_nfa(
+    rt: &impl Abort,
+    nfa: NFA,
+    shared: &mut Shared,
+    sum: u64,
+    haystacks: &[&[u8]],
+) -> Result<u64, Fail> {
+    let back = BoundedBacktracker::new_from_nfa(nfa)?;
+    let sum = fold_kind(rt, &back, MatchKind::LeftmostFirst, shared, sum, haystacks)?;
+    fold_kind(rt, &back, MatchKind::All, shared, sum, haystacks)
+}
+
+fn expect_sums(rt: &impl Abort, alloc: Global, shared: &mut Shared) -> Result<(), Fail> {
     for &(name, want) in SUMS {
-        let sum = sum_of_sample(&rt, rt.alloc(), name)?;
+        let nfa = nfa_named(alloc, name)?;
+        let sum = fold_nfa(rt, nfa, shared, SEED, HAYSTACKS)?;
         assert_eq!(rt; sum, want, "{name}");
     }
     Ok(())
+}
+
+#[test]
+fn all_calls_give_the_answers_of_regex_automata(rt: HostRuntime) -> Result<(), Fail> {
+    let alloc = rt.alloc();
+    let mut shared = Shared::new(alloc)?;
+    expect_sums(&rt, alloc, &mut shared)
 }
