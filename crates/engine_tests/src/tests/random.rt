@@ -10,13 +10,13 @@ use thompson_nfa::{Look, NFA};
 
 const HAYSTACKS: &[&[u8]] = &[b"", b"ab", b"abca", b"a\xE2\x98\x83", b"\x80b a"];
 
-const COUNT: usize = 250;
+const COUNT: usize = 100;
 
 const FIRST_STATE: u64 = 2010;
 
 // The number that is made of the answers of all searches of all NFAs. It was made of the answers of regex-automata
 // 0.4.18 to single searches, over the NFAs that the same generator made in another language.
-const SUM: u64 = 11491853418209309144;
+const SUM: u64 = 10572554243172587508;
 
 // A linear congruential generator.
 #[derive(Clone, Copy, Debug)]
