@@ -7,3 +7,4 @@ mod odd;
 mod random;
 mod samples;
 mod shapes;
+mod sums;

@@ -1,14 +1,14 @@
 //! Both engines and the one that chooses over each sample, each span of some haystacks, four ways to search it, and both
 //! match kinds; by every call, with caches and captures that all of them share.
 
-use super::shapes::{Shape, nfa_of};
+use super::sums::{
+    SEED, Shared, fold, sum_backtracked, sum_chosen, sum_of_own_set, sum_of_set, sum_piked,
+};
 use nfa_choice::choose::Choice;
 use nfa_engines::backtrack::{self, BoundedBacktracker};
 use nfa_engines::error::SearchError;
 use nfa_engines::pikevm::{self, PikeVM};
-use regex_search_core::{
-    Anchored, Captures, Input, Match, MatchKind, NonMaxUsize, PatternID, PatternSet,
-};
+use regex_search_core::{Anchored, Input, MatchKind, PatternID};
 use std::alloc::Global;
 use std::process::Abort;
 use std::test::Fail;
@@ -58,163 +58,6 @@ const HAYSTACKS: &[&[u8]] = &[
     b" 123",
     b"\x80a\xE2\x98",
 ];
-
-/// The sum before any answer.
-pub const SEED: u64 = 7;
-
-fn fold(sum: u64, value: u64) -> u64 {
-    sum.wrapping_mul(31).wrapping_add(value)
-}
-
-// A pattern as one more than it is, none as 0; then each slot in the same way.
-fn fold_slots(sum: u64, pattern: Option<PatternID>, slots: &[Option<NonMaxUsize>]) -> u64 {
-    let number = match pattern {
-        Some(pattern) => (pattern.as_usize() as u64).wrapping_add(1),
-        None => 0,
-    };
-    let mut sum = fold(sum, number);
-    for slot in slots {
-        sum = match slot {
-            Some(offset) => fold(sum, (offset.get() as u64).wrapping_add(1)),
-            None => fold(sum, 0),
-        };
-    }
-    sum
-}
-
-// One more than the pattern, the start and the end; none as 0.
-fn fold_match(sum: u64, found: Option<Match>) -> u64 {
-    match found {
-        Some(found) => {
-            let sum = fold(sum, (found.pattern().as_usize() as u64).wrapping_add(1));
-            fold(fold(sum, found.start() as u64), found.end() as u64)
-        }
-        None => fold(sum, 0),
-    }
-}
-
-fn fold_is_match(sum: u64, is_match: bool) -> u64 {
-    fold(sum, if is_match { 1 } else { 0 })
-}
-
-/// What all searches write to, whatever it was used for before: a cache for each engine, slots, and captures of
-/// another NFA.
-#[derive(Drop)]
-pub struct Shared {
-    alloc: Global,
-    marks: backtrack::Cache,
-    threads: pikevm::Cache,
-    captures: Captures,
-    slots: [Option<NonMaxUsize>; 20],
-}
-
-impl Shared {
-    /// Things of an NFA with twelve slots.
-    pub fn new(alloc: Global) -> Result<Shared, MakeError> {
-        let vm = PikeVM::new_from_nfa(nfa_of(alloc, Shape::Captures(9))?)?;
-        Shared::of(alloc, &vm)
-    }
-
-    fn of(alloc: Global, vm: &PikeVM) -> Result<Shared, MakeError> {
-        Ok(Shared {
-            alloc,
-            marks: marks(alloc)?,
-            threads: vm.create_cache(alloc)?,
-            captures: vm.create_captures(alloc)?,
-            slots: [NonMaxUsize::new(7); 20],
-        })
-    }
-}
-
-fn marks(alloc: Global) -> Result<backtrack::Cache, MakeError> {
-    let engine = BoundedBacktracker::never_match(alloc)?;
-    Ok(engine.create_cache(alloc))
-}
-
-// What the backtracker answers, by every call.
-fn sum_backtracked(
-    engine: &BoundedBacktracker,
-    input: &Input<'_>,
-    shared: &mut Shared,
-) -> Result<u64, SearchError> {
-    let Shared {
-        marks,
-        captures,
-        slots,
-        ..
-    } = shared;
-    let pattern = engine.try_search_slots(marks, input, slots)?;
-    let sum = fold_slots(SEED, pattern, slots);
-    let sum = fold_match(sum, engine.try_find(marks, *input)?);
-    let sum = fold_is_match(sum, engine.try_is_match(marks, *input)?);
-    engine.try_search(marks, input, captures)?;
-    let mut sum = fold_slots(sum, captures.pattern(), captures.slots());
-    for found in engine.try_find_iter(marks, *input) {
-        sum = fold_match(sum, Some(found?));
-    }
-    Ok(sum)
-}
-
-// What the PikeVM answers, by every call but that for overlapping matches. 0 where the cache does not fit.
-fn sum_piked(vm: &PikeVM, input: &Input<'_>, shared: &mut Shared) -> u64 {
-    let Shared {
-        threads,
-        captures,
-        slots,
-        ..
-    } = shared;
-    if !threads.fits(vm) {
-        return 0;
-    }
-    let pattern = vm.search_slots(threads, input, slots);
-    let sum = fold_slots(SEED, pattern, slots);
-    let sum = fold_match(sum, vm.find(threads, *input));
-    let sum = fold_is_match(sum, vm.is_match(threads, *input));
-    vm.search(threads, input, captures);
-    let mut sum = fold_slots(sum, captures.pattern(), captures.slots());
-    for found in vm.find_iter(threads, *input) {
-        sum = fold_match(sum, Some(found));
-    }
-    sum
-}
-
-// What the engine that chooses answers, by every call.
-fn sum_chosen(choice: &mut Choice, input: &Input<'_>, shared: &mut Shared) -> u64 {
-    let Shared {
-        captures,
-        slots,
-        ..
-    } = shared;
-    let pattern = choice.search_slots(input, slots);
-    let sum = fold_slots(SEED, pattern, slots);
-    let sum = fold_match(sum, choice.find(*input));
-    let sum = fold_is_match(sum, choice.is_match(*input));
-    choice.search(input, captures);
-    let mut sum = fold_slots(sum, captures.pattern(), captures.slots());
-    for found in choice.find_iter(*input) {
-        sum = fold_match(sum, Some(found));
-    }
-    sum
-}
-
-// What an empty set gains in a search for overlapping matches. 0 where the cache does not fit.
-fn sum_of_set(
-    alloc: Global,
-    vm: &PikeVM,
-    threads: &mut pikevm::Cache,
-    input: &Input<'_>,
-) -> Result<u64, MakeError> {
-    if !threads.fits(vm) {
-        return Ok(0);
-    }
-    let mut set = PatternSet::new(alloc, 4)?;
-    vm.which_overlapping_matches(threads, input, &mut set);
-    let mut sum = SEED;
-    for pattern in set.iter() {
-        sum = fold(sum, (pattern.as_usize() as u64).wrapping_add(1));
-    }
-    Ok(sum)
-}
 
 // Both engines over one NFA.
 #[derive(Clone, Copy, Debug)]
@@ -278,10 +121,9 @@ fn expect_same_set(
     haystack: &[u8],
 ) -> Result<(), Fail> {
     let input = Input::new(haystack);
-    let mut own = pair.vm.create_cache(shared.alloc)?;
-    let set = sum_of_set(shared.alloc, pair.vm, &mut own, &input)?;
-    let same = sum_of_set(shared.alloc, pair.vm, &mut shared.threads, &input)?;
-    assert_eq!(rt; set, same, "{input:?}");
+    let own = sum_of_own_set(shared.alloc, pair.vm, &input)?;
+    let set = sum_of_set(shared.alloc, pair.vm, &mut shared.threads, &input)?;
+    assert_eq!(rt; set, own, "{input:?}");
     Ok(())
 }
 
@@ -306,6 +148,21 @@ fn add_modes<'h>(searches: &mut Vec<Input<'h>>, input: Input<'h>) -> Result<(), 
     Ok(())
 }
 
+fn fold_searches(
+    rt: &impl Abort,
+    pair: &Pair<'_>,
+    choice: &mut Choice,
+    shared: &mut Shared,
+    sum: u64,
+    inputs: &[Input<'_>],
+) -> Result<u64, Fail> {
+    let mut sum = sum;
+    for input in inputs {
+        sum = fold_search(rt, pair, choice, shared, sum, input)?;
+    }
+    Ok(sum)
+}
+
 fn fold_haystack(
     rt: &impl Abort,
     pair: &Pair<'_>,
@@ -315,9 +172,21 @@ fn fold_haystack(
     haystack: &[u8],
 ) -> Result<u64, Fail> {
     expect_same_set(rt, pair, shared, haystack)?;
+    let inputs = searches_of(shared.alloc, haystack)?;
+    fold_searches(rt, pair, choice, shared, sum, &inputs)
+}
+
+fn fold_haystacks(
+    rt: &impl Abort,
+    pair: &Pair<'_>,
+    choice: &mut Choice,
+    shared: &mut Shared,
+    sum: u64,
+    haystacks: &[&[u8]],
+) -> Result<u64, Fail> {
     let mut sum = sum;
-    for input in &searches_of(shared.alloc, haystack)? {
-        sum = fold_search(rt, pair, choice, shared, sum, input)?;
+    for haystack in haystacks {
+        sum = fold_haystack(rt, pair, choice, shared, sum, haystack)?;
     }
     Ok(sum)
 }
@@ -325,12 +194,12 @@ fn fold_haystack(
 // No marks, or 64 or 128 of them, so that `Choice` asks one engine, or the other, or each for its lengths.
 fn choice_of(alloc: Global, pair: &Pair<'_>) -> Result<Choice, MakeError> {
     let nfa = pair.back.get_nfa();
-    let bytes = nfa.states().len() % 3 * 8;
+    let bytes = (nfa.states().len() % 3).saturating_mul(8);
     let back = backtrack::Config::new().visited_capacity(bytes);
     Ok(Choice::new(alloc, nfa.clone()?, back, *pair.vm.get_config())?)
 }
 
-fn fold_haystacks(
+fn fold_pair(
     rt: &impl Abort,
     pair: &Pair<'_>,
     shared: &mut Shared,
@@ -338,11 +207,7 @@ fn fold_haystacks(
     haystacks: &[&[u8]],
 ) -> Result<u64, Fail> {
     let mut choice = choice_of(shared.alloc, pair)?;
-    let mut sum = sum;
-    for haystack in haystacks {
-        sum = fold_haystack(rt, pair, &mut choice, shared, sum, haystack)?;
-    }
-    Ok(sum)
+    fold_haystacks(rt, pair, &mut choice, shared, sum, haystacks)
 }
 
 fn pikevm_of(nfa: &NFA, kind: MatchKind) -> Result<PikeVM, MakeError> {
@@ -369,7 +234,7 @@ fn fold_kind(
     let vm = pikevm_of(back.get_nfa(), kind)?;
     fit(&vm, &mut shared.threads)?;
     let pair = Pair { back, vm: &vm };
-    fold_haystacks(rt, &pair, shared, sum, haystacks)
+    fold_pair(rt, &pair, shared, sum, haystacks)
 }
 
 /// The sum with the answers of all searches of the NFA: leftmost first, then those of the kind `All`.

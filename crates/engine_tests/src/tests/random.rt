@@ -1,6 +1,7 @@
 //! All calls over NFAs that are made by chance, from a fixed seed.
 
-use super::grid::{SEED, Shared, fold_nfa};
+use super::grid::fold_nfa;
+use super::sums::{SEED, Shared};
 use std::alloc::Global;
 use std::process::Abort;
 use std::test::Fail;
@@ -190,10 +191,14 @@ fn fold_all(rt: &impl Abort, alloc: Global, shared: &mut Shared) -> Result<u64, 
     Ok(sum)
 }
 
+fn expect_sum(rt: &impl Abort, alloc: Global, shared: &mut Shared) -> Result<(), Fail> {
+    assert_eq!(rt; fold_all(rt, alloc, shared)?, SUM);
+    Ok(())
+}
+
 #[test]
 fn all_calls_search_what_chance_makes(rt: HostRuntime) -> Result<(), Fail> {
     let alloc = rt.alloc();
     let mut shared = Shared::new(alloc)?;
-    assert_eq!(rt; fold_all(&rt, alloc, &mut shared)?, SUM);
-    Ok(())
+    expect_sum(&rt, alloc, &mut shared)
 }
