@@ -1,6 +1,7 @@
 mod callers;
 mod refused;
 mod table;
+mod texts;
 
 use nfa_engines::backtrack::BoundedBacktracker;
 use nfa_engines::pikevm::PikeVM;

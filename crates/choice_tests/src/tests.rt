@@ -251,3 +251,29 @@ fn searches_another_nfa(rt: HostRuntime) -> Result<(), Fail> {
     expect_replaced(&rt, alloc, &mut choice)?;
     expect_larger(&rt, alloc, &mut choice)
 }
+
+// A choice shows both engines, their caches and which one ran; an iterator shows the choice, and where it stands.
+fn expect_shown(rt: &impl Abort, alloc: Global, choice: &mut Choice) -> Result<(), Fail> {
+    choice.is_match(Input::new(b"a"));
+    let shown = format!(in alloc; "{choice:?}")?;
+    assert!(rt;
+        shown
+            .as_str()
+            .starts_with("Choice { back: BoundedBacktracker { ")
+    );
+    assert!(rt; shown.as_str().ends_with(" }, ran: Some(Backtracker) }"));
+    let matches = choice.find_iter(Input::new(b"a"));
+    let want = format!(in alloc;
+        "ChoiceMatches {{ choice: {shown}, steps: Steps {{ searcher: Searcher {{ input: {:?}, last_match_end: None }}, asker: ByRule, done: false }} }}",
+        Input::new(b"a")
+    )?;
+    assert_eq!(rt; format!(in alloc; "{matches:?}")?.as_str(), want.as_str());
+    Ok(())
+}
+
+#[test]
+fn a_choice_and_its_matches_are_shown(rt: HostRuntime) -> Result<(), Fail> {
+    let alloc = rt.alloc();
+    let mut choice = choice(alloc, "abc")?;
+    expect_shown(&rt, alloc, &mut choice)
+}

@@ -1,6 +1,5 @@
 //! Both engines side by side.
 
-mod choice;
 mod expected;
 mod grid;
 mod memory;
@@ -8,3 +7,4 @@ mod odd;
 mod random;
 mod samples;
 mod shapes;
+mod sums;

@@ -76,12 +76,24 @@ fn says_which_length_is_too_long(rt: HostRuntime) -> Result<(), Fail> {
     Ok(())
 }
 
-// Takes so many writes, and refuses each one after them.
+// Takes so many writes, and refuses each one after them. It may refuse to flush, too.
 #[derive(Drop)]
 struct Refusing {
     written: Vec<u8>,
     left: usize,
     refused: usize,
+    flushes: bool,
+}
+
+impl Refusing {
+    fn new(alloc: Global, left: usize, flushes: bool) -> Refusing {
+        Refusing {
+            written: Vec::new(alloc),
+            left,
+            refused: 0,
+            flushes,
+        }
+    }
 }
 
 impl Write for Refusing {
@@ -96,25 +108,26 @@ impl Write for Refusing {
     }
 
     fn flush(&mut self) -> io::Result<()> {
-        Ok(())
+        if self.flushes {
+            Ok(())
+        } else {
+            Err(io::Error::from(io::ErrorKind::BrokenPipe))
+        }
     }
 }
 
 #[test]
 fn writes_nothing_after_a_write_that_failed(rt: HostRuntime) -> Result<(), Fail> {
     let alloc = rt.alloc();
-    for &(name, whole, status) in &[
-        ("abc_a", "0 0..3\nend\n", 0),
-        ("nothing", "unknown name\n", 2),
+    for &(engine, name, whole, status) in &[
+        ("back", "abc_a", "0 0..3\nend\n", 0),
+        ("pike", "abc_a", "0 0..3\nend\n", 0),
+        ("back", "nothing", "unknown name\n", 2),
     ] {
         let mut taken_all = false;
         for left in 0..20 {
-            let mut out = Refusing {
-                written: Vec::new(alloc),
-                left,
-                refused: 0,
-            };
-            let ended = run(alloc, &["back", name, "abc"], &mut out);
+            let mut out = Refusing::new(alloc, left, true);
+            let ended = run(alloc, &[engine, name, "abc"], &mut out);
             if out.refused == 0 {
                 assert_eq!(rt; out.written.as_slice(), whole.as_bytes());
                 assert_eq!(rt; ended, status);
@@ -129,6 +142,24 @@ fn writes_nothing_after_a_write_that_failed(rt: HostRuntime) -> Result<(), Fail>
         assert!(rt; taken_all);
     }
     Ok(())
+}
+
+#[test]
+fn a_refused_flush_is_a_failed_write(rt: HostRuntime) {
+    let alloc = rt.alloc();
+    for &(engine, name, whole) in &[
+        ("back", "abc_a", "0 0..3\nend\n"),
+        ("pike", "abc_a", "0 0..3\nend\n"),
+        ("pike", "nothing", "unknown name\n"),
+    ] {
+        let mut out = Refusing::new(alloc, 20, false);
+        assert_eq!(rt;
+            run(alloc, &[engine, name, "abc"], &mut out),
+            1,
+            "{engine} {name}"
+        );
+        assert_eq!(rt; out.written.as_slice(), whole.as_bytes(), "{engine} {name}");
+    }
 }
 
 // The engine prints this, and ends well.
@@ -168,22 +199,14 @@ fn each_engine_takes_a_long_haystack(rt: HostRuntime) -> Result<(), Fail> {
 #[test]
 fn prints_what_each_engine_finds(rt: HostRuntime) {
     let alloc = rt.alloc();
-    expect_printed(
-        &rt,
-        alloc,
-        "back",
-        "abc_a",
-        "..........abc",
-        "0 10..13\nend\n",
-    );
-    expect_printed(
-        &rt,
-        alloc,
-        "pike",
-        "abc_a",
-        "..........abc",
-        "0 10..13\nend\n",
-    );
-    expect_printed(&rt, alloc, "back", "abc_a", "x y z", "end\n");
-    expect_printed(&rt, alloc, "pike", "empty", "", "0 0..0\nend\n");
+    for &(engine, name, haystack, want) in &[
+        ("back", "abc_a", "..........abc", "0 10..13\nend\n"),
+        ("pike", "abc_a", "..........abc", "0 10..13\nend\n"),
+        ("back", "words_numbers", "x  7 ", "0 0..1\n1 3..4\nend\n"),
+        ("pike", "words_numbers", "x  7 ", "0 0..1\n1 3..4\nend\n"),
+        ("back", "empty", "", "0 0..0\nend\n"),
+        ("pike", "empty", "", "0 0..0\nend\n"),
+    ] {
+        expect_printed(&rt, alloc, engine, name, haystack, want);
+    }
 }

@@ -4,3 +4,4 @@ mod caches;
 mod callers;
 mod searches;
 mod sets;
+mod texts;

@@ -9,7 +9,7 @@ use crate::text::{
 use nfa_engines::backtrack::{self, BoundedBacktracker};
 use nfa_engines::error::SearchError;
 use nfa_engines::pikevm::{self, PikeVM};
-use regex_search_core::{Input, Match, NonMaxUsize, PatternID};
+use regex_search_core::Input;
 use std::alloc::{AllocError, Global};
 use thompson_nfa::NFA;
 
@@ -48,25 +48,6 @@ impl Engines {
         self.vm.get_nfa().group_info().slot_len()
     }
 
-    /// The NFA of both.
-    pub fn nfa(&self) -> &NFA {
-        self.vm.get_nfa()
-    }
-
-    /// What both write into slots, and answer.
-    pub fn search_slots(
-        &mut self,
-        input: &Input<'_>,
-        slots: &mut [Option<NonMaxUsize>],
-        same_slots: &mut [Option<NonMaxUsize>],
-    ) -> (Result<Option<PatternID>, SearchError>, Option<PatternID>) {
-        let found = self
-            .backtracker
-            .try_search_slots(&mut self.marks, input, slots);
-        let same = self.vm.search_slots(&mut self.threads, input, same_slots);
-        (found, same)
-    }
-
     /// What both answer and leave in slots that held 7 before.
     pub fn slots_texts(
         &mut self,
@@ -101,14 +82,6 @@ impl Engines {
         Ok([
             backtracked_list(alloc, &self.backtracker, &mut self.marks, input)?,
             piked_list(alloc, &self.vm, &mut self.threads, input)?,
-        ])
-    }
-
-    /// The match that both find.
-    pub fn find(&mut self, input: Input<'_>) -> Result<[Option<Match>; 2], SearchError> {
-        Ok([
-            self.backtracker.try_find(&mut self.marks, input)?,
-            self.vm.find(&mut self.threads, input),
         ])
     }
 

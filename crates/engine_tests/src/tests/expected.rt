@@ -1,6 +1,6 @@
 //! What both engines have to answer. What owns an engine only makes it and lends it to one of these.
 
-use regex_search_core::{Anchored, Input, PatternID};
+use regex_search_core::Input;
 use std::alloc::{AllocError, Global};
 use std::process::Abort;
 use std::test::Fail;
@@ -69,25 +69,6 @@ pub fn expect_is_match(
     let [first, second] = engines.are_matches(case.input)?;
     assert_eq!(rt; first, want, "{} {:?}", case.name, case.input);
     assert_eq!(rt; second, want, "{} {:?}", case.name, case.input);
-    Ok(())
-}
-
-/// The searches of each span of the haystack: unanchored, anchored, and anchored for the first pattern.
-pub fn searches_of<'h>(alloc: Global, haystack: &'h [u8]) -> Result<Vec<Input<'h>>, Fail> {
-    let mut searches = Vec::new(alloc);
-    for start in 0..haystack.len() + 1 {
-        for end in start..haystack.len() + 1 {
-            add_modes(&mut searches, Input::new(haystack).range(start..end))?;
-        }
-    }
-    Ok(searches)
-}
-
-fn add_modes<'h>(searches: &mut Vec<Input<'h>>, input: Input<'h>) -> Result<(), Fail> {
-    let first = PatternID::new(0).ok_or("too great a number")?;
-    searches.push(input)?;
-    searches.push(input.anchored(Anchored::Yes))?;
-    searches.push(input.anchored(Anchored::Pattern(first)))?;
     Ok(())
 }
 

@@ -1,151 +1,267 @@
-//! Both engines over each sample, each span of some haystacks, and three ways to be anchored.
+//! Both engines and the one that chooses over each sample, each span of some haystacks, four ways to search it, and both
+//! match kinds; by every call, with caches and captures that all of them share.
 
-use super::expected::searches_of;
-use regex_search_core::{Input, NonMaxUsize, PatternID};
-use std::alloc::{AllocError, Global};
+use super::sums::{
+    SEED, Shared, fold, sum_backtracked, sum_chosen, sum_of_own_set, sum_of_set, sum_piked,
+};
+use nfa_choice::choose::Choice;
+use nfa_engines::backtrack::{self, BoundedBacktracker};
+use nfa_engines::error::SearchError;
+use nfa_engines::pikevm::{self, PikeVM};
+use regex_search_core::{Anchored, Input, MatchKind, PatternID};
+use std::alloc::Global;
 use std::process::Abort;
 use std::test::Fail;
-use test_support::engines::Engines;
+use test_support::made::{MakeError, nfa_named};
+use thompson_nfa::NFA;
 
-// A name, and the number that `fold` makes of the answers of all searches of `sum_of_answers`. The numbers were made of
-// the answers of regex-automata 0.4.18, whose two engines agree on all of them. Where three numbers are one, the NFA
-// matches in no haystack.
+// A name, and the number that is made of the answers of all searches. The numbers were made of the answers of
+// regex-automata 0.4.18 to single searches. Where three numbers are one, the NFA matches in no haystack.
 const SUMS: &[(&str, u64)] = &[
-    ("abc", 6114000370497124573),
-    ("ab_b", 7921167313159344319),
-    ("ab_abc", 18234123508851554748),
-    ("abc_ab", 2080587829107650333),
-    ("abc_b", 329028732757671169),
-    ("foo_bar", 15807519903281386649),
-    ("b_a", 15121163269742188225),
-    ("abc_a", 12766498428122868003),
-    ("a_or_empty", 9535187596980062747),
-    ("empty_or_a", 18040614013609830743),
-    ("empty", 18040614013609830743),
-    ("empty_bytes", 5693984689585640698),
-    ("empty_anchored", 18040614013609830743),
-    ("a_star", 9535187596980062747),
-    ("a_star_bytes", 18300660544919945949),
-    ("groups", 5528461885813305438),
-    ("loop", 3412657316545985367),
-    ("a_bare", 13406972351330660317),
-    ("a_pair", 4230347308789665660),
-    ("backwards", 10775096324400145177),
-    ("snowman", 17651825586890665913),
-    ("three_digits", 2536045132945509081),
-    ("alnum100", 16886453550929295065),
-    ("words_numbers", 527952213956436386),
-    ("abcd_b", 7329869646454673855),
-    ("foo_num", 16886453550929295065),
-    ("date", 16886453550929295065),
-    ("six", 13687004155275439929),
+    ("abc", 17516175631079300615),
+    ("ab_b", 6894780911169050394),
+    ("ab_abc", 12381740789710117786),
+    ("abc_ab", 11552538315505256877),
+    ("abc_b", 11022516316879595909),
+    ("foo_bar", 7006202980359745874),
+    ("b_a", 3502911699200836149),
+    ("abc_a", 9866610612080122747),
+    ("a_or_empty", 16536383585529144902),
+    ("empty_or_a", 7284594230990085406),
+    ("empty", 2742246494218379518),
+    ("empty_bytes", 16808830373173163099),
+    ("empty_anchored", 1176097564338130375),
+    ("a_star", 16536383585529144902),
+    ("a_star_bytes", 573636244362043246),
+    ("groups", 14810672378800699162),
+    ("loop", 2742246494218379518),
+    ("a_bare", 12626060101572329597),
+    ("a_pair", 1161528303385072519),
+    ("backwards", 8257819088920617213),
+    ("snowman", 4895690902187105514),
+    ("three_digits", 12266436829090903393),
+    ("alnum100", 3622190962064771015),
+    ("words_numbers", 13694683024024072936),
+    ("abcd_b", 15273916744139087911),
+    ("foo_num", 3622190962064771015),
+    ("date", 11975556875213426183),
+    ("six", 3161911822617016002),
 ];
 
-/// Haystacks of which both engines search each span.
-pub const HAYSTACKS: &[&[u8]] = &[
+// Haystacks of which each span is searched.
+const HAYSTACKS: &[&[u8]] = &[
     b"",
-    b"a",
-    b"ab",
     b"abba",
-    b"abcabc",
+    b"xabca",
     b"a\xE2\x98\x83b",
-    b"foobar 123",
+    b"foobar1",
+    b" 123",
     b"\x80a\xE2\x98",
 ];
 
-/// The sum before any answer.
-pub const SEED: u64 = 7;
-
-fn fold(sum: u64, value: u64) -> u64 {
-    sum.wrapping_mul(31).wrapping_add(value)
+// Both engines over one NFA.
+#[derive(Clone, Copy, Debug)]
+struct Pair<'a> {
+    back: &'a BoundedBacktracker,
+    vm: &'a PikeVM,
 }
 
-// The answer: 0 for none; else the pattern, and each slot, one more than it is, a slot that is none as 0.
-fn fold_answer(sum: u64, pattern: Option<PatternID>, slots: &[Option<NonMaxUsize>]) -> u64 {
-    let Some(pattern) = pattern else {
-        return fold(sum, 0);
-    };
-    let mut sum = fold(sum, (pattern.as_usize() as u64).wrapping_add(1));
-    for slot in slots {
-        sum = match slot {
-            Some(offset) => fold(sum, (offset.get() as u64).wrapping_add(1)),
-            None => fold(sum, 0),
-        };
+impl<'a> Pair<'a> {
+    fn is_leftmost(&self) -> bool {
+        self.vm.get_config().get_match_kind() == MatchKind::LeftmostFirst
     }
-    sum
-}
 
-/// Slots for both engines.
-#[derive(Drop)]
-pub struct Slots {
-    first: Vec<Option<NonMaxUsize>>,
-    second: Vec<Option<NonMaxUsize>>,
-}
-
-impl Slots {
-    /// So many for each.
-    pub fn new(alloc: Global, len: usize) -> Result<Slots, AllocError> {
-        Ok(Slots {
-            first: vec![in alloc; NonMaxUsize::new(7); len]?,
-            second: vec![in alloc; NonMaxUsize::new(8); len]?,
-        })
+    // Whether regex-automata means another set of overlapping matches by the search: it means all of them in an
+    // unanchored search of the kind `All` without `earliest`.
+    fn is_unlike(&self, input: &Input<'_>) -> bool {
+        self.is_leftmost()
+            || input.get_earliest()
+            || input.get_anchored().is_anchored()
+            || self.vm.get_nfa().is_always_start_anchored()
     }
 }
 
-// The answer that both give.
+// The sum with the answers of one search, which are those of all.
 fn fold_search(
     rt: &impl Abort,
-    engines: &mut Engines,
-    slots: &mut Slots,
+    pair: &Pair<'_>,
+    choice: &mut Choice,
+    shared: &mut Shared,
     sum: u64,
     input: &Input<'_>,
 ) -> Result<u64, Fail> {
-    let (found, same) = engines.search_slots(input, &mut slots.first, &mut slots.second);
-    let found = found?;
-    assert_eq!(rt; found, same, "{input:?}");
-    assert_eq!(rt;
-        slots.first.as_slice(),
-        slots.second.as_slice(),
-        "{input:?}"
-    );
-    Ok(fold_answer(sum, found, slots.first.as_slice()))
+    let piked = sum_piked(pair.vm, input, shared);
+    assert_eq!(rt; sum_chosen(choice, input, shared), piked, "{input:?}");
+    if pair.is_leftmost() && !input.get_earliest() {
+        let backtracked = sum_backtracked(pair.back, input, shared)?;
+        assert_eq!(rt; backtracked, piked, "{input:?}");
+    }
+    fold_set(pair, shared, fold(sum, piked), input)
 }
 
-/// The sum with the answers of all these searches, which are those of both.
-pub fn fold_searches(
+// The set counts where regex-automata means the same.
+fn fold_set(
+    pair: &Pair<'_>,
+    shared: &mut Shared,
+    sum: u64,
+    input: &Input<'_>,
+) -> Result<u64, Fail> {
+    let set = sum_of_set(shared.alloc, pair.vm, &mut shared.threads, input)?;
+    if pair.is_unlike(input) {
+        return Ok(sum);
+    }
+    Ok(fold(sum, set))
+}
+
+// A cache that is no larger than it has to be makes no other set.
+fn expect_same_set(
     rt: &impl Abort,
-    engines: &mut Engines,
-    slots: &mut Slots,
+    pair: &Pair<'_>,
+    shared: &mut Shared,
+    haystack: &[u8],
+) -> Result<(), Fail> {
+    let input = Input::new(haystack);
+    let own = sum_of_own_set(shared.alloc, pair.vm, &input)?;
+    let set = sum_of_set(shared.alloc, pair.vm, &mut shared.threads, &input)?;
+    assert_eq!(rt; set, own, "{input:?}");
+    Ok(())
+}
+
+// The searches of each span of the haystack: unanchored, also with `earliest`, anchored, and anchored for the first
+// pattern.
+fn searches_of<'h>(alloc: Global, haystack: &'h [u8]) -> Result<Vec<Input<'h>>, Fail> {
+    let mut searches = Vec::new(alloc);
+    for start in 0..haystack.len() + 1 {
+        for end in start..haystack.len() + 1 {
+            add_modes(&mut searches, Input::new(haystack).range(start..end))?;
+        }
+    }
+    Ok(searches)
+}
+
+fn add_modes<'h>(searches: &mut Vec<Input<'h>>, input: Input<'h>) -> Result<(), Fail> {
+    let first = PatternID::new(0).ok_or("too great a number")?;
+    searches.push(input)?;
+    searches.push(input.earliest(true))?;
+    searches.push(input.anchored(Anchored::Yes))?;
+    searches.push(input.anchored(Anchored::Pattern(first)))?;
+    Ok(())
+}
+
+fn fold_searches(
+    rt: &impl Abort,
+    pair: &Pair<'_>,
+    choice: &mut Choice,
+    shared: &mut Shared,
     sum: u64,
     inputs: &[Input<'_>],
 ) -> Result<u64, Fail> {
     let mut sum = sum;
     for input in inputs {
-        sum = fold_search(rt, engines, slots, sum, input)?;
+        sum = fold_search(rt, pair, choice, shared, sum, input)?;
     }
     Ok(sum)
 }
 
-fn sum_of_answers(rt: &impl Abort, alloc: Global, engines: &mut Engines) -> Result<u64, Fail> {
-    let mut slots = Slots::new(alloc, engines.slot_len())?;
-    let mut sum = SEED;
-    for &haystack in HAYSTACKS {
-        let inputs = searches_of(alloc, haystack)?;
-        sum = fold_searches(rt, engines, &mut slots, sum, &inputs)?;
+fn fold_haystack(
+    rt: &impl Abort,
+    pair: &Pair<'_>,
+    choice: &mut Choice,
+    shared: &mut Shared,
+    sum: u64,
+    haystack: &[u8],
+) -> Result<u64, Fail> {
+    expect_same_set(rt, pair, shared, haystack)?;
+    let inputs = searches_of(shared.alloc, haystack)?;
+    fold_searches(rt, pair, choice, shared, sum, &inputs)
+}
+
+fn fold_haystacks(
+    rt: &impl Abort,
+    pair: &Pair<'_>,
+    choice: &mut Choice,
+    shared: &mut Shared,
+    sum: u64,
+    haystacks: &[&[u8]],
+) -> Result<u64, Fail> {
+    let mut sum = sum;
+    for haystack in haystacks {
+        sum = fold_haystack(rt, pair, choice, shared, sum, haystack)?;
     }
     Ok(sum)
 }
 
-fn sum_of_sample(rt: &impl Abort, alloc: Global, name: &str) -> Result<u64, Fail> {
-    let mut engines = Engines::of_sample(alloc, name)?;
-    sum_of_answers(rt, alloc, &mut engines)
+// No marks, or 64 or 128 of them, so that `Choice` asks one engine, or the other, or each for its lengths.
+fn choice_of(alloc: Global, pair: &Pair<'_>) -> Result<Choice, MakeError> {
+    let nfa = pair.back.get_nfa();
+    let bytes = (nfa.states().len() % 3).saturating_mul(8);
+    let back = backtrack::Config::new().visited_capacity(bytes);
+    Ok(Choice::new(alloc, nfa.clone()?, back, *pair.vm.get_config())?)
 }
 
-#[test]
-fn both_engines_give_the_answers_of_regex_automata(rt: HostRuntime) -> Result<(), Fail> {
+fn fold_pair(
+    rt: &impl Abort,
+    pair: &Pair<'_>,
+    shared: &mut Shared,
+    sum: u64,
+    haystacks: &[&[u8]],
+) -> Result<u64, Fail> {
+    let mut choice = choice_of(shared.alloc, pair)?;
+    fold_haystacks(rt, pair, &mut choice, shared, sum, haystacks)
+}
+
+fn pikevm_of(nfa: &NFA, kind: MatchKind) -> Result<PikeVM, MakeError> {
+    let mut builder = PikeVM::builder();
+    builder.configure(pikevm::Config::new().match_kind(kind));
+    Ok(builder.build_from_nfa(nfa.clone()?)?)
+}
+
+fn fit(vm: &PikeVM, threads: &mut pikevm::Cache) -> Result<(), SearchError> {
+    if !threads.fits(vm) {
+        vm.reset_cache(threads)?;
+    }
+    Ok(())
+}
+
+fn fold_kind(
+    rt: &impl Abort,
+    back: &BoundedBacktracker,
+    kind: MatchKind,
+    shared: &mut Shared,
+    sum: u64,
+    haystacks: &[&[u8]],
+) -> Result<u64, Fail> {
+    let vm = pikevm_of(back.get_nfa(), kind)?;
+    fit(&vm, &mut shared.threads)?;
+    let pair = Pair { back, vm: &vm };
+    fold_pair(rt, &pair, shared, sum, haystacks)
+}
+
+/// The sum with the answers of all searches of the NFA: leftmost first, then those of the kind `All`.
+pub fn fold_nfa(
+    rt: &impl Abort,
+    nfa: NFA,
+    shared: &mut Shared,
+    sum: u64,
+    haystacks: &[&[u8]],
+) -> Result<u64, Fail> {
+    let back = BoundedBacktracker::new_from_nfa(nfa)?;
+    let sum = fold_kind(rt, &back, MatchKind::LeftmostFirst, shared, sum, haystacks)?;
+    fold_kind(rt, &back, MatchKind::All, shared, sum, haystacks)
+}
+
+fn expect_sums(rt: &impl Abort, alloc: Global, shared: &mut Shared) -> Result<(), Fail> {
     for &(name, want) in SUMS {
-        let sum = sum_of_sample(&rt, rt.alloc(), name)?;
+        let nfa = nfa_named(alloc, name)?;
+        let sum = fold_nfa(rt, nfa, shared, SEED, HAYSTACKS)?;
         assert_eq!(rt; sum, want, "{name}");
     }
     Ok(())
+}
+
+#[test]
+fn all_calls_give_the_answers_of_regex_automata(rt: HostRuntime) -> Result<(), Fail> {
+    let alloc = rt.alloc();
+    let mut shared = Shared::new(alloc)?;
+    expect_sums(&rt, alloc, &mut shared)
 }

@@ -103,14 +103,18 @@ fn expect_use(rt: &impl Abort, alloc: Global, engine: &BoundedBacktracker) -> Re
     Ok(())
 }
 
-// A shape whose search goes deep or wide, a haystack, and the pattern and two slots.
+const BARE: &str = "0 - - - - - - - - - - - -";
+
+const FULL: &str = "0 0 0 0 0 0 0 0 0 0 0 0 0";
+
+// A shape whose search goes deep or wide, a haystack, and the pattern and twelve slots.
 const DEEP: &[(Shape, &[u8], &str)] = &[
-    (Shape::Chain(300), b"", "0 - -"),
-    (Shape::Chain(10000), b"", "0 - -"),
-    (Shape::Captures(300), b"", "0 0 0"),
-    (Shape::Captures(10000), b"", "0 0 0"),
-    (Shape::Fan(10000), b"a", "0 - -"),
-    (Shape::Word(1000), &[b'a'; 999], "0 - -"),
+    (Shape::Chain(300), b"", BARE),
+    (Shape::Chain(10000), b"", BARE),
+    (Shape::Captures(300), b"", FULL),
+    (Shape::Captures(10000), b"", FULL),
+    (Shape::Fan(10000), b"a", BARE),
+    (Shape::Word(1000), &[b'a'; 999], BARE),
 ];
 
 #[test]
@@ -133,7 +137,7 @@ fn expect_deep(
         name: "deep",
         input: Input::new(haystack),
     };
-    expect_slots(rt, alloc, &mut engines, &case, 2, want)?;
+    expect_slots(rt, alloc, &mut engines, &case, 12, want)?;
     expect_is_match(rt, &mut engines, &case, true)
 }
 

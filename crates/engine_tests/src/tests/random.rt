@@ -1,26 +1,23 @@
-//! Both engines over NFAs that are made by chance, from a fixed seed.
+//! All calls over NFAs that are made by chance, from a fixed seed.
 
-use super::expected::searches_of;
-use super::grid::{SEED, Slots, fold_searches};
-use regex_search_core::Input;
+use super::grid::fold_nfa;
+use super::sums::{SEED, Shared};
 use std::alloc::Global;
 use std::process::Abort;
 use std::test::Fail;
-use test_support::engines::Engines;
 use test_support::machine::Machine;
 use test_support::made::MakeError;
 use thompson_nfa::{Look, NFA};
 
 const HAYSTACKS: &[&[u8]] = &[b"", b"ab", b"abca", b"a\xE2\x98\x83", b"\x80b a"];
 
-const COUNT: usize = 250;
+const COUNT: usize = 100;
 
 const FIRST_STATE: u64 = 2010;
 
-// The number that `fold` makes of the answers of all searches of all NFAs. It was made of the answers of
-// regex-automata 0.4.18, whose two engines agree on all of them, over the NFAs that the same generator made in another
-// language.
-const SUM: u64 = 10914657245099621234;
+// The number that is made of the answers of all searches of all NFAs. It was made of the answers of regex-automata
+// 0.4.18 to single searches, over the NFAs that the same generator made in another language.
+const SUM: u64 = 10572554243172587508;
 
 // A linear congruential generator.
 #[derive(Clone, Copy, Debug)]
@@ -184,55 +181,24 @@ fn add_capture(machine: &mut Machine, chance: &mut Chance, size: &Size) -> Resul
     machine.capture(chance.below(size.slots), next)
 }
 
-fn expect_same_lists(
-    rt: &impl Abort,
-    alloc: Global,
-    engines: &mut Engines,
-    haystack: &[u8],
-) -> Result<(), Fail> {
-    let [first, second] = engines.list_texts(alloc, Input::new(haystack))?;
-    assert_eq!(rt; first.as_str(), second.as_str(), "{haystack:?}");
-    Ok(())
-}
-
-fn fold_haystack(
-    rt: &impl Abort,
-    alloc: Global,
-    engines: &mut Engines,
-    sum: u64,
-    haystack: &[u8],
-) -> Result<u64, Fail> {
-    expect_same_lists(rt, alloc, engines, haystack)?;
-    let mut slots = Slots::new(alloc, engines.slot_len())?;
-    let inputs = searches_of(alloc, haystack)?;
-    fold_searches(rt, engines, &mut slots, sum, &inputs)
-}
-
-fn fold_haystacks(
-    rt: &impl Abort,
-    alloc: Global,
-    engines: &mut Engines,
-    sum: u64,
-) -> Result<u64, Fail> {
-    let mut sum = sum;
-    for &haystack in HAYSTACKS {
-        sum = fold_haystack(rt, alloc, engines, sum, haystack)?;
+fn fold_all(rt: &impl Abort, alloc: Global, shared: &mut Shared) -> Result<u64, Fail> {
+    let mut chance = Chance { state: FIRST_STATE };
+    let mut sum = SEED;
+    for _ in 0..COUNT {
+        let nfa = made(alloc, &mut chance)?;
+        sum = fold_nfa(rt, nfa, shared, sum, HAYSTACKS)?;
     }
     Ok(sum)
 }
 
-fn fold_made(rt: &impl Abort, alloc: Global, chance: &mut Chance, sum: u64) -> Result<u64, Fail> {
-    let mut engines = Engines::new(alloc, made(alloc, chance)?)?;
-    fold_haystacks(rt, alloc, &mut engines, sum)
+fn expect_sum(rt: &impl Abort, alloc: Global, shared: &mut Shared) -> Result<(), Fail> {
+    assert_eq!(rt; fold_all(rt, alloc, shared)?, SUM);
+    Ok(())
 }
 
 #[test]
-fn both_search_what_chance_makes(rt: HostRuntime) -> Result<(), Fail> {
-    let mut chance = Chance { state: FIRST_STATE };
-    let mut sum = SEED;
-    for _ in 0..COUNT {
-        sum = fold_made(&rt, rt.alloc(), &mut chance, sum)?;
-    }
-    assert_eq!(rt; sum, SUM);
-    Ok(())
+fn all_calls_search_what_chance_makes(rt: HostRuntime) -> Result<(), Fail> {
+    let alloc = rt.alloc();
+    let mut shared = Shared::new(alloc)?;
+    expect_sum(&rt, alloc, &mut shared)
 }

@@ -4,35 +4,36 @@ use std::alloc::{AllocError, Global};
 use std::test::Fail;
 use thompson_nfa::{NFA, State, Transition};
 
-const STATE_COUNTS: [(&str, usize); 28] = [
-    ("abc", 8),
-    ("ab_b", 12),
-    ("ab_abc", 14),
-    ("abc_ab", 14),
-    ("abc_b", 13),
-    ("foo_bar", 33),
-    ("b_a", 11),
-    ("abc_a", 10),
-    ("a_or_empty", 7),
-    ("empty_or_a", 7),
-    ("empty", 5),
-    ("empty_bytes", 5),
-    ("empty_anchored", 3),
-    ("a_star", 7),
-    ("a_star_bytes", 7),
-    ("groups", 14),
-    ("loop", 7),
-    ("a_bare", 4),
-    ("a_pair", 2),
-    ("backwards", 6),
-    ("snowman", 10),
-    ("three_digits", 10),
-    ("alnum100", 105),
-    ("words_numbers", 13),
-    ("abcd_b", 11),
-    ("foo_num", 12),
-    ("date", 21),
-    ("six", 21),
+// A name, how many states there are, and the names of the explicit groups of each pattern.
+const STATE_COUNTS: [(&str, usize, &str); 28] = [
+    ("abc", 8, "[[]]"),
+    ("ab_b", 12, "[[], []]"),
+    ("ab_abc", 14, "[[], []]"),
+    ("abc_ab", 14, "[[], []]"),
+    ("abc_b", 13, "[[], []]"),
+    ("foo_bar", 33, "[[], [], [], []]"),
+    ("b_a", 11, "[[], []]"),
+    ("abc_a", 10, "[[]]"),
+    ("a_or_empty", 7, "[[]]"),
+    ("empty_or_a", 7, "[[]]"),
+    ("empty", 5, "[[]]"),
+    ("empty_bytes", 5, "[[]]"),
+    ("empty_anchored", 3, "[[]]"),
+    ("a_star", 7, "[[]]"),
+    ("a_star_bytes", 7, "[[]]"),
+    ("groups", 14, "[[None, None]]"),
+    ("loop", 7, "[[None]]"),
+    ("a_bare", 4, "[]"),
+    ("a_pair", 2, "[]"),
+    ("backwards", 6, "[[]]"),
+    ("snowman", 10, "[[]]"),
+    ("three_digits", 10, "[[]]"),
+    ("alnum100", 105, "[[]]"),
+    ("words_numbers", 13, "[[], []]"),
+    ("abcd_b", 11, "[[]]"),
+    ("foo_num", 12, "[[Some(\"numbers\")]]"),
+    ("date", 21, "[[None, None, None]]"),
+    ("six", 21, "[[], []]"),
 ];
 
 // Of each name the two starts, the pattern starts, the number of slots and the flags; then the
@@ -170,10 +171,13 @@ const SHAPES: [(&str, &str, &str); 27] = [
 ];
 
 #[test]
-fn each_name_has_so_many_states(rt: HostRuntime) -> Result<(), Fail> {
-    for (name, count) in STATE_COUNTS {
+fn each_name_has_so_many_states_and_these_groups(rt: HostRuntime) -> Result<(), Fail> {
+    for (name, count, groups) in STATE_COUNTS {
         let nfa = sample(rt.alloc(), name)?.ok_or("unknown name")?;
         assert_eq!(rt; nfa.states().len(), count, "{name}");
+        let shown = format!(in rt.alloc(); "{:?}", nfa.group_info())?;
+        let want = format!(in rt.alloc(); "GroupInfo {{ names: {groups}, slot_len: ")?;
+        assert!(rt; shown.as_str().starts_with(want.as_str()), "{name}");
     }
     for name in ["", "nothing", "ABC", "abc ", "ab"] {
         assert!(rt; sample(rt.alloc(), name)?.is_none(), "{name}");
@@ -206,15 +210,6 @@ fn alnum100_is_a_chain(rt: HostRuntime) -> Result<(), Fail> {
     }
     want.push_str(" c1>102 m0 e0|104 00-FF>103")?;
     assert_eq!(rt; shown_states(alloc, nfa.states())?.as_str(), want.as_str());
-    Ok(())
-}
-
-#[test]
-fn foo_num_has_a_named_group(rt: HostRuntime) -> Result<(), Fail> {
-    let nfa = sample(rt.alloc(), "foo_num")?.ok_or("unknown name")?;
-    let pattern = PatternID::new(0).ok_or("too great a number")?;
-    assert_eq!(rt; nfa.group_info().to_index(pattern, "numbers"), Some(1));
-    assert_eq!(rt; nfa.group_info().to_index(pattern, "number"), None);
     Ok(())
 }
 

@@ -5,7 +5,7 @@ use super::searches::are_groups;
 use super::{Seen, Wrong, engines, expect};
 use nfa_choice::choose::Choice;
 use nfa_engines::error::SearchError;
-use regex_search_core::{Input, NonMaxUsize};
+use regex_search_core::{Captures, Input, NonMaxUsize};
 use std::alloc::Global;
 use test_support::text::parts;
 
@@ -13,7 +13,8 @@ use test_support::text::parts;
 pub fn searches(alloc: Global, seen: &mut Seen) -> Result<(), Wrong> {
     finds(alloc, seen)?;
     asks(alloc, seen)?;
-    fills(alloc, seen)
+    fills(alloc, seen)?;
+    catches(alloc, seen)
 }
 
 fn finds(alloc: Global, seen: &mut Seen) -> Result<(), Wrong> {
@@ -37,6 +38,24 @@ fn expect_groups(choice: &mut Choice, wrong: &'static str) -> Result<(), Wrong> 
     let mut slots = [NonMaxUsize::new(7); 6];
     let pattern = choice.search_slots(&Input::new(b"ab"), &mut slots);
     expect(are_groups(pattern, &slots), wrong)
+}
+
+fn catches(alloc: Global, seen: &mut Seen) -> Result<(), Wrong> {
+    let mut choice = engines::choice(alloc, seen, "groups")?;
+    let mut captures = captures_of(alloc, seen, &choice)?;
+    expect_caught(&mut choice, &mut captures)
+}
+
+fn captures_of(alloc: Global, seen: &mut Seen, choice: &Choice) -> Result<Captures, Wrong> {
+    engines::captures(alloc, seen, choice.get_nfa().group_info())
+}
+
+fn expect_caught(choice: &mut Choice, captures: &mut Captures) -> Result<(), Wrong> {
+    choice.search(&Input::new(b"ab"), captures);
+    expect(
+        are_groups(captures.pattern(), captures.slots()),
+        "the chosen captures",
+    )
 }
 
 /// The list is whole, whatever is refused.

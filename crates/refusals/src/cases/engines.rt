@@ -5,7 +5,7 @@ use nfa_choice::choose::Choice;
 use nfa_engines::backtrack::{self, BoundedBacktracker};
 use nfa_engines::error::SearchError;
 use nfa_engines::pikevm::{self, PikeVM};
-use regex_search_core::Captures;
+use regex_search_core::{Captures, GroupInfo, Refused};
 use std::alloc::Global;
 use test_support::made as samples;
 use test_support::made::MakeError;
@@ -32,6 +32,15 @@ pub fn backtracker_captures(
     engine: &BoundedBacktracker,
 ) -> Result<Captures, Wrong> {
     made!(seen, SearchError::Memory, engine.create_captures(alloc))
+}
+
+fn captures_of(alloc: Global, groups: &GroupInfo) -> Result<Captures, Refused> {
+    Captures::all(alloc, groups.clone()?)
+}
+
+/// Captures of all groups.
+pub fn captures(alloc: Global, seen: &mut Seen, groups: &GroupInfo) -> Result<Captures, Wrong> {
+    made!(seen, Refused, captures_of(alloc, groups))
 }
 
 /// A PikeVM of the sample.

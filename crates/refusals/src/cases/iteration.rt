@@ -3,6 +3,7 @@
 use super::{Seen, Wrong, engines, expect};
 use nfa_engines::backtrack::{BoundedBacktracker, TryFindMatches};
 use nfa_engines::error::SearchError;
+use nfa_engines::iter::Searcher;
 use regex_search_core::Input;
 use std::alloc::Global;
 use test_support::text::parts;
@@ -42,7 +43,14 @@ const A_LONG_WORD: &str = "a 1 abcdefghijklmnopqrstuvwxyzabcdefghijklmnopqrstuvw
 /// Lists of a text whose words are short, and of one that ends in a long one.
 pub fn lists(alloc: Global, seen: &mut Seen) -> Result<(), Wrong> {
     let engine = engines::backtracker(alloc, seen, "words_numbers")?;
-    expect_lists(alloc, seen, &engine)
+    expect_lists(alloc, seen, &engine)?;
+    expect_searcher()
+}
+
+// A copy of a searcher takes no memory.
+fn expect_searcher() -> Result<(), Wrong> {
+    let searcher = Searcher::new(Input::new(b"ab"));
+    expect(searcher.clone().is_ok(), "a refusal of a searcher's copy")
 }
 
 fn expect_lists(alloc: Global, seen: &mut Seen, engine: &BoundedBacktracker) -> Result<(), Wrong> {

@@ -5,8 +5,10 @@ use nfa_engines::backtrack::{BoundedBacktracker, Cache};
 use nfa_engines::error::SearchError;
 use nfa_engines::pikevm::{self, PikeVM};
 use nfa_samples::answers::GROUPS_ON_AB;
-use regex_search_core::{Captures, Input, Match, NonMaxUsize, PatternID, Span};
-use std::alloc::Global;
+use regex_search_core::{
+    Captures, Input, Match, NonMaxUsize, PatternID, PatternSet, Refused, Span,
+};
+use std::alloc::{AllocError, Global};
 use test_support::text::parts;
 
 /// Whether `groups` on "ab" has filled its six slots.
@@ -233,7 +235,10 @@ pub fn pikevms(alloc: Global, seen: &mut Seen) -> Result<(), Wrong> {
     let vm = engines::pikevm(alloc, seen, "groups")?;
     let mut cache = engines::threads(alloc, seen, &vm)?;
     expect_piked(&vm, &mut cache)?;
-    expect_piked_matches(&vm, &mut cache)
+    expect_piked_matches(&vm, &mut cache)?;
+    expect_piked_captures(alloc, seen, &vm, &mut cache)?;
+    expect_piked_set(alloc, seen, &vm, &mut cache)?;
+    expect_piked_list(alloc, seen, &vm, &mut cache)
 }
 
 fn expect_piked_matches(vm: &PikeVM, cache: &mut pikevm::Cache) -> Result<(), Wrong> {
@@ -248,4 +253,74 @@ fn expect_piked_matches(vm: &PikeVM, cache: &mut pikevm::Cache) -> Result<(), Wr
     }
     let count = vm.find_iter(cache, input).count();
     expect(count == 2, "the list of a PikeVM")
+}
+
+fn expect_piked_captures(
+    alloc: Global,
+    seen: &mut Seen,
+    vm: &PikeVM,
+    cache: &mut pikevm::Cache,
+) -> Result<(), Wrong> {
+    let mut captures = engines::captures(alloc, seen, vm.get_nfa().group_info())?;
+    if !cache.fits(vm) {
+        return Err(Wrong("a cache that fits no more"));
+    }
+    vm.search(cache, &Input::new(b"ab"), &mut captures);
+    expect(
+        are_groups(captures.pattern(), captures.slots()),
+        "the captures of a search by a PikeVM",
+    )
+}
+
+fn expect_piked_set(
+    alloc: Global,
+    seen: &mut Seen,
+    vm: &PikeVM,
+    cache: &mut pikevm::Cache,
+) -> Result<(), Wrong> {
+    let mut set = made_set(alloc, seen)?;
+    if !cache.fits(vm) {
+        return Err(Wrong("a cache that fits no more"));
+    }
+    vm.which_overlapping_matches(cache, &Input::new(b"ab"), &mut set);
+    expect(set.is_full(), "the set of a PikeVM")
+}
+
+fn made_set(alloc: Global, seen: &mut Seen) -> Result<PatternSet, Wrong> {
+    made!(seen, Refused, PatternSet::new(alloc, 1))
+}
+
+// A list of all matches is a growth, and so may be refused.
+fn expect_piked_list(
+    alloc: Global,
+    seen: &mut Seen,
+    vm: &PikeVM,
+    cache: &mut pikevm::Cache,
+) -> Result<(), Wrong> {
+    if !is_listed(alloc, seen, vm, cache)? {
+        let again = is_listed(alloc, seen, vm, cache)?;
+        expect(again, "two refusals of a list")?;
+    }
+    Ok(())
+}
+
+fn is_listed(
+    alloc: Global,
+    seen: &mut Seen,
+    vm: &PikeVM,
+    cache: &mut pikevm::Cache,
+) -> Result<bool, Wrong> {
+    if !cache.fits(vm) {
+        return Err(Wrong("a cache that fits no more"));
+    }
+    match vm.find_all(alloc, cache, Input::new(b"ab ab")) {
+        Ok(all) => {
+            expect(all.len() == 2, "all matches of a PikeVM")?;
+            Ok(true)
+        }
+        Err(AllocError) => {
+            seen.note(true)?;
+            Ok(false)
+        }
+    }
 }

@@ -1,0 +1,176 @@
+//! What the calls of a search answer, as one number, with caches and captures that all searches share.
+
+use super::shapes::{Shape, nfa_of};
+use nfa_choice::choose::Choice;
+use nfa_engines::backtrack::{self, BoundedBacktracker};
+use nfa_engines::error::SearchError;
+use nfa_engines::pikevm::{self, PikeVM};
+use regex_search_core::{Captures, Input, Match, NonMaxUsize, PatternID, PatternSet};
+use std::alloc::Global;
+use test_support::made::MakeError;
+
+/// The sum before any answer.
+pub const SEED: u64 = 7;
+
+/// The sum with one more number.
+pub fn fold(sum: u64, value: u64) -> u64 {
+    sum.wrapping_mul(31).wrapping_add(value)
+}
+
+// A pattern as one more than it is, none as 0; then each slot in the same way.
+fn fold_slots(sum: u64, pattern: Option<PatternID>, slots: &[Option<NonMaxUsize>]) -> u64 {
+    let number = match pattern {
+        Some(pattern) => (pattern.as_usize() as u64).wrapping_add(1),
+        None => 0,
+    };
+    let mut sum = fold(sum, number);
+    for slot in slots {
+        sum = match slot {
+            Some(offset) => fold(sum, (offset.get() as u64).wrapping_add(1)),
+            None => fold(sum, 0),
+        };
+    }
+    sum
+}
+
+// One more than the pattern, the start and the end; none as 0.
+fn fold_match(sum: u64, found: Option<Match>) -> u64 {
+    match found {
+        Some(found) => {
+            let sum = fold(sum, (found.pattern().as_usize() as u64).wrapping_add(1));
+            fold(fold(sum, found.start() as u64), found.end() as u64)
+        }
+        None => fold(sum, 0),
+    }
+}
+
+fn fold_is_match(sum: u64, is_match: bool) -> u64 {
+    fold(sum, if is_match { 1 } else { 0 })
+}
+
+/// What all searches write to, whatever it was used for before: a cache for each engine, slots, and captures of
+/// another NFA.
+#[derive(Drop)]
+pub struct Shared {
+    /// What all memory is asked for.
+    pub alloc: Global,
+    marks: backtrack::Cache,
+    /// The cache of the PikeVM.
+    pub threads: pikevm::Cache,
+    captures: Captures,
+    slots: [Option<NonMaxUsize>; 20],
+}
+
+impl Shared {
+    /// Things of an NFA with twelve slots.
+    pub fn new(alloc: Global) -> Result<Shared, MakeError> {
+        let vm = PikeVM::new_from_nfa(nfa_of(alloc, Shape::Captures(9))?)?;
+        Shared::of_pikevm(alloc, &vm)
+    }
+
+    fn of_pikevm(alloc: Global, vm: &PikeVM) -> Result<Shared, MakeError> {
+        let back = BoundedBacktracker::never_match(alloc)?;
+        Shared::of(alloc, &back, vm)
+    }
+
+    fn of(alloc: Global, back: &BoundedBacktracker, vm: &PikeVM) -> Result<Shared, MakeError> {
+        Ok(Shared {
+            alloc,
+            marks: back.create_cache(alloc),
+            threads: vm.create_cache(alloc)?,
+            captures: vm.create_captures(alloc)?,
+            slots: [NonMaxUsize::new(7); 20],
+        })
+    }
+}
+
+/// What the backtracker answers, by every call.
+pub fn sum_backtracked(
+    engine: &BoundedBacktracker,
+    input: &Input<'_>,
+    shared: &mut Shared,
+) -> Result<u64, SearchError> {
+    let Shared {
+        marks,
+        captures,
+        slots,
+        ..
+    } = shared;
+    let pattern = engine.try_search_slots(marks, input, slots)?;
+    let sum = fold_slots(SEED, pattern, slots);
+    let sum = fold_match(sum, engine.try_find(marks, *input)?);
+    let sum = fold_is_match(sum, engine.try_is_match(marks, *input)?);
+    engine.try_search(marks, input, captures)?;
+    let mut sum = fold_slots(sum, captures.pattern(), captures.slots());
+    for found in engine.try_find_iter(marks, *input) {
+        sum = fold_match(sum, Some(found?));
+    }
+    Ok(sum)
+}
+
+/// What the PikeVM answers, by every call but that for overlapping matches. 0 where the cache does not fit.
+pub fn sum_piked(vm: &PikeVM, input: &Input<'_>, shared: &mut Shared) -> u64 {
+    let Shared {
+        threads,
+        captures,
+        slots,
+        ..
+    } = shared;
+    if !threads.fits(vm) {
+        return 0;
+    }
+    let pattern = vm.search_slots(threads, input, slots);
+    let sum = fold_slots(SEED, pattern, slots);
+    let sum = fold_match(sum, vm.find(threads, *input));
+    let sum = fold_is_match(sum, vm.is_match(threads, *input));
+    vm.search(threads, input, captures);
+    let mut sum = fold_slots(sum, captures.pattern(), captures.slots());
+    for found in vm.find_iter(threads, *input) {
+        sum = fold_match(sum, Some(found));
+    }
+    sum
+}
+
+/// What the engine that chooses answers, by every call.
+pub fn sum_chosen(choice: &mut Choice, input: &Input<'_>, shared: &mut Shared) -> u64 {
+    let Shared {
+        captures,
+        slots,
+        ..
+    } = shared;
+    let pattern = choice.search_slots(input, slots);
+    let sum = fold_slots(SEED, pattern, slots);
+    let sum = fold_match(sum, choice.find(*input));
+    let sum = fold_is_match(sum, choice.is_match(*input));
+    choice.search(input, captures);
+    let mut sum = fold_slots(sum, captures.pattern(), captures.slots());
+    for found in choice.find_iter(*input) {
+        sum = fold_match(sum, Some(found));
+    }
+    sum
+}
+
+/// What an empty set gains in a search for overlapping matches. 0 where the cache does not fit.
+pub fn sum_of_set(
+    alloc: Global,
+    vm: &PikeVM,
+    threads: &mut pikevm::Cache,
+    input: &Input<'_>,
+) -> Result<u64, MakeError> {
+    if !threads.fits(vm) {
+        return Ok(0);
+    }
+    let mut set = PatternSet::new(alloc, 4)?;
+    vm.which_overlapping_matches(threads, input, &mut set);
+    let mut sum = SEED;
+    for pattern in set.iter() {
+        sum = fold(sum, (pattern.as_usize() as u64).wrapping_add(1));
+    }
+    Ok(sum)
+}
+
+/// What an empty set gains with a cache that is no larger than it has to be.
+pub fn sum_of_own_set(alloc: Global, vm: &PikeVM, input: &Input<'_>) -> Result<u64, MakeError> {
+    let mut own = vm.create_cache(alloc)?;
+    sum_of_set(alloc, vm, &mut own, input)
+}
