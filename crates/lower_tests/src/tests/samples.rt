@@ -1,6 +1,7 @@
 use nfa_samples::sample;
 use regex_search_core::{PatternID, StateID};
 use std::alloc::{AllocError, Global};
+use std::process::Abort;
 use std::test::Fail;
 use thompson_nfa::{NFA, State, Transition};
 
@@ -170,15 +171,32 @@ const SHAPES: [(&str, &str, &str); 27] = [
     ),
 ];
 
+// The NFA has so many states, and its groups these names.
+fn expect_counts(
+    rt: &impl Abort,
+    alloc: Global,
+    nfa: &NFA,
+    count: usize,
+    groups: &str,
+) -> Result<(), AllocError> {
+    assert_eq!(rt; nfa.states().len(), count, "{groups}");
+    let shown = format!(in alloc; "{:?}", nfa.group_info())?;
+    let want = format!(in alloc; "GroupInfo {{ names: {groups}, slot_len: ")?;
+    assert!(rt; shown.as_str().starts_with(want.as_str()), "{groups}");
+    Ok(())
+}
+
 #[test]
 fn each_name_has_so_many_states_and_these_groups(rt: HostRuntime) -> Result<(), Fail> {
     for (name, count, groups) in STATE_COUNTS {
         let nfa = sample(rt.alloc(), name)?.ok_or("unknown name")?;
-        assert_eq!(rt; nfa.states().len(), count, "{name}");
-        let shown = format!(in rt.alloc(); "{:?}", nfa.group_info())?;
-        let want = format!(in rt.alloc(); "GroupInfo {{ names: {groups}, slot_len: ")?;
-        assert!(rt; shown.as_str().starts_with(want.as_str()), "{name}");
+        expect_counts(&rt, rt.alloc(), &nfa, count, groups)?;
     }
+    Ok(())
+}
+
+#[test]
+fn other_names_are_unknown(rt: HostRuntime) -> Result<(), Fail> {
     for name in ["", "nothing", "ABC", "abc ", "ab"] {
         assert!(rt; sample(rt.alloc(), name)?.is_none(), "{name}");
     }
