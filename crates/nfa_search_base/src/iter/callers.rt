@@ -132,17 +132,26 @@ fn an_error_ends_captures(rt: HostRuntime) -> Result<(), Fail> {
     Ok(())
 }
 
+const TRIES: &str =
+    "TryCapturesIter { searcher: Searcher { input: Input { haystack: [97], span: Span { start: 0, end: 1 }, anchored: No, earliest: false }, last_match_end: None }, captures: Captures { group_info: GroupInfo { names: [[]], slot_len: 2 }, pattern: None, slots: [None, None] }, done: false, .. }";
+
 #[test]
 fn captures_come(rt: HostRuntime) -> Result<(), Fail> {
     let alloc = rt.alloc();
     let groups = GroupInfo::new(vec![in alloc; Vec::new(alloc)]?).ok_or("too many slots")?;
     let captures = Captures::matches(alloc, groups)?;
-    let searcher = Searcher::new(Input::new(b"abc"));
+    let searcher = Searcher::new(Input::new(b"a"));
     let items = searcher.into_captures_iter(captures, |input, captures| {
         captures.set_pattern(None);
         Ok(())
     });
-    assert_eq!(rt; items.count(), 0);
+    let tries = format!(in alloc; "{items:?}")?;
+    assert_eq!(rt; tries.as_str(), TRIES);
+    let sure = items.infallible();
+    let text = format!(in alloc; "{sure:?}")?;
+    let want = format!(in alloc; "CapturesIter {{ tries: {TRIES} }}")?;
+    assert_eq!(rt; text.as_str(), want.as_str());
+    assert_eq!(rt; sure.count(), 0);
     Ok(())
 }
 
