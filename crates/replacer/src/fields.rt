@@ -1,4 +1,10 @@
 //! What stands between the matches of a text.
+ghost use Rattle.std.specs.Prelude.{◌≡◌, ◌+◌, ◌<◌, ◌≤◌, IfOk, None, length, map, []};
+ghost use Rattle.regex_search_core.specs.Found.{found_of};
+ghost use Rattle.regex_search_core.specs.Search.{whole};
+ghost use Rattle.nfa_engines.specs.Engines.{Fits, SameNumbers};
+ghost use Rattle.nfa_engines.specs.Lists.{AreApart};
+ghost use Rattle.replacer.specs.Separated.{AreAround, IsSplit, IsSplitUpTo, texts};
 
 use crate::found::first_matches;
 use nfa_engines::pikevm::{Cache, PikeVM};
@@ -12,7 +18,11 @@ pub fn split<'h>(
     vm: &PikeVM,
     cache: &mut Cache,
     haystack: &'h [u8],
-) -> Result<Vec<&'h [u8]>, AllocError> {
+) -> Result<Vec<&'h [u8]>, AllocError>
+    requires { Fits cache.old vm.now.nfa }
+    ensures fields { IfOk result (λ fields. IsSplit haystack.now vm.now (texts fields.items)) }
+    ensures numbers { SameNumbers cache.old cache.new }
+{
     let matches = vm.find_all(alloc, cache, Input::new(haystack))?;
     fields_between(alloc, haystack, &matches)
 }
@@ -25,7 +35,13 @@ pub fn splitn<'h>(
     cache: &mut Cache,
     haystack: &'h [u8],
     limit: usize,
-) -> Result<Vec<&'h [u8]>, AllocError> {
+) -> Result<Vec<&'h [u8]>, AllocError>
+    requires { Fits cache.old vm.now.nfa }
+    ensures none { limit ≡ 0 → IfOk result (λ fields. fields.items ≡ []) }
+    ensures fields { 0 < limit → IfOk result (λ fields. IsSplitUpTo haystack.now vm.now limit (texts fields.items)) }
+    ensures few { IfOk result (λ fields. length fields.items ≤ limit) }
+    ensures numbers { SameNumbers cache.old cache.new }
+{
     if limit == 0 {
         return Ok(Vec::new(alloc));
     }
@@ -38,7 +54,11 @@ fn fields_between<'h>(
     alloc: Global,
     haystack: &'h [u8],
     matches: &[Match],
-) -> Result<Vec<&'h [u8]>, AllocError> {
+) -> Result<Vec<&'h [u8]>, AllocError>
+    requires { AreApart (whole haystack.now) None (map found_of matches.now) }
+    ensures around { IfOk result (λ fields. AreAround haystack.now (map found_of matches.now) (texts fields.items)) }
+    ensures count { IfOk result (λ fields. length fields.items ≡ length matches.now + 1) }
+{
     let mut fields = Vec::new(alloc);
     let mut from = 0;
     for found in matches {

@@ -8,6 +8,7 @@ mod name;
 mod pattern;
 mod replace;
 mod report;
+mod scan;
 mod template;
 #[cfg(test)]
 mod tests;

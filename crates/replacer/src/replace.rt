@@ -1,4 +1,7 @@
 //! A text with something else in place of its matches.
+ghost use Rattle.std.specs.Prelude.{◌≡◌, IfOk};
+ghost use Rattle.nfa_engines.specs.Engines.{Fits};
+ghost use Rattle.replacer.specs.Replaced.{IsReplaced, LieBehind, replaced};
 
 use crate::found::all_captures;
 use crate::template::Template;
@@ -13,7 +16,10 @@ pub fn replace_all(
     cache: &mut Cache,
     haystack: &[u8],
     template: &Template<'_>,
-) -> Result<Vec<u8>, AllocError> {
+) -> Result<Vec<u8>, AllocError>
+    requires { Fits cache.old vm.now.nfa }
+    ensures replaced { IfOk result (λ output. IsReplaced vm.now haystack.now template.now.parts.items output.items) }
+{
     let caught = all_captures(alloc, vm, cache, haystack)?;
     replace_caught(alloc, haystack, &caught, template)
 }
@@ -24,7 +30,10 @@ fn replace_caught(
     haystack: &[u8],
     caught: &[Captures],
     template: &Template<'_>,
-) -> Result<Vec<u8>, AllocError> {
+) -> Result<Vec<u8>, AllocError>
+    requires { LieBehind haystack.now 0 caught.now }
+    ensures { IfOk result (λ output. output.items ≡ replaced haystack.now template.now.parts.items 0 caught.now) }
+{
     let mut output = Vec::new(alloc);
     let mut from = 0;
     for captures in caught {

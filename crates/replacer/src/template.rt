@@ -1,6 +1,12 @@
 //! What is put in place of a match.
+ghost use Rattle.std.specs.Prelude.{◌≡◌, ◌++◌, IfErr, IfOk, OnOk, length};
+ghost use Rattle.regex_search_core.specs.Patterns.{number_of};
+ghost use Rattle.regex_search_core.specs.Search.{whole};
+ghost use Rattle.nfa_engines.specs.CaughtRuns.{CapturesInside};
+ghost use Rattle.replacer.specs.Templates.{filled, part_text};
+ghost use Rattle.replacer.specs.Writing.{AreParts, IsMistake};
 
-use crate::name::{group_of, is_word};
+use crate::scan::piece_at;
 use regex_search_core::{Captures, GroupInfo, PatternID};
 use std::alloc::{AllocError, AllocFailed, Global};
 use thiserror::Error;
@@ -56,13 +62,17 @@ impl<'t> Template<'t> {
         text: &'t [u8],
         groups: &GroupInfo,
         pattern: PatternID,
-    ) -> Result<Template<'t>, TemplateError> {
+    ) -> Result<Template<'t>, TemplateError>
+        ensures parts { IfOk result (λ template.
+            AreParts groups.now (number_of pattern) text.now template.parts.items (length text.now)) }
+        ensures mistake { IfErr result (IsMistake groups.now (number_of pattern) text.now) }
+    {
         let mut parts = Vec::new(alloc);
         let mut at = 0;
         while at < text.len() {
-            let (part, end) = part_at(text, at, groups, pattern)?;
-            parts.push(part)?;
-            at = end;
+            let piece = piece_at(text, at, groups, pattern)?;
+            parts.push(piece.part)?;
+            at = piece.end;
         }
         Ok(Template { parts })
     }
@@ -73,7 +83,11 @@ impl<'t> Template<'t> {
         haystack: &[u8],
         captures: &Captures,
         output: &mut Vec<u8>,
-    ) -> Result<(), AllocError> {
+    ) -> Result<(), AllocError>
+        requires { CapturesInside (whole haystack.now) captures.now }
+        ensures { OnOk result (output.new.items
+            ≡ output.old.items ++ filled haystack.now captures.now self.now.parts.items) }
+    {
         for part in &self.parts {
             output.extend_from_slice(part_text(part, haystack, captures))?;
         }
@@ -81,63 +95,11 @@ impl<'t> Template<'t> {
     }
 }
 
-/// The part that starts there, and where it ends.
-fn part_at<'t>(
-    text: &'t [u8],
-    at: usize,
-    groups: &GroupInfo,
-    pattern: PatternID,
-) -> Result<(Part<'t>, usize), TemplateError> {
-    if text[at] != b'$' {
-        let end = run_end(text, at, |byte| byte != b'$');
-        return Ok((Part::Text(&text[at..end]), end));
-    }
-    let start = at + 1;
-    let dollar = Part::Text(&text[at..start]);
-    match text.get(start) {
-        Some(b'$') => Ok((dollar, start + 1)),
-        Some(b'{') => {
-            let end = run_end(text, start, |byte| byte != b'}');
-            if end == text.len() {
-                return Err(TemplateError::Unclosed { dollar: at });
-            }
-            let part = group_part(text, start + 1, end, groups, pattern)?;
-            Ok((part, end + 1))
-        }
-        Some(byte) if is_word(*byte) => {
-            let end = run_end(text, start, is_word);
-            let part = group_part(text, start, end, groups, pattern)?;
-            Ok((part, end))
-        }
-        _ => Ok((dollar, start)),
-    }
-}
-
-/// The group that the text names between these offsets.
-fn group_part<'t>(
-    text: &[u8],
-    start: usize,
-    end: usize,
-    groups: &GroupInfo,
-    pattern: PatternID,
-) -> Result<Part<'t>, TemplateError> {
-    match group_of(groups, pattern, &text[start..end]) {
-        Some(group) => Ok(Part::Group(group)),
-        None => Err(TemplateError::UnknownGroup { start, end }),
-    }
-}
-
-/// Where the run of bytes that pass the test ends.
-fn run_end(text: &[u8], at: usize, passes: impl Fn(u8) -> bool) -> usize {
-    let mut end = at;
-    while end < text.len() && passes(text[end]) {
-        end += 1;
-    }
-    end
-}
-
 /// What stands for the part in a match with these captures.
-fn part_text<'p>(part: &Part<'p>, haystack: &'p [u8], captures: &Captures) -> &'p [u8] {
+fn part_text<'p>(part: &Part<'p>, haystack: &'p [u8], captures: &Captures) -> &'p [u8]
+    requires { CapturesInside (whole haystack.now) captures.now }
+    ensures { result.now ≡ part_text haystack.now captures.now part.now }
+{
     match *part {
         Part::Text(text) => text,
         Part::Group(group) => match captures.get_group(group) {

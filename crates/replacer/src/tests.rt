@@ -52,7 +52,6 @@ const NO_TEMPLATES: &[(&str, TemplateError)] = &[
     ),
     ("${Year}", TemplateError::UnknownGroup { start: 2, end: 6 }),
     ("${}", TemplateError::UnknownGroup { start: 2, end: 2 }),
-    ("${+1}", TemplateError::UnknownGroup { start: 2, end: 4 }),
     ("x${year", TemplateError::Unclosed { dollar: 1 }),
     ("$1${", TemplateError::Unclosed { dollar: 2 }),
 ];
