@@ -1,6 +1,6 @@
-use Rattle.std.proofs.Common.{◌≡◌, ◌∙◌, Ok, map}
+use Rattle.std.proofs.Common.{◌≡◌, ◌∙◌, ap, false, Ok, map}
 use Rattle.std.proofs.iter.runs.Made.{run_of_exit}
-use Rattle.regex_search_core.specs.Search.{whole}
+use Rattle.regex_search_core.specs.Search.{Search, whole}
 use Rattle.nfa_engines.specs.CaughtLists.{HasGroups}
 use Rattle.nfa_engines.specs.CaughtRuns.{CapturesInside}
 use Rattle.replacer.proofs.OrderLemmas.{all_ok, captures_in_order}
@@ -14,7 +14,8 @@ returns c =
     let from = run.1 ∙ c.into_iter-item-iterator.ensures.into_iter_gives in
     let is = run.3.0 ∙ c.loop-item.invariant in
     let given = c.in-Ok.ensures in
-    let rows = rw c.new.ensures at ((given.rows run.0 run.0.seen from all is).1 run.2) in
+    let early : c.new.result.earliest ≡ false = ap (λ (x : Search). x.earliest) c.new.ensures in
+    let rows = rw (c.new.ensures, early) at ((given.rows run.0 run.0.seen from all is).1 run.2) in
     let apart = rw c.new.ensures at (given.apart run.0 run.0.seen from all is) in
     let groups = rw is at (given.groups run.0 run.0.seen from) in
     let inside = rw (is, c.new.ensures) at (given.inside run.0 run.0.seen from) in
