@@ -1,0 +1,5 @@
+pub mod Names
+pub mod Replaced
+pub mod Separated
+pub mod Templates
+pub mod Writing

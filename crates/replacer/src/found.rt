@@ -1,0 +1,64 @@
+//! The matches of a text, and their captures, as lists.
+ghost use Rattle.std.specs.Prelude.{◌≡◌, ◌⊎◌, ◌≤◌, false, IfOk, None, length, map};
+ghost use Rattle.regex_search_core.specs.Found.{found_of};
+ghost use Rattle.regex_search_core.specs.Search.{whole};
+ghost use Rattle.nfa_engines.specs.Engines.{Fits, SameNumbers, kind_of};
+ghost use Rattle.nfa_engines.specs.Lists.{AreApart, AreFirstMatches, AreMatches};
+ghost use Rattle.replacer.specs.Replaced.{AreCaught};
+
+use nfa_engines::pikevm::{Cache, PikeVM};
+use regex_search_core::{Captures, Input, Match};
+use std::alloc::{AllocError, Global};
+
+/// The captures of all matches of the text.
+pub fn all_captures(
+    alloc: Global,
+    vm: &PikeVM,
+    cache: &mut Cache,
+    text: &[u8],
+) -> Result<Vec<Captures>, AllocError>
+    requires { Fits cache.old vm.now.nfa }
+    ensures { IfOk result (λ all. AreCaught vm.now text.now all.items) }
+{
+    let Ok(items) = vm.captures_iter(alloc, cache, Input::new(text)) else {
+        return Err(AllocError);
+    };
+    let mut all = Vec::new(alloc);
+    for item in items {
+        let Ok(captures) = item else {
+            return Err(AllocError);
+        };
+        all.push(captures)?;
+    }
+    Ok(all)
+}
+
+/// The first matches of the text, so many or all that there are.
+pub fn first_matches(
+    alloc: Global,
+    vm: &PikeVM,
+    cache: &mut Cache,
+    text: &[u8],
+    count: usize,
+) -> Result<Vec<Match>, AllocError>
+    requires { Fits cache.old vm.now.nfa }
+    ensures first { IfOk result (λ found.
+        AreFirstMatches vm.now.nfa (kind_of vm.now) false (whole text.now) (map found_of found.items)) }
+    ensures as_many { IfOk result (λ found. (length found.items ≡ count)
+        ⊎ AreMatches vm.now.nfa (kind_of vm.now) false (whole text.now) (map found_of found.items)) }
+    ensures few { IfOk result (λ found. length found.items ≤ count) }
+    ensures apart { IfOk result (λ found. AreApart (whole text.now) None (map found_of found.items)) }
+    ensures numbers { SameNumbers cache.old cache.new }
+{
+    let mut first = Vec::new(alloc);
+    if count == 0 {
+        return Ok(first);
+    }
+    for found in vm.find_iter(cache, Input::new(text)) {
+        first.push(found)?;
+        if first.len() == count {
+            return Ok(first);
+        }
+    }
+    Ok(first)
+}

@@ -1,0 +1,49 @@
+//! Reads a text from standard input, and replaces the dates in it, or splits it there.
+#![tactic(auto)]
+
+mod command;
+mod fields;
+mod found;
+mod name;
+mod pattern;
+mod replace;
+mod report;
+mod scan;
+mod template;
+#[cfg(test)]
+mod tests;
+
+use crate::command::{Command, USAGE};
+use crate::pattern::date_nfa;
+use anyhow::{Result, anyhow};
+use nfa_engines::pikevm::PikeVM;
+use std::alloc::Global;
+use std::io::BufWriter;
+use std::process::ExitCode;
+use std::{env, io};
+
+/// The words on the command line ask for nothing that the program does, or the template is none.
+const MISUSED: u8 = 2;
+
+// An error is printed on standard error, and the status then is 1.
+fn main(rt: HostRuntime) -> Result<ExitCode> {
+    let alloc = rt.alloc();
+    let arguments: Vec<String> = env::args(&rt)?.skip(1).collect(alloc)?;
+    let words: Vec<&str> = arguments.iter().map(|word| word.as_str()).collect(alloc)?;
+    let Some(command) = Command::from_words(&words) else {
+        // The status tells of it where this is not written.
+        let _ = eprintln!(rt; "{USAGE}");
+        return Ok(ExitCode::from(MISUSED));
+    };
+    let vm = engine(alloc)?;
+    let mut out = BufWriter::new(alloc, io::writer(&rt))?;
+    if let Some(error) = report::run(alloc, &vm, command, rt.reader(), &mut out)? {
+        let _ = eprintln!(rt; "{error}");
+        return Ok(ExitCode::from(MISUSED));
+    }
+    Ok(ExitCode::SUCCESS)
+}
+
+fn engine(alloc: Global) -> Result<PikeVM> {
+    PikeVM::new_from_nfa(date_nfa(alloc)?).map_err(|error| anyhow!("{error:?}"))
+}

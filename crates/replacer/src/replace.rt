@@ -1,0 +1,49 @@
+//! A text with something else in place of its matches.
+ghost use Rattle.std.specs.Prelude.{◌≡◌, IfOk};
+ghost use Rattle.nfa_engines.specs.Engines.{Fits};
+ghost use Rattle.replacer.specs.Replaced.{IsReplaced, LieBehind, replaced};
+
+use crate::found::all_captures;
+use crate::template::Template;
+use nfa_engines::pikevm::{Cache, PikeVM};
+use regex_search_core::Captures;
+use std::alloc::{AllocError, Global};
+
+/// The haystack with the template, filled by each match, in place of the match. The error is that a growth was refused.
+pub fn replace_all(
+    alloc: Global,
+    vm: &PikeVM,
+    cache: &mut Cache,
+    haystack: &[u8],
+    template: &Template<'_>,
+) -> Result<Vec<u8>, AllocError>
+    requires { Fits cache.old vm.now.nfa }
+    ensures replaced { IfOk result (λ output. IsReplaced vm.now haystack.now template.now.parts.items output.items) }
+{
+    let caught = all_captures(alloc, vm, cache, haystack)?;
+    replace_caught(alloc, haystack, &caught, template)
+}
+
+/// The haystack with the filled template in place of the match of each of these captures.
+fn replace_caught(
+    alloc: Global,
+    haystack: &[u8],
+    caught: &[Captures],
+    template: &Template<'_>,
+) -> Result<Vec<u8>, AllocError>
+    requires { LieBehind haystack.now 0 caught.now }
+    ensures { IfOk result (λ output. output.items ≡ replaced haystack.now template.now.parts.items 0 caught.now) }
+{
+    let mut output = Vec::new(alloc);
+    let mut from = 0;
+    for captures in caught {
+        let Some(found) = captures.get_match() else {
+            unreachable!()
+        };
+        output.extend_from_slice(&haystack[from..found.start()])?;
+        template.fill(haystack, captures, &mut output)?;
+        from = found.end();
+    }
+    output.extend_from_slice(&haystack[from..])?;
+    Ok(output)
+}

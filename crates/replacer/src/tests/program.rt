@@ -1,0 +1,130 @@
+//! The words that the program knows, what it prints, and what ends it.
+use crate::command::Command;
+use crate::pattern::date_nfa;
+use crate::report::run;
+use crate::template::TemplateError;
+use nfa_engines::pikevm::PikeVM;
+use std::alloc::Global;
+use std::io;
+use std::io::{Read, Write};
+use std::process::Abort;
+use std::test::Fail;
+
+#[test]
+fn knows_its_words(rt: HostRuntime) {
+    for (words, want) in [
+        (&["replace", "$1"][..], Some(Command::Replace("$1"))),
+        (&["split"], Some(Command::Split)),
+        (&["splitn", "2"], Some(Command::SplitN(2))),
+        (&["splitn", "x"], None),
+        (&["splitn", "-1"], None),
+        (&["splitn"], None),
+        (&["replace"], None),
+        (&["replace", "a", "b"], None),
+        (&["split", "2"], None),
+        (&["join"], None),
+        (&[], None),
+    ] {
+        assert_eq!(rt; Command::from_words(words), want, "{words:?}");
+    }
+}
+
+const TEXT: &[u8] = b"a 2026-11-22\n2027-01-02 b";
+
+#[test]
+fn prints_the_text_or_its_fields(rt: HostRuntime) -> Result<(), Fail> {
+    let alloc = rt.alloc();
+    let vm = PikeVM::new_from_nfa(date_nfa(alloc)?)?;
+    for (command, want) in [
+        (Command::Replace("$day"), &b"a 22\n02 b"[..]),
+        (Command::Split, b"a \n\n\n b\n"),
+        (Command::SplitN(2), b"a \n\n2027-01-02 b\n"),
+        (Command::SplitN(0), b""),
+    ] {
+        let mut out = Vec::new(alloc);
+        let refused = run(alloc, &vm, command, TEXT, &mut out)?;
+        assert_eq!(rt; refused, None);
+        assert_eq!(rt; out.as_slice(), want, "{command:?}");
+    }
+    Ok(())
+}
+
+#[test]
+fn prints_nothing_where_the_template_is_none(rt: HostRuntime) -> Result<(), Fail> {
+    let alloc = rt.alloc();
+    let vm = PikeVM::new_from_nfa(date_nfa(alloc)?)?;
+    let mut out = Vec::new(alloc);
+    let refused = run(alloc, &vm, Command::Replace("$hour"), TEXT, &mut out)?;
+    assert_eq!(rt;
+        refused,
+        Some(TemplateError::UnknownGroup { start: 1, end: 5 })
+    );
+    assert!(rt; out.is_empty());
+    Ok(())
+}
+
+// Takes so many writes, and refuses each one after them.
+#[derive(Drop)]
+struct Refusing {
+    left: usize,
+    refused: usize,
+}
+
+impl Write for Refusing {
+    fn write(&mut self, buf: &[u8]) -> io::Result<usize> {
+        if self.left == 0 {
+            self.refused = self.refused.saturating_add(1);
+            return Err(io::Error::from(io::ErrorKind::BrokenPipe));
+        }
+        self.left -= 1;
+        Ok(buf.len())
+    }
+
+    fn flush(&mut self) -> io::Result<()> {
+        Ok(())
+    }
+}
+
+fn expect_end(rt: &impl Abort, alloc: Global, vm: &PikeVM, command: Command<'_>, left: usize) {
+    let mut out = Refusing { left, refused: 0 };
+    let ended = run(alloc, vm, command, TEXT, &mut out);
+    assert_eq!(rt;
+        ended.is_err(),
+        out.refused == 1,
+        "{left} writes of {command:?}"
+    );
+    assert!(rt; out.refused <= 1, "{left} writes of {command:?}");
+}
+
+#[test]
+fn ends_where_a_write_fails(rt: HostRuntime) -> Result<(), Fail> {
+    let alloc = rt.alloc();
+    let vm = PikeVM::new_from_nfa(date_nfa(alloc)?)?;
+    for left in 0..8 {
+        expect_end(&rt, alloc, &vm, Command::Replace("$1"), left);
+        expect_end(&rt, alloc, &vm, Command::Split, left);
+    }
+    Ok(())
+}
+
+// Cannot be read.
+#[derive(Drop)]
+struct Unreadable;
+
+impl Read for Unreadable {
+    fn read(&mut self, _: &mut [u8]) -> io::Result<usize> {
+        Err(io::Error::from(io::ErrorKind::PermissionDenied))
+    }
+}
+
+#[test]
+fn ends_where_the_input_is_not_read(rt: HostRuntime) -> Result<(), Fail> {
+    let alloc = rt.alloc();
+    let vm = PikeVM::new_from_nfa(date_nfa(alloc)?)?;
+    for command in [Command::Replace("$1"), Command::Split, Command::SplitN(1)] {
+        let mut out = Vec::new(alloc);
+        let ended = run(alloc, &vm, command, Unreadable, &mut out);
+        assert!(rt; ended.is_err() && out.is_empty(), "{command:?}");
+    }
+    Ok(())
+}
