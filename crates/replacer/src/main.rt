@@ -15,7 +15,7 @@ mod tests;
 
 use crate::command::{Command, USAGE};
 use crate::pattern::date_nfa;
-use anyhow::{Result, anyhow};
+use anyhow::Result;
 use nfa_engines::pikevm::PikeVM;
 use std::alloc::Global;
 use std::io::BufWriter;
@@ -45,5 +45,6 @@ fn main(rt: HostRuntime) -> Result<ExitCode> {
 }
 
 fn engine(alloc: Global) -> Result<PikeVM> {
-    PikeVM::new_from_nfa(date_nfa(alloc)?).map_err(|error| anyhow!("{error:?}"))
+    let vm = PikeVM::new_from_nfa(date_nfa(alloc)?)?;
+    Ok(vm)
 }
