@@ -1,6 +1,6 @@
 mod bounds;
 mod bounds_caller;
-mod core;
 mod drafts;
 mod nfas;
 mod samples;
+mod values;
