@@ -6,7 +6,7 @@ ghost use Rattle.regex_search_core.specs.declared.search.MatchKind.TheVariants.{
 ghost use Rattle.nfa_scanning.specs.FirstBytes.{IsFirstBytes};
 ghost use Rattle.nfa_pikevm.specs.Scans.{blank, HaveRoom, HaveRows, SameSizes, AreStarts, Joins, with_start, half_found, Scans, scan_turns};
 
-use crate::slot::Slot;
+use crate::slot::{Slot, unset_row};
 use crate::threads::{Threads, cross, move_on, set_up};
 use nfa_scanning::first_bytes::FirstBytes;
 use nfa_scanning::starts::{next_start, skip_limit, start_limit, start_state};
@@ -244,7 +244,7 @@ pub fn scan(
     ensures answer { Scans nfa.now (search_of input.now) kind (search_of input.now).earliest result slots.new threads.new.seen.turns }
 {
     threads.scans.tick();
-    slots.fill(Slot::unset());
+    unset_row(slots);
     if input.is_done() {
         return None;
     }
