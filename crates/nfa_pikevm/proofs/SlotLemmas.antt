@@ -24,3 +24,15 @@ pub handed-more : (row : Slots) (i left : ℕ) (x : Option ℕ) → i < length r
 handed-more [] i left x inside is = absurd (omega arith)
 handed-more (o ∷ row) zero left x inside is = ap (λ y. y ∷ replicate left None) is
 handed-more (o ∷ row) (suc i) left x inside is = ap (λ l. o ∷ l) (handed-more row i left x (omega arith) is)
+
+-- two slots lose their offsets at once
+pub unset-two : (row : Slots) (x y : Option ℕ) → length row ≡ 2 → x ≡ None → y ≡ None
+    → set (set row 0 x) 1 y ≡ replicate (length row) None
+unset-two (a ∷ b ∷ []) x y two is also = cc (is, also)
+unset-two row x y two is also = absurd (omega arith)
+
+-- and four
+pub unset-four : (row : Slots) (w x y z : Option ℕ) → length row ≡ 4 → w ≡ None → x ≡ None → y ≡ None → z ≡ None
+    → set (set (set (set row 0 w) 1 x) 2 y) 3 z ≡ replicate (length row) None
+unset-four (a ∷ b ∷ c ∷ d ∷ []) w x y z four is-w is-x is-y is-z = cc (is-w, is-x, is-y, is-z)
+unset-four row w x y z four is-w is-x is-y is-z = absurd (omega arith)

@@ -1,6 +1,6 @@
 ghost use Rattle.std.specs.Prelude.{◌≡◌, ℕ, ◌+◌, ◌*◌, ◌<◌, ◌≤◌, [], ◌∷◌, ◌++◌, None, length, take, replicate, IfOk, IsTrue, ◌↔◌};
 
-use crate::slot::{Slot, copy_row};
+use crate::slot::{Slot, copy_row, unset_row};
 use regex_search_core::{Refused, StateID};
 use std::alloc::Global;
 use std::marker::Model;
@@ -61,7 +61,7 @@ fn blank_row(rows: &mut [Slot], before: usize, width: usize)
     ensures { take (before * width + width) rows.new ≡ take (before * width) rows.old ++ replicate width None }
 {
     let start = before * width;
-    rows[start..start + width].fill(Slot::unset());
+    unset_row(&mut rows[start..start + width]);
 }
 
 impl ActiveStates {

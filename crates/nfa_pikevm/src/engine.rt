@@ -227,7 +227,9 @@ impl PikeVM {
         Some(half?.pattern())
     }
 
-    /// The match that a search answers, from the row of the cache that it fills.
+    /// The match that a search answers, from the row of the cache that it fills. It is a call of its own, so that an
+    /// iteration that knows an answer saves no registers for a search.
+    #[inline(never)]
     fn find_with(
         &self,
         threads: &mut Threads,

@@ -1,12 +1,12 @@
-ghost use Rattle.std.specs.Prelude.{◌≡◌, ◌+◌, ◌<◌, ◌≤◌, [], true, false, length, cond, option_map};
+ghost use Rattle.std.specs.Prelude.{◌≡◌, ℕ, ◌+◌, ◌<◌, ◌≤◌, [], true, false, length, cond, option_map};
 ghost use Rattle.regex_search_core.specs.Search.{search_of};
 ghost use Rattle.regex_search_core.specs.Found.{half_found_of};
 ghost use Rattle.regex_search_core.specs.Patterns.{number_of};
 ghost use Rattle.regex_search_core.specs.declared.search.MatchKind.TheVariants.{All, LeftmostFirst};
-ghost use Rattle.nfa_scanning.specs.FirstBytes.{IsFirstBytes};
+ghost use Rattle.nfa_scanning.specs.FirstBytes.{IsFirstBytes, IsRefused};
 ghost use Rattle.nfa_pikevm.specs.Scans.{blank, HaveRoom, HaveRows, SameSizes, AreStarts, Joins, with_start, half_found, Scans, scan_turns};
 
-use crate::slot::Slot;
+use crate::slot::{Slot, unset_row};
 use crate::threads::{Threads, cross, move_on, set_up};
 use nfa_scanning::first_bytes::FirstBytes;
 use nfa_scanning::starts::{next_start, skip_limit, start_limit, start_state};
@@ -38,6 +38,24 @@ pub fn join(starts: &Starts, at: usize, threads: &mut Threads)
     }
 }
 
+/// The position, or where it may be passed over for its byte, a later one up to which all may be. Where it may not,
+/// this takes no call.
+#[inline(always)]
+fn pass_over(first: &FirstBytes, input: &Input<'_>, from: usize, stop: usize) -> usize
+    requires from { from ≤ (search_of input.now).end + 1 }
+    requires stop { stop ≤ (search_of input.now).end }
+    ensures low { from ≤ result }
+    ensures near { from ≤ stop → result ≤ stop }
+    ensures stays { stop ≤ from → result ≡ from }
+    ensures passed { (k : ℕ) → from ≤ k → k < result → IsRefused first.now.may_begin (search_of input.now) k }
+    ensures least { result < stop → IsRefused first.now.may_begin (search_of input.now) result → ⊥ }
+{
+    if from < stop && first.refuses(input.haystack()[from]) {
+        return next_start(first, input, from, stop);
+    }
+    from
+}
+
 /// Lets the start state join the states at the position, or, where no state is there, at the next position where a
 /// match may begin. Where none may begin here, or at the limit, it does not join. Answers the position.
 fn join_or_skip(
@@ -64,7 +82,7 @@ fn join_or_skip(
         return at;
     }
     if threads.curr.is_empty() {
-        let next = next_start(first, input, at, starts.stop);
+        let next = pass_over(first, input, at, starts.stop);
         threads.curr.push_blank(starts.state);
         return next;
     }
@@ -244,7 +262,7 @@ pub fn scan(
     ensures answer { Scans nfa.now (search_of input.now) kind (search_of input.now).earliest result slots.new threads.new.seen.turns }
 {
     threads.scans.tick();
-    slots.fill(Slot::unset());
+    unset_row(slots);
     if input.is_done() {
         return None;
     }

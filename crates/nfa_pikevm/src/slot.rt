@@ -80,6 +80,34 @@ fn copy_long_row(to: &mut [Slot], from: &[Slot])
     to.copy_from_slice(from);
 }
 
+/// Takes the offset of every slot of a row away. Of most searches it has two slots or four, as for [`copy_row`].
+#[inline(always)]
+pub fn unset_row(row: &mut [Slot])
+    ensures { row.new ≡ replicate (length row.old) None }
+{
+    match row.len() {
+        2 => {
+            row[0] = Slot::unset();
+            row[1] = Slot::unset();
+        }
+        4 => {
+            row[0] = Slot::unset();
+            row[1] = Slot::unset();
+            row[2] = Slot::unset();
+            row[3] = Slot::unset();
+        }
+        _ => unset_long_row(row),
+    }
+}
+
+/// Takes the offset of every slot of a row of any length away.
+#[inline(never)]
+fn unset_long_row(row: &mut [Slot])
+    ensures { row.new ≡ replicate (length row.old) None }
+{
+    row.fill(Slot::unset());
+}
+
 /// Takes the offset of every slot away.
 fn clear(slots: &mut [Option<NonMaxUsize>])
     ensures { slots.new ≡ replicate (length slots.old) None }

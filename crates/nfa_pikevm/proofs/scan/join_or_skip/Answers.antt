@@ -10,23 +10,23 @@ use Rattle.nfa_pikevm.proofs.scan.join_or_skip.Goals as goal
 pub returns-then-is_empty-clause-joins : goal.returns-then-is_empty-clause-joins
 returns-then-is_empty-clause-joins c =
     let none : length c.args.threads.now.curr.items ≡ 0 = c.is_empty.ensures.0 c.if-is_empty.true in
-    let next = c.next_start-next.ensures in
+    let next = c.pass_over-next.ensures in
     let order : c.args.starts.now.stop < c.args.limit = c.requires.order c.if-at-limit.false in
     let same = ap (λ (a : Active). a.items) c.push_blank.ensures in
     record {
       ahead = next.low;
-      within = λ w. skip-within c.args.at c.next_start-next.result c.args.starts.now.stop
+      within = λ w. skip-within c.args.at c.pass_over-next.result c.args.starts.now.stop
           (search_of c.args.input.now).end next.stays next.near c.requires.stop w;
       stays = λ some. absurd (omega arith);
       passed = λ k h l. (
-        skip-early c.args.at c.next_start-next.result c.args.starts.now.stop k next.stays next.near h
+        skip-early c.args.at c.pass_over-next.result c.args.starts.now.stop k next.stays next.near h
             l,
         next.passed k h l,
       );
       some = λ less. rw same (some-push c.args.threads.now.curr.items
           (c.args.starts.now.state, blank c.args.threads.now.curr.width));
       last = inl (
-        skip-less c.args.at c.next_start-next.result c.args.starts.now.stop c.args.limit next.stays next.near
+        skip-less c.args.at c.pass_over-next.result c.args.starts.now.stop c.args.limit next.stays next.near
             order c.if-at-limit.false,
         same,
       );
