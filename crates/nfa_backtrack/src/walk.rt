@@ -115,7 +115,7 @@ fn save(
     ensures slots { OnOk result (slots.new ≡ slice_set slots.old slot (Some at)) }
 {
     push_restoring(stack, slot, slots[slot])?;
-    slots[slot] = NonMaxUsize::new(at);
+    write(slots, slot, at);
     Ok(())
 }
 
@@ -320,7 +320,11 @@ fn write(slots: &mut [Option<NonMaxUsize>], slot: usize, at: usize)
     requires at { at < usize.MAX }
     ensures { slots.new ≡ slice_set slots.old slot (Some at) }
 {
-    slots[slot] = NonMaxUsize::new(at);
+    // A position in the span is an offset. Said so, it is written without a test.
+    let Some(offset) = NonMaxUsize::new(at) else {
+        unreachable!()
+    };
+    slots[slot] = Some(offset);
 }
 
 /// The first turn of a walk, if it writes a slot without an offset. `None` where the place is marked already.
