@@ -65,14 +65,12 @@ fn try_starts(
     let Some(sid) = start_state(nfa, input) else {
         return Ok(None);
     };
-    // Read once, and not again at each start.
-    let states = nfa.states();
     let limit = start_limit(nfa, input);
     let stop = skip_limit(nfa, input);
     let mut at = next_start(first, input, input.start(), stop);
     while at < limit {
         let place = place_of(nfa, input, sid, at);
-        if let Some(half) = walk(nfa, states, input, place, scratch, slots)? {
+        if let Some(half) = walk(nfa, input, place, scratch, slots)? {
             return Ok(Some(half));
         }
         at = next_start(first, input, at + 1, stop);

@@ -331,21 +331,18 @@ fn write(slots: &mut [Option<NonMaxUsize>], slot: usize, at: usize)
 #[inline(always)]
 fn begin(
     nfa: &NFA,
-    states: &[State],
     input: &Input<'_>,
     place: Place,
     visited: &mut Visited,
     slots: &mut [Option<NonMaxUsize>],
 ) -> Option<Begun>
-    requires states { map node_of states.now ≡ nfa.now.states }
-    requires valid { IsAutomaton nfa.now }
     requires place { IsPlace nfa.now (search_of input.now) place }
     requires room { HasRoom nfa.now (search_of input.now) visited.old.bits }
     ensures size { length visited.new.bits ≡ length visited.old.bits }
     ensures begins { Begins nfa.now (search_of input.now) (pair_of place) result visited.old slots.old visited.new
         slots.new }
 {
-    match state_at(nfa, states, place.sid) {
+    match state_at(nfa, nfa.states(), place.sid) {
         State::Capture { next, slot } => {
             if !is_unset(slots, *slot) {
                 return Some(Begun { place, slot: None });
@@ -379,14 +376,11 @@ fn put_back(slot: Option<usize>, slots: &mut [Option<NonMaxUsize>])
 /// the stack.
 pub fn walk(
     nfa: &NFA,
-    states: &[State],
     input: &Input<'_>,
     start: Place,
     scratch: &mut Scratch,
     slots: &mut [Option<NonMaxUsize>],
 ) -> Result<Option<HalfMatch>, Refused>
-    requires states { map node_of states.now ≡ nfa.now.states }
-    requires valid { IsAutomaton nfa.now }
     requires place { IsPlace nfa.now (search_of input.now) start }
     requires room { HasRoom nfa.now (search_of input.now) scratch.old.visited.bits }
     requires empty { scratch.old.stack.items ≡ [] }
@@ -397,9 +391,9 @@ pub fn walk(
     ensures walks { IfOk result (λ half. Walks nfa.now (search_of input.now) (pair_of start) half scratch.old.visited
         slots.old scratch.new.stack.items scratch.new.visited slots.new) }
 {
-    match begin(nfa, states, input, start, &mut scratch.visited, slots) {
+    match begin(nfa, input, start, &mut scratch.visited, slots) {
         None => Ok(None),
-        Some(begun) => match walk_on(nfa, states, input, begun.place, scratch, slots)? {
+        Some(begun) => match walk_on(nfa, input, begun.place, scratch, slots)? {
             Some(half) => Ok(Some(half)),
             None => {
                 put_back(begun.slot, slots);
@@ -413,14 +407,11 @@ pub fn walk(
 #[inline(always)]
 fn walk_on(
     nfa: &NFA,
-    states: &[State],
     input: &Input<'_>,
     start: Place,
     scratch: &mut Scratch,
     slots: &mut [Option<NonMaxUsize>],
 ) -> Result<Option<HalfMatch>, Refused>
-    requires states { map node_of states.now ≡ nfa.now.states }
-    requires valid { IsAutomaton nfa.now }
     requires place { IsPlace nfa.now (search_of input.now) start }
     requires room { HasRoom nfa.now (search_of input.now) scratch.old.visited.bits }
     requires empty { scratch.old.stack.items ≡ [] }
@@ -431,7 +422,8 @@ fn walk_on(
     ensures walks { IfOk result (λ half. Walks nfa.now (search_of input.now) (pair_of start) half scratch.old.visited
         slots.old scratch.new.stack.items scratch.new.visited slots.new) }
 {
-    // It is read at each place. Held here, and not behind a reference, it need not be read again after each write.
+    // Both are read at each place. Held here, and not behind a reference, they need not be read again after each write.
+    let states = nfa.states();
     let own_input = *input;
     let mut place = start;
     loop {
