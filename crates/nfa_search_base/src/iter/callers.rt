@@ -2,9 +2,10 @@ ghost use Rattle.std.specs.Prelude.{◌≡◌, [], ◌∷◌, Some, IfOk, map};
 ghost use Rattle.regex_search_core.specs.Found.{found_of};
 ghost use Rattle.regex_search_core.specs.Search.{search_of, whole};
 ghost use Rattle.nfa_search_base.specs.Catching.{UpToRefusal, caught_by, row_of, row_span};
-ghost use Rattle.nfa_search_base.specs.EmptyFinder.{empty_answer, zero_row};
+ghost use Rattle.nfa_search_base.specs.EmptyFinder.{EmptyTells, empty_answer, zero_row};
 ghost use Rattle.nfa_search_base.specs.Finders.{answer_by};
 ghost use Rattle.nfa_search_base.specs.Items.{item_by, greedy};
+ghost use Rattle.nfa_search_base.specs.Lists.{AreAllItems};
 ghost use Rattle.nfa_search_base.specs.Walks.{IsInside, fresh, span_of};
 
 use crate::error::SearchError;
@@ -30,9 +31,9 @@ fn empty_at_start(input: &Input<'_>) -> Result<Option<Match>, SearchError>
     }
 }
 
-// All items, by `collect`: the greedy list of that finder.
+// All items, by `collect`, as that finder tells them.
 fn collected(alloc: Global, haystack: &[u8]) -> Result<Vec<Result<Match, SearchError>>, AllocError>
-    ensures { IfOk result (λ v. map (item_by found_of) v.items ≡ greedy span_of empty_answer (fresh (whole haystack.now))) }
+    ensures { IfOk result (λ v. AreAllItems span_of EmptyTells found_of (fresh (whole haystack.now)) v.items) }
 {
     let input = Input::new(haystack);
     let searcher = Searcher::new(input);
@@ -40,7 +41,7 @@ fn collected(alloc: Global, haystack: &[u8]) -> Result<Vec<Result<Match, SearchE
     items.collect(alloc)
 }
 
-// The same, by a loop.
+// The greedy list of that finder, by a loop.
 fn looped(alloc: Global, haystack: &[u8]) -> Result<Vec<Result<Match, SearchError>>, AllocError>
     ensures { IfOk result (λ v. map (item_by found_of) v.items ≡ greedy span_of empty_answer (fresh (whole haystack.now))) }
 {
