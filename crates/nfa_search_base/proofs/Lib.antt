@@ -12,3 +12,4 @@ pub mod RunLemmas
 pub mod MatchRunLemmas
 pub mod CaughtLemmas
 pub mod CaughtRunLemmas
+pub mod ToldLemmas

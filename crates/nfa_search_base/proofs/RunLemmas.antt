@@ -192,19 +192,29 @@ module _ {S X Y : Type 0} (span : X → Span) (asks : S → Search → Answer X 
       let k = leads w s (Some (Err e)) ran.0 at ran.1 in
       (k.0, ap items (ended ran.0 t xs k.1 ran.2))
 
-  -- of an iterator that begins
-  module _ (s : Steps S) (walk : steps_walk s ≡ fresh x) (going : s.done ≡ false) (good : Good s.asker) where
-    start : IsAt (fresh x) s
-    start = record { walk = walk; going = going; like = same_start-self x; good = good }
+  -- of an iterator that goes on at w
+  module _ (w : Walk) (s : Steps S) (walk : steps_walk s ≡ w) (going : s.done ≡ false) (like : SameButStart x w.at)
+      (good : Good s.asker) where
+    here : IsAt w s
+    here = record { walk = walk; going = going; like = like; good = good }
 
     -- the items so far are first items
-    pub gives-first : GivesFirst steps (λ xs. ItemsNext span tells ends (fresh x) (items xs)) s
-    gives-first = λ xs t ran. so-far xs (fresh x) s t start ran
+    pub first-from : GivesFirst steps (λ xs. ItemsNext span tells ends w (items xs)) s
+    first-from = λ xs t ran. so-far xs w s t here ran
 
     -- and at `None` all
+    pub all-from : (xs : List (Result Y SearchError)) (t u : Steps S) → Yields steps s xs t → steps t None u
+        → ItemsLast span tells ends w (items xs)
+    all-from = λ xs t u ran st. and-last xs w s t u here ran st
+
+  -- of an iterator that begins
+  module _ (s : Steps S) (walk : steps_walk s ≡ fresh x) (going : s.done ≡ false) (good : Good s.asker) where
+    pub gives-first : GivesFirst steps (λ xs. ItemsNext span tells ends (fresh x) (items xs)) s
+    gives-first = first-from (fresh x) s walk going (same_start-self x) good
+
     pub gives-all : (xs : List (Result Y SearchError)) (t u : Steps S) → Yields steps s xs t → steps t None u
         → ItemsLast span tells ends (fresh x) (items xs)
-    gives-all = λ xs t u ran st. and-last xs (fresh x) s t u start ran st
+    gives-all = all-from (fresh x) s walk going (same_start-self x) good
 
     -- the same where only matches are handed on
     abbrev sure_steps : Steps S → Option Y → Steps S → Type 0

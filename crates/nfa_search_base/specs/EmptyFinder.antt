@@ -1,5 +1,5 @@
 -- the finder that finds nothing but emptiness, for the tests
-use Rattle.std.specs.Prelude.{nat_le, nat_eq, [], ◌∷◌, if◌then◌else◌, None, Some, Ok}
+use Rattle.std.specs.Prelude.{◌≡◌, nat_le, nat_eq, [], ◌∷◌, if◌then◌else◌, None, Some, Ok}
 use Rattle.regex_search_core.specs.Found.{Found}
 use Rattle.regex_search_core.specs.Search.{Search}
 use Rattle.nfa_search_base.specs.Catching.{Row}
@@ -13,3 +13,7 @@ empty_answer s = Ok (if nat_le s.start s.end then Some
 -- the row of the empty match of the first pattern at the start of the haystack
 abbrev pub zero_row : Search → Answer Row
 zero_row s = Ok (if nat_eq s.start 0 then Some (record { pattern = Some 0; slots = Some 0 ∷ Some 0 ∷ [] }) else None)
+
+-- a search tells that match and no other
+abbrev pub EmptyTells : Search → Answer Found → Type 0
+EmptyTells s a = a ≡ empty_answer s

@@ -18,6 +18,7 @@ pub mod Serving
 pub mod Skipping
 pub mod Steps
 pub mod Stored
+pub mod StoredRuns
 pub mod Walks
 pub use Rattle.nfa_paths.specs.Graphs
 pub use Rattle.nfa_paths.specs.Paths

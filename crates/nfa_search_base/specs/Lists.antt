@@ -1,6 +1,6 @@
 -- The items of an iteration, from left to right, as one list: said by its steps alone, whoever asks for them. And the
 -- list of the matches of a search of an NFA, which is such a list.
-use Rattle.std.specs.Prelude.{ℕ, ◌≡◌, ◌⊎◌, ◌<◌, ◌≤◌, Bool, List, [], ◌∷◌, map, Option, None, Some, Ok, Err, MatchBool}
+use Rattle.std.specs.Prelude.{ℕ, ◌≡◌, ◌⊎◌, ◌<◌, ◌≤◌, Bool, List, [], ◌∷◌, map, Option, None, Some, Result, Ok, Err, MatchBool}
 use Rattle.std.specs.Prelude.{IfSome, ⊤}
 use Rattle.std.specs.Option.{ForSome}
 use Rattle.regex_search_core.specs.Found.{Found}
@@ -9,7 +9,7 @@ use Rattle.regex_search_core.specs.declared.search.MatchKind.{MatchKind}
 use Rattle.regex_search_core.specs.declared.search.Span.{Span}
 use Rattle.thompson_nfa.specs.Automaton.{Automaton}
 use Rattle.nfa_paths.specs.Paths.{IsMatchAnswer}
-use Rattle.nfa_search_base.specs.Items.{Item}
+use Rattle.nfa_search_base.specs.Items.{Item, item_by}
 use Rattle.nfa_search_base.specs.Walks.{Answer, Walk, fresh, after, place_of, repeats, shifted, span_of}
 use Rattle.nfa_search_base.specs.declared.error.SearchError.{SearchError}
 use Rattle.nfa_search_base.specs.declared.error.SearchError.TheVariants.{Memory}
@@ -59,6 +59,16 @@ module _ {X : Type 0} (span : X → Span) (tells : Search → Answer X → Type 
     ItemsLast w [] = IsStep w (Ok None)
     ItemsLast w (Ok x ∷ items) = IsStep w (Ok (Some x)) × ItemsLast (after w (Some (span x))) items
     ItemsLast w (Err error ∷ items) = ends w error × (items ≡ [])
+
+  -- An item holds a Y, of which `view` is the match; an error comes where a step errs.
+  module _ {Y : Type 0} (view : Y → X) (w : Walk) where
+    -- these are the first items from w on
+    pub record AreFirstItems (items : List (Result Y SearchError)) : Type 0 where
+      pub come : ItemsNext Fails w (map (item_by view) items)
+
+    -- all of them
+    pub record AreAllItems (items : List (Result Y SearchError)) : Type 0 where
+      pub come : ItemsLast Fails w (map (item_by view) items)
 
 module _ (nfa : Automaton) (kind : MatchKind) (earliest : Bool) where
   -- a search tells its match, and never errs

@@ -18,6 +18,15 @@ module _ {S R : Type 0} (accepts : S → Search → Type 0) (asks : S → Search
     abbrev pub LeadsOn : Search → S → List (Search × R) → S → Type 0
     LeadsOn t s calls s' = FoldsTo (λ p x q. Same t x.0 × asks p x.0 x.1 q) s calls s'
 
+    -- wherever such calls lead from s, the next, on u, may give this reply
+    pub record MayReply (s : S) (t u : Search) (reply : R) : Type 0 where
+      pub calls : List (Search × R)
+      pub between : S
+      pub left : S
+      pub leads : LeadsOn t s calls between
+      pub same : Same t u
+      pub asked : asks between u reply left
+
     -- wherever such calls lead, the next may be made, and P holds of what it replies
     pub record ServesOnAlong (P : Search → R → Type 0) (s : S) (t : Search) : Type 0 where
       pub at : (calls : List (Search × R)) (s' : S) (u : Search) → LeadsOn t s calls s' → Same t u → ServesOn P s' u

@@ -2,9 +2,10 @@ ghost use Rattle.std.specs.Prelude.{◌≡◌, [], ◌∷◌, Some, IfOk, map};
 ghost use Rattle.regex_search_core.specs.Found.{found_of};
 ghost use Rattle.regex_search_core.specs.Search.{search_of, whole};
 ghost use Rattle.nfa_search_base.specs.Catching.{UpToRefusal, caught_by, row_of, row_span};
-ghost use Rattle.nfa_search_base.specs.EmptyFinder.{empty_answer, zero_row};
+ghost use Rattle.nfa_search_base.specs.EmptyFinder.{EmptyTells, empty_answer, zero_row};
 ghost use Rattle.nfa_search_base.specs.Finders.{answer_by};
 ghost use Rattle.nfa_search_base.specs.Items.{item_by, greedy};
+ghost use Rattle.nfa_search_base.specs.Lists.{AreAllItems};
 ghost use Rattle.nfa_search_base.specs.Walks.{IsInside, fresh, span_of};
 
 use crate::error::SearchError;
@@ -30,9 +31,9 @@ fn empty_at_start(input: &Input<'_>) -> Result<Option<Match>, SearchError>
     }
 }
 
-// All items, by `collect`: the greedy list of that finder.
+// All items, by `collect`, as that finder tells them.
 fn collected(alloc: Global, haystack: &[u8]) -> Result<Vec<Result<Match, SearchError>>, AllocError>
-    ensures { IfOk result (λ v. map (item_by found_of) v.items ≡ greedy span_of empty_answer (fresh (whole haystack.now))) }
+    ensures { IfOk result (λ v. AreAllItems span_of EmptyTells found_of (fresh (whole haystack.now)) v.items) }
 {
     let input = Input::new(haystack);
     let searcher = Searcher::new(input);
@@ -40,7 +41,7 @@ fn collected(alloc: Global, haystack: &[u8]) -> Result<Vec<Result<Match, SearchE
     items.collect(alloc)
 }
 
-// The same, by a loop.
+// The greedy list of that finder, by a loop.
 fn looped(alloc: Global, haystack: &[u8]) -> Result<Vec<Result<Match, SearchError>>, AllocError>
     ensures { IfOk result (λ v. map (item_by found_of) v.items ≡ greedy span_of empty_answer (fresh (whole haystack.now))) }
 {
@@ -126,32 +127,47 @@ fn collected_captures(
 #[test]
 fn an_error_ends_captures(rt: HostRuntime) -> Result<(), Fail> {
     let alloc = rt.alloc();
-    let groups = GroupInfo::new(vec![in alloc; Vec::new(alloc)]?).ok_or("too many slots")?;
-    let text = outcomes(alloc, Captures::matches(alloc, groups)?)?;
+    let text = outcomes(alloc, no_captures(alloc)?)?;
     assert_eq!(rt; text.as_str(), "match, error, none, none, none, ");
     Ok(())
 }
 
-const TRIES: &str =
-    "TryCapturesIter { searcher: Searcher { input: Input { haystack: [97], span: Span { start: 0, end: 1 }, anchored: No, earliest: false }, last_match_end: None }, captures: Captures { group_info: GroupInfo { names: [[]], slot_len: 2 }, pattern: None, slots: [None, None] }, done: false, .. }";
+const TRIES: &str = concat!(
+    "TryCapturesIter { searcher: Searcher { input: Input { haystack: [97], span: Span { start: 0, end: 1 }, ",
+    "anchored: No, earliest: false }, last_match_end: None }, captures: Captures { group_info: GroupInfo ",
+    "{ names: [[]], slot_len: 2 }, pattern: None, slots: [None, None] }, done: false, .. }"
+);
+
+// How an iterator over captures is shown.
+fn shown(alloc: Global, captures: Captures) -> Result<String, AllocError> {
+    let items = Searcher::new(Input::new(b"a")).into_captures_iter(captures, captured_or_error);
+    format!(in alloc; "{items:?}")
+}
+
+// How one is shown whose finder never errs, and how many items it gives.
+fn shown_sure(alloc: Global, captures: Captures) -> Result<(String, usize), AllocError> {
+    let items = Searcher::new(Input::new(b"a")).into_captures_iter(captures, |input, captures| {
+        captures.set_pattern(None);
+        Ok(())
+    });
+    let items = items.infallible();
+    let text = format!(in alloc; "{items:?}")?;
+    Ok((text, items.count()))
+}
+
+fn no_captures(alloc: Global) -> Result<Captures, Fail> {
+    let groups = GroupInfo::new(vec![in alloc; Vec::new(alloc)]?).ok_or("too many slots")?;
+    Ok(Captures::matches(alloc, groups)?)
+}
 
 #[test]
 fn captures_come(rt: HostRuntime) -> Result<(), Fail> {
     let alloc = rt.alloc();
-    let groups = GroupInfo::new(vec![in alloc; Vec::new(alloc)]?).ok_or("too many slots")?;
-    let captures = Captures::matches(alloc, groups)?;
-    let searcher = Searcher::new(Input::new(b"a"));
-    let items = searcher.into_captures_iter(captures, |input, captures| {
-        captures.set_pattern(None);
-        Ok(())
-    });
-    let tries = format!(in alloc; "{items:?}")?;
-    assert_eq!(rt; tries.as_str(), TRIES);
-    let sure = items.infallible();
-    let text = format!(in alloc; "{sure:?}")?;
+    assert_eq!(rt; shown(alloc, no_captures(alloc)?)?.as_str(), TRIES);
+    let (text, count) = shown_sure(alloc, no_captures(alloc)?)?;
     let want = format!(in alloc; "CapturesIter {{ tries: {TRIES} }}")?;
     assert_eq!(rt; text.as_str(), want.as_str());
-    assert_eq!(rt; sure.count(), 0);
+    assert_eq!(rt; count, 0);
     Ok(())
 }
 

@@ -37,6 +37,7 @@ impl<'h> Searcher<'h> {
     ghost use Rattle.nfa_search_base.specs.Asking.{IsCallableOn};
     ghost use Rattle.nfa_search_base.specs.Steps.{GivesItem};
     ghost use Rattle.nfa_search_base.specs.Stored.{steps_walk, can_step, takes_steps};
+    ghost use Rattle.nfa_search_base.specs.StoredRuns.{FoundAll, FoundFirst, FoundRun};
 
     /// The matches that the finder gives from here on.
     ///
@@ -51,6 +52,10 @@ impl<'h> Searcher<'h> {
         ensures walk { steps_walk result ≡ walk_of self.entry }
         ensures finder { result.asker ≡ finder }
         ensures going { result.done ≡ false }
+        // Each run of calls gives the first items, and all of them where it goes on to `None`.
+        ensures runs { FoundRun found_of span_of F.FnMut finder (walk_of self.entry) result }
+        ensures first { FoundFirst found_of span_of F.FnMut finder (walk_of self.entry) result }
+        ensures all { FoundAll found_of span_of F.FnMut finder (walk_of self.entry) result }
         // Where the finder computes h, the items are the greedy list of h, whoever asks for them.
         ensures list { (h : Search → Answer Found) → Computes found_of F.FnMut h finder (walk_of self.entry).at
             → YieldsList (takes_steps span_of (Finds found_of F.FnMut) (λ _. GivesItem found_of)) (item_by found_of)

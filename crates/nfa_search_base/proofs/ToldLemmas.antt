@@ -1,0 +1,141 @@
+-- What a stored finder may answer, its iterator gives; and so what it tells.
+use Rattle.std.proofs.Common.{◌≡◌, ◌∙◌, true, false, Bool, MatchBool, List, [], ◌∷◌, ◌++◌, map, refl, sym, subst}
+use Rattle.std.proofs.Common.{Option, None, Some, Result, Ok, Err, IfOk}
+use Rattle.std.specs.Fn.{Mut}
+use Rattle.std.specs.Borrow.{Bor}
+use Rattle.std.specs.Iterator.{Yields}
+use Rattle.std.proofs.lemmas.Fn.{FoldsTo-push}
+use Rattle.std.specs.declared.vec.Vec.{Vec}
+use Rattle.std.specs.Vec.{vec_items}
+use Rattle.std.proofs.lemmas.Iterator.{IsCollectResult}
+use Rattle.regex_search_core.specs.Search.{Search}
+use Rattle.regex_search_core.specs.declared.search.Input.{Input}
+use Rattle.regex_search_core.specs.declared.search.Span.{Span}
+use Rattle.nfa_search_base.specs.Asking.{IsCallableOn, SameButStart}
+use Rattle.nfa_search_base.specs.Finders.{Finds}
+use Rattle.nfa_search_base.specs.Items.{Item, item_by}
+use Rattle.nfa_search_base.specs.Lists.{IsStep, Fails, ItemsLast, AreFirstItems, AreAllItems}
+use Rattle.nfa_search_base.specs.Serving.{LeadsOn, MayReply}
+use Rattle.nfa_search_base.specs.Steps.{GivesItem}
+use Rattle.nfa_search_base.specs.Stored.{steps_walk, takes_steps}
+use Rattle.nfa_search_base.specs.StoredRuns.{MayAnswer, found_steps, FoundRun, FoundFirst, FoundAll}
+use Rattle.nfa_search_base.specs.Walks.{Answer, Walk, after, repeats, shifted, place_of}
+use Rattle.nfa_search_base.specs.declared.error.SearchError.{SearchError}
+use Rattle.nfa_search_base.specs.declared.iter.steps.Steps.{Steps}
+use Rattle.nfa_search_base.proofs.AskingLemmas.{same_start-self}
+use Rattle.nfa_search_base.proofs.RunLemmas.{first-from, all-from, item-says, runs-give}
+
+-- Where an answer that is told one way is told another way, so are the items.
+module _ {X : Type 0} (span : X → Span) (under tells : Search → Answer X → Type 0)
+    (so : (t : Search) (a : Answer X) → under t a → tells t a) where
+  step-told : (w : Walk) (a : Answer X) → IsStep span under w a → IsStep span tells w a
+  step-told w a h = record {
+    first = h.first;
+    is_first = so w.at h.first h.is_first;
+    rest = of (repeats w (place_of span h.first)) h.rest;
+  }
+    where
+      of : (again : Bool) → MatchBool again (under (shifted w).at a) (a ≡ h.first)
+          → MatchBool again (tells (shifted w).at a) (a ≡ h.first)
+      of true k = so (shifted w).at a k
+      of false k = k
+
+  last-told : (w : Walk) (items : List (Item X)) → ItemsLast span under (Fails span under) w items
+      → ItemsLast span tells (Fails span tells) w items
+  last-told w [] h = step-told w (Ok None) h
+  last-told w (Ok x ∷ items) h = (step-told w (Ok (Some x)) h.0, last-told (after w (Some (span x))) items h.1)
+  last-told w (Err e ∷ items) h = (step-told w (Err e) h.0, h.1)
+
+module _ {A X F : Type 0} (view : A → X) (span : X → Span)
+    (g : Mut F (Bor Input × Unit {0}) (Result (Option A) SearchError)) where
+  -- calls on searches like x led from f to q
+  Reached : F → Search → F → Type 0
+  Reached f x q = (calls : List (Search × Answer X)) × LeadsOn (IsCallableOn g) (Finds view g) SameButStart x f calls q
+
+  acts : (f : F) (x : Search) (q : F) (t : Search) (a : Answer X) (q' : F) → SameButStart x t
+      → Reached f x q → Finds view g q t a q' → MayAnswer view span g f x t a × Reached f x q'
+  unfolding Reached
+  acts f x q t a q' same reached found = (
+    record { calls = reached.0; between = q; left = q'; leads = reached.1; same = same; asked = found },
+    (
+      reached.0 ++ (t, a) ∷ [],
+      FoldsTo-push (λ p c r. SameButStart x c.0 × Finds view g p c.0 c.1 r) f reached.0 q
+          (t, a) q' reached.1 (same, found),
+    ),
+  )
+
+  -- what the finder of an iterator may answer
+  abbrev May : Steps F → Search → Answer X → Type 0
+  May s = MayAnswer view span g s.asker (steps_walk s).at
+
+  first-may : (s : Steps F) (xs : List (Result A SearchError)) (t : Steps F) → s.done ≡ false
+      → Yields (found_steps view span g) s xs t → AreFirstItems span (May s) view (steps_walk s) xs
+  unfolding Reached
+  first-may s xs t going ran = record {
+    come = first-from span (Finds view g) (λ _. GivesItem view) view
+        (May s) (Fails span (May s)) (steps_walk s).at
+        (Reached s.asker (steps_walk s).at)
+        (λ q t a q' same good found. acts s.asker (steps_walk s).at q t a q' same good found)
+        (λ v q a r gives step. item-says view (λ b. IsStep span (May s) v b) a r gives step)
+        (steps_walk s) s refl going (same_start-self (steps_walk s).at) ([], refl) xs t ran;
+  }
+
+  all-may : (s : Steps F) (xs : List (Result A SearchError)) (t u : Steps F) → s.done ≡ false
+      → Yields (found_steps view span g) s xs t → found_steps view span g t None u
+      → AreAllItems span (May s) view (steps_walk s) xs
+  unfolding Reached
+  all-may s xs t u going ran st = record {
+    come = all-from span (Finds view g) (λ _. GivesItem view) view
+        (May s) (Fails span (May s)) (steps_walk s).at
+        (Reached s.asker (steps_walk s).at)
+        (λ q t a q' same good found. acts s.asker (steps_walk s).at q t a q' same good found)
+        (λ v q a r gives step. item-says view (λ b. IsStep span (May s) v b) a r gives step)
+        (steps_walk s) s refl going (same_start-self (steps_walk s).at) ([], refl) xs t u ran st;
+  }
+
+  -- so its calls give what the finder may answer
+  pub found-run : (s : Steps F) → s.done ≡ false → FoundRun view span g s.asker (steps_walk s) s
+  found-run s going = runs-give (found_steps view span g) (AreFirstItems span (May s) view (steps_walk s))
+      (AreAllItems span (May s) view (steps_walk s)) s
+      (λ xs t ran. first-may s xs t going ran) (λ xs t u ran st. all-may s xs t u going ran st)
+
+  pub found-first : (s : Steps F) → s.done ≡ false → FoundFirst view span g s.asker (steps_walk s) s
+  found-first s going = λ xs t ran. first-may s xs t going ran
+
+  pub found-all : (s : Steps F) → s.done ≡ false → FoundAll view span g s.asker (steps_walk s) s
+  found-all s going = λ xs t u ran st. all-may s xs t u going ran st
+
+  -- Where each call leaves the finder as it was, what it tells of one search it may answer along them all.
+  kept : (f : F) (x : Search) (tells : Search → Answer X → Type 0)
+      → ((t : Search) (a : Answer X) (f' : F) → Finds view g f t a f' → (f' ≡ f) × tells t a)
+      → (calls : List (Search × Answer X)) (q q' : F) → q ≡ f
+      → LeadsOn (IsCallableOn g) (Finds view g) SameButStart x q calls q' → q' ≡ f
+  kept f x tells says [] q q' same leads = sym leads ∙ same
+  kept f x tells says (c ∷ calls) q q' same leads =
+      let asked = subst (λ (z : F). Finds view g z c.0 c.1 leads.0) same leads.1.1 in
+      kept f x tells says calls leads.0 q' (says c.0 c.1 leads.0 asked).0 leads.2
+
+  may-tells : (f : F) (x : Search) (tells : Search → Answer X → Type 0)
+      → ((t : Search) (a : Answer X) (f' : F) → Finds view g f t a f' → (f' ≡ f) × tells t a)
+      → (t : Search) (a : Answer X) → MayAnswer view span g f x t a → tells t a
+  may-tells f x tells says t a k =
+      let same = kept f x tells says k.calls f k.between refl k.leads in
+      (says t a k.left (subst (λ (z : F). Finds view g z t a k.left) same k.asked)).1
+
+-- What `collect` makes of such an iterator: all items, as the finder tells them.
+pub told_collected : {A X F Z E : Type 0} {view : A → X} {span : X → Span}
+    {g : Mut F (Bor Input × Unit {0}) (Result (Option A) SearchError)} {f : F} {w : Walk} {s : Steps F}
+    (tells : Search → Answer X → Type 0) (v : Walk) (r : Result (Vec (Result A SearchError) Z) E)
+    → IsCollectResult (found_steps view span g) s r → FoundAll view span g f w s → w ≡ v
+    → ((t : Search) (a : Answer X) (f' : F) → Finds view g f t a f' → (f' ≡ f) × tells t a)
+    → IfOk r (λ all. AreAllItems span tells view v (vec_items all))
+told_collected {A = A} {view = view} {span = span} {g = g} {f = f} {w = w} tells v (Ok all) ran gives is says =
+    let end = ran.1.2 tt in
+    let k = gives ran.0 ran.1.0 end.0 ran.1.1 end.1 in
+    subst (λ (u : Walk). AreAllItems span tells view u (vec_items all)) is
+    (subst (λ (xs : List (Result A SearchError)). AreAllItems span tells view w xs) (sym ran.2.0)
+    (record {
+      come = last-told span (MayAnswer view span g f w.at) tells (may-tells view span g f w.at tells says) w
+          (map (item_by view) ran.0) k.come;
+    }))
+told_collected tells v (Err e) ran gives is says = tt
