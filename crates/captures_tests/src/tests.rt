@@ -1,3 +1,4 @@
+//! Tests of the iterators over captures: lists, refusals, and callers that use what is promised of them.
 mod callers;
 mod refused;
 mod table;

@@ -1,3 +1,4 @@
+//! Tests of the crates below the engines.
 mod bounds;
 mod bounds_caller;
 mod drafts;

@@ -1,3 +1,4 @@
+//! Reads the words of the command line, searches, and prints the matches.
 ghost use Rattle.std.specs.Prelude.{◌≡◌, ◌≤◌, ◌↔◌, IfErr, IfOk};
 ghost use Rattle.nfa_bench.specs.Stops.{ending};
 ghost use Rattle.nfa_bench.specs.declared.run.Stop.TheVariants.{UnknownName};

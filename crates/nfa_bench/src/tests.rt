@@ -1,3 +1,4 @@
+//! Tests of the program's lines and statuses.
 use crate::run::run;
 use std::alloc::Global;
 use std::io;

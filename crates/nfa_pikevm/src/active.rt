@@ -1,3 +1,4 @@
+//! The states that are followed at a position, in order, each with a row of slots.
 ghost use Rattle.std.specs.Prelude.{◌≡◌, ℕ, ◌+◌, ◌*◌, ◌<◌, ◌≤◌, [], ◌∷◌, ◌++◌, None, length, take, replicate, IfOk, IsTrue, ◌↔◌};
 
 use crate::slot::{Slot, copy_row, unset_row};

@@ -1,3 +1,4 @@
+//! The cache that a PikeVM searches with, and whether it fits.
 ghost use Rattle.std.specs.Prelude.{◌≡◌, ◌↔◌, IfOk, OnOk, OnErr, IsOkUnless, IsTrue};
 ghost use Rattle.nfa_pikevm.specs.Engines.{Fits, cache_for, refitted, memory_of};
 

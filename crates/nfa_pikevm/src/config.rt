@@ -1,3 +1,4 @@
+//! The configuration of a PikeVM.
 ghost use Rattle.std.specs.Prelude.{◌≡◌, None, Some, Ok, unwrap_or};
 ghost use Rattle.std.specs.Option.{option_or};
 ghost use Rattle.regex_search_core.specs.declared.search.MatchKind.TheVariants.{LeftmostFirst};

@@ -1,3 +1,4 @@
+//! The PikeVM and its searches.
 ghost use Rattle.std.specs.Prelude.{◌≡◌, ◌+◌, ◌*◌, ◌≤◌, None, Ok, false, not, length, min, replicate, option_map, IfOk, IfSome, All, ◌<◌, OnOk, OnErr, IsOkUnless};
 ghost use Rattle.regex_search_core.specs.Search.{search_of};
 ghost use Rattle.regex_search_core.specs.Groups.{slot_count};

@@ -1,3 +1,4 @@
+//! What the stack of a closure holds.
 use crate::slot::Slot;
 use regex_search_core::StateID;
 

@@ -1,3 +1,4 @@
+//! The set of all patterns that match, in one scan.
 ghost use Rattle.std.specs.Prelude.{◌≡◌, ◌⊎◌, ◌+◌, ◌*◌, ◌<◌, ◌≤◌, [], None, true, false, length, take, replicate, All, nat_lt, not, ◌||◌, ◌&&◌, cond};
 ghost use Rattle.regex_search_core.specs.PatternSets.{with_pattern, size_of_set};
 ghost use Rattle.regex_search_core.specs.Patterns.{number_of};

@@ -1,3 +1,4 @@
+//! How much room a cache has.
 ghost use Rattle.std.specs.Prelude.{◌≡◌, ◌≤◌, OnOk, replicate, vec_len, vec_capacity};
 
 use regex_search_core::Refused;

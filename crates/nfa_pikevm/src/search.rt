@@ -1,3 +1,4 @@
+//! A search: scans, and scans again past matches that end inside a character.
 ghost use Rattle.std.specs.Prelude.{◌≡◌, ◌+◌, ◌*◌, ◌≤◌, true, false, length};
 ghost use Rattle.regex_search_core.specs.Search.{search_of, is_anchored};
 ghost use Rattle.nfa_paths.specs.Paths.{is_utf8_empty, scan_limit};

@@ -1,3 +1,4 @@
+//! Which states were entered at a position, and the turns that this took.
 ghost use Rattle.std.specs.Prelude.{◌≡◌, ℕ, ◌+◌, ◌<◌, [], true, false, length, replicate, slice_index_or, slice_set, IfOk};
 
 use nfa_scanning::counter::Counter;

@@ -1,3 +1,4 @@
+//! How much room an NFA needs.
 ghost use Rattle.std.specs.Prelude.{◌≡◌, ◌^◌, ◌≤◌, IfSome, IfNone, OnOk, OnErr, length, max};
 ghost use Rattle.std.specs.List.{sum_by};
 ghost use Rattle.thompson_nfa.specs.Automaton.{node_of};

@@ -1,3 +1,4 @@
+//! A slot in eight bytes, and rows of them.
 ghost use Rattle.std.specs.Prelude.{◌≡◌, ◌++◌, ◌+◌, ◌-◌, ◌<◌, ◌≤◌, Some, None, length, replicate, option_map};
 ghost use Rattle.std.specs.Option.{SomeIff};
 ghost use Rattle.regex_search_core.specs.Found.{found_of};

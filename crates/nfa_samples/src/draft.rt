@@ -1,3 +1,4 @@
+//! A draft of an NFA, written state by state.
 use regex_search_core::{GroupInfo, PatternID, StateID};
 use std::alloc::Global;
 use thompson_nfa::{BuildError, Holder, Look, NFA, State, Transition};

@@ -1,3 +1,4 @@
+//! The states of the samples.
 use crate::draft::Draft;
 use crate::draft::Row::{Assert, Byte, Capture, Either, Match, Range, Ranges, Union};
 use std::alloc::{AllocError, Global};

@@ -1,3 +1,4 @@
+//! A call of a finder that is lent.
 ghost use Rattle.regex_search_core.specs.Search.{search_of};
 ghost use Rattle.nfa_search_base.specs.Asking.{Asks, IsCallableOn};
 ghost use Rattle.nfa_search_base.specs.Catching.{AsksWith, IsCallableWith};

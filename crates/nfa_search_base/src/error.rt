@@ -1,3 +1,4 @@
+//! Why a search gives no answer.
 use regex_search_core::{MatchError, Refused};
 use thiserror::Error;
 

@@ -1,3 +1,4 @@
+//! What the groups of a match captured.
 ghost use Rattle.std.specs.Prelude.{◌≡◌, ◌↔◌, ◌*◌, None, [], length, replicate, IfOk, IsTrue, IsSome, option_map};
 ghost use Rattle.std.specs.Borrow.{sem};
 ghost use Rattle.regex_search_core.specs.Groups.{slot_count};

@@ -1,3 +1,4 @@
+//! The capture groups of all patterns, and their slots.
 ghost use Rattle.std.specs.Prelude.{◌≡◌, ◌+◌, ◌*◌, ◌<◌, ◌≤◌, length, map, take, sum_by, position, option_map, string_bytes, IfOk, IfSome};
 ghost use Rattle.std.specs.Option.{SomeIff};
 ghost use Rattle.regex_search_core.specs.Groups.{names_of, slot_count, slot_at, groups_at, group_named, is_named};

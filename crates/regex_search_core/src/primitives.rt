@@ -1,3 +1,4 @@
+//! Numbers of patterns and of states, and offsets.
 ghost use Rattle.std.specs.Prelude.{◌≡◌, ℕ, ◌<◌, ◌≤◌};
 ghost use Rattle.std.specs.Option.{SomeIff};
 

@@ -1,3 +1,4 @@
+//! That memory was refused.
 use std::alloc::{AllocError, AllocFailed};
 use thiserror::Error;
 

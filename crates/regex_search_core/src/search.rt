@@ -1,3 +1,4 @@
+//! What a search is asked, and what it answers.
 ghost use Rattle.std.specs.Prelude.{◌≡◌, ℕ, ◌+◌, ◌-◌, ◌<◌, ◌≤◌, ◌↔◌, ◌^◌, Bool, List, length, IsTrue, false};
 ghost use Rattle.regex_search_core.specs.Boundary.{IsBoundary};
 

@@ -1,3 +1,4 @@
+//! The match that slots tell of.
 ghost use Rattle.std.specs.Prelude.{◌≡◌, ◌<◌};
 ghost use Rattle.regex_search_core.specs.Slots.{offset_at, span_at};
 

@@ -1,3 +1,4 @@
+//! Whether the numbers in an NFA are in range.
 ghost use Rattle.std.specs.Prelude.{◌≡◌, ◌<◌, ◌↔◌, map, All, IsTrue, IsNone, IfSome, Some};
 ghost use Rattle.thompson_nfa.specs.Automaton.{LeadsBelow, SlotBelow, PatternBelow, Fail, node_of};
 ghost use Rattle.thompson_nfa.specs.Built.{IsFirstFailing, NamesFirstHolder, NamesFirstSlot, NamesFirstPattern};

@@ -1,3 +1,4 @@
+//! Characters of UTF-8 beside an offset.
 ghost use Rattle.std.specs.Prelude.{◌≡◌, ◌≤◌, length, chars};
 ghost use Rattle.thompson_nfa.specs.Characters.{char_of, char_of_len_before, char_of_len_after, char_before, char_after, is_word_char, is_some_word, only};
 

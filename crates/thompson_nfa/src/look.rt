@@ -1,3 +1,4 @@
+//! Assertions, and where they hold.
 ghost use Rattle.std.specs.Prelude.{◌≡◌, ◌≤◌, length};
 ghost use Rattle.thompson_nfa.specs.Looks.{look_holds, is_word_before, is_word_after, is_word_byte};
 

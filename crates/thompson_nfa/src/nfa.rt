@@ -1,3 +1,4 @@
+//! An NFA, made from its states.
 ghost use Rattle.std.specs.Prelude.{◌≡◌, ◌<◌, ◌≤◌, ◌↔◌, length, map, Some, IsTrue, IfSome, IfOk, IsOkUnless, slice_get};
 ghost use Rattle.regex_search_core.specs.Groups.{names_of, slot_count};
 ghost use Rattle.regex_search_core.specs.Patterns.{number_of};

@@ -1,3 +1,4 @@
+//! The states of an NFA.
 ghost use Rattle.std.specs.Prelude.{◌≡◌, IfOk};
 ghost use Rattle.thompson_nfa.specs.Automaton.{node_of};
 

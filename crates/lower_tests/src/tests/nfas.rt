@@ -1,3 +1,4 @@
+//! Tests of NFAs: how they are made, refused and read.
 ghost use Rattle.std.specs.Prelude.{◌≡◌};
 ghost use Rattle.regex_search_core.specs.Patterns.{number_of};
 

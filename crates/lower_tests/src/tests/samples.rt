@@ -1,3 +1,4 @@
+//! Tests of the tables of the samples.
 use nfa_samples::sample;
 use regex_search_core::{PatternID, StateID};
 use std::alloc::{AllocError, Global};

@@ -1,3 +1,4 @@
+//! Tests of the values that every engine speaks of.
 ghost use Rattle.std.specs.Prelude.{◌≡◌, ◌<◌, length, map, slice_set, Some, IfOk};
 ghost use Rattle.regex_search_core.specs.Patterns.{number_of};
 ghost use Rattle.regex_search_core.specs.PatternSets.{patterns_of};

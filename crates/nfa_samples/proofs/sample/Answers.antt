@@ -1,3 +1,4 @@
+-- A name that is not known is none of the table.
 use Rattle.std.proofs.Common.{lit<}
 use Rattle.nfa_samples.specs.Names.{sample_names}
 use Rattle.nfa_samples.proofs.NameLemmas.{found-among, error-among}

@@ -1,3 +1,4 @@
+//! The iterators over the captures that a stored finder gives.
 use crate::error::SearchError;
 use crate::iter::finder::OnCaptures;
 use crate::iter::searcher::Searcher;

@@ -1,3 +1,4 @@
+//! What an iteration asks: a finder that it keeps.
 ghost use Rattle.std.specs.Prelude.{◌≡◌, ◌≤◌, Option, Result};
 ghost use Rattle.std.specs.Option.{ForSome};
 ghost use Rattle.regex_search_core.specs.Search.{Search, search_of};

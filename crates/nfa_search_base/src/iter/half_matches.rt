@@ -1,3 +1,4 @@
+//! The iterators over the half matches that a stored finder gives.
 use crate::error::SearchError;
 use crate::iter::finder::OnHalfMatches;
 use crate::iter::searcher::Searcher;

@@ -1,3 +1,4 @@
+//! Laws of iteration. Each function is empty: its contract is the theorem.
 ghost use Rattle.nfa_search_base.specs.Agreement.{HalfAndFullAgree};
 
 /// A law, of no use at run time: where a half finder answers the pattern and the end of what a full

@@ -1,3 +1,4 @@
+//! The iterators over the matches that a stored finder gives.
 use crate::error::SearchError;
 use crate::iter::finder::OnMatches;
 use crate::iter::searcher::Searcher;

@@ -1,3 +1,4 @@
+//! Where a match lies.
 ghost use Rattle.std.specs.Prelude.{◌≡◌, ◌≤◌};
 ghost use Rattle.std.specs.Option.{ForSome};
 ghost use Rattle.nfa_search_base.specs.Finders.{match_place, half_place};

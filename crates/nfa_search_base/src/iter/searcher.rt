@@ -1,3 +1,4 @@
+//! An iteration over matches, step by step, whoever finds them.
 ghost use Rattle.nfa_search_base.specs.Behind.{IsBehind};
 
 use crate::error::SearchError;

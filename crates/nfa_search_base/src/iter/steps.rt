@@ -1,3 +1,4 @@
+//! The turns of every iterator that keeps what it asks.
 ghost use Rattle.std.specs.Prelude.{◌≡◌};
 ghost use Rattle.nfa_search_base.specs.Steps.{ends_at};
 

@@ -1,3 +1,4 @@
+//! Tests of a searcher, step by step.
 ghost use Rattle.regex_search_core.specs.Search.{search_of};
 ghost use Rattle.nfa_search_base.specs.Finders.{match_place, half_place};
 ghost use Rattle.nfa_search_base.specs.Walks.{LiesIn};

@@ -1,3 +1,4 @@
+-- The tokens so far are those that the vector holds.
 use Rattle.lexer.specs.Lexers.{HasLexed}
 use Rattle.lexer.proofs.lexer.tokens.Given as goal
 

@@ -1,3 +1,4 @@
+-- Two answers to one search are equal, whatever the caches did before.
 use Rattle.nfa_paths.proofs.KnownLemmas.{match-unique}
 use Rattle.nfa_engines.proofs.LawLemmas.{same-slots}
 use Rattle.nfa_engines.proofs.OneLemmas.{found-unique, set-unique}

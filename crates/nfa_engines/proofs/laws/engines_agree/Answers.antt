@@ -1,3 +1,4 @@
+-- A search has one pattern and one row of slots.
 use Rattle.nfa_engines.proofs.LawLemmas.{same-slots}
 use Rattle.nfa_engines.proofs.laws.engines_agree.Goals as goal
 

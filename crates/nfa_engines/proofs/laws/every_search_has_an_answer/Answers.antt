@@ -1,3 +1,4 @@
+-- Every search has an answer.
 use Rattle.nfa_paths.proofs.ExistenceLemmas.{search_answer-exists}
 use Rattle.nfa_engines.proofs.laws.every_search_has_an_answer.Goals as goal
 

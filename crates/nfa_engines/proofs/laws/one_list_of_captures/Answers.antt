@@ -1,3 +1,4 @@
+-- An NFA and an input have one list of captures, whose matches are its list of matches.
 use Rattle.std.proofs.Common.{false, map}
 use Rattle.regex_search_core.specs.declared.search.MatchKind.TheVariants.{LeftmostFirst}
 use Rattle.nfa_search_base.specs.Catching.{row_of}

@@ -1,3 +1,4 @@
+-- An NFA and an input have one list of matches.
 use Rattle.std.proofs.Common.{false}
 use Rattle.regex_search_core.specs.declared.search.MatchKind.TheVariants.{LeftmostFirst}
 use Rattle.nfa_search_base.proofs.ListLemmas.{matches-exist, matches-unique}

@@ -1,3 +1,4 @@
+-- A match answer, a found answer and the set of all patterns that match are each one.
 use Rattle.nfa_paths.proofs.KnownLemmas.{match-unique}
 use Rattle.nfa_engines.proofs.OneLemmas.{found-unique, set-unique}
 use Rattle.nfa_engines.proofs.laws.one_match.Goals as goal

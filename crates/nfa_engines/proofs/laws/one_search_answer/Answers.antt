@@ -1,3 +1,4 @@
+-- A search has one answer.
 use Rattle.nfa_paths.proofs.AnswerLemmas.{search_answer-unique}
 use Rattle.nfa_engines.proofs.laws.one_search_answer.Goals as goal
 

@@ -1,3 +1,4 @@
+-- Under all kinds a set gains each pattern that matches and for which it has room.
 use Rattle.nfa_engines.proofs.OneLemmas.{set-complete}
 use Rattle.nfa_engines.proofs.laws.overlap_is_complete.Goals as goal
 

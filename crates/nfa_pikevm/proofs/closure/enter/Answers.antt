@@ -1,3 +1,4 @@
+-- A turn enters a state: it marks it, keeps what its byte leads to, or tells where to go on.
 use Rattle.std.proofs.Common.{◌∙◌, take, slice_set, arith, sym, ap, refl, inl, inr}
 use Rattle.std.proofs.lemmas.List.{length-drop}
 use Rattle.regex_search_core.specs.Search.{search_of}

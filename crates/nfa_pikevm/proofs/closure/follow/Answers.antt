@@ -1,3 +1,4 @@
+-- All that a root leads to without reading a byte is entered in order, up to the first match.
 use Rattle.std.proofs.Common.{◌≡◌, ◌∙◌, [], length, map, take, arith, refl}
 use Rattle.std.specs.Prelude.{None}
 use Rattle.regex_search_core.specs.Search.{search_of}

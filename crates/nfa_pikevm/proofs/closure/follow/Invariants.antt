@@ -1,3 +1,4 @@
+-- All that a root leads to without reading a byte is entered in order, up to the first match.
 use Rattle.std.proofs.Common.{◌≡◌, ◌≤◌, ◌<◌, ◌+◌, ◌-◌, [], length, map, take}
 use Rattle.std.specs.Prelude.{All, Some, sum}
 use Rattle.std.specs.List.{sum_by}

@@ -1,3 +1,4 @@
+-- The alternatives behind the first one lie on the stack, the earliest on top.
 use Rattle.std.proofs.Common.{◌≡◌, ◌≤◌, ◌+◌, ◌++◌, length, map, drop, take, reverse}
 use Rattle.nfa_pikevm.specs.declared.frame.FollowEpsilon.TheVariants.{Explore}
 use Rattle.nfa_pikevm.proofs.closure.put_off.Given as goal

@@ -1,3 +1,4 @@
+-- A turn puts the pattern of a match that counts into the set, and else goes on as a closure does.
 use Rattle.std.proofs.Common.{◌∙◌, refl, ap, length}
 use Rattle.std.specs.Prelude.{None, Some}
 use Rattle.regex_search_core.specs.Search.{search_of}

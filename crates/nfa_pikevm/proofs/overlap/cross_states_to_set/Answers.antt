@@ -1,3 +1,4 @@
+-- The states of a position are followed in order, and the set gains the matches that count.
 use Rattle.std.proofs.Common.{◌≡◌, ◌∙◌, ◌+◌, inl, inr, ap, sym, refl, drop, length}
 use Rattle.std.specs.Prelude.{◌||◌}
 use Rattle.std.proofs.lemmas.List.{drop_all}

@@ -1,3 +1,4 @@
+-- The states of a position are followed in order, and the set gains the matches that count.
 use Rattle.std.proofs.Common.{◌≡◌, ◌-◌, [], length, drop, false}
 use Rattle.regex_search_core.specs.Search.{search_of}
 use Rattle.nfa_pikevm.specs.States.{Paid}

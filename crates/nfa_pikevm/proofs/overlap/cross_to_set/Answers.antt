@@ -1,3 +1,4 @@
+-- A position is left for the next one, and the set gains the matches that count.
 use Rattle.std.proofs.Common.{◌∙◌, ap, sym, take, length}
 use Rattle.regex_search_core.specs.Search.{search_of}
 use Rattle.nfa_pikevm.specs.Overlapping.{rowless}

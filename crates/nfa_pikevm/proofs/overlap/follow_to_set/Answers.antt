@@ -1,3 +1,4 @@
+-- All that a root leads to is entered in order, and the set gains the matches that count.
 use Rattle.std.proofs.Common.{◌∙◌, arith, refl, map, length}
 use Rattle.regex_search_core.specs.Search.{search_of}
 use Rattle.nfa_paths.specs.Paths.{degree}

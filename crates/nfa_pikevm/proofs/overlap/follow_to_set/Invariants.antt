@@ -1,3 +1,4 @@
+-- All that a root leads to is entered in order, and the set gains the matches that count.
 use Rattle.std.proofs.Common.{◌≡◌, ◌≤◌, ◌<◌, ◌+◌, ◌-◌, [], length, map, take, false}
 use Rattle.std.specs.Prelude.{All, Some, sum}
 use Rattle.std.specs.List.{sum_by}

@@ -1,3 +1,4 @@
+-- The set gains the patterns of all matches for which it has room.
 use Rattle.std.proofs.Common.{◌∙◌, ap, sym, arith, length, refl}
 use Rattle.regex_search_core.specs.Search.{search_of}
 use Rattle.nfa_pikevm.specs.Rows.{Marks, Active}

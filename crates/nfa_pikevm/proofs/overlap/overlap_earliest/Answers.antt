@@ -1,3 +1,4 @@
+-- The set gains the patterns of the matches with the least end.
 use Rattle.std.proofs.Common.{◌≡◌, ◌∙◌, ◌+◌, Bool, List, ap, sym, arith, length, refl}
 use Rattle.regex_search_core.specs.Search.{search_of}
 use Rattle.nfa_paths.proofs.ScanAnswerLemmas.{EndsBefore-span}

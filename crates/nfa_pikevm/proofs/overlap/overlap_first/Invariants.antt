@@ -1,3 +1,4 @@
+-- The set gains the pattern of the first match, and those that were met on the way to its end.
 use Rattle.std.proofs.Common.{◌≡◌, ◌≤◌, ◌<◌, ◌+◌, [], length}
 use Rattle.regex_search_core.specs.Search.{search_of}
 use Rattle.nfa_pikevm.proofs.OverlapLoopLemmas.{Keeps}

@@ -1,3 +1,4 @@
+-- A match may end at the position exactly where it need not be a boundary, or is one.
 use Rattle.std.proofs.Common.{sym, ◌∙◌}
 use Rattle.regex_search_core.specs.Search.{search_of}
 use Rattle.nfa_pikevm.proofs.OverlapSetLemmas.{permits-any, permits-boundary}

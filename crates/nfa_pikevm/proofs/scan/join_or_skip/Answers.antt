@@ -1,3 +1,4 @@
+-- The start joins the states, or starts that are refused are passed over.
 use Rattle.std.proofs.Common.{◌≡◌, ◌<◌, ◌≤◌, length, get_or, arith, refl, ap, inl, inr}
 use Rattle.regex_search_core.specs.Search.{search_of}
 use Rattle.nfa_scanning.specs.FirstBytes.{IsRefused}

@@ -1,3 +1,4 @@
+-- A scan keeps the sizes of what it works with.
 use Rattle.std.proofs.Common.{length, ap}
 use Rattle.nfa_pikevm.proofs.RoomLemmas.{AreSized-set_up}
 use Rattle.nfa_pikevm.proofs.scan.scan.Goals as goal

@@ -1,3 +1,4 @@
+-- A scan that is leftmost first answers the first accepting path.
 use Rattle.std.proofs.Common.{◌≡◌, ◌⊎◌, ◌-◌, ◌+◌, ◌<◌, ◌≤◌, [], length}
 use Rattle.regex_search_core.specs.Search.{search_of}
 use Rattle.nfa_pikevm.specs.Scans.{HasThreads, Sizes, AreSized, AreAt, IsPaidAt, SearchesFirst}

@@ -1,3 +1,4 @@
+-- A scan of all matches answers the last one that is seen.
 use Rattle.std.proofs.Common.{◌≡◌, ◌∙◌, ◌+◌, ◌≤◌, length, arith, refl, ap, sym, inl}
 use Rattle.regex_search_core.specs.Search.{search_of}
 use Rattle.nfa_pikevm.specs.Rows.{Marks, Active}

@@ -1,3 +1,4 @@
+-- An anchored search keeps its answer exactly where it ends on a boundary.
 use Rattle.std.proofs.Common.{◌∙◌, ◌+◌, ap, refl, inl, inr, sym}
 use Rattle.std.specs.Prelude.{None, Some}
 use Rattle.regex_search_core.specs.Search.{search_of}

@@ -1,3 +1,4 @@
+-- Where a match may end anywhere the answer of one scan is that of the search.
 use Rattle.regex_search_core.specs.Search.{search_of}
 use Rattle.nfa_pikevm.proofs.RestartLemmas.{Searched-once}
 use Rattle.nfa_pikevm.proofs.search.search_once.Goals as goal

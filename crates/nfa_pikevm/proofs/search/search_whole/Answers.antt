@@ -1,3 +1,4 @@
+-- Scans from one byte further on each time find the answer of the search.
 use Rattle.std.proofs.Common.{◌∙◌, refl, below_more}
 use Rattle.std.specs.Prelude.{Some, None}
 use Rattle.regex_search_core.specs.Search.{search_of}

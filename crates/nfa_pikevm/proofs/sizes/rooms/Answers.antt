@@ -1,3 +1,4 @@
+-- The room of all states, or none where it is past the limit.
 use Rattle.nfa_pikevm.proofs.SizeLemmas.{rooms-past}
 use Rattle.nfa_pikevm.proofs.sizes.rooms.Goals as goal
 

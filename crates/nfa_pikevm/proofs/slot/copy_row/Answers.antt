@@ -1,3 +1,4 @@
+-- The row is copied, whatever its length.
 use Rattle.nfa_pikevm.proofs.SlotLemmas.{copied-two, copied-four}
 use Rattle.nfa_pikevm.proofs.slot.copy_row.Goals as goal
 

@@ -1,3 +1,4 @@
+-- The slots that are handed out are those of the row, and none past it.
 use Rattle.std.proofs.Common.{◌≡◌, ◌∙◌, ◌++◌, ◌+◌, ◌-◌, suc, ap, take, length, replicate, slice_set, arith}
 use Rattle.std.specs.Prelude.{None}
 use Rattle.std.proofs.Math.Seq.{take-length}

@@ -1,3 +1,4 @@
+-- The slots that are handed out are those of the row, and none past it.
 use Rattle.std.proofs.Common.{◌≡◌, ◌++◌, ◌-◌, length, replicate, take}
 use Rattle.std.specs.Prelude.{None}
 use Rattle.nfa_pikevm.proofs.slot.hand_out.Given as goal

@@ -1,3 +1,4 @@
+-- A position is left for the next one, with a byte or at the end of the span.
 use Rattle.std.proofs.Common.{length}
 use Rattle.nfa_pikevm.proofs.CrossLemmas.{states-below}
 use Rattle.nfa_pikevm.proofs.threads.cross.Goals as goal

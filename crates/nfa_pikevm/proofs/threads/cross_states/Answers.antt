@@ -1,3 +1,4 @@
+-- The states of a position are followed in order, up to the first match.
 use Rattle.std.proofs.Common.{◌≡◌, ◌+◌, ◌-◌, ◌*◌, ◌∙◌, inl, inr, length, refl, ap, sym, arith}
 use Rattle.std.specs.Prelude.{Some}
 use Rattle.regex_search_core.specs.Search.{search_of}

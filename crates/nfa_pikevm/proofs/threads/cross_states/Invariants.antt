@@ -1,3 +1,4 @@
+-- The states of a position are followed in order, up to the first match.
 use Rattle.std.proofs.Common.{◌≡◌, ◌*◌, ◌≤◌, false, length, drop}
 use Rattle.std.specs.Prelude.{None}
 use Rattle.regex_search_core.specs.Search.{search_of}

@@ -1,3 +1,4 @@
+-- The place is that of the first group of the name.
 use Rattle.std.specs.Prelude.{option_map, string_bytes}
 use Rattle.std.proofs.Common.{rules, tests, ◌∙◌, sym}
 use Rattle.std.proofs.lemmas.Iterator.{YieldsList-from_slice}

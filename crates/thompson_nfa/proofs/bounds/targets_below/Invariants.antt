@@ -1,3 +1,4 @@
+-- The states so far lead to states in range.
 use Rattle.std.proofs.Common.{take, ◌<◌}
 use Rattle.std.specs.Prelude.{All, IfSome}
 use Rattle.thompson_nfa.proofs.bounds.targets_below.Given as goal

@@ -1,3 +1,4 @@
+-- A found match may be cut out of its haystack.
 use Rattle.std.proofs.Common.{rules, ◌≡◌, ◌∙◌, ap, subst, refl, map, IfOk}
 use Rattle.std.proofs.lemmas.Iterator.Consumers.{map_from_collect}
 use Rattle.regex_search_core.specs.Found.{found_of}

@@ -1,3 +1,4 @@
+-- What was given so far is what the vector holds.
 use Rattle.std.proofs.Common.{◌≡◌, Ok, map}
 use Rattle.captures_tests.proofs.tests.callers.tries_looped.Given as goal
 

@@ -1,3 +1,4 @@
+-- The patterns so far and those that are left are those of the set.
 use Rattle.std.proofs.Common.{◌≡◌, ◌++◌}
 use Rattle.regex_search_core.specs.PatternSets.{patterns_of}
 use Rattle.regex_search_core.specs.PatternSetIters.{patterns_left}

@@ -1,3 +1,4 @@
+-- The state and its row come behind those that are kept.
 use Rattle.std.proofs.Common.{◌≡◌, length, arith, ap, ◌∙◌}
 use Rattle.std.proofs.lemmas.List.{with_items_is}
 use Rattle.nfa_pikevm.proofs.RowLemmas.{pushed-len, pushed-fits, pushed-view, pushed-inside}

@@ -1,3 +1,4 @@
+-- The match is that of the answer, and the cache keeps its numbers.
 use Rattle.std.proofs.Common.{◌≡◌, ◌∙◌, ap, arith, length, refl}
 use Rattle.std.proofs.lemmas.List.{with_items_is}
 use Rattle.regex_search_core.specs.Search.{search_of}

@@ -1,3 +1,4 @@
+-- What was given so far is what the vector holds.
 use Rattle.std.proofs.Common.{◌≡◌}
 use Rattle.nfa_pikevm.proofs.engine.PikeVM.find_all.Given as goal
 

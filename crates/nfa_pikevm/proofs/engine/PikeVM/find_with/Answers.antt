@@ -1,3 +1,4 @@
+-- The match is that of the pattern and the slots of the answer.
 use Rattle.std.proofs.Common.{◌≡◌, ◌∙◌, ◌*◌, ap, arith, length}
 use Rattle.std.proofs.lemmas.List.{length-take}
 use Rattle.regex_search_core.specs.Patterns.{number_of}

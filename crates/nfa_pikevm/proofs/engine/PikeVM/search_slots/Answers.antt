@@ -1,3 +1,4 @@
+-- The answer is that of the search, and the cache keeps its numbers.
 use Rattle.std.proofs.Common.{◌≡◌, ◌∙◌, ap, arith, length, refl}
 use Rattle.std.proofs.lemmas.List.{with_items_is}
 use Rattle.regex_search_core.specs.Search.{search_of}

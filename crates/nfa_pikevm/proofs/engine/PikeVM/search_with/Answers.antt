@@ -1,3 +1,4 @@
+-- Pattern and slots are those of the answer, for as many slots as there are.
 use Rattle.std.proofs.Common.{◌≡◌, refl, ◌+◌, ◌-◌, min, arith, length, ap, ◌∙◌, sym}
 use Rattle.std.specs.Prelude.{None, Some}
 use Rattle.std.proofs.lemmas.List.{length-take}

@@ -1,3 +1,4 @@
+-- The cache keeps its numbers.
 use Rattle.std.proofs.Common.{refl}
 use Rattle.nfa_pikevm.proofs.SizeLemmas.{sized-after, sized-restarted, room-after}
 use Rattle.nfa_pikevm.proofs.engine.PikeVM.which_overlapping_matches.Goals as goal

@@ -1,3 +1,4 @@
+-- No state is marked afterwards.
 use Rattle.std.proofs.Common.{arith}
 use Rattle.nfa_pikevm.proofs.RowLemmas.{cleared-newer, cleared-zeros}
 use Rattle.nfa_pikevm.proofs.seen.Seen.clear.Goals as goal

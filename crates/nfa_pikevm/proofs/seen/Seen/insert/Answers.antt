@@ -1,3 +1,4 @@
+-- The state is marked afterwards, and it is told whether it was before.
 use Rattle.std.proofs.Common.{◌<◌, length, true, arith}
 use Rattle.std.proofs.lemmas.List.{length-map}
 use Rattle.nfa_pikevm.specs.Rows.{marks_of}

@@ -1,3 +1,4 @@
+-- The items are the list.
 use Rattle.std.proofs.Common.{rules, ◌∙◌, ap}
 use Rattle.nfa_search_base.specs.EmptyFinder.{EmptyTells}
 use Rattle.nfa_search_base.specs.Walks.{fresh}

@@ -1,3 +1,4 @@
+-- The items are the list, up to a refusal.
 use Rattle.std.proofs.Common.{rules, ◌≡◌, ◌∙◌, ap, subst, map, IfOk, [], ◌∷◌, Some}
 use Rattle.regex_search_core.specs.Slots.{Captured}
 use Rattle.nfa_search_base.specs.Catching.{row_of, row_span, UpToRefusal}

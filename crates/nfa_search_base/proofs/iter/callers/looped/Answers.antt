@@ -1,3 +1,4 @@
+-- The items are the list.
 use Rattle.std.proofs.Common.{rules, ◌≡◌, ◌∙◌, ap, subst, map, List, refl, Result}
 use Rattle.std.proofs.lemmas.Iterator.Consumers.{YieldsList-at, YieldsList-end}
 use Rattle.regex_search_core.specs.declared.search.Match.{Match}

@@ -1,3 +1,4 @@
+-- The items are the list.
 use Rattle.std.proofs.Common.{◌≡◌}
 use Rattle.nfa_search_base.proofs.iter.callers.looped.Given as goal
 

@@ -1,3 +1,4 @@
+-- The number of a state that another leads to is in range.
 use Rattle.std.specs.Prelude.{◌<◌, length, map}
 use Rattle.std.proofs.Common.{arith}
 use Rattle.std.proofs.lemmas.List.{length-map}

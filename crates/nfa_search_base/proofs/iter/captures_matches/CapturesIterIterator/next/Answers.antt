@@ -1,3 +1,4 @@
+-- A step whose finder never errs gives captures, nothing, or a refusal.
 use Rattle.nfa_search_base.specs.Catching.{row_span, CanCatch, Catches, GivesCaptures}
 use Rattle.nfa_search_base.specs.Walks.{IsInside, IsSurelyInside}
 use Rattle.nfa_search_base.specs.Stored.{steps_walk}

@@ -1,3 +1,4 @@
+-- The items are those of the iterator that it was.
 use Rattle.nfa_search_base.proofs.CatchingLemmas.{catches-list}
 use Rattle.nfa_search_base.proofs.iter.captures_matches.TryCapturesIter.infallible.Goals as goal
 

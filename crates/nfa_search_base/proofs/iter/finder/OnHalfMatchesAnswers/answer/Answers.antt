@@ -1,3 +1,4 @@
+-- An answer is what the finder replied.
 use Rattle.std.proofs.Common.{rules, refl}
 use Rattle.nfa_search_base.proofs.iter.finder.OnHalfMatchesAnswers.answer.Goals as goal
 

@@ -1,3 +1,4 @@
+-- The items are those of the iterator that it was.
 use Rattle.regex_search_core.specs.Found.{half_found_of}
 use Rattle.nfa_search_base.specs.Asking.{IsCallableOn}
 use Rattle.nfa_search_base.specs.Finders.{Finds}

@@ -1,3 +1,4 @@
+-- A step whose finder never errs gives a match or nothing.
 use Rattle.regex_search_core.specs.Found.{found_of}
 use Rattle.nfa_search_base.specs.Asking.{IsCallableOn}
 use Rattle.nfa_search_base.specs.Finders.{Finds}

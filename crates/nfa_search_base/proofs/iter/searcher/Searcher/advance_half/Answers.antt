@@ -1,3 +1,4 @@
+-- A finder that never errs gives no error to a step.
 use Rattle.std.proofs.Common.{◌≡◌, true, false, subst, IsOk, Option, Result}
 use Rattle.regex_search_core.specs.Found.{half_found_of}
 use Rattle.regex_search_core.specs.declared.search.HalfMatch.{HalfMatch}

@@ -1,3 +1,4 @@
+-- The items are the list of the finder, up to a refusal.
 use Rattle.std.proofs.Common.{false}
 use Rattle.nfa_search_base.specs.Catching.{Catching}
 use Rattle.nfa_search_base.specs.declared.iter.steps.Steps.{Steps}

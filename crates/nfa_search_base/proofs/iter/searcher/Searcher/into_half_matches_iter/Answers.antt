@@ -1,3 +1,4 @@
+-- The items are the list of the finder.
 use Rattle.std.proofs.Common.{refl, false}
 use Rattle.regex_search_core.specs.Found.{half_found_of}
 use Rattle.nfa_search_base.specs.Asking.{IsCallableOn}

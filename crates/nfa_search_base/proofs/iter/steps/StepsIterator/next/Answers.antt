@@ -1,3 +1,4 @@
+-- A step may be taken, and the next one may be taken after it.
 use Rattle.std.proofs.Common.{rules}
 use Rattle.nfa_search_base.specs.Walks.{IsInside}
 use Rattle.nfa_search_base.specs.Searchers.{walk_of}
