@@ -1,3 +1,4 @@
+-- All slots of the row are none.
 use Rattle.nfa_pikevm.proofs.SlotLemmas.{unset-two, unset-four}
 use Rattle.nfa_pikevm.proofs.slot.unset_row.Goals as goal
 

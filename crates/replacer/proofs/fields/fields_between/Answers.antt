@@ -1,3 +1,4 @@
+-- The fields so far, and the text up to the last match.
 use Rattle.std.proofs.Common.{◌≡◌, ◌≤◌, ◌++◌, arith, length, map, rules}
 use Rattle.std.proofs.lemmas.Grind.{common_steps}
 use Rattle.regex_search_core.specs.Found.{found_of}

@@ -1,3 +1,4 @@
+-- The captures of a text are all of its matches.
 use Rattle.std.proofs.Common.{◌≡◌, ◌∙◌, ap, false, Ok, map}
 use Rattle.std.proofs.iter.runs.Made.{run_of_exit}
 use Rattle.regex_search_core.specs.Search.{Search, whole}

@@ -1,3 +1,4 @@
+-- A group by its number, or else by its name.
 use Rattle.regex_search_core.specs.Patterns.{number_of}
 use Rattle.replacer.proofs.WritingLemmas.{named}
 use Rattle.replacer.proofs.name.group_of.Goals as goal

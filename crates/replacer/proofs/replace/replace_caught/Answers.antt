@@ -1,3 +1,4 @@
+-- The output so far, and the text up to the last match.
 use Rattle.std.proofs.Common.{◌≡◌, ◌∙◌, ap, drop, ◌+◌}
 use Rattle.regex_search_core.specs.Found.{Found, found_of}
 use Rattle.nfa_engines.specs.CaughtRuns.{match_in}

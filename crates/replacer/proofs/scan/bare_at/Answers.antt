@@ -1,3 +1,4 @@
+-- A name without braces is the longest run.
 use Rattle.std.proofs.Common.{◌+◌, inr}
 use Rattle.replacer.proofs.WritingLemmas.{longer}
 use Rattle.replacer.proofs.scan.bare_at.Goals as goal

@@ -1,3 +1,4 @@
+-- A name in braces, or a brace that is not closed.
 use Rattle.std.proofs.Common.{◌<◌, inl, arith, length}
 use Rattle.regex_search_core.specs.Patterns.{number_of}
 use Rattle.replacer.proofs.WritingLemmas.{braced}

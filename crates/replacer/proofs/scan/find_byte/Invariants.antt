@@ -1,3 +1,4 @@
+-- None of the bytes so far is the one that is sought.
 use Rattle.replacer.specs.Writing.{HasNo}
 use Rattle.replacer.proofs.scan.find_byte.Given as goal
 

@@ -1,3 +1,4 @@
+-- What begins at a dollar.
 use Rattle.std.proofs.Common.{◌≡◌, inr, refl, ◌+◌, arith, slice_index}
 use Rattle.replacer.specs.Names.{IsWord}
 use Rattle.replacer.proofs.WritingLemmas.{one_byte}

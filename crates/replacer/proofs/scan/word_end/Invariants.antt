@@ -1,3 +1,4 @@
+-- All bytes so far are of the name.
 use Rattle.std.specs.List.{AllWithin}
 use Rattle.replacer.specs.Names.{IsWord}
 use Rattle.replacer.proofs.scan.word_end.Given as goal
