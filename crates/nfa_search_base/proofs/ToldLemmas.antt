@@ -14,7 +14,7 @@ use Rattle.regex_search_core.specs.declared.search.Span.{Span}
 use Rattle.nfa_search_base.specs.Asking.{IsCallableOn, SameButStart}
 use Rattle.nfa_search_base.specs.Finders.{Finds}
 use Rattle.nfa_search_base.specs.Items.{Item, item_by}
-use Rattle.nfa_search_base.specs.Lists.{IsStep, Fails, ItemsLast, AreFirstItems, AreAllItems}
+use Rattle.nfa_search_base.specs.Lists.{IsStep, Fails, ItemsLast, AreFirstFound, AreAllFound}
 use Rattle.nfa_search_base.specs.Serving.{LeadsOn, MayReply}
 use Rattle.nfa_search_base.specs.Steps.{GivesItem}
 use Rattle.nfa_search_base.specs.Stored.{steps_walk, takes_steps}
@@ -69,7 +69,7 @@ module _ {A X F : Type 0} (view : A → X) (span : X → Span)
   May s = MayAnswer view span g s.asker (steps_walk s).at
 
   first-may : (s : Steps F) (xs : List (Result A SearchError)) (t : Steps F) → s.done ≡ false
-      → Yields (found_steps view span g) s xs t → AreFirstItems span (May s) view (steps_walk s) xs
+      → Yields (found_steps view span g) s xs t → AreFirstFound span (May s) view (steps_walk s) xs
   unfolding Reached
   first-may s xs t going ran = record {
     come = first-from span (Finds view g) (λ _. GivesItem view) view
@@ -82,7 +82,7 @@ module _ {A X F : Type 0} (view : A → X) (span : X → Span)
 
   all-may : (s : Steps F) (xs : List (Result A SearchError)) (t u : Steps F) → s.done ≡ false
       → Yields (found_steps view span g) s xs t → found_steps view span g t None u
-      → AreAllItems span (May s) view (steps_walk s) xs
+      → AreAllFound span (May s) view (steps_walk s) xs
   unfolding Reached
   all-may s xs t u going ran st = record {
     come = all-from span (Finds view g) (λ _. GivesItem view) view
@@ -95,8 +95,8 @@ module _ {A X F : Type 0} (view : A → X) (span : X → Span)
 
   -- so its calls give what the finder may answer
   pub found-run : (s : Steps F) → s.done ≡ false → FoundRun view span g s.asker (steps_walk s) s
-  found-run s going = runs-give (found_steps view span g) (AreFirstItems span (May s) view (steps_walk s))
-      (AreAllItems span (May s) view (steps_walk s)) s
+  found-run s going = runs-give (found_steps view span g) (AreFirstFound span (May s) view (steps_walk s))
+      (AreAllFound span (May s) view (steps_walk s)) s
       (λ xs t ran. first-may s xs t going ran) (λ xs t u ran st. all-may s xs t u going ran st)
 
   pub found-first : (s : Steps F) → s.done ≡ false → FoundFirst view span g s.asker (steps_walk s) s
@@ -128,12 +128,12 @@ pub told_collected : {A X F Z E : Type 0} {view : A → X} {span : X → Span}
     (tells : Search → Answer X → Type 0) (v : Walk) (r : Result (Vec (Result A SearchError) Z) E)
     → IsCollectResult (found_steps view span g) s r → FoundAll view span g f w s → w ≡ v
     → ((t : Search) (a : Answer X) (f' : F) → Finds view g f t a f' → (f' ≡ f) × tells t a)
-    → IfOk r (λ all. AreAllItems span tells view v (vec_items all))
+    → IfOk r (λ all. AreAllFound span tells view v (vec_items all))
 told_collected {A = A} {view = view} {span = span} {g = g} {f = f} {w = w} tells v (Ok all) ran gives is says =
     let end = ran.1.2 tt in
     let k = gives ran.0 ran.1.0 end.0 ran.1.1 end.1 in
-    subst (λ (u : Walk). AreAllItems span tells view u (vec_items all)) is
-    (subst (λ (xs : List (Result A SearchError)). AreAllItems span tells view w xs) (sym ran.2.0)
+    subst (λ (u : Walk). AreAllFound span tells view u (vec_items all)) is
+    (subst (λ (xs : List (Result A SearchError)). AreAllFound span tells view w xs) (sym ran.2.0)
     (record {
       come = last-told span (MayAnswer view span g f w.at) tells (may-tells view span g f w.at tells says) w
           (map (item_by view) ran.0) k.come;

@@ -63,11 +63,11 @@ module _ {X : Type 0} (span : X → Span) (tells : Search → Answer X → Type 
   -- An item holds a Y, of which `view` is the match; an error comes where a step errs.
   module _ {Y : Type 0} (view : Y → X) (w : Walk) where
     -- these are the first items from w on
-    pub record AreFirstItems (items : List (Result Y SearchError)) : Type 0 where
+    pub record AreFirstFound (items : List (Result Y SearchError)) : Type 0 where
       pub come : ItemsNext Fails w (map (item_by view) items)
 
     -- all of them
-    pub record AreAllItems (items : List (Result Y SearchError)) : Type 0 where
+    pub record AreAllFound (items : List (Result Y SearchError)) : Type 0 where
       pub come : ItemsLast Fails w (map (item_by view) items)
 
 module _ (nfa : Automaton) (kind : MatchKind) (earliest : Bool) where

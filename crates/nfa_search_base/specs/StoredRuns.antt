@@ -7,7 +7,7 @@ use Rattle.regex_search_core.specs.declared.search.Input.{Input}
 use Rattle.regex_search_core.specs.declared.search.Span.{Span}
 use Rattle.nfa_search_base.specs.Asking.{IsCallableOn, SameButStart}
 use Rattle.nfa_search_base.specs.Finders.{Finds}
-use Rattle.nfa_search_base.specs.Lists.{AreFirstItems, AreAllItems}
+use Rattle.nfa_search_base.specs.Lists.{AreFirstFound, AreAllFound}
 use Rattle.nfa_search_base.specs.Runs.{RunsGive, GivesFirst, GivesAll}
 use Rattle.nfa_search_base.specs.Serving.{MayReply}
 use Rattle.nfa_search_base.specs.Steps.{GivesItem}
@@ -30,14 +30,14 @@ module _ {A X F : Type 0} (view : A → X) (span : X → Span)
   module _ (f : F) (w : Walk) where
     -- each run of calls gives the first items from w on, as f tells them, and all of them where it goes on to `None`
     abbrev pub FoundRun : Steps F → Type 0
-    FoundRun s = RunsGive found_steps (AreFirstItems span (MayAnswer f w.at) view w)
-        (AreAllItems span (MayAnswer f w.at) view w) s
+    FoundRun s = RunsGive found_steps (AreFirstFound span (MayAnswer f w.at) view w)
+        (AreAllFound span (MayAnswer f w.at) view w) s
 
     -- the items so far are the first items
     abbrev pub FoundFirst : Steps F → Type 0
-    FoundFirst s = GivesFirst found_steps (AreFirstItems span (MayAnswer f w.at) view w) s
+    FoundFirst s = GivesFirst found_steps (AreFirstFound span (MayAnswer f w.at) view w) s
 
     -- and at `None` all
     abbrev pub FoundAll : Steps F → Type 0
-    FoundAll s = GivesAll found_steps (AreFirstItems span (MayAnswer f w.at) view w)
-        (AreAllItems span (MayAnswer f w.at) view w) s
+    FoundAll s = GivesAll found_steps (AreFirstFound span (MayAnswer f w.at) view w)
+        (AreAllFound span (MayAnswer f w.at) view w) s

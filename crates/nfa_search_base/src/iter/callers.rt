@@ -6,7 +6,7 @@ ghost use Rattle.nfa_search_base.specs.Catching.{UpToRefusal, caught_by, row_of,
 ghost use Rattle.nfa_search_base.specs.EmptyFinder.{EmptyTells, empty_answer, zero_row};
 ghost use Rattle.nfa_search_base.specs.Finders.{answer_by};
 ghost use Rattle.nfa_search_base.specs.Items.{item_by, greedy};
-ghost use Rattle.nfa_search_base.specs.Lists.{AreAllItems};
+ghost use Rattle.nfa_search_base.specs.Lists.{AreAllFound};
 ghost use Rattle.nfa_search_base.specs.Walks.{IsInside, fresh, span_of};
 
 use crate::error::SearchError;
@@ -34,7 +34,7 @@ fn empty_at_start(input: &Input<'_>) -> Result<Option<Match>, SearchError>
 
 // All items, by `collect`, as that finder tells them.
 fn collected(alloc: Global, haystack: &[u8]) -> Result<Vec<Result<Match, SearchError>>, AllocError>
-    ensures { IfOk result (λ v. AreAllItems span_of EmptyTells found_of (fresh (whole haystack.now)) v.items) }
+    ensures { IfOk result (λ v. AreAllFound span_of EmptyTells found_of (fresh (whole haystack.now)) v.items) }
 {
     let input = Input::new(haystack);
     let searcher = Searcher::new(input);
