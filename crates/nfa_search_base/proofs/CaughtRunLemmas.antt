@@ -65,7 +65,7 @@ found-rows [] = refl
 found-rows (c ∷ cs) = ap (λ (l : List Found). match_in c ∷ l) (found-rows cs)
 
 -- an item says what its step answers; an error may be a refusal of the copy
-copy-says : {F : Type 0} (step : Answer Row → Type 0) (c : Catching F) (a : Answer Row) (r : Option Caught)
+pub copy-says : {F : Type 0} (step : Answer Row → Type 0) (c : Catching F) (a : Answer Row) (r : Option Caught)
     → GivesCaptures c a r → step a
     → Says row_of a (λ e. step (Err e) ⊎ ((e ≡ Memory) × (row : Row) × step (Ok (Some row)))) r
 copy-says step c (Ok (Some row)) None (inl h) is = let k : None ≡ Some (Ok c.captures) = h.0 in cc

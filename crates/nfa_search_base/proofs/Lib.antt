@@ -13,3 +13,4 @@ pub mod MatchRunLemmas
 pub mod CaughtLemmas
 pub mod CaughtRunLemmas
 pub mod ToldLemmas
+pub mod ToldCapturesLemmas

@@ -18,7 +18,8 @@ use Rattle.nfa_search_base.specs.Lists.{IsStep, Fails, ItemsLast, AreFirstFound,
 use Rattle.nfa_search_base.specs.Serving.{LeadsOn, MayReply}
 use Rattle.nfa_search_base.specs.Steps.{GivesItem}
 use Rattle.nfa_search_base.specs.Stored.{steps_walk, takes_steps}
-use Rattle.nfa_search_base.specs.StoredRuns.{MayAnswer, found_steps, FoundRun, FoundFirst, FoundAll}
+use Rattle.nfa_search_base.specs.StoredRuns.{MayAnswer, found_steps, sure_found_steps, FoundRun, FoundFirst, FoundAll}
+use Rattle.nfa_search_base.specs.StoredRuns.{SureFoundRun, SureFoundFirst, SureFoundAll}
 use Rattle.nfa_search_base.specs.Walks.{Answer, Walk, after, repeats, shifted, place_of}
 use Rattle.nfa_search_base.specs.declared.error.SearchError.{SearchError}
 use Rattle.nfa_search_base.specs.declared.iter.steps.Steps.{Steps}
@@ -104,6 +105,24 @@ module _ {A X F : Type 0} (view : A → X) (span : X → Span)
 
   pub found-all : (s : Steps F) → s.done ≡ false → FoundAll view span g s.asker (steps_walk s) s
   found-all s going = λ xs t u ran st. all-may s xs t u going ran st
+
+  -- the same of the iterator whose finder never errs
+  oked : (xs : List A) (q t : Steps F) → Yields (sure_found_steps view span g) q xs t
+      → Yields (found_steps view span g) q (map (λ m. Ok m) xs) t
+  oked [] q t ran = ran
+  oked (y ∷ ys) q t ran = (ran.0, ran.1, oked ys ran.0 t ran.2)
+
+  pub sure-first : (s : Steps F) → s.done ≡ false → SureFoundFirst view span g s.asker (steps_walk s) s
+  sure-first s going = λ xs t ran. first-may s (map (λ m. Ok m) xs) t going (oked xs s t ran)
+
+  pub sure-all : (s : Steps F) → s.done ≡ false → SureFoundAll view span g s.asker (steps_walk s) s
+  sure-all s going = λ xs t u ran st. all-may s (map (λ m. Ok m) xs) t u going (oked xs s t ran) st
+
+  pub sure-run : (s : Steps F) → s.done ≡ false → SureFoundRun view span g s.asker (steps_walk s) s
+  sure-run s going = runs-give (sure_found_steps view span g)
+      (λ found. AreFirstFound span (May s) view (steps_walk s) (map (λ m. Ok m) found))
+      (λ found. AreAllFound span (May s) view (steps_walk s) (map (λ m. Ok m) found)) s
+      (λ xs t ran. sure-first s going xs t ran) (λ xs t u ran st. sure-all s going xs t u ran st)
 
   -- Where each call leaves the finder as it was, what it tells of one search it may answer along them all.
   kept : (f : F) (x : Search) (tells : Search → Answer X → Type 0)

@@ -9,7 +9,7 @@ use Rattle.nfa_paths.specs.Paths.{IsAnswer, IsMatchAnswer}
 use Rattle.nfa_search_base.specs.Catching.{Row, row_found, row_of, row_span}
 use Rattle.nfa_search_base.specs.Items.{item_by}
 use Rattle.nfa_search_base.specs.Lists.{Fails, FailsOrIsRefused, ItemsNext, ItemsLast}
-use Rattle.nfa_search_base.specs.Walks.{Answer, fresh}
+use Rattle.nfa_search_base.specs.Walks.{Answer, Walk, fresh}
 use Rattle.nfa_search_base.specs.declared.error.SearchError.{SearchError}
 
 -- the captures have the groups of the NFA, and a slot for each edge of them
@@ -39,11 +39,21 @@ module _ (nfa : Automaton) (kind : MatchKind) (earliest : Bool) where
     pub come : ItemsLast row_span TellsRow (Fails row_span TellsRow) (fresh x) (map (λ row. Ok row) rows)
 
 -- A search `tells` an answer. A copy of captures may be refused.
-module _ (tells : Search → Answer Row → Type 0) (x : Search) where
-  -- the first items of the captures of x
-  pub record AreFirstCaptures (items : List (Result Captured SearchError)) : Type 0 where
-    pub come : ItemsNext row_span tells (FailsOrIsRefused row_span tells) (fresh x) (map (item_by row_of) items)
+module _ (tells : Search → Answer Row → Type 0) where
+  module _ (w : Walk) where
+    -- the first items of the captures from w on
+    pub record AreFirstCaught (items : List (Result Captured SearchError)) : Type 0 where
+      pub come : ItemsNext row_span tells (FailsOrIsRefused row_span tells) w (map (item_by row_of) items)
 
-  -- all of them
-  pub record AreAllCaptures (items : List (Result Captured SearchError)) : Type 0 where
-    pub come : ItemsLast row_span tells (FailsOrIsRefused row_span tells) (fresh x) (map (item_by row_of) items)
+    -- all of them
+    pub record AreAllCaught (items : List (Result Captured SearchError)) : Type 0 where
+      pub come : ItemsLast row_span tells (FailsOrIsRefused row_span tells) w (map (item_by row_of) items)
+
+  module _ (x : Search) where
+    -- the first items of the captures of x
+    pub record AreFirstCaptures (items : List (Result Captured SearchError)) : Type 0 where
+      pub come : ItemsNext row_span tells (FailsOrIsRefused row_span tells) (fresh x) (map (item_by row_of) items)
+
+    -- all of them
+    pub record AreAllCaptures (items : List (Result Captured SearchError)) : Type 0 where
+      pub come : ItemsLast row_span tells (FailsOrIsRefused row_span tells) (fresh x) (map (item_by row_of) items)

@@ -1,17 +1,21 @@
 -- What the calls of an iterator over a stored finder have given, wherever they stop.
-use Rattle.std.specs.Prelude.{Option, Result}
+use Rattle.std.specs.Prelude.{map, Option, Result, Ok}
 use Rattle.std.specs.Fn.{Mut}
-use Rattle.std.specs.Borrow.{Bor}
+use Rattle.std.specs.Borrow.{Bor, MutBor}
 use Rattle.regex_search_core.specs.Search.{Search}
+use Rattle.regex_search_core.specs.Slots.{Captured}
 use Rattle.regex_search_core.specs.declared.search.Input.{Input}
 use Rattle.regex_search_core.specs.declared.search.Span.{Span}
 use Rattle.nfa_search_base.specs.Asking.{IsCallableOn, SameButStart}
+use Rattle.nfa_search_base.specs.Catching.{Row, Catching, CanCatch, Catches, GivesCaptures, row_span}
+use Rattle.nfa_search_base.specs.CaughtLists.{AreFirstCaught, AreAllCaught}
+use Rattle.nfa_search_base.specs.CaughtSteps.{takes_sure_catches}
 use Rattle.nfa_search_base.specs.Finders.{Finds}
 use Rattle.nfa_search_base.specs.Lists.{AreFirstFound, AreAllFound}
 use Rattle.nfa_search_base.specs.Runs.{RunsGive, GivesFirst, GivesAll}
 use Rattle.nfa_search_base.specs.Serving.{MayReply}
 use Rattle.nfa_search_base.specs.Steps.{GivesItem}
-use Rattle.nfa_search_base.specs.Stored.{takes_steps}
+use Rattle.nfa_search_base.specs.Stored.{takes_steps, takes_sure_steps}
 use Rattle.nfa_search_base.specs.Walks.{Answer, Walk}
 use Rattle.nfa_search_base.specs.declared.error.SearchError.{SearchError}
 use Rattle.nfa_search_base.specs.declared.iter.steps.Steps.{Steps}
@@ -27,6 +31,10 @@ module _ {A X F : Type 0} (view : A → X) (span : X → Span)
   abbrev pub found_steps : Steps F → Option (Result A SearchError) → Steps F → Type 0
   found_steps s r t = takes_steps span (Finds view g) (λ _. GivesItem view) s r t
 
+  -- a call of the iterator whose finder never errs
+  abbrev pub sure_found_steps : Steps F → Option A → Steps F → Type 0
+  sure_found_steps s r t = takes_sure_steps span (Finds view g) (λ _. GivesItem view) s r t
+
   module _ (f : F) (w : Walk) where
     -- each run of calls gives the first items from w on, as f tells them, and all of them where it goes on to `None`
     abbrev pub FoundRun : Steps F → Type 0
@@ -41,3 +49,54 @@ module _ {A X F : Type 0} (view : A → X) (span : X → Span)
     abbrev pub FoundAll : Steps F → Type 0
     FoundAll s = GivesAll found_steps (AreFirstFound span (MayAnswer f w.at) view w)
         (AreAllFound span (MayAnswer f w.at) view w) s
+
+    -- the same of the iterator whose finder never errs
+    abbrev pub SureFoundRun : Steps F → Type 0
+    SureFoundRun s = RunsGive sure_found_steps
+        (λ found. AreFirstFound span (MayAnswer f w.at) view w (map (λ m. Ok m) found))
+        (λ found. AreAllFound span (MayAnswer f w.at) view w (map (λ m. Ok m) found)) s
+
+    abbrev pub SureFoundFirst : Steps F → Type 0
+    SureFoundFirst s = GivesFirst sure_found_steps
+        (λ found. AreFirstFound span (MayAnswer f w.at) view w (map (λ m. Ok m) found)) s
+
+    abbrev pub SureFoundAll : Steps F → Type 0
+    SureFoundAll s = GivesAll sure_found_steps
+        (λ found. AreFirstFound span (MayAnswer f w.at) view w (map (λ m. Ok m) found))
+        (λ found. AreAllFound span (MayAnswer f w.at) view w (map (λ m. Ok m) found)) s
+
+-- A finder fills captures that it is lent.
+module _ {F : Type 0} (g : Mut F (Bor Input × (MutBor Captured × Unit {0}))
+    (Result (Unit {0}) SearchError × (MutBor Captured × Unit {0}))) where
+  -- wherever calls on searches like x lead from c, the next call may give this answer: what c tells of a search
+  abbrev pub MayAnswerRow : Catching F → Search → Search → Answer Row → Type 0
+  MayAnswerRow c x = MayReply (CanCatch g) (Catches g) SameButStart c x
+
+  -- a call of the iterator
+  abbrev pub caught_steps : Steps (Catching F) → Option (Result Captured SearchError) → Steps (Catching F) → Type 0
+  caught_steps s r t = takes_steps row_span (Catches g) GivesCaptures s r t
+
+  module _ (c : Catching F) (w : Walk) where
+    -- each run of calls gives the first captures from w on, as c tells them, and all of them where it goes on to `None`
+    abbrev pub CaughtRun : Steps (Catching F) → Type 0
+    CaughtRun s = RunsGive caught_steps (AreFirstCaught (MayAnswerRow c w.at) w) (AreAllCaught (MayAnswerRow c w.at) w) s
+
+    -- the items so far are the first captures
+    abbrev pub CaughtFirst : Steps (Catching F) → Type 0
+    CaughtFirst s = GivesFirst caught_steps (AreFirstCaught (MayAnswerRow c w.at) w) s
+
+    -- and at `None` all
+    abbrev pub CaughtAll : Steps (Catching F) → Type 0
+    CaughtAll s = GivesAll caught_steps (AreFirstCaught (MayAnswerRow c w.at) w) (AreAllCaught (MayAnswerRow c w.at) w) s
+
+    -- the same of the iterator whose finder never errs
+    abbrev pub SureCaughtRun : Steps (Catching F) → Type 0
+    SureCaughtRun s = RunsGive (takes_sure_catches g) (AreFirstCaught (MayAnswerRow c w.at) w)
+        (AreAllCaught (MayAnswerRow c w.at) w) s
+
+    abbrev pub SureCaughtFirst : Steps (Catching F) → Type 0
+    SureCaughtFirst s = GivesFirst (takes_sure_catches g) (AreFirstCaught (MayAnswerRow c w.at) w) s
+
+    abbrev pub SureCaughtAll : Steps (Catching F) → Type 0
+    SureCaughtAll s = GivesAll (takes_sure_catches g) (AreFirstCaught (MayAnswerRow c w.at) w)
+        (AreAllCaught (MayAnswerRow c w.at) w) s

@@ -35,6 +35,7 @@ impl<'h> Searcher<'h> {
     ghost use Rattle.nfa_search_base.specs.Items.{item_by, greedy};
     ghost use Rattle.nfa_search_base.specs.Searchers.{walk_of};
     ghost use Rattle.nfa_search_base.specs.Stored.{steps_walk, can_step, takes_steps};
+    ghost use Rattle.nfa_search_base.specs.StoredRuns.{CaughtAll, CaughtFirst, CaughtRun};
     ghost use Rattle.nfa_search_base.specs.Walks.{Answer, IsInside};
 
     /// The captures of the matches that the finder gives from here on.
@@ -50,6 +51,10 @@ impl<'h> Searcher<'h> {
         ensures walk { steps_walk result ≡ walk_of self.entry }
         ensures finder { result.asker ≡ record { finder = finder; captures = captures } }
         ensures going { result.done ≡ false }
+        // Each run of calls gives the first captures, and all of them where it goes on to `None`.
+        ensures runs { CaughtRun F.FnMut (record { finder = finder; captures = captures }) (walk_of self.entry) result }
+        ensures first { CaughtFirst F.FnMut (record { finder = finder; captures = captures }) (walk_of self.entry) result }
+        ensures all { CaughtAll F.FnMut (record { finder = finder; captures = captures }) (walk_of self.entry) result }
         // Where the finder computes h, the items hold the rows of the greedy list of h, up to a refusal of memory.
         ensures list { (h : Search → Answer Row) → CatchesBy F.FnMut h (record { finder = finder; captures = captures })
             (walk_of self.entry).at → YieldsUpToRefusal (takes_steps row_span (Catches F.FnMut) GivesCaptures)
@@ -66,12 +71,13 @@ impl<'h> Searcher<'h> {
 }
 
 impl<'h, F> TryCapturesIter<'h, F> {
-    ghost use Rattle.std.specs.Prelude.{◌≡◌};
+    ghost use Rattle.std.specs.Prelude.{◌≡◌, false};
     ghost use Rattle.regex_search_core.specs.Search.{Search, search_of};
     ghost use Rattle.nfa_search_base.specs.Catching.{Row, row_of, row_span, CanCatch, Catches, CatchesAlong, CatchesBy, YieldsUpToRefusal};
     ghost use Rattle.nfa_search_base.specs.CaughtSteps.{takes_sure_catches};
     ghost use Rattle.nfa_search_base.specs.Items.{item_by, greedy_unless};
     ghost use Rattle.nfa_search_base.specs.Stored.{steps_walk, can_step_surely};
+    ghost use Rattle.nfa_search_base.specs.StoredRuns.{SureCaughtAll, SureCaughtFirst, SureCaughtRun};
     ghost use Rattle.nfa_search_base.specs.Walks.{Answer, IsSurelyInside};
 
     /// The input that the next step searches.
@@ -89,6 +95,13 @@ impl<'h, F> TryCapturesIter<'h, F> {
         requires { CatchesAlong F.FnMut (IsSurelyInside row_span) self.asker (steps_walk self).at }
         ensures can { can_step_surely (CanCatch F.FnMut) (Catches F.FnMut) row_span result }
         ensures same { result ≡ self.entry }
+        // Each run of calls gives the first captures, and all of them where it goes on to `None`.
+        ensures runs { self.entry.done ≡ false
+            → SureCaughtRun F.FnMut self.entry.asker (steps_walk self.entry) result }
+        ensures first { self.entry.done ≡ false
+            → SureCaughtFirst F.FnMut self.entry.asker (steps_walk self.entry) result }
+        ensures all { self.entry.done ≡ false
+            → SureCaughtAll F.FnMut self.entry.asker (steps_walk self.entry) result }
         // Where the finder computes h, the items hold the rows of the greedy list of h, up to a refusal of memory.
         ensures list { (h : Search → Answer Row) → CatchesBy F.FnMut h self.entry.asker (steps_walk self.entry).at
             → YieldsUpToRefusal (takes_sure_catches F.FnMut) (item_by row_of) result

@@ -73,7 +73,7 @@ impl<'h> Searcher<'h> {
 }
 
 impl<'h, F> TryMatchesIter<'h, F> {
-    ghost use Rattle.std.specs.Prelude.{◌≡◌};
+    ghost use Rattle.std.specs.Prelude.{◌≡◌, false};
     ghost use Rattle.std.proofs.lemmas.Iterator.{YieldsList};
     ghost use Rattle.regex_search_core.specs.Found.{Found, found_of};
     ghost use Rattle.regex_search_core.specs.Search.{Search, search_of};
@@ -83,6 +83,7 @@ impl<'h, F> TryMatchesIter<'h, F> {
     ghost use Rattle.nfa_search_base.specs.Asking.{IsCallableOn};
     ghost use Rattle.nfa_search_base.specs.Steps.{GivesItem};
     ghost use Rattle.nfa_search_base.specs.Stored.{steps_walk, can_step_surely, takes_sure_steps};
+    ghost use Rattle.nfa_search_base.specs.StoredRuns.{SureFoundAll, SureFoundFirst, SureFoundRun};
 
     /// The input that the next step searches.
     pub fn input(&self) -> &Input<'h>
@@ -99,6 +100,13 @@ impl<'h, F> TryMatchesIter<'h, F> {
         requires { AnswersAlong found_of F.FnMut (IsSurelyInside span_of) self.asker (steps_walk self).at }
         ensures can { can_step_surely (IsCallableOn F.FnMut) (Finds found_of F.FnMut) span_of result }
         ensures same { result ≡ self.entry }
+        // Each run of calls gives the first matches, and all of them where it goes on to `None`.
+        ensures runs { self.entry.done ≡ false
+            → SureFoundRun found_of span_of F.FnMut self.entry.asker (steps_walk self.entry) result }
+        ensures first { self.entry.done ≡ false
+            → SureFoundFirst found_of span_of F.FnMut self.entry.asker (steps_walk self.entry) result }
+        ensures all { self.entry.done ≡ false
+            → SureFoundAll found_of span_of F.FnMut self.entry.asker (steps_walk self.entry) result }
         // Where the finder computes h, the matches are those of the greedy list of h.
         ensures list { (h : Search → Answer Found) → Computes found_of F.FnMut h self.entry.asker (steps_walk self.entry).at
             → YieldsList (takes_sure_steps span_of (Finds found_of F.FnMut) (λ _. GivesItem found_of)) found_of

@@ -1,6 +1,16 @@
 -- The items are those of the iterator that it was.
 use Rattle.nfa_search_base.proofs.CatchingLemmas.{catches-list}
+use Rattle.nfa_search_base.proofs.ToldCapturesLemmas.{sure-caught_run, sure-caught_first, sure-caught_all}
 use Rattle.nfa_search_base.proofs.iter.captures_matches.TryCapturesIter.infallible.Goals as goal
 
 pub returns-clause-list : goal.returns-clause-list
 returns-clause-list g c = λ h computes. catches-list g.F.FnMut h _ (λ s r t st. st.0) c.args.self computes
+
+pub returns-clause-runs : goal.returns-clause-runs
+returns-clause-runs g c = λ going. sure-caught_run g.F.FnMut c.args.self going
+
+pub returns-clause-first : goal.returns-clause-first
+returns-clause-first g c = λ going. sure-caught_first g.F.FnMut c.args.self going
+
+pub returns-clause-all : goal.returns-clause-all
+returns-clause-all g c = λ going. sure-caught_all g.F.FnMut c.args.self going

@@ -4,8 +4,18 @@ use Rattle.nfa_search_base.specs.Asking.{IsCallableOn}
 use Rattle.nfa_search_base.specs.Finders.{Finds}
 use Rattle.nfa_search_base.specs.Walks.{span_of}
 use Rattle.nfa_search_base.proofs.StoredLemmas.{sure-yields}
+use Rattle.nfa_search_base.proofs.ToldLemmas.{sure-run, sure-first, sure-all}
 use Rattle.nfa_search_base.proofs.iter.matches.TryMatchesIter.infallible.Goals as goal
 
 pub returns-clause-list : goal.returns-clause-list
 returns-clause-list g c = λ h computes. sure-yields (IsCallableOn g.F.FnMut) (Finds found_of g.F.FnMut) span_of found_of
     h c.args.self computes
+
+pub returns-clause-runs : goal.returns-clause-runs
+returns-clause-runs g c = λ going. sure-run found_of span_of g.F.FnMut c.args.self going
+
+pub returns-clause-first : goal.returns-clause-first
+returns-clause-first g c = λ going. sure-first found_of span_of g.F.FnMut c.args.self going
+
+pub returns-clause-all : goal.returns-clause-all
+returns-clause-all g c = λ going. sure-all found_of span_of g.F.FnMut c.args.self going
