@@ -6,7 +6,6 @@ pub mod Laws
 pub mod ListLaws
 pub mod SetLaws
 pub use Rattle.nfa_backtrack.specs.Backtrack
-pub use Rattle.nfa_backtrack.specs.CaptureRuns as BacktrackCaptureRuns
 pub use Rattle.nfa_backtrack.specs.CapturesMatches as BacktrackCapturesMatches
 pub use Rattle.nfa_backtrack.specs.Finding as BacktrackFinding
 pub use Rattle.nfa_backtrack.specs.FindMatches as BacktrackFindMatches
@@ -25,9 +24,13 @@ pub use Rattle.nfa_search_base.specs.Asking
 pub use Rattle.nfa_search_base.specs.Catching
 pub use Rattle.nfa_search_base.specs.CaughtLists
 pub use Rattle.nfa_search_base.specs.CaughtRuns
+pub use Rattle.nfa_search_base.specs.EngineSearches
 pub use Rattle.nfa_search_base.specs.Finders
 pub use Rattle.nfa_search_base.specs.Items
+pub use Rattle.nfa_search_base.specs.Lent
 pub use Rattle.nfa_search_base.specs.Lists
+pub use Rattle.nfa_search_base.specs.MatchRuns
+pub use Rattle.nfa_search_base.specs.Runs
 pub use Rattle.nfa_search_base.specs.Searchers
 pub use Rattle.nfa_search_base.specs.Serving
 pub use Rattle.nfa_search_base.specs.Skipping
