@@ -11,11 +11,9 @@ pub use Rattle.nfa_backtrack.specs.Finding as BacktrackFinding
 pub use Rattle.nfa_backtrack.specs.FindMatches as BacktrackFindMatches
 pub use Rattle.nfa_backtrack.specs.Runs as BacktrackRuns
 pub use Rattle.nfa_pikevm.specs.Engines
-pub use Rattle.nfa_pikevm.specs.CaptureRuns as PikeVMCaptureRuns
 pub use Rattle.nfa_pikevm.specs.CapturesMatches as PikeVMCapturesMatches
 pub use Rattle.nfa_pikevm.specs.Finding as PikeVMFinding
 pub use Rattle.nfa_pikevm.specs.FindMatches as PikeVMFindMatches
-pub use Rattle.nfa_pikevm.specs.Runs as PikeVMRuns
 pub use Rattle.nfa_paths.specs.Graphs
 pub use Rattle.nfa_paths.specs.Known
 pub use Rattle.nfa_paths.specs.Overlaps
