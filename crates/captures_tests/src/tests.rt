@@ -1,6 +1,5 @@
 //! Tests of the iterators over captures: lists, refusals, and callers that use what is promised of them.
 mod callers;
-mod others;
 mod refused;
 mod table;
 mod texts;

@@ -87,7 +87,7 @@ fn is_row(captures: &Captures, row: &Row) -> bool {
     }
 }
 
-pub(crate) fn have_slots(captures: &Captures, slots: &[Option<usize>]) -> bool {
+fn have_slots(captures: &Captures, slots: &[Option<usize>]) -> bool {
     let mut same = captures.slots().len() == slots.len();
     for (offset, wanted) in captures.slots().iter().zip(slots) {
         let found = offset.map(|offset| offset.get());
