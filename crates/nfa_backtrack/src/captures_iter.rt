@@ -91,8 +91,7 @@ impl BoundedBacktracker {
     }
 
     /// The same, searching with captures that the caller made, with all groups of this NFA
-    /// ([`BoundedBacktracker::create_captures`]). It cannot fail, and the caller keeps sight of its cache: what is lent in
-    /// a `Result` is lost from sight.
+    /// ([`BoundedBacktracker::create_captures`]). To make this takes no memory, and cannot fail.
     #[inline]
     pub fn try_captures_iter_with<'r, 'c, 'h>(
         &'r self,

@@ -93,8 +93,7 @@ impl PikeVM {
     }
 
     /// The same, searching with captures that the caller made, with all groups of this NFA
-    /// ([`PikeVM::create_captures`]). It cannot fail, and the caller keeps sight of its cache: what is lent in a `Result`
-    /// is lost from sight.
+    /// ([`PikeVM::create_captures`]). To make this takes no memory, and cannot fail.
     #[inline]
     pub fn captures_iter_with<'r, 'c, 'h>(
         &'r self,

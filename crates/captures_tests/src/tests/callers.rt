@@ -5,7 +5,7 @@ ghost use Rattle.regex_search_core.specs.declared.search.MatchKind.TheVariants.{
 ghost use Rattle.nfa_search_base.specs.CaughtLists.{AreAllCaptures, TellsRow};
 ghost use Rattle.nfa_search_base.specs.CaughtRuns.{match_in};
 ghost use Rattle.nfa_search_base.specs.Lists.{AreMatches};
-ghost use Rattle.nfa_pikevm.specs.Engines.{Fits, SameNumbers, kind_of};
+ghost use Rattle.nfa_pikevm.specs.Engines.{Fits, kind_of};
 ghost use Rattle.nfa_backtrack.specs.Finding.{IsCatchOf};
 
 use nfa_engines::backtrack::{self, BoundedBacktracker};
@@ -46,21 +46,19 @@ pub(crate) fn tries_collected(
     }
 }
 
-// The captures of the matches of the text, where there is memory for all. The cache keeps its numbers.
-fn looped(
+// The captures of the matches of the text, where there is memory for all.
+pub(crate) fn looped(
     vm: &PikeVM,
     alloc: Global,
     cache: &mut pikevm::Cache,
     text: &[u8],
 ) -> Result<Vec<Captures>, SearchError>
     requires { Fits cache.old vm.now.nfa }
-    ensures list { IfOk result (λ all.
+    ensures { IfOk result (λ all.
         AreMatches vm.now.nfa (kind_of vm.now) false (whole text.now) (map match_in all.items)) }
-    ensures numbers { SameNumbers cache.old cache.new }
 {
-    let captures = vm.create_captures(alloc)?;
     let mut all = Vec::new(alloc);
-    for item in vm.captures_iter_with(cache, Input::new(text), captures) {
+    for item in vm.captures_iter(alloc, cache, Input::new(text))? {
         if all.push(item?).is_err() {
             return Err(SearchError::Memory);
         }
@@ -68,27 +66,7 @@ fn looped(
     Ok(all)
 }
 
-// How many captures each of the texts has, with one cache for all.
-pub(crate) fn counted(
-    vm: &PikeVM,
-    alloc: Global,
-    cache: &mut pikevm::Cache,
-    texts: &[&[u8]],
-) -> Result<Vec<usize>, SearchError>
-    requires { Fits cache.old vm.now.nfa }
-    ensures { SameNumbers cache.old cache.new }
-{
-    let mut counts = Vec::new(alloc);
-    for text in texts {
-        let count = looped(vm, alloc, cache, text)?.len();
-        if counts.push(count).is_err() {
-            return Err(SearchError::Memory);
-        }
-    }
-    Ok(counts)
-}
-
-// The same as `looped` of a backtracker.
+// The same of a backtracker.
 pub(crate) fn tries_looped(
     engine: &BoundedBacktracker,
     alloc: Global,

@@ -1,5 +1,5 @@
 //! Lists of captures of the sample NFAs, of both engines.
-use super::callers::{collected, counted, tries_collected, tries_looped};
+use super::callers::{collected, looped, tries_collected, tries_looped};
 use super::{backtracker, pikevm};
 use nfa_engines::Captures;
 use nfa_engines::error::SearchError;
@@ -135,13 +135,8 @@ fn pikevm_gives_them_to_a_loop(rt: HostRuntime) -> Result<(), Fail> {
     let alloc = rt.alloc();
     let vm = pikevm(alloc, "words_numbers")?;
     let mut cache = vm.create_cache(alloc)?;
-    let counts = counted(
-        &vm,
-        alloc,
-        &mut cache,
-        &[b"abc 1 foo 4567 0 quux", b"", b"abc 1"],
-    )?;
-    assert_eq!(rt; counts.as_slice(), [6, 0, 2].as_slice());
+    let all = looped(&vm, alloc, &mut cache, b"abc 1 foo 4567 0 quux")?;
+    assert_eq!(rt; all.len(), 6);
     Ok(())
 }
 
