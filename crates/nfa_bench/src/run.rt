@@ -1,8 +1,6 @@
 //! Reads the words of the command line, searches, and prints the matches.
-ghost use Rattle.std.specs.Prelude.{◌≡◌, ◌≤◌, ◌↔◌, IfErr, IfOk};
+ghost use Rattle.std.specs.Prelude.{◌≡◌, ◌≤◌, IfOk};
 ghost use Rattle.nfa_bench.specs.Stops.{ending};
-ghost use Rattle.nfa_bench.specs.declared.run.Stop.TheVariants.{UnknownName};
-ghost use Rattle.nfa_samples.specs.Names.{IsNoneOf, sample_names};
 
 use nfa_engines::backtrack::BoundedBacktracker;
 use nfa_engines::error::SearchError;
@@ -54,19 +52,12 @@ fn print_matches<W: Write>(alloc: Global, words: &[&str], out: &mut W) -> Result
         return Err(Stop::Usage);
     };
     let engine = Engine::from_word(engine).ok_or(Stop::Usage)?;
-    let nfa = nfa_named(alloc, name)?;
+    let nfa = sample(alloc, name)?.ok_or(Stop::UnknownName)?;
     let input = Input::new(haystack.as_bytes());
     match engine {
         Engine::Backtracker => print_backtracked(alloc, nfa, input, out),
         Engine::PikeVM => print_piked(alloc, nfa, input, out),
     }
-}
-
-/// The sample of that name. No name is unknown for want of memory.
-fn nfa_named(alloc: Global, name: &str) -> Result<NFA, Stop>
-    ensures { IfErr result (λ stop. (stop ≡ UnknownName) ↔ IsNoneOf name.now sample_names) }
-{
-    sample(alloc, name)?.ok_or(Stop::UnknownName)
 }
 
 fn print_backtracked<W: Write>(
