@@ -26,10 +26,10 @@ use Rattle.nfa_search_base.proofs.StepLemmas.{chosen}
 use Rattle.nfa_backtrack.specs.Backtrack.{Backtracker, IsTooLong}
 use Rattle.nfa_backtrack.specs.FindMatches.{Asked, AsksBacktracker, TakesFindStep, find_state, find_engine}
 use Rattle.nfa_backtrack.specs.FindMatches.{find_is_done, find_walk, find_steps}
-use Rattle.nfa_backtrack.specs.Finding.{IsFindOf}
+use Rattle.nfa_backtrack.specs.Finding.{AnswersByLength, IsFindOf, IsRefusal}
 use Rattle.nfa_backtrack.specs.Runs.{RunsGive, RunsMatch, RunsInside, RunsApart, RunsRefused}
 use Rattle.nfa_backtrack.specs.Runs.{GivesFirst, GivesFirstMatches, GivesAllMatches, GivesNext, GivesNextMatch}
-use Rattle.nfa_backtrack.specs.Runs.{AreFirstItems, AreAllItems, AreRefused}
+use Rattle.nfa_backtrack.specs.Runs.{AreFirstItems, AreAllItems, AreRefused, GivesByLength, EndsByLength}
 use Rattle.nfa_backtrack.specs.declared.find_iter.TryFindMatches.{TryFindMatches}
 use Rattle.nfa_backtrack.proofs.FindLemmas.{back-acts, find-lies, still-fits}
 
@@ -178,6 +178,58 @@ module _ (e : Backtracker) where
       rw none (All-cons (λ item. IfErr item (λ error. error ≡ Memory)) (Err r) [] is
       (All-nil (λ item. IfErr item (λ error. error ≡ Memory))))
 
+  -- an error of a step is a refusal
+  error-step : (w : Walk) (r : SearchError) → Step w (Err r) → IsRefusal e w.at r
+  error-step w r h = of h.first h.is_first h.rest
+    where
+      of : (f : Answer Found) → tells w.at f
+          → MatchBool (repeats w (place_of span_of f)) (tells (shifted w).at (Err r)) (Err r ≡ f) → IsRefusal e w.at r
+      of (Err q) is rest = subst (λ (error : SearchError). IsRefusal e w.at error) (sym (err-same r q rest)) is
+      of (Ok None) is rest = let k : Err r ≡ Ok None = rest in cc
+      of (Ok (Some f)) is rest = elim (chosen (repeats w (Some (span_of f))) rest) [
+        | inl p ↦ elim p.1 [
+          | inl long ↦ absurd (still-fits e w.at (shifted w).at refl (omega arith) is.0 long.0)
+          | inr memory ↦ inr (is.0, memory.1)
+        ]
+        | inr p ↦ let k : Err r ≡ Ok (Some f) = p.1 in cc
+      ]
+
+  -- a first match comes only of a span that is not too long
+  match-fits : (x : Search) (m : Match) → Step (fresh x) (Ok (Some (found_of m))) → ¬ (IsTooLong e x)
+  match-fits x m h = λ long.
+      let k : Ok (Some (found_of m)) ≡ Err (HaystackTooLong (span_len x)) =
+      long-step x (Ok (Some (found_of m))) long h in cc
+
+  none-after : (xs : List (Result Match SearchError)) (i : Result Match SearchError) → ¬ (xs ++ i ∷ [] ≡ [])
+  none-after [] i is = cc
+  none-after (y ∷ ys) i is = cc
+
+  -- the last of some items of a search that is not too long
+  last-by-length : (x : Search) (xs : List (Result Match SearchError)) (i : Result Match SearchError) (w : Walk)
+      → ¬ (IsTooLong e x) → x.start ≤ w.at.start → w.at.end ≡ x.end → Next w (xs ++ i ∷ []) → AnswersByLength e x i
+  last-by-length x [] (Ok m) w fits from to h = fits
+  last-by-length x [] (Err r) w fits from to h = inr (fits, memory-step w r (still-fits e x w.at to from fits) h.0)
+  last-by-length x (Ok m ∷ xs) i w fits from to h =
+      let k = step-lies span_of tells (find-lies e) w (found_of m) h.0 in
+      last-by-length x xs i (after w (Some (span_of (found_of m)))) fits (omega (arith, k.0, k.1)) to h.1
+  last-by-length x (Err r ∷ xs) i w fits from to h = absurd (none-after xs i (no-items (xs ++ i ∷ []) h.1))
+
+  -- and of any search
+  item-by-length : (x : Search) (xs : List (Result Match SearchError)) (i : Result Match SearchError)
+      → Next (fresh x) (xs ++ i ∷ []) → AnswersByLength e x i
+  item-by-length x [] (Ok m) h = match-fits x m h.0
+  item-by-length x [] (Err r) h = error-step (fresh x) r h.0
+  item-by-length x (Ok m ∷ xs) i h =
+      last-by-length x (Ok m ∷ xs) i (fresh x) (match-fits x m h.0) (omega arith) refl h
+  item-by-length x (Err r ∷ xs) i h = absurd (none-after xs i (no-items (xs ++ i ∷ []) h.1))
+
+  -- matches alone come of no search that is too long
+  oks-fit : (x : Search) (ms : List Match) → Last (fresh x) (oked ms) → ¬ (IsTooLong e x)
+  oks-fit x [] h = λ long.
+      let k : oked [] ≡ Err (HaystackTooLong (span_len x)) ∷ [] = long-items x (oked []) long h in cc
+  oks-fit x (m ∷ ms) h = λ long.
+      let k : oked (m ∷ ms) ≡ Err (HaystackTooLong (span_len x)) ∷ [] = long-items x (oked (m ∷ ms)) long h in cc
+
   module _ (x : Search) (s : TryFindMatches) (engine : find_engine s ≡ e) (walk : find_walk s ≡ fresh x)
       (going : find_is_done s ≡ false) where
     abbrev core : Steps Asked → Option (Result Match SearchError) → Steps Asked → Type 0
@@ -256,3 +308,11 @@ module _ (e : Backtracker) where
     gives-next-match = λ xs t i u ms m ran st is ok.
         gives-first-matches (xs ++ i ∷ []) u (ms ++ m ∷ []) (yields-more find_steps xs s t u i ran st)
         (oks xs ms i m is ok)
+
+    pub gives-by-length : GivesByLength e x s
+    gives-by-length = λ xs t i u ran st.
+        item-by-length x xs i (first-come (xs ++ i ∷ []) u (yields-more find_steps xs s t u i ran st))
+
+    pub ends-by-length : EndsByLength e x s
+    ends-by-length = λ xs t u ms ran st is.
+        oks-fit x ms (subst (λ (l : List (Result Match SearchError)). Last (fresh x) l) is (all-come xs t u ran st))

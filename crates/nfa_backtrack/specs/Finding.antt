@@ -1,5 +1,5 @@
 -- What a backtracker answers where a match is asked for.
-use Rattle.std.specs.Prelude.{◌≡◌, ◌≤◌, ◌*◌, ◌+◌, ◌⊎◌, false, Option, Ok, Err}
+use Rattle.std.specs.Prelude.{◌≡◌, ◌≤◌, ◌*◌, ◌+◌, ◌⊎◌, false, Option, Result, Ok, Err}
 use Rattle.std.specs.Option.{ForSome}
 use Rattle.regex_search_core.specs.Found.{Found, found_of}
 use Rattle.regex_search_core.specs.Search.{Search}
@@ -19,6 +19,11 @@ use Rattle.nfa_backtrack.specs.Backtrack.{IsTooLong}
 abbrev pub IsRefusal : Backtracker → Search → SearchError → Type 0
 IsRefusal e x error = (IsTooLong e x × (error ≡ HaystackTooLong (span_len x)))
     ⊎ (¬ (IsTooLong e x) × (error ≡ Memory))
+
+-- an answer comes only where the span is not too long, and an error is a refusal
+abbrev pub AnswersByLength : {Y : Type 0} → Backtracker → Search → Result Y SearchError → Type 0
+AnswersByLength e x (Ok y) = ¬ (IsTooLong e x)
+AnswersByLength e x (Err error) = IsRefusal e x error
 
 -- what one search for a match answers: its match, or a refusal
 abbrev pub IsFindOf : Backtracker → Search → Answer Found → Type 0

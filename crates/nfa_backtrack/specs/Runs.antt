@@ -14,7 +14,7 @@ use Rattle.nfa_search_base.specs.declared.error.SearchError.{SearchError}
 use Rattle.nfa_search_base.specs.declared.error.SearchError.TheVariants.{HaystackTooLong, Memory}
 use Rattle.nfa_backtrack.specs.Backtrack.{Backtracker, IsTooLong}
 use Rattle.nfa_backtrack.specs.FindMatches.{find_steps}
-use Rattle.nfa_backtrack.specs.Finding.{IsFindOf}
+use Rattle.nfa_backtrack.specs.Finding.{AnswersByLength, IsFindOf}
 use Rattle.nfa_backtrack.specs.declared.find_iter.TryFindMatches.{TryFindMatches}
 
 -- the first items of an iteration over x
@@ -81,3 +81,13 @@ GivesNextMatch e x s = (xs : List (Result Match SearchError)) (t : TryFindMatche
     (u : TryFindMatches)
     (ms : List Match) (m : Match) → Yields find_steps s xs t → find_steps t (Some i) u → xs ≡ map Ok ms → i ≡ Ok m
     → AreFirstMatches e.nfa LeftmostFirst false x (map found_of (ms ++ m ∷ []))
+
+-- an item is `Ok` only where the span is not too long, and else a refusal
+abbrev pub GivesByLength : Backtracker → Search → TryFindMatches → Type 0
+GivesByLength e x s = (xs : List (Result Match SearchError)) (t : TryFindMatches) (i : Result Match SearchError)
+    (u : TryFindMatches) → Yields find_steps s xs t → find_steps t (Some i) u → AnswersByLength e x i
+
+-- and they end without an error only where it is not too long
+abbrev pub EndsByLength : Backtracker → Search → TryFindMatches → Type 0
+EndsByLength e x s = (xs : List (Result Match SearchError)) (t u : TryFindMatches) (ms : List Match)
+    → Yields find_steps s xs t → find_steps t None u → xs ≡ map Ok ms → ¬ (IsTooLong e x)

@@ -10,6 +10,7 @@ use crate::engine::BoundedBacktracker;
 use nfa_search_base::error::SearchError;
 use nfa_search_base::iter::{Searcher, Searches, Steps};
 use regex_search_core::{Input, Match, Span};
+use std::alloc::Global;
 
 /// The matches of an input that do not overlap, from left to right: what [`BoundedBacktracker::try_find_iter`] gives.
 ///
@@ -31,14 +32,17 @@ struct Finder<'r> {
 }
 
 impl BoundedBacktracker {
-    ghost use Rattle.std.specs.Prelude.{false};
+    ghost use Rattle.std.specs.Prelude.{false, All, IfOk, None, map};
     ghost use Rattle.regex_search_core.specs.Found.{found_of};
+    ghost use Rattle.regex_search_core.specs.declared.search.MatchKind.TheVariants.{LeftmostFirst};
     ghost use Rattle.nfa_search_base.specs.Finders.{answer_by};
-    ghost use Rattle.nfa_backtrack.specs.Finding.{IsFindOf, SearchesOnce};
+    ghost use Rattle.nfa_search_base.specs.Lists.{AreMatches, AreApart, IsInside};
+    ghost use Rattle.nfa_backtrack.specs.Finding.{AnswersByLength, IsFindOf, SearchesOnce};
     ghost use Rattle.nfa_search_base.specs.Walks.{fresh};
     ghost use Rattle.nfa_backtrack.specs.FindMatches.{find_cache, find_engine, find_is_done, find_walk};
     ghost use Rattle.nfa_backtrack.specs.Runs.{RunsGive, RunsMatch, RunsApart, RunsInside, RunsRefused};
     ghost use Rattle.nfa_backtrack.specs.Runs.{GivesFirst, GivesFirstMatches, GivesAllMatches, GivesNext, GivesNextMatch};
+    ghost use Rattle.nfa_backtrack.specs.Runs.{GivesByLength, EndsByLength};
 
     /// The matches of the input that do not overlap, from left to right. To make this takes no memory.
     ///
@@ -66,6 +70,9 @@ impl BoundedBacktracker {
         ensures next { GivesNext self.now (search_of input.entry) result }
         ensures next_match { GivesNextMatch self.now (search_of input.entry) result }
         ensures all_matches { GivesAllMatches self.now (search_of input.entry) result }
+        // A match comes, and an end without an error, only where the span is not too long; an error is its refusal.
+        ensures by_length { GivesByLength self.now (search_of input.entry) result }
+        ensures end { EndsByLength self.now (search_of input.entry) result }
     {
         TryFindMatches {
             cache,
@@ -78,6 +85,30 @@ impl BoundedBacktracker {
                 done: false,
             },
         }
+    }
+
+    /// All matches of the input that do not overlap, from left to right.
+    ///
+    /// # Errors
+    ///
+    /// `HaystackTooLong` exactly where the span is too long, and else `Memory`, where a growth was refused.
+    pub fn try_find_all(
+        &self,
+        alloc: Global,
+        cache: &mut Cache,
+        input: Input<'_>,
+    ) -> Result<Vec<Match>, SearchError>
+        ensures all { IfOk result (λ found.
+            AreMatches self.now.nfa LeftmostFirst false (search_of input.entry) (map found_of found.items)) }
+        ensures apart { IfOk result (λ found. AreApart (search_of input.entry) None (map found_of found.items)) }
+        ensures inside { IfOk result (λ found. All (λ m. IsInside (search_of input.entry) (found_of m)) found.items) }
+        ensures by_length { AnswersByLength self.now (search_of input.entry) result }
+    {
+        let mut found = Vec::new(alloc);
+        for item in self.try_find_iter(cache, input) {
+            found.push(item?)?;
+        }
+        Ok(found)
     }
 
     // The match of one search, and the work of it.

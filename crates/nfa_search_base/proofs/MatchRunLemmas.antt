@@ -37,7 +37,7 @@ no-more : (xs more : List Found) → xs ≡ xs ++ more → length more ≡ 0
 no-more xs more e = omega (arith, ap length e, length-append xs more)
 
 -- matches that are apart are in the span
-all-inside : (x : Search) (last : Option ℕ) (ms : List Match) → AreApart x last (map found_of ms)
+pub all-inside : (x : Search) (last : Option ℕ) (ms : List Match) → AreApart x last (map found_of ms)
     → All (λ m. IsInside x (found_of m)) ms
 all-inside x last [] h = All-nil (λ m. IsInside x (found_of m))
 all-inside x last (m ∷ ms) h = All-cons (λ m. IsInside x (found_of m)) m ms h.0

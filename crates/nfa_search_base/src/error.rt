@@ -1,5 +1,6 @@
 //! Why a search gives no answer.
 use regex_search_core::{MatchError, Refused};
+use std::alloc::AllocFailed;
 use thiserror::Error;
 
 /// Why a search, or a step of an iteration, gave no answer. Making one takes no memory.
@@ -24,6 +25,17 @@ impl From<MatchError> for SearchError {
 
     fn from(error: MatchError) -> SearchError {
         SearchError::Finder(error)
+    }
+}
+
+impl<T: Drop> From<AllocFailed<T>> for SearchError {
+    ghost use Rattle.std.specs.Prelude.{◌≡◌};
+    ghost use Rattle.nfa_search_base.specs.declared.error.SearchError.TheVariants as error;
+
+    ghost from_gives = { λ _ made. made ≡ error.Memory };
+
+    fn from(_: AllocFailed<T>) -> SearchError {
+        SearchError::Memory
     }
 }
 

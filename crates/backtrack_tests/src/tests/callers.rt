@@ -222,6 +222,7 @@ fn expect_lists(
     expect_items(rt, &first_items(alloc, engine, cache, HAYSTACK)?, 2);
     expect_matches(rt, &looped(alloc, engine, cache, HAYSTACK)?, 6);
     expect_matches(rt, &first_two(alloc, engine, cache, HAYSTACK)?, 2);
+    expect_matches(rt, &engine.try_find_all(alloc, cache, Input::new(HAYSTACK))?, 6);
     Ok(())
 }
 
@@ -285,6 +286,8 @@ fn callers_list_the_refusal_alone(rt: HostRuntime) -> Result<(), Fail> {
     expect_refusal(&rt, alloc, &engine, &mut cache)?;
     expect_refused(&rt, looped(alloc, &engine, &mut cache, b"abc"));
     expect_refused(&rt, first_two(alloc, &engine, &mut cache, b"abc"));
+    let all = engine.try_find_all(alloc, &mut cache, Input::new(b"abc"));
+    expect_refused(&rt, all.map_err(ListError::Search));
     Ok(())
 }
 

@@ -1,6 +1,6 @@
 //! Iterations that were refused memory: a beginning of the list, the refusal once, then nothing.
 
-use super::{Seen, Wrong, engines, expect};
+use super::{Seen, Wrong, engines, expect, made};
 use nfa_engines::backtrack::{BoundedBacktracker, TryFindMatches};
 use nfa_engines::error::SearchError;
 use nfa_engines::iter::Searcher;
@@ -74,5 +74,28 @@ fn expect_list(
 ) -> Result<(), Wrong> {
     let mut cache = engine.create_cache(alloc);
     let mut matches = engine.try_find_iter(&mut cache, Input::new(haystack.as_bytes()));
-    expect_beginning(seen, &mut matches, all)
+    expect_beginning(seen, &mut matches, all)?;
+    expect_listed(alloc, seen, engine, haystack, all)
+}
+
+// As one value the list comes whole, or not at all.
+fn expect_listed(
+    alloc: Global,
+    seen: &mut Seen,
+    engine: &BoundedBacktracker,
+    haystack: &str,
+    all: &[(usize, usize, usize)],
+) -> Result<(), Wrong> {
+    let mut cache = engine.create_cache(alloc);
+    let input = Input::new(haystack.as_bytes());
+    let listed = made!(
+        seen,
+        SearchError::Memory,
+        engine.try_find_all(alloc, &mut cache, input)
+    )?;
+    expect(listed.len() == all.len(), "the number of all matches")?;
+    for (found, want) in listed.iter().zip(all) {
+        expect(parts(*found) == *want, "one of all matches")?;
+    }
+    Ok(())
 }

@@ -3,6 +3,7 @@ use Rattle.std.proofs.Common.{refl}
 use Rattle.regex_search_core.specs.Search.{search_of}
 use Rattle.nfa_backtrack.proofs.RunLemmas.{runs-give_items, runs-match, runs-inside, runs-apart, runs-refused}
 use Rattle.nfa_backtrack.proofs.RunLemmas.{gives-first_items, gives-first-matches, gives-matches, gives-next, gives-next-match}
+use Rattle.nfa_backtrack.proofs.RunLemmas.{gives-by-length, ends-by-length}
 use Rattle.nfa_backtrack.proofs.engine.BoundedBacktracker.try_find_iter.Goals as goal
 
 pub returns-clause-runs : goal.returns-clause-runs
@@ -34,3 +35,9 @@ returns-clause-next c = gives-next c.args.self.now (search_of c.args.input) _ re
 
 pub returns-clause-next_match : goal.returns-clause-next_match
 returns-clause-next_match c = gives-next-match c.args.self.now (search_of c.args.input) _ refl c.new.ensures refl
+
+pub returns-clause-by_length : goal.returns-clause-by_length
+returns-clause-by_length c = gives-by-length c.args.self.now (search_of c.args.input) _ refl c.new.ensures refl
+
+pub returns-clause-end : goal.returns-clause-end
+returns-clause-end c = ends-by-length c.args.self.now (search_of c.args.input) _ refl c.new.ensures refl

@@ -1,0 +1,30 @@
+-- The matches lie in the span; an item that is an error is the refusal of its length, or of memory.
+use Rattle.std.proofs.Common.{rules, false, map, None}
+use Rattle.regex_search_core.specs.Found.{found_of}
+use Rattle.regex_search_core.specs.Search.{search_of}
+use Rattle.regex_search_core.specs.declared.search.MatchKind.TheVariants.{LeftmostFirst}
+use Rattle.nfa_search_base.specs.Lists.{AreFirstMatches}
+use Rattle.nfa_search_base.proofs.ListLemmas.{matches-apart}
+use Rattle.nfa_search_base.proofs.MatchRunLemmas.{all-inside}
+use Rattle.nfa_backtrack.specs.Finding.{AnswersByLength}
+use Rattle.nfa_backtrack.proofs.engine.BoundedBacktracker.try_find_all.Goals as goal
+
+pub returns-clause-inside : goal.returns-clause-inside
+returns-clause-inside c =
+    let nfa = c.args.self.now.nfa in
+    let x = search_of c.args.input in
+    let all = c.loop-item.found.items in
+    let first : AreFirstMatches nfa LeftmostFirst false x (map found_of all) = search rules in
+    all-inside x None all (matches-apart nfa LeftmostFirst false x (map found_of all) first)
+
+pub returns-in_err-item-clause-by_length : goal.returns-in_err-item-clause-by_length
+returns-in_err-item-clause-by_length c =
+    let told : AnswersByLength c.args.self.now (search_of c.args.input) c.in-Some.item = search rules in
+    let refused = rw c.in_err-item.was at told in
+    search rules
+
+pub returns-in_err-push-clause-by_length : goal.returns-in_err-push-clause-by_length
+returns-in_err-push-clause-by_length c =
+    let told : AnswersByLength c.args.self.now (search_of c.args.input) c.in-Some.item = search rules in
+    let fits = rw c.in_ok-item.was at told in
+    search rules
