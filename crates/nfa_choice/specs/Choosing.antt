@@ -4,8 +4,9 @@ use Rattle.regex_search_core.specs.Search.{Search}
 use Rattle.regex_search_core.specs.declared.search.MatchKind.{MatchKind}
 use Rattle.regex_search_core.specs.declared.search.MatchKind.TheVariants.{All, LeftmostFirst}
 use Rattle.thompson_nfa.specs.Automaton.{Automaton}
-use Rattle.nfa_paths.specs.Paths.{span_len, scan_limit, turn_weight}
-use Rattle.nfa_backtrack.specs.Backtrack.{Backtracker, Work, AddsWork, CountsAnswer, CountsRefusal, max_haystack_len_of}
+use Rattle.nfa_paths.specs.Paths.{span_len, scan_limit, turn_weight, IsWork, IsWithinScans}
+use Rattle.nfa_backtrack.specs.Backtrack.{Backtracker, Work, AddsWork, CountsAnswer, CountsRefusal, GrowsBlocks}
+use Rattle.nfa_backtrack.specs.Backtrack.{max_haystack_len_of}
 use Rattle.nfa_pikevm.specs.Engines.{Pike, PikeCache, AddsWork as AddsPikeWork, Fits, SameNumbers, kind_of, refitted}
 use Rattle.nfa_choice.specs.declared.choose.Engine.{Engine}
 use Rattle.nfa_choice.specs.declared.choose.Engine.TheVariants as engine
@@ -45,12 +46,15 @@ pub record IsBounded (nfa : Automaton) (x : Search) (scanned turned : ℕ) : Typ
   pub scans : scanned ≤ scan_limit nfa x
   pub turns : turned ≤ scanned * ((1 + turn_weight nfa) * (span_len x + 1))
 
-module _ (x : Search) where
+-- The PikeVM searches for the `earliest` match, or not.
+module _ (x : Search) (earliest : Bool) where
   -- the backtracker answered, and the PikeVM was not asked
   pub record BacktrackerRan (old new : Choosing) : Type 0 where
     pub counts : CountsAnswer old.back new.back
     pub work : AddsWork old.back new.back
+    pub exact : IsWork old.nfa LeftmostFirst false x new.back.scans new.back.turns
     pub bounded : IsBounded old.nfa x new.back.scans new.back.turns
+    pub blocks : GrowsBlocks old.nfa x old.back.blocks new.back.blocks
     pub ran : new.ran ≡ Some engine.Backtracker
     pub pike : new.pike ≡ old.pike
 
@@ -58,8 +62,11 @@ module _ (x : Search) where
   pub record PikeStoodIn (old new : Choosing) : Type 0 where
     pub counts : CountsRefusal old.back new.back
     pub tried : AddsWork old.back new.back
-    pub tried_within : IsBounded old.nfa x new.back.scans new.back.turns
+    pub tried_within : IsWithinScans old.nfa LeftmostFirst false x new.back.scans
+    pub tried_bounded : IsBounded old.nfa x new.back.scans new.back.turns
+    pub blocks : GrowsBlocks old.nfa x old.back.blocks new.back.blocks
     pub work : AddsPikeWork old.pike new.pike
+    pub exact : IsWork old.nfa (kind_in old) earliest x new.pike.scans new.pike.turns
     pub bounded : IsBounded old.nfa x new.pike.scans new.pike.turns
     pub ran : new.ran ≡ Some engine.PikeVM
 
@@ -67,14 +74,15 @@ module _ (x : Search) where
   pub record PikeRan (old new : Choosing) : Type 0 where
     pub back : new.back ≡ old.back
     pub work : AddsPikeWork old.pike new.pike
+    pub exact : IsWork old.nfa (kind_in old) earliest x new.pike.scans new.pike.turns
     pub bounded : IsBounded old.nfa x new.pike.scans new.pike.turns
     pub ran : new.ran ≡ Some engine.PikeVM
 
 -- which engine ran, by the rule
-abbrev pub RunsByRule : Choosing → Search → Choosing → Type 0
-RunsByRule old x new = MatchBool (is_for_backtracker old x)
-    (BacktrackerRan x old new ⊎ PikeStoodIn x old new)
-    (PikeRan x old new)
+abbrev pub RunsByRule : Choosing → Search → Bool → Choosing → Type 0
+RunsByRule old x earliest new = MatchBool (is_for_backtracker old x)
+    (BacktrackerRan x earliest old new ⊎ PikeStoodIn x earliest old new)
+    (PikeRan x earliest old new)
 
 -- what a search leaves as it is
 pub record KeepsEngines (old new : Choosing) : Type 0 where

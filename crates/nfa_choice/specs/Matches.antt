@@ -28,7 +28,7 @@ may_ask s x = ⊤
 -- One search by the engine that the rule names may answer this.
 pub record AsksByRule (s : Asked) (x : Search) (a : Answer Found) (t : Asked) : Type 0 where
   pub finds : TellsMatch s.cache.nfa (kind_in s.cache) x.earliest x a
-  pub runs : RunsByRule s.cache x t.cache
+  pub runs : RunsByRule s.cache x x.earliest t.cache
   pub keeps : KeepsEngines s.cache t.cache
 
 -- the iterator with what the choice shows

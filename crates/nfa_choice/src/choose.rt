@@ -9,11 +9,13 @@
 //!     println!(rt; "{}..{}", found.start(), found.end())?;
 //! }
 //! ```
-ghost use Rattle.std.specs.Prelude.{◌≡◌, length, None, Some, Ok, false, option_map, IfOk, OnOk, OnErr, IsOkUnless};
+ghost use Rattle.std.specs.Prelude.{◌≡◌, ◌<◌, length, replicate, not, None, Some, Ok, false, option_map};
+ghost use Rattle.std.specs.Prelude.{All, IfOk, IfNone, IfSome, OnOk, OnErr, IsOkUnless};
 ghost use Rattle.regex_search_core.specs.Search.{search_of};
 ghost use Rattle.regex_search_core.specs.Patterns.{number_of};
 ghost use Rattle.regex_search_core.specs.Found.{found_of};
-ghost use Rattle.nfa_paths.specs.Paths.{IsAnswer, IsMatchAnswer, IsFoundAnswer};
+ghost use Rattle.nfa_paths.specs.Paths.{IsAnswer, IsMatchAnswer, IsFoundAnswer, is_utf8_empty};
+ghost use Rattle.nfa_search_base.specs.Lists.{IsInside, IsSlotInside};
 ghost use Rattle.nfa_backtrack.specs.Backtrack.{unused};
 ghost use Rattle.nfa_pikevm.specs.Engines.{cache_for};
 ghost use Rattle.nfa_choice.specs.Choosing.{is_for_backtracker, kind_in, IsRefitted, KeepsEngines, RunsByRule};
@@ -176,7 +178,9 @@ impl Choice {
     ) -> Option<PatternID>
         ensures answer { IsAnswer self.old.nfa (kind_in self.old) (search_of input.now).earliest (search_of input.now)
             (option_map number_of result) slots.new }
-        ensures runs { RunsByRule self.old (search_of input.now) self.new }
+        ensures pattern { IfSome result (λ p. number_of p < length self.old.nfa.patterns) }
+        ensures inside { All (IsSlotInside (search_of input.now)) slots.new }
+        ensures runs { RunsByRule self.old (search_of input.now) (search_of input.now).earliest self.new }
         ensures keeps { KeepsEngines self.old self.new }
     {
         if self.is_for_backtracker(input) {
@@ -200,7 +204,11 @@ impl Choice {
             captures.new.pattern captures.new.slots }
         ensures groups { captures.new.groups ≡ captures.old.groups }
         ensures count { length captures.new.slots ≡ length captures.old.slots }
-        ensures runs { RunsByRule self.old (search_of input.now) self.new }
+        ensures unmatched { IfNone captures.new.pattern
+            (captures.new.slots ≡ replicate (length captures.old.slots) None) }
+        ensures pattern { IfSome captures.new.pattern (λ p. p < length self.old.nfa.patterns) }
+        ensures inside { All (IsSlotInside (search_of input.now)) captures.new.slots }
+        ensures runs { RunsByRule self.old (search_of input.now) (search_of input.now).earliest self.new }
         ensures keeps { KeepsEngines self.old self.new }
     {
         if self.is_for_backtracker(input) {
@@ -217,7 +225,9 @@ impl Choice {
     pub fn find<'h>(&mut self, input: Input<'h>) -> Option<Match>
         ensures answer { IsMatchAnswer self.old.nfa (kind_in self.old) (search_of input.entry).earliest (search_of input.entry)
             (option_map found_of result) }
-        ensures runs { RunsByRule self.old (search_of input.entry) self.new }
+        ensures pattern { IfSome result (λ m. (found_of m).pattern < length self.old.nfa.patterns) }
+        ensures inside { IfSome result (λ m. IsInside (search_of input.entry) (found_of m)) }
+        ensures runs { RunsByRule self.old (search_of input.entry) (search_of input.entry).earliest self.new }
         ensures keeps { KeepsEngines self.old self.new }
     {
         if self.is_for_backtracker(&input) {
@@ -233,7 +243,7 @@ impl Choice {
     /// Whether a search of the input without `earliest` finds a match.
     pub fn is_match<'h>(&mut self, input: Input<'h>) -> bool
         ensures answer { IsFoundAnswer self.old.nfa (kind_in self.old) false (search_of input.entry) result }
-        ensures runs { RunsByRule self.old (search_of input.entry) self.new }
+        ensures runs { RunsByRule self.old (search_of input.entry) (not (is_utf8_empty self.old.nfa)) self.new }
         ensures keeps { KeepsEngines self.old self.new }
     {
         if self.is_for_backtracker(&input) {
