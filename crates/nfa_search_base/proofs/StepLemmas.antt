@@ -1,5 +1,5 @@
 -- a step of an iteration by a finder
-use Rattle.std.proofs.Common.{◌≡◌, ◌∙◌, true, false, Bool, Option, None, Some, Result, IsOk, refl, sym, ap, subst, ◌⊎◌, inl, inr, MatchBool}
+use Rattle.std.proofs.Common.{◌≡◌, ◌∙◌, true, false, Bool, Option, None, Some, Result, IsOk, refl, sym, ap, subst, ◌⊎◌, inl, inr, MatchBool, arith}
 use Rattle.std.specs.Fn.{Called, Mut}
 use Rattle.std.specs.Borrow.{Bor}
 use Rattle.regex_search_core.specs.Search.{Search, search_of}
@@ -123,6 +123,11 @@ module _ {S X : Type 0} (accepts : S → Search → Type 0) (asks : S → Search
     | inr p ↦ subst (λ (b : Answer X). IsOk b) (sym p.1.0) (h.first.replies step.answer step.between step.first).1
   ]
 
+-- what lies in a span that starts one on lies in this one
+lies-before : (w : Walk) (place : Option Span) → LiesIn (shifted w).at place → LiesIn w.at place
+lies-before w (Some p) inside = (omega (arith, inside.0), inside.1)
+lies-before w None inside = tt
+
 -- What is asked for a step of the iteration w, from the state s.
 module _ {S X : Type 0} (accepts : S → Search → Type 0) (asks : S → Search → Answer X → S → Type 0) (span : X → Span)
     (s : S) (w : Walk)
@@ -141,6 +146,7 @@ module _ {S X : Type 0} (accepts : S → Search → Type 0) (asks : S → Search
       (LeavesFewer-first w place lies ordered rises) in
       record {
         step = record { answer = a; between = s'; first = asked; rest = rw not_again (refl, refl, here) };
+        inside = (serves.first).replies a s' asked;
         rises = subst (λ (p : Option Span). ComesAfter w p) is rises;
         fewer = subst (λ (p : Option Span). LeavesFewer w p w') is fewer;
         same = subst (λ (v : Walk). SameButStart w.at v.at) (sym moved) (same_start-after w place);
@@ -168,6 +174,7 @@ module _ {S X : Type 0} (accepts : S → Search → Type 0) (asks : S → Search
           first = asked;
           rest = rw repeated (there, here ∙ ap (λ (p : Option Span). after (shifted w) p) is);
         };
+        inside = lies-before w (place_of span a) inside;
         rises = subst (λ (p : Option Span). ComesAfter w p) is rises;
         fewer = subst (λ (p : Option Span). LeavesFewer w p w') is fewer;
         same = subst (λ (v : Walk). SameButStart w.at v.at) (sym here) (same_start-after_shifted w place);

@@ -1,7 +1,8 @@
 -- the iteration of a `Searcher`
-use Rattle.std.specs.Prelude.{◌≡◌, true, false, Option, Ok}
+use Rattle.std.specs.Prelude.{◌≡◌, true, false, Option, None, Ok}
 use Rattle.regex_search_core.specs.Search.{search_of}
 use Rattle.regex_search_core.specs.declared.search.Match.{Match}
+use Rattle.regex_search_core.specs.declared.search.Span.{Span}
 use Rattle.nfa_search_base.specs.Walks.{Walk, IsPast, repeats, after, shifted}
 use Rattle.nfa_search_base.specs.Finders.{match_place}
 use Rattle.nfa_search_base.specs.declared.iter.searcher.Searcher.{Searcher}
@@ -22,3 +23,8 @@ OfferGives w o Again w' = (repeats w (match_place (Ok o)) ≡ true) × (w' ≡ s
 abbrev pub IsDone : Offered → Type 0
 IsDone (Done p) = Unit {0}
 IsDone Again = ⊥
+
+-- where the match lies that is done with
+abbrev pub offered_place : Offered → Option Span
+offered_place (Done p) = match_place (Ok p)
+offered_place Again = None

@@ -4,7 +4,7 @@ use Rattle.std.specs.List.{FoldsTo}
 use Rattle.regex_search_core.specs.Search.{Search}
 use Rattle.regex_search_core.specs.declared.search.Span.{Span}
 use Rattle.nfa_search_base.specs.Likes.{SameButStart}
-use Rattle.nfa_search_base.specs.Walks.{Answer, Walk, place_of, repeats, shifted, Advances, ComesAfter, LeavesFewer}
+use Rattle.nfa_search_base.specs.Walks.{Answer, Walk, place_of, repeats, shifted, Advances, LiesIn, ComesAfter, LeavesFewer}
 
 -- In the state s it `accepts` a search t, and then a call on t `asks` it, which gives a reply and leaves a state.
 module _ {S R : Type 0} (accepts : S → Search → Type 0) (asks : S → Search → R → S → Type 0) where
@@ -41,10 +41,11 @@ module _ {S X : Type 0} (accepts : S → Search → Type 0) (asks : S → Search
     pub second : (a : Answer X) (s' : S) → asks s w.at a s' → repeats w (place_of span a) ≡ true
         → ServesOn accepts asks P s' (shifted w).at
 
-  -- what a step gives: it is one of the iteration, its match comes after the last one and leaves fewer ends, and only
-  -- the search's start moved
+  -- what a step gives: it is one of the iteration, its match lies in the search's span, comes after the last one and
+  -- leaves fewer ends, and only the search's start moved
   pub record StepDone (s : S) (w : Walk) (a : Answer X) (s' : S) (w' : Walk) : Type 0 where
     pub step : Advances span asks s w a s' w'
+    pub inside : LiesIn w.at (place_of span a)
     pub rises : ComesAfter w (place_of span a)
     pub fewer : LeavesFewer w (place_of span a) w'
     pub same : SameButStart w.at w'.at

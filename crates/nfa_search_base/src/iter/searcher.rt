@@ -51,7 +51,7 @@ impl<'h> Searcher<'h> {
     ghost use Rattle.nfa_search_base.specs.Asking.{SameButStart};
     ghost use Rattle.nfa_search_base.specs.Walks.{IsInside, fresh, shifted, after, repeats, LiesIn, IsPast, ComesAfter, LeavesFewer};
     ghost use Rattle.nfa_search_base.specs.Finders.{match_place, half_place, FindsStep, FindsStepSurely, StepsBy, FindsHalfStep, FindsHalfStepSurely, HalfStepsBy};
-    ghost use Rattle.nfa_search_base.specs.Searchers.{walk_of, OfferGives, IsDone};
+    ghost use Rattle.nfa_search_base.specs.Searchers.{walk_of, offered_place, OfferGives, IsDone};
     ghost use Rattle.nfa_search_base.specs.Serving.{ServesTurn, StepDone};
 
     /// The iteration over the matches of this input, before its first.
@@ -83,6 +83,8 @@ impl<'h> Searcher<'h> {
         ensures gives { OfferGives (walk_of self.old) answer result (walk_of self.new) }
         // The answer that follows an `Again` is done.
         ensures once { IsPast (walk_of self.old) → IsDone result }
+        ensures rises { ComesAfter (walk_of self.old) (offered_place result) }
+        ensures fewer { LeavesFewer (walk_of self.old) (offered_place result) (walk_of self.new) }
         ensures same { SameButStart (walk_of self.old).at (walk_of self.new).at }
     {
         let place = match_span(Ok(answer));
@@ -109,6 +111,7 @@ impl<'h> Searcher<'h> {
         F: FnMut(&Input<'_>) -> Result<Option<Match>, SearchError>,
         requires { FindsStep F.FnMut finder (walk_of self.old) }
         ensures step { (left : F) × StepsBy F.FnMut finder (walk_of self.old) result left (walk_of self.new) }
+        ensures inside { LiesIn (walk_of self.old).at (match_place result) }
         ensures rises { ComesAfter (walk_of self.old) (match_place result) }
         ensures fewer { LeavesFewer (walk_of self.old) (match_place result) (walk_of self.new) }
         ensures same { SameButStart (walk_of self.old).at (walk_of self.new).at }
@@ -123,6 +126,7 @@ impl<'h> Searcher<'h> {
         F: FnMut(&Input<'_>) -> Result<Option<Match>, SearchError>,
         requires { FindsStepSurely F.FnMut finder (walk_of self.old) }
         ensures step { (left : F) × StepsBy F.FnMut finder (walk_of self.old) (Ok result) left (walk_of self.new) }
+        ensures inside { LiesIn (walk_of self.old).at (match_place (Ok result)) }
         ensures rises { ComesAfter (walk_of self.old) (match_place (Ok result)) }
         ensures fewer { LeavesFewer (walk_of self.old) (match_place (Ok result)) (walk_of self.new) }
         ensures same { SameButStart (walk_of self.old).at (walk_of self.new).at }
@@ -143,6 +147,7 @@ impl<'h> Searcher<'h> {
         F: FnMut(&Input<'_>) -> Result<Option<HalfMatch>, SearchError>,
         requires { FindsHalfStep F.FnMut finder (walk_of self.old) }
         ensures step { (left : F) × HalfStepsBy F.FnMut finder (walk_of self.old) result left (walk_of self.new) }
+        ensures inside { LiesIn (walk_of self.old).at (half_place result) }
         ensures rises { ComesAfter (walk_of self.old) (half_place result) }
         ensures fewer { LeavesFewer (walk_of self.old) (half_place result) (walk_of self.new) }
         ensures same { SameButStart (walk_of self.old).at (walk_of self.new).at }
@@ -157,6 +162,7 @@ impl<'h> Searcher<'h> {
         F: FnMut(&Input<'_>) -> Result<Option<HalfMatch>, SearchError>,
         requires { FindsHalfStepSurely F.FnMut finder (walk_of self.old) }
         ensures step { (left : F) × HalfStepsBy F.FnMut finder (walk_of self.old) (Ok result) left (walk_of self.new) }
+        ensures inside { LiesIn (walk_of self.old).at (half_place (Ok result)) }
         ensures rises { ComesAfter (walk_of self.old) (half_place (Ok result)) }
         ensures fewer { LeavesFewer (walk_of self.old) (half_place (Ok result)) (walk_of self.new) }
         ensures same { SameButStart (walk_of self.old).at (walk_of self.new).at }
