@@ -24,7 +24,7 @@ abbrev IsWithin : Search → ℕ → Type 0
 IsWithin x i = (x.start ≤ i) × (i ≤ x.end)
 
 -- the two offsets that make a match
-offsets : (slots : List (Option ℕ)) (p : ℕ) (f : Found) → match_of (Some p) slots ≡ Some f
+pub offsets : (slots : List (Option ℕ)) (p : ℕ) (f : Found) → match_of (Some p) slots ≡ Some f
     → (offset_at slots (2 * p) ≡ Some f.start) × (offset_at slots (2 * p + 1) ≡ Some f.end) × (f.start ≤ f.end)
 offsets slots p f = of (offset_at slots (2 * p)) (offset_at slots (2 * p + 1))
   where

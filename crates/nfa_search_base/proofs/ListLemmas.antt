@@ -22,7 +22,7 @@ use Rattle.std.specs.Option.{option_and_then}
 use Rattle.nfa_search_base.specs.Asking.{SameButStart}
 use Rattle.nfa_search_base.specs.Behind.{IsBehind}
 use Rattle.nfa_search_base.specs.Items.{Item, matches_in, items_from, items_within, greedy, step_answer, step_walk}
-use Rattle.nfa_search_base.specs.Lists.{IsStep, Fails, ItemsNext, ItemsLast, IsInside, AreApart}
+use Rattle.nfa_search_base.specs.Lists.{IsStep, Fails, ItemsNext, ItemsLast, IsInside, AreApart, AreSpansApart}
 use Rattle.nfa_search_base.specs.Lists.{TellsMatch, ComeNext, ComeLast, AreFirstMatches, AreMatches}
 use Rattle.nfa_search_base.specs.Walks.{Walk, Answer, Advances, LiesIn, ComesAfter, IsInside as AnswersInside}
 use Rattle.nfa_search_base.specs.Walks.{fresh, repeats, shifted, after, place_of, span_of, ends_left}
@@ -169,6 +169,19 @@ module _ {X : Type 0} (span : X → Span) (tells : Search → Answer X → Type 
         → ends_left (past w x) < ends_left w
     step-fewer w x behind h =
         Advances-fewer span asks (λ s t a s' k. lies t a k) tt w (Ok (Some x)) tt (past w x) behind (advances w x h)
+
+    -- so the matches lie in the span of any search that began before, in order and apart
+    pub spans-apart : (ends : Walk → SearchError → Type 0) (x : Search) (w : Walk) (items : List (Item X))
+        → x.start ≤ w.at.start → w.at.end ≡ x.end → IsBehind w.last w.at.start → ItemsNext span tells ends w items
+        → AreSpansApart x w.last (map span (matches_in items))
+    spans-apart ends x w [] from to behind h = tt
+    spans-apart ends x w (Err e ∷ items) from to behind h = rw h.1 tt
+    spans-apart ends x w (Ok m ∷ items) from to behind h =
+        let k = step-lies w m h.0 in (
+          (omega (arith, k.0, from), k.1, omega (arith, k.2, to)),
+          step-behind w m behind h.0,
+          spans-apart ends x (past w m) items (omega (arith, k.0, k.1, from)) to (behind-after (span m).end) h.1,
+        )
 
     -- so there are at most as many matches as ends are left
     pub next-few : (ends : Walk → SearchError → Type 0) (w : Walk) (items : List (Item X))

@@ -1,28 +1,68 @@
 -- What a stored finder of captures may answer, its iterator gives.
-use Rattle.std.proofs.Common.{◌≡◌, false, List, [], ◌∷◌, ◌++◌, refl}
-use Rattle.std.proofs.Common.{Option, None, Result}
+use Rattle.std.proofs.Common.{◌≡◌, ℕ, ◌≤◌, false, List, [], ◌∷◌, ◌++◌, map, refl, sym, ap, subst, arith}
+use Rattle.std.proofs.Common.{Option, None, Some, Result, Ok, Err}
+use Rattle.std.specs.Prelude.{unwrap_or}
+use Rattle.std.specs.Option.{option_map}
 use Rattle.std.specs.Fn.{Mut}
 use Rattle.std.specs.Borrow.{Bor, MutBor}
 use Rattle.std.specs.Iterator.{Yields}
 use Rattle.std.proofs.lemmas.Fn.{FoldsTo-push}
 use Rattle.regex_search_core.specs.Search.{Search}
-use Rattle.regex_search_core.specs.Slots.{Captured}
+use Rattle.regex_search_core.specs.Found.{Found}
+use Rattle.regex_search_core.specs.Slots.{Captured, match_of}
 use Rattle.regex_search_core.specs.declared.search.Input.{Input}
+use Rattle.regex_search_core.specs.declared.search.Span.{Span}
+use Rattle.nfa_paths.proofs.InsideLemmas.{offsets}
 use Rattle.nfa_search_base.specs.Asking.{SameButStart}
-use Rattle.nfa_search_base.specs.Catching.{Row, Catching, CanCatch, Catches, GivesCaptures, row_of, row_span}
+use Rattle.nfa_search_base.specs.Catching.{Row, Catching, CanCatch, Catches, CatchesAlong, GivesCaptures, row_of, row_span}
+use Rattle.nfa_search_base.specs.Catching.{caught_by, row_found}
+use Rattle.nfa_search_base.specs.Items.{item_by}
 use Rattle.nfa_search_base.specs.CaughtLists.{AreFirstCaught, AreAllCaught}
 use Rattle.nfa_search_base.specs.Lists.{IsStep, FailsOrIsRefused}
 use Rattle.nfa_search_base.specs.Serving.{LeadsOn}
 use Rattle.nfa_search_base.specs.Stored.{steps_walk}
 use Rattle.nfa_search_base.specs.StoredRuns.{MayAnswerRow, caught_steps, CaughtRun, CaughtFirst, CaughtAll}
+use Rattle.nfa_search_base.specs.StoredRuns.{CaughtApart, SureCaughtApart}
 use Rattle.nfa_search_base.specs.StoredRuns.{SureCaughtRun, SureCaughtFirst, SureCaughtAll}
 use Rattle.nfa_search_base.specs.CaughtSteps.{takes_sure_catches}
-use Rattle.nfa_search_base.specs.Walks.{Answer}
+use Rattle.nfa_search_base.specs.Walks.{Answer, IsInside, IsSurelyInside, place_of}
 use Rattle.nfa_search_base.specs.declared.error.SearchError.{SearchError}
 use Rattle.nfa_search_base.specs.declared.iter.steps.Steps.{Steps}
 use Rattle.nfa_search_base.proofs.AskingLemmas.{same_start-self}
 use Rattle.nfa_search_base.proofs.CaughtRunLemmas.{copy-says}
+use Rattle.nfa_search_base.proofs.ListLemmas.{spans-apart}
+use Rattle.nfa_search_base.proofs.WalkLemmas.{IsOrdered}
 use Rattle.nfa_search_base.proofs.RunLemmas.{first-from, all-from, runs-give}
+
+-- a match of captures starts not behind its end
+match-ordered : (pattern : Option ℕ) (slots : List (Option ℕ)) (m : Found) → match_of pattern slots ≡ Some m
+    → m.start ≤ m.end
+match-ordered None slots m is = cc
+match-ordered (Some p) slots m is = (offsets slots p m is).2
+
+some-span : {p q : Span} → Some p ≡ Some q → p ≡ q
+some-span e = cc
+
+nowhere : IsOrdered None
+nowhere = λ p is. let never : None ≡ Some p = is in cc
+
+row-ordered : (c : Captured) (reply : Result (Unit {0}) SearchError) (a : Answer Row) → a ≡ caught_by c reply
+    → IsOrdered (place_of row_span a)
+row-ordered c (Err e) a is = subst (λ (b : Answer Row). IsOrdered (place_of row_span b)) (sym is) nowhere
+row-ordered c (Ok u) a is = subst (λ (b : Answer Row). IsOrdered (place_of row_span b)) (sym is)
+    (of (match_of c.pattern c.slots) refl)
+  where
+    none : Found
+    none = record { pattern = 0; start = 0; end = 0 }
+
+    of : (o : Option Found) → match_of c.pattern c.slots ≡ o
+        → IsOrdered (place_of row_span (Ok (option_map (λ m. row_of c) o)))
+    of None e = nowhere
+    of (Some m) e = λ p same.
+        let found : row_found (row_of c) ≡ m = ap (λ (o : Option Found). unwrap_or o none) e in
+        let ordered = match-ordered c.pattern c.slots m e in
+        subst (λ (q : Span). q.start ≤ q.end) (some-span same)
+        (subst (λ (f : Found). f.start ≤ f.end) (sym found) ordered)
 
 module _ {F : Type 0} (g : Mut F (Bor Input × (MutBor Captured × Unit {0}))
     (Result (Unit {0}) SearchError × (MutBor Captured × Unit {0}))) where
@@ -98,3 +138,27 @@ module _ {F : Type 0} (g : Mut F (Bor Input × (MutBor Captured × Unit {0}))
   sure-caught_run s going = runs-give (takes_sure_catches g) (AreFirstCaught (May s) (steps_walk s))
       (AreAllCaught (May s) (steps_walk s)) s
       (λ xs t ran. sure-caught_first s going xs t ran) (λ xs t u ran st. sure-caught_all s going xs t u ran st)
+
+  -- Their matches lie in the spans that the finder is asked for.
+  may-lies : (P : Search → Answer Row → Type 0) → ((t : Search) (a : Answer Row) → P t a → IsInside row_span t a)
+      → (c : Catching F) (x : Search) → CatchesAlong g P c x
+      → (t : Search) (a : Answer Row) → MayAnswerRow g c x t a
+      → IsInside row_span t a × IsOrdered (place_of row_span a)
+  may-lies P lies c x serves t a k = (
+    lies t a ((serves.at k.calls k.between t k.leads k.same).replies a k.left k.asked),
+    row-ordered k.left.captures k.asked.reply a k.asked.answers,
+  )
+
+  pub caught-apart : (s : Steps (Catching F)) → s.done ≡ false
+      → CatchesAlong g (IsInside row_span) s.asker (steps_walk s).at → CaughtApart g (steps_walk s) s
+  caught-apart s going serves = λ p seen from.
+      spans-apart row_span (May s) (may-lies (IsInside row_span) (λ t a k. k) s.asker (steps_walk s).at serves)
+      (FailsOrIsRefused row_span (May s)) (steps_walk s).at (steps_walk s) (map (item_by row_of) p.items)
+      (omega arith) refl s.searcher.behind (caught-run s going p seen from).0.come
+
+  pub sure-caught_apart : (s : Steps (Catching F)) → s.done ≡ false
+      → CatchesAlong g (IsSurelyInside row_span) s.asker (steps_walk s).at → SureCaughtApart g (steps_walk s) s
+  sure-caught_apart s going serves = λ p seen from.
+      spans-apart row_span (May s) (may-lies (IsSurelyInside row_span) (λ t a k. k.0) s.asker (steps_walk s).at serves)
+      (FailsOrIsRefused row_span (May s)) (steps_walk s).at (steps_walk s) (map (item_by row_of) p.items)
+      (omega arith) refl s.searcher.behind (sure-caught_run s going p seen from).0.come

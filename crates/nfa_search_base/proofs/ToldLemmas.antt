@@ -1,5 +1,5 @@
 -- What a stored finder may answer, its iterator gives; and so what it tells.
-use Rattle.std.proofs.Common.{◌≡◌, ◌∙◌, true, false, Bool, MatchBool, List, [], ◌∷◌, ◌++◌, map, refl, sym, subst}
+use Rattle.std.proofs.Common.{◌≡◌, ◌∙◌, true, false, Bool, MatchBool, List, [], ◌∷◌, ◌++◌, map, refl, sym, subst, ap, arith, ◌≤◌}
 use Rattle.std.proofs.Common.{Option, None, Some, Result, Ok, Err, IfOk}
 use Rattle.std.specs.Fn.{Mut}
 use Rattle.std.specs.Borrow.{Bor}
@@ -12,19 +12,25 @@ use Rattle.regex_search_core.specs.Search.{Search}
 use Rattle.regex_search_core.specs.declared.search.Input.{Input}
 use Rattle.regex_search_core.specs.declared.search.Span.{Span}
 use Rattle.nfa_search_base.specs.Asking.{IsCallableOn, SameButStart}
-use Rattle.nfa_search_base.specs.Finders.{Finds}
-use Rattle.nfa_search_base.specs.Items.{Item, item_by}
-use Rattle.nfa_search_base.specs.Lists.{IsStep, Fails, ItemsLast, AreFirstFound, AreAllFound}
+use Rattle.nfa_search_base.specs.Finders.{Finds, AnswersAlong, answer_by}
+use Rattle.nfa_search_base.specs.Items.{Item, item_by, matches_in}
+use Rattle.nfa_search_base.specs.Lists.{IsStep, Fails, ItemsLast, AreFirstFound, AreAllFound, AreSpansApart}
 use Rattle.nfa_search_base.specs.Serving.{LeadsOn, MayReply}
 use Rattle.nfa_search_base.specs.Steps.{GivesItem}
 use Rattle.nfa_search_base.specs.Stored.{steps_walk, takes_steps}
 use Rattle.nfa_search_base.specs.StoredRuns.{MayAnswer, found_steps, sure_found_steps, FoundRun, FoundFirst, FoundAll}
+use Rattle.nfa_search_base.specs.StoredRuns.{FoundApart, SureFoundApart}
 use Rattle.nfa_search_base.specs.StoredRuns.{SureFoundRun, SureFoundFirst, SureFoundAll}
-use Rattle.nfa_search_base.specs.Walks.{Answer, Walk, after, repeats, shifted, place_of}
+use Rattle.nfa_search_base.specs.Walks.{Answer, Walk, after, repeats, shifted, place_of, IsInside, IsSurelyInside}
 use Rattle.nfa_search_base.specs.declared.error.SearchError.{SearchError}
 use Rattle.nfa_search_base.specs.declared.iter.steps.Steps.{Steps}
 use Rattle.nfa_search_base.proofs.AskingLemmas.{same_start-self}
+use Rattle.nfa_search_base.proofs.ListLemmas.{spans-apart}
+use Rattle.nfa_search_base.proofs.WalkLemmas.{IsOrdered}
 use Rattle.nfa_search_base.proofs.RunLemmas.{first-from, all-from, item-says, runs-give}
+
+some-span : {p q : Span} → Some p ≡ Some q → p ≡ q
+some-span e = cc
 
 -- Where an answer that is told one way is told another way, so are the items.
 module _ {X : Type 0} (span : X → Span) (under tells : Search → Answer X → Type 0)
@@ -123,6 +129,46 @@ module _ {A X F : Type 0} (view : A → X) (span : X → Span)
       (λ found. AreFirstFound span (May s) view (steps_walk s) (map (λ m. Ok m) found))
       (λ found. AreAllFound span (May s) view (steps_walk s) (map (λ m. Ok m) found)) s
       (λ xs t ran. sure-first s going xs t ran) (λ xs t u ran st. sure-all s going xs t u ran st)
+
+  sure-spans : (ms : List A) → map span (matches_in (map (item_by view) (map (λ m. Ok m) ms))) ≡ map (λ m. span (view m)) ms
+  sure-spans [] = refl
+  sure-spans (m ∷ ms) = ap (λ (l : List Span). span (view m) ∷ l) (sure-spans ms)
+
+  -- Its matches lie in the spans that it is asked for.
+  module _ (ordered : (m : A) → (span (view m)).start ≤ (span (view m)).end) where
+    view-ordered : (reply : Result (Option A) SearchError) (a : Answer X) → a ≡ answer_by view reply
+        → IsOrdered (place_of span a)
+    view-ordered (Ok (Some m)) a is = subst (λ (b : Answer X). IsOrdered (place_of span b)) (sym is)
+        (λ p same. subst (λ (q : Span). q.start ≤ q.end) (some-span same) (ordered m))
+    view-ordered (Ok None) a is = subst (λ (b : Answer X). IsOrdered (place_of span b)) (sym is)
+        (λ p same. let never : None ≡ Some p = same in cc)
+    view-ordered (Err e) a is = subst (λ (b : Answer X). IsOrdered (place_of span b)) (sym is)
+        (λ p same. let never : None ≡ Some p = same in cc)
+
+    may-lies : (P : Search → Answer X → Type 0) → ((t : Search) (a : Answer X) → P t a → IsInside span t a)
+        → (f : F) (x : Search) → AnswersAlong view g P f x
+        → (t : Search) (a : Answer X) → MayAnswer view span g f x t a
+        → IsInside span t a × IsOrdered (place_of span a)
+    may-lies P lies f x serves t a k = (
+      lies t a ((serves.at k.calls k.between t k.leads k.same).replies a k.left k.asked),
+      view-ordered k.asked.reply a k.asked.shows,
+    )
+
+    pub found-apart : (s : Steps F) → s.done ≡ false → AnswersAlong view g (IsInside span) s.asker (steps_walk s).at
+        → FoundApart view span g (steps_walk s) s
+    found-apart s going serves = λ p seen from.
+        spans-apart span (May s) (may-lies (IsInside span) (λ t a k. k) s.asker (steps_walk s).at serves)
+        (Fails span (May s)) (steps_walk s).at (steps_walk s) (map (item_by view) p.items)
+        (omega arith) refl s.searcher.behind (found-run s going p seen from).0.come
+
+    pub sure-apart : (s : Steps F) → s.done ≡ false
+        → AnswersAlong view g (IsSurelyInside span) s.asker (steps_walk s).at
+        → SureFoundApart view span g (steps_walk s) s
+    sure-apart s going serves = λ p seen from.
+        subst (λ (l : List Span). AreSpansApart (steps_walk s).at (steps_walk s).last l) (sure-spans p.items)
+        (spans-apart span (May s) (may-lies (IsSurelyInside span) (λ t a k. k.0) s.asker (steps_walk s).at serves)
+        (Fails span (May s)) (steps_walk s).at (steps_walk s) (map (item_by view) (map (λ m. Ok m) p.items))
+        (omega arith) refl s.searcher.behind (sure-run s going p seen from).0.come)
 
   -- Where each call leaves the finder as it was, what it tells of one search it may answer along them all.
   kept : (f : F) (x : Search) (tells : Search → Answer X → Type 0)

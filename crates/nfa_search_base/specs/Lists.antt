@@ -25,6 +25,12 @@ abbrev pub AreApart : Search → Option ℕ → List Found → Type 0
 AreApart x last [] = ⊤
 AreApart x last (m ∷ ms) = IsInside x m × ForSome last (λ e. (e ≤ m.start) × (e < m.end)) × AreApart x (Some m.end) ms
 
+-- the same of where the matches of any finder lie
+abbrev pub AreSpansApart : Search → Option ℕ → List Span → Type 0
+AreSpansApart x last [] = ⊤
+AreSpansApart x last (p ∷ ps) = ((x.start ≤ p.start) × (p.start ≤ p.end) × (p.end ≤ x.end))
+    × ForSome last (λ e. (e ≤ p.start) × (e < p.end)) × AreSpansApart x (Some p.end) ps
+
 -- the slot is none, or lies in the span
 abbrev pub IsSlotInside : Search → Option ℕ → Type 0
 IsSlotInside x slot = IfSome slot (λ k. (x.start ≤ k) × (k ≤ x.end))

@@ -1,17 +1,19 @@
 -- What the calls of an iterator over a stored finder have given, wherever they stop.
 use Rattle.std.specs.Prelude.{map, Option, Result, Ok}
 use Rattle.std.specs.Fn.{Mut}
+use Rattle.std.specs.Iterator.Runs.{EachRunFrom}
 use Rattle.std.specs.Borrow.{Bor, MutBor}
 use Rattle.regex_search_core.specs.Search.{Search}
 use Rattle.regex_search_core.specs.Slots.{Captured}
 use Rattle.regex_search_core.specs.declared.search.Input.{Input}
 use Rattle.regex_search_core.specs.declared.search.Span.{Span}
 use Rattle.nfa_search_base.specs.Asking.{IsCallableOn, SameButStart}
-use Rattle.nfa_search_base.specs.Catching.{Row, Catching, CanCatch, Catches, GivesCaptures, row_span}
+use Rattle.nfa_search_base.specs.Catching.{Row, Catching, CanCatch, Catches, GivesCaptures, row_of, row_span}
 use Rattle.nfa_search_base.specs.CaughtLists.{AreFirstCaught, AreAllCaught}
 use Rattle.nfa_search_base.specs.CaughtSteps.{takes_sure_catches}
 use Rattle.nfa_search_base.specs.Finders.{Finds}
-use Rattle.nfa_search_base.specs.Lists.{AreFirstFound, AreAllFound}
+use Rattle.nfa_search_base.specs.Items.{item_by, matches_in}
+use Rattle.nfa_search_base.specs.Lists.{AreFirstFound, AreAllFound, AreSpansApart}
 use Rattle.nfa_search_base.specs.Runs.{RunsGive, GivesFirst, GivesAll}
 use Rattle.nfa_search_base.specs.Serving.{MayReply}
 use Rattle.nfa_search_base.specs.Steps.{GivesItem}
@@ -34,6 +36,15 @@ module _ {A X F : Type 0} (view : A → X) (span : X → Span)
   -- a call of the iterator whose finder never errs
   abbrev pub sure_found_steps : Steps F → Option A → Steps F → Type 0
   sure_found_steps s r t = takes_sure_steps span (Finds view g) (λ _. GivesItem view) s r t
+
+  -- in each run the matches lie in the span of the iteration, in order and apart
+  abbrev pub FoundApart : Walk → Steps F → Type 0
+  FoundApart w s = EachRunFrom found_steps s
+      (λ p. AreSpansApart w.at w.last (map span (matches_in (map (item_by view) p.items))))
+
+  abbrev pub SureFoundApart : Walk → Steps F → Type 0
+  SureFoundApart w s = EachRunFrom sure_found_steps s
+      (λ p. AreSpansApart w.at w.last (map (λ m. span (view m)) p.items))
 
   module _ (f : F) (w : Walk) where
     -- each run of calls gives the first items from w on, as f tells them, and all of them where it goes on to `None`
@@ -75,6 +86,15 @@ module _ {F : Type 0} (g : Mut F (Bor Input × (MutBor Captured × Unit {0}))
   -- a call of the iterator
   abbrev pub caught_steps : Steps (Catching F) → Option (Result Captured SearchError) → Steps (Catching F) → Type 0
   caught_steps s r t = takes_steps row_span (Catches g) GivesCaptures s r t
+
+  -- in each run their matches lie in the span of the iteration, in order and apart
+  abbrev pub CaughtApart : Walk → Steps (Catching F) → Type 0
+  CaughtApart w s = EachRunFrom caught_steps s
+      (λ p. AreSpansApart w.at w.last (map row_span (matches_in (map (item_by row_of) p.items))))
+
+  abbrev pub SureCaughtApart : Walk → Steps (Catching F) → Type 0
+  SureCaughtApart w s = EachRunFrom (takes_sure_catches g) s
+      (λ p. AreSpansApart w.at w.last (map row_span (matches_in (map (item_by row_of) p.items))))
 
   module _ (c : Catching F) (w : Walk) where
     -- each run of calls gives the first captures from w on, as c tells them, and all of them where it goes on to `None`

@@ -35,7 +35,7 @@ impl<'h> Searcher<'h> {
     ghost use Rattle.nfa_search_base.specs.Items.{item_by, greedy};
     ghost use Rattle.nfa_search_base.specs.Searchers.{walk_of};
     ghost use Rattle.nfa_search_base.specs.Stored.{steps_walk, can_step, takes_steps};
-    ghost use Rattle.nfa_search_base.specs.StoredRuns.{CaughtAll, CaughtFirst, CaughtRun};
+    ghost use Rattle.nfa_search_base.specs.StoredRuns.{CaughtAll, CaughtApart, CaughtFirst, CaughtRun};
     ghost use Rattle.nfa_search_base.specs.Walks.{Answer, IsInside};
 
     /// The captures of the matches that the finder gives from here on.
@@ -55,6 +55,8 @@ impl<'h> Searcher<'h> {
         ensures runs { CaughtRun F.FnMut (record { finder = finder; captures = captures }) (walk_of self.entry) result }
         ensures first { CaughtFirst F.FnMut (record { finder = finder; captures = captures }) (walk_of self.entry) result }
         ensures all { CaughtAll F.FnMut (record { finder = finder; captures = captures }) (walk_of self.entry) result }
+        // Their matches lie in the span, in order and apart.
+        ensures apart { CaughtApart F.FnMut (walk_of self.entry) result }
         // Where the finder computes h, the items hold the rows of the greedy list of h, up to a refusal of memory.
         ensures list { (h : Search → Answer Row) → CatchesBy F.FnMut h (record { finder = finder; captures = captures })
             (walk_of self.entry).at → YieldsUpToRefusal (takes_steps row_span (Catches F.FnMut) GivesCaptures)
@@ -77,7 +79,7 @@ impl<'h, F> TryCapturesIter<'h, F> {
     ghost use Rattle.nfa_search_base.specs.CaughtSteps.{takes_sure_catches};
     ghost use Rattle.nfa_search_base.specs.Items.{item_by, greedy_unless};
     ghost use Rattle.nfa_search_base.specs.Stored.{steps_walk, can_step_surely};
-    ghost use Rattle.nfa_search_base.specs.StoredRuns.{SureCaughtAll, SureCaughtFirst, SureCaughtRun};
+    ghost use Rattle.nfa_search_base.specs.StoredRuns.{SureCaughtAll, SureCaughtApart, SureCaughtFirst, SureCaughtRun};
     ghost use Rattle.nfa_search_base.specs.Walks.{Answer, IsSurelyInside};
 
     /// The input that the next step searches.
@@ -102,6 +104,8 @@ impl<'h, F> TryCapturesIter<'h, F> {
             → SureCaughtFirst F.FnMut self.entry.asker (steps_walk self.entry) result }
         ensures all { self.entry.done ≡ false
             → SureCaughtAll F.FnMut self.entry.asker (steps_walk self.entry) result }
+        // Their matches lie in the span, in order and apart.
+        ensures apart { self.entry.done ≡ false → SureCaughtApart F.FnMut (steps_walk self.entry) result }
         // Where the finder computes h, the items hold the rows of the greedy list of h, up to a refusal of memory.
         ensures list { (h : Search → Answer Row) → CatchesBy F.FnMut h self.entry.asker (steps_walk self.entry).at
             → YieldsUpToRefusal (takes_sure_catches F.FnMut) (item_by row_of) result

@@ -38,7 +38,7 @@ impl<'h> Searcher<'h> {
     ghost use Rattle.nfa_search_base.specs.Asking.{IsCallableOn};
     ghost use Rattle.nfa_search_base.specs.Steps.{GivesItem};
     ghost use Rattle.nfa_search_base.specs.Stored.{steps_walk, can_step, takes_steps};
-    ghost use Rattle.nfa_search_base.specs.StoredRuns.{FoundAll, FoundFirst, FoundRun};
+    ghost use Rattle.nfa_search_base.specs.StoredRuns.{FoundAll, FoundApart, FoundFirst, FoundRun};
 
     /// The half matches that the finder gives from here on.
     ///
@@ -57,6 +57,8 @@ impl<'h> Searcher<'h> {
         ensures runs { FoundRun half_found_of half_span_of F.FnMut finder (walk_of self.entry) result }
         ensures first { FoundFirst half_found_of half_span_of F.FnMut finder (walk_of self.entry) result }
         ensures all { FoundAll half_found_of half_span_of F.FnMut finder (walk_of self.entry) result }
+        // They lie in the span, in order and apart.
+        ensures apart { FoundApart half_found_of half_span_of F.FnMut (walk_of self.entry) result }
         // Where the finder computes h, the items are the greedy list of h, whoever asks for them.
         ensures list { (h : Search → Answer HalfFound) → Computes half_found_of F.FnMut h finder (walk_of self.entry).at
             → YieldsList (takes_steps half_span_of (Finds half_found_of F.FnMut) (λ _. GivesItem half_found_of))
@@ -83,7 +85,7 @@ impl<'h, F> TryHalfMatchesIter<'h, F> {
     ghost use Rattle.nfa_search_base.specs.Asking.{IsCallableOn};
     ghost use Rattle.nfa_search_base.specs.Steps.{GivesItem};
     ghost use Rattle.nfa_search_base.specs.Stored.{steps_walk, can_step_surely, takes_sure_steps};
-    ghost use Rattle.nfa_search_base.specs.StoredRuns.{SureFoundAll, SureFoundFirst, SureFoundRun};
+    ghost use Rattle.nfa_search_base.specs.StoredRuns.{SureFoundAll, SureFoundApart, SureFoundFirst, SureFoundRun};
 
     /// The input that the next step searches.
     pub fn input(&self) -> &Input<'h>
@@ -107,6 +109,9 @@ impl<'h, F> TryHalfMatchesIter<'h, F> {
             → SureFoundFirst half_found_of half_span_of F.FnMut self.entry.asker (steps_walk self.entry) result }
         ensures all { self.entry.done ≡ false
             → SureFoundAll half_found_of half_span_of F.FnMut self.entry.asker (steps_walk self.entry) result }
+        // They lie in the span, in order and apart.
+        ensures apart { self.entry.done ≡ false
+            → SureFoundApart half_found_of half_span_of F.FnMut (steps_walk self.entry) result }
         // Where the finder computes h, the matches are those of the greedy list of h.
         ensures list { (h : Search → Answer HalfFound) → Computes half_found_of F.FnMut h self.entry.asker
             (steps_walk self.entry).at → YieldsList

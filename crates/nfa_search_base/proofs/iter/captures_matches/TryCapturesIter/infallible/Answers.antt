@@ -1,6 +1,6 @@
 -- The items are those of the iterator that it was.
 use Rattle.nfa_search_base.proofs.CatchingLemmas.{catches-list}
-use Rattle.nfa_search_base.proofs.ToldCapturesLemmas.{sure-caught_run, sure-caught_first, sure-caught_all}
+use Rattle.nfa_search_base.proofs.ToldCapturesLemmas.{sure-caught_run, sure-caught_first, sure-caught_all, sure-caught_apart}
 use Rattle.nfa_search_base.proofs.iter.captures_matches.TryCapturesIter.infallible.Goals as goal
 
 pub returns-clause-list : goal.returns-clause-list
@@ -14,3 +14,6 @@ returns-clause-first g c = λ going. sure-caught_first g.F.FnMut c.args.self goi
 
 pub returns-clause-all : goal.returns-clause-all
 returns-clause-all g c = λ going. sure-caught_all g.F.FnMut c.args.self going
+
+pub returns-clause-apart : goal.returns-clause-apart
+returns-clause-apart g c = λ going. sure-caught_apart g.F.FnMut c.args.self going c.requires

@@ -1,10 +1,11 @@
 -- The items are those of the iterator that it was.
+use Rattle.std.proofs.Common.{arith}
 use Rattle.regex_search_core.specs.Found.{half_found_of}
 use Rattle.nfa_search_base.specs.Asking.{IsCallableOn}
 use Rattle.nfa_search_base.specs.Finders.{Finds}
 use Rattle.nfa_search_base.specs.Walks.{half_span_of}
 use Rattle.nfa_search_base.proofs.StoredLemmas.{sure-yields}
-use Rattle.nfa_search_base.proofs.ToldLemmas.{sure-run, sure-first, sure-all}
+use Rattle.nfa_search_base.proofs.ToldLemmas.{sure-run, sure-first, sure-all, sure-apart}
 use Rattle.nfa_search_base.proofs.iter.half_matches.TryHalfMatchesIter.infallible.Goals as goal
 
 pub returns-clause-list : goal.returns-clause-list
@@ -19,3 +20,6 @@ returns-clause-first g c = λ going. sure-first half_found_of half_span_of g.F.F
 
 pub returns-clause-all : goal.returns-clause-all
 returns-clause-all g c = λ going. sure-all half_found_of half_span_of g.F.FnMut c.args.self going
+
+pub returns-clause-apart : goal.returns-clause-apart
+returns-clause-apart g c = λ going. sure-apart half_found_of half_span_of g.F.FnMut (λ m. omega arith) c.args.self going c.requires

@@ -4,7 +4,7 @@ use Rattle.nfa_search_base.specs.Asking.{IsCallableOn}
 use Rattle.nfa_search_base.specs.Finders.{Finds}
 use Rattle.nfa_search_base.specs.Walks.{span_of}
 use Rattle.nfa_search_base.proofs.StoredLemmas.{sure-yields}
-use Rattle.nfa_search_base.proofs.ToldLemmas.{sure-run, sure-first, sure-all}
+use Rattle.nfa_search_base.proofs.ToldLemmas.{sure-run, sure-first, sure-all, sure-apart}
 use Rattle.nfa_search_base.proofs.iter.matches.TryMatchesIter.infallible.Goals as goal
 
 pub returns-clause-list : goal.returns-clause-list
@@ -19,3 +19,6 @@ returns-clause-first g c = λ going. sure-first found_of span_of g.F.FnMut c.arg
 
 pub returns-clause-all : goal.returns-clause-all
 returns-clause-all g c = λ going. sure-all found_of span_of g.F.FnMut c.args.self going
+
+pub returns-clause-apart : goal.returns-clause-apart
+returns-clause-apart g c = λ going. sure-apart found_of span_of g.F.FnMut (λ m. m.ordered) c.args.self going c.requires

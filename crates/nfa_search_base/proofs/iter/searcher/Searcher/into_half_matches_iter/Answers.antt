@@ -1,12 +1,12 @@
 -- The items are the list of the finder.
-use Rattle.std.proofs.Common.{refl, false}
+use Rattle.std.proofs.Common.{refl, false, arith}
 use Rattle.regex_search_core.specs.Found.{half_found_of}
 use Rattle.nfa_search_base.specs.Asking.{IsCallableOn}
 use Rattle.nfa_search_base.specs.Finders.{Finds}
 use Rattle.nfa_search_base.specs.Walks.{half_span_of}
 use Rattle.nfa_search_base.specs.declared.iter.steps.Steps.{Steps}
 use Rattle.nfa_search_base.proofs.StoredLemmas.{try-yields}
-use Rattle.nfa_search_base.proofs.ToldLemmas.{found-run, found-first, found-all}
+use Rattle.nfa_search_base.proofs.ToldLemmas.{found-run, found-first, found-all, found-apart}
 use Rattle.nfa_search_base.proofs.iter.searcher.Searcher.into_half_matches_iter.Goals as goal
 
 pub returns-clause-list : goal.returns-clause-list
@@ -28,3 +28,8 @@ pub returns-clause-all : goal.returns-clause-all
 returns-clause-all g c =
     let made : Steps g.row.F.Denot = record { searcher = c.args.self; asker = c.args.finder; done = false } in
     found-all half_found_of half_span_of g.F.FnMut made refl
+
+pub returns-clause-apart : goal.returns-clause-apart
+returns-clause-apart g c =
+    let made : Steps g.row.F.Denot = record { searcher = c.args.self; asker = c.args.finder; done = false } in
+    found-apart half_found_of half_span_of g.F.FnMut (λ m. omega arith) made refl c.requires
