@@ -22,7 +22,7 @@ use Rattle.nfa_search_base.specs.Lists.{IsStep, FailsOrIsRefused}
 use Rattle.nfa_search_base.specs.Serving.{LeadsOn}
 use Rattle.nfa_search_base.specs.Stored.{steps_walk}
 use Rattle.nfa_search_base.specs.StoredRuns.{MayAnswerRow, caught_steps, CaughtRun, CaughtFirst, CaughtAll}
-use Rattle.nfa_search_base.specs.StoredRuns.{CaughtApart, SureCaughtApart}
+use Rattle.nfa_search_base.specs.StoredRuns.{CaughtApart, CaughtNext, SureCaughtApart, SureCaughtNext}
 use Rattle.nfa_search_base.specs.StoredRuns.{SureCaughtRun, SureCaughtFirst, SureCaughtAll}
 use Rattle.nfa_search_base.specs.CaughtSteps.{takes_sure_catches}
 use Rattle.nfa_search_base.specs.Walks.{Answer, IsInside, IsSurelyInside, place_of}
@@ -32,7 +32,7 @@ use Rattle.nfa_search_base.proofs.AskingLemmas.{same_start-self}
 use Rattle.nfa_search_base.proofs.CaughtRunLemmas.{copy-says}
 use Rattle.nfa_search_base.proofs.ListLemmas.{spans-apart}
 use Rattle.nfa_search_base.proofs.WalkLemmas.{IsOrdered}
-use Rattle.nfa_search_base.proofs.RunLemmas.{first-from, all-from, runs-give}
+use Rattle.nfa_search_base.proofs.RunLemmas.{first-from, all-from, runs-give, yields-more}
 
 -- a match of captures starts not behind its end
 match-ordered : (pattern : Option ℕ) (slots : List (Option ℕ)) (m : Found) → match_of pattern slots ≡ Some m
@@ -119,6 +119,10 @@ module _ {F : Type 0} (g : Mut F (Bor Input × (MutBor Captured × Unit {0}))
   pub caught-first : (s : Steps (Catching F)) → s.done ≡ false → CaughtFirst g s.asker (steps_walk s) s
   caught-first s going = λ xs t ran. first-may s xs t going ran
 
+  pub caught-next : (s : Steps (Catching F)) → s.done ≡ false → CaughtNext g s.asker (steps_walk s) s
+  caught-next s going = λ xs t r u ran st.
+      first-may s (xs ++ r ∷ []) u going (yields-more (caught_steps g) xs s t u r ran st)
+
   pub caught-all : (s : Steps (Catching F)) → s.done ≡ false → CaughtAll g s.asker (steps_walk s) s
   caught-all s going = λ xs t u ran st. all-may s xs t u going ran st
 
@@ -130,6 +134,10 @@ module _ {F : Type 0} (g : Mut F (Bor Input × (MutBor Captured × Unit {0}))
 
   pub sure-caught_first : (s : Steps (Catching F)) → s.done ≡ false → SureCaughtFirst g s.asker (steps_walk s) s
   sure-caught_first s going = λ xs t ran. first-may s xs t going (sure_caught xs s t ran)
+
+  pub sure-caught_next : (s : Steps (Catching F)) → s.done ≡ false → SureCaughtNext g s.asker (steps_walk s) s
+  sure-caught_next s going = λ xs t r u ran st.
+      sure-caught_first s going (xs ++ r ∷ []) u (yields-more (takes_sure_catches g) xs s t u r ran st)
 
   pub sure-caught_all : (s : Steps (Catching F)) → s.done ≡ false → SureCaughtAll g s.asker (steps_walk s) s
   sure-caught_all s going = λ xs t u ran st. all-may s xs t u going (sure_caught xs s t ran) st.0

@@ -19,7 +19,7 @@ use Rattle.nfa_search_base.specs.Serving.{LeadsOn, MayReply}
 use Rattle.nfa_search_base.specs.Steps.{GivesItem}
 use Rattle.nfa_search_base.specs.Stored.{steps_walk, takes_steps}
 use Rattle.nfa_search_base.specs.StoredRuns.{MayAnswer, found_steps, sure_found_steps, FoundRun, FoundFirst, FoundAll}
-use Rattle.nfa_search_base.specs.StoredRuns.{FoundApart, SureFoundApart}
+use Rattle.nfa_search_base.specs.StoredRuns.{FoundApart, FoundNext, SureFoundApart, SureFoundNext}
 use Rattle.nfa_search_base.specs.StoredRuns.{SureFoundRun, SureFoundFirst, SureFoundAll}
 use Rattle.nfa_search_base.specs.Walks.{Answer, Walk, after, repeats, shifted, place_of, IsInside, IsSurelyInside}
 use Rattle.nfa_search_base.specs.declared.error.SearchError.{SearchError}
@@ -27,7 +27,7 @@ use Rattle.nfa_search_base.specs.declared.iter.steps.Steps.{Steps}
 use Rattle.nfa_search_base.proofs.AskingLemmas.{same_start-self}
 use Rattle.nfa_search_base.proofs.ListLemmas.{spans-apart}
 use Rattle.nfa_search_base.proofs.WalkLemmas.{IsOrdered}
-use Rattle.nfa_search_base.proofs.RunLemmas.{first-from, all-from, item-says, runs-give}
+use Rattle.nfa_search_base.proofs.RunLemmas.{first-from, all-from, item-says, runs-give, yields-more}
 
 some-span : {p q : Span} → Some p ≡ Some q → p ≡ q
 some-span e = cc
@@ -109,6 +109,10 @@ module _ {A X F : Type 0} (view : A → X) (span : X → Span)
   pub found-first : (s : Steps F) → s.done ≡ false → FoundFirst view span g s.asker (steps_walk s) s
   found-first s going = λ xs t ran. first-may s xs t going ran
 
+  pub found-next : (s : Steps F) → s.done ≡ false → FoundNext view span g s.asker (steps_walk s) s
+  found-next s going = λ xs t r u ran st.
+      first-may s (xs ++ r ∷ []) u going (yields-more (found_steps view span g) xs s t u r ran st)
+
   pub found-all : (s : Steps F) → s.done ≡ false → FoundAll view span g s.asker (steps_walk s) s
   found-all s going = λ xs t u ran st. all-may s xs t u going ran st
 
@@ -120,6 +124,10 @@ module _ {A X F : Type 0} (view : A → X) (span : X → Span)
 
   pub sure-first : (s : Steps F) → s.done ≡ false → SureFoundFirst view span g s.asker (steps_walk s) s
   sure-first s going = λ xs t ran. first-may s (map (λ m. Ok m) xs) t going (oked xs s t ran)
+
+  pub sure-next : (s : Steps F) → s.done ≡ false → SureFoundNext view span g s.asker (steps_walk s) s
+  sure-next s going = λ xs t r u ran st.
+      sure-first s going (xs ++ r ∷ []) u (yields-more (sure_found_steps view span g) xs s t u r ran st)
 
   pub sure-all : (s : Steps F) → s.done ≡ false → SureFoundAll view span g s.asker (steps_walk s) s
   sure-all s going = λ xs t u ran st. all-may s (map (λ m. Ok m) xs) t u going (oked xs s t ran) st

@@ -14,7 +14,7 @@ use Rattle.nfa_search_base.specs.CaughtSteps.{takes_sure_catches}
 use Rattle.nfa_search_base.specs.Finders.{Finds}
 use Rattle.nfa_search_base.specs.Items.{item_by, matches_in}
 use Rattle.nfa_search_base.specs.Lists.{AreFirstFound, AreAllFound, AreSpansApart}
-use Rattle.nfa_search_base.specs.Runs.{RunsGive, GivesFirst, GivesAll}
+use Rattle.nfa_search_base.specs.Runs.{RunsGive, GivesFirst, GivesNext, GivesAll}
 use Rattle.nfa_search_base.specs.Serving.{MayReply}
 use Rattle.nfa_search_base.specs.Steps.{GivesItem}
 use Rattle.nfa_search_base.specs.Stored.{takes_steps, takes_sure_steps}
@@ -56,6 +56,10 @@ module _ {A X F : Type 0} (view : A → X) (span : X → Span)
     abbrev pub FoundFirst : Steps F → Type 0
     FoundFirst s = GivesFirst found_steps (AreFirstFound span (MayAnswer f w.at) view w) s
 
+    -- and so with the next one
+    abbrev pub FoundNext : Steps F → Type 0
+    FoundNext s = GivesNext found_steps (AreFirstFound span (MayAnswer f w.at) view w) s
+
     -- and at `None` all
     abbrev pub FoundAll : Steps F → Type 0
     FoundAll s = GivesAll found_steps (AreFirstFound span (MayAnswer f w.at) view w)
@@ -69,6 +73,10 @@ module _ {A X F : Type 0} (view : A → X) (span : X → Span)
 
     abbrev pub SureFoundFirst : Steps F → Type 0
     SureFoundFirst s = GivesFirst sure_found_steps
+        (λ found. AreFirstFound span (MayAnswer f w.at) view w (map (λ m. Ok m) found)) s
+
+    abbrev pub SureFoundNext : Steps F → Type 0
+    SureFoundNext s = GivesNext sure_found_steps
         (λ found. AreFirstFound span (MayAnswer f w.at) view w (map (λ m. Ok m) found)) s
 
     abbrev pub SureFoundAll : Steps F → Type 0
@@ -105,6 +113,10 @@ module _ {F : Type 0} (g : Mut F (Bor Input × (MutBor Captured × Unit {0}))
     abbrev pub CaughtFirst : Steps (Catching F) → Type 0
     CaughtFirst s = GivesFirst caught_steps (AreFirstCaught (MayAnswerRow c w.at) w) s
 
+    -- and so with the next one
+    abbrev pub CaughtNext : Steps (Catching F) → Type 0
+    CaughtNext s = GivesNext caught_steps (AreFirstCaught (MayAnswerRow c w.at) w) s
+
     -- and at `None` all
     abbrev pub CaughtAll : Steps (Catching F) → Type 0
     CaughtAll s = GivesAll caught_steps (AreFirstCaught (MayAnswerRow c w.at) w) (AreAllCaught (MayAnswerRow c w.at) w) s
@@ -116,6 +128,9 @@ module _ {F : Type 0} (g : Mut F (Bor Input × (MutBor Captured × Unit {0}))
 
     abbrev pub SureCaughtFirst : Steps (Catching F) → Type 0
     SureCaughtFirst s = GivesFirst (takes_sure_catches g) (AreFirstCaught (MayAnswerRow c w.at) w) s
+
+    abbrev pub SureCaughtNext : Steps (Catching F) → Type 0
+    SureCaughtNext s = GivesNext (takes_sure_catches g) (AreFirstCaught (MayAnswerRow c w.at) w) s
 
     abbrev pub SureCaughtAll : Steps (Catching F) → Type 0
     SureCaughtAll s = GivesAll (takes_sure_catches g) (AreFirstCaught (MayAnswerRow c w.at) w)

@@ -35,7 +35,7 @@ impl<'h> Searcher<'h> {
     ghost use Rattle.nfa_search_base.specs.Items.{item_by, greedy};
     ghost use Rattle.nfa_search_base.specs.Searchers.{walk_of};
     ghost use Rattle.nfa_search_base.specs.Stored.{steps_walk, can_step, takes_steps};
-    ghost use Rattle.nfa_search_base.specs.StoredRuns.{CaughtAll, CaughtApart, CaughtFirst, CaughtRun};
+    ghost use Rattle.nfa_search_base.specs.StoredRuns.{CaughtAll, CaughtApart, CaughtFirst, CaughtNext, CaughtRun};
     ghost use Rattle.nfa_search_base.specs.Walks.{Answer, IsInside};
 
     /// The captures of the matches that the finder gives from here on.
@@ -54,6 +54,7 @@ impl<'h> Searcher<'h> {
         // Each run of calls gives the first captures, and all of them where it goes on to `None`.
         ensures runs { CaughtRun F.FnMut (record { finder = finder; captures = captures }) (walk_of self.entry) result }
         ensures first { CaughtFirst F.FnMut (record { finder = finder; captures = captures }) (walk_of self.entry) result }
+        ensures next { CaughtNext F.FnMut (record { finder = finder; captures = captures }) (walk_of self.entry) result }
         ensures all { CaughtAll F.FnMut (record { finder = finder; captures = captures }) (walk_of self.entry) result }
         // Their matches lie in the span, in order and apart.
         ensures apart { CaughtApart F.FnMut (walk_of self.entry) result }
@@ -79,7 +80,7 @@ impl<'h, F> TryCapturesIter<'h, F> {
     ghost use Rattle.nfa_search_base.specs.CaughtSteps.{takes_sure_catches};
     ghost use Rattle.nfa_search_base.specs.Items.{item_by, greedy_unless};
     ghost use Rattle.nfa_search_base.specs.Stored.{steps_walk, can_step_surely};
-    ghost use Rattle.nfa_search_base.specs.StoredRuns.{SureCaughtAll, SureCaughtApart, SureCaughtFirst, SureCaughtRun};
+    ghost use Rattle.nfa_search_base.specs.StoredRuns.{SureCaughtAll, SureCaughtApart, SureCaughtFirst, SureCaughtNext, SureCaughtRun};
     ghost use Rattle.nfa_search_base.specs.Walks.{Answer, IsSurelyInside};
 
     /// The input that the next step searches.
@@ -102,6 +103,8 @@ impl<'h, F> TryCapturesIter<'h, F> {
             → SureCaughtRun F.FnMut self.entry.asker (steps_walk self.entry) result }
         ensures first { self.entry.done ≡ false
             → SureCaughtFirst F.FnMut self.entry.asker (steps_walk self.entry) result }
+        ensures next { self.entry.done ≡ false
+            → SureCaughtNext F.FnMut self.entry.asker (steps_walk self.entry) result }
         ensures all { self.entry.done ≡ false
             → SureCaughtAll F.FnMut self.entry.asker (steps_walk self.entry) result }
         // Their matches lie in the span, in order and apart.

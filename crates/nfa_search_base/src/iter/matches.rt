@@ -38,7 +38,7 @@ impl<'h> Searcher<'h> {
     ghost use Rattle.nfa_search_base.specs.Asking.{IsCallableOn};
     ghost use Rattle.nfa_search_base.specs.Steps.{GivesItem};
     ghost use Rattle.nfa_search_base.specs.Stored.{steps_walk, can_step, takes_steps};
-    ghost use Rattle.nfa_search_base.specs.StoredRuns.{FoundAll, FoundApart, FoundFirst, FoundRun};
+    ghost use Rattle.nfa_search_base.specs.StoredRuns.{FoundAll, FoundApart, FoundFirst, FoundNext, FoundRun};
 
     /// The matches that the finder gives from here on.
     ///
@@ -56,6 +56,7 @@ impl<'h> Searcher<'h> {
         // Each run of calls gives the first items, and all of them where it goes on to `None`.
         ensures runs { FoundRun found_of span_of F.FnMut finder (walk_of self.entry) result }
         ensures first { FoundFirst found_of span_of F.FnMut finder (walk_of self.entry) result }
+        ensures next { FoundNext found_of span_of F.FnMut finder (walk_of self.entry) result }
         ensures all { FoundAll found_of span_of F.FnMut finder (walk_of self.entry) result }
         // They lie in the span, in order and apart.
         ensures apart { FoundApart found_of span_of F.FnMut (walk_of self.entry) result }
@@ -85,7 +86,7 @@ impl<'h, F> TryMatchesIter<'h, F> {
     ghost use Rattle.nfa_search_base.specs.Asking.{IsCallableOn};
     ghost use Rattle.nfa_search_base.specs.Steps.{GivesItem};
     ghost use Rattle.nfa_search_base.specs.Stored.{steps_walk, can_step_surely, takes_sure_steps};
-    ghost use Rattle.nfa_search_base.specs.StoredRuns.{SureFoundAll, SureFoundApart, SureFoundFirst, SureFoundRun};
+    ghost use Rattle.nfa_search_base.specs.StoredRuns.{SureFoundAll, SureFoundApart, SureFoundFirst, SureFoundNext, SureFoundRun};
 
     /// The input that the next step searches.
     pub fn input(&self) -> &Input<'h>
@@ -107,6 +108,8 @@ impl<'h, F> TryMatchesIter<'h, F> {
             → SureFoundRun found_of span_of F.FnMut self.entry.asker (steps_walk self.entry) result }
         ensures first { self.entry.done ≡ false
             → SureFoundFirst found_of span_of F.FnMut self.entry.asker (steps_walk self.entry) result }
+        ensures next { self.entry.done ≡ false
+            → SureFoundNext found_of span_of F.FnMut self.entry.asker (steps_walk self.entry) result }
         ensures all { self.entry.done ≡ false
             → SureFoundAll found_of span_of F.FnMut self.entry.asker (steps_walk self.entry) result }
         // They lie in the span, in order and apart.

@@ -1,6 +1,6 @@
 -- The items are those of the iterator that it was.
 use Rattle.nfa_search_base.proofs.CatchingLemmas.{catches-list}
-use Rattle.nfa_search_base.proofs.ToldCapturesLemmas.{sure-caught_run, sure-caught_first, sure-caught_all, sure-caught_apart}
+use Rattle.nfa_search_base.proofs.ToldCapturesLemmas.{sure-caught_run, sure-caught_first, sure-caught_all, sure-caught_apart, sure-caught_next}
 use Rattle.nfa_search_base.proofs.iter.captures_matches.TryCapturesIter.infallible.Goals as goal
 
 pub returns-clause-list : goal.returns-clause-list
@@ -17,3 +17,6 @@ returns-clause-all g c = λ going. sure-caught_all g.F.FnMut c.args.self going
 
 pub returns-clause-apart : goal.returns-clause-apart
 returns-clause-apart g c = λ going. sure-caught_apart g.F.FnMut c.args.self going c.requires
+
+pub returns-clause-next : goal.returns-clause-next
+returns-clause-next g c = λ going. sure-caught_next g.F.FnMut c.args.self going

@@ -5,7 +5,7 @@ use Rattle.nfa_search_base.specs.Asking.{IsCallableOn}
 use Rattle.nfa_search_base.specs.Finders.{Finds}
 use Rattle.nfa_search_base.specs.Walks.{half_span_of}
 use Rattle.nfa_search_base.proofs.StoredLemmas.{sure-yields}
-use Rattle.nfa_search_base.proofs.ToldLemmas.{sure-run, sure-first, sure-all, sure-apart}
+use Rattle.nfa_search_base.proofs.ToldLemmas.{sure-run, sure-first, sure-all, sure-apart, sure-next}
 use Rattle.nfa_search_base.proofs.iter.half_matches.TryHalfMatchesIter.infallible.Goals as goal
 
 pub returns-clause-list : goal.returns-clause-list
@@ -23,3 +23,6 @@ returns-clause-all g c = λ going. sure-all half_found_of half_span_of g.F.FnMut
 
 pub returns-clause-apart : goal.returns-clause-apart
 returns-clause-apart g c = λ going. sure-apart half_found_of half_span_of g.F.FnMut (λ m. omega arith) c.args.self going c.requires
+
+pub returns-clause-next : goal.returns-clause-next
+returns-clause-next g c = λ going. sure-next half_found_of half_span_of g.F.FnMut c.args.self going

@@ -4,7 +4,7 @@ use Rattle.nfa_search_base.specs.Asking.{IsCallableOn}
 use Rattle.nfa_search_base.specs.Finders.{Finds}
 use Rattle.nfa_search_base.specs.Walks.{span_of}
 use Rattle.nfa_search_base.proofs.StoredLemmas.{sure-yields}
-use Rattle.nfa_search_base.proofs.ToldLemmas.{sure-run, sure-first, sure-all, sure-apart}
+use Rattle.nfa_search_base.proofs.ToldLemmas.{sure-run, sure-first, sure-all, sure-apart, sure-next}
 use Rattle.nfa_search_base.proofs.iter.matches.TryMatchesIter.infallible.Goals as goal
 
 pub returns-clause-list : goal.returns-clause-list
@@ -22,3 +22,6 @@ returns-clause-all g c = λ going. sure-all found_of span_of g.F.FnMut c.args.se
 
 pub returns-clause-apart : goal.returns-clause-apart
 returns-clause-apart g c = λ going. sure-apart found_of span_of g.F.FnMut (λ m. m.ordered) c.args.self going c.requires
+
+pub returns-clause-next : goal.returns-clause-next
+returns-clause-next g c = λ going. sure-next found_of span_of g.F.FnMut c.args.self going

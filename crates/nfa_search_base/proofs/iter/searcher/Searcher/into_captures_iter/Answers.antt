@@ -3,7 +3,7 @@ use Rattle.std.proofs.Common.{refl, false}
 use Rattle.nfa_search_base.specs.Catching.{Catching}
 use Rattle.nfa_search_base.specs.declared.iter.steps.Steps.{Steps}
 use Rattle.nfa_search_base.proofs.CatchingLemmas.{catches-list}
-use Rattle.nfa_search_base.proofs.ToldCapturesLemmas.{caught-run, caught-first, caught-all, caught-apart}
+use Rattle.nfa_search_base.proofs.ToldCapturesLemmas.{caught-run, caught-first, caught-all, caught-apart, caught-next}
 use Rattle.nfa_search_base.proofs.iter.searcher.Searcher.into_captures_iter.Goals as goal
 
 pub returns-clause-list : goal.returns-clause-list
@@ -55,3 +55,13 @@ returns-clause-apart g c =
       done = false;
     } in
     caught-apart g.F.FnMut made refl c.requires
+
+pub returns-clause-next : goal.returns-clause-next
+returns-clause-next g c =
+    let made : Steps (Catching g.row.F.Denot) =
+    record {
+      searcher = c.args.self;
+      asker = record { finder = c.args.finder; captures = c.args.captures };
+      done = false;
+    } in
+    caught-next g.F.FnMut made refl

@@ -6,7 +6,7 @@ use Rattle.nfa_search_base.specs.Finders.{Finds}
 use Rattle.nfa_search_base.specs.Walks.{span_of}
 use Rattle.nfa_search_base.specs.declared.iter.steps.Steps.{Steps}
 use Rattle.nfa_search_base.proofs.StoredLemmas.{try-yields}
-use Rattle.nfa_search_base.proofs.ToldLemmas.{found-run, found-first, found-all, found-apart}
+use Rattle.nfa_search_base.proofs.ToldLemmas.{found-run, found-first, found-all, found-apart, found-next}
 use Rattle.nfa_search_base.proofs.iter.searcher.Searcher.into_matches_iter.Goals as goal
 
 pub returns-clause-list : goal.returns-clause-list
@@ -33,3 +33,8 @@ pub returns-clause-apart : goal.returns-clause-apart
 returns-clause-apart g c =
     let made : Steps g.row.F.Denot = record { searcher = c.args.self; asker = c.args.finder; done = false } in
     found-apart found_of span_of g.F.FnMut (λ m. m.ordered) made refl c.requires
+
+pub returns-clause-next : goal.returns-clause-next
+returns-clause-next g c =
+    let made : Steps g.row.F.Denot = record { searcher = c.args.self; asker = c.args.finder; done = false } in
+    found-next found_of span_of g.F.FnMut made refl
