@@ -9,6 +9,7 @@ use Rattle.nfa_search_base.specs.Asking.{IsCallableOn, SameButStart}
 use Rattle.nfa_search_base.specs.Behind.{IsBehind}
 use Rattle.nfa_search_base.specs.Walks.{Walk, Answer, place_of, IsInside, IsSurelyInside, LiesIn, repeats, after, shifted, Advances, ComesAfter, LeavesFewer}
 use Rattle.nfa_search_base.specs.Finders.{answer_by, Finds, AnswersAlong}
+use Rattle.nfa_search_base.specs.Lending.{With, accepts_lent, asks_lent}
 use Rattle.nfa_search_base.specs.Serving.{ServesOnAlong, ServesTurn, StepDone}
 use Rattle.nfa_search_base.specs.declared.error.SearchError.{SearchError}
 use Rattle.nfa_search_base.proofs.AskingLemmas.{same_start-self, same_start-then, ServesOn-now, ServesOnAlong-same, ServesOnAlong-call, ServesOnAlong-weaker, ServesOnAlong-by}
@@ -248,3 +249,32 @@ module _ {X S : Type 0} (span : X → Span) (asks : S → Search → Answer X �
     | inl p ↦ subst (λ (v : Walk). SameButStart w.at v.at) (sym p.1.1) (same_start-after_shifted w (place_of span r))
     | inr p ↦ subst (λ (v : Walk). SameButStart w.at v.at) (sym p.1.2) (same_start-after w (place_of span r))
   ]
+
+-- Where all that answers is lent, a step is one by what is lent.
+module _ {S C X : Type 0} (accepts : C → Search → Type 0) (asks : C → Search → Answer X → C → Type 0)
+    (span : X → Span) where
+  pub serves-lent : (P : Search → Answer X → Type 0) (s : With S C) (w : Walk)
+      → ServesTurn accepts asks span P s.cache w → ServesTurn (accepts_lent accepts) (asks_lent asks) span P s w
+  serves-lent P s w h = record {
+    first = record { callable = h.first.callable; replies = λ a t asked. h.first.replies a t.cache asked };
+    second = λ a t asked again.
+        let now = h.second a t.cache asked again in
+        record { callable = now.callable; replies = λ b u asked'. now.replies b u.cache asked' };
+  }
+
+  pub step-lent : (s : With S C) (w : Walk) (r : Answer X) (t : With S C) (v : Walk)
+      → Advances span (asks_lent asks) s w r t v → Advances span asks s.cache w r t.cache v
+  step-lent s w r t v h = record {
+    answer = h.answer;
+    between = h.between.cache;
+    first = h.first;
+    rest = of (repeats w (place_of span h.answer)) h.rest;
+  }
+    where
+      of : (again : Bool)
+          → MatchBool again (asks h.between.cache (shifted w).at r t.cache × (v ≡ after (shifted w) (place_of span r)))
+          ((r ≡ h.answer) × (t ≡ h.between) × (v ≡ after w (place_of span r)))
+          → MatchBool again (asks h.between.cache (shifted w).at r t.cache × (v ≡ after (shifted w) (place_of span r)))
+          ((r ≡ h.answer) × (t.cache ≡ h.between.cache) × (v ≡ after w (place_of span r)))
+      of true k = k
+      of false k = (k.0, ap (λ (u : With S C). u.cache) k.1, k.2)

@@ -21,6 +21,7 @@ pub mod catching;
 mod finder;
 mod half_matches;
 pub mod laws;
+mod lent;
 mod matches;
 mod place;
 mod searcher;

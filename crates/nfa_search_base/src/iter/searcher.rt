@@ -2,7 +2,8 @@
 ghost use Rattle.nfa_search_base.specs.Behind.{IsBehind};
 
 use crate::error::SearchError;
-use crate::iter::finder::{Answers, OnHalfMatches, OnMatches};
+use crate::iter::finder::Answers;
+use crate::iter::lent::{LentHalfMatches, LentMatches};
 use crate::iter::place::match_span;
 use crate::iter::searches::Searches;
 use regex_search_core::{HalfMatch, Input, Match, Span};
@@ -116,7 +117,22 @@ impl<'h> Searcher<'h> {
         ensures fewer { LeavesFewer (walk_of self.old) (match_place result) (walk_of self.new) }
         ensures same { SameButStart (walk_of self.old).at (walk_of self.new).at }
     {
-        self.step_by(&mut OnMatches { finder })
+        let mut finder = finder;
+        self.try_advance_by_ref(&mut finder)
+    }
+
+    /// The step of [`Searcher::try_advance`] by a finder that is lent: it is left as its last call left it.
+    pub fn try_advance_by_ref<F>(&mut self, finder: &mut F) -> Result<Option<Match>, SearchError>
+    where
+        F: FnMut(&Input<'_>) -> Result<Option<Match>, SearchError>,
+        requires { FindsStep F.FnMut finder.old (walk_of self.old) }
+        ensures step { StepsBy F.FnMut finder.old (walk_of self.old) result finder.new (walk_of self.new) }
+        ensures inside { LiesIn (walk_of self.old).at (match_place result) }
+        ensures rises { ComesAfter (walk_of self.old) (match_place result) }
+        ensures fewer { LeavesFewer (walk_of self.old) (match_place result) (walk_of self.new) }
+        ensures same { SameButStart (walk_of self.old).at (walk_of self.new).at }
+    {
+        self.step_with(&mut LentMatches::new(), finder)
     }
 
     /// The next match that a finder that never errs gives, by the step of
@@ -131,7 +147,22 @@ impl<'h> Searcher<'h> {
         ensures fewer { LeavesFewer (walk_of self.old) (match_place (Ok result)) (walk_of self.new) }
         ensures same { SameButStart (walk_of self.old).at (walk_of self.new).at }
     {
-        match self.try_advance(finder) {
+        let mut finder = finder;
+        self.advance_by_ref(&mut finder)
+    }
+
+    /// The step of [`Searcher::advance`] by a finder that is lent: it is left as its last call left it.
+    pub fn advance_by_ref<F>(&mut self, finder: &mut F) -> Option<Match>
+    where
+        F: FnMut(&Input<'_>) -> Result<Option<Match>, SearchError>,
+        requires { FindsStepSurely F.FnMut finder.old (walk_of self.old) }
+        ensures step { StepsBy F.FnMut finder.old (walk_of self.old) (Ok result) finder.new (walk_of self.new) }
+        ensures inside { LiesIn (walk_of self.old).at (match_place (Ok result)) }
+        ensures rises { ComesAfter (walk_of self.old) (match_place (Ok result)) }
+        ensures fewer { LeavesFewer (walk_of self.old) (match_place (Ok result)) (walk_of self.new) }
+        ensures same { SameButStart (walk_of self.old).at (walk_of self.new).at }
+    {
+        match self.try_advance_by_ref(finder) {
             Ok(found) => found,
             Err(_) => unreachable!(),
         }
@@ -152,7 +183,25 @@ impl<'h> Searcher<'h> {
         ensures fewer { LeavesFewer (walk_of self.old) (half_place result) (walk_of self.new) }
         ensures same { SameButStart (walk_of self.old).at (walk_of self.new).at }
     {
-        self.step_by(&mut OnHalfMatches { finder })
+        let mut finder = finder;
+        self.try_advance_half_by_ref(&mut finder)
+    }
+
+    /// The step of [`Searcher::try_advance_half`] by a finder that is lent: it is left as its last call left it.
+    pub fn try_advance_half_by_ref<F>(
+        &mut self,
+        finder: &mut F,
+    ) -> Result<Option<HalfMatch>, SearchError>
+    where
+        F: FnMut(&Input<'_>) -> Result<Option<HalfMatch>, SearchError>,
+        requires { FindsHalfStep F.FnMut finder.old (walk_of self.old) }
+        ensures step { HalfStepsBy F.FnMut finder.old (walk_of self.old) result finder.new (walk_of self.new) }
+        ensures inside { LiesIn (walk_of self.old).at (half_place result) }
+        ensures rises { ComesAfter (walk_of self.old) (half_place result) }
+        ensures fewer { LeavesFewer (walk_of self.old) (half_place result) (walk_of self.new) }
+        ensures same { SameButStart (walk_of self.old).at (walk_of self.new).at }
+    {
+        self.step_with(&mut LentHalfMatches::new(), finder)
     }
 
     /// The next half match that a finder that never errs gives, by the step of
@@ -167,7 +216,22 @@ impl<'h> Searcher<'h> {
         ensures fewer { LeavesFewer (walk_of self.old) (half_place (Ok result)) (walk_of self.new) }
         ensures same { SameButStart (walk_of self.old).at (walk_of self.new).at }
     {
-        match self.try_advance_half(finder) {
+        let mut finder = finder;
+        self.advance_half_by_ref(&mut finder)
+    }
+
+    /// The step of [`Searcher::advance_half`] by a finder that is lent: it is left as its last call left it.
+    pub fn advance_half_by_ref<F>(&mut self, finder: &mut F) -> Option<HalfMatch>
+    where
+        F: FnMut(&Input<'_>) -> Result<Option<HalfMatch>, SearchError>,
+        requires { FindsHalfStepSurely F.FnMut finder.old (walk_of self.old) }
+        ensures step { HalfStepsBy F.FnMut finder.old (walk_of self.old) (Ok result) finder.new (walk_of self.new) }
+        ensures inside { LiesIn (walk_of self.old).at (half_place (Ok result)) }
+        ensures rises { ComesAfter (walk_of self.old) (half_place (Ok result)) }
+        ensures fewer { LeavesFewer (walk_of self.old) (half_place (Ok result)) (walk_of self.new) }
+        ensures same { SameButStart (walk_of self.old).at (walk_of self.new).at }
+    {
+        match self.try_advance_half_by_ref(finder) {
             Ok(found) => found,
             Err(_) => unreachable!(),
         }
