@@ -93,6 +93,37 @@ fn half_searcher_after_errors(rt: HostRuntime) {
     }
 }
 
+// A finder that is lent keeps a 1, and after it the starts of the inputs that it was given.
+#[test]
+fn lent_finders_stay(rt: HostRuntime) {
+    let mut searcher = Searcher::new(Input::new(b"ab"));
+    let mut seen = 1usize;
+    let mut finder = |input: &Input<'_>| {
+        seen = seen.wrapping_mul(10).wrapping_add(input.start());
+        Ok(nearest(input, 0))
+    };
+    let first = searcher.try_advance_by_ref(&mut finder);
+    assert_eq!(rt; ends(first), Ok(Some((0, 0))));
+    let second = searcher.advance_by_ref(&mut finder);
+    assert_eq!(rt; ends(Ok(second)), Ok(Some((1, 1))));
+    assert_eq!(rt; seen, 1001);
+}
+
+#[test]
+fn lent_half_finders_stay(rt: HostRuntime) {
+    let mut searcher = Searcher::new(Input::new(b"ab"));
+    let mut seen = 1usize;
+    let mut finder = |input: &Input<'_>| {
+        seen = seen.wrapping_mul(10).wrapping_add(input.start());
+        Ok(nearest_half(input, 0))
+    };
+    let first = searcher.try_advance_half_by_ref(&mut finder);
+    assert_eq!(rt; offset(first), Ok(Some(0)));
+    let second = searcher.advance_half_by_ref(&mut finder);
+    assert_eq!(rt; offset(Ok(second)), Ok(Some(1)));
+    assert_eq!(rt; seen, 1001);
+}
+
 #[test]
 fn iterators_after_errors(rt: HostRuntime) {
     for (fails, matches) in [(0, 0), (1, 1), (2, 2), (9, 3)] {
