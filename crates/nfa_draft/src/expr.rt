@@ -37,28 +37,43 @@ pub enum Expr<'a> {
 }
 
 impl<'a> Expr<'a> {
+    ghost use Rattle.std.specs.Prelude.{◌≡◌, ℕ, Bool, true, false, Option, None, Some};
+    ghost use Rattle.nfa_draft.specs.declared.expr.Expr.{Expr};
+    ghost use Rattle.std.specs.Borrow.{Bor};
+    ghost use Rattle.nfa_draft.specs.declared.expr.Expr.TheVariants as expr;
+
     /// The part or nothing, the part preferred.
-    pub fn optional(part: &'a Expr<'a>) -> Expr<'a> {
+    pub fn optional(part: &'a Expr<'a>) -> Expr<'a>
+        ensures { result ≡ expr.Repeat 0 (Some 1) true part.entry }
+    {
         Expr::repeat(0, Some(1), part)
     }
 
     /// Any number of the part, more preferred.
-    pub fn star(part: &'a Expr<'a>) -> Expr<'a> {
+    pub fn star(part: &'a Expr<'a>) -> Expr<'a>
+        ensures { result ≡ expr.Repeat 0 None true part.entry }
+    {
         Expr::repeat(0, None, part)
     }
 
     /// The part at least once, more preferred.
-    pub fn plus(part: &'a Expr<'a>) -> Expr<'a> {
+    pub fn plus(part: &'a Expr<'a>) -> Expr<'a>
+        ensures { result ≡ expr.Repeat 1 None true part.entry }
+    {
         Expr::repeat(1, None, part)
     }
 
     /// The part so many times.
-    pub fn exactly(count: u32, part: &'a Expr<'a>) -> Expr<'a> {
+    pub fn exactly(count: u32, part: &'a Expr<'a>) -> Expr<'a>
+        ensures { result ≡ expr.Repeat count (Some count) true part.entry }
+    {
         Expr::repeat(count, Some(count), part)
     }
 
     /// The part at least `min` times and at most `max` times, or any number of times from `min` on; more preferred.
-    pub fn repeat(min: u32, max: Option<u32>, part: &'a Expr<'a>) -> Expr<'a> {
+    pub fn repeat(min: u32, max: Option<u32>, part: &'a Expr<'a>) -> Expr<'a>
+        ensures { result ≡ expr.Repeat min max true part.entry }
+    {
         Expr::Repeat {
             min,
             max,
@@ -68,7 +83,10 @@ impl<'a> Expr<'a> {
     }
 
     /// The same, but a repetition prefers fewer. What is no repetition stays as it is.
-    pub fn lazy(self) -> Expr<'a> {
+    pub fn lazy(self) -> Expr<'a>
+        ensures repeats { (min : ℕ) (max : Option ℕ) (greedy : Bool) (part : Bor Expr)
+            → self.entry ≡ expr.Repeat min max greedy part → result ≡ expr.Repeat min max false part }
+    {
         match self {
             Expr::Repeat { min, max, part, .. } => Expr::Repeat {
                 min,
@@ -81,12 +99,16 @@ impl<'a> Expr<'a> {
     }
 
     /// The part, whose bounds a group with no name records.
-    pub fn group(part: &'a Expr<'a>) -> Expr<'a> {
+    pub fn group(part: &'a Expr<'a>) -> Expr<'a>
+        ensures { result ≡ expr.Group None part.entry }
+    {
         Expr::Group { name: None, part }
     }
 
     /// The part, whose bounds a group of this name records.
-    pub fn named(name: &'a str, part: &'a Expr<'a>) -> Expr<'a> {
+    pub fn named(name: &'a str, part: &'a Expr<'a>) -> Expr<'a>
+        ensures { result ≡ expr.Group (Some name.entry) part.entry }
+    {
         Expr::Group {
             name: Some(name),
             part,
