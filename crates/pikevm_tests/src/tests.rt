@@ -2,6 +2,7 @@
 
 mod caches;
 mod callers;
+mod histories;
 mod searches;
 mod sets;
 mod texts;

@@ -1,0 +1,92 @@
+//! What a cache did before does not show: two caches give one answer, by a law alone.
+
+ghost use Rattle.std.specs.Prelude.{◌≡◌, IfOk, option_map};
+ghost use Rattle.regex_search_core.specs.Found.{found_of};
+ghost use Rattle.nfa_pikevm.specs.Engines.{Fits};
+
+use nfa_engines::backtrack::{self, BoundedBacktracker};
+use nfa_engines::error::SearchError;
+use nfa_engines::laws::cache_history_is_invisible;
+use nfa_engines::pikevm::{Cache, PikeVM};
+use regex_search_core::{Input, Match};
+use std::alloc::Global;
+use std::process::Abort;
+use std::test::Fail;
+use test_support::made::{backtracker, pikevm};
+use test_support::text::parts;
+
+// The match by each of two caches.
+fn found_twice(
+    vm: &PikeVM,
+    first: &mut Cache,
+    second: &mut Cache,
+    text: &[u8],
+) -> (Option<Match>, Option<Match>)
+    requires first { Fits first.old vm.now.nfa }
+    requires second { Fits second.old vm.now.nfa }
+    ensures { option_map found_of result.0 ≡ option_map found_of result.1 }
+{
+    cache_history_is_invisible();
+    let one = vm.find(first, Input::new(text));
+    let two = vm.find(second, Input::new(text));
+    (one, two)
+}
+
+// The same by a backtracker, where no search is refused.
+fn tried_twice(
+    engine: &BoundedBacktracker,
+    first: &mut backtrack::Cache,
+    second: &mut backtrack::Cache,
+    text: &[u8],
+) -> (
+    Result<Option<Match>, SearchError>,
+    Result<Option<Match>, SearchError>,
+)
+    ensures { IfOk result.0 (λ one. IfOk result.1 (λ two. option_map found_of one ≡ option_map found_of two)) }
+{
+    cache_history_is_invisible();
+    let one = engine.try_find(first, Input::new(text));
+    let two = engine.try_find(second, Input::new(text));
+    (one, two)
+}
+
+const TEXT: &[u8] = b"x foo12 foo1";
+
+fn expect_found(rt: &impl Abort, vm: &PikeVM, used: &mut Cache, fresh: &mut Cache) {
+    if !used.fits(vm) || !fresh.fits(vm) {
+        assert!(rt; false, "caches that fit");
+        return;
+    }
+    vm.is_match(used, Input::new(b"foo foo7"));
+    let (one, two) = found_twice(vm, used, fresh, TEXT);
+    assert_eq!(rt; one.map(parts), Some((0, 2, 7)));
+    assert_eq!(rt; two.map(parts), Some((0, 2, 7)));
+}
+
+#[test]
+fn a_used_cache_answers_as_a_fresh_one(rt: HostRuntime) -> Result<(), Fail> {
+    let alloc = rt.alloc();
+    let vm = pikevm(alloc, "foo_num")?;
+    let mut used = vm.create_cache(alloc)?;
+    let mut fresh = vm.create_cache(alloc)?;
+    expect_found(&rt, &vm, &mut used, &mut fresh);
+    Ok(())
+}
+
+fn expect_tried(rt: &impl Abort, alloc: Global, engine: &BoundedBacktracker) {
+    let mut used = engine.create_cache(alloc);
+    let mut fresh = engine.create_cache(alloc);
+    let warmed = engine.try_is_match(&mut used, Input::new(b"foo foo7"));
+    assert_eq!(rt; warmed, Ok(true));
+    let (one, two) = tried_twice(engine, &mut used, &mut fresh, TEXT);
+    assert_eq!(rt; one.map(|found| found.map(parts)), Ok(Some((0, 2, 7))));
+    assert_eq!(rt; two.map(|found| found.map(parts)), Ok(Some((0, 2, 7))));
+}
+
+#[test]
+fn a_used_cache_of_a_backtracker_answers_as_a_fresh_one(rt: HostRuntime) -> Result<(), Fail> {
+    let alloc = rt.alloc();
+    let engine = backtracker(alloc, "foo_num")?;
+    expect_tried(&rt, alloc, &engine);
+    Ok(())
+}
