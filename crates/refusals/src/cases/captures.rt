@@ -13,7 +13,7 @@ use regex_search_core::{Captures, Input, NonMaxUsize, PatternID};
 use std::alloc::Global;
 use test_support::text::parts;
 
-/// Iterations of both engines over captures, and of a finder that a searcher keeps.
+/// Iterations of both engines over captures, and of a stored finder.
 pub fn lists(alloc: Global, seen: &mut Seen) -> Result<(), Wrong> {
     tries(alloc, seen)?;
     sure_lists(alloc, seen)?;
