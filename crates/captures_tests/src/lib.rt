@@ -1,4 +1,4 @@
-//! The iterators over captures of both engines, side by side.
+//! Captures of both engines, side by side: the searches that fill them, and the iterators.
 #![tactic(auto)]
 
 #[cfg(test)]

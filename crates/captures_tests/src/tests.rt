@@ -1,5 +1,7 @@
-//! Tests of the iterators over captures: lists, refusals, and callers that use what is promised of them.
+//! Tests of searches that fill captures, and of the iterators over captures: lists, refusals, and callers that use what
+//! is promised of them.
 mod callers;
+mod others;
 mod refused;
 mod table;
 mod texts;

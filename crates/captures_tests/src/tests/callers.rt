@@ -46,6 +46,42 @@ pub(crate) fn tries_collected(
     }
 }
 
+// All captures of the text, searched with captures that are made here.
+pub(crate) fn collected_with(
+    vm: &PikeVM,
+    alloc: Global,
+    cache: &mut pikevm::Cache,
+    text: &[u8],
+) -> Result<Vec<Result<Captures, SearchError>>, AllocError>
+    requires { Fits cache.old vm.now.nfa }
+    ensures { IfOk result (λ items.
+        AreAllCaptures (TellsRow vm.now.nfa (kind_of vm.now) false) (whole text.now) items.items) }
+{
+    match vm.create_captures(alloc) {
+        Ok(captures) => vm
+            .captures_iter_with(cache, Input::new(text), captures)
+            .collect(alloc),
+        Err(_) => Err(AllocError),
+    }
+}
+
+// The same of a backtracker.
+pub(crate) fn tries_collected_with(
+    engine: &BoundedBacktracker,
+    alloc: Global,
+    cache: &mut backtrack::Cache,
+    text: &[u8],
+) -> Result<Vec<Result<Captures, SearchError>>, AllocError>
+    ensures { IfOk result (λ items. AreAllCaptures (IsCatchOf engine.now) (whole text.now) items.items) }
+{
+    match engine.create_captures(alloc) {
+        Ok(captures) => engine
+            .try_captures_iter_with(cache, Input::new(text), captures)
+            .collect(alloc),
+        Err(_) => Err(AllocError),
+    }
+}
+
 // The captures of the matches of the text, where there is memory for all.
 pub(crate) fn looped(
     vm: &PikeVM,

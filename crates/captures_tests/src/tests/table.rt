@@ -1,5 +1,7 @@
 //! Lists of captures of the sample NFAs, of both engines.
-use super::callers::{collected, looped, tries_collected, tries_looped};
+use super::callers::{
+    collected, collected_with, looped, tries_collected, tries_collected_with, tries_looped,
+};
 use super::{backtracker, pikevm};
 use nfa_engines::Captures;
 use nfa_engines::error::SearchError;
@@ -10,18 +12,18 @@ use std::test::Fail;
 // A pattern, and its slots.
 type Row = (usize, &'static [Option<usize>]);
 
+const FOOS: &[u8] = b"foo1 foo12 foo123";
+
+const FOO_ROWS: &[Row] = &[
+    (0, &[Some(0), Some(4), Some(3), Some(4)]),
+    (0, &[Some(5), Some(10), Some(8), Some(10)]),
+    (0, &[Some(11), Some(17), Some(14), Some(17)]),
+];
+
 // A name, a haystack, and the list of the captures that come of it.
 const LISTS: &[(&str, &[u8], &[Row])] = &[
     ("a_bare", b"a", &[]),
-    (
-        "foo_num",
-        b"foo1 foo12 foo123",
-        &[
-            (0, &[Some(0), Some(4), Some(3), Some(4)]),
-            (0, &[Some(5), Some(10), Some(8), Some(10)]),
-            (0, &[Some(11), Some(17), Some(14), Some(17)]),
-        ],
-    ),
+    ("foo_num", FOOS, FOO_ROWS),
     (
         "date",
         b"2010-03-14",
@@ -79,7 +81,7 @@ const LISTS: &[(&str, &[u8], &[Row])] = &[
     ("a_or_empty", b"\x80a", &[(0, &[Some(1), Some(2)])]),
 ];
 
-fn is_row(captures: &Captures, row: &Row) -> bool {
+pub(crate) fn is_row(captures: &Captures, row: &Row) -> bool {
     let (pattern, slots) = *row;
     match captures.pattern() {
         Some(found) => found.as_usize() == pattern && have_slots(captures, slots),
@@ -147,5 +149,25 @@ fn backtracker_gives_them_to_a_loop(rt: HostRuntime) -> Result<(), Fail> {
     let mut cache = engine.create_cache(alloc);
     let all = tries_looped(&engine, alloc, &mut cache, b"abc 1 foo 4567 0 quux")?;
     assert_eq!(rt; all.len(), 6);
+    Ok(())
+}
+
+#[test]
+fn pikevm_gives_them_with_captures_of_the_caller(rt: HostRuntime) -> Result<(), Fail> {
+    let alloc = rt.alloc();
+    let vm = pikevm(alloc, "foo_num")?;
+    let mut cache = vm.create_cache(alloc)?;
+    let items = collected_with(&vm, alloc, &mut cache, FOOS)?;
+    assert_rows(&rt, items.as_slice(), FOO_ROWS, "foo_num");
+    Ok(())
+}
+
+#[test]
+fn backtracker_gives_them_with_captures_of_the_caller(rt: HostRuntime) -> Result<(), Fail> {
+    let alloc = rt.alloc();
+    let engine = backtracker(alloc, "foo_num")?;
+    let mut cache = engine.create_cache(alloc);
+    let items = tries_collected_with(&engine, alloc, &mut cache, FOOS)?;
+    assert_rows(&rt, items.as_slice(), FOO_ROWS, "foo_num");
     Ok(())
 }

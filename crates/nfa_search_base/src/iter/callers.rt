@@ -1,5 +1,5 @@
 //! Callers of the iterators over stored finders, as a user would write them.
-ghost use Rattle.std.specs.Prelude.{◌≡◌, [], ◌∷◌, Some, Ok, IfOk, map};
+ghost use Rattle.std.specs.Prelude.{◌≡◌, [], ◌∷◌, Some, Ok, IfOk, IsTrue, map};
 ghost use Rattle.regex_search_core.specs.Found.{found_of, half_found_of};
 ghost use Rattle.regex_search_core.specs.Search.{search_of, whole};
 ghost use Rattle.nfa_search_base.specs.Catching.{CatchesAlong, UpToRefusal, caught_by, row_of, row_span};
@@ -45,7 +45,7 @@ fn collected(alloc: Global, haystack: &[u8]) -> Result<Vec<Result<Match, SearchE
 }
 
 // What any finder tells, collected: the list of it.
-fn collected_by<F>(
+pub(super) fn collected_by<F>(
     alloc: Global,
     haystack: &[u8],
     finder: F,
@@ -62,7 +62,7 @@ where
 }
 
 // The same of a finder that never errs.
-fn surely_collected_by<F>(
+pub(super) fn surely_collected_by<F>(
     alloc: Global,
     haystack: &[u8],
     finder: F,
@@ -81,7 +81,7 @@ where
 }
 
 // The same of half matches.
-fn halves_collected_by<F>(
+pub(super) fn halves_collected_by<F>(
     alloc: Global,
     haystack: &[u8],
     finder: F,
@@ -182,6 +182,28 @@ fn captured_or_error(input: &Input<'_>, captures: &mut Captures) -> Result<(), S
     Ok(())
 }
 
+// The match that the slots tell, where it lies in the span, or none; and an error where the span starts at `fails`.
+fn captured_or_fails(
+    input: &Input<'_>,
+    captures: &mut Captures,
+    fails: usize,
+) -> Result<(), SearchError>
+    ensures { IsInside row_span (search_of input.now) (caught_by captures.new result) }
+{
+    if input.start() == fails {
+        return Err(SearchError::Finder(MatchError::GaveUp { offset: 7 }));
+    }
+    captures.set_pattern(PatternID::new(0));
+    let inside = match captures.get_match() {
+        Some(found) => found.start() >= input.start() && found.end() <= input.end(),
+        None => false,
+    };
+    if !inside {
+        captures.set_pattern(None);
+    }
+    Ok(())
+}
+
 fn outcome(item: Option<Result<Captures, SearchError>>) -> &'static str {
     match item {
         Some(Ok(captures)) => {
@@ -201,6 +223,20 @@ fn outcome(item: Option<Result<Captures, SearchError>>) -> &'static str {
 fn outcomes(alloc: Global, captures: Captures) -> Result<String, AllocError> {
     let searcher = Searcher::new(Input::new(b"ab"));
     let mut items = searcher.into_captures_iter(captures, captured_or_error);
+    let mut text = String::new(alloc);
+    for _ in 0..5 {
+        text.push_str(outcome(items.next()))?;
+    }
+    Ok(text)
+}
+
+// What five calls give of the first byte alone, up to an error where a span starts at `fails`.
+fn outcomes_of_byte(alloc: Global, captures: Captures, fails: usize) -> Result<String, AllocError> {
+    let searcher = Searcher::new(Input::new(b"ab"));
+    let mut items = searcher.into_captures_iter(
+        captures,
+        |input, captures| captured_or_fails(input, captures, fails),
+    );
     let mut text = String::new(alloc);
     for _ in 0..5 {
         text.push_str(outcome(items.next()))?;
@@ -232,6 +268,24 @@ fn an_error_ends_captures(rt: HostRuntime) -> Result<(), Fail> {
     Ok(())
 }
 
+// Where a span starts that no search answers, and what five calls give: the error of the first call, of the second
+// one, and none.
+const ERRORS: &[(usize, &str)] = &[
+    (0, "error, none, none, none, none, "),
+    (1, "match, error, none, none, none, "),
+    (2, "match, none, none, none, none, "),
+];
+
+#[test]
+fn an_error_of_each_call_ends_captures(rt: HostRuntime) -> Result<(), Fail> {
+    let alloc = rt.alloc();
+    for &(fails, want) in ERRORS {
+        let text = outcomes_of_byte(alloc, captures_at(alloc, 0, 1)?, fails)?;
+        assert_eq!(rt; text.as_str(), want);
+    }
+    Ok(())
+}
+
 const TRIES: &str = concat!(
     "TryCapturesIter { searcher: Searcher { input: Input { haystack: [97], span: Span { start: 0, end: 1 }, ",
     "anchored: No, earliest: false }, last_match_end: None }, captures: Captures { group_info: GroupInfo ",
@@ -260,6 +314,19 @@ fn no_captures(alloc: Global) -> Result<Captures, Fail> {
     Ok(Captures::matches(alloc, groups)?)
 }
 
+// Captures of one pattern without a match, whose slots are these two.
+fn captures_at(alloc: Global, start: usize, end: usize) -> Result<Captures, Fail> {
+    let mut captures = no_captures(alloc)?;
+    set_slots(&mut captures, start, end);
+    Ok(captures)
+}
+
+fn set_slots(captures: &mut Captures, start: usize, end: usize) {
+    for (slot, offset) in captures.slots_mut().iter_mut().zip([start, end]) {
+        *slot = NonMaxUsize::new(offset);
+    }
+}
+
 #[test]
 fn captures_come(rt: HostRuntime) -> Result<(), Fail> {
     let alloc = rt.alloc();
@@ -280,5 +347,42 @@ fn lists(rt: HostRuntime) -> Result<(), Fail> {
     for (at, item) in all.iter().enumerate() {
         assert_eq!(rt; item.map(|found| found.end()), Ok(at));
     }
+    Ok(())
+}
+
+// Both slots, of which there are two, are 0.
+fn are_zeros(captures: &Captures) -> bool
+    ensures { IsTrue result → captures.now.slots ≡ Some 0 ∷ Some 0 ∷ [] }
+{
+    match captures.slots() {
+        [Some(first), Some(second)] => first.get() == 0 && second.get() == 0,
+        _ => false,
+    }
+}
+
+#[test]
+fn a_list_of_captures_is_collected(rt: HostRuntime) -> Result<(), Fail> {
+    let alloc = rt.alloc();
+    let captures = captures_at(alloc, 0, 0)?;
+    assert!(rt; are_zeros(&captures));
+    assert_eq!(rt; collected_captures(alloc, b"ab", captures)?.len(), 1);
+    Ok(())
+}
+
+#[test]
+fn captures_that_a_finder_leaves_are_collected(rt: HostRuntime) -> Result<(), Fail> {
+    let alloc = rt.alloc();
+    let some = captures_collected_by(
+        alloc,
+        b"ab",
+        captures_at(alloc, 0, 1)?,
+        |input, captures| captured_or_fails(input, captures, 1),
+    )?;
+    assert_eq!(rt; some.len(), 2);
+    let all = captures_surely_collected_by(alloc, b"ab", no_captures(alloc)?, |input, captures| {
+        captures.set_pattern(None);
+        Ok(())
+    })?;
+    assert_eq!(rt; all.len(), 0);
     Ok(())
 }

@@ -1,17 +1,23 @@
 //! Iterations over captures that were refused memory: none is made, or a beginning of the list comes, the refusal once,
-//! and then nothing.
+//! and then nothing. The cache serves the next search.
+ghost use Rattle.regex_search_core.specs.Search.{search_of};
+ghost use Rattle.nfa_search_base.specs.Catching.{caught_by, row_span};
+ghost use Rattle.nfa_search_base.specs.Walks.{IsInside};
 
-use super::{Seen, Wrong, engines, expect};
+use super::{Seen, Wrong, engines, expect, searches};
 use nfa_engines::backtrack::{self, BoundedBacktracker, TryCapturesMatches};
 use nfa_engines::error::SearchError;
+use nfa_engines::iter::Searcher;
 use nfa_engines::pikevm::{self, CapturesMatches, PikeVM};
-use regex_search_core::{Captures, Input};
+use regex_search_core::{Captures, Input, NonMaxUsize, PatternID};
 use std::alloc::Global;
+use test_support::text::parts;
 
-/// Iterations of both engines over captures.
+/// Iterations of both engines over captures, and of a stored finder.
 pub fn lists(alloc: Global, seen: &mut Seen) -> Result<(), Wrong> {
     tries(alloc, seen)?;
-    sure_lists(alloc, seen)
+    sure_lists(alloc, seen)?;
+    stored(alloc, seen)
 }
 
 fn tries(alloc: Global, seen: &mut Seen) -> Result<(), Wrong> {
@@ -85,6 +91,20 @@ fn tried(
     engine: &BoundedBacktracker,
     cache: &mut backtrack::Cache,
 ) -> Result<(), Wrong> {
+    expect_tries(alloc, seen, engine, cache)?;
+    let found = searches::found(seen, engine, cache, HAYSTACK)?;
+    expect(
+        found.map(parts) == Some((0, 0, 4)),
+        "the match after captures",
+    )
+}
+
+fn expect_tries(
+    alloc: Global,
+    seen: &mut Seen,
+    engine: &BoundedBacktracker,
+    cache: &mut backtrack::Cache,
+) -> Result<(), Wrong> {
     match engine.try_captures_iter(alloc, cache, Input::new(HAYSTACK)) {
         Ok(mut items) => expect_tried(seen, &mut items),
         Err(error) => seen.note(error == SearchError::Memory),
@@ -97,11 +117,94 @@ fn sure(
     vm: &PikeVM,
     cache: &mut pikevm::Cache,
 ) -> Result<(), Wrong> {
+    expect_sures(alloc, seen, vm, cache)?;
+    if !cache.fits(vm) {
+        return Err(Wrong("a cache that fits no more after captures"));
+    }
+    let found = vm.find(cache, Input::new(HAYSTACK));
+    expect(
+        found.map(parts) == Some((0, 0, 4)),
+        "the match after captures",
+    )
+}
+
+fn expect_sures(
+    alloc: Global,
+    seen: &mut Seen,
+    vm: &PikeVM,
+    cache: &mut pikevm::Cache,
+) -> Result<(), Wrong> {
     if !cache.fits(vm) {
         return Err(Wrong("a cache that does not fit its engine"));
     }
     match vm.captures_iter(alloc, cache, Input::new(HAYSTACK)) {
         Ok(mut items) => expect_sure(seen, &mut items),
         Err(error) => seen.note(error == SearchError::Memory),
+    }
+}
+
+fn stored(alloc: Global, seen: &mut Seen) -> Result<(), Wrong> {
+    let vm = engines::pikevm(alloc, seen, "abc")?;
+    let captures = engines::captures(alloc, seen, vm.get_nfa().group_info())?;
+    expect_stored(seen, captures)
+}
+
+// Captures of the first byte of the span, where it has one.
+fn first_byte(input: &Input<'_>, captures: &mut Captures) -> Result<(), SearchError>
+    ensures { IsInside row_span (search_of input.now) (caught_by captures.new result) }
+{
+    let start = input.start();
+    for (slot, offset) in captures
+        .slots_mut()
+        .iter_mut()
+        .zip([start, start.saturating_add(1)])
+    {
+        *slot = NonMaxUsize::new(offset);
+    }
+    captures.set_pattern(PatternID::new(0));
+    let inside = match captures.get_match() {
+        Some(found) => found.start() >= start && found.end() <= input.end(),
+        None => false,
+    };
+    if !inside {
+        captures.set_pattern(None);
+    }
+    Ok(())
+}
+
+// The items are the three bytes, or those before some place and the refusal of a copy, and then nothing.
+fn expect_stored(seen: &mut Seen, captures: Captures) -> Result<(), Wrong> {
+    let mut items = Searcher::new(Input::new(b"abc")).into_captures_iter(captures, first_byte);
+    for start in 0..3 {
+        if !is_byte(seen, items.next(), start)? {
+            break;
+        }
+    }
+    let ended = items.next().is_none() && items.next().is_none();
+    expect(ended, "captures of a finder behind the end")
+}
+
+// Whether the item is the byte at this place; a refusal is noted.
+fn is_byte(
+    seen: &mut Seen,
+    item: Option<Result<Captures, SearchError>>,
+    start: usize,
+) -> Result<bool, Wrong> {
+    match item {
+        Some(Ok(captures)) => {
+            let found = captures
+                .get_match()
+                .map(|found| (found.start(), found.end()));
+            expect(
+                found == Some((start, start.saturating_add(1))),
+                "the captures of a finder",
+            )?;
+            Ok(true)
+        }
+        Some(Err(error)) => {
+            seen.note(error == SearchError::Memory)?;
+            Ok(false)
+        }
+        None => Err(Wrong("a list of a finder that ends too early")),
     }
 }

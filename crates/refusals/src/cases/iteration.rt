@@ -1,7 +1,8 @@
-//! Iterations that were refused memory: a beginning of the list, the refusal once, then nothing.
+//! Iterations that were refused memory: a beginning of the list, the refusal once, then nothing. The cache serves the
+//! next search.
 
-use super::{Seen, Wrong, engines, expect, made};
-use nfa_engines::backtrack::{BoundedBacktracker, TryFindMatches};
+use super::{Seen, Wrong, engines, expect, made, searches};
+use nfa_engines::backtrack::{BoundedBacktracker, Cache, TryFindMatches};
 use nfa_engines::error::SearchError;
 use nfa_engines::iter::Searcher;
 use regex_search_core::Input;
@@ -73,9 +74,25 @@ fn expect_list(
     all: &[(usize, usize, usize)],
 ) -> Result<(), Wrong> {
     let mut cache = engine.create_cache(alloc);
-    let mut matches = engine.try_find_iter(&mut cache, Input::new(haystack.as_bytes()));
-    expect_beginning(seen, &mut matches, all)?;
+    expect_items(seen, engine, &mut cache, haystack.as_bytes(), all)?;
     expect_listed(alloc, seen, engine, haystack, all)
+}
+
+// The items, and then the first match once more by a search with the same cache.
+fn expect_items(
+    seen: &mut Seen,
+    engine: &BoundedBacktracker,
+    cache: &mut Cache,
+    haystack: &[u8],
+    all: &[(usize, usize, usize)],
+) -> Result<(), Wrong> {
+    let mut matches = engine.try_find_iter(cache, Input::new(haystack));
+    expect_beginning(seen, &mut matches, all)?;
+    let found = searches::found(seen, engine, cache, haystack)?;
+    expect(
+        found.map(parts) == all.first().copied(),
+        "the match after an iteration",
+    )
 }
 
 // As one value the list comes whole, or not at all.
