@@ -27,8 +27,9 @@ fn found_twice(
     ensures { option_map found_of result.0 ≡ option_map found_of result.1 }
 {
     cache_history_is_invisible();
-    let one = vm.find(first, Input::new(text));
-    let two = vm.find(second, Input::new(text));
+    let input = Input::new(text);
+    let one = vm.find(first, input);
+    let two = vm.find(second, input);
     (one, two)
 }
 
@@ -45,8 +46,9 @@ fn tried_twice(
     ensures { IfOk result.0 (λ one. IfOk result.1 (λ two. option_map found_of one ≡ option_map found_of two)) }
 {
     cache_history_is_invisible();
-    let one = engine.try_find(first, Input::new(text));
-    let two = engine.try_find(second, Input::new(text));
+    let input = Input::new(text);
+    let one = engine.try_find(first, input);
+    let two = engine.try_find(second, input);
     (one, two)
 }
 
