@@ -1,5 +1,5 @@
-//! What the paths of an NFA and the answers of a search are (defined in `specs/`), the [`error`] of
-//! a search, the skipping of matches that split a character ([`empty`]), and iteration ([`iter`]).
+//! What all searches share, whichever engine makes them: the [`error`] of a search, the skipping of matches that split
+//! a character ([`empty`]), and iteration over matches ([`iter`]). What a search answers is defined in `nfa_paths`.
 #![tactic(auto)]
 
 mod asking;
