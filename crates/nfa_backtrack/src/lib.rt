@@ -5,6 +5,15 @@
 //! most (1 + D)(n + 1) turns, D being the edges of all states at a position. A search is one scan, or up to n + 2 where
 //! an end inside a character does not count. There is a mark for each state and position, which is why a search of too
 //! long a span is refused ([`BoundedBacktracker::max_haystack_len`]).
+//!
+//! Take it for short spans and leftmost first matches, mostly by its front in `nfa_engines`. The PikeVM (`nfa_pikevm`)
+//! is for all else, and refuses no search.
+//!
+//! ```
+//! let engine = BoundedBacktracker::new_from_nfa(nfa)?;
+//! let mut cache = engine.create_cache(alloc);
+//! let found = engine.try_find(&mut cache, Input::new(b"ab, abb"))?;
+//! ```
 #![tactic(auto)]
 
 mod cache;

@@ -1,4 +1,15 @@
 //! Why a search gives no answer.
+//!
+//! A PikeVM's searches have no error; its makers do, and so has every call of a backtracker that may refuse. `?` turns
+//! what a growth or a finder of one's own errs with into this error.
+//!
+//! ```
+//! match engine.try_find(&mut cache, Input::new(text)) {
+//!     Ok(found) => println!(rt; "{found:?}")?,
+//!     Err(SearchError::HaystackTooLong { len }) => println!(rt; "{len} bytes are too many")?,
+//!     Err(error) => return Err(error.into()),
+//! }
+//! ```
 use regex_search_core::{MatchError, Refused};
 use std::alloc::AllocFailed;
 use thiserror::Error;
