@@ -8,20 +8,30 @@ mod report;
 mod tests;
 
 use anyhow::Result;
-use std::io;
-use std::io::{BufWriter, Read};
+use std::io::BufWriter;
 use std::process::ExitCode;
+use std::{env, io};
+
+/// The line that says how the program is called.
+const USAGE: &str = "usage: lexer < TEXT";
 
 /// The text has a place where no token starts.
 const STUCK: u8 = 1;
 
+/// The words on the command line ask for something, and the program knows none.
+const MISUSED: u8 = 2;
+
 // An error is printed on standard error, and the status then is 1 too.
 fn main(rt: HostRuntime) -> Result<ExitCode> {
     let alloc = rt.alloc();
-    let mut text = Vec::new(alloc);
-    rt.reader().read_to_end(&mut text)?;
+    let words: Vec<String> = env::args(&rt)?.skip(1).collect(alloc)?;
+    if !words.is_empty() {
+        // The status tells of it where this is not written.
+        let _ = eprintln!(rt; "{USAGE}");
+        return Ok(ExitCode::from(MISUSED));
+    }
     let mut out = BufWriter::new(alloc, io::writer(&rt))?;
-    let whole = report::run(alloc, &text, &mut out)?;
+    let whole = report::run(alloc, rt.reader(), &mut out)?;
     Ok(if whole {
         ExitCode::SUCCESS
     } else {

@@ -7,12 +7,18 @@ use anyhow::Result;
 use nfa_engines::pikevm::PikeVM;
 use std::alloc::Global;
 use std::io;
-use std::io::Write;
+use std::io::{Read, Write};
 
-/// Prints the tokens of the text, and whether they are the whole of it. Where they are not, the last line says at which
-/// offset no token starts. The error is that the output was not written, or memory refused; nothing more is written
-/// then.
-pub fn run<W: Write>(alloc: Global, text: &[u8], out: &mut W) -> Result<bool> {
+/// Reads the text to its end and prints its tokens, and says whether they are the whole of it. Where they are not, the
+/// last line says at which offset no token starts. The error is that the input was not read, the output not written, or
+/// memory refused; nothing more is written then.
+pub fn run<R: Read + Drop, W: Write>(alloc: Global, mut input: R, out: &mut W) -> Result<bool> {
+    let mut text = Vec::new(alloc);
+    input.read_to_end(&mut text)?;
+    write_tokens(alloc, &text, out)
+}
+
+fn write_tokens<W: Write>(alloc: Global, text: &[u8], out: &mut W) -> Result<bool> {
     let vm = PikeVM::new_from_nfa(language(alloc)?)?;
     let mut cache = vm.create_cache(alloc)?;
     let lexed = tokens(alloc, &vm, &mut cache, text)?;

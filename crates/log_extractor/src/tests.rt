@@ -3,7 +3,7 @@ use crate::options::Options;
 use crate::parser::Parser;
 use crate::report::run;
 use std::io;
-use std::io::Write;
+use std::io::{BufReader, Read, Write};
 use std::test::Fail;
 
 #[test]
@@ -119,5 +119,37 @@ fn ends_where_a_write_fails(rt: HostRuntime) -> Result<(), Fail> {
         taken_all = taken_all || ended.is_ok();
     }
     assert!(rt; taken_all);
+    Ok(())
+}
+
+// Can be read once, and no more.
+#[derive(Drop)]
+struct Breaking<'t> {
+    text: &'t [u8],
+}
+
+impl<'t> Read for Breaking<'t> {
+    fn read(&mut self, buf: &mut [u8]) -> io::Result<usize> {
+        let text = self.text;
+        if text.is_empty() {
+            return Err(io::Error::from(io::ErrorKind::PermissionDenied));
+        }
+        self.text = &[];
+        let mut left = text;
+        left.read(buf)
+    }
+}
+
+#[test]
+fn ends_where_the_input_is_not_read(rt: HostRuntime) -> Result<(), Fail> {
+    let alloc = rt.alloc();
+    for text in [&b""[..], b"2026-11-22 14:03:07 ERROR disk full\nnoise"] {
+        let mut out = Vec::new(alloc);
+        let input = BufReader::new(alloc, Breaking { text })?;
+        let ended = run(alloc, Options { rejects: true }, input, &mut out);
+        assert!(rt; ended.is_err());
+        // The counts stand at the end of an input that was read.
+        assert!(rt; !out.ends_with(b"not matching 0\n"));
+    }
     Ok(())
 }

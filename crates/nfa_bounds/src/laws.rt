@@ -1,4 +1,12 @@
 //! What `records_bounds` means for searches. Each function is empty: its contract is the theorem.
+//!
+//! Take one where a proof needs that no match is missed: the call costs nothing when it runs, and its clauses are at
+//! hand in the proof of the function that makes it. What holds of every NFA stands in the laws of `nfa_engines`.
+//!
+//! ```
+//! no_match_is_passed_over();
+//! let nothing = records_bounds(alloc, vm.get_nfa())? && vm.find(&mut cache, input).is_none();
+//! ```
 ghost use Rattle.regex_search_core.specs.declared.search.MatchKind.TheVariants.{LeftmostFirst};
 ghost use Rattle.std.specs.Prelude.{false};
 ghost use Rattle.nfa_bounds.specs.BoundsLaws.{AnchoredStartsTheSpan, EverySearchIsRecorded, NoneIsNoPathThere};

@@ -4,8 +4,9 @@
 //! state has to be chosen, `NFA::from_states` takes the states themselves.
 //!
 //! An expression borrows its parts, so it takes no memory and can be a constant. Write parts that several expressions
-//! share as constants: a constant may stand in any expression, while borrows of two local variables may be too short
-//! for one another. Building the NFA takes memory, and each mistake in an expression is an error that names it.
+//! share as constants, which may stand in any expression. Where a function borrows two parts of one `Concat` or
+//! `Alternation`, write them as statics: the borrow checker refuses borrows of two constants or local variables there.
+//! Building the NFA takes memory, and each mistake in an expression is an error that names it.
 //!
 //! # A word
 //!

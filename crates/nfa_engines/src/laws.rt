@@ -1,4 +1,13 @@
 //! Laws over the definitions alone. Each function is empty: its contract is the theorem.
+//!
+//! No program needs them to search. Take one where a proof about answers does, as that two searches agree: the call
+//! costs nothing when it runs, and its clauses are at hand in the proof of the function that makes it.
+//!
+//! ```
+//! engines_agree();
+//! let pattern = vm.search_slots(&mut cache, &input, &mut slots);
+//! let same = engine.try_search_slots(&mut other, &input, &mut others)?;
+//! ```
 ghost use Rattle.regex_search_core.specs.declared.search.MatchKind.TheVariants.{All, LeftmostFirst};
 ghost use Rattle.std.specs.Prelude.{true, false};
 ghost use Rattle.nfa_engines.specs.CapacityLaws.{LeastCapacityIsEnough, LongerIsRefused, LongestLengthFits};

@@ -1,8 +1,19 @@
 //! Searches of a Thompson NFA.
 //!
-//! [`backtrack`] searches depth first and marks what it has tried; [`pikevm`] follows all states side by side. Both
-//! give the answer that the same definition names; [`laws`] says that there is one, and only one. What a caller of them
-//! needs, types and words of contracts, is handed on from here.
+//! [`pikevm`] follows all states side by side: it takes texts of any length and every match kind, and no search fails.
+//! [`backtrack`] searches depth first and marks what it has tried: it is mostly faster on short spans, answers leftmost
+//! first alone, and may refuse. `nfa_choice` holds both and takes the one that suits. All give the answer that the same
+//! definition names; [`laws`] says that there is one, and only one.
+//!
+//! ```
+//! let vm = PikeVM::new_from_nfa(nfa)?;
+//! let mut cache = vm.create_cache(alloc)?;
+//! for found in vm.find_iter(&mut cache, Input::new(b"ab, abb")) {
+//!     println!(rt; "{}..{}", found.start(), found.end())?;
+//! }
+//! ```
+//!
+//! What a caller of them needs, types and words of contracts, is handed on from here.
 #![tactic(auto)]
 
 pub mod backtrack;

@@ -1,4 +1,12 @@
 //! Sample NFAs by name, for tests and for trying the engines out.
+//!
+//! Take it to try a search before an NFA of one's own is written; `nfa_draft` makes one from an expression, and
+//! `thompson_nfa` from its states. [`answers`] has what searches of the samples answer.
+//!
+//! ```
+//! let nfa = sample(alloc, "foo_num")?.context("there is no NFA of this name")?;
+//! let vm = PikeVM::new_from_nfa(nfa)?;
+//! ```
 #![tactic(auto)]
 
 ghost use Rattle.std.specs.Prelude.{◌≡◌, ◌↔◌, Err, IfErr, IfOk, IsNone, IsSome};

@@ -4,8 +4,16 @@
 //! count. A search that found one goes on from one byte further, as often as it takes. The rule is
 //! that of regex-automata's `util::empty`.
 //!
-//! The engines skip by themselves. Take these functions for an engine of another make, which finds matches inside characters:
-//! they are handed its first answer and call it again where that does not count.
+//! The engines skip by themselves. Take these functions for an engine of another make, which finds matches inside
+//! characters: they are handed its first answer and call it again where that does not count.
+//!
+//! ```
+//! // `search` gives a match and its end, wherever it lies.
+//! let found = match search(&input)? {
+//!     Some((found, end)) => skip_splits_fwd(&input, found, end, |input: &Input<'_>| search(input))?,
+//!     None => None,
+//! };
+//! ```
 
 ghost use Rattle.std.specs.Prelude.{◌≡◌, Some, None, Ok, true, false};
 ghost use Rattle.regex_search_core.specs.Boundary.{IsBoundary};

@@ -1,4 +1,15 @@
 //! Why a search gives no answer.
+//!
+//! A PikeVM's searches have no error, but what takes memory for it has, and so has every search of a backtracker. `?`
+//! turns a [`Refused`], the error of a `push` and the [`MatchError`] of a finder of one's own into this one.
+//!
+//! ```
+//! match engine.try_find(&mut cache, Input::new(text)) {
+//!     Ok(found) => println!(rt; "{found:?}")?,
+//!     Err(SearchError::HaystackTooLong { len }) => println!(rt; "{len} bytes are too many")?,
+//!     Err(error) => return Err(error.into()),
+//! }
+//! ```
 use regex_search_core::{MatchError, Refused};
 use std::alloc::AllocFailed;
 use thiserror::Error;
@@ -13,7 +24,7 @@ pub enum SearchError {
     #[error("out of memory")]
     Memory,
     /// A finder of the caller's failed; its error is handed on and never looked into.
-    #[error("the finder failed: {0:?}")]
+    #[error("the finder failed: {0}")]
     Finder(MatchError),
 }
 
@@ -66,7 +77,7 @@ mod tests {
             (SearchError::Memory, "out of memory"),
             (
                 SearchError::Finder(MatchError::GaveUp { offset: 7 }),
-                "the finder failed: GaveUp { offset: 7 }",
+                "the finder failed: the search gave up at offset 7",
             ),
         ] {
             assert_eq!(rt; format!(in rt.alloc(); "{error}")?.as_str(), want);

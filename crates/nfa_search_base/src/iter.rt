@@ -6,8 +6,8 @@
 //! So the ends of the matches go up, and there are at most as many matches as the span has bytes,
 //! and one more. The rule is that of regex-automata's `util::iter`.
 //!
-//! The engines have iterators of their own (`find_iter`, `captures_iter`). Take a searcher for a search of another make, or
-//! where something is to happen between the steps.
+//! The engines have iterators of their own (`find_iter`, `captures_iter`). Take a searcher for a search of another
+//! make, or where something is to happen between the steps.
 //!
 //! ```
 //! let mut searcher = Searcher::new(Input::new(text));

@@ -1,5 +1,15 @@
-//! What the paths of an NFA and the answers of a search are (defined in `specs/`), the [`error`] of
-//! a search, the skipping of matches that split a character ([`empty`]), and iteration ([`iter`]).
+//! What all searches share, whichever engine makes them: the [`error`] of a search, the skipping of matches that split
+//! a character ([`empty`]), and iteration over matches ([`iter`]). What a search answers is defined in `nfa_paths`.
+//!
+//! Take it to build an engine, or an iteration over a search of another make. Who uses the engines finds all of it in
+//! `nfa_engines`, which hands these modules on.
+//!
+//! ```
+//! let mut searcher = Searcher::new(Input::new(text));
+//! while let Some(found) = searcher.try_advance(|input| engine.try_find(&mut cache, *input))? {
+//!     println!(rt; "{}..{}", found.start(), found.end())?;
+//! }
+//! ```
 #![tactic(auto)]
 
 mod asking;

@@ -10,6 +10,9 @@ use regex_search_core::Captures;
 use std::alloc::{AllocError, Global};
 
 /// The haystack with the template, filled by each match, in place of the match. The error is that a growth was refused.
+///
+/// Where the engine has several patterns, matches of all of them are replaced. The names of the template were resolved
+/// by the one pattern that [`Template::parse`] was given; what another pattern puts there is its group of that number.
 pub fn replace_all(
     alloc: Global,
     vm: &PikeVM,

@@ -56,7 +56,8 @@ pub struct Template<'t> {
 }
 
 impl<'t> Template<'t> {
-    /// The template that a text says, with the groups of this pattern.
+    /// The template that a text says, with the groups of this pattern. A part keeps the number of its group, so a match
+    /// of another pattern fills it with its own group of that number, or with nothing where it has none.
     pub fn parse(
         alloc: Global,
         text: &'t [u8],

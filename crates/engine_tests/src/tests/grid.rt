@@ -16,7 +16,7 @@ use test_support::made::{MakeError, nfa_named};
 use thompson_nfa::NFA;
 
 // A name, and the number that is made of the answers of all searches. The numbers were made of the answers of
-// regex-automata 0.4.18 to single searches. Where three numbers are one, the NFA matches in no haystack.
+// regex-automata 0.4.18 to single searches. Where two numbers are one, both NFAs answer the same in all these searches.
 const SUMS: &[(&str, u64)] = &[
     ("abc", 17516175631079300615),
     ("ab_b", 6894780911169050394),

@@ -1,5 +1,11 @@
 //! What an iterator over captures makes of a search that filled them. Engines build their iterators on it; who uses an
-//! engine does not need it.
+//! engine takes its `captures_iter` instead, and for a search of another make `Searcher::into_captures_iter`.
+//!
+//! ```
+//! let reply = engine.try_search(&mut cache, &input, &mut captures);
+//! let place = caught_span(&captures, reply);
+//! let item = caught_item(&captures, reply);
+//! ```
 ghost use Rattle.std.specs.Prelude.{◌≡◌, ◌≤◌};
 ghost use Rattle.std.specs.Option.{ForSome};
 ghost use Rattle.nfa_search_base.specs.Catching.{caught_by, row_span, GivesCopy};

@@ -14,7 +14,8 @@ use crate::iter::place::{half_match_span, match_span};
 use regex_search_core::{Captures, HalfMatch, Input, Match, Span};
 use std::marker::Model;
 
-// Whatever answers the searches of an iteration by itself: a finder that is kept.
+/// Whatever answers the searches of an iteration by itself: a finder that is kept. The iterators over a stored finder
+/// are built on it; who uses one does not need it.
 pub trait Answers: Drop {
     // What a call gives.
     type Reply: Copy;
