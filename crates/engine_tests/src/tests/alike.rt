@@ -1,5 +1,5 @@
-//! The calls that answer what another call answers: captures as a search for captures does, a list as an iteration does,
-//! and an iteration as single searches do.
+//! The calls that answer what another call answers: captures as a search for captures does, a list as an iteration
+//! does, and an iteration as single searches do.
 
 ghost use Rattle.nfa_pikevm.specs.Engines.{Fits, SameNumbers};
 
