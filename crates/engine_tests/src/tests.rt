@@ -1,5 +1,6 @@
 //! Both engines side by side.
 
+mod alike;
 mod expected;
 mod grid;
 mod memory;

@@ -1,6 +1,8 @@
 //! Reads the words of the command line, searches, and prints the matches.
-ghost use Rattle.std.specs.Prelude.{◌≡◌, ◌≤◌, IfOk};
+ghost use Rattle.std.specs.Prelude.{◌≡◌, ◌≤◌, ◌↔◌, IfErr, IfOk};
 ghost use Rattle.nfa_bench.specs.Stops.{ending};
+ghost use Rattle.nfa_bench.specs.declared.run.Stop.TheVariants.{UnknownName};
+ghost use Rattle.nfa_samples.specs.Names.{IsNoneOf, sample_names};
 
 use nfa_engines::backtrack::BoundedBacktracker;
 use nfa_engines::error::SearchError;
@@ -32,7 +34,16 @@ pub fn run<W: Write>(alloc: Global, words: &[&str], out: &mut W) -> u8
 fn print<W: Write>(alloc: Global, words: &[&str], out: &mut W) -> io::Result<u8>
     ensures { IfOk result (λ status. status ≤ 2) }
 {
-    let status = match print_matches(alloc, words, out) {
+    let searched = print_matches(alloc, words, out);
+    print_end(searched, out)
+}
+
+/// Prints what comes behind the matches: `end`, or one line that says why there are no more. Answers the status to end
+/// with, or that a write failed, the one that stopped the search among them.
+pub fn print_end<W: Write>(searched: Result<(), Stop>, out: &mut W) -> io::Result<u8>
+    ensures { IfOk result (λ status. status ≤ 2) }
+{
+    let status = match searched {
         Ok(()) => {
             out.write_all(b"end\n")?;
             0
@@ -52,11 +63,22 @@ fn print_matches<W: Write>(alloc: Global, words: &[&str], out: &mut W) -> Result
         return Err(Stop::Usage);
     };
     let engine = Engine::from_word(engine).ok_or(Stop::Usage)?;
-    let nfa = sample(alloc, name)?.ok_or(Stop::UnknownName)?;
+    let nfa = nfa_named(alloc, name)?;
     let input = Input::new(haystack.as_bytes());
     match engine {
         Engine::Backtracker => print_backtracked(alloc, nfa, input, out),
         Engine::PikeVM => print_piked(alloc, nfa, input, out),
+    }
+}
+
+/// The sample of that name. No name is unknown for want of memory.
+fn nfa_named(alloc: Global, name: &str) -> Result<NFA, Stop>
+    ensures { IfErr result (λ stop. (stop ≡ UnknownName) ↔ IsNoneOf name.now sample_names) }
+{
+    match sample(alloc, name) {
+        Ok(Some(nfa)) => Ok(nfa),
+        Ok(None) => Err(Stop::UnknownName),
+        Err(error) => Err(Stop::from(error)),
     }
 }
 
@@ -120,11 +142,16 @@ impl Engine {
 
 /// Why the program stops before it is done.
 #[derive(Debug, Drop)]
-enum Stop {
+pub enum Stop {
+    /// The words are not those that the program wants.
     Usage,
+    /// No sample has that name.
     UnknownName,
+    /// The haystack is too long for the engine.
     TooLong { len: usize },
+    /// A growth was refused.
     Memory,
+    /// What was found could not be written.
     Write(io::Error),
 }
 

@@ -1,5 +1,5 @@
 //! Tests of the program's lines and statuses.
-use crate::run::run;
+use crate::run::{Stop, print_end, run};
 use std::alloc::Global;
 use std::io;
 use std::io::Write;
@@ -74,6 +74,15 @@ fn says_which_length_is_too_long(rt: HostRuntime) -> Result<(), Fail> {
         );
         assert_eq!(rt; out.as_slice(), want.as_bytes());
     }
+    Ok(())
+}
+
+// No test here can refuse memory, so the end of such a run is printed alone.
+#[test]
+fn says_that_memory_was_refused(rt: HostRuntime) -> Result<(), Fail> {
+    let mut out = Vec::new(rt.alloc());
+    assert_eq!(rt; print_end(Err(Stop::Memory), &mut out)?, 1);
+    assert_eq!(rt; out.as_slice(), b"out of memory\n");
     Ok(())
 }
 

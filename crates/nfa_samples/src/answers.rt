@@ -124,6 +124,7 @@ pub const ALL: &[(&str, &[u8], &str)] = &[
     ),
     ("a_bare", b"a", ""),
     ("backwards", b"a", ""),
+    ("backwards", b"aa", ""),
 ];
 
 /// Of `abc`, anchored, with no name in the rows: a haystack, a number of slots, and the pattern with as many slots, `-`

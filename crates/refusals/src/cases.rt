@@ -9,21 +9,46 @@ mod searches;
 
 use std::alloc::Global;
 
-/// Whether a call has said that it was refused memory.
+/// A request that stands directly before or behind calls that are to make none.
+#[derive(Clone, Copy, Debug, PartialEq, Eq)]
+pub enum Edge {
+    /// The one before.
+    Opening,
+    /// The one behind.
+    Closing,
+}
+
+/// Whether a call has said that it was refused memory, and which edge was.
 #[derive(Clone, Copy, Debug)]
 pub struct Seen {
     refused: bool,
+    edge: Option<Edge>,
 }
 
 impl Seen {
-    /// No call has.
+    /// No call has, and no edge was.
     pub fn new() -> Seen {
-        Seen { refused: false }
+        Seen {
+            refused: false,
+            edge: None,
+        }
     }
 
-    /// Whether one has.
+    /// Whether a call has.
     pub fn refused(&self) -> bool {
         self.refused
+    }
+
+    /// The edge that was refused.
+    pub fn edge(&self) -> Option<Edge> {
+        self.edge
+    }
+
+    /// Makes one request for memory, gives it back, and notes where it was refused.
+    pub fn mark(&mut self, alloc: Global, edge: Edge) {
+        if Vec::<u8>::with_capacity(alloc, 1).is_err() {
+            self.edge = Some(edge);
+        }
     }
 
     /// Notes an error, which has to be a refusal.

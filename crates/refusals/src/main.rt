@@ -30,8 +30,8 @@ fn number_in(text: &[u8]) -> usize {
 }
 
 /// Reads how many requests to make before all cases, runs these, and says what came of them: `wrong` and the case, or
-/// `ok`; whether a call said that it was refused; and whether one of the requests behind all cases was, which shows
-/// that no earlier one was.
+/// `ok`; whether a call said that it was refused; and which request was refused: one before all cases, the one before or
+/// behind the PikeVM's searches, one behind all cases, which shows that no earlier one was, or another.
 fn main(rt: HostRuntime) -> io::Result<ExitCode> {
     let mut text = [0; 16];
     let mut input = rt.stdin();
@@ -52,10 +52,21 @@ fn main(rt: HostRuntime) -> io::Result<ExitCode> {
     } else {
         b" granted"
     })?;
-    out.write_all(if before.is_ok() && behind.is_ok() {
-        b" all\n"
-    } else {
-        b" rest-refused\n"
-    })?;
+    out.write_all(which(before.is_ok(), &seen, behind.is_ok()).as_bytes())?;
     Ok(ExitCode::from(if ended.is_ok() { 0 } else { 1 }))
+}
+
+// Which request was refused, in words.
+fn which(before: bool, seen: &cases::Seen, behind: bool) -> &'static str {
+    if !before {
+        return " before\n";
+    }
+    if !behind {
+        return " rest-refused\n";
+    }
+    match seen.edge() {
+        Some(cases::Edge::Opening) => " opening\n",
+        Some(cases::Edge::Closing) => " closing\n",
+        None => " all\n",
+    }
 }

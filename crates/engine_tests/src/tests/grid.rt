@@ -1,6 +1,7 @@
 //! Both engines and the one that chooses over each sample, each span of some haystacks, four ways to search it, and both
-//! match kinds; by every call, with caches and captures that all of them share.
+//! match kinds; by each call that searches, with caches and captures that all of them share.
 
+use super::alike::{expect_backtracked_alike, expect_piked_alike};
 use super::sums::{
     SEED, Shared, fold, sum_backtracked, sum_chosen, sum_of_own_set, sum_of_set, sum_piked,
 };
@@ -92,39 +93,31 @@ fn fold_search(
 ) -> Result<u64, Fail> {
     let piked = sum_piked(pair.vm, input, shared);
     assert_eq!(rt; sum_chosen(choice, input, shared), piked, "{input:?}");
+    let captured = expect_piked_alike(rt, pair.vm, input, shared)?;
     if pair.is_leftmost() && !input.get_earliest() {
         let backtracked = sum_backtracked(pair.back, input, shared)?;
         assert_eq!(rt; backtracked, piked, "{input:?}");
+        let backtracked = expect_backtracked_alike(rt, pair.back, input, shared)?;
+        assert_eq!(rt; backtracked, captured, "{input:?}");
     }
-    fold_set(pair, shared, fold(sum, piked), input)
+    fold_set(rt, pair, shared, fold(sum, piked), input)
 }
 
-// The set counts where regex-automata means the same.
+// A cache that is no larger than it has to be makes no other set. The set counts where regex-automata means the same.
 fn fold_set(
+    rt: &impl Abort,
     pair: &Pair<'_>,
     shared: &mut Shared,
     sum: u64,
     input: &Input<'_>,
 ) -> Result<u64, Fail> {
     let set = sum_of_set(shared.alloc, pair.vm, &mut shared.threads, input)?;
+    let own = sum_of_own_set(shared.alloc, pair.vm, input)?;
+    assert_eq!(rt; set, own, "{input:?}");
     if pair.is_unlike(input) {
         return Ok(sum);
     }
     Ok(fold(sum, set))
-}
-
-// A cache that is no larger than it has to be makes no other set.
-fn expect_same_set(
-    rt: &impl Abort,
-    pair: &Pair<'_>,
-    shared: &mut Shared,
-    haystack: &[u8],
-) -> Result<(), Fail> {
-    let input = Input::new(haystack);
-    let own = sum_of_own_set(shared.alloc, pair.vm, &input)?;
-    let set = sum_of_set(shared.alloc, pair.vm, &mut shared.threads, &input)?;
-    assert_eq!(rt; set, own, "{input:?}");
-    Ok(())
 }
 
 // The searches of each span of the haystack: unanchored, also with `earliest`, anchored, and anchored for the first
@@ -171,7 +164,6 @@ fn fold_haystack(
     sum: u64,
     haystack: &[u8],
 ) -> Result<u64, Fail> {
-    expect_same_set(rt, pair, shared, haystack)?;
     let inputs = searches_of(shared.alloc, haystack)?;
     fold_searches(rt, pair, choice, shared, sum, &inputs)
 }

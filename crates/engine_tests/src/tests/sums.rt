@@ -17,8 +17,8 @@ pub fn fold(sum: u64, value: u64) -> u64 {
     sum.wrapping_mul(31).wrapping_add(value)
 }
 
-// A pattern as one more than it is, none as 0; then each slot in the same way.
-fn fold_slots(sum: u64, pattern: Option<PatternID>, slots: &[Option<NonMaxUsize>]) -> u64 {
+/// A pattern as one more than it is, none as 0; then each slot in the same way.
+pub fn fold_slots(sum: u64, pattern: Option<PatternID>, slots: &[Option<NonMaxUsize>]) -> u64 {
     let number = match pattern {
         Some(pattern) => (pattern.as_usize() as u64).wrapping_add(1),
         None => 0,
@@ -33,8 +33,8 @@ fn fold_slots(sum: u64, pattern: Option<PatternID>, slots: &[Option<NonMaxUsize>
     sum
 }
 
-// One more than the pattern, the start and the end; none as 0.
-fn fold_match(sum: u64, found: Option<Match>) -> u64 {
+/// One more than the pattern, the start and the end; none as 0.
+pub fn fold_match(sum: u64, found: Option<Match>) -> u64 {
     match found {
         Some(found) => {
             let sum = fold(sum, (found.pattern().as_usize() as u64).wrapping_add(1));
@@ -54,10 +54,12 @@ fn fold_is_match(sum: u64, is_match: bool) -> u64 {
 pub struct Shared {
     /// What all memory is asked for.
     pub alloc: Global,
-    marks: backtrack::Cache,
+    /// The cache of the backtracker.
+    pub marks: backtrack::Cache,
     /// The cache of the PikeVM.
     pub threads: pikevm::Cache,
-    captures: Captures,
+    /// The captures of another NFA.
+    pub captures: Captures,
     slots: [Option<NonMaxUsize>; 20],
 }
 
@@ -84,7 +86,7 @@ impl Shared {
     }
 }
 
-/// What the backtracker answers, by every call.
+/// What the backtracker answers to slots, to a match, to whether there is one, to captures, and as a list.
 pub fn sum_backtracked(
     engine: &BoundedBacktracker,
     input: &Input<'_>,
@@ -108,7 +110,7 @@ pub fn sum_backtracked(
     Ok(sum)
 }
 
-/// What the PikeVM answers, by every call but that for overlapping matches. 0 where the cache does not fit.
+/// What the PikeVM answers to the same. 0 where the cache does not fit.
 pub fn sum_piked(vm: &PikeVM, input: &Input<'_>, shared: &mut Shared) -> u64 {
     let Shared {
         threads,
@@ -131,7 +133,7 @@ pub fn sum_piked(vm: &PikeVM, input: &Input<'_>, shared: &mut Shared) -> u64 {
     sum
 }
 
-/// What the engine that chooses answers, by every call.
+/// What the engine that chooses answers to the same, by each of its searches.
 pub fn sum_chosen(choice: &mut Choice, input: &Input<'_>, shared: &mut Shared) -> u64 {
     let Shared {
         captures,

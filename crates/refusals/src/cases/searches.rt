@@ -1,6 +1,6 @@
 //! Searches that were refused memory.
 
-use super::{Seen, Wrong, engines, expect, made};
+use super::{Edge, Seen, Wrong, engines, expect, made};
 use nfa_engines::backtrack::{BoundedBacktracker, Cache};
 use nfa_engines::error::SearchError;
 use nfa_engines::pikevm::{self, PikeVM};
@@ -230,15 +230,44 @@ fn expect_reset_of(
     expect(cache.fits(larger), "a cache after its reset")
 }
 
-/// A PikeVM asks for no memory while it searches, so it answers whichever request is refused.
+/// A PikeVM asks for no memory while it searches, so the requests before and behind its searches follow one another.
 pub fn pikevms(alloc: Global, seen: &mut Seen) -> Result<(), Wrong> {
     let vm = engines::pikevm(alloc, seen, "groups")?;
-    let mut cache = engines::threads(alloc, seen, &vm)?;
-    expect_piked(&vm, &mut cache)?;
-    expect_piked_matches(&vm, &mut cache)?;
-    expect_piked_captures(alloc, seen, &vm, &mut cache)?;
-    expect_piked_set(alloc, seen, &vm, &mut cache)?;
-    expect_piked_list(alloc, seen, &vm, &mut cache)
+    expect_pikevm(alloc, seen, &vm)
+}
+
+fn expect_pikevm(alloc: Global, seen: &mut Seen, vm: &PikeVM) -> Result<(), Wrong> {
+    let mut cache = engines::threads(alloc, seen, vm)?;
+    expect_quiet(alloc, seen, vm, &mut cache)?;
+    expect_piked_list(alloc, seen, vm, &mut cache)
+}
+
+// What the searches write to is made before the first edge.
+fn expect_quiet(
+    alloc: Global,
+    seen: &mut Seen,
+    vm: &PikeVM,
+    cache: &mut pikevm::Cache,
+) -> Result<(), Wrong> {
+    let mut captures = engines::captures(alloc, seen, vm.get_nfa().group_info())?;
+    let mut set = made_set(alloc, seen)?;
+    seen.mark(alloc, Edge::Opening);
+    expect_searches(vm, cache, &mut captures, &mut set)?;
+    seen.mark(alloc, Edge::Closing);
+    Ok(())
+}
+
+// Each search of a PikeVM that takes no memory.
+fn expect_searches(
+    vm: &PikeVM,
+    cache: &mut pikevm::Cache,
+    captures: &mut Captures,
+    set: &mut PatternSet,
+) -> Result<(), Wrong> {
+    expect_piked(vm, cache)?;
+    expect_piked_matches(vm, cache)?;
+    expect_piked_captures(vm, cache, captures)?;
+    expect_piked_set(vm, cache, set)
 }
 
 fn expect_piked_matches(vm: &PikeVM, cache: &mut pikevm::Cache) -> Result<(), Wrong> {
@@ -256,33 +285,35 @@ fn expect_piked_matches(vm: &PikeVM, cache: &mut pikevm::Cache) -> Result<(), Wr
 }
 
 fn expect_piked_captures(
-    alloc: Global,
-    seen: &mut Seen,
     vm: &PikeVM,
     cache: &mut pikevm::Cache,
+    captures: &mut Captures,
 ) -> Result<(), Wrong> {
-    let mut captures = engines::captures(alloc, seen, vm.get_nfa().group_info())?;
     if !cache.fits(vm) {
         return Err(Wrong("a cache that fits no more"));
     }
-    vm.search(cache, &Input::new(b"ab"), &mut captures);
-    expect(
-        are_groups(captures.pattern(), captures.slots()),
-        "the captures of a search by a PikeVM",
-    )
+    vm.search(cache, &Input::new(b"ab"), captures);
+    expect_caught(captures, "the captures of a search by a PikeVM")?;
+    if !cache.fits(vm) {
+        return Err(Wrong("a cache that fits no more"));
+    }
+    vm.captures(cache, Input::new(b"ab"), captures);
+    expect_caught(captures, "the captures of a PikeVM")
+}
+
+fn expect_caught(captures: &Captures, wrong: &'static str) -> Result<(), Wrong> {
+    expect(are_groups(captures.pattern(), captures.slots()), wrong)
 }
 
 fn expect_piked_set(
-    alloc: Global,
-    seen: &mut Seen,
     vm: &PikeVM,
     cache: &mut pikevm::Cache,
+    set: &mut PatternSet,
 ) -> Result<(), Wrong> {
-    let mut set = made_set(alloc, seen)?;
     if !cache.fits(vm) {
         return Err(Wrong("a cache that fits no more"));
     }
-    vm.which_overlapping_matches(cache, &Input::new(b"ab"), &mut set);
+    vm.which_overlapping_matches(cache, &Input::new(b"ab"), set);
     expect(set.is_full(), "the set of a PikeVM")
 }
 
