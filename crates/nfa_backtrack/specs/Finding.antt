@@ -1,9 +1,7 @@
 -- What a backtracker answers where a match is asked for.
-use Rattle.std.specs.Prelude.{◌≡◌, ◌≤◌, ◌*◌, ◌+◌, ◌⊎◌, false, Option, Ok, Err}
-use Rattle.std.specs.Option.{ForSome}
-use Rattle.regex_search_core.specs.Found.{Found, found_of}
+use Rattle.std.specs.Prelude.{◌≡◌, ◌≤◌, ◌*◌, ◌+◌, ◌⊎◌, false, Ok, Err}
+use Rattle.regex_search_core.specs.Found.{Found}
 use Rattle.regex_search_core.specs.Search.{Search}
-use Rattle.regex_search_core.specs.declared.search.Match.{Match}
 use Rattle.regex_search_core.specs.declared.search.MatchKind.TheVariants.{LeftmostFirst}
 use Rattle.nfa_paths.specs.Known.{IsSureMatch}
 use Rattle.nfa_paths.specs.Paths.{IsMatchAnswer, scan_limit, span_len, turn_weight}
@@ -31,12 +29,8 @@ IsCatchOf e x (Ok row) = ¬ (IsTooLong e x) × TellsRow e.nfa LeftmostFirst fals
 IsCatchOf e x (Err error) = IsRefusal e x error
 
 -- a match that is sure to be found, by a search that is not too long
-abbrev pub IsSureAt : Backtracker → Search → Match → Type 0
-IsSureAt e x m = ¬ (IsTooLong e x) × IsSureMatch e.nfa LeftmostFirst false x (found_of m)
-
--- what is known of the searches like x: nothing, or the match of the one that starts where this match ends
-abbrev pub IsKnownFrom : Backtracker → Search → Option Match → Type 0
-IsKnownFrom e x known = ForSome known (λ m. IsSureAt e (record x { start = m.span.end }) m)
+abbrev pub IsSureAt : Backtracker → Search → Found → Type 0
+IsSureAt e x m = ¬ (IsTooLong e x) × IsSureMatch e.nfa LeftmostFirst false x m
 
 -- an answer is counted as one, and an error as a refusal
 abbrev pub Counts : {X : Type 0} → Answer X → Work → Work → Type 0

@@ -6,7 +6,7 @@ use Rattle.regex_search_core.specs.declared.search.MatchKind.TheVariants.{All, L
 use Rattle.thompson_nfa.specs.Automaton.{Automaton}
 use Rattle.nfa_paths.specs.Paths.{span_len, scan_limit, turn_weight}
 use Rattle.nfa_backtrack.specs.Backtrack.{Backtracker, Work, AddsWork, CountsAnswer, CountsRefusal, max_haystack_len_of}
-use Rattle.nfa_pikevm.specs.Engines.{Pike, PikeCache, AddsWork as AddsPikeWork, Fits, SameNumbers, kind_of, refitted}
+use Rattle.nfa_pikevm.specs.Engines.{Pike, PikeCache, AddsPikeWork, Fits, SameNumbers, kind_of, refitted}
 use Rattle.nfa_choice.specs.declared.choose.Engine.{Engine}
 use Rattle.nfa_choice.specs.declared.choose.Engine.TheVariants as engine
 
