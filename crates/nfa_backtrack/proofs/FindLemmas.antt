@@ -9,7 +9,6 @@ use Rattle.regex_search_core.specs.declared.search.MatchKind.TheVariants.{Leftmo
 use Rattle.nfa_paths.specs.Paths.{span_len}
 use Rattle.nfa_paths.proofs.KnownLemmas.{match-sure, sure-match}
 use Rattle.nfa_search_base.specs.Asking.{SameButStart}
-use Rattle.nfa_search_base.specs.EngineSearches.{Knowing}
 use Rattle.nfa_search_base.specs.Finders.{answer_by}
 use Rattle.nfa_search_base.specs.Lending.{With}
 use Rattle.nfa_search_base.specs.Lent.{lent_state, lent_walk}
@@ -22,8 +21,10 @@ use Rattle.nfa_search_base.proofs.EngineLemmas.{finder-acts, finder-goes, finder
 use Rattle.nfa_search_base.proofs.ListLemmas.{match-lies}
 use Rattle.nfa_search_base.proofs.WalkLemmas.{IsOrdered}
 use Rattle.nfa_backtrack.specs.Backtrack.{Backtracker, CountsAnswer, CountsRefusal, IsTooLong, Work}
-use Rattle.nfa_backtrack.specs.FindMatches.{AsksBacktracker, MayFindByBacktracker, backtracker_finds, fits_always}
+use Rattle.nfa_backtrack.specs.FindMatches.{AsksBacktracker, MayFindByBacktracker, backtracker_finds}
+use Rattle.nfa_backtrack.specs.FindMatches.{backtracker_knowing, fits_always}
 use Rattle.nfa_backtrack.specs.Finding.{Counts, IsFindOf, IsSureAt, SearchesOnce}
+use Rattle.nfa_backtrack.specs.declared.find_iter.Finder.{Finder}
 use Rattle.nfa_backtrack.specs.declared.find_iter.TryFindMatches.{TryFindMatches}
 
 -- a span is not too long where one that begins before it is not
@@ -59,23 +60,23 @@ find-lies e t (Err error) h = (tt, λ p is. let never : None ≡ Some p = is in 
 pub find-serves : (s : TryFindMatches)
     → can_step MayFindByBacktracker AsksBacktracker span_of (lent_state (backtracker_finds s))
 find-serves s =
-    finder-serves IsSureAt fits_always IsFindOf (λ e x a. SearchesOnce e x a) (λ e x a old new work fits. tt)
+    finder-serves IsSureAt backtracker_knowing fits_always IsFindOf (λ e x a. SearchesOnce e x a) (λ e x a old new work fits. tt)
     (IsInside span_of) (λ e t a h. (find-lies e t a h).0) (lent_state (backtracker_finds s)).asker
     (lent_walk (backtracker_finds s)).at (record { fits = tt; knows = s.knows })
 
 -- and goes on after a step
 pub step-goes : (s : TryFindMatches) (r : Option (Result Match SearchError))
-    (t : Steps (With (Knowing Backtracker) Work))
+    (t : Steps (With Finder Work))
     → takes_steps span_of AsksBacktracker (λ q. GivesItem found_of) (lent_state (backtracker_finds s)) r t
     → MayFindByBacktracker t.asker (steps_walk t).at
 step-goes s r t st =
-    finder-goes IsSureAt fits_always IsFindOf (λ e x a. SearchesOnce e x a) (λ e x a old new work fits. tt)
+    finder-goes IsSureAt backtracker_knowing fits_always IsFindOf (λ e x a. SearchesOnce e x a) (λ e x a old new work fits. tt)
     (λ _. GivesItem found_of) (lent_state (backtracker_finds s)) r t st (record { fits = tt; knows = s.knows })
 
 -- the backtracker answers what its searches tell, and stays the one that it is
-pub back-acts : (e : Backtracker) (x : Search) (s : With (Knowing Backtracker) Work) (t : Search) (a : Answer Found)
-    (s' : With (Knowing Backtracker) Work)
-    → SameButStart x t → s.asker.engine ≡ e → AsksBacktracker s t a s' → IsFindOf e t a × (s'.asker.engine ≡ e)
+pub back-acts : (e : Backtracker) (x : Search) (s : With Finder Work) (t : Search) (a : Answer Found)
+    (s' : With Finder Work)
+    → SameButStart x t → s.asker.engine.now ≡ e → AsksBacktracker s t a s' → IsFindOf e t a × (s'.asker.engine.now ≡ e)
 back-acts e x s t a s' same is asked =
-    finder-acts IsSureAt fits_always IsFindOf (λ e x a. SearchesOnce e x a) (λ e x a old new work fits. tt) e s t a s'
+    finder-acts IsSureAt backtracker_knowing fits_always IsFindOf (λ e x a. SearchesOnce e x a) (λ e x a old new work fits. tt) e s t a s'
     is asked

@@ -13,7 +13,6 @@ use Rattle.nfa_paths.specs.Paths.{span_len}
 use Rattle.nfa_search_base.specs.Items.{Item, item_by}
 use Rattle.nfa_search_base.specs.Lists.{IsStep, Fails, ItemsNext, ItemsLast, TellsMatch, ComeNext, ComeLast, AreMatches}
 use Rattle.nfa_search_base.specs.Lists.{IsInside}
-use Rattle.nfa_search_base.specs.EngineSearches.{Knowing}
 use Rattle.nfa_search_base.specs.Lending.{With}
 use Rattle.nfa_search_base.specs.Lent.{lent_state, lent_walk}
 use Rattle.nfa_search_base.specs.Runs.{RunsGive, GivesFirst, GivesNext}
@@ -32,6 +31,7 @@ use Rattle.nfa_backtrack.specs.FindMatches.{AsksBacktracker, backtracker_finds, 
 use Rattle.nfa_backtrack.specs.Finding.{IsFindOf}
 use Rattle.nfa_backtrack.specs.Runs.{RunsMatch, RunsInside, RunsApart, RunsRefused}
 use Rattle.nfa_backtrack.specs.Runs.{GivesFirstMatches, GivesAllMatches, GivesNextMatch, AreFirstItems, AreAllItems}
+use Rattle.nfa_backtrack.specs.declared.find_iter.Finder.{Finder}
 use Rattle.nfa_backtrack.specs.declared.find_iter.TryFindMatches.{TryFindMatches}
 use Rattle.nfa_backtrack.proofs.FindLemmas.{back-acts, find-lies, still-fits}
 
@@ -67,7 +67,7 @@ module _ (e : Backtracker) where
   abbrev Last : Walk → List (Result Match SearchError) → Type 0
   Last w xs = ItemsLast span_of tells (Fails span_of tells) w (map (item_by found_of) xs)
 
-  says : (w : Walk) (s : With (Knowing Backtracker) Work) (a : Answer Found)
+  says : (w : Walk) (s : With Finder Work) (a : Answer Found)
       (r : Option (Result Match SearchError)) → GivesItem found_of a r
       → Step w a → Says found_of a (Fails span_of tells w) r
   says w s a r gives step = item-says found_of (λ b. Step w b) a r gives step
@@ -181,17 +181,17 @@ module _ (e : Backtracker) where
       rw none (All-cons (λ item. IfErr item (λ error. error ≡ Memory)) (Err r) [] is
       (All-nil (λ item. IfErr item (λ error. error ≡ Memory))))
 
-  module _ (x : Search) (s : TryFindMatches) (engine : (backtracker_finds s).steps.asker.engine ≡ e)
+  module _ (x : Search) (s : TryFindMatches) (engine : (backtracker_finds s).steps.asker.engine.now ≡ e)
       (walk : lent_walk (backtracker_finds s) ≡ fresh x) (going : (backtracker_finds s).steps.done ≡ false) where
-    abbrev core : Steps (With (Knowing Backtracker) Work) → Option (Result Match SearchError)
-        → Steps (With (Knowing Backtracker) Work) → Type 0
+    abbrev core : Steps (With Finder Work) → Option (Result Match SearchError)
+        → Steps (With Finder Work) → Type 0
     core = takes_steps span_of AsksBacktracker (λ q. GivesItem found_of)
 
     first-come : (xs : List (Result Match SearchError)) (t : TryFindMatches) → Yields backtracker_finds_next s xs t
         → Next (fresh x) xs
     first-come xs t ran =
         gives-first span_of AsksBacktracker (λ q. GivesItem found_of) found_of tells (Fails span_of tells) x
-        (λ q. q.asker.engine ≡ e) (back-acts e x) says
+        (λ q. q.asker.engine.now ≡ e) (back-acts e x) says
         (lent_state (backtracker_finds s)) walk going engine xs (lent_state (backtracker_finds t))
         (yields-inner backtracker_finds_next core (λ q. lent_state (backtracker_finds q)) (λ a r b st. st.takes.step) xs s t
         ran)
@@ -200,7 +200,7 @@ module _ (e : Backtracker) where
         → backtracker_finds_next t None u → Last (fresh x) xs
     all-come xs t u ran st =
         gives-all span_of AsksBacktracker (λ q. GivesItem found_of) found_of tells (Fails span_of tells) x
-        (λ q. q.asker.engine ≡ e) (back-acts e x) says
+        (λ q. q.asker.engine.now ≡ e) (back-acts e x) says
         (lent_state (backtracker_finds s)) walk going engine xs (lent_state (backtracker_finds t))
         (lent_state (backtracker_finds u))
         (yields-inner backtracker_finds_next core (λ q. lent_state (backtracker_finds q)) (λ a r b st. st.takes.step) xs s t

@@ -13,10 +13,15 @@ use Rattle.nfa_search_base.specs.Walks.{Answer, Walk, span_of}
 use Rattle.nfa_search_base.specs.declared.error.SearchError.{SearchError}
 use Rattle.nfa_backtrack.specs.Backtrack.{Backtracker, Work}
 use Rattle.nfa_backtrack.specs.Finding.{IsFindOf, IsSureAt, SearchesOnce}
+use Rattle.nfa_backtrack.specs.declared.find_iter.Finder.{Finder}
 use Rattle.nfa_backtrack.specs.declared.find_iter.TryFindMatches.{TryFindMatches}
 
+-- the backtracker of an iteration, and what is known
+abbrev pub backtracker_knowing : Finder → Knowing Backtracker
+backtracker_knowing a = record { engine = a.engine.now; known = a.known }
+
 -- the steps of the iterator, and the cache that it is lent
-abbrev pub backtracker_finds : TryFindMatches → Lent (Knowing Backtracker) Work
+abbrev pub backtracker_finds : TryFindMatches → Lent Finder Work
 backtracker_finds s = record { steps = s.steps; cache = s.cache }
 
 -- the cache that it searches with
@@ -25,7 +30,7 @@ backtracker_finds_cache s = s.cache
 
 -- the engine that it asks
 abbrev pub backtracker_finds_engine : TryFindMatches → Backtracker
-backtracker_finds_engine s = s.steps.asker.engine
+backtracker_finds_engine s = s.steps.asker.engine.now
 
 -- where it stands, and whether it has ended
 abbrev pub backtracker_finds_walk : TryFindMatches → Walk
@@ -39,13 +44,12 @@ abbrev pub fits_always : Work → Backtracker → Type 0
 fits_always w e = ⊤
 
 -- the backtracker may be asked wherever what is known is so
-abbrev pub MayFindByBacktracker : With (Knowing Backtracker) Work → Search → Type 0
-MayFindByBacktracker = MayFind IsSureAt fits_always
+abbrev pub MayFindByBacktracker : With Finder Work → Search → Type 0
+MayFindByBacktracker = MayFind IsSureAt backtracker_knowing fits_always
 
 -- a search by the backtracker may answer this
-abbrev pub AsksBacktracker : With (Knowing Backtracker) Work → Search → Answer Found → With (Knowing Backtracker) Work
-    → Type 0
-AsksBacktracker = AsksEngine IsSureAt IsFindOf (λ e x a. SearchesOnce e x a)
+abbrev pub AsksBacktracker : With Finder Work → Search → Answer Found → With Finder Work → Type 0
+AsksBacktracker = AsksEngine IsSureAt backtracker_knowing IsFindOf (λ e x a. SearchesOnce e x a)
 
 -- a call
 pub record BacktrackerFindsNext (s : TryFindMatches) (r : Option (Result Match SearchError))

@@ -12,7 +12,6 @@ use nfa_search_base::error::SearchError;
 use nfa_search_base::iter::finding::ending_at;
 use nfa_search_base::iter::{Searcher, Searches, Steps};
 use regex_search_core::{Input, Match, Span};
-use std::marker::Model;
 
 /// The matches of an input that do not overlap, from left to right: what [`BoundedBacktracker::try_find_iter`] gives.
 ///
@@ -22,7 +21,7 @@ use std::marker::Model;
 pub struct TryFindMatches<'r, 'c, 'h> {
     cache: &'c mut Cache,
     steps: Steps<'h, Finder<'r>>,
-    ghost knows: { IsKnownFrom IsSureAt steps.asker.engine (steps_walk steps).at steps.asker.known },
+    ghost knows: { IsKnownFrom IsSureAt steps.asker.engine.now (steps_walk steps).at steps.asker.known },
 }
 
 // A backtracker that answers the searches of one iteration.
@@ -31,15 +30,6 @@ struct Finder<'r> {
     engine: &'r BoundedBacktracker,
     // What the last search found, if it is empty and lies where the search began: it answers a search from there too.
     known: Option<Match>,
-}
-
-impl<'r> Model for Finder<'r> {
-    ghost use Rattle.nfa_search_base.specs.EngineSearches.{Knowing};
-    ghost use Rattle.nfa_backtrack.specs.Backtrack.{Backtracker};
-
-    ghost Value = { Knowing Backtracker };
-
-    ghost view = { λ a. record { engine = a.engine.now; known = a.known } };
 }
 
 impl BoundedBacktracker {

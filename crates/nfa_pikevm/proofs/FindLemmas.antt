@@ -7,7 +7,6 @@ use Rattle.regex_search_core.specs.declared.search.Match.{Match}
 use Rattle.nfa_paths.proofs.KnownLemmas.{match-sure, sure-match}
 use Rattle.thompson_nfa.specs.Automaton.{Automaton}
 use Rattle.nfa_search_base.specs.Asking.{SameButStart}
-use Rattle.nfa_search_base.specs.EngineSearches.{Knowing}
 use Rattle.nfa_search_base.specs.Lending.{With}
 use Rattle.nfa_search_base.specs.Lent.{lent_state, lent_walk}
 use Rattle.nfa_search_base.specs.Lists.{TellsMatch}
@@ -18,9 +17,10 @@ use Rattle.nfa_search_base.specs.declared.error.SearchError.{SearchError}
 use Rattle.nfa_search_base.specs.declared.iter.steps.Steps.{Steps}
 use Rattle.nfa_search_base.proofs.EngineLemmas.{calls-kept, find-lies, finder-acts, finder-goes, finder-serves}
 use Rattle.nfa_pikevm.specs.Engines.{Fits, Pike, PikeCache, SameNumbers, kind_of}
-use Rattle.nfa_pikevm.specs.FindMatches.{AsksPike, MayFindByPike, GivesCache, fits_pike, pike_finds, pike_finds_next}
+use Rattle.nfa_pikevm.specs.FindMatches.{AsksPike, MayFindByPike, GivesCache, fits_pike, pike_finds, pike_finds_next, pike_knowing}
 use Rattle.nfa_pikevm.specs.Finding.{IsSureOf, PikeSearches, PikeTells}
 use Rattle.nfa_pikevm.specs.declared.find_iter.FindMatches.{FindMatches}
+use Rattle.nfa_pikevm.specs.declared.find_iter.Finder.{Finder}
 
 -- a match that is sure to be found is the answer, and the other way round
 pub sure-finds : (vm : Pike) (t : Search) (m : Found) → IsSureOf vm t m → PikeTells vm t (Ok (Some m))
@@ -49,25 +49,25 @@ may-now s = record { fits = s.fits; knows = s.knows }
 -- the iterator may search wherever it stands, and never errs
 pub find-serves : (s : FindMatches) → can_step_surely MayFindByPike AsksPike span_of (lent_state (pike_finds s))
 find-serves s =
-    finder-serves IsSureOf fits_pike PikeTells (λ vm x a. PikeSearches vm x) (λ vm x a. searched-fits vm x)
+    finder-serves IsSureOf pike_knowing fits_pike PikeTells (λ vm x a. PikeSearches vm x) (λ vm x a. searched-fits vm x)
     (IsSurelyInside span_of) (λ vm t a h. find-lies vm.nfa (kind_of vm) t.earliest t a h)
     (lent_state (pike_finds s)).asker (lent_walk (pike_finds s)).at (may-now s)
 
 -- and goes on after a step
-pub step-goes : (s : FindMatches) (r : Option (Result Match SearchError)) (t : Steps (With (Knowing Pike) PikeCache))
+pub step-goes : (s : FindMatches) (r : Option (Result Match SearchError)) (t : Steps (With Finder PikeCache))
     → takes_steps span_of AsksPike (λ q. GivesItem found_of) (lent_state (pike_finds s)) r t
     → MayFindByPike t.asker (steps_walk t).at
 step-goes s r t st =
-    finder-goes IsSureOf fits_pike PikeTells (λ vm x a. PikeSearches vm x) (λ vm x a. searched-fits vm x)
+    finder-goes IsSureOf pike_knowing fits_pike PikeTells (λ vm x a. PikeSearches vm x) (λ vm x a. searched-fits vm x)
     (λ _. GivesItem found_of) (lent_state (pike_finds s)) r t st (may-now s)
 
 -- the PikeVM answers the matches of its searches, and stays the one that it is
-pub pike-acts : (vm : Pike) (x : Search) (s : With (Knowing Pike) PikeCache) (t : Search) (a : Answer Found)
-    (s' : With (Knowing Pike) PikeCache) → SameButStart x t
-    → s.asker.engine ≡ vm → AsksPike s t a s'
-    → TellsMatch vm.nfa (kind_of vm) x.earliest t a × (s'.asker.engine ≡ vm)
+pub pike-acts : (vm : Pike) (x : Search) (s : With Finder PikeCache) (t : Search) (a : Answer Found)
+    (s' : With Finder PikeCache) → SameButStart x t
+    → s.asker.engine.now ≡ vm → AsksPike s t a s'
+    → TellsMatch vm.nfa (kind_of vm) x.earliest t a × (s'.asker.engine.now ≡ vm)
 pike-acts vm x s t a s' same is asked =
-    let k = finder-acts IsSureOf fits_pike PikeTells (λ vm x a. PikeSearches vm x) (λ vm x a. searched-fits vm x) vm s t
+    let k = finder-acts IsSureOf pike_knowing fits_pike PikeTells (λ vm x a. PikeSearches vm x) (λ vm x a. searched-fits vm x) vm s t
     a s' is asked in
     (subst (λ (b : Bool). TellsMatch vm.nfa (kind_of vm) b t a) same.earliest k.0, k.1)
 
@@ -84,7 +84,7 @@ same_numbers-then a b c f g = record {
   places = g.places ∙ f.places;
 }
 
-asked-numbers : (s : With (Knowing Pike) PikeCache) (x : Search) (a : Answer Found) (t : With (Knowing Pike) PikeCache)
+asked-numbers : (s : With Finder PikeCache) (x : Search) (a : Answer Found) (t : With Finder PikeCache)
     → AsksPike s x a t → SameNumbers s.cache t.cache
 asked-numbers s x a t asked = elim asked.work [
   | inl same ↦ subst (λ (c : PikeCache). SameNumbers s.cache c) (sym same) (same_numbers s.cache)

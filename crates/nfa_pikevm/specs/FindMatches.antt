@@ -14,9 +14,14 @@ use Rattle.nfa_search_base.specs.Walks.{Answer, Walk, span_of}
 use Rattle.nfa_pikevm.specs.Engines.{Fits, Pike, PikeCache, SameNumbers}
 use Rattle.nfa_pikevm.specs.Finding.{IsSureOf, PikeSearches, PikeTells}
 use Rattle.nfa_pikevm.specs.declared.find_iter.FindMatches.{FindMatches}
+use Rattle.nfa_pikevm.specs.declared.find_iter.Finder.{Finder}
+
+-- the PikeVM of an iteration, and what is known
+abbrev pub pike_knowing : Finder → Knowing Pike
+pike_knowing a = record { engine = a.engine.now; known = a.known }
 
 -- the steps of the iterator, and the cache that it is lent
-abbrev pub pike_finds : FindMatches → Lent (Knowing Pike) PikeCache
+abbrev pub pike_finds : FindMatches → Lent Finder PikeCache
 pike_finds s = record { steps = s.steps; cache = s.cache }
 
 -- the cache that it searches with
@@ -25,7 +30,7 @@ pike_finds_cache s = s.cache
 
 -- the engine that it asks
 abbrev pub pike_finds_engine : FindMatches → Pike
-pike_finds_engine s = s.steps.asker.engine
+pike_finds_engine s = s.steps.asker.engine.now
 
 -- where it stands, and whether it has ended
 abbrev pub pike_finds_walk : FindMatches → Walk
@@ -39,12 +44,12 @@ abbrev pub fits_pike : PikeCache → Pike → Type 0
 fits_pike cache vm = Fits cache vm.nfa
 
 -- the PikeVM may be asked where the cache fits and what is known is so
-abbrev pub MayFindByPike : With (Knowing Pike) PikeCache → Search → Type 0
-MayFindByPike = MayFind IsSureOf fits_pike
+abbrev pub MayFindByPike : With Finder PikeCache → Search → Type 0
+MayFindByPike = MayFind IsSureOf pike_knowing fits_pike
 
 -- a search by the PikeVM may answer this
-abbrev pub AsksPike : With (Knowing Pike) PikeCache → Search → Answer Found → With (Knowing Pike) PikeCache → Type 0
-AsksPike = AsksEngine IsSureOf PikeTells (λ vm x a. PikeSearches vm x)
+abbrev pub AsksPike : With Finder PikeCache → Search → Answer Found → With Finder PikeCache → Type 0
+AsksPike = AsksEngine IsSureOf pike_knowing PikeTells (λ vm x a. PikeSearches vm x)
 
 -- a call
 pub record PikeFindsNext (s : FindMatches) (r : Option Match) (t : FindMatches) : Type 0 where

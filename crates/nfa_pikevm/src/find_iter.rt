@@ -13,7 +13,6 @@ use nfa_search_base::iter::finding::{ending_at, found_item, found_span};
 use nfa_search_base::iter::{Searcher, Searches, Steps};
 use regex_search_core::{Input, Match, Span};
 use std::alloc::{AllocError, Global};
-use std::marker::Model;
 
 /// The matches of an input that do not overlap, from left to right: what [`PikeVM::find_iter`] gives.
 ///
@@ -22,8 +21,8 @@ use std::marker::Model;
 pub struct FindMatches<'r, 'c, 'h> {
     cache: &'c mut Cache,
     steps: Steps<'h, Finder<'r>>,
-    ghost fits: { Fits cache.now steps.asker.engine.nfa },
-    ghost knows: { IsKnownFrom IsSureOf steps.asker.engine (steps_walk steps).at steps.asker.known },
+    ghost fits: { Fits cache.now steps.asker.engine.now.nfa },
+    ghost knows: { IsKnownFrom IsSureOf steps.asker.engine.now (steps_walk steps).at steps.asker.known },
 }
 
 // A PikeVM that answers the searches of one iteration.
@@ -32,15 +31,6 @@ struct Finder<'r> {
     engine: &'r PikeVM,
     // What the last search found, if it is empty and lies where the search began: it answers a search from there too.
     known: Option<Match>,
-}
-
-impl<'r> Model for Finder<'r> {
-    ghost use Rattle.nfa_search_base.specs.EngineSearches.{Knowing};
-    ghost use Rattle.nfa_pikevm.specs.Engines.{Pike};
-
-    ghost Value = { Knowing Pike };
-
-    ghost view = { λ a. record { engine = a.engine.now; known = a.known } };
 }
 
 impl PikeVM {

@@ -124,45 +124,45 @@ module _ {E : Type 0} (Sure : E → Search → Found → Type 0) where
       subst (λ (y : Search). Sure e y (found_of m)) (sym here) k.0
 
   -- An engine whose cache still fits after a search.
-  module _ {C : Type 0} (Fits : C → E → Type 0) (Tells : E → Search → Answer Found → Type 0)
+  module _ {A C : Type 0} (shown : A → Knowing E) (Fits : C → E → Type 0) (Tells : E → Search → Answer Found → Type 0)
       (Work : E → Search → Answer Found → C → C → Type 0)
       (stays : (e : E) (x : Search) (a : Answer Found) (old new : C) → Work e x a old new → Fits old e → Fits new e) where
-    abbrev Asks : With (Knowing E) C → Search → Answer Found → With (Knowing E) C → Type 0
-    Asks = AsksEngine Sure Tells Work
+    abbrev Asks : With A C → Search → Answer Found → With A C → Type 0
+    Asks = AsksEngine Sure shown Tells Work
 
-    abbrev May : With (Knowing E) C → Search → Type 0
-    May = MayFind Sure Fits
+    abbrev May : With A C → Search → Type 0
+    May = MayFind Sure shown Fits
 
     -- a search leaves what the next one needs
-    may-after : (x : Search) (s : With (Knowing E) C) (t : Search) (a : Answer Found) (s' : With (Knowing E) C)
+    may-after : (x : Search) (s : With A C) (t : Search) (a : Answer Found) (s' : With A C)
         → SameButStart x t → May s x → Asks s t a s' → May s' x
     may-after x s t a s' same may asked = record {
       fits = subst (λ (e : E). Fits s'.cache e) (sym asked.engine) fits;
-      knows = known-like s'.asker.engine t x s'.asker.known (same_start-back x t same) asked.knows;
+      knows = known-like (shown s'.asker).engine t x (shown s'.asker).known (same_start-back x t same) asked.knows;
     }
       where
-        fits : Fits s'.cache s.asker.engine
+        fits : Fits s'.cache (shown s.asker).engine
         fits = elim asked.work [
-          | inl same ↦ subst (λ (c : C). Fits c s.asker.engine) (sym same) may.fits
-          | inr work ↦ stays s.asker.engine t a s.cache s'.cache work may.fits
+          | inl same ↦ subst (λ (c : C). Fits c (shown s.asker).engine) (sym same) may.fits
+          | inr work ↦ stays (shown s.asker).engine t a s.cache s'.cache work may.fits
         ]
 
     -- the iterator may search wherever searches like x lead
     pub finder-serves : (P : Search → Answer Found → Type 0)
         → ((e : E) (t : Search) (a : Answer Found) → Tells e t a → P t a)
-        → (s : With (Knowing E) C) (x : Search) → May s x → ServesOnAlong May Asks SameButStart P s x
+        → (s : With A C) (x : Search) → May s x → ServesOnAlong May Asks SameButStart P s x
     finder-serves P lies s x may =
-        ServesOnAlong-by May Asks SameButStart same_start-self same_start-then P (λ (q : With (Knowing E) C). May q x)
+        ServesOnAlong-by May Asks SameButStart same_start-self same_start-then P (λ (q : With A C). May q x)
         s x may
         (λ q t same may. record {
           fits = may.fits;
-          knows = known-like q.asker.engine x t q.asker.known same may.knows;
+          knows = known-like (shown q.asker).engine x t (shown q.asker).known same may.knows;
         })
-        (λ q t a q' same may asked. (lies q.asker.engine t a asked.finds, may-after x q t a q' same may asked))
+        (λ q t a q' same may asked. (lies (shown q.asker).engine t a asked.finds, may-after x q t a q' same may asked))
 
     -- and after a step
-    pub finder-goes : {Y : Type 0} (gives : Knowing E → Answer Found → Option (Result Y SearchError) → Type 0)
-        → (s : Steps (With (Knowing E) C)) (r : Option (Result Y SearchError)) (t : Steps (With (Knowing E) C))
+    pub finder-goes : {Y : Type 0} (gives : A → Answer Found → Option (Result Y SearchError) → Type 0)
+        → (s : Steps (With A C)) (r : Option (Result Y SearchError)) (t : Steps (With A C))
         → takes_steps span_of Asks (λ q. gives q.asker) s r t → May s.asker (steps_walk s).at
         → May t.asker (steps_walk t).at
     finder-goes {Y} gives s r t st may = of s.done st
@@ -173,18 +173,18 @@ module _ {E : Type 0} (Sure : E → Search → Found → Type 0) where
         of : (b : Bool) → MatchBool b ((r ≡ None) × (t ≡ s))
             (TakesStep span_of Asks (λ q. gives q.asker) s.asker (steps_walk s) r t.asker (steps_walk t) t.done)
             → May t.asker (steps_walk t).at
-        of true h = subst (λ (q : Steps (With (Knowing E) C)). May q.asker (steps_walk q).at) (sym h.1) may
+        of true h = subst (λ (q : Steps (With A C)). May q.asker (steps_walk q).at) (sym h.1) may
         of false h =
-            let on : May t.asker x = step-holds span_of Asks (λ (q : With (Knowing E) C). May q x) s.asker (steps_walk s)
+            let on : May t.asker x = step-holds span_of Asks (λ (q : With A C). May q x) s.asker (steps_walk s)
             h.answer t.asker (steps_walk t) (may-after x) may h.step in
             record {
               fits = on.fits;
-              knows = known-like t.asker.asker.engine x (steps_walk t).at t.asker.asker.known h.same on.knows;
+              knows = known-like (shown t.asker.asker).engine x (steps_walk t).at (shown t.asker.asker).known h.same on.knows;
             }
 
     -- the engine answers what its searches tell, and stays the one that it is
-    pub finder-acts : (e : E) (s : With (Knowing E) C) (t : Search) (a : Answer Found) (s' : With (Knowing E) C)
-        → s.asker.engine ≡ e → Asks s t a s' → Tells e t a × (s'.asker.engine ≡ e)
+    pub finder-acts : (e : E) (s : With A C) (t : Search) (a : Answer Found) (s' : With A C)
+        → (shown s.asker).engine ≡ e → Asks s t a s' → Tells e t a × ((shown s'.asker).engine ≡ e)
     finder-acts e s t a s' is asked = (subst (λ (b : E). Tells b t a) is asked.finds, asked.engine ∙ is)
 
 -- ---- captures

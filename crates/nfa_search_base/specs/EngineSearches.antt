@@ -21,21 +21,22 @@ module _ {E : Type 0} (Sure : E → Search → Found → Type 0) where
   abbrev pub IsKnownFrom : E → Search → Option Match → Type 0
   IsKnownFrom e x known = ForSome known (λ m. Sure e (record x { start = m.span.end }) (found_of m))
 
-  module _ {C : Type 0} where
+  -- What asks is `shown` as an engine and what is known.
+  module _ {A C : Type 0} (shown : A → Knowing E) where
     -- the cache fits, and what is known is so of searches like this one
-    pub record MayFind (Fits : C → E → Type 0) (s : With (Knowing E) C) (x : Search) : Type 0 where
-      pub fits : Fits s.cache s.asker.engine
-      pub knows : IsKnownFrom s.asker.engine x s.asker.known
+    pub record MayFind (Fits : C → E → Type 0) (s : With A C) (x : Search) : Type 0 where
+      pub fits : Fits s.cache (shown s.asker).engine
+      pub knows : IsKnownFrom (shown s.asker).engine x (shown s.asker).known
 
     -- A search by the engine may answer this, which is what it `Tells`. It does `Work` with the cache, once, or it is
     -- not made where its answer was known.
     pub record AsksEngine (Tells : E → Search → Answer Found → Type 0)
-        (Work : E → Search → Answer Found → C → C → Type 0) (s : With (Knowing E) C) (x : Search) (a : Answer Found)
-        (t : With (Knowing E) C) : Type 0 where
-      pub finds : Tells s.asker.engine x a
-      pub engine : t.asker.engine ≡ s.asker.engine
-      pub knows : IsKnownFrom t.asker.engine x t.asker.known
-      pub work : (t.cache ≡ s.cache) ⊎ Work s.asker.engine x a s.cache t.cache
+        (Work : E → Search → Answer Found → C → C → Type 0) (s : With A C) (x : Search) (a : Answer Found)
+        (t : With A C) : Type 0 where
+      pub finds : Tells (shown s.asker).engine x a
+      pub engine : (shown t.asker).engine ≡ (shown s.asker).engine
+      pub knows : IsKnownFrom (shown t.asker).engine x (shown t.asker).known
+      pub work : (t.cache ≡ s.cache) ⊎ Work (shown s.asker).engine x a s.cache t.cache
 
 -- An engine that fills captures, of an NFA.
 module _ {E C : Type 0} (nfa : E → Automaton) where

@@ -10,31 +10,31 @@ use Rattle.nfa_pikevm.proofs.engine.PikeVM.find_iter.Goals as goal
 
 pub returns-clause-runs : goal.returns-clause-runs
 returns-clause-runs c = let vm = c.args.self.now in let x = search_of c.args.input in
-    matches-run vm.nfa (kind_of vm) x AsksPike (λ q. q.asker.engine ≡ vm) (pike-acts vm x) pike_finds_next
+    matches-run vm.nfa (kind_of vm) x AsksPike (λ q. q.asker.engine.now ≡ vm) (pike-acts vm x) pike_finds_next
     (λ q. lent_state (pike_finds q)) (λ s r t st. st.takes.step) _
     c.new.ensures refl refl
 
 pub returns-clause-are : goal.returns-clause-are
 returns-clause-are c = let vm = c.args.self.now in let x = search_of c.args.input in
-    matches-are vm.nfa (kind_of vm) x AsksPike (λ q. q.asker.engine ≡ vm) (pike-acts vm x) pike_finds_next
+    matches-are vm.nfa (kind_of vm) x AsksPike (λ q. q.asker.engine.now ≡ vm) (pike-acts vm x) pike_finds_next
     (λ q. lent_state (pike_finds q)) (λ s r t st. st.takes.step) _
     c.new.ensures refl refl
 
 pub returns-clause-apart : goal.returns-clause-apart
 returns-clause-apart c = let vm = c.args.self.now in let x = search_of c.args.input in
-    matches-apart_run vm.nfa (kind_of vm) x AsksPike (λ q. q.asker.engine ≡ vm) (pike-acts vm x) pike_finds_next
+    matches-apart_run vm.nfa (kind_of vm) x AsksPike (λ q. q.asker.engine.now ≡ vm) (pike-acts vm x) pike_finds_next
     (λ q. lent_state (pike_finds q)) (λ s r t st. st.takes.step) _
     c.new.ensures refl refl
 
 pub returns-clause-first : goal.returns-clause-first
 returns-clause-first c = let vm = c.args.self.now in let x = search_of c.args.input in
-    matches-first_given vm.nfa (kind_of vm) x AsksPike (λ q. q.asker.engine ≡ vm) (pike-acts vm x) pike_finds_next
+    matches-first_given vm.nfa (kind_of vm) x AsksPike (λ q. q.asker.engine.now ≡ vm) (pike-acts vm x) pike_finds_next
     (λ q. lent_state (pike_finds q)) (λ s r t st. st.takes.step) _
     c.new.ensures refl refl
 
 pub returns-clause-next : goal.returns-clause-next
 returns-clause-next c = let vm = c.args.self.now in let x = search_of c.args.input in
-    matches-next vm.nfa (kind_of vm) x AsksPike (λ q. q.asker.engine ≡ vm) (pike-acts vm x) pike_finds_next
+    matches-next vm.nfa (kind_of vm) x AsksPike (λ q. q.asker.engine.now ≡ vm) (pike-acts vm x) pike_finds_next
     (λ q. lent_state (pike_finds q)) (λ s r t st. st.takes.step) _
     c.new.ensures refl refl
 

@@ -1,24 +1,22 @@
 -- The match that is known is the answer; else the search's is, and tells what is known then.
-use Rattle.std.proofs.Common.{◌≡◌, rules, ◌∙◌, refl, sym, ap, inl, inr, subst, Option}
+use Rattle.std.proofs.Common.{rules, ◌∙◌, refl, inl, inr, subst, Option}
 use Rattle.regex_search_core.specs.Found.{found_of}
 use Rattle.regex_search_core.specs.Search.{search_of}
 use Rattle.regex_search_core.specs.declared.search.Match.{Match}
-use Rattle.nfa_search_base.specs.EngineSearches.{Knowing}
 use Rattle.nfa_search_base.proofs.EngineLemmas.{find-answered, known-answer, known-kept}
-use Rattle.nfa_pikevm.specs.Engines.{Pike, kind_of}
-use Rattle.nfa_pikevm.specs.Finding.{IsSureOf, PikeSearches, PikeTells, answer_of}
+use Rattle.nfa_pikevm.specs.Engines.{kind_of}
+use Rattle.nfa_pikevm.specs.Finding.{IsSureOf, PikeTells, answer_of}
 use Rattle.nfa_pikevm.proofs.FindLemmas.{finds-sure, sure-finds}
 use Rattle.nfa_pikevm.proofs.find_iter.FinderSearches.answer.Goals as goal
 
 pub returns-then-is_some : goal.returns-then-is_some
 returns-then-is_some c =
-    let vm = c.args.self.now.engine in
+    let vm = c.args.self.now.engine.now in
     let x = search_of c.args.input.now in
-    let same = ap (λ (q : Knowing Pike). q.known) c.self.view_is in
     record {
       finds = known-answer IsSureOf vm x c.args.self.now.known c.ending_at-known.result (PikeTells vm x)
           (sure-finds vm x) c.requires.knows
-          (λ m is. let k = c.ending_at-known.ensures m is in (sym same ∙ k.0, k.1 ∙ c.start.ensures)) (search rules);
+          (λ m is. let k = c.ending_at-known.ensures m is in (k.0, k.1 ∙ c.start.ensures)) (search rules);
       engine = refl;
       knows = c.requires.knows;
       work = inl refl;
@@ -26,20 +24,17 @@ returns-then-is_some c =
 
 pub returns : goal.returns
 returns c =
-    let vm = c.self.inside.engine.now in
+    let vm = c.args.self.now.engine.now in
     let x = search_of c.args.input.now in
-    let same : vm ≡ c.args.self.now.engine = ap (λ (q : Knowing Pike). q.engine) c.self.view_is in
     let e = c.find-found.ensures in
     let finds = find-answered vm.nfa (kind_of vm) x.earliest x c.find-found.result e.answer in
-    let work : PikeSearches vm x c.args.cache.now c.find-found.new.cache =
-    record { total = e.total; work = e.work; scans = e.scans; turns = e.turns; numbers = e.numbers } in
     record {
-      finds = subst (λ (b : Pike). PikeTells b x (answer_of c.find-found.result)) same finds;
-      engine = same;
-      knows = known-kept IsSureOf vm x c.ending_at-self-inside.result (λ m is.
-          let k = c.ending_at-self-inside.ensures m is in (
+      finds = finds;
+      engine = refl;
+      knows = known-kept IsSureOf vm x c.ending_at-self.result (λ m is.
+          let k = c.ending_at-self.ensures m is in (
             finds-sure vm x (found_of m) (subst (λ (o : Option Match). PikeTells vm x (answer_of o)) k.0 finds),
             k.1 ∙ c.start-2.ensures,
           ));
-      work = inr (subst (λ (b : Pike). PikeSearches b x c.args.cache.now c.find-found.new.cache) same work);
+      work = inr (record { total = e.total; work = e.work; scans = e.scans; turns = e.turns; numbers = e.numbers });
     }
