@@ -77,8 +77,7 @@ impl BoundedBacktracker {
         ensures walk { IfOk result (λ made. backtracker_catches_walk made ≡ fresh (search_of input.entry)) }
         ensures going { IfOk result (λ made. backtracker_catches_done made ≡ false) }
         // Each run of calls gives the first captures of the input, and all of them where it goes on to `None`.
-        ensures runs { IfOk result (CapturesRun backtracker_catches_next (IsCatchOf self.now)
-            (search_of input.entry)) }
+        ensures runs { IfOk result (CapturesRun backtracker_catches_next (IsCatchOf self.now) (search_of input.entry)) }
         ensures first { IfOk result (CapturesFirst backtracker_catches_next (IsCatchOf self.now)
             (search_of input.entry)) }
         ensures next { IfOk result (CapturesNext backtracker_catches_next (IsCatchOf self.now)
@@ -113,19 +112,15 @@ impl BoundedBacktracker {
         captures: Captures,
     ) -> TryCapturesMatches<'r, 'c, 'h>
         requires { HasGroups self.now.nfa captures }
-        ensures same_reference { λ made.
-            (backtracker_catches_cache made).ghost_name ≡ cache.entry.ghost_name result }
+        ensures same_reference { (backtracker_catches_cache result).ghost_name ≡ cache.entry.ghost_name }
         ensures same_cache { (backtracker_catches_cache result).now ≡ cache.entry.now }
         ensures engine { backtracker_catches_engine result ≡ self.now }
         ensures walk { backtracker_catches_walk result ≡ fresh (search_of input.entry) }
         ensures going { backtracker_catches_done result ≡ false }
         // Each run of calls gives the first captures of the input, and all of them where it goes on to `None`.
-        ensures runs { CapturesRun backtracker_catches_next (IsCatchOf self.now)
-            (search_of input.entry) result }
-        ensures first { CapturesFirst backtracker_catches_next (IsCatchOf self.now)
-            (search_of input.entry) result }
-        ensures next { CapturesNext backtracker_catches_next (IsCatchOf self.now)
-            (search_of input.entry) result }
+        ensures runs { CapturesRun backtracker_catches_next (IsCatchOf self.now) (search_of input.entry) result }
+        ensures first { CapturesFirst backtracker_catches_next (IsCatchOf self.now) (search_of input.entry) result }
+        ensures next { CapturesNext backtracker_catches_next (IsCatchOf self.now) (search_of input.entry) result }
         ensures refused { CatchesRefused self.now (search_of input.entry) result }
         // Where no copy is refused, their rows and their matches are those of the input.
         ensures rows { RowsRun backtracker_catches_next self.now.nfa LeftmostFirst false
