@@ -1,5 +1,5 @@
 -- What the searches of an iteration over captures by a backtracker answer, and what its iterator may ask and gives.
-use Rattle.std.proofs.Common.{◌≡◌, ◌∙◌, ◌≤◌, Bool, false, Option, None, Some, Result, Ok, Err, sym, ap, length}
+use Rattle.std.proofs.Common.{◌≡◌, ◌∙◌, ◌≤◌, false, Option, Result, Ok, Err, sym, ap, length}
 use Rattle.std.proofs.Common.{◌↔◌, ◌⊎◌, inl, inr}
 use Rattle.std.specs.Prelude.{IfErr, IsErrOf, OnErr, OnOk}
 use Rattle.regex_search_core.specs.Groups.{slot_count}

@@ -1,5 +1,5 @@
 -- What the searches of an iteration by a backtracker answer, and what its iterator may ask.
-use Rattle.std.proofs.Common.{◌≡◌, ◌+◌, ◌*◌, ◌≤◌, ◌<◌, Bool, false, Option, None, Some, Result, Ok, Err, arith, length}
+use Rattle.std.proofs.Common.{◌≡◌, ◌+◌, ◌*◌, ◌≤◌, false, Option, None, Some, Result, Ok, Err, arith, length}
 use Rattle.std.specs.Prelude.{OnOk, OnErr}
 use Rattle.std.proofs.Math.Nat.{mul-le-mul_left}
 use Rattle.regex_search_core.specs.Found.{Found, found_of}

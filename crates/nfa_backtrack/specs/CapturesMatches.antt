@@ -1,7 +1,7 @@
 -- The iterator over the captures of a backtracker.
 use Rattle.std.specs.Prelude.{◌≡◌, true, Option, Result, Bool}
 use Rattle.std.specs.Borrow.{MutBor}
-use Rattle.std.specs.Iterator.Runs.{Run, EachRunFrom}
+use Rattle.std.specs.Iterator.Runs.{EachRunFrom}
 use Rattle.regex_search_core.specs.Search.{Search}
 use Rattle.regex_search_core.specs.Slots.{Captured}
 use Rattle.nfa_search_base.specs.Catching.{Catching, GivesCaptures, Row, row_span}

@@ -1,5 +1,5 @@
 -- What the searches of an iteration over captures by a PikeVM answer, and what its iterator may ask and gives.
-use Rattle.std.proofs.Common.{◌≡◌, Bool, false, Option, Result, Ok, Err, subst}
+use Rattle.std.proofs.Common.{◌≡◌, Bool, false, Option, Result, subst}
 use Rattle.regex_search_core.specs.Search.{Search}
 use Rattle.regex_search_core.specs.Slots.{Captured}
 use Rattle.nfa_search_base.specs.Asking.{SameButStart}

@@ -1,7 +1,7 @@
 -- What the searches of an iteration by an engine leave, what its iterators may ask, and what their calls keep.
 use Rattle.std.proofs.Common.{◌≡◌, ◌∙◌, ℕ, Bool, true, false, Option, None, Some, Result, Ok, Err, refl, sym, ap, subst}
-use Rattle.std.proofs.Common.{◌⊎◌, inl, inr, List, MatchBool}
-use Rattle.std.specs.Prelude.{IfOk, IsOk, IsTrue, is_some}
+use Rattle.std.proofs.Common.{inl, inr, List, MatchBool}
+use Rattle.std.specs.Prelude.{IfOk, IsTrue, is_some}
 use Rattle.std.specs.Option.{ForSome, option_map}
 use Rattle.regex_search_core.specs.Found.{Found, found_of}
 use Rattle.regex_search_core.specs.Search.{Search}
