@@ -1,6 +1,6 @@
 -- What a stored finder of captures may answer, its iterator gives.
 use Rattle.std.proofs.Common.{◌≡◌, false, List, [], ◌∷◌, ◌++◌, refl}
-use Rattle.std.proofs.Common.{None, Result}
+use Rattle.std.proofs.Common.{Option, None, Result}
 use Rattle.std.specs.Fn.{Mut}
 use Rattle.std.specs.Borrow.{Bor, MutBor}
 use Rattle.std.specs.Iterator.{Yields}

@@ -15,9 +15,9 @@ use Rattle.nfa_search_base.specs.Asking.{IsCallableOn, SameButStart}
 use Rattle.nfa_search_base.specs.Finders.{Finds}
 use Rattle.nfa_search_base.specs.Items.{Item, item_by}
 use Rattle.nfa_search_base.specs.Lists.{IsStep, Fails, ItemsLast, AreFirstFound, AreAllFound}
-use Rattle.nfa_search_base.specs.Serving.{LeadsOn}
+use Rattle.nfa_search_base.specs.Serving.{LeadsOn, MayReply}
 use Rattle.nfa_search_base.specs.Steps.{GivesItem}
-use Rattle.nfa_search_base.specs.Stored.{steps_walk}
+use Rattle.nfa_search_base.specs.Stored.{steps_walk, takes_steps}
 use Rattle.nfa_search_base.specs.StoredRuns.{MayAnswer, found_steps, sure_found_steps, FoundRun, FoundFirst, FoundAll}
 use Rattle.nfa_search_base.specs.StoredRuns.{SureFoundRun, SureFoundFirst, SureFoundAll}
 use Rattle.nfa_search_base.specs.Walks.{Answer, Walk, after, repeats, shifted, place_of}
