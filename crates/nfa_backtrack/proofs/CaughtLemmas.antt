@@ -102,8 +102,8 @@ module _ (e : Backtracker) (x : Search) (s : TryCapturesMatches)
             (λ q. q.asker.finder ≡ e)
             (λ q t a q' same is asked. catcher-acts (λ e. e.nfa) fits_always IsCatchOf (λ e x a. SearchesOnce e x a)
             (λ e x a old new work fits. tt) e q t a q' is asked)
-            backtracker_catches_next (λ q. lent_state (backtracker_catches q)) (λ a r b st. st.takes.step) s walk going engine
-            (λ t error from to h. memory-alone fits t error from to h) p seen from;
+            backtracker_catches_next (λ q. lent_state (backtracker_catches q)) (λ a r b st. st.takes.step) s walk going
+            engine (λ t error from to h. memory-alone fits t error from to h) p seen from;
       }
     where
       only-refused : IsTooLong e x → (a : Answer Row) → IsCatchOf e x a → a ≡ Err (HaystackTooLong (span_len x))

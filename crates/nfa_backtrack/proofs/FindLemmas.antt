@@ -60,23 +60,22 @@ find-lies e t (Err error) h = (tt, λ p is. let never : None ≡ Some p = is in 
 pub find-serves : (s : TryFindMatches)
     → can_step MayFindByBacktracker AsksBacktracker span_of (lent_state (backtracker_finds s))
 find-serves s =
-    finder-serves IsSureAt backtracker_knowing fits_always IsFindOf (λ e x a. SearchesOnce e x a) (λ e x a old new work fits. tt)
-    (IsInside span_of) (λ e t a h. (find-lies e t a h).0) (lent_state (backtracker_finds s)).asker
+    finder-serves IsSureAt backtracker_knowing fits_always IsFindOf (λ e x a. SearchesOnce e x a)
+    (λ e x a old new work fits. tt) (IsInside span_of) (λ e t a h. (find-lies e t a h).0) (lent_state (backtracker_finds s)).asker
     (lent_walk (backtracker_finds s)).at (record { fits = tt; knows = s.knows })
 
 -- and goes on after a step
-pub step-goes : (s : TryFindMatches) (r : Option (Result Match SearchError))
-    (t : Steps (With Finder Work))
+pub step-goes : (s : TryFindMatches) (r : Option (Result Match SearchError)) (t : Steps (With Finder Work))
     → takes_steps span_of AsksBacktracker (λ q. GivesItem found_of) (lent_state (backtracker_finds s)) r t
     → MayFindByBacktracker t.asker (steps_walk t).at
 step-goes s r t st =
-    finder-goes IsSureAt backtracker_knowing fits_always IsFindOf (λ e x a. SearchesOnce e x a) (λ e x a old new work fits. tt)
-    (λ _. GivesItem found_of) (lent_state (backtracker_finds s)) r t st (record { fits = tt; knows = s.knows })
+    finder-goes IsSureAt backtracker_knowing fits_always IsFindOf (λ e x a. SearchesOnce e x a)
+    (λ e x a old new work fits. tt) (λ _. GivesItem found_of) (lent_state (backtracker_finds s)) r t st (record { fits = tt; knows = s.knows })
 
 -- the backtracker answers what its searches tell, and stays the one that it is
 pub back-acts : (e : Backtracker) (x : Search) (s : With Finder Work) (t : Search) (a : Answer Found)
-    (s' : With Finder Work)
-    → SameButStart x t → s.asker.engine.now ≡ e → AsksBacktracker s t a s' → IsFindOf e t a × (s'.asker.engine.now ≡ e)
+    (s' : With Finder Work) → SameButStart x t
+    → s.asker.engine.now ≡ e → AsksBacktracker s t a s' → IsFindOf e t a × (s'.asker.engine.now ≡ e)
 back-acts e x s t a s' same is asked =
-    finder-acts IsSureAt backtracker_knowing fits_always IsFindOf (λ e x a. SearchesOnce e x a) (λ e x a old new work fits. tt) e s t a s'
-    is asked
+    finder-acts IsSureAt backtracker_knowing fits_always IsFindOf (λ e x a. SearchesOnce e x a)
+    (λ e x a old new work fits. tt) e s t a s' is asked

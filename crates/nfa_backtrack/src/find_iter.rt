@@ -24,7 +24,8 @@ pub struct TryFindMatches<'r, 'c, 'h> {
     ghost knows: { IsKnownFrom IsSureAt steps.asker.engine.now (steps_walk steps).at steps.asker.known },
 }
 
-// A backtracker that answers the searches of one iteration.
+// A backtracker that answers the searches of one iteration. It has no model: a caller of the iterator would not learn
+// then what the cache ends as.
 #[derive(Debug, Drop)]
 struct Finder<'r> {
     engine: &'r BoundedBacktracker,

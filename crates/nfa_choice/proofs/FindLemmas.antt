@@ -69,6 +69,6 @@ keeps-then a b c f g = record {
 pub gives-choice : (s : ChoiceMatches) → ChoiceGivesKept s
 gives-choice s = λ xs t r u ran st.
     let k = calls-kept span_of AsksByRule (λ _. GivesItem found_of) KeepsEngines keeps-self keeps-then
-    (λ p x a q asked. asked.keeps) choice_finds_next choice_finds (option_map (λ m. Ok m)) (λ p i q h. h.takes) s xs t r u
-    ran st in
+    (λ p x a q asked. asked.keeps) choice_finds_next choice_finds (option_map (λ m. Ok m)) (λ p i q h. h.takes) s xs t r
+    u ran st in
     record { choice = k.cache; keeps = k.keeps }

@@ -76,5 +76,6 @@ module _ (vm : Pike) (x : Search) (s : CapturesMatches) (engine : (pike_catches 
 pub catches-cache : (s : CapturesMatches) → CatchesGiveCache s
 catches-cache s = λ xs t r u ran st.
     let k = calls-kept row_span AsksPikeRow GivesCaptures SameNumbers same_numbers same_numbers-then
-    (λ p x a q asked. asked.work.numbers) pike_catches_next pike_catches (λ i. i) (λ p i q h. h.takes) s xs t r u ran st in
+    (λ p x a q asked. asked.work.numbers) pike_catches_next pike_catches (λ i. i) (λ p i q h. h.takes) s xs t r u ran
+    st in
     record { cache = k.cache; numbers = k.keeps }

@@ -67,8 +67,8 @@ pub pike-acts : (vm : Pike) (x : Search) (s : With Finder PikeCache) (t : Search
     → s.asker.engine.now ≡ vm → AsksPike s t a s'
     → TellsMatch vm.nfa (kind_of vm) x.earliest t a × (s'.asker.engine.now ≡ vm)
 pike-acts vm x s t a s' same is asked =
-    let k = finder-acts IsSureOf pike_knowing fits_pike PikeTells (λ vm x a. PikeSearches vm x) (λ vm x a. searched-fits vm x) vm s t
-    a s' is asked in
+    let k = finder-acts IsSureOf pike_knowing fits_pike PikeTells (λ vm x a. PikeSearches vm x)
+    (λ vm x a. searched-fits vm x) vm s t a s' is asked in
     (subst (λ (b : Bool). TellsMatch vm.nfa (kind_of vm) b t a) same.earliest k.0, k.1)
 
 -- ---- the cache

@@ -25,7 +25,8 @@ pub struct FindMatches<'r, 'c, 'h> {
     ghost knows: { IsKnownFrom IsSureOf steps.asker.engine.now (steps_walk steps).at steps.asker.known },
 }
 
-// A PikeVM that answers the searches of one iteration.
+// A PikeVM that answers the searches of one iteration. It has no model: a caller of the iterator would not learn then
+// what the cache ends as.
 #[derive(Debug, Drop)]
 struct Finder<'r> {
     engine: &'r PikeVM,

@@ -126,7 +126,8 @@ module _ {E : Type 0} (Sure : E → Search → Found → Type 0) where
   -- An engine whose cache still fits after a search.
   module _ {A C : Type 0} (shown : A → Knowing E) (Fits : C → E → Type 0) (Tells : E → Search → Answer Found → Type 0)
       (Work : E → Search → Answer Found → C → C → Type 0)
-      (stays : (e : E) (x : Search) (a : Answer Found) (old new : C) → Work e x a old new → Fits old e → Fits new e) where
+      (stays : (e : E) (x : Search) (a : Answer Found) (old new : C) → Work e x a old new → Fits old e
+      → Fits new e) where
     abbrev Asks : With A C → Search → Answer Found → With A C → Type 0
     Asks = AsksEngine Sure shown Tells Work
 
@@ -179,7 +180,8 @@ module _ {E : Type 0} (Sure : E → Search → Found → Type 0) where
             h.answer t.asker (steps_walk t) (may-after x) may h.step in
             record {
               fits = on.fits;
-              knows = known-like (shown t.asker.asker).engine x (steps_walk t).at (shown t.asker.asker).known h.same on.knows;
+              knows = known-like (shown t.asker.asker).engine x (steps_walk t).at (shown t.asker.asker).known h.same
+                  on.knows;
             }
 
     -- the engine answers what its searches tell, and stays the one that it is

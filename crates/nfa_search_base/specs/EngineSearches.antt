@@ -45,8 +45,8 @@ module _ {E C : Type 0} (nfa : E → Automaton) where
     pub fits : Fits s.cache s.asker.finder
     pub holds : HasGroups (nfa s.asker.finder) s.asker.captures
 
-  -- A search by the engine may answer this, which is what it `Tells`. It does `Work` with the cache, once, and keeps the
-  -- groups of the captures.
+  -- A search by the engine may answer this, which is what it `Tells`. It does `Work` with the cache, once, and keeps
+  -- the groups of the captures.
   pub record AsksEngineRow (Tells : E → Search → Answer Row → Type 0)
       (Work : E → Search → Answer Row → C → C → Type 0) (s : With (Catching E) C) (x : Search) (a : Answer Row)
       (t : With (Catching E) C) : Type 0 where
