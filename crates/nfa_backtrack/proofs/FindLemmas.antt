@@ -61,8 +61,8 @@ pub find-serves : (s : TryFindMatches)
     → can_step MayFindByBacktracker AsksBacktracker span_of (lent_state (backtracker_finds s))
 find-serves s =
     finder-serves IsSureAt backtracker_knowing fits_always IsFindOf (λ e x a. SearchesOnce e x a)
-    (λ e x a old new work fits. tt) (IsInside span_of) (λ e t a h. (find-lies e t a h).0) (lent_state (backtracker_finds s)).asker
-    (lent_walk (backtracker_finds s)).at (record { fits = tt; knows = s.knows })
+    (λ e x a old new work fits. tt) (IsInside span_of) (λ e t a h. (find-lies e t a h).0)
+    (lent_state (backtracker_finds s)).asker (lent_walk (backtracker_finds s)).at (record { fits = tt; knows = s.knows })
 
 -- and goes on after a step
 pub step-goes : (s : TryFindMatches) (r : Option (Result Match SearchError)) (t : Steps (With Finder Work))
@@ -70,7 +70,8 @@ pub step-goes : (s : TryFindMatches) (r : Option (Result Match SearchError)) (t 
     → MayFindByBacktracker t.asker (steps_walk t).at
 step-goes s r t st =
     finder-goes IsSureAt backtracker_knowing fits_always IsFindOf (λ e x a. SearchesOnce e x a)
-    (λ e x a old new work fits. tt) (λ _. GivesItem found_of) (lent_state (backtracker_finds s)) r t st (record { fits = tt; knows = s.knows })
+    (λ e x a old new work fits. tt) (λ _. GivesItem found_of) (lent_state (backtracker_finds s)) r t st
+    (record { fits = tt; knows = s.knows })
 
 -- the backtracker answers what its searches tell, and stays the one that it is
 pub back-acts : (e : Backtracker) (x : Search) (s : With Finder Work) (t : Search) (a : Answer Found)

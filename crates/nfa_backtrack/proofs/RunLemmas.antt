@@ -193,8 +193,8 @@ module _ (e : Backtracker) where
         gives-first span_of AsksBacktracker (λ q. GivesItem found_of) found_of tells (Fails span_of tells) x
         (λ q. q.asker.engine.now ≡ e) (back-acts e x) says
         (lent_state (backtracker_finds s)) walk going engine xs (lent_state (backtracker_finds t))
-        (yields-inner backtracker_finds_next core (λ q. lent_state (backtracker_finds q)) (λ a r b st. st.takes.step) xs s
-        t ran)
+        (yields-inner backtracker_finds_next core (λ q. lent_state (backtracker_finds q)) (λ a r b st. st.takes.step) xs
+        s t ran)
 
     all-come : (xs : List (Result Match SearchError)) (t u : TryFindMatches) → Yields backtracker_finds_next s xs t
         → backtracker_finds_next t None u → Last (fresh x) xs
@@ -203,8 +203,8 @@ module _ (e : Backtracker) where
         (λ q. q.asker.engine.now ≡ e) (back-acts e x) says
         (lent_state (backtracker_finds s)) walk going engine xs (lent_state (backtracker_finds t))
         (lent_state (backtracker_finds u))
-        (yields-inner backtracker_finds_next core (λ q. lent_state (backtracker_finds q)) (λ a r b st. st.takes.step) xs s
-        t ran) st.takes.step
+        (yields-inner backtracker_finds_next core (λ q. lent_state (backtracker_finds q)) (λ a r b st. st.takes.step) xs
+        s t ran) st.takes.step
 
     pub gives-first_items : GivesFirst backtracker_finds_next (AreFirstItems e x) s
     gives-first_items = λ xs t ran. record { come = first-come xs t ran }

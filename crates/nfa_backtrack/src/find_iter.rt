@@ -41,7 +41,8 @@ impl BoundedBacktracker {
     ghost use Rattle.nfa_search_base.specs.Runs.{GivesFirst, GivesNext, RunsGive};
     ghost use Rattle.nfa_search_base.specs.Walks.{fresh};
     ghost use Rattle.nfa_backtrack.specs.FindMatches.{backtracker_finds_cache, backtracker_finds_done};
-    ghost use Rattle.nfa_backtrack.specs.FindMatches.{backtracker_finds_engine, backtracker_finds_next, backtracker_finds_walk};
+    ghost use Rattle.nfa_backtrack.specs.FindMatches.{backtracker_finds_engine, backtracker_finds_next};
+    ghost use Rattle.nfa_backtrack.specs.FindMatches.{backtracker_finds_walk};
     ghost use Rattle.nfa_backtrack.specs.Runs.{AreAllItems, AreFirstItems, GivesAllMatches, GivesFirstMatches, GivesNextMatch};
     ghost use Rattle.nfa_backtrack.specs.Runs.{RunsApart, RunsInside, RunsMatch, RunsRefused};
 

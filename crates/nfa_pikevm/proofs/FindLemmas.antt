@@ -17,7 +17,8 @@ use Rattle.nfa_search_base.specs.declared.error.SearchError.{SearchError}
 use Rattle.nfa_search_base.specs.declared.iter.steps.Steps.{Steps}
 use Rattle.nfa_search_base.proofs.EngineLemmas.{calls-kept, find-lies, finder-acts, finder-goes, finder-serves}
 use Rattle.nfa_pikevm.specs.Engines.{Fits, Pike, PikeCache, SameNumbers, kind_of}
-use Rattle.nfa_pikevm.specs.FindMatches.{AsksPike, MayFindByPike, GivesCache, fits_pike, pike_finds, pike_finds_next, pike_knowing}
+use Rattle.nfa_pikevm.specs.FindMatches.{AsksPike, MayFindByPike, GivesCache, fits_pike, pike_finds}
+use Rattle.nfa_pikevm.specs.FindMatches.{pike_finds_next, pike_knowing}
 use Rattle.nfa_pikevm.specs.Finding.{IsSureOf, PikeSearches, PikeTells}
 use Rattle.nfa_pikevm.specs.declared.find_iter.FindMatches.{FindMatches}
 use Rattle.nfa_pikevm.specs.declared.find_iter.Finder.{Finder}

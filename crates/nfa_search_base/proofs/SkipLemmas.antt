@@ -10,7 +10,8 @@ use Rattle.regex_search_core.specs.declared.search.Input.{Input}
 use Rattle.nfa_search_base.specs.Asking.{Asks, IsCallableOn, SameButStart, SameButEnd, ServesAlong}
 use Rattle.nfa_search_base.specs.Serving.{LeadsOn}
 use Rattle.nfa_search_base.specs.declared.error.SearchError.{SearchError}
-use Rattle.nfa_search_base.specs.Skipping.{Placed, value_of, IsPlacedIn, IsSplit, IsWholeReply, start_raised, lowered, Answers}
+use Rattle.nfa_search_base.specs.Skipping.{Placed, value_of, IsPlacedIn, IsSplit, IsWholeReply}
+use Rattle.nfa_search_base.specs.Skipping.{start_raised, lowered, Answers}
 use Rattle.nfa_search_base.specs.Skipping.{LeadsTo, Reaches, ServesSkips, SkipsTo}
 
 module _ {T F : Type 0} (g : Mut F (Bor Input × Unit {0}) (Placed T))

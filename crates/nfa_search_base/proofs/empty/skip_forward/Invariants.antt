@@ -11,10 +11,8 @@ abbrev pub invariant-loop-input : goal.invariant-loop-input
 invariant-loop-input g l =
     IsInSpan (search_of l.input) l.place
     × HasCome g.F.FnMut (search_of l.fn.input).haystack (start_raised (search_of l.fn.input)) SameButStart
-    same_start-self (search_of l.fn.input) (Ok (Some (l.fn.init, l.fn.offset))) l.fn.find (search_of l.input) (Ok (Some (
-      l.value,
-      l.place,
-    ))) l.find
+    same_start-self (search_of l.fn.input) (Ok (Some (l.fn.init, l.fn.offset))) l.fn.find (search_of l.input)
+    (Ok (Some (l.value, l.place))) l.find
 
 abbrev pub decreases-loop-input : goal.decreases-loop-input
 decreases-loop-input g l = l.input.span.end + 1 - l.input.span.start
