@@ -14,7 +14,8 @@ use Rattle.nfa_paths.specs.Graphs.{In}
 use Rattle.nfa_paths.specs.Paths.{node_at, pattern_of}
 use Rattle.nfa_paths.proofs.KindsLemmas.{In-append_left}
 use Rattle.nfa_bounds.specs.Ways.{targets, IsStart}
-use Rattle.nfa_bounds.specs.Places.{fresh_place, at_state, after_turn, next_places, is_recorded, IsFresh, GainsPlaces, IsFine}
+use Rattle.nfa_bounds.specs.Places.{fresh_place, at_state, after_node, next_places, is_recorded}
+use Rattle.nfa_bounds.specs.Places.{IsFresh, GainsPlaces, IsFine}
 use Rattle.nfa_bounds.specs.Places.{IsClosed, IsUnderWay, IsLedTo}
 use Rattle.nfa_bounds.proofs.TableLemmas.{In-append}
 use Rattle.nfa_bounds.proofs.WayLemmas.{In-mapped, IsLedTo-fresh, IsLedTo-next}
@@ -181,7 +182,7 @@ module _ (nfa : Automaton) (pattern : ℕ) where
               | inr k ↦ elim k [ inl e ↦ subst (IsFine nfa pattern) (sym e) fine | inr never ↦ absurd never ]
             ];
         below = GainsPlaces-each (λ w. w.state < length nfa.states) gains under.below (λ w i.
-            let of = In-mapped (at_state (after_turn pattern node v)) w (targets node) i in
+            let of = In-mapped (at_state (after_node pattern node v)) w (targets node) i in
             subst (λ (z : Place). z.state < length nfa.states) (sym of.2)
             (targets-below (length nfa.states) of.0 node leads of.1));
         led = GainsPlaces-each (IsLedTo nfa pattern) gains under.led

@@ -22,18 +22,18 @@ abbrev pub IsFresh : Automaton → Place → Type 0
 IsFresh nfa v = IsStart nfa v.state × (v ≡ fresh_place v.state)
 
 -- what is done once a way leaves the place, whose state is this node
-unfoldable pub after_turn : ℕ → Node → Place → Place
-after_turn pattern (Capture next slot) v =
+unfoldable pub after_node : ℕ → Node → Place → Place
+after_node pattern (Capture next slot) v =
     record v {
       start_written = if slot == 2 * pattern then not v.has_read else v.start_written;
       end_written = if slot == 2 * pattern + 1 then true else v.end_written;
     }
-after_turn pattern node v = if reads node then record v { has_read = true; end_written = false } else v
+after_node pattern node v = if reads node then record v { has_read = true; end_written = false } else v
 
 -- the places that follow
 abbrev pub next_places : Automaton → ℕ → Place → List Place
 next_places nfa pattern v =
-    map (at_state (after_turn pattern (node_at nfa v.state) v)) (targets (node_at nfa v.state))
+    map (at_state (after_node pattern (node_at nfa v.state) v)) (targets (node_at nfa v.state))
 
 -- both bounds are written
 abbrev pub is_recorded : Place → Bool

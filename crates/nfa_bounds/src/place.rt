@@ -2,7 +2,7 @@
 ghost use Rattle.std.specs.Prelude.{◌≡◌, ◌+◌, ◌*◌, ◌<◌, ◌&&◌, ◌==◌, ◌↔◌, IsTrue, Some, false};
 ghost use Rattle.thompson_nfa.specs.Automaton.{node_of};
 ghost use Rattle.nfa_paths.specs.Paths.{pattern_of};
-ghost use Rattle.nfa_bounds.specs.Places.{after_turn, at_state, fresh_place, is_recorded, place_number, bit};
+ghost use Rattle.nfa_bounds.specs.Places.{after_node, at_state, fresh_place, is_recorded, place_number, bit};
 
 use regex_search_core::StateID;
 use thompson_nfa::State;
@@ -52,9 +52,9 @@ impl Place {
     }
 
     /// What is done once a way leaves the place, whose state this is.
-    #[tactic(auto, unfolding(crate::specs::Places::after_turn, crate::specs::Ways::reads))]
+    #[tactic(auto, unfolding(crate::specs::Places::after_node, crate::specs::Ways::reads))]
     pub fn after(&self, state: &State, pattern: usize) -> Place
-        ensures { result ≡ after_turn pattern (node_of state.now) self.now }
+        ensures { result ≡ after_node pattern (node_of state.now) self.now }
     {
         match state {
             State::ByteRange { .. } | State::Sparse(_) | State::Dense(_) => Place {
