@@ -13,6 +13,9 @@ use Rattle.nfa_paths.specs.Paths.{span_len}
 use Rattle.nfa_search_base.specs.Items.{Item, item_by}
 use Rattle.nfa_search_base.specs.Lists.{IsStep, Fails, ItemsNext, ItemsLast, TellsMatch, ComeNext, ComeLast, AreMatches}
 use Rattle.nfa_search_base.specs.Lists.{IsInside}
+use Rattle.nfa_search_base.specs.Lending.{With}
+use Rattle.nfa_search_base.specs.Lent.{lent_state, lent_walk}
+use Rattle.nfa_search_base.specs.Runs.{RunsGive, GivesFirst, GivesNext}
 use Rattle.nfa_search_base.specs.Steps.{GivesItem}
 use Rattle.nfa_search_base.specs.Stored.{takes_steps}
 use Rattle.nfa_search_base.specs.Walks.{Walk, Answer, fresh, after, repeats, shifted, span_of, place_of}
@@ -23,13 +26,13 @@ use Rattle.nfa_search_base.proofs.ListLemmas.{matches-apart, step-lies}
 use Rattle.nfa_search_base.proofs.MatchRunLemmas.{yields-inner}
 use Rattle.nfa_search_base.proofs.RunLemmas.{item-says, Says, gives-first, gives-all, runs-give, yields-more}
 use Rattle.nfa_search_base.proofs.StepLemmas.{chosen}
-use Rattle.nfa_backtrack.specs.Backtrack.{Backtracker, IsTooLong}
-use Rattle.nfa_backtrack.specs.FindMatches.{Asked, AsksBacktracker, TakesFindStep, find_state, find_engine}
-use Rattle.nfa_backtrack.specs.FindMatches.{find_is_done, find_walk, find_steps}
+use Rattle.nfa_backtrack.specs.Backtrack.{Backtracker, IsTooLong, Work}
+use Rattle.nfa_backtrack.specs.FindMatches.{AsksBacktracker, backtracker_finds, backtracker_finds_next}
 use Rattle.nfa_backtrack.specs.Finding.{AnswersByLength, IsFindOf, IsRefusal}
-use Rattle.nfa_backtrack.specs.Runs.{RunsGive, RunsMatch, RunsInside, RunsApart, RunsRefused}
-use Rattle.nfa_backtrack.specs.Runs.{GivesFirst, GivesFirstMatches, GivesAllMatches, GivesNext, GivesNextMatch}
-use Rattle.nfa_backtrack.specs.Runs.{AreFirstItems, AreAllItems, AreRefused, GivesByLength, EndsByLength}
+use Rattle.nfa_backtrack.specs.Runs.{RunsMatch, RunsInside, RunsApart, RunsRefused}
+use Rattle.nfa_backtrack.specs.Runs.{GivesFirstMatches, GivesAllMatches, GivesNextMatch, AreFirstItems, AreAllItems}
+use Rattle.nfa_backtrack.specs.declared.find_iter.Finder.{Finder}
+use Rattle.nfa_backtrack.specs.Runs.{AreRefused, GivesByLength, EndsByLength}
 use Rattle.nfa_backtrack.specs.declared.find_iter.TryFindMatches.{TryFindMatches}
 use Rattle.nfa_backtrack.proofs.FindLemmas.{back-acts, find-lies, still-fits}
 
@@ -65,7 +68,8 @@ module _ (e : Backtracker) where
   abbrev Last : Walk → List (Result Match SearchError) → Type 0
   Last w xs = ItemsLast span_of tells (Fails span_of tells) w (map (item_by found_of) xs)
 
-  says : (w : Walk) (s : Asked) (a : Answer Found) (r : Option (Result Match SearchError)) → GivesItem found_of a r
+  says : (w : Walk) (s : With Finder Work) (a : Answer Found)
+      (r : Option (Result Match SearchError)) → GivesItem found_of a r
       → Step w a → Says found_of a (Fails span_of tells w) r
   says w s a r gives step = item-says found_of (λ b. Step w b) a r gives step
 
@@ -230,33 +234,37 @@ module _ (e : Backtracker) where
   oks-fit x (m ∷ ms) h = λ long.
       let k : oked (m ∷ ms) ≡ Err (HaystackTooLong (span_len x)) ∷ [] = long-items x (oked (m ∷ ms)) long h in cc
 
-  module _ (x : Search) (s : TryFindMatches) (engine : find_engine s ≡ e) (walk : find_walk s ≡ fresh x)
-      (going : find_is_done s ≡ false) where
-    abbrev core : Steps Asked → Option (Result Match SearchError) → Steps Asked → Type 0
+  module _ (x : Search) (s : TryFindMatches) (engine : (backtracker_finds s).steps.asker.engine.now ≡ e)
+      (walk : lent_walk (backtracker_finds s) ≡ fresh x) (going : (backtracker_finds s).steps.done ≡ false) where
+    abbrev core : Steps (With Finder Work) → Option (Result Match SearchError)
+        → Steps (With Finder Work) → Type 0
     core = takes_steps span_of AsksBacktracker (λ q. GivesItem found_of)
 
-    first-come : (xs : List (Result Match SearchError)) (t : TryFindMatches) → Yields find_steps s xs t
+    first-come : (xs : List (Result Match SearchError)) (t : TryFindMatches) → Yields backtracker_finds_next s xs t
         → Next (fresh x) xs
     first-come xs t ran =
         gives-first span_of AsksBacktracker (λ q. GivesItem found_of) found_of tells (Fails span_of tells) x
         (λ q. q.asker.engine.now ≡ e) (back-acts e x) says
-        (find_state s) walk going engine xs (find_state t)
-        (yields-inner find_steps core find_state (λ a r b st. st.step) xs s t ran)
+        (lent_state (backtracker_finds s)) walk going engine xs (lent_state (backtracker_finds t))
+        (yields-inner backtracker_finds_next core (λ q. lent_state (backtracker_finds q)) (λ a r b st. st.takes.step) xs
+        s t ran)
 
-    all-come : (xs : List (Result Match SearchError)) (t u : TryFindMatches) → Yields find_steps s xs t
-        → find_steps t None u → Last (fresh x) xs
+    all-come : (xs : List (Result Match SearchError)) (t u : TryFindMatches) → Yields backtracker_finds_next s xs t
+        → backtracker_finds_next t None u → Last (fresh x) xs
     all-come xs t u ran st =
         gives-all span_of AsksBacktracker (λ q. GivesItem found_of) found_of tells (Fails span_of tells) x
         (λ q. q.asker.engine.now ≡ e) (back-acts e x) says
-        (find_state s) walk going engine xs (find_state t) (find_state u)
-        (yields-inner find_steps core find_state (λ a r b st. st.step) xs s t ran) st.step
+        (lent_state (backtracker_finds s)) walk going engine xs (lent_state (backtracker_finds t))
+        (lent_state (backtracker_finds u))
+        (yields-inner backtracker_finds_next core (λ q. lent_state (backtracker_finds q)) (λ a r b st. st.takes.step) xs
+        s t ran) st.takes.step
 
-    pub gives-first_items : GivesFirst e x s
+    pub gives-first_items : GivesFirst backtracker_finds_next (AreFirstItems e x) s
     gives-first_items = λ xs t ran. record { come = first-come xs t ran }
 
-    pub runs-give_items : RunsGive e x s
-    runs-give_items = runs-give find_steps (λ xs. AreFirstItems e x xs) (λ xs. AreAllItems e x xs) s gives-first_items
-        (λ xs t u ran st. record { come = all-come xs t u ran st })
+    pub runs-give_items : RunsGive backtracker_finds_next (AreFirstItems e x) (AreAllItems e x) s
+    runs-give_items = runs-give backtracker_finds_next (λ xs. AreFirstItems e x xs) (λ xs. AreAllItems e x xs) s
+        gives-first_items (λ xs t u ran st. record { come = all-come xs t u ran st })
 
     pub runs-match : RunsMatch e x s
     runs-match = λ p seen from ms is.
@@ -301,17 +309,18 @@ module _ (e : Backtracker) where
               (subst (λ (l : List (Result Match SearchError)). Last (fresh x) l) is (all-come xs t u ran st));
         }
 
-    pub gives-next : GivesNext e x s
-    gives-next = λ xs t i u ran st. gives-first_items (xs ++ i ∷ []) u (yields-more find_steps xs s t u i ran st)
+    pub gives-next : GivesNext backtracker_finds_next (AreFirstItems e x) s
+    gives-next = λ xs t i u ran st. gives-first_items (xs ++ i ∷ []) u
+        (yields-more backtracker_finds_next xs s t u i ran st)
 
     pub gives-next-match : GivesNextMatch e x s
     gives-next-match = λ xs t i u ms m ran st is ok.
-        gives-first-matches (xs ++ i ∷ []) u (ms ++ m ∷ []) (yields-more find_steps xs s t u i ran st)
+        gives-first-matches (xs ++ i ∷ []) u (ms ++ m ∷ []) (yields-more backtracker_finds_next xs s t u i ran st)
         (oks xs ms i m is ok)
 
     pub gives-by-length : GivesByLength e x s
     gives-by-length = λ xs t i u ran st.
-        item-by-length x xs i (first-come (xs ++ i ∷ []) u (yields-more find_steps xs s t u i ran st))
+        item-by-length x xs i (first-come (xs ++ i ∷ []) u (yields-more backtracker_finds_next xs s t u i ran st))
 
     pub ends-by-length : EndsByLength e x s
     ends-by-length = λ xs t u ms ran st is.

@@ -1,6 +1,6 @@
 -- From what a walk comes to, to what the search from all starts comes to.
 use Rattle.std.proofs.Common.{◌≡◌, ℕ, ◌+◌, ◌-◌, ◌*◌, ◌^◌, ◌<◌, ◌≤◌, List, [], length, map, replicate, arith, sum}
-use Rattle.std.specs.Prelude.{Some, None, true, false, Bool}
+use Rattle.std.specs.Prelude.{None, false, Bool}
 use Rattle.std.proofs.Math.Nat.{mul-le-mul_left}
 use Rattle.regex_search_core.specs.Found.{half_found_of}
 use Rattle.regex_search_core.specs.Search.{Search}

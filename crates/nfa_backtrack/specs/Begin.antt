@@ -8,7 +8,7 @@ use Rattle.nfa_paths.specs.Exploring.{Slots, Item}
 use Rattle.nfa_paths.specs.Exploring.Item.{Explore as ToExplore, Restore as ToRestore}
 use Rattle.nfa_paths.specs.Turns.{marked_sum}
 use Rattle.nfa_backtrack.specs.Bits.{Marks}
-use Rattle.nfa_backtrack.specs.Walk.{pair_of, weights, IsPlace, Follows, Fails}
+use Rattle.nfa_backtrack.specs.Walk.{pair_of, weights, IsPlace, Follows, WalkFails}
 use Rattle.nfa_backtrack.specs.declared.walk.Begun.{Begun}
 
 -- the slot that was written gets no offset again, above some work
@@ -36,5 +36,5 @@ module _ (nfa : Automaton) (x : Search) where
 
   -- what comes of the first turn, if one was taken
   abbrev pub Begins : Pair → Option Begun → Marks → Slots → Marks → Slots → Type 0
-  Begins v None marks slots marked written = Fails nfa x v marks slots [] marked written
+  Begins v None marks slots marked written = WalkFails nfa x v marks slots [] marked written
   Begins v (Some begun) marks slots marked written = BeginsAt v begun marks slots marked written

@@ -1,66 +1,61 @@
 -- The iterator over the matches of a backtracker.
-use Rattle.std.specs.Prelude.{◌≡◌, ◌⊎◌, Bool, Option, Result}
+use Rattle.std.specs.Prelude.{Option, Result, ⊤, Bool}
 use Rattle.std.specs.Borrow.{MutBor}
-use Rattle.std.specs.Iterator.{Count}
 use Rattle.regex_search_core.specs.Found.{Found, found_of}
 use Rattle.regex_search_core.specs.Search.{Search}
 use Rattle.regex_search_core.specs.declared.search.Match.{Match}
-use Rattle.nfa_search_base.specs.Lending.{With, lend}
-use Rattle.nfa_search_base.specs.Searchers.{walk_of}
+use Rattle.nfa_search_base.specs.EngineSearches.{AsksEngine, Knowing, MayFind}
+use Rattle.nfa_search_base.specs.Lending.{With}
+use Rattle.nfa_search_base.specs.Lent.{Lent, TakesLentStep}
 use Rattle.nfa_search_base.specs.Steps.{GivesItem}
-use Rattle.nfa_search_base.specs.Stored.{steps_left, takes_steps}
+use Rattle.nfa_search_base.specs.Searchers.{walk_of}
 use Rattle.nfa_search_base.specs.Walks.{Answer, Walk, span_of}
 use Rattle.nfa_search_base.specs.declared.error.SearchError.{SearchError}
-use Rattle.nfa_search_base.specs.declared.iter.steps.Steps.{Steps}
 use Rattle.nfa_backtrack.specs.Backtrack.{Backtracker, Work}
-use Rattle.nfa_backtrack.specs.Finding.{IsFindOf, IsKnownFrom, SearchesOnce}
+use Rattle.nfa_backtrack.specs.Finding.{IsFindOf, IsSureAt, SearchesOnce}
 use Rattle.nfa_backtrack.specs.declared.find_iter.Finder.{Finder}
 use Rattle.nfa_backtrack.specs.declared.find_iter.TryFindMatches.{TryFindMatches}
 
--- a backtracker of one iteration, with the cache that it is lent
-abbrev pub Asked : Type 0
-Asked = With Finder Work
+-- the backtracker of an iteration, and what is known
+abbrev pub backtracker_knowing : Finder → Knowing Backtracker
+backtracker_knowing a = record { engine = a.engine.now; known = a.known }
 
--- what is known is so of searches like this one
-pub record MayFind (s : Asked) (x : Search) : Type 0 where
-  pub knows : IsKnownFrom s.asker.engine.now x s.asker.known
-
--- A search by the backtracker may answer this. It is made once, or not at all where its answer was known.
-pub record AsksBacktracker (s : Asked) (x : Search) (a : Answer Found) (t : Asked) : Type 0 where
-  pub finds : IsFindOf s.asker.engine.now x a
-  pub engine : t.asker.engine.now ≡ s.asker.engine.now
-  pub knows : IsKnownFrom t.asker.engine.now x t.asker.known
-  pub work : (t.cache ≡ s.cache) ⊎ SearchesOnce s.asker.engine.now x a s.cache t.cache
-
--- the iterator with what its cache shows
-abbrev pub find_state : TryFindMatches → Steps Asked
-find_state s = lend s.steps s.cache.now
-
--- where the iterator stands
-abbrev pub find_walk : TryFindMatches → Walk
-find_walk s = walk_of s.steps.searcher
-
--- the backtracker that it asks
-abbrev pub find_engine : TryFindMatches → Backtracker
-find_engine s = s.steps.asker.engine.now
+-- the steps of the iterator, and the cache that it is lent
+abbrev pub backtracker_finds : TryFindMatches → Lent Finder Work
+backtracker_finds s = record { steps = s.steps; cache = s.cache }
 
 -- the cache that it searches with
-abbrev pub find_cache : TryFindMatches → MutBor Work
-find_cache s = s.cache
+abbrev pub backtracker_finds_cache : TryFindMatches → MutBor Work
+backtracker_finds_cache s = s.cache
 
--- whether it has ended
-abbrev pub find_is_done : TryFindMatches → Bool
-find_is_done s = s.steps.done
+-- the engine that it asks
+abbrev pub backtracker_finds_engine : TryFindMatches → Backtracker
+backtracker_finds_engine s = s.steps.asker.engine.now
 
--- Nothing comes, and nothing changes, once it has ended; else it takes a step by searches of the backtracker.
-pub record TakesFindStep (s : TryFindMatches) (r : Option (Result Match SearchError))
+-- where it stands, and whether it has ended
+abbrev pub backtracker_finds_walk : TryFindMatches → Walk
+backtracker_finds_walk s = walk_of s.steps.searcher
+
+abbrev pub backtracker_finds_done : TryFindMatches → Bool
+backtracker_finds_done s = s.steps.done
+
+-- each cache fits
+abbrev pub fits_always : Work → Backtracker → Type 0
+fits_always w e = ⊤
+
+-- the backtracker may be asked wherever what is known is so
+abbrev pub MayFindByBacktracker : With Finder Work → Search → Type 0
+MayFindByBacktracker = MayFind IsSureAt backtracker_knowing fits_always
+
+-- a search by the backtracker may answer this
+abbrev pub AsksBacktracker : With Finder Work → Search → Answer Found → With Finder Work → Type 0
+AsksBacktracker = AsksEngine IsSureAt backtracker_knowing IsFindOf (λ e x a. SearchesOnce e x a)
+
+-- a call
+pub record BacktrackerFindsNext (s : TryFindMatches) (r : Option (Result Match SearchError))
     (t : TryFindMatches) : Type 0 where
-  pub step : takes_steps span_of AsksBacktracker (λ q. GivesItem found_of) (find_state s) r (find_state t)
-  pub cache : t.cache.ghost_name ≡ s.cache.ghost_name
+  pub takes : TakesLentStep span_of AsksBacktracker (λ _. GivesItem found_of) (backtracker_finds s)
+      r (backtracker_finds t)
 
-abbrev pub find_steps : TryFindMatches → Option (Result Match SearchError) → TryFindMatches → Type 0
-find_steps s r t = TakesFindStep s r t
-
--- how many items may come
-abbrev pub find_left : TryFindMatches → Count
-find_left s = steps_left s.steps
+abbrev pub backtracker_finds_next : TryFindMatches → Option (Result Match SearchError) → TryFindMatches → Type 0
+backtracker_finds_next s r t = BacktrackerFindsNext s r t

@@ -1,19 +1,17 @@
 -- What a backtracker answers where a match is asked for.
-use Rattle.std.specs.Prelude.{◌≡◌, ◌≤◌, ◌*◌, ◌+◌, ◌⊎◌, false, Option, Result, Ok, Err}
-use Rattle.std.specs.Option.{ForSome}
-use Rattle.regex_search_core.specs.Found.{Found, found_of}
+use Rattle.std.specs.Prelude.{◌≡◌, ◌≤◌, ◌*◌, ◌+◌, ◌⊎◌, false, Result, Ok, Err}
+use Rattle.regex_search_core.specs.Found.{Found}
 use Rattle.regex_search_core.specs.Search.{Search}
-use Rattle.regex_search_core.specs.declared.search.Match.{Match}
 use Rattle.regex_search_core.specs.declared.search.MatchKind.TheVariants.{LeftmostFirst}
 use Rattle.nfa_paths.specs.Known.{IsSureMatch}
-use Rattle.nfa_paths.specs.Paths.{IsMatchAnswer, scan_limit, span_len, turn_weight}
+use Rattle.nfa_paths.specs.Paths.{IsMatchAnswer, IsWithinScans, IsWork, scan_limit, span_len, turn_weight}
 use Rattle.nfa_search_base.specs.Catching.{Row}
 use Rattle.nfa_search_base.specs.CaughtLists.{TellsRow}
 use Rattle.nfa_search_base.specs.Walks.{Answer}
 use Rattle.nfa_search_base.specs.declared.error.SearchError.{SearchError}
 use Rattle.nfa_search_base.specs.declared.error.SearchError.TheVariants.{HaystackTooLong, Memory}
 use Rattle.nfa_backtrack.specs.Backtrack.{Backtracker, Work, AddsWork, CountsAnswer, CountsRefusal, GrowsBlocks}
-use Rattle.nfa_backtrack.specs.Backtrack.{IsTooLong}
+use Rattle.nfa_backtrack.specs.Backtrack.{IsTooLong, refused_early}
 
 -- too long a span is refused, and for any other search there may be no memory
 abbrev pub IsRefusal : Backtracker → Search → SearchError → Type 0
@@ -36,22 +34,25 @@ IsCatchOf e x (Ok row) = ¬ (IsTooLong e x) × TellsRow e.nfa LeftmostFirst fals
 IsCatchOf e x (Err error) = IsRefusal e x error
 
 -- a match that is sure to be found, by a search that is not too long
-abbrev pub IsSureAt : Backtracker → Search → Match → Type 0
-IsSureAt e x m = ¬ (IsTooLong e x) × IsSureMatch e.nfa LeftmostFirst false x (found_of m)
-
--- what is known of the searches like x: nothing, or the match of the one that starts where this match ends
-abbrev pub IsKnownFrom : Backtracker → Search → Option Match → Type 0
-IsKnownFrom e x known = ForSome known (λ m. IsSureAt e (record x { start = m.span.end }) m)
+abbrev pub IsSureAt : Backtracker → Search → Found → Type 0
+IsSureAt e x m = ¬ (IsTooLong e x) × IsSureMatch e.nfa LeftmostFirst false x m
 
 -- an answer is counted as one, and an error as a refusal
 abbrev pub Counts : {X : Type 0} → Answer X → Work → Work → Type 0
 Counts (Ok found) old new = CountsAnswer old new
 Counts (Err error) old new = CountsRefusal old new
 
+-- an answer took exactly its work, and a refusal no more scans than that
+abbrev pub DoesWork : {X : Type 0} → Backtracker → Search → Answer X → Work → Type 0
+DoesWork e x (Ok found) new = IsWork e.nfa LeftmostFirst false x new.scans new.turns
+DoesWork e x (Err error) new = IsWithinScans e.nfa LeftmostFirst false x new.scans
+
 -- one search was made with the cache, within the bounds of its work
 pub record SearchesOnce {X : Type 0} (e : Backtracker) (x : Search) (a : Answer X) (old new : Work) : Type 0 where
   pub total : AddsWork old new
   pub counts : Counts a old new
+  pub exact : DoesWork e x a new
   pub scans : new.scans ≤ scan_limit e.nfa x
   pub turns : new.turns ≤ new.scans * ((1 + turn_weight e.nfa) * (span_len x + 1))
   pub blocks : GrowsBlocks e.nfa x old.blocks new.blocks
+  pub early : IsTooLong e x → new ≡ refused_early old

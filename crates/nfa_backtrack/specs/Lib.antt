@@ -2,7 +2,6 @@ pub mod Backtrack
 pub mod Begin
 pub mod Bits
 pub mod CapturesMatches
-pub mod CaptureRuns
 pub mod Finding
 pub mod FindMatches
 pub mod Walk

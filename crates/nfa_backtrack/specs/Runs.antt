@@ -13,7 +13,7 @@ use Rattle.nfa_search_base.specs.Walks.{fresh, span_of}
 use Rattle.nfa_search_base.specs.declared.error.SearchError.{SearchError}
 use Rattle.nfa_search_base.specs.declared.error.SearchError.TheVariants.{HaystackTooLong, Memory}
 use Rattle.nfa_backtrack.specs.Backtrack.{Backtracker, IsTooLong}
-use Rattle.nfa_backtrack.specs.FindMatches.{find_steps}
+use Rattle.nfa_backtrack.specs.FindMatches.{backtracker_finds_next}
 use Rattle.nfa_backtrack.specs.Finding.{AnswersByLength, IsFindOf}
 use Rattle.nfa_backtrack.specs.declared.find_iter.TryFindMatches.{TryFindMatches}
 
@@ -33,61 +33,49 @@ pub record AreRefused {Y : Type 0} (e : Backtracker) (x : Search) (whole : Type 
 
 -- in each run errors come by that rule
 abbrev pub RunsRefused : Backtracker → Search → TryFindMatches → Type 0
-RunsRefused e x s = EachRunFrom find_steps s (λ p. AreRefused e x (p.whole ≡ true) p.items)
+RunsRefused e x s = EachRunFrom backtracker_finds_next s (λ p. AreRefused e x (p.whole ≡ true) p.items)
 
--- each run of calls gives the first items, and all of them where it goes on to `None`
-abbrev pub RunsGive : Backtracker → Search → TryFindMatches → Type 0
-RunsGive e x s = EachRunFrom find_steps s (λ p. AreFirstItems e x p.items × (p.whole ≡ true → AreAllItems e x p.items))
-
--- where they are all `Ok`, these are the first matches, and all of them
+-- where the items of a run are all `Ok`, these are the first matches, and all of them
 abbrev pub RunsMatch : Backtracker → Search → TryFindMatches → Type 0
-RunsMatch e x s = EachRunFrom find_steps s (λ p. (ms : List Match) → p.items ≡ map Ok ms
+RunsMatch e x s = EachRunFrom backtracker_finds_next s (λ p. (ms : List Match) → p.items ≡ map Ok ms
     → AreFirstMatches e.nfa LeftmostFirst false x (map found_of ms)
     × (p.whole ≡ true → AreMatches e.nfa LeftmostFirst false x (map found_of ms)))
 
 -- each match lies in the span
 abbrev pub RunsInside : Search → TryFindMatches → Type 0
-RunsInside x s = EachRunFrom find_steps s (λ p. All (λ item. IfOk item (λ m. IsInside x (found_of m))) p.items)
+RunsInside x s = EachRunFrom backtracker_finds_next s (λ p. All (λ item. IfOk item (λ m. IsInside x (found_of m)))
+    p.items)
 
 -- where they are all `Ok`, their matches are apart and in order
 abbrev pub RunsApart : Search → TryFindMatches → Type 0
-RunsApart x s = EachRunFrom find_steps s (λ p. (ms : List Match) → p.items ≡ map Ok ms
+RunsApart x s = EachRunFrom backtracker_finds_next s (λ p. (ms : List Match) → p.items ≡ map Ok ms
     → AreApart x None (map found_of ms))
 
--- the items so far are the first items
-abbrev pub GivesFirst : Backtracker → Search → TryFindMatches → Type 0
-GivesFirst e x s = (xs : List (Result Match SearchError)) (t : TryFindMatches) → Yields find_steps s xs t
-    → AreFirstItems e x xs
-
--- where they are all `Ok`, their matches are the first matches
+-- where the items so far are all `Ok`, their matches are the first matches
 abbrev pub GivesFirstMatches : Backtracker → Search → TryFindMatches → Type 0
 GivesFirstMatches e x s = (xs : List (Result Match SearchError)) (t : TryFindMatches) (ms : List Match)
-    → Yields find_steps s xs t → xs ≡ map Ok ms → AreFirstMatches e.nfa LeftmostFirst false x (map found_of ms)
+    → Yields backtracker_finds_next s xs t → xs ≡ map Ok ms
+    → AreFirstMatches e.nfa LeftmostFirst false x (map found_of ms)
 
 -- and at `None` all matches
 abbrev pub GivesAllMatches : Backtracker → Search → TryFindMatches → Type 0
 GivesAllMatches e x s = (xs : List (Result Match SearchError)) (t u : TryFindMatches) (ms : List Match)
-    → Yields find_steps s xs t → find_steps t None u → xs ≡ map Ok ms
+    → Yields backtracker_finds_next s xs t → backtracker_finds_next t None u → xs ≡ map Ok ms
     → AreMatches e.nfa LeftmostFirst false x (map found_of ms)
 
 -- the same after an item, of the items so far and that one
-abbrev pub GivesNext : Backtracker → Search → TryFindMatches → Type 0
-GivesNext e x s = (xs : List (Result Match SearchError)) (t : TryFindMatches) (i : Result Match SearchError)
-    (u : TryFindMatches)
-    → Yields find_steps s xs t → find_steps t (Some i) u → AreFirstItems e x (xs ++ i ∷ [])
-
 abbrev pub GivesNextMatch : Backtracker → Search → TryFindMatches → Type 0
 GivesNextMatch e x s = (xs : List (Result Match SearchError)) (t : TryFindMatches) (i : Result Match SearchError)
-    (u : TryFindMatches)
-    (ms : List Match) (m : Match) → Yields find_steps s xs t → find_steps t (Some i) u → xs ≡ map Ok ms → i ≡ Ok m
+    (u : TryFindMatches) (ms : List Match) (m : Match)
+    → Yields backtracker_finds_next s xs t → backtracker_finds_next t (Some i) u → xs ≡ map Ok ms → i ≡ Ok m
     → AreFirstMatches e.nfa LeftmostFirst false x (map found_of (ms ++ m ∷ []))
 
 -- an item is `Ok` only where the span is not too long, and else a refusal
 abbrev pub GivesByLength : Backtracker → Search → TryFindMatches → Type 0
 GivesByLength e x s = (xs : List (Result Match SearchError)) (t : TryFindMatches) (i : Result Match SearchError)
-    (u : TryFindMatches) → Yields find_steps s xs t → find_steps t (Some i) u → AnswersByLength e x i
+    (u : TryFindMatches) → Yields backtracker_finds_next s xs t → backtracker_finds_next t (Some i) u → AnswersByLength e x i
 
 -- and they end without an error only where it is not too long
 abbrev pub EndsByLength : Backtracker → Search → TryFindMatches → Type 0
 EndsByLength e x s = (xs : List (Result Match SearchError)) (t u : TryFindMatches) (ms : List Match)
-    → Yields find_steps s xs t → find_steps t None u → xs ≡ map Ok ms → ¬ (IsTooLong e x)
+    → Yields backtracker_finds_next s xs t → backtracker_finds_next t None u → xs ≡ map Ok ms → ¬ (IsTooLong e x)

@@ -203,7 +203,8 @@ module _ (nfa : Automaton) (x : Search) where
       (after ≡ []) × ((work : List Item) → Follows marks (ToExplore v ∷ work_onto stack work) slots marked work written)
 
   -- nothing was found at v, and what was tried is paid for
-  pub record Fails (v : Pair) (marks : Marks) (slots : Slots) (after : List Frame) (marked : Marks) (written : Slots) :
+  pub record WalkFails (v : Pair) (marks : Marks) (slots : Slots) (after : List Frame) (marked : Marks)
+      (written : Slots) :
       Type 0 where
     pub empty : after ≡ []
     pub follows : (work : List Item) → Follows marks (ToExplore v ∷ work) slots marked work written
@@ -211,7 +212,7 @@ module _ (nfa : Automaton) (x : Search) where
 
   -- what a walk from v comes to
   abbrev pub Walks : Pair → Option HalfMatch → Marks → Slots → List Frame → Marks → Slots → Type 0
-  Walks v None marks slots after marked written = Fails v marks slots after marked written
+  Walks v None marks slots after marked written = WalkFails v marks slots after marked written
   Walks v (Some half) marks slots after marked written =
       (work : List Item) → EndsAt half marks (ToExplore v ∷ work) slots written marked.turns
 

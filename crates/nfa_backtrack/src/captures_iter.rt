@@ -42,12 +42,16 @@ impl<'r> Model for Catcher<'r> {
 impl BoundedBacktracker {
     ghost use Rattle.std.specs.Prelude.{◌≡◌, false, IfOk, IsOkUnless};
     ghost use Rattle.regex_search_core.specs.Search.{search_of};
+    ghost use Rattle.regex_search_core.specs.declared.search.MatchKind.TheVariants.{LeftmostFirst};
+    ghost use Rattle.nfa_search_base.specs.CapturesGiven.{CapturesGiven};
     ghost use Rattle.nfa_search_base.specs.Catching.{caught_by};
+    ghost use Rattle.nfa_search_base.specs.CaughtRuns.{CapturesApart, CapturesFirst, CapturesGroups, CapturesNext};
+    ghost use Rattle.nfa_search_base.specs.CaughtRuns.{CapturesRun, CapturesWithin, MatchesInAll, MatchesInFirst};
+    ghost use Rattle.nfa_search_base.specs.CaughtRuns.{MatchesInNext, MatchesInRun, RowsRun};
     ghost use Rattle.nfa_search_base.specs.Walks.{fresh};
-    ghost use Rattle.nfa_backtrack.specs.CapturesMatches.{catch_cache, catch_engine, catch_is_done, catch_walk};
-    ghost use Rattle.nfa_backtrack.specs.CaptureRuns.{CatchesAllMatches, CatchesApart, CatchesFirst};
-    ghost use Rattle.nfa_backtrack.specs.CaptureRuns.{CatchesFirstMatches, CatchesGroups, CatchesMatch, CatchesNext, CatchesNextMatch};
-    ghost use Rattle.nfa_backtrack.specs.CaptureRuns.{CatchesRefused, CatchesRows, CatchesRun, CatchesWithin};
+    ghost use Rattle.nfa_backtrack.specs.CapturesMatches.{CatchesRefused, backtracker_catches_cache};
+    ghost use Rattle.nfa_backtrack.specs.CapturesMatches.{backtracker_catches_done, backtracker_catches_engine};
+    ghost use Rattle.nfa_backtrack.specs.CapturesMatches.{backtracker_catches_next, backtracker_catches_walk};
     ghost use Rattle.nfa_backtrack.specs.Finding.{IsCatchOf, SearchesOnce};
 
     /// The captures of the matches of the input that do not overlap, from left to right, each with all groups of the
@@ -66,25 +70,33 @@ impl BoundedBacktracker {
         input: Input<'h>,
     ) -> Result<TryCapturesMatches<'r, 'c, 'h>, SearchError>
         ensures memory { IsOkUnless result SearchError.Memory }
-        ensures same_reference { IfOk result (λ made. (catch_cache made).ghost_name ≡ cache.entry.ghost_name) }
-        ensures same_cache { IfOk result (λ made. (catch_cache made).now ≡ cache.entry.now) }
-        ensures engine { IfOk result (λ made. catch_engine made ≡ self.now) }
-        ensures walk { IfOk result (λ made. catch_walk made ≡ fresh (search_of input.entry)) }
-        ensures going { IfOk result (λ made. catch_is_done made ≡ false) }
+        ensures same_reference { IfOk result (λ made.
+            (backtracker_catches_cache made).ghost_name ≡ cache.entry.ghost_name) }
+        ensures same_cache { IfOk result (λ made. (backtracker_catches_cache made).now ≡ cache.entry.now) }
+        ensures engine { IfOk result (λ made. backtracker_catches_engine made ≡ self.now) }
+        ensures walk { IfOk result (λ made. backtracker_catches_walk made ≡ fresh (search_of input.entry)) }
+        ensures going { IfOk result (λ made. backtracker_catches_done made ≡ false) }
         // Each run of calls gives the first captures of the input, and all of them where it goes on to `None`.
-        ensures runs { IfOk result (CatchesRun self.now (search_of input.entry)) }
-        ensures first { IfOk result (CatchesFirst self.now (search_of input.entry)) }
-        ensures next { IfOk result (CatchesNext self.now (search_of input.entry)) }
+        ensures runs { IfOk result (CapturesRun backtracker_catches_next (IsCatchOf self.now) (search_of input.entry)) }
+        ensures first { IfOk result (CapturesFirst backtracker_catches_next (IsCatchOf self.now)
+            (search_of input.entry)) }
+        ensures next { IfOk result (CapturesNext backtracker_catches_next (IsCatchOf self.now)
+            (search_of input.entry)) }
         ensures refused { IfOk result (CatchesRefused self.now (search_of input.entry)) }
         // Where no copy is refused, their rows and their matches are those of the input.
-        ensures rows { IfOk result (CatchesRows self.now (search_of input.entry)) }
-        ensures matches { IfOk result (CatchesMatch self.now (search_of input.entry)) }
-        ensures first_matches { IfOk result (CatchesFirstMatches self.now (search_of input.entry)) }
-        ensures next_match { IfOk result (CatchesNextMatch self.now (search_of input.entry)) }
-        ensures all_matches { IfOk result (CatchesAllMatches self.now (search_of input.entry)) }
-        ensures groups { IfOk result (CatchesGroups self.now) }
-        ensures inside { IfOk result (CatchesWithin (search_of input.entry)) }
-        ensures apart { IfOk result (CatchesApart (search_of input.entry)) }
+        ensures rows { IfOk result (RowsRun backtracker_catches_next self.now.nfa LeftmostFirst false
+            (search_of input.entry)) }
+        ensures matches { IfOk result (MatchesInRun backtracker_catches_next self.now.nfa LeftmostFirst false
+            (search_of input.entry)) }
+        ensures first_matches { IfOk result (MatchesInFirst backtracker_catches_next self.now.nfa LeftmostFirst false
+            (search_of input.entry)) }
+        ensures next_match { IfOk result (MatchesInNext backtracker_catches_next self.now.nfa LeftmostFirst false
+            (search_of input.entry)) }
+        ensures all_matches { IfOk result (MatchesInAll backtracker_catches_next self.now.nfa LeftmostFirst false
+            (search_of input.entry)) }
+        ensures groups { IfOk result (CapturesGroups backtracker_catches_next self.now.nfa) }
+        ensures inside { IfOk result (CapturesWithin backtracker_catches_next (search_of input.entry)) }
+        ensures apart { IfOk result (CapturesApart backtracker_catches_next (search_of input.entry)) }
     {
         let captures = self.create_captures(alloc)?;
         Ok(self.try_captures_iter_with(cache, input, captures))
@@ -100,25 +112,51 @@ impl BoundedBacktracker {
         captures: Captures,
     ) -> TryCapturesMatches<'r, 'c, 'h>
         requires { HasGroups self.now.nfa captures }
-        ensures same_reference { (catch_cache result).ghost_name ≡ cache.entry.ghost_name }
-        ensures same_cache { (catch_cache result).now ≡ cache.entry.now }
-        ensures engine { catch_engine result ≡ self.now }
-        ensures walk { catch_walk result ≡ fresh (search_of input.entry) }
-        ensures going { catch_is_done result ≡ false }
+        ensures same_reference { (backtracker_catches_cache result).ghost_name ≡ cache.entry.ghost_name }
+        ensures same_cache { (backtracker_catches_cache result).now ≡ cache.entry.now }
+        ensures engine { backtracker_catches_engine result ≡ self.now }
+        ensures walk { backtracker_catches_walk result ≡ fresh (search_of input.entry) }
+        ensures going { backtracker_catches_done result ≡ false }
         // Each run of calls gives the first captures of the input, and all of them where it goes on to `None`.
-        ensures runs { CatchesRun self.now (search_of input.entry) result }
-        ensures first { CatchesFirst self.now (search_of input.entry) result }
-        ensures next { CatchesNext self.now (search_of input.entry) result }
+        ensures runs { CapturesRun backtracker_catches_next (IsCatchOf self.now) (search_of input.entry) result }
+        ensures first { CapturesFirst backtracker_catches_next (IsCatchOf self.now) (search_of input.entry) result }
+        ensures next { CapturesNext backtracker_catches_next (IsCatchOf self.now) (search_of input.entry) result }
         ensures refused { CatchesRefused self.now (search_of input.entry) result }
         // Where no copy is refused, their rows and their matches are those of the input.
-        ensures rows { CatchesRows self.now (search_of input.entry) result }
-        ensures matches { CatchesMatch self.now (search_of input.entry) result }
-        ensures first_matches { CatchesFirstMatches self.now (search_of input.entry) result }
-        ensures next_match { CatchesNextMatch self.now (search_of input.entry) result }
-        ensures all_matches { CatchesAllMatches self.now (search_of input.entry) result }
-        ensures groups { CatchesGroups self.now result }
-        ensures inside { CatchesWithin (search_of input.entry) result }
-        ensures apart { CatchesApart (search_of input.entry) result }
+        ensures rows { RowsRun backtracker_catches_next self.now.nfa LeftmostFirst false
+            (search_of input.entry) result }
+        ensures matches { MatchesInRun backtracker_catches_next self.now.nfa LeftmostFirst false
+            (search_of input.entry) result }
+        ensures first_matches { MatchesInFirst backtracker_catches_next self.now.nfa LeftmostFirst false
+            (search_of input.entry) result }
+        ensures next_match { MatchesInNext backtracker_catches_next self.now.nfa LeftmostFirst false
+            (search_of input.entry) result }
+        ensures all_matches { MatchesInAll backtracker_catches_next self.now.nfa LeftmostFirst false
+            (search_of input.entry) result }
+        ensures groups { CapturesGroups backtracker_catches_next self.now.nfa result }
+        ensures inside { CapturesWithin backtracker_catches_next (search_of input.entry) result }
+        ensures apart { CapturesApart backtracker_catches_next (search_of input.entry) result }
+    {
+        self.catch_from(cache, input, captures)
+    }
+
+    // The iterator that searches with these captures.
+    #[inline]
+    fn catch_from<'r, 'c, 'h>(
+        &'r self,
+        cache: &'c mut Cache,
+        input: Input<'h>,
+        captures: Captures,
+    ) -> TryCapturesMatches<'r, 'c, 'h>
+        requires { HasGroups self.now.nfa captures }
+        ensures same_reference { (backtracker_catches_cache result).ghost_name ≡ cache.entry.ghost_name }
+        ensures same_cache { (backtracker_catches_cache result).now ≡ cache.entry.now }
+        ensures engine { backtracker_catches_engine result ≡ self.now }
+        ensures walk { backtracker_catches_walk result ≡ fresh (search_of input.entry) }
+        ensures going { backtracker_catches_done result ≡ false }
+        ensures given { CapturesGiven backtracker_catches_next self.now.nfa LeftmostFirst false (IsCatchOf self.now)
+            (search_of input.entry) result }
+        ensures refused { CatchesRefused self.now (search_of input.entry) result }
     {
         TryCapturesMatches {
             cache,
@@ -152,7 +190,7 @@ impl BoundedBacktracker {
 
 impl<'r> Searches for Catcher<'r> {
     ghost use Rattle.nfa_search_base.specs.Catching.{Row, caught_by, row_span, GivesCaptures};
-    ghost use Rattle.nfa_backtrack.specs.CapturesMatches.{AsksBacktrackerRow, MayCatch};
+    ghost use Rattle.nfa_backtrack.specs.CapturesMatches.{AsksBacktrackerRow, MayCatchByBacktracker};
 
     type Cache = Cache;
 
@@ -164,7 +202,7 @@ impl<'r> Searches for Catcher<'r> {
 
     ghost span = { row_span };
 
-    ghost accepts = { λ s _. MayCatch s };
+    ghost accepts = { λ s _. MayCatchByBacktracker s };
 
     type Item = Captures;
 
@@ -189,13 +227,14 @@ impl<'r> Searches for Catcher<'r> {
 }
 
 impl<'r, 'c, 'h> Iterator for TryCapturesMatches<'r, 'c, 'h> {
-    ghost use Rattle.nfa_backtrack.specs.CapturesMatches.{catch_steps, catch_left};
+    ghost use Rattle.nfa_search_base.specs.Lent.{lent_left};
+    ghost use Rattle.nfa_backtrack.specs.CapturesMatches.{backtracker_catches, backtracker_catches_next};
 
     type Item = Result<Captures, SearchError>;
 
-    ghost next_gives = { catch_steps };
+    ghost next_gives = { backtracker_catches_next };
 
-    ghost remaining = { catch_left };
+    ghost remaining = { λ s. lent_left (backtracker_catches s) };
 
     fn next(&mut self) -> Option<Result<Captures, SearchError>> {
         self.steps.next_with(self.cache)

@@ -2,12 +2,14 @@
 ghost use Rattle.std.specs.Prelude.{◌≡◌, Ok, Some};
 ghost use Rattle.std.specs.Option.{ForSome};
 ghost use Rattle.regex_search_core.specs.Search.{search_of};
+ghost use Rattle.nfa_search_base.specs.EngineSearches.{IsKnownFrom};
 ghost use Rattle.nfa_search_base.specs.Stored.{steps_walk};
-ghost use Rattle.nfa_backtrack.specs.Finding.{IsKnownFrom};
+ghost use Rattle.nfa_backtrack.specs.Finding.{IsSureAt};
 
 use crate::cache::Cache;
 use crate::engine::BoundedBacktracker;
 use nfa_search_base::error::SearchError;
+use nfa_search_base::iter::finding::ending_at;
 use nfa_search_base::iter::{Searcher, Searches, Steps};
 use regex_search_core::{Input, Match, Span};
 use std::alloc::Global;
@@ -20,10 +22,11 @@ use std::alloc::Global;
 pub struct TryFindMatches<'r, 'c, 'h> {
     cache: &'c mut Cache,
     steps: Steps<'h, Finder<'r>>,
-    ghost knows: { IsKnownFrom steps.asker.engine.now (steps_walk steps).at steps.asker.known },
+    ghost knows: { IsKnownFrom IsSureAt steps.asker.engine.now (steps_walk steps).at steps.asker.known },
 }
 
-// A backtracker that answers the searches of one iteration.
+// A backtracker that answers the searches of one iteration. It has no model: a caller of the iterator would not learn
+// then what the cache ends as.
 #[derive(Debug, Drop)]
 struct Finder<'r> {
     engine: &'r BoundedBacktracker,
@@ -38,10 +41,13 @@ impl BoundedBacktracker {
     ghost use Rattle.nfa_search_base.specs.Finders.{answer_by};
     ghost use Rattle.nfa_search_base.specs.Lists.{AreMatches, AreApart, IsInside};
     ghost use Rattle.nfa_backtrack.specs.Finding.{AnswersByLength, IsFindOf, SearchesOnce};
+    ghost use Rattle.nfa_search_base.specs.Runs.{GivesFirst, GivesNext, RunsGive};
     ghost use Rattle.nfa_search_base.specs.Walks.{fresh};
-    ghost use Rattle.nfa_backtrack.specs.FindMatches.{find_cache, find_engine, find_is_done, find_walk};
-    ghost use Rattle.nfa_backtrack.specs.Runs.{RunsGive, RunsMatch, RunsApart, RunsInside, RunsRefused};
-    ghost use Rattle.nfa_backtrack.specs.Runs.{GivesFirst, GivesFirstMatches, GivesAllMatches, GivesNext, GivesNextMatch};
+    ghost use Rattle.nfa_backtrack.specs.FindMatches.{backtracker_finds_cache, backtracker_finds_done};
+    ghost use Rattle.nfa_backtrack.specs.FindMatches.{backtracker_finds_engine, backtracker_finds_next};
+    ghost use Rattle.nfa_backtrack.specs.FindMatches.{backtracker_finds_walk};
+    ghost use Rattle.nfa_backtrack.specs.Runs.{AreAllItems, AreFirstItems, GivesAllMatches, GivesFirstMatches, GivesNextMatch};
+    ghost use Rattle.nfa_backtrack.specs.Runs.{RunsApart, RunsInside, RunsMatch, RunsRefused};
     ghost use Rattle.nfa_backtrack.specs.Runs.{GivesByLength, EndsByLength};
 
     /// The matches of the input that do not overlap, from left to right. To make this takes no memory.
@@ -54,20 +60,21 @@ impl BoundedBacktracker {
         cache: &'c mut Cache,
         input: Input<'h>,
     ) -> TryFindMatches<'r, 'c, 'h>
-        ensures same_reference { (find_cache result).ghost_name ≡ cache.entry.ghost_name }
-        ensures same_cache { (find_cache result).now ≡ cache.entry.now }
-        ensures engine { find_engine result ≡ self.now }
-        ensures walk { find_walk result ≡ fresh (search_of input.entry) }
-        ensures going { find_is_done result ≡ false }
+        ensures same_reference { (backtracker_finds_cache result).ghost_name ≡ cache.entry.ghost_name }
+        ensures same_cache { (backtracker_finds_cache result).now ≡ cache.entry.now }
+        ensures engine { backtracker_finds_engine result ≡ self.now }
+        ensures walk { backtracker_finds_walk result ≡ fresh (search_of input.entry) }
+        ensures going { backtracker_finds_done result ≡ false }
         // Each run of calls gives the first items, and all of them where it goes on to `None`.
-        ensures runs { RunsGive self.now (search_of input.entry) result }
+        ensures runs { RunsGive backtracker_finds_next (AreFirstItems self.now (search_of input.entry))
+            (AreAllItems self.now (search_of input.entry)) result }
         ensures matches { RunsMatch self.now (search_of input.entry) result }
         ensures inside { RunsInside (search_of input.entry) result }
         ensures apart { RunsApart (search_of input.entry) result }
         ensures refused { RunsRefused self.now (search_of input.entry) result }
-        ensures first { GivesFirst self.now (search_of input.entry) result }
+        ensures first { GivesFirst backtracker_finds_next (AreFirstItems self.now (search_of input.entry)) result }
         ensures first_matches { GivesFirstMatches self.now (search_of input.entry) result }
-        ensures next { GivesNext self.now (search_of input.entry) result }
+        ensures next { GivesNext backtracker_finds_next (AreFirstItems self.now (search_of input.entry)) result }
         ensures next_match { GivesNextMatch self.now (search_of input.entry) result }
         ensures all_matches { GivesAllMatches self.now (search_of input.entry) result }
         // A match comes, and an end without an error, only where the span is not too long; an error is its refusal.
@@ -126,7 +133,7 @@ impl<'r> Searches for Finder<'r> {
     ghost use Rattle.nfa_search_base.specs.Finders.{answer_by};
     ghost use Rattle.nfa_search_base.specs.Steps.{GivesItem};
     ghost use Rattle.nfa_search_base.specs.Walks.{span_of};
-    ghost use Rattle.nfa_backtrack.specs.FindMatches.{AsksBacktracker, MayFind};
+    ghost use Rattle.nfa_backtrack.specs.FindMatches.{AsksBacktracker, MayFindByBacktracker};
 
     type Cache = Cache;
 
@@ -138,7 +145,7 @@ impl<'r> Searches for Finder<'r> {
 
     ghost span = { span_of };
 
-    ghost accepts = { MayFind };
+    ghost accepts = { MayFindByBacktracker };
 
     type Item = Match;
 
@@ -190,25 +197,15 @@ fn found_in(reply: Result<Option<Match>, SearchError>) -> Option<Match>
     }
 }
 
-// The match if it ends there, else none.
-#[inline]
-fn ending_at(end: usize, found: Option<Match>) -> Option<Match>
-    ensures { ForSome result (λ m. (found ≡ Some m) × (m.span.end ≡ end)) }
-{
-    match found {
-        Some(last) => { if last.end() == end { Some(last) } else { None } }
-        None => None,
-    }
-}
-
 impl<'r, 'c, 'h> Iterator for TryFindMatches<'r, 'c, 'h> {
-    ghost use Rattle.nfa_backtrack.specs.FindMatches.{find_steps, find_left};
+    ghost use Rattle.nfa_search_base.specs.Lent.{lent_left};
+    ghost use Rattle.nfa_backtrack.specs.FindMatches.{backtracker_finds, backtracker_finds_next};
 
     type Item = Result<Match, SearchError>;
 
-    ghost next_gives = { find_steps };
+    ghost next_gives = { backtracker_finds_next };
 
-    ghost remaining = { find_left };
+    ghost remaining = { λ s. lent_left (backtracker_finds s) };
 
     fn next(&mut self) -> Option<Result<Match, SearchError>> {
         self.steps.next_with(self.cache)

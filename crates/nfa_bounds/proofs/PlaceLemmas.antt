@@ -7,7 +7,7 @@ use Rattle.thompson_nfa.specs.Automaton.Node.{ByteRange, Sparse, Dense, Look, Un
 use Rattle.nfa_paths.specs.Graphs.{Pair}
 use Rattle.nfa_paths.specs.Paths.{pattern_of, slot_of, slot_among}
 use Rattle.nfa_bounds.specs.Ways.{reads, position_after}
-use Rattle.nfa_bounds.specs.Places.{fresh, at_state, after, Describes}
+use Rattle.nfa_bounds.specs.Places.{fresh_place, at_state, after_node, Describes}
 use Rattle.nfa_bounds.specs.declared.place.Place.{Place}
 
 -- what the slot holds behind the state, which stands at the position
@@ -44,7 +44,7 @@ written-match (Capture next k) pattern slot position held e = cc
 written-match Fail pattern slot position held e = cc
 
 -- at the start of a way
-pub Describes-fresh : (s position : ℕ) → Describes position position None None (fresh s)
+pub Describes-fresh : (s position : ℕ) → Describes position position None None (fresh_place s)
 Describes-fresh s position = record {
   onward = omega arith;
   unread = λ e. refl;
@@ -113,8 +113,8 @@ module _ {start position : ℕ} {start_slot end_slot : Option ℕ} {v : Place} w
   Describes-captured : (pattern next slot s : ℕ) → Describes start position start_slot end_slot v
       → Describes start position (written (Capture next slot) (2 * pattern) position start_slot)
       (written (Capture next slot) (2 * pattern + 1) position end_slot)
-      (at_state (after pattern (Capture next slot) v) s)
-  unfolding after
+      (at_state (after_node pattern (Capture next slot) v) s)
+  unfolding after_node
   Describes-captured pattern next slot s h = record {
     onward = h.onward;
     unread = h.unread;
@@ -127,8 +127,8 @@ module _ {start position : ℕ} {start_slot end_slot : Option ℕ} {v : Place} w
   -- behind the place's state
   pub Describes-after : (pattern : ℕ) (node : Node) (s : ℕ) → Describes start position start_slot end_slot v
       → Describes start (position_after node position) (written node (2 * pattern) position start_slot)
-      (written node (2 * pattern + 1) position end_slot) (at_state (after pattern node v) s)
-  unfolding after reads
+      (written node (2 * pattern + 1) position end_slot) (at_state (after_node pattern node v) s)
+  unfolding after_node reads
   Describes-after pattern (ByteRange trans) s h = Describes-read s h
   Describes-after pattern (Sparse ts) s h = Describes-read s h
   Describes-after pattern (Dense targets) s h = Describes-read s h

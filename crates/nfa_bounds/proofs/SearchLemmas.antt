@@ -14,7 +14,8 @@ use Rattle.nfa_paths.specs.Graphs.{In}
 use Rattle.nfa_paths.specs.Paths.{node_at, pattern_of}
 use Rattle.nfa_paths.proofs.KindsLemmas.{In-append_left}
 use Rattle.nfa_bounds.specs.Ways.{targets, IsStart}
-use Rattle.nfa_bounds.specs.Places.{fresh, at_state, after, next_places, is_recorded, IsFresh, Gains, IsFine}
+use Rattle.nfa_bounds.specs.Places.{fresh_place, at_state, after_node, next_places, is_recorded}
+use Rattle.nfa_bounds.specs.Places.{IsFresh, GainsPlaces, IsFine}
 use Rattle.nfa_bounds.specs.Places.{IsClosed, IsUnderWay, IsLedTo}
 use Rattle.nfa_bounds.proofs.TableLemmas.{In-append}
 use Rattle.nfa_bounds.proofs.WayLemmas.{In-mapped, IsLedTo-fresh, IsLedTo-next}
@@ -73,7 +74,7 @@ targets-below n s (Match pattern) leads i = absurd i
 
 -- starts
 
-pub IsFresh-of : (nfa : Automaton) (s : ℕ) → IsStart nfa s → (v : Place) → v ≡ fresh s → IsFresh nfa v
+pub IsFresh-of : (nfa : Automaton) (s : ℕ) → IsStart nfa s → (v : Place) → v ≡ fresh_place s → IsFresh nfa v
 IsFresh-of nfa s start v e = rw e (start, refl)
 
 -- the states that searches start with are the anchored start and those of the patterns that have a number
@@ -92,45 +93,47 @@ IsStart-pattern nfa pattern (Some s) e = (Pattern pattern, sym e)
 
 -- places that were added
 
-pub Gains-kept : {old new wanted : List Place} → Gains old new wanted → (v : Place) → In v old → In v new
-Gains-kept {old = old} g v i = rw g.kept (In-append_left v old g.more i)
+pub GainsPlaces-kept : {old new wanted : List Place} → GainsPlaces old new wanted → (v : Place) → In v old → In v new
+GainsPlaces-kept {old = old} g v i = rw g.kept (In-append_left v old g.more i)
 
-pub Gains-each : {old new wanted : List Place} (P : Place → Type 0) → Gains old new wanted
+pub GainsPlaces-each : {old new wanted : List Place} (P : Place → Type 0) → GainsPlaces old new wanted
     → ((v : Place) → In v old → P v) → ((v : Place) → In v wanted → P v) → (v : Place) → In v new → P v
-Gains-each {old = old} {new = new} P g before here v i =
+GainsPlaces-each {old = old} {new = new} P g before here v i =
     let j : In v (old ++ g.more) = subst (In v) g.kept i in
     elim (In-append v old g.more j) [ inl k ↦ before v k | inr k ↦ here v (g.only v k) ]
 
 -- one start more
-pub starts-only : (nfa : Automaton) {old new : List Place} (s : ℕ) → Gains old new (fresh s ∷ []) → IsStart nfa s
+pub starts-only : (nfa : Automaton) {old new : List Place} (s : ℕ) → GainsPlaces old new (fresh_place s ∷ [])
+    → IsStart nfa s
     → ((v : Place) → In v old → IsFresh nfa v) → (v : Place) → In v new → IsFresh nfa v
-starts-only nfa s gains start only = Gains-each (IsFresh nfa) gains only
+starts-only nfa s gains start only = GainsPlaces-each (IsFresh nfa) gains only
     (λ v i. elim i [ inl e ↦ IsFresh-of nfa s start v e | inr never ↦ absurd never ])
 
-pub starts-below : (n : ℕ) {old new : List Place} (s : ℕ) → Gains old new (fresh s ∷ []) → s < n
+pub starts-below : (n : ℕ) {old new : List Place} (s : ℕ) → GainsPlaces old new (fresh_place s ∷ []) → s < n
     → ((v : Place) → In v old → v.state < n) → (v : Place) → In v new → v.state < n
-starts-below n s gains less below = Gains-each (λ (v : Place). v.state < n) gains below
+starts-below n s gains less below = GainsPlaces-each (λ (v : Place). v.state < n) gains below
     (λ v i. elim i [ inl e ↦ rw e less | inr never ↦ absurd never ])
 
 -- the starts of the patterns so far, with one more
-pub patterns-more : (nfa : Automaton) (old new : List Place) (index start : ℕ) → Gains old new (fresh start ∷ [])
-    → ((k s : ℕ) → k < index → k ≤ 2147483646 → slice_get nfa.patterns k ≡ Some s → In (fresh s) old)
+pub patterns-more : (nfa : Automaton) (old new : List Place) (index start : ℕ)
+    → GainsPlaces old new (fresh_place start ∷ [])
+    → ((k s : ℕ) → k < index → k ≤ 2147483646 → slice_get nfa.patterns k ≡ Some s → In (fresh_place s) old)
     → (index ≤ 2147483646 → Some start ≡ slice_get nfa.patterns index)
-    → (k : ℕ) → k < index + 1 → (s : ℕ) → k ≤ 2147483646 → slice_get nfa.patterns k ≡ Some s → In (fresh s) new
+    → (k : ℕ) → k < index + 1 → (s : ℕ) → k ≤ 2147483646 → slice_get nfa.patterns k ≡ Some s → In (fresh_place s) new
 patterns-more nfa old new index start gains before here =
-    below_more (λ k. (s : ℕ) → k ≤ 2147483646 → slice_get nfa.patterns k ≡ Some s → In (fresh s) new) index
-    (λ k h s small e. Gains-kept gains (fresh s) (before k s h small e))
+    below_more (λ k. (s : ℕ) → k ≤ 2147483646 → slice_get nfa.patterns k ≡ Some s → In (fresh_place s) new) index
+    (λ k h s small e. GainsPlaces-kept gains (fresh_place s) (before k s h small e))
     (λ s small e.
     let same : start ≡ s = cc (here small, e) in
-    gains.all (fresh s) (inl (ap fresh (sym same))))
+    gains.all (fresh_place s) (inl (ap fresh_place (sym same))))
 
 -- or where the pattern has none
 pub patterns-same : (nfa : Automaton) (places : List Place) (index : ℕ) (found : Option ℕ)
-    → ((k s : ℕ) → k < index → k ≤ 2147483646 → slice_get nfa.patterns k ≡ Some s → In (fresh s) places)
+    → ((k s : ℕ) → k < index → k ≤ 2147483646 → slice_get nfa.patterns k ≡ Some s → In (fresh_place s) places)
     → (index ≤ 2147483646 → found ≡ slice_get nfa.patterns index) → found ≡ None
-    → (k : ℕ) → k < index + 1 → (s : ℕ) → k ≤ 2147483646 → slice_get nfa.patterns k ≡ Some s → In (fresh s) places
+    → (k : ℕ) → k < index + 1 → (s : ℕ) → k ≤ 2147483646 → slice_get nfa.patterns k ≡ Some s → In (fresh_place s) places
 patterns-same nfa places index found before here none =
-    below_more (λ k. (s : ℕ) → k ≤ 2147483646 → slice_get nfa.patterns k ≡ Some s → In (fresh s) places) index
+    below_more (λ k. (s : ℕ) → k ≤ 2147483646 → slice_get nfa.patterns k ≡ Some s → In (fresh_place s) places) index
     (λ k h s small e. before k s h small e)
     (λ s small e. let never : None ≡ Some s = sym none ∙ here small ∙ e in absurd (cc never))
 
@@ -140,7 +143,7 @@ unfolding node_at
 node_at-is nfa s node is = get_or_from_slice_get nfa.states s node Fail is
 
 module _ (nfa : Automaton) (pattern : ℕ) where
-  pub IsUnderWay-begin : (places : List Place) → ((s : ℕ) → IsStart nfa s → In (fresh s) places)
+  pub IsUnderWay-begin : (places : List Place) → ((s : ℕ) → IsStart nfa s → In (fresh_place s) places)
       → ((v : Place) → In v places → IsFresh nfa v) → ((v : Place) → In v places → v.state < length nfa.states)
       → IsUnderWay nfa pattern 0 places
   IsUnderWay-begin places starts only below = record {
@@ -155,7 +158,7 @@ module _ (nfa : Automaton) (pattern : ℕ) where
   -- one place more is done, and what follows was added
   pub IsUnderWay-step : (done : ℕ) (old new : List Place) (v : Place) → IsUnderWay nfa pattern done old
       → slice_get old done ≡ Some v → IsFine nfa pattern v → LeadsBelow (length nfa.states) (node_at nfa v.state)
-      → Gains old new (next_places nfa pattern v) → IsUnderWay nfa pattern (done + 1) new
+      → GainsPlaces old new (next_places nfa pattern v) → IsUnderWay nfa pattern (done + 1) new
   IsUnderWay-step done old new v under is fine leads gains =
       let inside : done < length old = slice_get-below old done v is in
       let there : In v old = slice_get-in old done v is in
@@ -164,10 +167,10 @@ module _ (nfa : Automaton) (pattern : ℕ) where
       λ w i. subst (In w) (first inside) i in
       record {
         inside = omega (arith, ap length gains.kept, length-append old gains.more, inside);
-        starts = λ s start. Gains-kept gains (fresh s) (under.starts s start);
+        starts = λ s start. GainsPlaces-kept gains (fresh_place s) (under.starts s start);
         covers = λ w i u j.
             elim (In-append w (take done old) (v ∷ []) (more w i)) [
-              | inl k ↦ Gains-kept gains u (under.covers w k u j)
+              | inl k ↦ GainsPlaces-kept gains u (under.covers w k u j)
               | inr k ↦ elim k [
                 | inl e ↦ gains.all u (subst (λ (z : Place). In u (next_places nfa pattern z)) e j)
                 | inr never ↦ absurd never
@@ -178,11 +181,11 @@ module _ (nfa : Automaton) (pattern : ℕ) where
               | inl k ↦ under.fine w k
               | inr k ↦ elim k [ inl e ↦ subst (IsFine nfa pattern) (sym e) fine | inr never ↦ absurd never ]
             ];
-        below = Gains-each (λ w. w.state < length nfa.states) gains under.below (λ w i.
-            let of = In-mapped (at_state (after pattern node v)) w (targets node) i in
+        below = GainsPlaces-each (λ w. w.state < length nfa.states) gains under.below (λ w i.
+            let of = In-mapped (at_state (after_node pattern node v)) w (targets node) i in
             subst (λ (z : Place). z.state < length nfa.states) (sym of.2)
             (targets-below (length nfa.states) of.0 node leads of.1));
-        led = Gains-each (IsLedTo nfa pattern) gains under.led
+        led = GainsPlaces-each (IsLedTo nfa pattern) gains under.led
             (λ w i. IsLedTo-next nfa pattern v w (under.led v there) i);
       }
     where

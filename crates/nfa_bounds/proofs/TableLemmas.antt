@@ -8,7 +8,7 @@ use Rattle.std.proofs.lemmas.List.{append_assoc, length-append, append-nil, leng
 use Rattle.std.proofs.lemmas.List.Sums.{sum_by-cons, sum_by-set}
 use Rattle.nfa_paths.specs.Graphs.{In}
 use Rattle.nfa_paths.proofs.KindsLemmas.{In-append_left, In-append_right}
-use Rattle.nfa_bounds.specs.Places.{bit, number_of, unmarked, IsTable, Gains}
+use Rattle.nfa_bounds.specs.Places.{bit, place_number, unmarked_place, IsTable, GainsPlaces}
 use Rattle.nfa_bounds.specs.declared.place.Place.{Place}
 
 -- what stands in two lists in a row stands in one of them
@@ -36,8 +36,8 @@ same-place : {s t : ℕ} {a b c d e f : Bool} → s ≡ t → a ≡ b → c ≡ 
 same-place one two three four = rw (one, two, three, four) refl
 
 -- a place's number tells the place
-pub number_of-tells : (v w : Place) → number_of v ≡ number_of w → v ≡ w
-number_of-tells v w e =
+pub place_number-tells : (v w : Place) → place_number v ≡ place_number w → v ≡ w
+place_number-tells v w e =
     let r = bit-small v.has_read in let r' = bit-small w.has_read in
     let s = bit-small v.start_written in let s' = bit-small w.start_written in
     let t = bit-small v.end_written in let t' = bit-small w.end_written in
@@ -48,14 +48,14 @@ number_of-tells v w e =
     same-place one two three four
 
 -- nothing is reached at first
-unmarked-all : (n : ℕ) → sum_by unmarked (replicate n false) ≡ n
-unmarked-all zero = refl
-unmarked-all (suc n) = omega (arith, sum_by-cons unmarked false (replicate n false), unmarked-all n)
+unmarked_place-all : (n : ℕ) → sum_by unmarked_place (replicate n false) ≡ n
+unmarked_place-all zero = refl
+unmarked_place-all (suc n) = omega (arith, sum_by-cons unmarked_place false (replicate n false), unmarked_place-all n)
 
 pub IsTable-none : (n : ℕ) → IsTable (replicate n false) []
 IsTable-none n = record {
-  count = omega (arith, unmarked-all n, length-replicate n false);
-  listed = λ v m. absurd (never n (number_of v) m);
+  count = omega (arith, unmarked_place-all n, length-replicate n false);
+  listed = λ v m. absurd (never n (place_number v) m);
 }
   where
     never : (n k : ℕ) → get_or (replicate n false) k false ≡ true → ⊥
@@ -64,36 +64,36 @@ IsTable-none n = record {
     never (suc n) (suc k) e = never n k e
 
 -- a place that was not marked is marked, and listed
-pub IsTable-more : (marks : List Bool) (places : List Place) (v : Place) → number_of v < length marks
-    → get_or marks (number_of v) false ≡ false → IsTable marks places
-    → IsTable (set marks (number_of v) true) (places ++ v ∷ [])
+pub IsTable-more : (marks : List Bool) (places : List Place) (v : Place) → place_number v < length marks
+    → get_or marks (place_number v) false ≡ false → IsTable marks places
+    → IsTable (set marks (place_number v) true) (places ++ v ∷ [])
 IsTable-more marks places v inside clear table = record {
   count =
-      let weight : unmarked (get_or marks (number_of v) false) ≡ 1 = ap unmarked clear in
+      let weight : unmarked_place (get_or marks (place_number v) false) ≡ 1 = ap unmarked_place clear in
       omega (
         arith,
         table.count,
-        sum_by-set unmarked marks (number_of v) true false inside,
-        length-set marks (number_of v) true,
+        sum_by-set unmarked_place marks (place_number v) true false inside,
+        length-set marks (place_number v) true,
         length-append places (v ∷ []),
         weight,
       );
   listed = λ w m.
-      elim (ℕ_discrete (number_of w) (number_of v)) [
-        | yes e ↦ In-append_right w places (v ∷ []) (inl (number_of-tells w v e))
+      elim (ℕ_discrete (place_number w) (place_number v)) [
+        | yes e ↦ In-append_right w places (v ∷ []) (inl (place_number-tells w v e))
         | no n ↦
             In-append_left w places (v ∷ [])
-            (table.listed w (sym (get_or-set_other marks (number_of v) (number_of w) true false n) ∙ m))
+            (table.listed w (sym (get_or-set_other marks (place_number v) (place_number w) true false n) ∙ m))
       ];
 }
 
 -- places that were added
 
-pub Gains-none : (old : List Place) → Gains old old []
-Gains-none old = record { more = []; kept = sym (append-nil old); only = λ v i. i; all = λ v i. absurd i }
+pub GainsPlaces-none : (old : List Place) → GainsPlaces old old []
+GainsPlaces-none old = record { more = []; kept = sym (append-nil old); only = λ v i. i; all = λ v i. absurd i }
 
-pub Gains-one : (old : List Place) (v : Place) → Gains old (old ++ v ∷ []) (v ∷ [])
-Gains-one old v = record {
+pub GainsPlaces-one : (old : List Place) (v : Place) → GainsPlaces old (old ++ v ∷ []) (v ∷ [])
+GainsPlaces-one old v = record {
   more = v ∷ [];
   kept = refl;
   only = λ w i. i;
@@ -101,8 +101,8 @@ Gains-one old v = record {
 }
 
 -- one that was there
-pub Gains-there : (old : List Place) (v : Place) → In v old → Gains old old (v ∷ [])
-Gains-there old v there = record {
+pub GainsPlaces-there : (old : List Place) (v : Place) → In v old → GainsPlaces old old (v ∷ [])
+GainsPlaces-there old v there = record {
   more = [];
   kept = sym (append-nil old);
   only = λ w i. absurd i;
@@ -110,8 +110,8 @@ Gains-there old v there = record {
 }
 
 -- some, and then more
-pub Gains-then : {a b c ws us : List Place} → Gains a b ws → Gains b c us → Gains a c (ws ++ us)
-Gains-then {a = a} {b = b} {c = c} {ws = ws} {us = us} f g = record {
+pub GainsPlaces-then : {a b c ws us : List Place} → GainsPlaces a b ws → GainsPlaces b c us → GainsPlaces a c (ws ++ us)
+GainsPlaces-then {a = a} {b = b} {c = c} {ws = ws} {us = us} f g = record {
   more = f.more ++ g.more;
   kept = g.kept ∙ ap (λ l. l ++ g.more) f.kept ∙ append_assoc a f.more g.more;
   only = λ v i.

@@ -9,7 +9,8 @@ use Rattle.nfa_paths.specs.Paths.{node_at, pattern_of, slot_among, path_pattern}
 use Rattle.nfa_paths.proofs.PathToLemmas.{EndsWith-last}
 use Rattle.nfa_paths.proofs.PatternLemmas.{some-pattern, node-pattern}
 use Rattle.nfa_bounds.specs.Ways.{targets, position_after, open_edges, IsWay, PatternRecordsBounds, RecordsBounds}
-use Rattle.nfa_bounds.specs.Places.{fresh, at_state, after, next_places, is_recorded, IsFresh, Describes, IsLedTo}
+use Rattle.nfa_bounds.specs.Places.{fresh_place, at_state, after_node, next_places, is_recorded}
+use Rattle.nfa_bounds.specs.Places.{IsFresh, Describes, IsLedTo}
 use Rattle.nfa_bounds.specs.Places.{IsClosed}
 use Rattle.nfa_bounds.proofs.PlaceLemmas.{written, option_or-none, option_or_assoc, slot_among-append}
 use Rattle.nfa_bounds.proofs.PlaceLemmas.{written-match, Describes-fresh, Describes-after}
@@ -64,7 +65,7 @@ module _ (nfa : Automaton) (pattern : ℕ) where
   pub IsLedTo-next : (v w : Place) → IsLedTo nfa pattern v → In w (next_places nfa pattern v) → IsLedTo nfa pattern w
   IsLedTo-next v w led i =
       let node = node_at nfa v.state in
-      let of = In-mapped (at_state (after pattern node v)) w (targets node) i in
+      let of = In-mapped (at_state (after_node pattern node v)) w (targets node) i in
       subst (IsLedTo nfa pattern) (sym of.2) (onward of.0 of.1)
     where
       slots : (slot : ℕ) → slot_among nfa (led.before ++ (v.state, led.position) ∷ []) slot
@@ -72,7 +73,7 @@ module _ (nfa : Automaton) (pattern : ℕ) where
       slots slot = slot_among-append nfa led.before ((v.state, led.position) ∷ []) slot
 
       onward : (s : ℕ) → In s (targets (node_at nfa v.state))
-          → IsLedTo nfa pattern (at_state (after pattern (node_at nfa v.state) v) s)
+          → IsLedTo nfa pattern (at_state (after_node pattern (node_at nfa v.state) v) s)
       onward s j = record {
         start = led.start;
         starts = led.starts;
@@ -146,9 +147,9 @@ module _ (nfa : Automaton) (pattern : ℕ) where
         let node = node_at nfa v.state in
         let of = In-mapped (λ s. (s, position_after node position)) y (targets node) linked.0 in
         let s = of.0 in
-        let w = at_state (after pattern node v) s in
+        let w = at_state (after_node pattern node v) s in
         let there : In w places =
-        closed.covers v i w (In-map (at_state (after pattern node v)) s (targets node) of.1) in
+        closed.covers v i w (In-map (at_state (after_node pattern node v)) s (targets node) of.1) in
         let on : Linked (open_edges nfa) ((w.state, position_after node position) ∷ rest) =
         subst (λ (z : Pair). Linked (open_edges nfa) (z ∷ rest)) of.2 linked.1 in
         let to : EndsWith m ((w.state, position_after node position) ∷ rest) =
@@ -173,7 +174,7 @@ module _ (nfa : Automaton) (pattern : ℕ) where
         subst (λ (z : Pair). Linked (open_edges nfa) (z ∷ rest)) way.head way.linked in
         let ends : EndsWith end ((s.0, s.1) ∷ rest) =
         subst (λ (z : Pair). EndsWith end (z ∷ rest)) way.head way.ends in
-        let both = onward-writes rest (fresh s.0) s.1 s.1 None None end (closed.starts s.0 way.starts)
+        let both = onward-writes rest (fresh_place s.0) s.1 s.1 None None end (closed.starts s.0 way.starts)
         (Describes-fresh s.0 s.1) linked ends matches in
         record {
           start = s;

@@ -10,8 +10,8 @@ use Rattle.nfa_bounds.specs.Ways.{targets, reads, open_edges, IsStart}
 use Rattle.nfa_bounds.specs.declared.place.Place.{Place}
 
 -- a state that a way starts with: nothing is done
-abbrev pub fresh : ℕ → Place
-fresh s = record { state = s; has_read = false; start_written = false; end_written = false }
+abbrev pub fresh_place : ℕ → Place
+fresh_place s = record { state = s; has_read = false; start_written = false; end_written = false }
 
 -- the same done, at another state
 abbrev pub at_state : Place → ℕ → Place
@@ -19,21 +19,21 @@ at_state v s = record v { state = s }
 
 -- the place is one that a search starts with
 abbrev pub IsFresh : Automaton → Place → Type 0
-IsFresh nfa v = IsStart nfa v.state × (v ≡ fresh v.state)
+IsFresh nfa v = IsStart nfa v.state × (v ≡ fresh_place v.state)
 
 -- what is done once a way leaves the place, whose state is this node
-unfoldable pub after : ℕ → Node → Place → Place
-after pattern (Capture next slot) v =
+unfoldable pub after_node : ℕ → Node → Place → Place
+after_node pattern (Capture next slot) v =
     record v {
       start_written = if slot == 2 * pattern then not v.has_read else v.start_written;
       end_written = if slot == 2 * pattern + 1 then true else v.end_written;
     }
-after pattern node v = if reads node then record v { has_read = true; end_written = false } else v
+after_node pattern node v = if reads node then record v { has_read = true; end_written = false } else v
 
 -- the places that follow
 abbrev pub next_places : Automaton → ℕ → Place → List Place
 next_places nfa pattern v =
-    map (at_state (after pattern (node_at nfa v.state) v)) (targets (node_at nfa v.state))
+    map (at_state (after_node pattern (node_at nfa v.state) v)) (targets (node_at nfa v.state))
 
 -- both bounds are written
 abbrev pub is_recorded : Place → Bool
@@ -45,18 +45,18 @@ bit true = 1
 bit false = 0
 
 -- the place's number: there are eight for each state
-abbrev pub number_of : Place → ℕ
-number_of v = 8 * v.state + 4 * bit v.has_read + 2 * bit v.start_written + bit v.end_written
+abbrev pub place_number : Place → ℕ
+place_number v = 8 * v.state + 4 * bit v.has_read + 2 * bit v.start_written + bit v.end_written
 
 -- 1 for a place that is not marked
-abbrev pub unmarked : Bool → ℕ
-unmarked true = 0
-unmarked false = 1
+abbrev pub unmarked_place : Bool → ℕ
+unmarked_place true = 0
+unmarked_place false = 1
 
 -- Each place is marked by its number. So many marks are set as there are places.
 pub record IsTable (marks : List Bool) (places : List Place) : Type 0 where
-  pub count : length places + sum_by unmarked marks ≡ length marks
-  pub listed : (v : Place) → slice_index_or marks (number_of v) false ≡ true → In v places
+  pub count : length places + sum_by unmarked_place marks ≡ length marks
+  pub listed : (v : Place) → slice_index_or marks (place_number v) false ≡ true → In v places
 
 -- the places that were reached, and how many may be at most
 pub record Reach : Type 0 where
@@ -64,7 +64,7 @@ pub record Reach : Type 0 where
   pub places : List Place
 
 -- these places were added, and no others
-pub record Gains (old new wanted : List Place) : Type 0 where
+pub record GainsPlaces (old new wanted : List Place) : Type 0 where
   pub more : List Place
   pub kept : new ≡ old ++ more
   pub only : (v : Place) → In v more → In v wanted
@@ -98,7 +98,7 @@ module _ (nfa : Automaton) (pattern : ℕ) where
 
   -- what every search starts with is there, what follows each place too, and no Match lacks a bound
   pub record IsClosed (places : List Place) : Type 0 where
-    pub starts : (s : ℕ) → IsStart nfa s → In (fresh s) places
+    pub starts : (s : ℕ) → IsStart nfa s → In (fresh_place s) places
     pub covers : (v : Place) → In v places → (w : Place) → In w (next_places nfa pattern v) → In w places
     pub fine : (v : Place) → In v places → IsFine v
 
@@ -106,7 +106,7 @@ module _ (nfa : Automaton) (pattern : ℕ) where
   -- bound.
   pub record IsUnderWay (done : ℕ) (places : List Place) : Type 0 where
     pub inside : done ≤ length places
-    pub starts : (s : ℕ) → IsStart nfa s → In (fresh s) places
+    pub starts : (s : ℕ) → IsStart nfa s → In (fresh_place s) places
     pub covers : (v : Place) → In v (take done places) → (w : Place) → In w (next_places nfa pattern v) → In w places
     pub fine : (v : Place) → In v (take done places) → IsFine v
     pub below : (v : Place) → In v places → v.state < length nfa.states

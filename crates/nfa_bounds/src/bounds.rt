@@ -2,7 +2,7 @@
 ghost use Rattle.std.specs.Prelude.{◌≡◌, ℕ, ◌+◌, ◌*◌, ◌<◌, ◌≤◌, ◌↔◌, IfOk, IfSome, IsTrue, length, slice_get};
 ghost use Rattle.thompson_nfa.specs.Automaton.{IsAutomaton};
 ghost use Rattle.nfa_paths.specs.Graphs.{In};
-ghost use Rattle.nfa_bounds.specs.Places.{fresh, IsFresh};
+ghost use Rattle.nfa_bounds.specs.Places.{fresh_place, IsFresh};
 ghost use Rattle.nfa_bounds.specs.Ways.{IsStart, PatternRecordsBounds, RecordsBounds};
 
 use crate::place::Place;
@@ -54,7 +54,7 @@ fn pattern_records_bounds(alloc: Global, nfa: &NFA, pattern: usize) -> Result<bo
 /// What searches start with.
 fn starts(alloc: Global, nfa: &NFA) -> Result<Reached, AllocError>
     ensures room { IfOk result (λ made. made.room ≡ 8 * length nfa.now.states) }
-    ensures all { IfOk result (λ made. (s : ℕ) → IsStart nfa.now s → In (fresh s) made.places) }
+    ensures all { IfOk result (λ made. (s : ℕ) → IsStart nfa.now s → In (fresh_place s) made.places) }
     ensures only { IfOk result (λ made. (v : Place) → In v made.places → IsFresh nfa.now v) }
     ensures below { IfOk result (λ made. (v : Place) → In v made.places → v.state < length nfa.now.states) }
 {

@@ -2,7 +2,7 @@
 ghost use Rattle.std.specs.Prelude.{◌≡◌, ◌+◌, ◌*◌, ◌<◌, ◌&&◌, ◌==◌, ◌↔◌, IsTrue, Some, false};
 ghost use Rattle.thompson_nfa.specs.Automaton.{node_of};
 ghost use Rattle.nfa_paths.specs.Paths.{pattern_of};
-ghost use Rattle.nfa_bounds.specs.Places.{after, at_state, fresh, is_recorded, number_of, bit};
+ghost use Rattle.nfa_bounds.specs.Places.{after_node, at_state, fresh_place, is_recorded, place_number, bit};
 
 use regex_search_core::StateID;
 use thompson_nfa::State;
@@ -23,7 +23,7 @@ pub struct Place {
 impl Place {
     /// A state that a way starts with.
     pub fn fresh(state: StateID) -> Place
-        ensures { result ≡ fresh state }
+        ensures { result ≡ fresh_place state }
     {
         Place {
             state,
@@ -42,7 +42,7 @@ impl Place {
 
     /// The place's number. There are eight for each state.
     pub fn number(&self) -> usize
-        ensures value { result ≡ number_of self.now }
+        ensures value { result ≡ place_number self.now }
         ensures below { result < 8 * self.now.state + 8 }
     {
         8 * self.state.as_usize()
@@ -52,9 +52,9 @@ impl Place {
     }
 
     /// What is done once a way leaves the place, whose state this is.
-    #[tactic(auto, unfolding(crate::specs::Places::after, crate::specs::Ways::reads))]
+    #[tactic(auto, unfolding(crate::specs::Places::after_node, crate::specs::Ways::reads))]
     pub fn after(&self, state: &State, pattern: usize) -> Place
-        ensures { result ≡ after pattern (node_of state.now) self.now }
+        ensures { result ≡ after_node pattern (node_of state.now) self.now }
     {
         match state {
             State::ByteRange { .. } | State::Sparse(_) | State::Dense(_) => Place {

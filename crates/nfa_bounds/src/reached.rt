@@ -1,7 +1,7 @@
 //! The places that were reached, each once, in order.
 ghost use Rattle.std.specs.Prelude.{◌≡◌, ℕ, ◌+◌, ◌*◌, ◌^◌, ◌≤◌, ◌<◌, All, IfOk, OnOk, length, map, [], ◌∷◌};
 ghost use Rattle.std.specs.Prelude.{slice_get, slice_index, Some};
-ghost use Rattle.nfa_bounds.specs.Places.{at_state, Gains};
+ghost use Rattle.nfa_bounds.specs.Places.{at_state, GainsPlaces};
 
 use crate::place::Place;
 use regex_search_core::StateID;
@@ -61,7 +61,7 @@ impl Reached {
     pub fn add(&mut self, place: &Place) -> Result<(), AllocError>
         requires { 8 * place.now.state + 8 ≤ self.old.room }
         ensures room { self.new.room ≡ self.old.room }
-        ensures gains { OnOk result (Gains self.old.places self.new.places (place.now ∷ [])) }
+        ensures gains { OnOk result (GainsPlaces self.old.places self.new.places (place.now ∷ [])) }
     {
         let number = place.number();
         if !self.marks[number] {
@@ -75,7 +75,8 @@ impl Reached {
     pub fn add_all(&mut self, place: &Place, states: &[StateID]) -> Result<(), AllocError>
         requires { All (λ s. 8 * s + 8 ≤ self.old.room) states.now }
         ensures room { self.new.room ≡ self.old.room }
-        ensures gains { OnOk result (Gains self.old.places self.new.places (map (at_state place.now) states.now)) }
+        ensures gains { OnOk result (GainsPlaces self.old.places self.new.places
+            (map (at_state place.now) states.now)) }
     {
         for state in states {
             self.add(&place.at_state(*state))?;

@@ -7,7 +7,7 @@ use Rattle.thompson_nfa.specs.Automaton.{Automaton}
 use Rattle.nfa_paths.specs.Paths.{span_len, scan_limit, turn_weight, IsWork, IsWithinScans}
 use Rattle.nfa_backtrack.specs.Backtrack.{Backtracker, Work, AddsWork, CountsAnswer, CountsRefusal, GrowsBlocks}
 use Rattle.nfa_backtrack.specs.Backtrack.{max_haystack_len_of}
-use Rattle.nfa_pikevm.specs.Engines.{Pike, PikeCache, AddsWork as AddsPikeWork, Fits, SameNumbers, kind_of, refitted}
+use Rattle.nfa_pikevm.specs.Engines.{Pike, PikeCache, AddsPikeWork, Fits, SameNumbers, kind_of, refitted}
 use Rattle.nfa_choice.specs.declared.choose.Engine.{Engine}
 use Rattle.nfa_choice.specs.declared.choose.Engine.TheVariants as engine
 

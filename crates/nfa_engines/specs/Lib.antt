@@ -6,17 +6,14 @@ pub mod Laws
 pub mod ListLaws
 pub mod SetLaws
 pub use Rattle.nfa_backtrack.specs.Backtrack
-pub use Rattle.nfa_backtrack.specs.CaptureRuns as BacktrackCaptureRuns
 pub use Rattle.nfa_backtrack.specs.CapturesMatches as BacktrackCapturesMatches
 pub use Rattle.nfa_backtrack.specs.Finding as BacktrackFinding
 pub use Rattle.nfa_backtrack.specs.FindMatches as BacktrackFindMatches
 pub use Rattle.nfa_backtrack.specs.Runs as BacktrackRuns
 pub use Rattle.nfa_pikevm.specs.Engines
-pub use Rattle.nfa_pikevm.specs.CaptureRuns as PikeVMCaptureRuns
 pub use Rattle.nfa_pikevm.specs.CapturesMatches as PikeVMCapturesMatches
 pub use Rattle.nfa_pikevm.specs.Finding as PikeVMFinding
 pub use Rattle.nfa_pikevm.specs.FindMatches as PikeVMFindMatches
-pub use Rattle.nfa_pikevm.specs.Runs as PikeVMRuns
 pub use Rattle.nfa_paths.specs.Graphs
 pub use Rattle.nfa_paths.specs.Known
 pub use Rattle.nfa_paths.specs.Overlaps
@@ -25,9 +22,13 @@ pub use Rattle.nfa_search_base.specs.Asking
 pub use Rattle.nfa_search_base.specs.Catching
 pub use Rattle.nfa_search_base.specs.CaughtLists
 pub use Rattle.nfa_search_base.specs.CaughtRuns
+pub use Rattle.nfa_search_base.specs.EngineSearches
 pub use Rattle.nfa_search_base.specs.Finders
 pub use Rattle.nfa_search_base.specs.Items
+pub use Rattle.nfa_search_base.specs.Lent
 pub use Rattle.nfa_search_base.specs.Lists
+pub use Rattle.nfa_search_base.specs.MatchRuns
+pub use Rattle.nfa_search_base.specs.Runs
 pub use Rattle.nfa_search_base.specs.Searchers
 pub use Rattle.nfa_search_base.specs.Serving
 pub use Rattle.nfa_search_base.specs.Skipping

@@ -12,10 +12,10 @@ use Rattle.nfa_paths.specs.Exploring.Item.{Explore, Restore, Load}
 use Rattle.nfa_paths.proofs.SearchLemmas.{AnswerBehind-along}
 use Rattle.nfa_paths.proofs.SearchingLemmas.{Searching-restore, Searching-load, Searching-marked, Searching-plain, Searching-write, Searching-unkept, Searching-keep}
 use Rattle.nfa_pikevm.specs.Rows.{Marks}
-use Rattle.nfa_pikevm.specs.States.{Front, SeenAt, AreMatches, Follows}
+use Rattle.nfa_pikevm.specs.States.{Front, SeenAt, AreMatchPairs, Follows}
 
 -- a pair that is no match is in no set of matches
-plain-target : (nfa : Automaton) (target : Pair → Bool) (v : Pair) → AreMatches nfa target → is_match nfa v ≡ false
+plain-target : (nfa : Automaton) (target : Pair → Bool) (v : Pair) → AreMatchPairs nfa target → is_match nfa v ≡ false
     → target v ≡ false
 plain-target nfa target v ok plain = of (target v) (ok v)
   where

@@ -12,7 +12,7 @@ use Rattle.nfa_paths.specs.Graphs.{Pair}
 use Rattle.nfa_paths.specs.Paths.{span_len, raised, is_utf8_empty, path_pattern, slot_row, turn_weight, EndsOnBoundary, IsKeptAnswer, IsRestartedAnswer, IsScanAnswer, IsSearchAnswer}
 use Rattle.nfa_paths.specs.Exploring.{Slots}
 use Rattle.nfa_paths.proofs.AnswerLemmas.{ends_on_boundary}
-use Rattle.nfa_pikevm.specs.Scans.{blank, Finds, Scans, Searched, scan_turns}
+use Rattle.nfa_pikevm.specs.Scans.{blank, ScanFinds, Scans, Searched, scan_turns}
 
 -- the slots of no path
 pub slot_row-none : (nfa : Automaton) (count : ℕ) → slot_row nfa count None ≡ blank count
@@ -21,13 +21,14 @@ slot_row-none nfa count = refl
 
 module _ (nfa : Automaton) (kind : MatchKind) (earliest : Bool) (x : Search) where
   -- the pattern of what is found is that of the path
-  pub pattern-found : {half : HalfMatch} {slots : Slots} {turns : ℕ} → (f : Finds nfa x kind earliest half slots turns)
+  pub pattern-found : {half : HalfMatch} {slots : Slots} {turns : ℕ}
+      → (f : ScanFinds nfa x kind earliest half slots turns)
       → Some (half_found_of half).pattern ≡ path_pattern nfa f.path
   pattern-found f = rw f.ends (sym f.matches)
 
   -- its end is where the path ends
   pub whole-found : {half : HalfMatch} {slots : Slots} {turns : ℕ}
-      → (f : Finds nfa x kind earliest half slots turns) (y : Search) → y.haystack ≡ x.haystack
+      → (f : ScanFinds nfa x kind earliest half slots turns) (y : Search) → y.haystack ≡ x.haystack
       → (IsBoundary y.haystack (half_found_of half).offset → EndsOnBoundary y f.path)
       × (EndsOnBoundary y f.path → IsBoundary y.haystack (half_found_of half).offset)
   whole-found f y same = let b = ends_on_boundary y f.path f.ends in (b.1, b.0)
@@ -63,7 +64,7 @@ module _ (nfa : Automaton) (kind : MatchKind) (earliest : Bool) (x : Search) whe
 
   -- the answer is the path of the last scan, `y`
   pub Searched-some : (y : Search) (half : HalfMatch) (slots : Slots) (turns : ℕ)
-      (f : Finds nfa y kind earliest half slots turns) (restarts scans : ℕ)
+      (f : ScanFinds nfa y kind earliest half slots turns) (restarts scans : ℕ)
       → Some (half_found_of half).pattern ≡ path_pattern nfa f.path
       → IsSearchAnswer nfa kind earliest x restarts (Some f.path) → scans ≡ restarts + 1
       → Searched nfa x kind earliest (Some half) slots scans turns

@@ -9,7 +9,7 @@ use Rattle.regex_search_core.specs.Search.{Search}
 use Rattle.thompson_nfa.specs.Automaton.{Automaton}
 use Rattle.nfa_paths.specs.Exploring.{Item, Slots}
 use Rattle.nfa_pikevm.specs.Rows.{Marks}
-use Rattle.nfa_pikevm.specs.States.{Front, item_of, work_onto, with_state, tries, tries_of, undone, state_of, HasSlot, IsWithin, Follows}
+use Rattle.nfa_pikevm.specs.States.{Front, work_item_of, work_onto, with_state, tries, tries_of, undone, state_of, HasSlot, IsWithin, Follows}
 use Rattle.nfa_pikevm.specs.declared.frame.FollowEpsilon.{FollowEpsilon}
 use Rattle.nfa_pikevm.specs.declared.frame.FollowEpsilon.TheVariants.{Explore, Restore}
 use Rattle.nfa_pikevm.proofs.FollowLemmas.{Follows-then, Follows-none, Follows-restore}
@@ -31,14 +31,14 @@ within-lower states count t u frames less fits =
 
 -- frames as work
 pub work_onto-push : (at : ℕ) (fs : List FollowEpsilon) (f : FollowEpsilon) (work : List Item)
-    → work_onto at (fs ++ f ∷ []) work ≡ item_of at f ∷ work_onto at fs work
+    → work_onto at (fs ++ f ∷ []) work ≡ work_item_of at f ∷ work_onto at fs work
 work_onto-push at [] f work = refl
-work_onto-push at (g ∷ fs) f work = work_onto-push at fs f (item_of at g ∷ work)
+work_onto-push at (g ∷ fs) f work = work_onto-push at fs f (work_item_of at g ∷ work)
 
 module _ (nfa : Automaton) (x : Search) (at : ℕ) (met : Marks) (front : Front) where
   -- a frame that is taken up
   Follows-undone : (work : List Item) (f : FollowEpsilon) (slots : Slots)
-      → Follows nfa x at met front (item_of at f ∷ work) slots met front (with_state at (state_of f) work)
+      → Follows nfa x at met front (work_item_of at f ∷ work) slots met front (with_state at (state_of f) work)
       (undone f slots)
   Follows-undone work (Explore sid) slots = Follows-none nfa x at met front _ slots
   Follows-undone work (Restore slot old) slots = Follows-restore nfa x at met front work slots slot old

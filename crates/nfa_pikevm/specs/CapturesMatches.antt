@@ -1,68 +1,60 @@
 -- The iterator over the captures of a PikeVM.
-use Rattle.std.specs.Prelude.{◌≡◌, Bool, Option, Result, length}
+use Rattle.std.specs.Prelude.{◌≡◌, Option, Result, Bool}
 use Rattle.std.specs.Borrow.{MutBor}
-use Rattle.std.specs.Iterator.{Count}
 use Rattle.regex_search_core.specs.Search.{Search}
 use Rattle.regex_search_core.specs.Slots.{Captured}
 use Rattle.nfa_search_base.specs.Catching.{Catching, GivesCaptures, Row, row_span}
-use Rattle.nfa_search_base.specs.CaughtLists.{HasGroups, TellsRow}
-use Rattle.nfa_search_base.specs.Lending.{With, lend}
+use Rattle.nfa_search_base.specs.EngineSearches.{AsksEngineRow, MayCatch}
+use Rattle.nfa_search_base.specs.Lending.{With}
+use Rattle.nfa_search_base.specs.Lent.{Lent, TakesLentStep}
+use Rattle.nfa_search_base.specs.Runs.{GivesKept}
 use Rattle.nfa_search_base.specs.Searchers.{walk_of}
-use Rattle.nfa_search_base.specs.Stored.{steps_left, takes_steps}
 use Rattle.nfa_search_base.specs.Walks.{Answer, Walk}
 use Rattle.nfa_search_base.specs.declared.error.SearchError.{SearchError}
-use Rattle.nfa_search_base.specs.declared.iter.steps.Steps.{Steps}
-use Rattle.nfa_pikevm.specs.Engines.{Fits, Pike, PikeCache, SameNumbers, kind_of}
-use Rattle.nfa_pikevm.specs.Finding.{SearchesOnce}
+use Rattle.nfa_pikevm.specs.Engines.{Pike, PikeCache, SameNumbers}
+use Rattle.nfa_pikevm.specs.FindMatches.{fits_pike}
+use Rattle.nfa_pikevm.specs.Finding.{PikeSearches, PikeTellsRow}
 use Rattle.nfa_pikevm.specs.declared.captures_iter.CapturesMatches.{CapturesMatches}
 
--- a PikeVM of one iteration and its captures, with the cache that it is lent
-abbrev pub CatchingPike : Type 0
-CatchingPike = With (Catching Pike) PikeCache
-
--- the cache fits, and the captures have the groups of the NFA
-pub record MayCatch (s : CatchingPike) : Type 0 where
-  pub fits : Fits s.cache s.asker.finder.nfa
-  pub holds : HasGroups s.asker.finder.nfa s.asker.captures
-
--- A search by the PikeVM may answer this. It is made once, and keeps the groups of the captures and the numbers of the
--- cache.
-pub record AsksPikeRow (s : CatchingPike) (x : Search) (a : Answer Row) (t : CatchingPike) : Type 0 where
-  pub tells : TellsRow s.asker.finder.nfa (kind_of s.asker.finder) x.earliest x a
-  pub engine : t.asker.finder ≡ s.asker.finder
-  pub holds : HasGroups s.asker.finder.nfa t.asker.captures
-  pub numbers : SameNumbers s.cache t.cache
-  pub work : SearchesOnce s.asker.finder x s.cache t.cache
-
--- the iterator with what its cache shows
-abbrev pub catch_state : CapturesMatches → Steps CatchingPike
-catch_state s = lend s.steps s.cache.now
-
--- where the iterator stands
-abbrev pub catch_walk : CapturesMatches → Walk
-catch_walk s = walk_of s.steps.searcher
-
--- the PikeVM that it asks
-abbrev pub catch_engine : CapturesMatches → Pike
-catch_engine s = s.steps.asker.finder
+-- the steps of the iterator, and the cache that it is lent
+abbrev pub pike_catches : CapturesMatches → Lent (Catching Pike) PikeCache
+pike_catches s = record { steps = s.steps; cache = s.cache }
 
 -- the cache that it searches with
-abbrev pub catch_cache : CapturesMatches → MutBor PikeCache
-catch_cache s = s.cache
+abbrev pub pike_catches_cache : CapturesMatches → MutBor PikeCache
+pike_catches_cache s = s.cache
 
--- whether it has ended
-abbrev pub catch_is_done : CapturesMatches → Bool
-catch_is_done s = s.steps.done
+-- the engine that it asks
+abbrev pub pike_catches_engine : CapturesMatches → Pike
+pike_catches_engine s = s.steps.asker.finder
 
--- Nothing comes, and nothing changes, once it has ended; else it takes a step by searches of the PikeVM.
-pub record TakesCatchStep (s : CapturesMatches) (r : Option (Result Captured SearchError))
+-- where it stands, and whether it has ended
+abbrev pub pike_catches_walk : CapturesMatches → Walk
+pike_catches_walk s = walk_of s.steps.searcher
+
+abbrev pub pike_catches_done : CapturesMatches → Bool
+pike_catches_done s = s.steps.done
+
+-- the PikeVM may be asked where the cache fits and the captures have the groups of the NFA
+abbrev pub MayCatchByPike : With (Catching Pike) PikeCache → Type 0
+MayCatchByPike = MayCatch (λ vm. vm.nfa) fits_pike
+
+-- a search by the PikeVM may answer this
+abbrev pub AsksPikeRow : With (Catching Pike) PikeCache → Search → Answer Row → With (Catching Pike) PikeCache → Type 0
+AsksPikeRow = AsksEngineRow (λ vm. vm.nfa) PikeTellsRow (λ vm x a. PikeSearches vm x)
+
+-- a call
+pub record PikeCatchesNext (s : CapturesMatches) (r : Option (Result Captured SearchError))
     (t : CapturesMatches) : Type 0 where
-  pub step : takes_steps row_span AsksPikeRow (λ q. GivesCaptures q.asker) (catch_state s) r (catch_state t)
+  pub takes : TakesLentStep row_span AsksPikeRow GivesCaptures (pike_catches s) r (pike_catches t)
+
+abbrev pub pike_catches_next : CapturesMatches → Option (Result Captured SearchError) → CapturesMatches → Type 0
+pike_catches_next s r t = PikeCatchesNext s r t
+
+-- the calls keep the cache, and its numbers
+pub record CatchesKeepCache (s t : CapturesMatches) : Type 0 where
   pub cache : t.cache.ghost_name ≡ s.cache.ghost_name
+  pub numbers : SameNumbers s.cache.now t.cache.now
 
-abbrev pub catch_steps : CapturesMatches → Option (Result Captured SearchError) → CapturesMatches → Type 0
-catch_steps s r t = TakesCatchStep s r t
-
--- how many items may come
-abbrev pub catch_left : CapturesMatches → Count
-catch_left s = steps_left s.steps
+abbrev pub CatchesGiveCache : CapturesMatches → Type 0
+CatchesGiveCache s = GivesKept pike_catches_next CatchesKeepCache s

@@ -1,5 +1,5 @@
 -- A PikeVM and its cache as values, and when a cache fits.
-use Rattle.std.specs.Prelude.{◌≡◌, ℕ, ◌+◌, ◌-◌, ◌*◌, ◌^◌, ◌≤◌, max, min, Bool, List, Option, length, unwrap_or, nat_lt, if◌then◌else◌}
+use Rattle.std.specs.Prelude.{◌≡◌, ℕ, ◌+◌, ◌-◌, ◌*◌, ◌≤◌, max, Bool, List, Option, length, unwrap_or, nat_lt, if◌then◌else◌}
 use Rattle.std.specs.List.{sum_by}
 use Rattle.regex_search_core.specs.Groups.{slot_count}
 use Rattle.regex_search_core.specs.PatternSets.{size_of_set}
@@ -7,6 +7,7 @@ use Rattle.regex_search_core.specs.declared.search.MatchKind.{MatchKind}
 use Rattle.regex_search_core.specs.declared.search.MatchKind.TheVariants.{All, LeftmostFirst}
 use Rattle.thompson_nfa.specs.Automaton.{Automaton, Node}
 use Rattle.thompson_nfa.specs.Automaton.Node.{ByteRange, Sparse, Dense, Look, Union, BinaryUnion, Capture, Fail, Match}
+use Rattle.nfa_scanning.specs.Numbers.{saturated}
 
 -- an NFA, and which of several matches was asked for, if that was said
 pub record Pike : Type 0 where
@@ -52,7 +53,7 @@ overlap_scans All set = 1
 overlap_scans LeftmostFirst set = if nat_lt 0 (size_of_set set) then 0 else 1
 
 -- the scans and turns of the new search are the only ones that were added to those of all
-pub record AddsWork (old new : PikeCache) : Type 0 where
+pub record AddsPikeWork (old new : PikeCache) : Type 0 where
   pub scans : new.all_scans ≡ old.all_scans + new.scans
   pub turns : new.all_turns ≡ old.all_turns + new.turns
 
@@ -92,12 +93,8 @@ cache_for nfa = record {
   all_turns = 0;
 }
 
--- a number that stops at the greatest `usize`
-abbrev pub saturated : ℕ → ℕ
-saturated n = min n (2 ^ 64 - 1)
-
 -- The bytes that a cache holds: 24 for a frame; 8 for each slot of the row that a search fills and of those of the two
 -- sets, which have a row more than states; 4 for each state's mark and for each place of the two sets.
-abbrev pub memory_of : PikeCache → ℕ
-memory_of cache = saturated (24 * cache.places + 8 * ((2 * cache.states + 3) * cache.slots)
+abbrev pub pike_memory_of : PikeCache → ℕ
+pike_memory_of cache = saturated (24 * cache.places + 8 * ((2 * cache.states + 3) * cache.slots)
     + 4 * (3 * cache.states + 2))

@@ -1,67 +1,68 @@
 -- The iterator over the matches of a PikeVM.
-use Rattle.std.specs.Prelude.{◌≡◌, ◌⊎◌, Bool, Option}
+use Rattle.std.specs.Prelude.{◌≡◌, Option, Ok, option_map, Bool}
 use Rattle.std.specs.Borrow.{MutBor}
-use Rattle.std.specs.Iterator.{Count}
 use Rattle.regex_search_core.specs.Found.{Found, found_of}
 use Rattle.regex_search_core.specs.Search.{Search}
 use Rattle.regex_search_core.specs.declared.search.Match.{Match}
-use Rattle.nfa_search_base.specs.Lending.{With, lend}
-use Rattle.nfa_search_base.specs.Searchers.{walk_of}
+use Rattle.nfa_search_base.specs.EngineSearches.{AsksEngine, Knowing, MayFind}
+use Rattle.nfa_search_base.specs.Lending.{With}
+use Rattle.nfa_search_base.specs.Lent.{Lent, TakesLentStep}
+use Rattle.nfa_search_base.specs.Runs.{GivesKept}
 use Rattle.nfa_search_base.specs.Steps.{GivesItem}
-use Rattle.nfa_search_base.specs.Stored.{sure_left, takes_sure_steps}
+use Rattle.nfa_search_base.specs.Searchers.{walk_of}
 use Rattle.nfa_search_base.specs.Walks.{Answer, Walk, span_of}
 use Rattle.nfa_pikevm.specs.Engines.{Fits, Pike, PikeCache, SameNumbers}
-use Rattle.nfa_pikevm.specs.Finding.{IsFindOf, IsKnownFrom, SearchesOnce}
+use Rattle.nfa_pikevm.specs.Finding.{IsSureOf, PikeSearches, PikeTells}
 use Rattle.nfa_pikevm.specs.declared.find_iter.FindMatches.{FindMatches}
 use Rattle.nfa_pikevm.specs.declared.find_iter.Finder.{Finder}
-use Rattle.nfa_search_base.specs.declared.iter.steps.Steps.{Steps}
 
--- a PikeVM of one iteration, with the cache that it is lent
-abbrev pub Asked : Type 0
-Asked = With Finder PikeCache
+-- the PikeVM of an iteration, and what is known
+abbrev pub pike_knowing : Finder → Knowing Pike
+pike_knowing a = record { engine = a.engine.now; known = a.known }
 
--- the cache fits, and what is known is so of searches like this one
-pub record MayFind (s : Asked) (x : Search) : Type 0 where
-  pub fits : Fits s.cache s.asker.engine.now.nfa
-  pub knows : IsKnownFrom s.asker.engine.now x s.asker.known
-
--- A search by the PikeVM may answer this. It keeps the numbers of the cache; and it is made once, or not at all where
--- its answer was known.
-pub record AsksPike (s : Asked) (x : Search) (a : Answer Found) (t : Asked) : Type 0 where
-  pub finds : IsFindOf s.asker.engine.now x a
-  pub engine : t.asker.engine.now ≡ s.asker.engine.now
-  pub knows : IsKnownFrom t.asker.engine.now x t.asker.known
-  pub numbers : SameNumbers s.cache t.cache
-  pub work : (t.cache ≡ s.cache) ⊎ SearchesOnce s.asker.engine.now x s.cache t.cache
-
--- the iterator with what its cache shows
-abbrev pub find_state : FindMatches → Steps Asked
-find_state s = lend s.steps s.cache.now
-
--- where the iterator stands
-abbrev pub find_walk : FindMatches → Walk
-find_walk s = walk_of s.steps.searcher
-
--- the PikeVM that it asks
-abbrev pub find_engine : FindMatches → Pike
-find_engine s = s.steps.asker.engine.now
+-- the steps of the iterator, and the cache that it is lent
+abbrev pub pike_finds : FindMatches → Lent Finder PikeCache
+pike_finds s = record { steps = s.steps; cache = s.cache }
 
 -- the cache that it searches with
-abbrev pub find_cache : FindMatches → MutBor PikeCache
-find_cache s = s.cache
+abbrev pub pike_finds_cache : FindMatches → MutBor PikeCache
+pike_finds_cache s = s.cache
 
--- whether it has ended
-abbrev pub find_is_done : FindMatches → Bool
-find_is_done s = s.steps.done
+-- the engine that it asks
+abbrev pub pike_finds_engine : FindMatches → Pike
+pike_finds_engine s = s.steps.asker.engine.now
 
--- Nothing comes, and nothing changes, once it has ended; else it takes a step by searches of the PikeVM.
-pub record TakesFindStep (s : FindMatches) (r : Option Match) (t : FindMatches) : Type 0 where
-  pub step : takes_sure_steps span_of AsksPike (λ q. GivesItem found_of) (find_state s) r (find_state t)
+-- where it stands, and whether it has ended
+abbrev pub pike_finds_walk : FindMatches → Walk
+pike_finds_walk s = walk_of s.steps.searcher
+
+abbrev pub pike_finds_done : FindMatches → Bool
+pike_finds_done s = s.steps.done
+
+-- the cache fits the PikeVM
+abbrev pub fits_pike : PikeCache → Pike → Type 0
+fits_pike cache vm = Fits cache vm.nfa
+
+-- the PikeVM may be asked where the cache fits and what is known is so
+abbrev pub MayFindByPike : With Finder PikeCache → Search → Type 0
+MayFindByPike = MayFind IsSureOf pike_knowing fits_pike
+
+-- a search by the PikeVM may answer this
+abbrev pub AsksPike : With Finder PikeCache → Search → Answer Found → With Finder PikeCache → Type 0
+AsksPike = AsksEngine IsSureOf pike_knowing PikeTells (λ vm x a. PikeSearches vm x)
+
+-- a call
+pub record PikeFindsNext (s : FindMatches) (r : Option Match) (t : FindMatches) : Type 0 where
+  pub takes : TakesLentStep span_of AsksPike (λ _. GivesItem found_of) (pike_finds s)
+      (option_map (λ m. Ok m) r) (pike_finds t)
+
+abbrev pub pike_finds_next : FindMatches → Option Match → FindMatches → Type 0
+pike_finds_next s r t = PikeFindsNext s r t
+
+-- the calls keep the cache, and its numbers
+pub record KeepsCache (s t : FindMatches) : Type 0 where
   pub cache : t.cache.ghost_name ≡ s.cache.ghost_name
+  pub numbers : SameNumbers s.cache.now t.cache.now
 
-abbrev pub find_steps : FindMatches → Option Match → FindMatches → Type 0
-find_steps s r t = TakesFindStep s r t
-
--- how many items may come
-abbrev pub find_left : FindMatches → Count
-find_left s = sure_left s.steps
+abbrev pub GivesCache : FindMatches → Type 0
+GivesCache s = GivesKept pike_finds_next KeepsCache s

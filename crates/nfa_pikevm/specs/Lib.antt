@@ -6,6 +6,4 @@ pub mod Sizes
 pub mod Finding
 pub mod FindMatches
 pub mod Overlapping
-pub mod Runs
 pub mod CapturesMatches
-pub mod CaptureRuns

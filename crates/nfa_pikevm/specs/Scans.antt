@@ -123,7 +123,8 @@ module _ (nfa : Automaton) (x : Search) where
       × (pattern_of (node_at nfa state) ≡ Some (half_found_of half).pattern)
 
   -- the scan's answer is this path, of which the match and the slots are
-  pub record Finds (kind : MatchKind) (earliest : Bool) (half : HalfMatch) (slots : Slots) (turns : ℕ) : Type 0 where
+  pub record ScanFinds (kind : MatchKind) (earliest : Bool) (half : HalfMatch) (slots : Slots)
+      (turns : ℕ) : Type 0 where
     pub path : List Pair
     pub state : ℕ
     pub answers : IsScanAnswer nfa x kind earliest (Some path)
@@ -135,7 +136,7 @@ module _ (nfa : Automaton) (x : Search) where
   -- what a scan comes to, by as many turns
   abbrev pub Scans : MatchKind → Bool → Option HalfMatch → Slots → ℕ → Type 0
   Scans kind earliest None slots turns = IsScanAnswer nfa x kind earliest None × (slots ≡ blank (length slots))
-  Scans kind earliest (Some half) slots turns = Finds kind earliest half slots turns
+  Scans kind earliest (Some half) slots turns = ScanFinds kind earliest half slots turns
 
   -- the turns of one scan at most
   abbrev pub scan_turns : ℕ

@@ -36,7 +36,7 @@ pub record IsSizeOf (nfa : Automaton) (size : Size) : Type 0 where
   pub is_size : IsSize size
 
 -- No `usize` says how much that is: the places of a set, the cells of its rows or the places of the stack are too many.
-abbrev pub IsPast : Automaton → Type 0
-IsPast nfa =
+abbrev pub IsTooLarge : Automaton → Type 0
+IsTooLarge nfa =
     (2 ^ 64 ≤ length nfa.states + 1) ⊎ ((2 ^ 64 ≤ (length nfa.states + 1) * slot_count nfa.groups)
     ⊎ (2 ^ 64 ≤ stack_places nfa))

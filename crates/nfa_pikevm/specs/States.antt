@@ -44,14 +44,14 @@ abbrev pub unmarked : Marks → Marks
 unmarked met = record met { bits = replicate (length met.bits) false }
 
 -- what is left to do at the position, for a frame
-abbrev pub item_of : ℕ → FollowEpsilon → Item
-item_of at (Explore sid) = ToExplore (sid, at)
-item_of at (Restore slot old) = ToRestore slot old
+abbrev pub work_item_of : ℕ → FollowEpsilon → Item
+work_item_of at (Explore sid) = ToExplore (sid, at)
+work_item_of at (Restore slot old) = ToRestore slot old
 
 -- the frames of a stack, the top first, above some work
 abbrev pub work_onto : ℕ → List FollowEpsilon → List Item → List Item
 work_onto at [] work = work
-work_onto at (f ∷ fs) work = work_onto at fs (item_of at f ∷ work)
+work_onto at (f ∷ fs) work = work_onto at fs (work_item_of at f ∷ work)
 
 -- the work with a state to follow at the position, if there is one
 abbrev pub with_state : ℕ → Option ℕ → List Item → List Item
@@ -100,8 +100,8 @@ IsBelow states None = Unit {0}
 IsBelow states (Some s) = s < states
 
 -- each pair of the set is a Match
-abbrev pub AreMatches : Automaton → (Pair → Bool) → Type 0
-AreMatches nfa target = (v : Pair) → target v ≡ true → is_match nfa v ≡ true
+abbrev pub AreMatchPairs : Automaton → (Pair → Bool) → Type 0
+AreMatchPairs nfa target = (v : Pair) → target v ≡ true → is_match nfa v ≡ true
 
 -- a weight that counts states
 abbrev pub one_of : Node → ℕ
@@ -159,7 +159,7 @@ module _ (nfa : Automaton) (x : Search) where
   -- The search for any set of match pairs goes on from the state after as it did from the state before.
   pub record Follows (at : ℕ) (met : Marks) (front : Front) (work : List Item) (slots : Slots)
       (after : Marks) (more : Front) (rest : List Item) (written : Slots) : Type 0 where
-    pub leads : (target : Pair → Bool) → AreMatches nfa target
+    pub leads : (target : Pair → Bool) → AreMatchPairs nfa target
         → (starts : List Pair) (entry : Slots) (otherwise : Found)
         → SearchingAt at target starts entry otherwise met front work slots
         → SearchingAt at target starts entry otherwise after more rest written

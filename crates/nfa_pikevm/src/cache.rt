@@ -1,6 +1,6 @@
 //! The cache that a PikeVM searches with, and whether it fits.
 ghost use Rattle.std.specs.Prelude.{◌≡◌, ◌↔◌, IfOk, OnOk, OnErr, IsOkUnless, IsTrue};
-ghost use Rattle.nfa_pikevm.specs.Engines.{Fits, cache_for, refitted, memory_of};
+ghost use Rattle.nfa_pikevm.specs.Engines.{Fits, cache_for, refitted, pike_memory_of};
 
 use crate::engine::PikeVM;
 use crate::sizes::{make_room, size_for, stack_places};
@@ -133,7 +133,7 @@ impl Cache {
     /// The bytes that the entries of the cache take: 24 for a frame of the stack, 8 for a slot, 4 for each state's mark
     /// and each place of the two sets of states. The sum stops at the greatest `usize`.
     pub fn memory_usage(&self) -> usize
-        ensures { result ≡ memory_of self.now }
+        ensures { result ≡ pike_memory_of self.now }
     {
         let states = self.threads.seen.len();
         let rows = states.saturating_mul(2).saturating_add(3);

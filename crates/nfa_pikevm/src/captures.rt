@@ -3,7 +3,7 @@ ghost use Rattle.std.specs.Prelude.{◌≡◌, ◌+◌, ◌*◌, ◌<◌, ◌≤
 ghost use Rattle.regex_search_core.specs.Search.{search_of};
 ghost use Rattle.nfa_paths.specs.Paths.{span_len, turn_weight, scan_limit, IsAnswer, IsWork};
 ghost use Rattle.nfa_search_base.specs.Lists.{IsSlotInside};
-ghost use Rattle.nfa_pikevm.specs.Engines.{AddsWork, Fits, SameNumbers, kind_of};
+ghost use Rattle.nfa_pikevm.specs.Engines.{AddsPikeWork, Fits, SameNumbers, kind_of};
 
 use crate::cache::Cache;
 use crate::engine::PikeVM;
@@ -27,7 +27,7 @@ impl PikeVM {
         ensures inside { All (IsSlotInside (search_of input.now)) captures.new.slots }
 
         ensures numbers { SameNumbers cache.old cache.new }
-        ensures total { AddsWork cache.old cache.new }
+        ensures total { AddsPikeWork cache.old cache.new }
 
         ensures work { let x = search_of input.now in
             IsWork self.now.nfa (kind_of self.now) x.earliest x cache.new.scans cache.new.turns }
@@ -55,7 +55,7 @@ impl PikeVM {
         ensures inside { All (IsSlotInside (search_of input.entry)) captures.new.slots }
 
         ensures numbers { SameNumbers cache.old cache.new }
-        ensures total { AddsWork cache.old cache.new }
+        ensures total { AddsPikeWork cache.old cache.new }
 
         ensures work { let x = search_of input.entry in
             IsWork self.now.nfa (kind_of self.now) x.earliest x cache.new.scans cache.new.turns }

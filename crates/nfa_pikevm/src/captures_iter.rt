@@ -44,12 +44,15 @@ impl<'r> Model for Catcher<'r> {
 impl PikeVM {
     ghost use Rattle.std.specs.Prelude.{◌≡◌, false, IfOk, IsOkUnless};
     ghost use Rattle.regex_search_core.specs.Search.{search_of};
+    ghost use Rattle.nfa_search_base.specs.CapturesGiven.{CapturesGiven};
+    ghost use Rattle.nfa_search_base.specs.CaughtLists.{TellsRow};
+    ghost use Rattle.nfa_search_base.specs.CaughtRuns.{CapturesApart, CapturesFirst, CapturesGroups, CapturesMemory};
+    ghost use Rattle.nfa_search_base.specs.CaughtRuns.{CapturesNext, CapturesRun, CapturesWithin, MatchesInAll};
+    ghost use Rattle.nfa_search_base.specs.CaughtRuns.{MatchesInFirst, MatchesInNext, MatchesInRun, RowsRun};
     ghost use Rattle.nfa_search_base.specs.Walks.{fresh};
-    ghost use Rattle.nfa_pikevm.specs.CapturesMatches.{catch_cache, catch_engine, catch_is_done, catch_walk};
-    ghost use Rattle.nfa_pikevm.specs.CaptureRuns.{CatchesAllMatches, CatchesApart, CatchesFirst, CatchesFirstMatches};
-    ghost use Rattle.nfa_pikevm.specs.CaptureRuns.{CatchesGiveCache, CatchesGroups, CatchesMatch, CatchesMemory};
-    ghost use Rattle.nfa_pikevm.specs.CaptureRuns.{CatchesNext, CatchesNextMatch, CatchesRows, CatchesRun};
-    ghost use Rattle.nfa_pikevm.specs.CaptureRuns.{CatchesWithin};
+    ghost use Rattle.nfa_pikevm.specs.CapturesMatches.{CatchesGiveCache, pike_catches_cache, pike_catches_done};
+    ghost use Rattle.nfa_pikevm.specs.CapturesMatches.{pike_catches_engine, pike_catches_next, pike_catches_walk};
+    ghost use Rattle.nfa_pikevm.specs.Engines.{kind_of};
 
     /// The captures of the matches of the input that do not overlap, from left to right, each with all groups of the
     /// NFA. The caller owes a cache that fits. To make this changes no cache. The error is that there is no memory for
@@ -67,25 +70,33 @@ impl PikeVM {
     ) -> Result<CapturesMatches<'r, 'c, 'h>, SearchError>
         requires { Fits cache.old self.now.nfa }
         ensures memory { IsOkUnless result SearchError.Memory }
-        ensures same_reference { IfOk result (λ made. (catch_cache made).ghost_name ≡ cache.entry.ghost_name) }
-        ensures same_cache { IfOk result (λ made. (catch_cache made).now ≡ cache.entry.now) }
-        ensures engine { IfOk result (λ made. catch_engine made ≡ self.now) }
-        ensures walk { IfOk result (λ made. catch_walk made ≡ fresh (search_of input.entry)) }
-        ensures going { IfOk result (λ made. catch_is_done made ≡ false) }
+        ensures same_reference { IfOk result (λ made. (pike_catches_cache made).ghost_name ≡ cache.entry.ghost_name) }
+        ensures same_cache { IfOk result (λ made. (pike_catches_cache made).now ≡ cache.entry.now) }
+        ensures engine { IfOk result (λ made. pike_catches_engine made ≡ self.now) }
+        ensures walk { IfOk result (λ made. pike_catches_walk made ≡ fresh (search_of input.entry)) }
+        ensures going { IfOk result (λ made. pike_catches_done made ≡ false) }
         // Each run of calls gives the first captures of the input, and all of them where it goes on to `None`.
-        ensures runs { IfOk result (CatchesRun self.now (search_of input.entry)) }
-        ensures first { IfOk result (CatchesFirst self.now (search_of input.entry)) }
-        ensures next { IfOk result (CatchesNext self.now (search_of input.entry)) }
-        ensures errors { IfOk result CatchesMemory }
+        ensures runs { IfOk result (CapturesRun pike_catches_next
+            (TellsRow self.now.nfa (kind_of self.now) (search_of input.entry).earliest) (search_of input.entry)) }
+        ensures first { IfOk result (CapturesFirst pike_catches_next
+            (TellsRow self.now.nfa (kind_of self.now) (search_of input.entry).earliest) (search_of input.entry)) }
+        ensures next { IfOk result (CapturesNext pike_catches_next
+            (TellsRow self.now.nfa (kind_of self.now) (search_of input.entry).earliest) (search_of input.entry)) }
+        ensures errors { IfOk result (CapturesMemory pike_catches_next) }
         // Where no copy is refused, their rows and their matches are those of the input.
-        ensures rows { IfOk result (CatchesRows self.now (search_of input.entry)) }
-        ensures matches { IfOk result (CatchesMatch self.now (search_of input.entry)) }
-        ensures first_matches { IfOk result (CatchesFirstMatches self.now (search_of input.entry)) }
-        ensures next_match { IfOk result (CatchesNextMatch self.now (search_of input.entry)) }
-        ensures all_matches { IfOk result (CatchesAllMatches self.now (search_of input.entry)) }
-        ensures groups { IfOk result (CatchesGroups self.now) }
-        ensures inside { IfOk result (CatchesWithin (search_of input.entry)) }
-        ensures apart { IfOk result (CatchesApart (search_of input.entry)) }
+        ensures rows { IfOk result (RowsRun pike_catches_next self.now.nfa (kind_of self.now)
+            (search_of input.entry).earliest (search_of input.entry)) }
+        ensures matches { IfOk result (MatchesInRun pike_catches_next self.now.nfa (kind_of self.now)
+            (search_of input.entry).earliest (search_of input.entry)) }
+        ensures first_matches { IfOk result (MatchesInFirst pike_catches_next self.now.nfa (kind_of self.now)
+            (search_of input.entry).earliest (search_of input.entry)) }
+        ensures next_match { IfOk result (MatchesInNext pike_catches_next self.now.nfa (kind_of self.now)
+            (search_of input.entry).earliest (search_of input.entry)) }
+        ensures all_matches { IfOk result (MatchesInAll pike_catches_next self.now.nfa (kind_of self.now)
+            (search_of input.entry).earliest (search_of input.entry)) }
+        ensures groups { IfOk result (CapturesGroups pike_catches_next self.now.nfa) }
+        ensures inside { IfOk result (CapturesWithin pike_catches_next (search_of input.entry)) }
+        ensures apart { IfOk result (CapturesApart pike_catches_next (search_of input.entry)) }
         ensures keeps { IfOk result CatchesGiveCache }
     {
         let captures = self.create_captures(alloc)?;
@@ -103,25 +114,56 @@ impl PikeVM {
     ) -> CapturesMatches<'r, 'c, 'h>
         requires fits { Fits cache.old self.now.nfa }
         requires holds { HasGroups self.now.nfa captures }
-        ensures same_reference { (catch_cache result).ghost_name ≡ cache.entry.ghost_name }
-        ensures same_cache { (catch_cache result).now ≡ cache.entry.now }
-        ensures engine { catch_engine result ≡ self.now }
-        ensures walk { catch_walk result ≡ fresh (search_of input.entry) }
-        ensures going { catch_is_done result ≡ false }
+        ensures same_reference { (pike_catches_cache result).ghost_name ≡ cache.entry.ghost_name }
+        ensures same_cache { (pike_catches_cache result).now ≡ cache.entry.now }
+        ensures engine { pike_catches_engine result ≡ self.now }
+        ensures walk { pike_catches_walk result ≡ fresh (search_of input.entry) }
+        ensures going { pike_catches_done result ≡ false }
         // Each run of calls gives the first captures of the input, and all of them where it goes on to `None`.
-        ensures runs { CatchesRun self.now (search_of input.entry) result }
-        ensures first { CatchesFirst self.now (search_of input.entry) result }
-        ensures next { CatchesNext self.now (search_of input.entry) result }
-        ensures errors { CatchesMemory result }
+        ensures runs { CapturesRun pike_catches_next
+            (TellsRow self.now.nfa (kind_of self.now) (search_of input.entry).earliest) (search_of input.entry) result }
+        ensures first { CapturesFirst pike_catches_next
+            (TellsRow self.now.nfa (kind_of self.now) (search_of input.entry).earliest) (search_of input.entry) result }
+        ensures next { CapturesNext pike_catches_next
+            (TellsRow self.now.nfa (kind_of self.now) (search_of input.entry).earliest) (search_of input.entry) result }
+        ensures errors { CapturesMemory pike_catches_next result }
         // Where no copy is refused, their rows and their matches are those of the input.
-        ensures rows { CatchesRows self.now (search_of input.entry) result }
-        ensures matches { CatchesMatch self.now (search_of input.entry) result }
-        ensures first_matches { CatchesFirstMatches self.now (search_of input.entry) result }
-        ensures next_match { CatchesNextMatch self.now (search_of input.entry) result }
-        ensures all_matches { CatchesAllMatches self.now (search_of input.entry) result }
-        ensures groups { CatchesGroups self.now result }
-        ensures inside { CatchesWithin (search_of input.entry) result }
-        ensures apart { CatchesApart (search_of input.entry) result }
+        ensures rows { RowsRun pike_catches_next self.now.nfa (kind_of self.now)
+            (search_of input.entry).earliest (search_of input.entry) result }
+        ensures matches { MatchesInRun pike_catches_next self.now.nfa (kind_of self.now)
+            (search_of input.entry).earliest (search_of input.entry) result }
+        ensures first_matches { MatchesInFirst pike_catches_next self.now.nfa (kind_of self.now)
+            (search_of input.entry).earliest (search_of input.entry) result }
+        ensures next_match { MatchesInNext pike_catches_next self.now.nfa (kind_of self.now)
+            (search_of input.entry).earliest (search_of input.entry) result }
+        ensures all_matches { MatchesInAll pike_catches_next self.now.nfa (kind_of self.now)
+            (search_of input.entry).earliest (search_of input.entry) result }
+        ensures groups { CapturesGroups pike_catches_next self.now.nfa result }
+        ensures inside { CapturesWithin pike_catches_next (search_of input.entry) result }
+        ensures apart { CapturesApart pike_catches_next (search_of input.entry) result }
+        ensures keeps { CatchesGiveCache result }
+    {
+        self.catch_from(cache, input, captures)
+    }
+
+    // The iterator that searches with these captures.
+    #[inline]
+    fn catch_from<'r, 'c, 'h>(
+        &'r self,
+        cache: &'c mut Cache,
+        input: Input<'h>,
+        captures: Captures,
+    ) -> CapturesMatches<'r, 'c, 'h>
+        requires fits { Fits cache.old self.now.nfa }
+        requires holds { HasGroups self.now.nfa captures }
+        ensures same_reference { (pike_catches_cache result).ghost_name ≡ cache.entry.ghost_name }
+        ensures same_cache { (pike_catches_cache result).now ≡ cache.entry.now }
+        ensures engine { pike_catches_engine result ≡ self.now }
+        ensures walk { pike_catches_walk result ≡ fresh (search_of input.entry) }
+        ensures going { pike_catches_done result ≡ false }
+        ensures given { CapturesGiven pike_catches_next self.now.nfa (kind_of self.now) (search_of input.entry).earliest
+            (TellsRow self.now.nfa (kind_of self.now) (search_of input.entry).earliest) (search_of input.entry) result }
+        ensures errors { CapturesMemory pike_catches_next result }
         ensures keeps { CatchesGiveCache result }
     {
         CapturesMatches {
@@ -140,7 +182,7 @@ impl PikeVM {
 
 impl<'r> Searches for Catcher<'r> {
     ghost use Rattle.nfa_search_base.specs.Catching.{Row, caught_by, row_span, GivesCaptures};
-    ghost use Rattle.nfa_pikevm.specs.CapturesMatches.{AsksPikeRow, MayCatch};
+    ghost use Rattle.nfa_pikevm.specs.CapturesMatches.{AsksPikeRow, MayCatchByPike};
 
     type Cache = Cache;
 
@@ -152,7 +194,7 @@ impl<'r> Searches for Catcher<'r> {
 
     ghost span = { row_span };
 
-    ghost accepts = { λ s _. MayCatch s };
+    ghost accepts = { λ s _. MayCatchByPike s };
 
     type Item = Captures;
 
@@ -178,13 +220,14 @@ impl<'r> Searches for Catcher<'r> {
 }
 
 impl<'r, 'c, 'h> Iterator for CapturesMatches<'r, 'c, 'h> {
-    ghost use Rattle.nfa_pikevm.specs.CapturesMatches.{catch_steps, catch_left};
+    ghost use Rattle.nfa_search_base.specs.Lent.{lent_left};
+    ghost use Rattle.nfa_pikevm.specs.CapturesMatches.{pike_catches, pike_catches_next};
 
     type Item = Result<Captures, SearchError>;
 
-    ghost next_gives = { catch_steps };
+    ghost next_gives = { pike_catches_next };
 
-    ghost remaining = { catch_left };
+    ghost remaining = { λ s. lent_left (pike_catches s) };
 
     fn next(&mut self) -> Option<Result<Captures, SearchError>> {
         self.steps.next_with(self.cache)

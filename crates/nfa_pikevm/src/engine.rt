@@ -7,7 +7,7 @@ ghost use Rattle.regex_search_core.specs.Found.{found_of};
 ghost use Rattle.thompson_nfa.specs.Simple.{always, never};
 ghost use Rattle.nfa_paths.specs.Overlaps.{IsOverlapResult};
 ghost use Rattle.nfa_paths.specs.Paths.{span_len, turn_weight, scan_limit, is_utf8_empty, IsAnswer, IsMatchAnswer, IsFoundAnswer, IsWork};
-ghost use Rattle.nfa_pikevm.specs.Engines.{AddsWork, Fits, SameNumbers, kind_of, cache_for, refitted, overlap_scans};
+ghost use Rattle.nfa_pikevm.specs.Engines.{AddsPikeWork, Fits, SameNumbers, kind_of, cache_for, refitted, overlap_scans};
 ghost use Rattle.nfa_pikevm.specs.Scans.{HaveRoom, SameSizes, scan_turns, Serves, Sizes, AreSized};
 ghost use Rattle.nfa_search_base.specs.Lists.{IsInside, IsSlotInside};
 
@@ -173,7 +173,7 @@ impl PikeVM {
         ensures inside { All (IsSlotInside (search_of input.now)) slots.new }
 
         ensures numbers { SameNumbers cache.old cache.new }
-        ensures total { AddsWork cache.old cache.new }
+        ensures total { AddsPikeWork cache.old cache.new }
 
         // What was done for it: exactly one scan more than restarts, within stated bounds.
         ensures work { IsWork self.now.nfa (kind_of self.now) (search_of input.now).earliest (search_of input.now) cache.new.scans
@@ -275,7 +275,7 @@ impl PikeVM {
         ensures inside { IfSome result (λ m. IsInside (search_of input.entry) (found_of m)) }
 
         ensures numbers { SameNumbers cache.old cache.new }
-        ensures total { AddsWork cache.old cache.new }
+        ensures total { AddsPikeWork cache.old cache.new }
 
         ensures work { IsWork self.now.nfa (kind_of self.now) (search_of input.entry).earliest (search_of input.entry)
             cache.new.scans cache.new.turns }
@@ -304,7 +304,7 @@ impl PikeVM {
         ensures answer { IsFoundAnswer self.now.nfa (kind_of self.now) false (search_of input.entry) result }
 
         ensures numbers { SameNumbers cache.old cache.new }
-        ensures total { AddsWork cache.old cache.new }
+        ensures total { AddsPikeWork cache.old cache.new }
 
         ensures work { IsWork self.now.nfa (kind_of self.now) (not (is_utf8_empty self.now.nfa)) (search_of input.entry)
             cache.new.scans cache.new.turns }
@@ -338,7 +338,7 @@ impl PikeVM {
             patterns.old patterns.new }
 
         ensures numbers { SameNumbers cache.old cache.new }
-        ensures total { AddsWork cache.old cache.new }
+        ensures total { AddsPikeWork cache.old cache.new }
 
         // One scan, or none where the first match alone is meant and the set holds a pattern.
         ensures scans { cache.new.scans ≡ overlap_scans (kind_of self.now) patterns.old }

@@ -1,14 +1,15 @@
 //! Iteration over the matches of an input.
-ghost use Rattle.std.specs.Prelude.{◌≡◌, Some};
-ghost use Rattle.std.specs.Option.{ForSome};
+ghost use Rattle.std.specs.Prelude.{◌≡◌};
 ghost use Rattle.regex_search_core.specs.Search.{search_of};
+ghost use Rattle.nfa_search_base.specs.EngineSearches.{IsKnownFrom};
 ghost use Rattle.nfa_search_base.specs.Stored.{steps_walk};
 ghost use Rattle.nfa_pikevm.specs.Engines.{Fits};
-ghost use Rattle.nfa_pikevm.specs.Finding.{IsKnownFrom};
+ghost use Rattle.nfa_pikevm.specs.Finding.{IsSureOf};
 
 use crate::cache::Cache;
 use crate::engine::PikeVM;
 use nfa_search_base::error::SearchError;
+use nfa_search_base::iter::finding::{ending_at, found_item, found_span};
 use nfa_search_base::iter::{Searcher, Searches, Steps};
 use regex_search_core::{Input, Match, Span};
 use std::alloc::{AllocError, Global};
@@ -21,10 +22,11 @@ pub struct FindMatches<'r, 'c, 'h> {
     cache: &'c mut Cache,
     steps: Steps<'h, Finder<'r>>,
     ghost fits: { Fits cache.now steps.asker.engine.now.nfa },
-    ghost knows: { IsKnownFrom steps.asker.engine.now (steps_walk steps).at steps.asker.known },
+    ghost knows: { IsKnownFrom IsSureOf steps.asker.engine.now (steps_walk steps).at steps.asker.known },
 }
 
-// A PikeVM that answers the searches of one iteration.
+// A PikeVM that answers the searches of one iteration. It has no model: a caller of the iterator would not learn then
+// what the cache ends as.
 #[derive(Debug, Drop)]
 struct Finder<'r> {
     engine: &'r PikeVM,
@@ -38,8 +40,8 @@ impl PikeVM {
     ghost use Rattle.nfa_search_base.specs.Lists.{AreMatches, AreApart, IsInside};
     ghost use Rattle.nfa_search_base.specs.Walks.{fresh};
     ghost use Rattle.nfa_pikevm.specs.Engines.{SameNumbers, kind_of};
-    ghost use Rattle.nfa_pikevm.specs.FindMatches.{find_cache, find_engine, find_is_done, find_steps, find_walk};
-    ghost use Rattle.nfa_pikevm.specs.Runs.{GivesCache};
+    ghost use Rattle.nfa_pikevm.specs.FindMatches.{GivesCache, pike_finds_cache, pike_finds_done};
+    ghost use Rattle.nfa_pikevm.specs.FindMatches.{pike_finds_engine, pike_finds_next, pike_finds_walk};
     ghost use Rattle.nfa_search_base.specs.MatchRuns.{MatchesRun, MatchesAre, MatchesApart, MatchesFirst, MatchesNext};
 
     /// The matches of the input that do not overlap, from left to right. To make this takes no memory. The caller owes
@@ -54,17 +56,17 @@ impl PikeVM {
         input: Input<'h>,
     ) -> FindMatches<'r, 'c, 'h>
         requires { Fits cache.old self.now.nfa }
-        ensures same_reference { (find_cache result).ghost_name ≡ cache.entry.ghost_name }
-        ensures same_cache { (find_cache result).now ≡ cache.entry.now }
-        ensures engine { find_engine result ≡ self.now }
-        ensures walk { find_walk result ≡ fresh (search_of input.entry) }
-        ensures going { find_is_done result ≡ false }
+        ensures same_reference { (pike_finds_cache result).ghost_name ≡ cache.entry.ghost_name }
+        ensures same_cache { (pike_finds_cache result).now ≡ cache.entry.now }
+        ensures engine { pike_finds_engine result ≡ self.now }
+        ensures walk { pike_finds_walk result ≡ fresh (search_of input.entry) }
+        ensures going { pike_finds_done result ≡ false }
         // Each run of calls gives the first matches of the input, and all of them where it goes on to `None`.
-        ensures runs { MatchesRun self.now.nfa (kind_of self.now) (search_of input.entry) find_steps result }
-        ensures are { MatchesAre self.now.nfa (kind_of self.now) (search_of input.entry) find_steps result }
-        ensures apart { MatchesApart self.now.nfa (kind_of self.now) (search_of input.entry) find_steps result }
-        ensures first { MatchesFirst self.now.nfa (kind_of self.now) (search_of input.entry) find_steps result }
-        ensures next { MatchesNext self.now.nfa (kind_of self.now) (search_of input.entry) find_steps result }
+        ensures runs { MatchesRun self.now.nfa (kind_of self.now) (search_of input.entry) pike_finds_next result }
+        ensures are { MatchesAre self.now.nfa (kind_of self.now) (search_of input.entry) pike_finds_next result }
+        ensures apart { MatchesApart self.now.nfa (kind_of self.now) (search_of input.entry) pike_finds_next result }
+        ensures first { MatchesFirst self.now.nfa (kind_of self.now) (search_of input.entry) pike_finds_next result }
+        ensures next { MatchesNext self.now.nfa (kind_of self.now) (search_of input.entry) pike_finds_next result }
         ensures keeps { GivesCache result }
     {
         FindMatches {
@@ -108,7 +110,7 @@ impl<'r> Searches for Finder<'r> {
     ghost use Rattle.nfa_search_base.specs.Steps.{GivesItem};
     ghost use Rattle.nfa_search_base.specs.Walks.{span_of};
     ghost use Rattle.nfa_pikevm.specs.Finding.{answer_of};
-    ghost use Rattle.nfa_pikevm.specs.FindMatches.{AsksPike, MayFind};
+    ghost use Rattle.nfa_pikevm.specs.FindMatches.{AsksPike, MayFindByPike};
 
     type Cache = Cache;
 
@@ -120,7 +122,7 @@ impl<'r> Searches for Finder<'r> {
 
     ghost span = { span_of };
 
-    ghost accepts = { MayFind };
+    ghost accepts = { MayFindByPike };
 
     type Item = Match;
 
@@ -141,40 +143,24 @@ impl<'r> Searches for Finder<'r> {
 
     #[inline]
     fn place(&self, reply: Option<Match>) -> Option<Span> {
-        match reply {
-            Some(found) => Some(found.span()),
-            None => None,
-        }
+        found_span(reply)
     }
 
     #[inline]
     fn item(&self, reply: Option<Match>) -> Option<Result<Match, SearchError>> {
-        match reply {
-            Some(found) => Some(Ok(found)),
-            None => None,
-        }
-    }
-}
-
-// The match if it ends there, else none.
-#[inline]
-fn ending_at(end: usize, found: Option<Match>) -> Option<Match>
-    ensures { ForSome result (λ m. (found ≡ Some m) × (m.span.end ≡ end)) }
-{
-    match found {
-        Some(last) => { if last.end() == end { Some(last) } else { None } }
-        None => None,
+        found_item(reply)
     }
 }
 
 impl<'r, 'c, 'h> Iterator for FindMatches<'r, 'c, 'h> {
-    ghost use Rattle.nfa_pikevm.specs.FindMatches.{find_steps, find_left};
+    ghost use Rattle.nfa_search_base.specs.Lent.{lent_sure_left};
+    ghost use Rattle.nfa_pikevm.specs.FindMatches.{pike_finds, pike_finds_next};
 
     type Item = Match;
 
-    ghost next_gives = { find_steps };
+    ghost next_gives = { pike_finds_next };
 
-    ghost remaining = { find_left };
+    ghost remaining = { λ s. lent_sure_left (pike_finds s) };
 
     fn next(&mut self) -> Option<Match> {
         match self.steps.next_with(self.cache) {

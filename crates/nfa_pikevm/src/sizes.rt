@@ -3,7 +3,7 @@ ghost use Rattle.std.specs.Prelude.{◌≡◌, ◌^◌, ◌≤◌, IfSome, IfNon
 ghost use Rattle.std.specs.List.{sum_by};
 ghost use Rattle.thompson_nfa.specs.Automaton.{node_of};
 ghost use Rattle.nfa_pikevm.specs.Engines.{room_of, stack_places};
-ghost use Rattle.nfa_pikevm.specs.Sizes.{IsRoomFor, IsSize, IsSizeOf, IsPast};
+ghost use Rattle.nfa_pikevm.specs.Sizes.{IsRoomFor, IsSize, IsSizeOf, IsTooLarge};
 
 use crate::frame::FollowEpsilon;
 use crate::room::{refill, reserve};
@@ -57,7 +57,7 @@ pub fn stack_places(nfa: &NFA) -> Option<usize>
 /// How much a search of the NFA needs, if a `usize` can say it.
 pub fn size_for(nfa: &NFA) -> Option<Size>
     ensures value { IfSome result (λ size. IsSizeOf nfa.now size) }
-    ensures past { IfNone result (IsPast nfa.now) }
+    ensures past { IfNone result (IsTooLarge nfa.now) }
 {
     let states = nfa.states().len();
     let slots = nfa.group_info().slot_len();

@@ -15,7 +15,7 @@ use Rattle.nfa_paths.specs.Graphs.{Pair, In}
 use Rattle.nfa_paths.specs.FirstPaths.{Path}
 use Rattle.nfa_paths.specs.FirstPaths.Path.{stop, go}
 use Rattle.nfa_paths.specs.Paths.{node_at, pattern_of, edges, edges_of, is_match, byte_at, target_on, first_target, holds_byte}
-use Rattle.nfa_scanning.specs.FirstBytes.{Admits, Grows, IsReached, Extends, Covers, IsRefused, IsFirstBytes}
+use Rattle.nfa_scanning.specs.FirstBytes.{Admits, Grows, WasReached, Extends, Covers, IsRefused, IsFirstBytes}
 use Rattle.nfa_scanning.specs.declared.first_bytes.Reached.{Reached}
 
 -- tables
@@ -65,8 +65,8 @@ Extends-then f g = record {
   same = λ k h. g.same k (omega (arith, f.more)) ∙ f.same k h;
 }
 
-pub IsReached-extends : {a b : Reached} {s : ℕ} → Extends a b → IsReached a s → IsReached b s
-IsReached-extends f r = record {
+pub WasReached-extends : {a b : Reached} {s : ℕ} → Extends a b → WasReached a s → WasReached b s
+WasReached-extends f r = record {
   place = r.place;
   below = omega (arith, f.more, r.below);
   is =
@@ -79,10 +79,10 @@ pub Covers-more : (a b : Reached) (t u : List Bool) → Extends a b → Grows t 
 Covers-more a b t u f g (ByteRange trans) c = λ k s e. g.still k (c k s e)
 Covers-more a b t u f g (Sparse ts) c = λ k s e. g.still k (c k s e)
 Covers-more a b t u f g (Dense targets) c = λ k s e. g.still k (c k s e)
-Covers-more a b t u f g (Look look next) c = IsReached-extends f c
-Covers-more a b t u f g (Union alternates) c = λ k d h. IsReached-extends f (c k d h)
-Covers-more a b t u f g (BinaryUnion alt1 alt2) c = (IsReached-extends f c.0, IsReached-extends f c.1)
-Covers-more a b t u f g (Capture next slot) c = IsReached-extends f c
+Covers-more a b t u f g (Look look next) c = WasReached-extends f c
+Covers-more a b t u f g (Union alternates) c = λ k d h. WasReached-extends f (c k d h)
+Covers-more a b t u f g (BinaryUnion alt1 alt2) c = (WasReached-extends f c.0, WasReached-extends f c.1)
+Covers-more a b t u f g (Capture next slot) c = WasReached-extends f c
 Covers-more a b t u f g Fail c = tt
 Covers-more a b t u f g (Match pattern) c = c
 
@@ -106,7 +106,7 @@ module _ (nfa : Automaton) where
   -- all that was reached is covered
   pub covers-all : (r : Reached) (table : List Bool) (done : ℕ) → r.len ≤ done
       → ((k : ℕ) → k < done → Covers r table (node_at nfa (get_or r.states k 0)))
-      → (s : ℕ) → IsReached r s → Covers r table (node_at nfa s)
+      → (s : ℕ) → WasReached r s → Covers r table (node_at nfa s)
   covers-all r table done all below s i = rw (← i.is) (below i.place (omega (arith, i.below)))
 
 -- the byte at a position before the end of the span
@@ -118,17 +118,17 @@ byte_at-inside x at less fits =
 
 -- edges
 
-lands : (r : Reached) (next at : ℕ) (w : Pair) → w ≡ (next, at) → IsReached r next → (w.1 ≡ at) × IsReached r w.0
-lands r next at w e reached = (ap (λ (v : Pair). v.1) e, subst (λ (v : Pair). IsReached r v.0) (sym e) reached)
+lands : (r : Reached) (next at : ℕ) (w : Pair) → w ≡ (next, at) → WasReached r next → (w.1 ≡ at) × WasReached r w.0
+lands r next at w e reached = (ap (λ (v : Pair). v.1) e, subst (λ (v : Pair). WasReached r v.0) (sym e) reached)
 
-lands-among : (r : Reached) (at : ℕ) (w : Pair) (es : List ℕ) → All (IsReached r) es
-    → In w (map (λ next. (next, at)) es) → (w.1 ≡ at) × IsReached r w.0
+lands-among : (r : Reached) (at : ℕ) (w : Pair) (es : List ℕ) → All (WasReached r) es
+    → In w (map (λ next. (next, at)) es) → (w.1 ≡ at) × WasReached r w.0
 lands-among r at w [] all i = absurd i
 lands-among r at w (e ∷ es) all (inl same) = lands r e at w same (all 0 e (omega arith))
 lands-among r at w (e ∷ es) all (inr i) = lands-among r at w es (λ k d h. all (suc k) d (omega arith)) i
 
 lands-if : (r : Reached) (next at : ℕ) (w : Pair) (holds : Bool) → In w (if holds then (next, at) ∷ [] else [])
-    → IsReached r next → (w.1 ≡ at) × IsReached r w.0
+    → WasReached r next → (w.1 ≡ at) × WasReached r w.0
 lands-if r next at w true (inl e) reached = lands r next at w e reached
 lands-if r next at w true (inr never) reached = absurd never
 lands-if r next at w false i reached = absurd i
@@ -150,7 +150,7 @@ no-target table x node at f admits w i =
 
 module _ (r : Reached) (table : List Bool) (x : Search) (at : ℕ) (f : IsRefused table x at) where
   edge-lands : (node : Node) → Covers r table node → (w : Pair) → In w (edges_of x node at)
-      → (w.1 ≡ at) × IsReached r w.0
+      → (w.1 ≡ at) × WasReached r w.0
   unfolding edges_of
   edge-lands (ByteRange trans) c w i = absurd (no-target table x (ByteRange trans) at f c w i)
   edge-lands (Sparse ts) c w i = absurd (no-target table x (Sparse ts) at f c w i)
@@ -178,16 +178,16 @@ no-match r table Fail c e = cc
 
 module _ (nfa : Automaton) (table : List Bool) where
   -- where all that is reached is covered, a path from there on a byte that is refused ends nowhere
-  no-path : (r : Reached) → ((s : ℕ) → IsReached r s → Covers r table (node_at nfa s)) → (x : Search)
+  no-path : (r : Reached) → ((s : ℕ) → WasReached r s → Covers r table (node_at nfa s)) → (x : Search)
       → {v : Pair} {p : List Pair}
-      → Path (edges nfa x) (is_match nfa) v p → IsReached r v.0 → IsRefused table x v.1 → ⊥
+      → Path (edges nfa x) (is_match nfa) v p → WasReached r v.0 → IsRefused table x v.1 → ⊥
   no-path r covers x (stop {v = v} t) at f = no-match r table (node_at nfa v.0) (covers v.0 at) t
   no-path r covers x (go {v = v} {w = w} t i n h) at f =
       let s = edge-lands r table x v.1 f (node_at nfa v.0) (covers v.0 at) w i in
       no-path r covers x h s.1 (rw s.0 f)
 
-  pub IsFirstBytes-covered : (r : Reached) → IsReached r nfa.anchored
-      → ((s : ℕ) → IsReached r s → Covers r table (node_at nfa s))
+  pub IsFirstBytes-covered : (r : Reached) → WasReached r nfa.anchored
+      → ((s : ℕ) → WasReached r s → Covers r table (node_at nfa s))
       → IsFirstBytes nfa table
   IsFirstBytes-covered r start covers = record { none = λ x at f marks p a. no-path r covers x a.path start f }
 

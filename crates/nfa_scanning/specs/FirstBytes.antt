@@ -17,7 +17,7 @@ pub record Grows (table after : List Bool) : Type 0 where
   pub still : (b : ℕ) → Admits table b → Admits after b
 
 -- the state was reached
-pub record IsReached (reached : Reached) (s : ℕ) : Type 0 where
+pub record WasReached (reached : Reached) (s : ℕ) : Type 0 where
   pub place : ℕ
   pub below : place < reached.len
   pub is : slice_index reached.states place ≡ s
@@ -36,10 +36,10 @@ abbrev pub Covers : Reached → List Bool → Node → Type 0
 Covers reached table (ByteRange trans) = (b t : ℕ) → target_on (ByteRange trans) b ≡ Some t → Admits table b
 Covers reached table (Sparse transitions) = (b t : ℕ) → target_on (Sparse transitions) b ≡ Some t → Admits table b
 Covers reached table (Dense targets) = (b t : ℕ) → target_on (Dense targets) b ≡ Some t → Admits table b
-Covers reached table (Look look next) = IsReached reached next
-Covers reached table (Union alternates) = All (IsReached reached) alternates
-Covers reached table (BinaryUnion alt1 alt2) = IsReached reached alt1 × IsReached reached alt2
-Covers reached table (Capture next slot) = IsReached reached next
+Covers reached table (Look look next) = WasReached reached next
+Covers reached table (Union alternates) = All (WasReached reached) alternates
+Covers reached table (BinaryUnion alt1 alt2) = WasReached reached alt1 × WasReached reached alt2
+Covers reached table (Capture next slot) = WasReached reached next
 Covers reached table Fail = ⊤
 Covers reached table (Match pattern) = ⊥
 

@@ -6,7 +6,7 @@ ghost use Rattle.std.specs.Prelude.{◌≡◌, ℕ, ◌<◌, ◌≤◌, Some, tr
 ghost use Rattle.thompson_nfa.specs.Automaton.{LeadsBelow, node_of};
 ghost use Rattle.thompson_nfa.specs.Automaton.Node.{Sparse, Dense};
 ghost use Rattle.nfa_paths.specs.Paths.{holds_byte, target_on};
-ghost use Rattle.nfa_scanning.specs.FirstBytes.{Admits, Grows, IsReached, Extends, AreBelow, Covers, IsFirstBytes};
+ghost use Rattle.nfa_scanning.specs.FirstBytes.{Admits, Grows, WasReached, Extends, AreBelow, Covers, IsFirstBytes};
 
 use regex_search_core::StateID;
 use std::fmt;
@@ -64,7 +64,7 @@ impl Reached {
     /// Whether the state was reached.
     fn has(&self, sid: StateID) -> bool
         requires { self.now.len ≤ 64 }
-        ensures { result ≡ true → IsReached self.now sid }
+        ensures { result ≡ true → WasReached self.now sid }
     {
         for place in 0..self.len {
             if self.states[place] == sid {
@@ -79,7 +79,7 @@ impl Reached {
         requires { self.old.len ≤ 64 }
         ensures room { self.new.len ≤ 64 }
         ensures extends { Extends self.old self.new }
-        ensures added { result ≡ true → IsReached self.new sid }
+        ensures added { result ≡ true → WasReached self.new sid }
         ensures below { (n : ℕ) → sid < n → AreBelow n self.old → AreBelow n self.new }
     {
         if self.has(sid) {
@@ -98,7 +98,7 @@ impl Reached {
         requires { self.old.len ≤ 64 }
         ensures room { self.new.len ≤ 64 }
         ensures extends { Extends self.old self.new }
-        ensures added { result ≡ true → All (IsReached self.new) sids.now }
+        ensures added { result ≡ true → All (WasReached self.new) sids.now }
         ensures below { (n : ℕ) → All (λ s. s < n) sids.now → AreBelow n self.old → AreBelow n self.new }
     {
         for i in 0..sids.len() {

@@ -1,9 +1,8 @@
 -- The captures of a search of an NFA: there is one list of them, and their matches are those of the search.
-use Rattle.std.proofs.Common.{◌≡◌, ◌∙◌, ℕ, ◌+◌, ◌≤◌, ◌⊎◌, inl, inr, Bool, true, false, MatchBool}
+use Rattle.std.proofs.Common.{◌≡◌, ◌∙◌, ℕ, inl, inr, Bool, true, false, MatchBool}
 use Rattle.std.proofs.Common.{List, [], ◌∷◌, map, length}
-use Rattle.std.proofs.Common.{Option, None, Some, Result, Ok, Err, refl, sym, ap, subst, arith}
+use Rattle.std.proofs.Common.{Option, None, Some, Ok, Err, refl, sym, ap, subst}
 use Rattle.std.specs.Option.{option_and_then, option_map}
-use Rattle.std.specs.List.{range_with_len}
 use Rattle.std.proofs.lemmas.List.{length-replicate}
 use Rattle.std.proofs.lemmas.List.FromFn.{length-map-range_with_len}
 use Rattle.regex_search_core.specs.Found.{Found}
@@ -11,7 +10,6 @@ use Rattle.regex_search_core.specs.Groups.{slot_count}
 use Rattle.regex_search_core.specs.Search.{Search}
 use Rattle.regex_search_core.specs.Slots.{Captured, match_of}
 use Rattle.regex_search_core.specs.declared.search.MatchKind.{MatchKind}
-use Rattle.regex_search_core.specs.declared.search.Span.{Span}
 use Rattle.thompson_nfa.specs.Automaton.{Automaton}
 use Rattle.nfa_paths.specs.Graphs.{Pair}
 use Rattle.nfa_paths.specs.Paths.{path_pattern, slot_among, slot_row, IsAnswer, IsMatchAnswer}
@@ -26,7 +24,6 @@ use Rattle.nfa_search_base.specs.Lists.{TellsMatch, ComeNext, ComeLast, AreFirst
 use Rattle.nfa_search_base.specs.Walks.{Walk, Answer, IsInside as AnswersInside}
 use Rattle.nfa_search_base.specs.Walks.{fresh, repeats, shifted, after, place_of, span_of}
 use Rattle.nfa_search_base.specs.declared.error.SearchError.{SearchError}
-use Rattle.nfa_search_base.specs.declared.error.SearchError.TheVariants.{Memory}
 use Rattle.nfa_search_base.proofs.ListLemmas.{as_items, last-unique, match-lies, match-same, matches_in-as_items}
 use Rattle.nfa_search_base.proofs.ListLemmas.{matches-unique, step-unique, items-greedy}
 use Rattle.nfa_search_base.proofs.StepLemmas.{chosen}

@@ -1,10 +1,9 @@
 -- The calls of an iterator that asks an engine for captures give the captures of the engine's NFA.
-use Rattle.std.proofs.Common.{◌≡◌, ◌∙◌, ℕ, ◌+◌, ◌≤◌, ◌⊎◌, inl, inr, Bool, true, false, MatchBool, refl, sym, ap, subst}
-use Rattle.std.proofs.Common.{Option, None, Some, Result, Ok, Err, List, [], ◌∷◌, ◌++◌, map, length, arith}
-use Rattle.std.specs.Prelude.{All, IfOk, IfErr, OnSome}
-use Rattle.std.specs.Option.{option_map}
+use Rattle.std.proofs.Common.{◌≡◌, ◌∙◌, ℕ, ◌≤◌, ◌⊎◌, inl, inr, Bool, false, MatchBool, refl, sym, ap, subst}
+use Rattle.std.proofs.Common.{Option, None, Some, Result, Ok, Err, List, [], ◌∷◌, ◌++◌, map, arith}
+use Rattle.std.specs.Prelude.{All, IfOk, IfErr}
 use Rattle.std.specs.Iterator.{Yields}
-use Rattle.std.specs.Iterator.Runs.{Run, EachRunFrom, YieldsRun}
+use Rattle.std.specs.Iterator.Runs.{EachRunFrom, YieldsRun}
 use Rattle.std.proofs.lemmas.List.Elements.{All-nil, All-cons, All-weaker}
 use Rattle.regex_search_core.specs.Found.{Found}
 use Rattle.regex_search_core.specs.Search.{Search}
@@ -15,15 +14,13 @@ use Rattle.nfa_paths.proofs.InsideLemmas.{slots-within}
 use Rattle.nfa_search_base.specs.Asking.{SameButStart}
 use Rattle.nfa_search_base.specs.Catching.{Row, Catching, GivesCaptures, row_found, row_of, row_span}
 use Rattle.nfa_search_base.specs.CaughtLists.{IsRow, TellsRow, AreFirstRows, AreRows, AreFirstCaptures, AreAllCaptures}
-use Rattle.nfa_search_base.specs.CaughtLists.{HasGroups}
 use Rattle.nfa_search_base.specs.CaughtRuns.{match_in, CapturesInside, CapturesRun, CapturesFirst, CapturesNext}
-use Rattle.nfa_search_base.specs.CaughtRuns.{CapturesGroups, CapturesWithin, CapturesApart, CapturesMemory, RowsRun}
+use Rattle.nfa_search_base.specs.CaughtRuns.{CapturesWithin, CapturesApart, CapturesMemory, RowsRun}
 use Rattle.nfa_search_base.specs.CaughtRuns.{MatchesInRun, MatchesInFirst, MatchesInAll, MatchesInNext}
 use Rattle.nfa_search_base.specs.Items.{Item, item_by}
 use Rattle.nfa_search_base.specs.Lending.{With}
 use Rattle.nfa_search_base.specs.Lists.{AreFirstMatches, AreMatches}
-use Rattle.nfa_search_base.specs.Lists.{IsStep, Fails, FailsOrIsRefused, ItemsNext, ItemsLast, IsInside, IsSlotInside}
-use Rattle.nfa_search_base.specs.Steps.{TakesStep}
+use Rattle.nfa_search_base.specs.Lists.{IsStep, Fails, FailsOrIsRefused, ItemsNext, ItemsLast, IsSlotInside}
 use Rattle.nfa_search_base.specs.Stored.{steps_walk, takes_steps}
 use Rattle.nfa_search_base.specs.Walks.{Walk, Answer, fresh, after, repeats, shifted, place_of}
 use Rattle.nfa_search_base.specs.declared.error.SearchError.{SearchError}

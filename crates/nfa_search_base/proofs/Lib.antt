@@ -2,6 +2,7 @@ pub mod AgreementLemmas
 pub mod AskingLemmas
 pub mod CatchingLemmas
 pub mod EmptyFinderLemmas
+pub mod EngineLemmas
 pub mod GreedyLemmas
 pub mod SkipLemmas
 pub mod StepLemmas

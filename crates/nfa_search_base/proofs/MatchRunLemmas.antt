@@ -1,8 +1,7 @@
 -- The calls of an iterator that asks an engine for matches give the matches of the engine's NFA.
-use Rattle.std.proofs.Common.{◌≡◌, ◌∙◌, ℕ, ◌+◌, true, false, Bool, refl, subst, ap, arith, MatchBool}
-use Rattle.std.proofs.Common.{Option, None, Some, Result, Ok, Err, List, [], ◌∷◌, ◌++◌, map, length, length-append}
-use Rattle.std.specs.Prelude.{All, ⊤}
-use Rattle.std.specs.Option.{option_map}
+use Rattle.std.proofs.Common.{◌≡◌, ◌∙◌, ℕ, false, ap, arith}
+use Rattle.std.proofs.Common.{Option, None, Some, Result, List, [], ◌∷◌, ◌++◌, map, length, length-append}
+use Rattle.std.specs.Prelude.{All}
 use Rattle.std.specs.Iterator.{Yields}
 use Rattle.std.proofs.lemmas.List.Elements.{All-nil, All-cons}
 use Rattle.std.proofs.iter.runs.Sources.{lists}
@@ -12,7 +11,7 @@ use Rattle.regex_search_core.specs.declared.search.Match.{Match}
 use Rattle.regex_search_core.specs.declared.search.MatchKind.{MatchKind}
 use Rattle.thompson_nfa.specs.Automaton.{Automaton}
 use Rattle.nfa_search_base.specs.Asking.{SameButStart}
-use Rattle.nfa_search_base.specs.Lists.{IsStep, Fails, TellsMatch, AreMatches, AreApart, IsInside}
+use Rattle.nfa_search_base.specs.Lists.{IsStep, Fails, TellsMatch, AreApart, IsInside}
 use Rattle.nfa_search_base.specs.MatchRuns.{AreFirst, AreAll, MatchesRun, MatchesFirst, MatchesNext, MatchesAre}
 use Rattle.nfa_search_base.specs.MatchRuns.{MatchesApart}
 use Rattle.nfa_search_base.specs.Steps.{GivesItem}

@@ -1,15 +1,14 @@
 -- The calls of an iterator that keeps what it asks give the items of its list.
 use Rattle.std.proofs.Common.{◌≡◌, ◌∙◌, ◌⊎◌, inl, inr, Bool, true, false, MatchBool, refl, sym, ap, subst}
 use Rattle.std.proofs.Common.{Option, None, Some, Result, Ok, Err, List, [], ◌∷◌, ◌++◌, map}
-use Rattle.std.specs.Option.{option_map}
 use Rattle.std.specs.Iterator.{Yields}
-use Rattle.std.specs.Iterator.Runs.{Run, EachRunFrom, YieldsRun}
+use Rattle.std.specs.Iterator.Runs.{YieldsRun}
 use Rattle.regex_search_core.specs.Search.{Search}
 use Rattle.regex_search_core.specs.declared.search.Span.{Span}
 use Rattle.nfa_search_base.specs.Asking.{SameButStart}
-use Rattle.nfa_search_base.specs.Items.{Item, item_by, item_of}
-use Rattle.nfa_search_base.specs.Lists.{IsStep, Fails, ItemsNext, ItemsLast}
-use Rattle.nfa_search_base.specs.Runs.{RunsGive, GivesFirst, GivesNext, GivesAll}
+use Rattle.nfa_search_base.specs.Items.{Item, item_by}
+use Rattle.nfa_search_base.specs.Lists.{IsStep, ItemsNext, ItemsLast}
+use Rattle.nfa_search_base.specs.Runs.{RunsGive, GivesFirst, GivesNext}
 use Rattle.nfa_search_base.specs.Steps.{TakesStep, GivesItem, ends_at}
 use Rattle.nfa_search_base.specs.Stored.{steps_walk, takes_steps, takes_sure_steps}
 use Rattle.nfa_search_base.specs.Walks.{Walk, Answer, Advances, fresh, repeats, shifted, after, place_of}

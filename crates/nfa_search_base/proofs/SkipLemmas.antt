@@ -10,7 +10,8 @@ use Rattle.regex_search_core.specs.declared.search.Input.{Input}
 use Rattle.nfa_search_base.specs.Asking.{Asks, IsCallableOn, SameButStart, SameButEnd, ServesAlong}
 use Rattle.nfa_search_base.specs.Serving.{LeadsOn}
 use Rattle.nfa_search_base.specs.declared.error.SearchError.{SearchError}
-use Rattle.nfa_search_base.specs.Skipping.{Placed, value_of, IsPlacedIn, IsSplit, IsWhole, raised, lowered, Answers}
+use Rattle.nfa_search_base.specs.Skipping.{Placed, value_of, IsPlacedIn, IsSplit, IsWholeReply}
+use Rattle.nfa_search_base.specs.Skipping.{start_raised, lowered, Answers}
 use Rattle.nfa_search_base.specs.Skipping.{LeadsTo, Reaches, ServesSkips, SkipsTo}
 
 module _ {T F : Type 0} (g : Mut F (Bor Input × Unit {0}) (Placed T))
@@ -33,10 +34,10 @@ module _ {T F : Type 0} (g : Mut F (Bor Input × Unit {0}) (Placed T))
 
   -- an answer that splits no character ends it
   Reaches-whole : (n : ℕ) (r : Placed T) (f : F) (answers : List (Placed T)) (last : Placed T) (left : F)
-      → IsWhole haystack last
+      → IsWholeReply haystack last
       → Reaches g haystack moved n r f answers last left → LeadsTo g haystack moved n r f answers last left
   Reaches-whole n r f [] last left whole reaches =
-      (subst (λ (p : Placed T). IsWhole haystack p) reaches.0 whole, reaches.0, reaches.1)
+      (subst (λ (p : Placed T). IsWholeReply haystack p) reaches.0 whole, reaches.0, reaches.1)
   Reaches-whole n r f (b ∷ answers) last left whole reaches =
       let rest = Reaches-whole (n + 1) b reaches.1.0 answers last left whole reaches.1.2 in
       (reaches.0, (reaches.1.0, reaches.1.1, rest))
@@ -101,7 +102,7 @@ module _ {T F : Type 0} (g : Mut F (Bor Input × Unit {0}) (Placed T))
           }
 
           -- it is the result, if it splits none
-          pub HasCome-last : (result : Result (Option T) SearchError) → IsWhole haystack a → result ≡ value_of a
+          pub HasCome-last : (result : Result (Option T) SearchError) → IsWholeReply haystack a → result ≡ value_of a
               → SkipsTo g haystack moved r0 f0 result f'
           HasCome-last result whole gives = record {
             answers = come.answers ++ a ∷ [];
@@ -122,7 +123,7 @@ module _ {T F : Type 0} (g : Mut F (Bor Input × Unit {0}) (Placed T))
       }
 
       -- an answer that splits no character is the result
-      pub HasCome-end : (result : Result (Option T) SearchError) → IsWhole haystack r → result ≡ value_of r
+      pub HasCome-end : (result : Result (Option T) SearchError) → IsWholeReply haystack r → result ≡ value_of r
           → SkipsTo g haystack moved r0 f0 result f
       HasCome-end result whole gives = record {
         answers = come.answers;
@@ -167,9 +168,9 @@ module _ {T F : Type 0} (g : Mut F (Bor Input × Unit {0}) (Placed T))
   }
 
 -- the search one further up
-pub raised-next : (s t u : Search) (n : ℕ) → raised s n ≡ Some t
-    → u ≡ record t { start = t.start + 1 } → raised s (n + 1) ≡ Some u
-raised-next s t u n at up =
+pub start_raised-next : (s t u : Search) (n : ℕ) → start_raised s n ≡ Some t
+    → u ≡ record t { start = t.start + 1 } → start_raised s (n + 1) ≡ Some u
+start_raised-next s t u n at up =
     let here : t ≡ record s { start = s.start + n } = cc in
     let e : s.start + (n + 1) ≡ s.start + n + 1 = omega arith in
     rw (up, here, e) refl
@@ -180,8 +181,8 @@ same_start-up s t u up same =
     rw up (record { haystack = same.haystack; end = same.end; anchored = same.anchored; earliest = same.earliest })
 
 -- and not yet moved
-pub raised-start : (s : Search) → raised s 0 ≡ Some s
-raised-start s = rw add-zero refl
+pub start_raised-start : (s : Search) → start_raised s 0 ≡ Some s
+start_raised-start s = rw add-zero refl
 
 -- where a number is at most another, the test says so
 le_true : (n m : ℕ) → n ≤ m → nat_le n m ≡ true

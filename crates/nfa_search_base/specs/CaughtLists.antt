@@ -1,5 +1,5 @@
 -- The captures of a search, as one list: said by its steps alone. And so the captures of a search of an NFA.
-use Rattle.std.specs.Prelude.{◌≡◌, ℕ, Bool, List, length, map, Option, None, Some, Result, Ok, Err}
+use Rattle.std.specs.Prelude.{◌≡◌, Bool, List, length, map, None, Some, Result, Ok, Err}
 use Rattle.regex_search_core.specs.Groups.{slot_count}
 use Rattle.regex_search_core.specs.Search.{Search}
 use Rattle.regex_search_core.specs.Slots.{Captured, match_of}

@@ -1,8 +1,8 @@
 -- What the calls of an iterator over captures have given, wherever they stop.
-use Rattle.std.specs.Prelude.{◌≡◌, true, Bool, List, [], ◌∷◌, ◌++◌, map, All, Option, None, Some, Result, Ok, Err, IfOk}
+use Rattle.std.specs.Prelude.{◌≡◌, true, Bool, List, [], ◌∷◌, ◌++◌, map, All, Option, None, Some, Result, Ok, IfOk}
 use Rattle.std.specs.Prelude.{IfErr}
 use Rattle.std.specs.Iterator.{Yields}
-use Rattle.std.specs.Iterator.Runs.{Run, EachRunFrom}
+use Rattle.std.specs.Iterator.Runs.{EachRunFrom}
 use Rattle.regex_search_core.specs.Found.{Found}
 use Rattle.regex_search_core.specs.Search.{Search}
 use Rattle.regex_search_core.specs.Slots.{Captured, match_of}

@@ -5,10 +5,13 @@ pub mod Catching
 pub mod CaughtLists
 pub mod CaughtRuns
 pub mod CaughtSteps
+pub mod CapturesGiven
 pub mod EmptyFinder
+pub mod EngineSearches
 pub mod Finders
 pub mod Items
 pub mod Lending
+pub mod Lent
 pub mod Likes
 pub mod Lists
 pub mod MatchRuns

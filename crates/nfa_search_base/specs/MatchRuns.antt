@@ -1,5 +1,5 @@
 -- What the calls of an iterator over the matches of an NFA have given, wherever they stop.
-use Rattle.std.specs.Prelude.{◌≡◌, List, map, All, None, Option}
+use Rattle.std.specs.Prelude.{List, map, All, None, Option}
 use Rattle.std.specs.Iterator.Runs.{EachRunFrom, ItemsMapTo}
 use Rattle.regex_search_core.specs.Found.{Found, found_of}
 use Rattle.regex_search_core.specs.Search.{Search}

@@ -1,7 +1,7 @@
 -- What the calls of an iterator have given, wherever they stop: as clauses that a caller's loops and folds can use.
 use Rattle.std.specs.Prelude.{◌≡◌, true, List, [], ◌∷◌, ◌++◌, Option, None, Some}
 use Rattle.std.specs.Iterator.{Yields}
-use Rattle.std.specs.Iterator.Runs.{Run, EachRunFrom}
+use Rattle.std.specs.Iterator.Runs.{EachRunFrom}
 
 -- A call of the iterator `steps`. Of the items of a search some are `First`, and these may be `Whole`.
 module _ {T R : Type 0} (steps : T → Option R → T → Type 0) where

@@ -37,14 +37,14 @@ IsSplit haystack (Ok None) = ⊥
 IsSplit haystack (Err e) = ⊥
 
 -- the answer is an error, is none, or has its offset on an edge of a character
-abbrev pub IsWhole : {T : Type 0} → List ℕ → Placed T → Type 0
-IsWhole haystack (Ok (Some x)) = IsBoundary haystack x.1
-IsWhole haystack (Ok None) = Unit {0}
-IsWhole haystack (Err e) = Unit {0}
+abbrev pub IsWholeReply : {T : Type 0} → List ℕ → Placed T → Type 0
+IsWholeReply haystack (Ok (Some x)) = IsBoundary haystack x.1
+IsWholeReply haystack (Ok None) = Unit {0}
+IsWholeReply haystack (Err e) = Unit {0}
 
 -- the search with its start raised by n
-abbrev pub raised : Search → ℕ → Option Search
-raised s n = Some (record s { start = s.start + n })
+abbrev pub start_raised : Search → ℕ → Option Search
+start_raised s n = Some (record s { start = s.start + n })
 
 -- the search with its end lowered by n, if its end is that much
 abbrev pub lowered : Search → ℕ → Option Search
@@ -59,7 +59,7 @@ module _ {T F : Type 0} (g : Mut F (Bor Input × Unit {0}) (Placed T)) where
   module _ (haystack : List ℕ) (moved : ℕ → Option Search) where
     -- `answers` follow r, the one of the search moved by n: each but the last splits a character, and the last does not
     abbrev pub LeadsTo : ℕ → Placed T → F → List (Placed T) → Placed T → F → Type 0
-    LeadsTo n r f [] last left = IsWhole haystack r × (last ≡ r) × (left ≡ f)
+    LeadsTo n r f [] last left = IsWholeReply haystack r × (last ≡ r) × (left ≡ f)
     LeadsTo n r f (a ∷ answers) last left =
         IsSplit haystack r × ((f' : F) × Answers f (moved (n + 1)) a f' × LeadsTo (n + 1) a f' answers last left)
 

@@ -18,7 +18,7 @@
 ghost use Rattle.std.specs.Prelude.{◌≡◌, Some, None, Ok, true, false};
 ghost use Rattle.regex_search_core.specs.Boundary.{IsBoundary};
 ghost use Rattle.regex_search_core.specs.Search.{search_of, is_anchored};
-ghost use Rattle.nfa_search_base.specs.Skipping.{IsInSpan, IsPlacedIn, ServesSkips, SkipsTo, raised, lowered};
+ghost use Rattle.nfa_search_base.specs.Skipping.{IsInSpan, IsPlacedIn, ServesSkips, SkipsTo, start_raised, lowered};
 
 use crate::asking::ask;
 use crate::error::SearchError;
@@ -46,7 +46,7 @@ where
     requires offset { IsInSpan (search_of input.now) offset }
     requires finder { is_anchored (search_of input.now).anchored ≡ false
         → ServesSkips F.FnMut (search_of input.now).haystack
-        (raised (search_of input.now)) (Ok (Some (init, offset))) find }
+        (start_raised (search_of input.now)) (Ok (Some (init, offset))) find }
     ensures anchored_whole { is_anchored (search_of input.now).anchored ≡ true
         → IsBoundary (search_of input.now).haystack offset
         → result ≡ Ok (Some init) }
@@ -56,7 +56,7 @@ where
     ensures skips { is_anchored (search_of input.now).anchored ≡ false
         → (left : F)
         × SkipsTo F.FnMut (search_of input.now).haystack
-        (raised (search_of input.now)) (Ok (Some (init, offset))) find result left }
+        (start_raised (search_of input.now)) (Ok (Some (init, offset))) find result left }
 {
     skip_splits_fwd_by_ref(input, init, offset, &mut find)
 }
@@ -74,7 +74,7 @@ where
     requires offset { IsInSpan (search_of input.now) offset }
     requires finder { is_anchored (search_of input.now).anchored ≡ false
         → ServesSkips F.FnMut (search_of input.now).haystack
-        (raised (search_of input.now)) (Ok (Some (init, offset))) find.old }
+        (start_raised (search_of input.now)) (Ok (Some (init, offset))) find.old }
     ensures anchored_whole { is_anchored (search_of input.now).anchored ≡ true
         → IsBoundary (search_of input.now).haystack offset
         → result ≡ Ok (Some init) }
@@ -84,7 +84,7 @@ where
     ensures anchored_kept { is_anchored (search_of input.now).anchored ≡ true → find.new ≡ find.old }
     ensures skips { is_anchored (search_of input.now).anchored ≡ false
         → SkipsTo F.FnMut (search_of input.now).haystack
-        (raised (search_of input.now)) (Ok (Some (init, offset))) find.old result find.new }
+        (start_raised (search_of input.now)) (Ok (Some (init, offset))) find.old result find.new }
 {
     if input.get_anchored().is_anchored() {
         return Ok(keep_whole(input, init, offset));
@@ -180,9 +180,9 @@ where
     F: FnMut(&Input<'_>) -> Result<Option<(T, usize)>, SearchError>,
     requires offset { IsInSpan (search_of input) offset }
     requires finder { ServesSkips F.FnMut (search_of input).haystack
-        (raised (search_of input)) (Ok (Some (init, offset))) find.old }
+        (start_raised (search_of input)) (Ok (Some (init, offset))) find.old }
     ensures { SkipsTo F.FnMut (search_of input.entry).haystack
-        (raised (search_of input.entry)) (Ok (Some (init, offset))) find.old result find.new }
+        (start_raised (search_of input.entry)) (Ok (Some (init, offset))) find.old result find.new }
 {
     let mut value = init;
     let mut place = offset;

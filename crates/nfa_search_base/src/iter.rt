@@ -19,6 +19,7 @@
 mod captures_matches;
 pub mod catching;
 mod finder;
+pub mod finding;
 mod half_matches;
 pub mod laws;
 mod lent;

@@ -1,6 +1,7 @@
 //! Iteration over the matches of an input.
 use crate::choose::Choice;
 use nfa_engines::error::SearchError;
+use nfa_engines::iter::finding::{found_item, found_span};
 use nfa_engines::iter::{Searcher, Searches, Steps};
 use regex_search_core::{Input, Match, Span};
 
@@ -23,24 +24,29 @@ impl Choice {
     ghost use Rattle.nfa_search_base.specs.MatchRuns.{MatchesRun, MatchesAre, MatchesApart, MatchesFirst, MatchesNext};
     ghost use Rattle.nfa_search_base.specs.Walks.{fresh};
     ghost use Rattle.nfa_choice.specs.Choosing.{kind_in};
-    ghost use Rattle.nfa_choice.specs.Matches.{ChoiceGivesKept, find_choice, find_is_done};
-    ghost use Rattle.nfa_choice.specs.Matches.{find_steps, find_walk, lent_choice};
+    ghost use Rattle.nfa_choice.specs.Matches.{ChoiceGivesKept, choice_finds_cache, choice_finds_done};
+    ghost use Rattle.nfa_choice.specs.Matches.{choice_finds_next, choice_finds_walk};
 
     /// The matches of the input that do not overlap, from left to right. To make this takes no memory.
     ///
     /// The next match is searched for from the end of the last one. In place of an empty match where the last one ended
     /// comes what a search from one byte further on finds. Each search takes the engine that suits.
     pub fn find_iter<'c, 'h>(&'c mut self, input: Input<'h>) -> ChoiceMatches<'c, 'h>
-        ensures same_reference { (lent_choice result).ghost_name ≡ self.entry.ghost_name }
-        ensures same_choice { find_choice result ≡ self.entry.now }
-        ensures walk { find_walk result ≡ fresh (search_of input.entry) }
-        ensures going { find_is_done result ≡ false }
+        ensures same_reference { (choice_finds_cache result).ghost_name ≡ self.entry.ghost_name }
+        ensures same_choice { (choice_finds_cache result).now ≡ self.entry.now }
+        ensures walk { choice_finds_walk result ≡ fresh (search_of input.entry) }
+        ensures going { choice_finds_done result ≡ false }
         // Each run of calls gives the first matches of the input, and all of them where it goes on to `None`.
-        ensures runs { MatchesRun self.entry.now.nfa (kind_in self.entry.now) (search_of input.entry) find_steps result }
-        ensures are { MatchesAre self.entry.now.nfa (kind_in self.entry.now) (search_of input.entry) find_steps result }
-        ensures apart { MatchesApart self.entry.now.nfa (kind_in self.entry.now) (search_of input.entry) find_steps result }
-        ensures first { MatchesFirst self.entry.now.nfa (kind_in self.entry.now) (search_of input.entry) find_steps result }
-        ensures next { MatchesNext self.entry.now.nfa (kind_in self.entry.now) (search_of input.entry) find_steps result }
+        ensures runs { MatchesRun self.entry.now.nfa (kind_in self.entry.now)
+            (search_of input.entry) choice_finds_next result }
+        ensures are { MatchesAre self.entry.now.nfa (kind_in self.entry.now)
+            (search_of input.entry) choice_finds_next result }
+        ensures apart { MatchesApart self.entry.now.nfa (kind_in self.entry.now)
+            (search_of input.entry) choice_finds_next result }
+        ensures first { MatchesFirst self.entry.now.nfa (kind_in self.entry.now)
+            (search_of input.entry) choice_finds_next result }
+        ensures next { MatchesNext self.entry.now.nfa (kind_in self.entry.now)
+            (search_of input.entry) choice_finds_next result }
         ensures keeps { ChoiceGivesKept result }
     {
         ChoiceMatches {
@@ -87,29 +93,24 @@ impl Searches for ByRule {
 
     #[inline]
     fn place(&self, reply: Option<Match>) -> Option<Span> {
-        match reply {
-            Some(found) => Some(found.span()),
-            None => None,
-        }
+        found_span(reply)
     }
 
     #[inline]
     fn item(&self, reply: Option<Match>) -> Option<Result<Match, SearchError>> {
-        match reply {
-            Some(found) => Some(Ok(found)),
-            None => None,
-        }
+        found_item(reply)
     }
 }
 
 impl<'c, 'h> Iterator for ChoiceMatches<'c, 'h> {
-    ghost use Rattle.nfa_choice.specs.Matches.{find_steps, find_left};
+    ghost use Rattle.nfa_search_base.specs.Lent.{lent_sure_left};
+    ghost use Rattle.nfa_choice.specs.Matches.{choice_finds, choice_finds_next};
 
     type Item = Match;
 
-    ghost next_gives = { find_steps };
+    ghost next_gives = { choice_finds_next };
 
-    ghost remaining = { find_left };
+    ghost remaining = { λ s. lent_sure_left (choice_finds s) };
 
     fn next(&mut self) -> Option<Match> {
         match self.steps.next_with(self.choice) {

@@ -4,7 +4,7 @@ use Rattle.thompson_nfa.specs.Automaton.{LeadsBelow, node_of}
 use Rattle.nfa_paths.specs.Graphs.{In}
 use Rattle.nfa_paths.specs.Paths.{node_at, pattern_of}
 use Rattle.nfa_bounds.specs.Ways.{targets}
-use Rattle.nfa_bounds.specs.Places.{at_state, after, next_places, Gains, IsFine}
+use Rattle.nfa_bounds.specs.Places.{at_state, after_node, next_places, GainsPlaces, IsFine}
 use Rattle.nfa_bounds.proofs.SearchLemmas.{In-get_or, slice_get-in, targets-below, node_at-is, IsFine-of}
 use Rattle.nfa_bounds.proofs.SearchLemmas.{IsUnderWay-begin, IsUnderWay-step, IsUnderWay-done}
 use Rattle.nfa_bounds.proofs.WayLemmas.{unrecorded, closed-records}
@@ -54,10 +54,11 @@ loop-done-preserved c =
     let same : c.deref.result.now ≡ targets node = c.deref.ensures.value ∙ c.in_ok-targets.ensures in
     let wanted : map (at_state c.after.result) c.deref.result.now ≡ next_places nfa c.args.pattern place =
     ap (λ v. map (at_state v) c.deref.result.now) c.after.ensures
-    ∙ ap (map (at_state (after c.args.pattern node place))) same
-    ∙ ap (λ n. map (at_state (after c.args.pattern n place)) (targets n)) (sym is) in
-    let gains : Gains c.loop-done.reached.places c.add_all.new.self.places (next_places nfa c.args.pattern place) =
-    subst (Gains c.loop-done.reached.places c.add_all.new.self.places) wanted c.in_ok-add_all.ensures.gains in
+    ∙ ap (map (at_state (after_node c.args.pattern node place))) same
+    ∙ ap (λ n. map (at_state (after_node c.args.pattern n place)) (targets n)) (sym is) in
+    let gains : GainsPlaces c.loop-done.reached.places c.add_all.new.self.places
+    (next_places nfa c.args.pattern place) =
+    subst (GainsPlaces c.loop-done.reached.places c.add_all.new.self.places) wanted c.in_ok-add_all.ensures.gains in
     let leads : LeadsBelow (length nfa.states) (node_at nfa place.state) = rw is c.state-state.ensures.leads in
     let fine : IsFine nfa c.args.pattern place =
     IsFine-of nfa c.args.pattern place node c.is_unrecorded.result is c.is_unrecorded.ensures

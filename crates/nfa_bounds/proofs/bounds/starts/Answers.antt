@@ -4,9 +4,9 @@ use Rattle.std.proofs.lemmas.List.{length-map}
 use Rattle.regex_search_core.specs.declared.search.Anchored.TheVariants.{Yes}
 use Rattle.thompson_nfa.specs.Automaton.{node_of}
 use Rattle.nfa_paths.specs.Graphs.{In}
-use Rattle.nfa_bounds.specs.Places.{fresh, Gains, Reach}
+use Rattle.nfa_bounds.specs.Places.{fresh_place, GainsPlaces, Reach}
 use Rattle.nfa_bounds.specs.declared.place.Place.{Place}
-use Rattle.nfa_bounds.proofs.SearchLemmas.{Gains-kept, starts-only, starts-below, starts-all, patterns-more}
+use Rattle.nfa_bounds.proofs.SearchLemmas.{GainsPlaces-kept, starts-only, starts-below, starts-all, patterns-more}
 use Rattle.nfa_bounds.proofs.SearchLemmas.{patterns-same}
 use Rattle.nfa_bounds.proofs.bounds.starts.Goals as goal
 use Rattle.nfa_bounds.proofs.bounds.starts.Goals.{in-Some+in_ok-add-2, in_default}
@@ -15,16 +15,16 @@ pub loop-index-init : goal.loop-index-init
 loop-index-init c =
     let nfa = c.args.nfa.now in
     let old = c.in_ok-reached.reached.places in
-    let gains : Gains old c.add.new.self.places (fresh nfa.anchored ∷ []) =
-    subst (λ (v : Place). Gains old c.add.new.self.places (v ∷ []))
-    (c.fresh.ensures ∙ ap fresh c.start_anchored.ensures.value) c.in_ok-add.ensures.gains in
+    let gains : GainsPlaces old c.add.new.self.places (fresh_place nfa.anchored ∷ []) =
+    subst (λ (v : Place). GainsPlaces old c.add.new.self.places (v ∷ []))
+    (c.fresh.ensures ∙ ap fresh_place c.start_anchored.ensures.value) c.in_ok-add.ensures.gains in
     let less : nfa.anchored < length nfa.states =
     rw (← c.start_anchored.ensures.value) c.start_anchored.ensures.within in
     let none : old ≡ [] = ap (λ (r : Reach). r.places) c.in_ok-reached.ensures in
     record {
       room = c.in_ok-add.ensures.room ∙ ap (λ (r : Reach). r.room) c.in_ok-reached.ensures
           ∙ ap (λ n. 8 * n) (sym (length-map c.states.result.now node_of) ∙ ap length c.states.ensures.nodes);
-      anchored = gains.all (fresh nfa.anchored) (inl refl);
+      anchored = gains.all (fresh_place nfa.anchored) (inl refl);
       patterns = λ k s h small e. absurd (omega arith);
       only = starts-only nfa nfa.anchored gains (Yes, refl) (λ v i. absurd (subst (In v) none i));
       below = starts-below (length nfa.states) nfa.anchored gains less (λ v i. absurd (subst (In v) none i));
@@ -40,11 +40,11 @@ loop-index-preserved c =
           let start = w.in-Some.start in
           let old = c.loop-index.reached.places in
           let new = w.add-in-Some.new.self.places in
-          let gains : Gains old new (fresh start ∷ []) =
-          subst (λ (v : Place). Gains old new (v ∷ [])) w.fresh-in-Some.ensures w.in_ok-add-2.ensures.gains in
+          let gains : GainsPlaces old new (fresh_place start ∷ []) =
+          subst (λ (v : Place). GainsPlaces old new (v ∷ [])) w.fresh-in-Some.ensures w.in_ok-add-2.ensures.gains in
           rw w.reached-is (record {
             room = w.in_ok-add-2.ensures.room ∙ inv.room;
-            anchored = Gains-kept gains (fresh nfa.anchored) inv.anchored;
+            anchored = GainsPlaces-kept gains (fresh_place nfa.anchored) inv.anchored;
             patterns = λ k s h small e.
                 patterns-more nfa old new index start gains inv.patterns w.in-Some.ensures.value k h s small e;
             only = starts-only nfa start gains w.in-Some.ensures.start inv.only;
@@ -63,6 +63,6 @@ loop-index-preserved c =
 
 pub returns-clause-all : goal.returns-clause-all
 returns-clause-all c =
-    starts-all c.args.nfa.now (λ s. In (fresh s) c.loop-index.reached.places) c.loop-index.invariant.anchored
+    starts-all c.args.nfa.now (λ s. In (fresh_place s) c.loop-index.reached.places) c.loop-index.invariant.anchored
     (λ k s inside small e. c.loop-index.invariant.patterns k s (omega
     (arith, c.loop-index-test.false, c.pattern_len-index-end.ensures.value)) small e)

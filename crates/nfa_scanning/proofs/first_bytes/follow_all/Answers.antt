@@ -1,6 +1,6 @@
 -- Where all that is reached was followed, the table has the bytes that a match may begin with.
 use Rattle.std.proofs.Common.{◌<◌, arith}
-use Rattle.nfa_scanning.proofs.FirstLemmas.{IsReached-extends, covers-step, covers-all, IsFirstBytes-covered}
+use Rattle.nfa_scanning.proofs.FirstLemmas.{WasReached-extends, covers-step, covers-all, IsFirstBytes-covered}
 use Rattle.nfa_scanning.proofs.first_bytes.follow_all.Goals as goal
 
 pub loop-done-preserved : goal.loop-done-preserved
@@ -9,7 +9,7 @@ loop-done-preserved c =
     record {
       room = c.follow.ensures.room;
       inside = omega (arith, c.follow.ensures.extends.more);
-      start = IsReached-extends c.follow.ensures.extends c.loop-done.invariant.start;
+      start = WasReached-extends c.follow.ensures.extends c.loop-done.invariant.start;
       covers = covers-step c.args.nfa.now c.loop-done.reached c.follow.new.reached c.loop-done.table c.follow.new.table
           c.loop-done.done _ _ less (omega (arith, c.loop-done.invariant.room))
           c.follow.ensures.extends c.follow.ensures.grows c.state-state.ensures.node

@@ -1,14 +1,14 @@
 -- The states so far are followed, and all that were reached are states of the NFA.
 use Rattle.std.proofs.Common.{ℕ, ◌-◌, ◌<◌, ◌≤◌, get_or, length}
 use Rattle.nfa_paths.specs.Paths.{node_at}
-use Rattle.nfa_scanning.specs.FirstBytes.{IsReached, AreBelow, Covers}
+use Rattle.nfa_scanning.specs.FirstBytes.{WasReached, AreBelow, Covers}
 use Rattle.nfa_scanning.proofs.first_bytes.follow_all.Given as goal
 
 abbrev pub invariant-loop-done : goal.invariant-loop-done
 invariant-loop-done l = record {
   room : l.reached.len ≤ 64;
   inside : l.done ≤ l.reached.len;
-  start : IsReached l.reached l.nfa.anchored;
+  start : WasReached l.reached l.nfa.anchored;
   covers : (k : ℕ) → k < l.done → Covers l.reached l.table (node_at l.nfa (get_or l.reached.states k 0));
   below : AreBelow (length l.nfa.states) l.reached;
 }

@@ -1,7 +1,7 @@
 -- A search that scans again while its answer ends inside a character: what holds at each scan, and what it comes to.
 use Rattle.std.proofs.Common.{◌∙◌, ◌+◌, ◌≤◌, ap, arith, refl, replicate, sym}
-use Rattle.std.specs.Prelude.{Some, None, false}
-use Rattle.regex_search_core.specs.Search.{search_of, is_anchored}
+use Rattle.std.specs.Prelude.{None, false}
+use Rattle.regex_search_core.specs.Search.{search_of}
 use Rattle.regex_search_core.specs.declared.search.MatchKind.TheVariants.{LeftmostFirst}
 use Rattle.nfa_paths.proofs.RestartLemmas.{restarts-begin, settled-none, settled-some, discarded, restarted, start-left}
 use Rattle.nfa_paths.proofs.RestartLemmas.{turns-after, scans-within, scans-bound}

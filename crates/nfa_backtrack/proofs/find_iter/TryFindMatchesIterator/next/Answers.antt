@@ -8,5 +8,6 @@ next_with-requires c = find-serves c.args.self.now
 
 pub invariant_of-self : goal.invariant_of-self
 invariant_of-self c =
-    let t = lend c.next_with.new.self c.next_with.new.cache in
-    record { knows = step-goes c.args.self.now c.next_with.result t c.next_with.ensures }
+    let k = step-goes c.args.self.now c.next_with.result (lend c.next_with.new.self c.next_with.new.cache)
+    c.next_with.ensures in
+    record { knows = k.knows }

@@ -1,14 +1,14 @@
 -- A place that was not marked is marked, and listed.
 use Rattle.std.proofs.Common.{◌≡◌, ◌<◌, ◌∙◌, length, get_or, ap, arith, sym, false}
 use Rattle.std.proofs.lemmas.List.{get_or_default}
-use Rattle.nfa_bounds.specs.Places.{number_of, Reach}
-use Rattle.nfa_bounds.proofs.TableLemmas.{IsTable-more, Gains-one}
+use Rattle.nfa_bounds.specs.Places.{place_number, Reach}
+use Rattle.nfa_bounds.proofs.TableLemmas.{IsTable-more, GainsPlaces-one}
 use Rattle.nfa_bounds.proofs.reached.Reached.add.Goals as goal
 
 pub invariant_of-self-then-not-index : goal.invariant_of-self-then-not-index
 invariant_of-self-then-not-index c =
     let marks = c.self.inside.marks.items in
-    let number = number_of c.args.place.now in
+    let number = place_number c.args.place.now in
     let read = c.index.result.now in
     let n : c.number-number.result ≡ number = c.number-number.ensures.value in
     let inside : number < length marks = omega (
@@ -27,4 +27,4 @@ invariant_of-self-then-not-index c =
 pub returns-in_ok-push-clause-gains : goal.returns-in_ok-push-clause-gains
 returns-in_ok-push-clause-gains c =
     rw (c.in_ok-push.ensures.items, ← ap (λ (r : Reach). r.places) c.self.view_is)
-    (Gains-one c.self.inside.places.items c.args.place.now)
+    (GainsPlaces-one c.self.inside.places.items c.args.place.now)

@@ -1,8 +1,8 @@
 -- One state more was added.
 use Rattle.std.proofs.Common.{◌≡◌, ◌+◌, ◌∙◌, ◌<◌, ap, sym, subst, length, map, take, get_or, [], ◌∷◌, ◌++◌}
 use Rattle.std.proofs.lemmas.List.{take_more, map-append}
-use Rattle.nfa_bounds.specs.Places.{at_state, Gains}
-use Rattle.nfa_bounds.proofs.TableLemmas.{Gains-then}
+use Rattle.nfa_bounds.specs.Places.{at_state, GainsPlaces}
+use Rattle.nfa_bounds.proofs.TableLemmas.{GainsPlaces-then}
 use Rattle.nfa_bounds.proofs.reached.Reached.add_all.Goals as goal
 
 pub loop-state-preserved : goal.loop-state-preserved
@@ -18,6 +18,6 @@ loop-state-preserved c =
     (ap (at_state place) (sym c.state-item.is) ∙ sym c.at_state.ensures) in
     record {
       room = c.in_ok-add.ensures.room ∙ c.loop-state.invariant.room;
-      gains = subst (Gains c.args.self.now.places c.add.new.self.places) (sym wanted)
-          (Gains-then c.loop-state.invariant.gains c.in_ok-add.ensures.gains);
+      gains = subst (GainsPlaces c.args.self.now.places c.add.new.self.places) (sym wanted)
+          (GainsPlaces-then c.loop-state.invariant.gains c.in_ok-add.ensures.gains);
     }

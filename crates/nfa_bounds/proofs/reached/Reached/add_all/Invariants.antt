@@ -1,10 +1,10 @@
 -- The states so far were added.
 use Rattle.std.proofs.Common.{◌≡◌, map, take}
-use Rattle.nfa_bounds.specs.Places.{at_state, Gains}
+use Rattle.nfa_bounds.specs.Places.{at_state, GainsPlaces}
 use Rattle.nfa_bounds.proofs.reached.Reached.add_all.Given as goal
 
 abbrev pub invariant-loop-state : goal.invariant-loop-state
 invariant-loop-state l = record {
   room : l.self.room ≡ l.fn.self.room;
-  gains : Gains l.fn.self.places l.self.places (map (at_state l.place) (take l.state-index l.states));
+  gains : GainsPlaces l.fn.self.places l.self.places (map (at_state l.place) (take l.state-index l.states));
 }

@@ -1,59 +1,35 @@
--- The iterator gives the captures of its input, and keeps the cache.
-use Rattle.std.proofs.Common.{◌≡◌, refl}
-use Rattle.regex_search_core.specs.Search.{search_of}
-use Rattle.nfa_pikevm.proofs.CaughtLemmas.{catches-run, catches-first, catches-next, catches-memory, catches-rows}
-use Rattle.nfa_pikevm.proofs.CaughtLemmas.{catches-match, catches-first_matches, catches-next_match}
-use Rattle.nfa_pikevm.proofs.CaughtLemmas.{catches-all_matches, catches-groups, catches-within, catches-apart}
-use Rattle.nfa_pikevm.proofs.CaughtLemmas.{catches-cache}
+-- What the iterator gives, clause by clause.
 use Rattle.nfa_pikevm.proofs.engine.PikeVM.captures_iter_with.Goals as goal
 
 pub returns-clause-runs : goal.returns-clause-runs
-returns-clause-runs c = catches-run c.args.self.now (search_of c.args.input) _
-    refl c.new.ensures refl
+returns-clause-runs c = c.catch_from.ensures.given.runs
 
 pub returns-clause-first : goal.returns-clause-first
-returns-clause-first c = catches-first c.args.self.now (search_of c.args.input) _
-    refl c.new.ensures refl
+returns-clause-first c = c.catch_from.ensures.given.first
 
 pub returns-clause-next : goal.returns-clause-next
-returns-clause-next c = catches-next c.args.self.now (search_of c.args.input) _
-    refl c.new.ensures refl
-
-pub returns-clause-errors : goal.returns-clause-errors
-returns-clause-errors c = catches-memory c.args.self.now (search_of c.args.input) _
-    refl c.new.ensures refl
+returns-clause-next c = c.catch_from.ensures.given.next
 
 pub returns-clause-rows : goal.returns-clause-rows
-returns-clause-rows c = catches-rows c.args.self.now (search_of c.args.input) _
-    refl c.new.ensures refl
+returns-clause-rows c = c.catch_from.ensures.given.rows
 
 pub returns-clause-matches : goal.returns-clause-matches
-returns-clause-matches c = catches-match c.args.self.now (search_of c.args.input) _
-    refl c.new.ensures refl
+returns-clause-matches c = c.catch_from.ensures.given.matches
 
 pub returns-clause-first_matches : goal.returns-clause-first_matches
-returns-clause-first_matches c = catches-first_matches c.args.self.now (search_of c.args.input) _
-    refl c.new.ensures refl
+returns-clause-first_matches c = c.catch_from.ensures.given.first_matches
 
 pub returns-clause-next_match : goal.returns-clause-next_match
-returns-clause-next_match c = catches-next_match c.args.self.now (search_of c.args.input) _
-    refl c.new.ensures refl
+returns-clause-next_match c = c.catch_from.ensures.given.next_match
 
 pub returns-clause-all_matches : goal.returns-clause-all_matches
-returns-clause-all_matches c = catches-all_matches c.args.self.now (search_of c.args.input) _
-    refl c.new.ensures refl
+returns-clause-all_matches c = c.catch_from.ensures.given.all_matches
 
 pub returns-clause-groups : goal.returns-clause-groups
-returns-clause-groups c = catches-groups c.args.self.now (search_of c.args.input) _
-    refl c.new.ensures refl
+returns-clause-groups c = c.catch_from.ensures.given.groups
 
 pub returns-clause-inside : goal.returns-clause-inside
-returns-clause-inside c = catches-within c.args.self.now (search_of c.args.input) _
-    refl c.new.ensures refl
+returns-clause-inside c = c.catch_from.ensures.given.inside
 
 pub returns-clause-apart : goal.returns-clause-apart
-returns-clause-apart c = catches-apart c.args.self.now (search_of c.args.input) _
-    refl c.new.ensures refl
-
-pub returns-clause-keeps : goal.returns-clause-keeps
-returns-clause-keeps c = catches-cache _
+returns-clause-apart c = c.catch_from.ensures.given.apart

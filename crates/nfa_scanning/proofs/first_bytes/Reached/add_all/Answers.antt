@@ -1,8 +1,8 @@
 -- Each of the states was reached.
 use Rattle.std.proofs.Common.{◌≡◌, ◌∙◌, ◌<◌, length, get_or, below_more, subst, sym}
 use Rattle.std.proofs.lemmas.List.{get_or_default}
-use Rattle.nfa_scanning.specs.FirstBytes.{IsReached}
-use Rattle.nfa_scanning.proofs.FirstLemmas.{Extends-then, IsReached-extends}
+use Rattle.nfa_scanning.specs.FirstBytes.{WasReached}
+use Rattle.nfa_scanning.proofs.FirstLemmas.{Extends-then, WasReached-extends}
 use Rattle.nfa_scanning.proofs.first_bytes.Reached.add_all.Goals as goal
 
 pub loop-i-preserved : goal.loop-i-preserved
@@ -10,13 +10,13 @@ loop-i-preserved c =
     let inside : c.loop-i.i < length c.args.sids.now = c.loop-i-test.true in
     let is : c.index-sids-i.result ≡ get_or c.args.sids.now c.loop-i.i 0 = c.index-sids-i.is
     ∙ get_or_default c.args.sids.now c.loop-i.i _ 0 inside in
-    let here : IsReached c.add.new.self (get_or c.args.sids.now c.loop-i.i 0) =
-    subst (λ s. IsReached c.add.new.self s) is (c.add.ensures.added c.if-not-add.false) in
+    let here : WasReached c.add.new.self (get_or c.args.sids.now c.loop-i.i 0) =
+    subst (λ s. WasReached c.add.new.self s) is (c.add.ensures.added c.if-not-add.false) in
     record {
       room = c.add.ensures.room;
       extends = Extends-then c.loop-i.invariant.extends c.add.ensures.extends;
-      added = λ k d h. below_more (λ k. IsReached c.add.new.self (get_or c.args.sids.now k d)) c.loop-i.i
-          (λ k l. IsReached-extends c.add.ensures.extends (c.loop-i.invariant.added k d l))
+      added = λ k d h. below_more (λ k. WasReached c.add.new.self (get_or c.args.sids.now k d)) c.loop-i.i
+          (λ k l. WasReached-extends c.add.ensures.extends (c.loop-i.invariant.added k d l))
           (rw (get_or_default c.args.sids.now c.loop-i.i d 0 inside) here) k h;
       below = λ n all prior. c.add.ensures.below n (subst (λ s. s < n) (sym is) (all c.loop-i.i 0 inside))
           (c.loop-i.invariant.below n all prior);

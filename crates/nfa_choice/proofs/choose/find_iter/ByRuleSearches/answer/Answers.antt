@@ -1,7 +1,7 @@
 -- The choice's match is the answer of the search.
 use Rattle.regex_search_core.specs.Search.{search_of}
 use Rattle.nfa_choice.specs.Choosing.{kind_in}
-use Rattle.nfa_choice.proofs.FindLemmas.{find-answered}
+use Rattle.nfa_search_base.proofs.EngineLemmas.{find-answered}
 use Rattle.nfa_choice.proofs.choose.find_iter.ByRuleSearches.answer.Goals as goal
 
 pub returns : goal.returns

@@ -1,7 +1,7 @@
 -- A step asks once, and a second time where the first answer repeats the last match.
 use Rattle.std.proofs.Common.{rules, ◌≡◌, ◌∙◌, true, false, ap}
 use Rattle.nfa_search_base.specs.Searchers.{walk_of}
-use Rattle.nfa_search_base.specs.Walks.{Walk, after, shifted, repeats}
+use Rattle.nfa_search_base.specs.Walks.{Walk, after}
 use Rattle.nfa_search_base.proofs.StepLemmas.{step-once, step-twice}
 use Rattle.nfa_search_base.proofs.iter.searcher.Searcher.step_with.Goals as goal
 

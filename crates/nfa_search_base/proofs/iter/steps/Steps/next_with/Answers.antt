@@ -1,9 +1,7 @@
 -- A step by searches with a cache is a step of the iterator.
-use Rattle.nfa_search_base.specs.Lending.{With, lend}
 use Rattle.nfa_search_base.specs.Searchers.{walk_of}
 use Rattle.nfa_search_base.specs.Walks.{IsInside}
 use Rattle.nfa_search_base.proofs.StepLemmas.{ServesTurn-now}
-use Rattle.nfa_search_base.proofs.StoredLemmas.{takes-step}
 use Rattle.nfa_search_base.proofs.iter.steps.Steps.next_with.Goals as goal
 
 pub step_with-reply-requires : goal.step_with-reply-requires

@@ -1,0 +1,28 @@
+-- All that the calls of an engine's iterator over captures have given, wherever they stop.
+use Rattle.std.specs.Prelude.{Bool, Option, Result}
+use Rattle.regex_search_core.specs.Search.{Search}
+use Rattle.regex_search_core.specs.Slots.{Captured}
+use Rattle.regex_search_core.specs.declared.search.MatchKind.{MatchKind}
+use Rattle.thompson_nfa.specs.Automaton.{Automaton}
+use Rattle.nfa_search_base.specs.Catching.{Row}
+use Rattle.nfa_search_base.specs.CaughtRuns.{CapturesRun, CapturesFirst, CapturesNext, CapturesGroups, CapturesWithin}
+use Rattle.nfa_search_base.specs.CaughtRuns.{CapturesApart, RowsRun, MatchesInRun, MatchesInFirst}
+use Rattle.nfa_search_base.specs.CaughtRuns.{MatchesInAll, MatchesInNext}
+use Rattle.nfa_search_base.specs.Walks.{Answer}
+use Rattle.nfa_search_base.specs.declared.error.SearchError.{SearchError}
+
+-- The calls of an iterator at s are `steps`; its searches of x `Tell` the rows of the NFA, or err.
+pub record CapturesGiven {T : Type 0} (steps : T → Option (Result Captured SearchError) → T → Type 0)
+    (nfa : Automaton) (kind : MatchKind) (earliest : Bool) (Tells : Search → Answer Row → Type 0) (x : Search)
+    (s : T) : Type 0 where
+  pub runs : CapturesRun steps Tells x s
+  pub first : CapturesFirst steps Tells x s
+  pub next : CapturesNext steps Tells x s
+  pub rows : RowsRun steps nfa kind earliest x s
+  pub matches : MatchesInRun steps nfa kind earliest x s
+  pub first_matches : MatchesInFirst steps nfa kind earliest x s
+  pub next_match : MatchesInNext steps nfa kind earliest x s
+  pub all_matches : MatchesInAll steps nfa kind earliest x s
+  pub groups : CapturesGroups steps nfa s
+  pub inside : CapturesWithin steps x s
+  pub apart : CapturesApart steps x s

@@ -1,0 +1,56 @@
+-- The searches of an iteration by an engine: what they need, answer and leave.
+use Rattle.std.specs.Prelude.{◌≡◌, ◌⊎◌, Option}
+use Rattle.std.specs.Option.{ForSome}
+use Rattle.regex_search_core.specs.Found.{Found, found_of}
+use Rattle.regex_search_core.specs.Search.{Search}
+use Rattle.regex_search_core.specs.declared.search.Match.{Match}
+use Rattle.thompson_nfa.specs.Automaton.{Automaton}
+use Rattle.nfa_search_base.specs.Catching.{Catching, Row}
+use Rattle.nfa_search_base.specs.CaughtLists.{HasGroups}
+use Rattle.nfa_search_base.specs.Lending.{With}
+use Rattle.nfa_search_base.specs.Walks.{Answer}
+
+-- an engine of one iteration, and the match that is known of the next search, if one is
+pub record Knowing (E : Type 0) : Type 0 where
+  pub engine : E
+  pub known : Option Match
+
+-- A match that is `Sure` is what a search finds, whoever makes it.
+module _ {E : Type 0} (Sure : E → Search → Found → Type 0) where
+  -- what is known of the searches like x: nothing, or the match of the one that starts where this match ends
+  abbrev pub IsKnownFrom : E → Search → Option Match → Type 0
+  IsKnownFrom e x known = ForSome known (λ m. Sure e (record x { start = m.span.end }) (found_of m))
+
+  -- What asks is `shown` as an engine and what is known.
+  module _ {A C : Type 0} (shown : A → Knowing E) where
+    -- the cache fits, and what is known is so of searches like this one
+    pub record MayFind (Fits : C → E → Type 0) (s : With A C) (x : Search) : Type 0 where
+      pub fits : Fits s.cache (shown s.asker).engine
+      pub knows : IsKnownFrom (shown s.asker).engine x (shown s.asker).known
+
+    -- A search by the engine may answer this, which is what it `Tells`. It does `Work` with the cache, once, or it is
+    -- not made where its answer was known.
+    pub record AsksEngine (Tells : E → Search → Answer Found → Type 0)
+        (Work : E → Search → Answer Found → C → C → Type 0) (s : With A C) (x : Search) (a : Answer Found)
+        (t : With A C) : Type 0 where
+      pub finds : Tells (shown s.asker).engine x a
+      pub engine : (shown t.asker).engine ≡ (shown s.asker).engine
+      pub knows : IsKnownFrom (shown t.asker).engine x (shown t.asker).known
+      pub work : (t.cache ≡ s.cache) ⊎ Work (shown s.asker).engine x a s.cache t.cache
+
+-- An engine that fills captures, of an NFA.
+module _ {E C : Type 0} (nfa : E → Automaton) where
+  -- the cache fits, and the captures have the groups of the NFA
+  pub record MayCatch (Fits : C → E → Type 0) (s : With (Catching E) C) : Type 0 where
+    pub fits : Fits s.cache s.asker.finder
+    pub holds : HasGroups (nfa s.asker.finder) s.asker.captures
+
+  -- A search by the engine may answer this, which is what it `Tells`. It does `Work` with the cache, once, and keeps
+  -- the groups of the captures.
+  pub record AsksEngineRow (Tells : E → Search → Answer Row → Type 0)
+      (Work : E → Search → Answer Row → C → C → Type 0) (s : With (Catching E) C) (x : Search) (a : Answer Row)
+      (t : With (Catching E) C) : Type 0 where
+    pub tells : Tells s.asker.finder x a
+    pub engine : t.asker.finder ≡ s.asker.finder
+    pub holds : HasGroups (nfa s.asker.finder) t.asker.captures
+    pub work : Work s.asker.finder x a s.cache t.cache
