@@ -6,7 +6,7 @@ use Rattle.regex_search_core.specs.Groups.{slot_count}
 use Rattle.regex_search_core.specs.Search.{Search}
 use Rattle.regex_search_core.specs.Slots.{Captured}
 use Rattle.regex_search_core.specs.declared.search.MatchKind.TheVariants.{LeftmostFirst}
-use Rattle.nfa_paths.specs.Paths.{IsAnswer, span_len}
+use Rattle.nfa_paths.specs.Paths.{IsAnswer, IsWithinScans, IsWork, span_len}
 use Rattle.nfa_search_base.specs.CapturesGiven.{CapturesGiven}
 use Rattle.nfa_search_base.specs.Catching.{Catching, GivesCaptures, Row, caught_by, row_span}
 use Rattle.nfa_search_base.specs.Lending.{With}
@@ -23,7 +23,7 @@ use Rattle.nfa_backtrack.specs.Backtrack.{Backtracker, CountsAnswer, CountsRefus
 use Rattle.nfa_backtrack.specs.CapturesMatches.{AsksBacktrackerRow, CatchesRefused, MayCatchByBacktracker}
 use Rattle.nfa_backtrack.specs.CapturesMatches.{backtracker_catches, backtracker_catches_next}
 use Rattle.nfa_backtrack.specs.FindMatches.{fits_always}
-use Rattle.nfa_backtrack.specs.Finding.{Counts, IsCatchOf, SearchesOnce}
+use Rattle.nfa_backtrack.specs.Finding.{Counts, DoesWork, IsCatchOf, SearchesOnce}
 use Rattle.nfa_backtrack.specs.declared.captures_iter.TryCapturesMatches.{TryCapturesMatches}
 use Rattle.nfa_backtrack.proofs.FindLemmas.{still-fits}
 
@@ -59,6 +59,12 @@ pub counts-caught : (c : Captured) (r : Result (Unit {0}) SearchError) (old new 
     → OnErr r (CountsRefusal old new) → Counts (caught_by c r) old new
 counts-caught c (Ok u) old new answered refused = answered
 counts-caught c (Err error) old new answered refused = refused
+
+pub work-caught : (e : Backtracker) (x : Search) (c : Captured) (r : Result (Unit {0}) SearchError) (new : Work)
+    → OnOk r (IsWork e.nfa LeftmostFirst false x new.scans new.turns)
+    → OnErr r (IsWithinScans e.nfa LeftmostFirst false x new.scans) → DoesWork e x (caught_by c r) new
+work-caught e x c (Ok u) new work within = work
+work-caught e x c (Err error) new work within = within
 
 -- what is answered lies in the span
 catch-lies : (e : Backtracker) (t : Search) (a : Answer Row) → IsCatchOf e t a → IsInside row_span t a

@@ -6,7 +6,7 @@ use Rattle.regex_search_core.specs.Found.{Found, found_of}
 use Rattle.regex_search_core.specs.Search.{Search}
 use Rattle.regex_search_core.specs.declared.search.Match.{Match}
 use Rattle.regex_search_core.specs.declared.search.MatchKind.TheVariants.{LeftmostFirst}
-use Rattle.nfa_paths.specs.Paths.{span_len}
+use Rattle.nfa_paths.specs.Paths.{IsWithinScans, IsWork, span_len}
 use Rattle.nfa_paths.proofs.KnownLemmas.{match-sure, sure-match}
 use Rattle.nfa_search_base.specs.Asking.{SameButStart}
 use Rattle.nfa_search_base.specs.Finders.{answer_by}
@@ -23,7 +23,7 @@ use Rattle.nfa_search_base.proofs.WalkLemmas.{IsOrdered}
 use Rattle.nfa_backtrack.specs.Backtrack.{Backtracker, CountsAnswer, CountsRefusal, IsTooLong, Work}
 use Rattle.nfa_backtrack.specs.FindMatches.{AsksBacktracker, MayFindByBacktracker, backtracker_finds}
 use Rattle.nfa_backtrack.specs.FindMatches.{backtracker_knowing, fits_always}
-use Rattle.nfa_backtrack.specs.Finding.{Counts, IsFindOf, IsSureAt, SearchesOnce}
+use Rattle.nfa_backtrack.specs.Finding.{Counts, DoesWork, IsFindOf, IsSureAt, SearchesOnce}
 use Rattle.nfa_backtrack.specs.declared.find_iter.Finder.{Finder}
 use Rattle.nfa_backtrack.specs.declared.find_iter.TryFindMatches.{TryFindMatches}
 
@@ -49,6 +49,14 @@ pub counts-by : (r : Result (Option Match) SearchError) (old new : Work) → OnO
 counts-by (Ok (Some m)) old new answered refused = answered
 counts-by (Ok None) old new answered refused = answered
 counts-by (Err error) old new answered refused = refused
+
+-- and its work is that of what it answers
+pub work-by : (e : Backtracker) (x : Search) (r : Result (Option Match) SearchError) (new : Work)
+    → OnOk r (IsWork e.nfa LeftmostFirst false x new.scans new.turns)
+    → OnErr r (IsWithinScans e.nfa LeftmostFirst false x new.scans) → DoesWork e x (answer_by found_of r) new
+work-by e x (Ok (Some m)) new work within = work
+work-by e x (Ok None) new work within = work
+work-by e x (Err error) new work within = within
 
 -- a match that is found lies in the span
 pub find-lies : (e : Backtracker) (t : Search) (a : Answer Found) → IsFindOf e t a

@@ -1,7 +1,7 @@
 -- The search is made once, and answers what its captures hold.
 use Rattle.std.proofs.Common.{◌∙◌}
 use Rattle.regex_search_core.specs.Search.{search_of}
-use Rattle.nfa_backtrack.proofs.CaughtLemmas.{caught-answer, counts-caught}
+use Rattle.nfa_backtrack.proofs.CaughtLemmas.{caught-answer, counts-caught, work-caught}
 use Rattle.nfa_backtrack.proofs.engine.BoundedBacktracker.catch_at.Goals as goal
 
 pub returns-clause-tells : goal.returns-clause-tells
@@ -16,7 +16,10 @@ returns-clause-once c =
     record {
       total = e.total;
       counts = counts-caught c.try_search.new.captures c.try_search.result _ _ e.answered e.refused;
+      exact = work-caught c.args.self.now (search_of c.args.input.now) c.try_search.new.captures c.try_search.result
+          c.try_search.new.cache e.work e.within;
       scans = e.scans;
       turns = e.turns;
       blocks = e.blocks;
+      early = e.early;
     }

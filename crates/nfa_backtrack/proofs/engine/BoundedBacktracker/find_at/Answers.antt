@@ -1,5 +1,6 @@
 -- The search is made once, and counted as what it answers.
-use Rattle.nfa_backtrack.proofs.FindLemmas.{counts-by}
+use Rattle.regex_search_core.specs.Search.{search_of}
+use Rattle.nfa_backtrack.proofs.FindLemmas.{counts-by, work-by}
 use Rattle.nfa_backtrack.proofs.engine.BoundedBacktracker.find_at.Goals as goal
 
 pub returns-clause-once : goal.returns-clause-once
@@ -8,7 +9,9 @@ returns-clause-once c =
     record {
       total = e.total;
       counts = counts-by c.try_find.result _ _ e.answered e.refused;
+      exact = work-by c.args.self.now (search_of c.args.input.now) c.try_find.result c.try_find.new.cache e.work e.within;
       scans = e.scans;
       turns = e.turns;
       blocks = e.blocks;
+      early = e.early;
     }
