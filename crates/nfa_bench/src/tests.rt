@@ -82,7 +82,7 @@ fn says_which_length_is_too_long(rt: HostRuntime) -> Result<(), Fail> {
 fn says_that_memory_was_refused(rt: HostRuntime) -> Result<(), Fail> {
     let mut out = Vec::new(rt.alloc());
     assert_eq!(rt; print_end(Err(Stop::Memory), &mut out)?, 1);
-    assert_eq!(rt; out.as_slice(), b"out of memory\n");
+    assert_eq!(rt; out.as_slice(), "out of memory\n".as_bytes());
     Ok(())
 }
 
