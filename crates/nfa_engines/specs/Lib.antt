@@ -21,7 +21,9 @@ pub use Rattle.nfa_paths.specs.Paths
 pub use Rattle.nfa_search_base.specs.Asking
 pub use Rattle.nfa_search_base.specs.Catching
 pub use Rattle.nfa_search_base.specs.CaughtLists
+pub use Rattle.nfa_search_base.specs.CapturesGiven
 pub use Rattle.nfa_search_base.specs.CaughtRuns
+pub use Rattle.nfa_search_base.specs.CaughtSteps
 pub use Rattle.nfa_search_base.specs.EngineSearches
 pub use Rattle.nfa_search_base.specs.Finders
 pub use Rattle.nfa_search_base.specs.Items
@@ -34,6 +36,7 @@ pub use Rattle.nfa_search_base.specs.Serving
 pub use Rattle.nfa_search_base.specs.Skipping
 pub use Rattle.nfa_search_base.specs.Steps
 pub use Rattle.nfa_search_base.specs.Stored
+pub use Rattle.nfa_search_base.specs.StoredRuns
 pub use Rattle.nfa_search_base.specs.Walks
 pub use Rattle.regex_search_core.specs.Boundary
 pub use Rattle.regex_search_core.specs.Found

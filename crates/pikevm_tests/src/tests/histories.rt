@@ -92,3 +92,46 @@ fn a_used_cache_of_a_backtracker_answers_as_a_fresh_one(rt: HostRuntime) -> Resu
     expect_tried(&rt, alloc, &engine);
     Ok(())
 }
+
+// A PikeVM, and a cache that fits it: a fact of the type.
+#[derive(Drop)]
+struct Matcher<'v> {
+    vm: &'v PikeVM,
+    cache: Cache,
+    ghost fits: { Fits cache vm.now.nfa },
+}
+
+impl<'v> Matcher<'v> {
+    fn new(alloc: Global, vm: &'v PikeVM) -> Result<Matcher<'v>, SearchError> {
+        let cache = vm.create_cache(alloc)?;
+        Ok(Matcher { vm, cache })
+    }
+
+    // How many matches the text has.
+    fn count(&mut self, text: &[u8]) -> usize {
+        let mut count = 0usize;
+        for _ in self.vm.find_iter(&mut self.cache, Input::new(text)) {
+            count = count.saturating_add(1);
+        }
+        count
+    }
+}
+
+// How many all texts have together, with one cache and no proof file.
+fn count_in_texts(matcher: &mut Matcher<'_>, texts: &[&[u8]]) -> usize {
+    let mut count = 0usize;
+    for text in texts {
+        count = count.saturating_add(matcher.count(text));
+    }
+    count
+}
+
+#[test]
+fn one_cache_serves_many_texts(rt: HostRuntime) -> Result<(), Fail> {
+    let alloc = rt.alloc();
+    let vm = pikevm(alloc, "foo_num")?;
+    let mut matcher = Matcher::new(alloc, &vm)?;
+    let count = count_in_texts(&mut matcher, &[TEXT, b"", b"foo3 foo", TEXT]);
+    assert_eq!(rt; count, 5);
+    Ok(())
+}
