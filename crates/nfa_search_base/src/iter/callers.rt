@@ -1,18 +1,20 @@
 //! Callers of the iterators over stored finders, as a user would write them.
 ghost use Rattle.std.specs.Prelude.{◌≡◌, [], ◌∷◌, Some, Ok, IfOk, IsTrue, map};
-ghost use Rattle.regex_search_core.specs.Found.{found_of};
+ghost use Rattle.regex_search_core.specs.Found.{found_of, half_found_of};
 ghost use Rattle.regex_search_core.specs.Search.{search_of, whole};
-ghost use Rattle.nfa_search_base.specs.Catching.{UpToRefusal, caught_by, row_of, row_span};
+ghost use Rattle.nfa_search_base.specs.Catching.{CatchesAlong, UpToRefusal, caught_by, row_of, row_span};
+ghost use Rattle.nfa_search_base.specs.CaughtLists.{AreAllCaught};
 ghost use Rattle.nfa_search_base.specs.EmptyFinder.{EmptyTells, empty_answer, zero_row};
-ghost use Rattle.nfa_search_base.specs.Finders.{answer_by};
+ghost use Rattle.nfa_search_base.specs.Finders.{AnswersAlong, answer_by};
 ghost use Rattle.nfa_search_base.specs.Items.{item_by, greedy};
 ghost use Rattle.nfa_search_base.specs.Lists.{AreAllFound};
-ghost use Rattle.nfa_search_base.specs.Walks.{IsInside, fresh, span_of};
+ghost use Rattle.nfa_search_base.specs.StoredRuns.{MayAnswer, MayAnswerRow};
+ghost use Rattle.nfa_search_base.specs.Walks.{IsInside, IsSurelyInside, fresh, half_span_of, span_of};
 
 use crate::error::SearchError;
 use crate::iter::Searcher;
 use regex_search_core::{
-    Captures, GroupInfo, Input, Match, MatchError, NonMaxUsize, PatternID, Span,
+    Captures, GroupInfo, HalfMatch, Input, Match, MatchError, NonMaxUsize, PatternID, Span,
 };
 use std::alloc::{AllocError, Global};
 use std::test::Fail;
@@ -40,6 +42,103 @@ fn collected(alloc: Global, haystack: &[u8]) -> Result<Vec<Result<Match, SearchE
     let searcher = Searcher::new(input);
     let items = searcher.into_matches_iter(empty_at_start);
     items.collect(alloc)
+}
+
+// What any finder tells, collected: the list of it.
+pub(super) fn collected_by<F>(
+    alloc: Global,
+    haystack: &[u8],
+    finder: F,
+) -> Result<Vec<Result<Match, SearchError>>, AllocError>
+where
+    F: FnMut(&Input<'_>) -> Result<Option<Match>, SearchError>,
+    requires { AnswersAlong found_of F.FnMut (IsInside span_of) finder (whole haystack.now) }
+    ensures { IfOk result (λ v. AreAllFound span_of (MayAnswer found_of span_of F.FnMut finder (whole haystack.now))
+        found_of (fresh (whole haystack.now)) v.items) }
+{
+    let input = Input::new(haystack);
+    let searcher = Searcher::new(input);
+    searcher.into_matches_iter(finder).collect(alloc)
+}
+
+// The same of a finder that never errs.
+pub(super) fn surely_collected_by<F>(
+    alloc: Global,
+    haystack: &[u8],
+    finder: F,
+) -> Result<Vec<Match>, AllocError>
+where
+    F: FnMut(&Input<'_>) -> Result<Option<Match>, SearchError>,
+    requires inside { AnswersAlong found_of F.FnMut (IsInside span_of) finder (whole haystack.now) }
+    requires surely { AnswersAlong found_of F.FnMut (IsSurelyInside span_of) finder (whole haystack.now) }
+    ensures { IfOk result (λ v. AreAllFound span_of (MayAnswer found_of span_of F.FnMut finder (whole haystack.now))
+        found_of (fresh (whole haystack.now)) (map (λ m. Ok m) v.items)) }
+{
+    let input = Input::new(haystack);
+    let searcher = Searcher::new(input);
+    let items = searcher.into_matches_iter(finder);
+    items.infallible().collect(alloc)
+}
+
+// The same of half matches.
+pub(super) fn halves_collected_by<F>(
+    alloc: Global,
+    haystack: &[u8],
+    finder: F,
+) -> Result<Vec<Result<HalfMatch, SearchError>>, AllocError>
+where
+    F: FnMut(&Input<'_>) -> Result<Option<HalfMatch>, SearchError>,
+    requires { AnswersAlong half_found_of F.FnMut (IsInside half_span_of) finder (whole haystack.now) }
+    ensures { IfOk result (λ v. AreAllFound half_span_of
+        (MayAnswer half_found_of half_span_of F.FnMut finder (whole haystack.now)) half_found_of
+        (fresh (whole haystack.now)) v.items) }
+{
+    let input = Input::new(haystack);
+    let searcher = Searcher::new(input);
+    searcher.into_half_matches_iter(finder).collect(alloc)
+}
+
+// The captures that any finder leaves, collected.
+fn captures_collected_by<F>(
+    alloc: Global,
+    haystack: &[u8],
+    captures: Captures,
+    finder: F,
+) -> Result<Vec<Result<Captures, SearchError>>, AllocError>
+where
+    F: FnMut(&Input<'_>, &mut Captures) -> Result<(), SearchError>,
+    requires { CatchesAlong F.FnMut (IsInside row_span) (record { finder = finder; captures = captures })
+        (whole haystack.now) }
+    ensures { IfOk result (λ v. AreAllCaught
+        (MayAnswerRow F.FnMut (record { finder = finder; captures = captures }) (whole haystack.now))
+        (fresh (whole haystack.now)) v.items) }
+{
+    let input = Input::new(haystack);
+    let searcher = Searcher::new(input);
+    searcher.into_captures_iter(captures, finder).collect(alloc)
+}
+
+// The same of a finder that never errs.
+fn captures_surely_collected_by<F>(
+    alloc: Global,
+    haystack: &[u8],
+    captures: Captures,
+    finder: F,
+) -> Result<Vec<Result<Captures, SearchError>>, AllocError>
+where
+    F: FnMut(&Input<'_>, &mut Captures) -> Result<(), SearchError>,
+    requires inside { CatchesAlong F.FnMut (IsInside row_span) (record { finder = finder; captures = captures })
+        (whole haystack.now) }
+    requires surely { CatchesAlong F.FnMut (IsSurelyInside row_span) (record { finder = finder; captures = captures })
+        (whole haystack.now) }
+    ensures { IfOk result (λ v. AreAllCaught
+        (MayAnswerRow F.FnMut (record { finder = finder; captures = captures }) (whole haystack.now))
+        (fresh (whole haystack.now)) v.items) }
+{
+    let input = Input::new(haystack);
+    let searcher = Searcher::new(input);
+    let items = searcher.into_captures_iter(captures, finder);
+    items.infallible().collect(alloc)
 }
 
 // The greedy list of that finder, by a loop.
@@ -267,5 +366,23 @@ fn a_list_of_captures_is_collected(rt: HostRuntime) -> Result<(), Fail> {
     let captures = captures_at(alloc, 0, 0)?;
     assert!(rt; are_zeros(&captures));
     assert_eq!(rt; collected_captures(alloc, b"ab", captures)?.len(), 1);
+    Ok(())
+}
+
+#[test]
+fn captures_that_a_finder_leaves_are_collected(rt: HostRuntime) -> Result<(), Fail> {
+    let alloc = rt.alloc();
+    let some = captures_collected_by(
+        alloc,
+        b"ab",
+        captures_at(alloc, 0, 1)?,
+        |input, captures| captured_or_fails(input, captures, 1),
+    )?;
+    assert_eq!(rt; some.len(), 2);
+    let all = captures_surely_collected_by(alloc, b"ab", no_captures(alloc)?, |input, captures| {
+        captures.set_pattern(None);
+        Ok(())
+    })?;
+    assert_eq!(rt; all.len(), 0);
     Ok(())
 }

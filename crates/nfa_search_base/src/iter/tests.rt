@@ -4,6 +4,7 @@ ghost use Rattle.nfa_search_base.specs.Finders.{match_place, half_place};
 ghost use Rattle.nfa_search_base.specs.Walks.{LiesIn};
 
 use crate::error::SearchError;
+use crate::iter::callers::{collected_by, halves_collected_by, surely_collected_by};
 use crate::iter::{Offered, Searcher};
 use regex_search_core::{HalfMatch, Input, Match, MatchError, PatternID, Span};
 use std::test::Fail;
@@ -183,6 +184,18 @@ fn infallible_forms(rt: HostRuntime) -> Result<(), Fail> {
     assert_eq!(rt; half.input().start(), 0);
     assert_eq!(rt; full.count(), 3);
     assert_eq!(rt; half.count(), 3);
+    Ok(())
+}
+
+#[test]
+fn what_a_finder_tells_is_collected(rt: HostRuntime) -> Result<(), Fail> {
+    let alloc = rt.alloc();
+    let found = collected_by(alloc, b"ab", |input: &Input<'_>| Ok(nearest(input, 0)))?;
+    assert_eq!(rt; found.len(), 3);
+    let surely = surely_collected_by(alloc, b"ab", |input: &Input<'_>| Ok(nearest(input, 0)))?;
+    assert_eq!(rt; surely.len(), 3);
+    let halves = halves_collected_by(alloc, b"ab", |input: &Input<'_>| Ok(nearest_half(input, 0)))?;
+    assert_eq!(rt; halves.len(), 3);
     Ok(())
 }
 
