@@ -222,7 +222,11 @@ fn expect_lists(
     expect_items(rt, &first_items(alloc, engine, cache, HAYSTACK)?, 2);
     expect_matches(rt, &looped(alloc, engine, cache, HAYSTACK)?, 6);
     expect_matches(rt, &first_two(alloc, engine, cache, HAYSTACK)?, 2);
-    expect_matches(rt, &engine.try_find_all(alloc, cache, Input::new(HAYSTACK))?, 6);
+    expect_matches(
+        rt,
+        &engine.try_find_all(alloc, cache, Input::new(HAYSTACK))?,
+        6,
+    );
     Ok(())
 }
 
