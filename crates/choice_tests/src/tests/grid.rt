@@ -21,7 +21,7 @@ const HAYSTACKS: &[&[u8]] = &[
     b"\x80a\xE2\x98",
 ];
 
-// Bytes of marks: none, a single block, and the default.
+// Bytes of marks: none, ten, which make two blocks, and the default.
 const CAPACITIES: &[Option<usize>] = &[Some(0), Some(10), None];
 
 // Both give this pattern and leave this in as many slots as any sample has, and two more. The cache fits.
