@@ -13,8 +13,9 @@ use Rattle.nfa_paths.specs.Exploring.Item.{Explore as ToExplore, Load as ToLoad}
 use Rattle.nfa_paths.specs.Kinds.{first_match, before_match, last_match, NoMatch}
 use Rattle.nfa_paths.proofs.AnswerLemmas.{IsMatch-edges}
 use Rattle.nfa_pikevm.specs.Rows.{Marks, Active}
-use Rattle.nfa_pikevm.specs.States.{Front, moves, work_onto, with_state, state_on, tries, meant, IsHit, Follows, Formed, Paid, HasRoom, Enters, Arrives}
+use Rattle.nfa_pikevm.specs.States.{Front, moves, work_onto, with_state, state_on, tries, meant, IsHit, Follows, Formed, Paid, HasRoom, KeepsRoom, Enters, Finds, Arrives}
 use Rattle.nfa_pikevm.specs.declared.closure.Move.{Move}
+use Rattle.nfa_pikevm.specs.declared.closure.Reached.{Reached}
 use Rattle.nfa_pikevm.specs.declared.closure.Move.TheVariants.{Matched}
 use Rattle.nfa_pikevm.specs.declared.frame.FollowEpsilon.{FollowEpsilon}
 use Rattle.nfa_pikevm.proofs.FollowLemmas.{Follows-then, Follows-none}
@@ -104,6 +105,16 @@ pub same-items : (a b c : Active) → b ≡ record a { items = b.items } → c �
     → c ≡ record a { items = c.items }
 same-items a b c e f = cc
 
+-- the room that is kept
+pub KeepsRoom-none : (a : Reached) → KeepsRoom a a
+KeepsRoom-none a = record { size = refl; same = refl }
+
+pub KeepsRoom-then : {a b c : Reached} → KeepsRoom a b → KeepsRoom b c → KeepsRoom a c
+KeepsRoom-then {a} {b} {c} k l = record {
+  size = l.size ∙ k.size;
+  same = same-items a.next b.next c.next k.same l.same;
+}
+
 -- what was paid for, one after the other
 pub Paid-then : {nfa : Automaton} {m n o : Marks} {i j k : ℕ} {stack above top : List FollowEpsilon}
     {hand middle left : ℕ}
@@ -132,16 +143,124 @@ Paid-resumed t u frames left less inside e p = record {
 }
 
 -- there is still room
-pub HasRoom-paid : {nfa : Automaton} {m n : Marks} {size kept places more : ℕ} {hand left : ℕ} (top : ℕ)
-    (frames : List FollowEpsilon)
-    → HasRoom nfa m.bits 0 size kept places → Paid nfa m kept [] hand n more (take top frames) left
-    → length n.bits ≡ length m.bits → top ≤ length frames
-    → HasRoom nfa n.bits top size more places
-HasRoom-paid top frames room paid same inside = record {
+pub HasRoom-paid : {nfa : Automaton} {m n : Marks} {size kept places more : ℕ} {hand left : ℕ} (top now : ℕ)
+    (frames after : List FollowEpsilon)
+    → HasRoom nfa m.bits top size kept places → Paid nfa m kept (take top frames) hand n more (take now after) left
+    → length n.bits ≡ length m.bits → top ≤ length frames → now ≤ length after
+    → HasRoom nfa n.bits now size more places
+HasRoom-paid top now frames after room paid same inside within = record {
   marks = omega (arith, room.marks);
-  frames_fit = omega (arith, room.frames_fit, paid.framed, length-take-le top frames inside);
+  frames_fit = omega (
+    arith,
+    room.frames_fit,
+    paid.framed,
+    length-take-le top frames inside,
+    length-take-le now after within,
+  );
   states_fit = omega (arith, room.states_fit, paid.entered);
 }
+
+-- What comes of the state s up to the next match, with a state in hand and a stack that are still to be followed.
+pub record Passed (nfa : Automaton) (x : Search) (at s : ℕ) (met : Marks) (items : List (ℕ × Slots))
+    (below : List FollowEpsilon) (row : Slots)
+    (after : Marks) (kept : List (ℕ × Slots)) (state : Option ℕ) (stack : List FollowEpsilon) (now : Slots)
+    : Type 0 where
+  pub front : Front
+  pub added : kept ≡ items ++ moves (edges nfa x) front
+  pub plain : NoMatch (is_match nfa) front
+  pub formed : (before : Front) → Formed nfa at met.bits before → Formed nfa at after.bits (before ++ front)
+  pub follows : (before : Front) (old : Slots) (work : List Item)
+      → Follows nfa x at met before (ToExplore (s, at) ∷ work_onto at below (ToLoad old ∷ work)) row
+      after (before ++ front) (with_state at state (work_onto at stack (ToLoad old ∷ work))) now
+
+-- nothing was followed yet
+pub Passed-begin : (nfa : Automaton) (x : Search) (at s : ℕ) (met : Marks) (items : List (ℕ × Slots))
+    (below : List FollowEpsilon) (row : Slots)
+    → Passed nfa x at s met items below row met items (Some s) below row
+Passed-begin nfa x at s met items below row = record {
+  front = [];
+  added = sym (append-nil items);
+  plain = λ b i. absurd i;
+  formed = λ before f. rw (append-nil before) f;
+  follows = λ before old work. rw (append-nil before)
+      (Follows-none nfa x at met before (ToExplore (s, at) ∷ work_onto at below (ToLoad old ∷ work)) row);
+}
+
+module _ {nfa : Automaton} {x : Search} {at s : ℕ} {met : Marks} {items : List (ℕ × Slots)}
+    {below : List FollowEpsilon} {row : Slots}
+    {m : Marks} {i : List (ℕ × Slots)} {stack : List FollowEpsilon} {now : Slots} where
+  -- frames are taken up
+  pub Passed-resumed : (state : Option ℕ) (above : List FollowEpsilon) (then : Slots)
+      → ((front : Front) (work : List Item) → Follows nfa x at m front (work_onto at stack work) now m front
+      (with_state at state (work_onto at above work)) then)
+      → Passed nfa x at s met items below row m i None stack now
+      → Passed nfa x at s met items below row m i state above then
+  Passed-resumed state above then takes f = record {
+    front = f.front;
+    added = f.added;
+    plain = f.plain;
+    formed = f.formed;
+    follows = λ before old work. Follows-then nfa x at (f.follows before old work)
+        (takes (before ++ f.front) (ToLoad old ∷ work));
+  }
+
+  -- no match came
+  pub Finds-none : (f : Passed nfa x at s met items below row m i None stack now)
+      → Finds nfa x at s met items below row None m i stack now
+  Finds-none f = record {
+    front = f.front;
+    added = f.added;
+    ends = f.plain;
+    formed = f.formed;
+    follows = f.follows;
+  }
+
+  -- A turn adds its front.
+  module _ {sid : ℕ} {n : Marks} {j : List (ℕ × Slots)} {above : List FollowEpsilon} {then : Slots} {turn : Move}
+      (f : Passed nfa x at s met items below row m i (Some sid) stack now)
+      (h : Enters nfa x at sid m i stack now turn n j above then) where
+    passed_added : j ≡ items ++ moves (edges nfa x) (f.front ++ h.front)
+    passed_added =
+        h.added ∙ ap (λ l. l ++ moves (edges nfa x) h.front) f.added
+        ∙ append_assoc items (moves (edges nfa x) f.front) (moves (edges nfa x) h.front)
+        ∙ ap (λ l. items ++ l) (sym (moves-append (edges nfa x) f.front h.front))
+
+    passed_formed : (before : Front) → Formed nfa at met.bits before
+        → Formed nfa at n.bits (before ++ (f.front ++ h.front))
+    passed_formed before k = rw (← append_assoc before f.front h.front) (h.formed (before ++ f.front)
+        (f.formed before k))
+
+    passed_follows : (before : Front) (old : Slots) (work : List Item)
+        → Follows nfa x at met before (ToExplore (s, at) ∷ work_onto at below (ToLoad old ∷ work)) row
+        n (before ++ (f.front ++ h.front)) (with_state at (state_on turn) (work_onto at above (ToLoad old ∷ work)))
+        then
+    passed_follows before old work = rw (← append_assoc before f.front h.front)
+        (Follows-then nfa x at (f.follows before old work) (h.follows (before ++ f.front) old work))
+
+    -- a turn that leads to no match
+    pub Passed-plain : NoMatch (is_match nfa) h.front
+        → Passed nfa x at s met items below row n j (state_on turn) above then
+    Passed-plain plain = record {
+      front = f.front ++ h.front;
+      added = passed_added;
+      plain = NoMatch-append (is_match nfa) f.front h.front f.plain plain;
+      formed = passed_formed;
+      follows = passed_follows;
+    }
+
+  -- a turn that leads to a match
+  pub Finds-match : {sid : ℕ} {n : Marks} {j : List (ℕ × Slots)} {above : List FollowEpsilon} {then : Slots}
+      {pattern : PatternID}
+      → (f : Passed nfa x at s met items below row m i (Some sid) stack now)
+      → (h : Enters nfa x at sid m i stack now (Matched pattern) n j above then)
+      → Finds nfa x at s met items below row (Some pattern) n j above then
+  Finds-match {sid} {then = then} f h = record {
+    front = f.front ++ h.front;
+    added = passed_added f h;
+    ends = (f.front, sid, f.plain, ap (λ l. f.front ++ l) h.is_met.0, h.is_met.1);
+    formed = passed_formed f h;
+    follows = passed_follows f h;
+  }
 
 -- What comes of the state s from its row, with a state in hand and a stack that are still to be followed.
 pub record Followed (nfa : Automaton) (x : Search) (at : ℕ) (past : Bool) (s : ℕ) (met : Marks)
@@ -217,8 +336,8 @@ module _ {nfa : Automaton} {x : Search} {at : ℕ} {past : Bool} {s : ℕ} {met 
 
   module _ {sid : ℕ} {n : Marks} {j : List (ℕ × Slots)} {above : List FollowEpsilon} {then : Slots}
       (f : Followed nfa x at past s met items row slots m i (Some sid) stack now hit written) where
-    -- A turn adds its front.
-    module _ {turn : Move} (h : Enters nfa x at sid m i stack now turn n j above then) where
+    -- What comes up to a match adds its front.
+    module _ {one : Option PatternID} (h : Finds nfa x at sid m i stack now one n j above then) where
       added : j ≡ items ++ moves (edges nfa x) (f.front ++ h.front)
       added =
           h.added ∙ ap (λ l. l ++ moves (edges nfa x) h.front) f.added
@@ -230,33 +349,45 @@ module _ {nfa : Automaton} {x : Search} {at : ℕ} {past : Bool} {s : ℕ} {met 
 
       follows : (before : Front) (old : Slots) (work : List Item)
           → Follows nfa x at met before (ToExplore (s, at) ∷ ToLoad old ∷ work) row
-          n (before ++ (f.front ++ h.front)) (with_state at (state_on turn) (work_onto at above (ToLoad old ∷ work)))
-          then
+          n (before ++ (f.front ++ h.front)) (work_onto at above (ToLoad old ∷ work)) then
       follows before old work = rw (← append_assoc before f.front h.front)
           (Follows-then nfa x at (f.follows before old work) (h.follows (before ++ f.front) old work))
 
-      -- a turn that leads to no match
-      pub Followed-plain : NoMatch (is_match nfa) h.front
-          → Followed nfa x at past s met items row slots n j (state_on turn) above then hit written
-      Followed-plain plain = record {
-        front = f.front ++ h.front;
-        added = added;
-        is_hit = rw (meant-plain (is_match nfa) past f.front h.front plain) f.is_hit;
-        plain = λ e. NoMatch-append (is_match nfa) f.front h.front (f.plain e) plain;
-        formed = formed;
-        follows = follows;
-      }
+    -- no match comes
+    pub Followed-plain : (h : Finds nfa x at sid m i stack now None n j above then)
+        → Followed nfa x at past s met items row slots n j None above then hit written
+    Followed-plain h = record {
+      front = f.front ++ h.front;
+      added = added h;
+      is_hit = rw (meant-plain (is_match nfa) past f.front h.front h.ends) f.is_hit;
+      plain = λ e. NoMatch-append (is_match nfa) f.front h.front (f.plain e) h.ends;
+      formed = formed h;
+      follows = follows h;
+    }
 
-    -- a turn that leads to a match
-    module _ {pattern : PatternID} (h : Enters nfa x at sid m i stack now (Matched pattern) n j above then) where
-      matches : is_match nfa (sid, at) ≡ true
-      matches = rw h.is_met.1 refl
+    -- a match comes
+    module _ {pattern : PatternID} (h : Finds nfa x at sid m i stack now (Some pattern) n j above then) where
+      abbrev v : Pair
+      v = (h.ends.1, at)
+
+      matches : is_match nfa v ≡ true
+      matches = rw h.ends.4 refl
+
+      -- all before it
+      abbrev ahead : Front
+      ahead = f.front ++ h.ends.0
+
+      split : f.front ++ h.front ≡ ahead ++ (v, then) ∷ []
+      split = ap (λ l. f.front ++ l) h.ends.3 ∙ sym (append_assoc f.front h.ends.0 ((v, then) ∷ []))
+
+      plain_ahead : past ≡ false → NoMatch (is_match nfa) ahead
+      plain_ahead e = NoMatch-append (is_match nfa) f.front h.ends.0 (f.plain e) h.ends.2
 
       hits : IsHit nfa (meant past (is_match nfa) (f.front ++ h.front)) slots (Some pattern) then
       hits = (
-        (sid, at),
-        rw h.is_met.0 (meant-new (is_match nfa) past f.front ((sid, at), then) f.plain matches),
-        h.is_met.1,
+        v,
+        rw split (meant-new (is_match nfa) past ahead (v, then) plain_ahead matches),
+        h.ends.4,
       )
 
       -- past it all is followed
@@ -275,18 +406,17 @@ module _ {nfa : Automaton} {x : Search} {at : ℕ} {past : Bool} {s : ℕ} {met 
       pub Arrives-cut : past ≡ false → Paid nfa met (length items) [] 1 n (length j) [] 0
           → Arrives nfa x at past s met items row slots (Some pattern) n j then
       Arrives-cut stops paid =
-          let v : Pair = (sid, at) in
-          let none : moves (edges nfa x) h.front ≡ [] =
-          rw h.is_met.0 (moves-one (edges nfa x) v then [] (IsMatch-edges nfa x v matches)) in
-          let before : before_match (is_match nfa) (f.front ++ h.front) ≡ f.front =
-          rw h.is_met.0 (before_match-new (is_match nfa) f.front (v, then) (f.plain stops) matches) in
+          let none : moves (edges nfa x) ((v, then) ∷ []) ≡ [] =
+          moves-one (edges nfa x) v then [] (IsMatch-edges nfa x v matches) in
           record {
             front = f.front ++ h.front;
             added = added h;
             is_hit = hits;
-            cut = λ e. ap (moves (edges nfa x)) before
-                ∙ sym (moves-append (edges nfa x) f.front h.front ∙ ap (λ l. moves (edges nfa x) f.front ++ l) none
-                ∙ append-nil (moves (edges nfa x) f.front));
+            cut = λ e.
+                ap (λ l. moves (edges nfa x) (before_match (is_match nfa) l)) split
+                ∙ ap (moves (edges nfa x)) (before_match-new (is_match nfa) ahead (v, then) (plain_ahead e) matches)
+                ∙ sym (ap (moves (edges nfa x)) split ∙ moves-append (edges nfa x) ahead ((v, then) ∷ [])
+                ∙ ap (λ l. moves (edges nfa x) ahead ++ l) none ∙ append-nil (moves (edges nfa x) ahead));
             formed = formed h;
             paid = paid;
             leads = λ before old work. record {

@@ -1,10 +1,8 @@
 -- What a turn comes to, and the turns of one state and of all states at a position, for a set of patterns. Rows have no
 -- slots.
 use Rattle.std.proofs.Common.{◌≡◌, ℕ, ◌<◌, ◌≤◌, ◌⊎◌, inl, inr, Bool, true, false, List, [], ◌∷◌, ◌++◌, length, map, take, refl, sym, ap, ◌∙◌, subst, arith, append_assoc, append-nil}
-use Rattle.std.specs.Prelude.{Option, None, Some, ◌&&◌, ◌||◌, nat_lt, All}
+use Rattle.std.specs.Prelude.{Option, None, Some, ◌&&◌, ◌||◌, nat_lt, not}
 use Rattle.std.proofs.lemmas.Bool.{cases_lt, le-ltb}
-use Rattle.std.proofs.lemmas.List.{take-take}
-use Rattle.std.proofs.lemmas.List.Elements.{All-take}
 use Rattle.regex_search_core.specs.PatternSets.{with_pattern}
 use Rattle.regex_search_core.specs.Search.{Search}
 use Rattle.regex_search_core.specs.Patterns.{number_of}
@@ -19,10 +17,8 @@ use Rattle.nfa_paths.proofs.AnswerLemmas.{IsMatch-edges}
 use Rattle.nfa_paths.proofs.SearchLemmas.{Answer-load, AnswerBehind-along}
 use Rattle.nfa_paths.proofs.SearchingLemmas.{Searching-load}
 use Rattle.nfa_pikevm.specs.Rows.{Marks, Active}
-use Rattle.nfa_pikevm.specs.States.{Front, moves, work_onto, with_state, state_on, IsMet, IsWithin, Enters, Formed, Paid, Follows}
-use Rattle.nfa_pikevm.specs.Overlapping.{permits, wants, Gathers, AdvancesInSet, ArrivesInSet}
-use Rattle.nfa_pikevm.specs.declared.closure.Move.{Move}
-use Rattle.nfa_pikevm.specs.declared.closure.Move.TheVariants.{On, Matched, Over}
+use Rattle.nfa_pikevm.specs.States.{Front, moves, work_onto, with_state, Finds, Formed, Paid, Follows}
+use Rattle.nfa_pikevm.specs.Overlapping.{permits, wants, Gathers, ArrivesInSet}
 use Rattle.nfa_pikevm.specs.declared.frame.FollowEpsilon.{FollowEpsilon}
 use Rattle.nfa_pikevm.proofs.OverlapSetLemmas.{wants-match, wants-here, Gathers-none, Gathers-one, Gathers-then, Gathers-capacity, before-none, before-then}
 
@@ -30,12 +26,6 @@ use Rattle.nfa_pikevm.proofs.OverlapSetLemmas.{wants-match, wants-here, Gathers-
 pub no-slots : (row : Slots) → length row ≡ 0 → row ≡ []
 no-slots [] e = refl
 no-slots (a ∷ row) e = absurd (omega (arith, e))
-
--- a stack that is cut is within as before
-pub within-cut : (states count t u : ℕ) (frames : List FollowEpsilon) → t ≤ u
-    → All (IsWithin states count) (take u frames) → All (IsWithin states count) (take t frames)
-within-cut states count t u frames less fits =
-    rw (← take-take t u frames less) (All-take (IsWithin states count) t (take u frames) fits)
 
 -- what a front leads on to, behind what another one does
 pub moves-append : (edges : Pair → List Pair) (f g : Front) → moves edges (f ++ g) ≡ moves edges f ++ moves edges g
@@ -142,78 +132,28 @@ module _ (nfa : Automaton) (x : Search) (at : ℕ) where
         ]
         below false e = cc
 
-    -- what a turn comes to
-
-    module _ (past : Bool) (s : ℕ) (met : Marks) (items : List (ℕ × Slots)) (stack : List FollowEpsilon)
-        (set : List Bool) (hit : Bool) (turn : Move) (after : Marks)
-        (kept : List (ℕ × Slots)) (above : List FollowEpsilon) (written : Slots) (gathered : List Bool) (now : Bool)
-        (e : Enters nfa x at s met items stack [] turn after kept above written) (empty : length written ≡ 0)
-        (t : MoveInSet past e.front set hit gathered now) where
-      turn-follows : (on : Option ℕ) → state_on turn ≡ on → (before : Front) (old : Slots) (work : List Item)
-          → Follows nfa x at met before (ToExplore (s, at) ∷ work_onto at stack (ToLoad old ∷ work)) [] after
-          (before ++ e.front) (with_state at on (work_onto at above (ToLoad old ∷ work))) []
-      turn-follows on is before old work =
-          subst (λ o. Follows nfa x at met before (ToExplore (s, at) ∷ work_onto at stack (ToLoad old ∷ work)) [] after
-          (before ++ e.front) (with_state at o (work_onto at above (ToLoad old ∷ work))) []) is
-          (subst (λ r. Follows nfa x at met before (ToExplore (s, at) ∷ work_onto at stack (ToLoad old ∷ work)) [] after
-          (before ++ e.front) (with_state at (state_on turn) (work_onto at above (ToLoad old ∷ work))) r)
-          (no-slots written empty) (e.follows before old work))
-
-      pub advances-on : (on : Option ℕ) → state_on turn ≡ on
-          → AdvancesInSet nfa x at past n s met items stack set hit on after kept above gathered now
-      advances-on on is = record {
-        front = e.front;
-        found = t.found;
-        added = e.added;
-        gathers = t.gathers;
-        cut = t.cut;
-        now_is = t.now_is;
-        formed = e.formed;
-        follows = turn-follows on is;
-      }
-
-      pub advances-resumed : (on : Option ℕ) (left : List FollowEpsilon) (row : Slots) → length row ≡ 0
-          → state_on turn ≡ None
-          → ((front : Front) (work : List Item) → Follows nfa x at after front (work_onto at above work) [] after front
-          (with_state at on (work_onto at left work)) row)
-          → AdvancesInSet nfa x at past n s met items stack set hit on after kept left gathered now
-      advances-resumed on left row short is resumed = record {
-        front = e.front;
-        found = t.found;
-        added = e.added;
-        gathers = t.gathers;
-        cut = t.cut;
-        now_is = t.now_is;
-        formed = e.formed;
-        follows = λ before old work.
-            follows-then (turn-follows None is before old work)
-            (subst (λ r. Follows nfa x at after (before ++ e.front) (work_onto at above (ToLoad old ∷ work)) [] after
-            (before ++ e.front) (with_state at on (work_onto at left (ToLoad old ∷ work))) r)
-            (no-slots row short) (resumed (before ++ e.front) (ToLoad old ∷ work)));
-      }
-
-    -- what was met, by the turn
-    module _ (past : Bool) (s : ℕ) (written : Slots) (set : List Bool) (hit : Bool) (gathered : List Bool) (now : Bool)
-        (turn : Move) (front : Front)
-        (met : IsMet nfa x (s, at) written turn front) where
-      pub turn-on : (on : ℕ) → turn ≡ On on → gathered ≡ set → now ≡ hit → MoveInSet past front set hit gathered now
-      turn-on on is = turn-plain past front set hit gathered now (rw is at met)
-
-      pub turn-over : turn ≡ Over → gathered ≡ set → now ≡ hit → MoveInSet past front set hit gathered now
-      turn-over is = turn-plain past front set hit gathered now (rw is at met)
-
-      pub turn-match : (pattern : PatternID) (permitted : Bool) → turn ≡ Matched pattern → permitted ≡ permits nfa x at
-          → length set ≡ n
-          → ((permitted && nat_lt (number_of pattern) n) ≡ false → gathered ≡ set)
-          → ((permitted && nat_lt (number_of pattern) n) ≡ true → gathered ≡ with_pattern set (number_of pattern))
-          → now ≡ ((permitted && nat_lt (number_of pattern) n) || hit)
-          → MoveInSet past front set hit gathered now
-      turn-match pattern permitted is may size dead put noted =
-          let m : (front ≡ ((s, at), written) ∷ []) × (pattern_of (node_at nfa s) ≡ Some (number_of pattern)) =
-          rw is at met in
-          rw m.0 (turn-matched past (permitted && nat_lt (number_of pattern) n) s written (number_of pattern) set hit
-          gathered now m.1
-          (ap (λ p. p && nat_lt (number_of pattern) n) may) size dead put noted)
+    -- a front behind one with no match
+    MoveInSet-behind : (past : Bool) (before front : Front) (set : List Bool) (hit : Bool) (gathered : List Bool)
+        (now : Bool) → NoMatch (is_match nfa) before → MoveInSet past front set hit gathered now
+        → MoveInSet past (before ++ front) set hit gathered now
+    MoveInSet-behind past before front set hit gathered now plain t =
+        let none : NoMatch (wants nfa x n) before = λ b i w. plain b i (wants-match nfa x n b.0 w) in
+        let nothing = Gathers-none nfa (wants nfa x n) past before set none in
+        record {
+          found = t.found;
+          gathers = subst (λ f. Gathers nfa past (wants nfa x n) (before ++ front) set f gathered) (or-false t.found)
+              (Gathers-then nfa (wants nfa x n) past before front set set gathered false t.found (λ off. refl) nothing
+              t.gathers);
+          cut = rw (before-then nfa (wants nfa x n) before front set set
+              (Gathers-none nfa (wants nfa x n) false before set none))
+              (moves-append (edges nfa x) before (before_match (wants nfa x n) front)
+              ∙ ap (λ l. moves (edges nfa x) before ++ l) t.cut ∙ sym (moves-append (edges nfa x) before front));
+          now_is = t.now_is;
+        }
+      where
+        or-false : (b : Bool) → (b || false) ≡ b
+        or-false true = refl
+        or-false false = refl
 
     -- the turns of one state so far
 
@@ -240,41 +180,92 @@ module _ (nfa : Automaton) (x : Search) (at : ℕ) where
       follows = λ before old work. rw append-nil (follows-none met before (ToExplore (s, at) ∷ ToLoad old ∷ work) []);
     }
 
-    pub Arriving-step : (past : Bool) (s : ℕ) (met : Marks) (items : List (ℕ × Slots)) (set : List Bool) (hit : Bool)
-        (sid : ℕ) (middle : Marks)
-        (kept : List (ℕ × Slots)) (stack : List FollowEpsilon) (mid : List Bool) (on : Option ℕ) (after : Marks)
-        (more : List (ℕ × Slots)) (above : List FollowEpsilon) (gathered : List Bool) (now : Bool)
-        → (past ≡ false → hit ≡ false) → length set ≡ n
-        → Arriving past s met items set hit (Some sid) middle kept stack mid
-        → AdvancesInSet nfa x at past (length mid) sid middle kept stack mid hit on after more above gathered now
-        → Arriving past s met items set now on after more above gathered
-    Arriving-step past s met items set hit sid middle kept stack mid on after more above gathered now off size a c =
-        let same : length mid ≡ n = Gathers-capacity nfa (wants nfa x n) past a.front set hit mid a.gathers ∙ size in
-        let b = subst (λ m. AdvancesInSet nfa x at past m sid middle kept stack mid hit on after more above
-        gathered now) same c in
-        record {
-          front = a.front ++ b.front;
-          added = b.added ∙ ap (λ l. l ++ moves (edges nfa x) b.front) a.added
-              ∙ append_assoc items (moves (edges nfa x) a.front) (moves (edges nfa x) b.front)
-              ∙ ap (λ l. items ++ l) (sym (moves-append (edges nfa x) a.front b.front));
-          gathers = subst (λ h. Gathers nfa past (wants nfa x n) (a.front ++ b.front) set h gathered) (sym b.now_is)
-              (Gathers-then nfa (wants nfa x n) past a.front b.front set mid gathered hit b.found off
-              a.gathers b.gathers);
-          cut = λ no.
-              let first : Gathers nfa false (wants nfa x n) a.front set false mid =
-              subst (λ h. Gathers nfa false (wants nfa x n) a.front set h mid) (off no)
-              (subst (λ b. Gathers nfa b (wants nfa x n) a.front set hit mid) no a.gathers) in
-              rw (before-then nfa (wants nfa x n) a.front b.front set mid first)
-              (moves-append (edges nfa x) a.front (before_match (wants nfa x n) b.front)
-              ∙ ap (λ l. moves (edges nfa x) a.front ++ l) b.cut ∙ sym (moves-append (edges nfa x) a.front b.front));
-          formed = λ before f. subst (λ l. Formed nfa at after.bits l) (append_assoc before a.front b.front)
-              (b.formed (before ++ a.front) (a.formed before f));
-          follows = λ before old work.
-              subst (λ l. Follows nfa x at met before (ToExplore (s, at) ∷ ToLoad old ∷ work) [] after l
-              (with_state at on (work_onto at above (ToLoad old ∷ work))) [])
-              (append_assoc before a.front b.front)
-              (follows-then (a.follows before old work) (b.follows (before ++ a.front) old work));
-        }
+    module _ {past : Bool} {s : ℕ} {met : Marks} {items : List (ℕ × Slots)} {set : List Bool} {hit : Bool} {sid : ℕ}
+        {middle : Marks} {kept : List (ℕ × Slots)} {stack : List FollowEpsilon} {mid : List Bool}
+        (off : past ≡ false → hit ≡ false) (size : length set ≡ n)
+        (a : Arriving past s met items set hit (Some sid) middle kept stack mid) where
+      -- the set has its capacity
+      same : length mid ≡ n
+      same = Gathers-capacity nfa (wants nfa x n) past a.front set hit mid a.gathers ∙ size
+
+      -- what comes up to a match adds its front
+      Arriving-then : {after : Marks} {more : List (ℕ × Slots)} {above : List FollowEpsilon} {written : Slots}
+          {one : Option PatternID} {gathered : List Bool} {now : Bool}
+          → (h : Finds nfa x at sid middle kept stack [] one after more above written) → length written ≡ 0
+          → MoveInSet past h.front mid hit gathered now
+          → Arriving past s met items set now None after more above gathered
+      Arriving-then {after} {above = above} {written} {gathered = gathered} h empty t = record {
+        front = a.front ++ h.front;
+        added = h.added ∙ ap (λ l. l ++ moves (edges nfa x) h.front) a.added
+            ∙ append_assoc items (moves (edges nfa x) a.front) (moves (edges nfa x) h.front)
+            ∙ ap (λ l. items ++ l) (sym (moves-append (edges nfa x) a.front h.front));
+        gathers = subst (λ r. Gathers nfa past (wants nfa x n) (a.front ++ h.front) set r gathered) (sym t.now_is)
+            (Gathers-then nfa (wants nfa x n) past a.front h.front set mid gathered hit t.found off
+            a.gathers t.gathers);
+        cut = λ no.
+            let first : Gathers nfa false (wants nfa x n) a.front set false mid =
+            subst (λ r. Gathers nfa false (wants nfa x n) a.front set r mid) (off no)
+            (subst (λ b. Gathers nfa b (wants nfa x n) a.front set hit mid) no a.gathers) in
+            rw (before-then nfa (wants nfa x n) a.front h.front set mid first)
+            (moves-append (edges nfa x) a.front (before_match (wants nfa x n) h.front)
+            ∙ ap (λ l. moves (edges nfa x) a.front ++ l) t.cut ∙ sym (moves-append (edges nfa x) a.front h.front));
+        formed = λ before f. subst (λ l. Formed nfa at after.bits l) (append_assoc before a.front h.front)
+            (h.formed (before ++ a.front) (a.formed before f));
+        follows = λ before old work.
+            subst (λ l. Follows nfa x at met before (ToExplore (s, at) ∷ ToLoad old ∷ work) [] after l
+            (work_onto at above (ToLoad old ∷ work)) [])
+            (append_assoc before a.front h.front)
+            (subst (λ r. Follows nfa x at met before (ToExplore (s, at) ∷ ToLoad old ∷ work) [] after
+            ((before ++ a.front) ++ h.front) (work_onto at above (ToLoad old ∷ work)) r) (no-slots written empty)
+            (follows-then (a.follows before old work) (h.follows (before ++ a.front) old work)));
+      }
+
+      -- no match comes
+      pub Arriving-plain : {after : Marks} {more : List (ℕ × Slots)} {above : List FollowEpsilon} {written : Slots}
+          → Finds nfa x at sid middle kept stack [] None after more above written → length written ≡ 0
+          → Arriving past s met items set hit None after more above mid
+      Arriving-plain h empty = Arriving-then h empty (turn-plain past h.front mid hit mid hit h.ends refl refl)
+
+      -- a match comes, which counts or not
+      pub Arriving-match : {after : Marks} {more : List (ℕ × Slots)} {above : List FollowEpsilon} {written : Slots}
+          {pattern : PatternID} {gathered : List Bool} {now : Bool}
+          → Finds nfa x at sid middle kept stack [] (Some pattern) after more above written → length written ≡ 0
+          → (permitted : Bool) → permitted ≡ permits nfa x at
+          → ((permitted && nat_lt (number_of pattern) (length mid)) ≡ false → gathered ≡ mid)
+          → ((permitted && nat_lt (number_of pattern) (length mid)) ≡ true
+          → gathered ≡ with_pattern mid (number_of pattern))
+          → now ≡ ((permitted && nat_lt (number_of pattern) (length mid)) || hit)
+          → Arriving past s met items set now None after more above gathered
+      Arriving-match {written = written} {pattern} {gathered} {now} h empty permitted may dead put noted =
+          let k : ℕ = number_of pattern in
+          let counts : (permitted && nat_lt k (length mid)) ≡ (permits nfa x at && nat_lt k n) =
+          ap (λ p. p && nat_lt k (length mid)) may ∙ ap (λ m. permits nfa x at && nat_lt k m) same in
+          let one = turn-matched past (permitted && nat_lt k (length mid)) h.ends.1 written k mid hit gathered now
+          h.ends.4 counts same dead put noted in
+          Arriving-then h empty
+          (subst (λ l. MoveInSet past l mid hit gathered now) (sym h.ends.3)
+          (MoveInSet-behind past h.ends.0 (((h.ends.1, at), written) ∷ []) mid hit gathered now h.ends.2 one))
+
+    -- frames are taken up
+    pub Arriving-resumed : {past : Bool} {s : ℕ} {met : Marks} {items : List (ℕ × Slots)} {set : List Bool} {hit : Bool}
+        {after : Marks} {kept : List (ℕ × Slots)} {stack : List FollowEpsilon} {gathered : List Bool}
+        (on : Option ℕ) (left : List FollowEpsilon) (row : Slots) → length row ≡ 0
+        → ((front : Front) (work : List Item) → Follows nfa x at after front (work_onto at stack work) [] after front
+        (with_state at on (work_onto at left work)) row)
+        → Arriving past s met items set hit None after kept stack gathered
+        → Arriving past s met items set hit on after kept left gathered
+    Arriving-resumed {after = after} {stack = stack} on left row short resumed a = record {
+      front = a.front;
+      added = a.added;
+      gathers = a.gathers;
+      cut = a.cut;
+      formed = a.formed;
+      follows = λ before old work.
+          follows-then (a.follows before old work)
+          (subst (λ r. Follows nfa x at after (before ++ a.front) (work_onto at stack (ToLoad old ∷ work)) [] after
+          (before ++ a.front) (with_state at on (work_onto at left (ToLoad old ∷ work))) r)
+          (no-slots row short) (resumed (before ++ a.front) (ToLoad old ∷ work)));
+    }
 
     pub Arriving-end : (past : Bool) (s : ℕ) (met : Marks) (items : List (ℕ × Slots)) (set : List Bool) (hit : Bool)
         (after : Marks) (kept : List (ℕ × Slots))
@@ -304,37 +295,16 @@ module _ (nfa : Automaton) (x : Search) (at : ℕ) where
       };
     }
 
--- what one more turn costs
-pub Paid-then : {nfa : Automaton} {a : Marks} {ka : ℕ} {b : Marks} {kb : ℕ} {sb : List FollowEpsilon} {c : Marks}
-    {kc : ℕ} {sc : List FollowEpsilon} {t : ℕ}
-    → Paid nfa a ka [] 1 b kb sb 1 → Paid nfa b kb sb 1 c kc sc t → Paid nfa a ka [] 1 c kc sc t
-Paid-then p q = record {
-  tried = omega (arith, p.tried, q.tried);
-  framed = omega (arith, p.framed, q.framed);
-  entered =
-      omega (arith, p.entered, q.entered);
-}
+-- a match that counts ends the position, without matches that are passed
+pub stops-there : (counts past stops hit now : Bool) → stops ≡ (counts && not past) → stops ≡ true
+    → now ≡ (counts || hit) → (past ≡ false) × (now ≡ true)
+stops-there true false stops hit now e t is = (refl, is)
+stops-there true true stops hit now e t is = let never : true ≡ false = sym t ∙ e in absurd (cc never)
+stops-there false past stops hit now e t is = let never : true ≡ false = sym t ∙ e in absurd (cc never)
 
-pub Paid-start : (nfa : Automaton) (a : Marks) (k n : ℕ) → Paid nfa a k [] n a k [] n
-Paid-start nfa a k n = record { tried = omega arith; framed = omega arith; entered = omega arith }
-
--- a stack that is left over is not followed
-pub Paid-drop : {nfa : Automaton} {a : Marks} {ka : ℕ} {b : Marks} {kb : ℕ} {sb : List FollowEpsilon} {n t : ℕ}
-    → Paid nfa a ka [] n b kb sb t → Paid nfa a ka [] n b kb [] 0
-Paid-drop p = record {
-  tried = omega (arith, p.tried);
-  framed = omega (arith, p.framed);
-  entered =
-      omega (arith, p.entered);
-}
-
--- one change of the kept states after another
-pub same-after : (a b c : Active) → b ≡ record a { items = b.items } → c ≡ record b { items = c.items }
-    → c ≡ record a { items = c.items }
-same-after a b c f g = g ∙ ap (λ (z : Active). record z { items = c.items }) f
-
--- where a state is left to follow none was met
-pub still-none : (hit now : Bool) (on : ℕ) → hit ≡ false → (now ≡ true → (hit ≡ true) ⊎ (Some on ≡ None)) → now ≡ false
-still-none hit false on off stops = refl
-still-none hit true on off stops = elim (stops refl)
-    [ inl h ↦ let never : true ≡ false = sym h ∙ off in cc | inr h ↦ cc ]
+-- else none was met, without matches that are passed
+pub still-none : (counts past stops hit now : Bool) → stops ≡ (counts && not past) → stops ≡ false
+    → now ≡ (counts || hit) → past ≡ false → hit ≡ false → now ≡ false
+still-none false past stops hit now e t is off none = is ∙ none
+still-none true true stops hit now e t is off none = absurd (cc off)
+still-none true false stops hit now e t is off none = let never : true ≡ false = sym e ∙ t in absurd (cc never)

@@ -1,7 +1,7 @@
 -- What a PikeVM puts into a set of patterns, at each position and in all.
 use Rattle.std.specs.Prelude.{◌≡◌, ◌↔◌, ◌⊎◌, ℕ, ◌<◌, ◌==◌, ◌&&◌, ◌||◌, not, Bool, true, false, List, [], ◌∷◌, ◌++◌, Option, None, Some, length, map, All, slice_index, nat_lt, nat_le}
 use Rattle.regex_search_core.specs.PatternSets.{with_pattern}
-use Rattle.regex_search_core.specs.Search.{Search}
+use Rattle.regex_search_core.specs.Search.{Search, search_of}
 use Rattle.thompson_nfa.specs.Automaton.{Automaton}
 use Rattle.nfa_paths.specs.Graphs.{Pair}
 use Rattle.nfa_paths.specs.Paths.{edges, is_utf8_empty}
@@ -10,8 +10,9 @@ use Rattle.nfa_paths.specs.Exploring.Item.{Explore as ToExplore, Load as ToLoad}
 use Rattle.nfa_paths.specs.Kinds.{HoldsMatch, first_match, before_match}
 use Rattle.nfa_paths.specs.Overlaps.{HoldsPattern, pattern_at}
 use Rattle.nfa_pikevm.specs.Rows.{Marks}
-use Rattle.nfa_pikevm.specs.States.{Front, moves, tasks, unmarked, work_onto, with_state, Formed, Paid, Follows, Leads}
-use Rattle.nfa_pikevm.specs.declared.frame.FollowEpsilon.{FollowEpsilon}
+use Rattle.nfa_pikevm.specs.States.{Front, moves, tasks, unmarked, Formed, Paid, Leads}
+use Rattle.nfa_pikevm.specs.declared.closure.Here.{Here}
+use Rattle.nfa_pikevm.specs.declared.closure.Reached.{Reached}
 
 -- whether the position is a boundary of characters
 abbrev pub is_boundary : List ℕ → ℕ → Bool
@@ -62,25 +63,8 @@ abbrev pub rowless : List ℕ → List (ℕ × Slots)
 rowless states = map (λ s. (s, [])) states
 
 module _ (nfa : Automaton) (x : Search) where
-  -- Of a set of capacity n: what comes of a turn that tries to enter a state, and of what was put off where it leads
-  -- nowhere: the front that it adds, and
-  -- what of it is put into the set.
-  pub record AdvancesInSet (at : ℕ) (past : Bool) (n : ℕ) (s : ℕ) (met : Marks) (items : List (ℕ × Slots))
-      (stack : List FollowEpsilon) (set : List Bool) (hit : Bool)
-      (on : Option ℕ) (after : Marks) (kept : List (ℕ × Slots)) (above : List FollowEpsilon) (gathered : List Bool)
-      (now : Bool) : Type 0 where
-    pub front : Front
-    pub found : Bool
-    pub added : kept ≡ items ++ moves (edges nfa x) front
-    pub gathers : Gathers nfa past (wants nfa x n) front set found gathered
-    pub cut : moves (edges nfa x) (before_match (wants nfa x n) front) ≡ moves (edges nfa x) front
-    pub now_is : now ≡ (found || hit)
-    pub formed : (before : Front) → Formed nfa at met.bits before → Formed nfa at after.bits (before ++ front)
-    pub follows : (before : Front) (old : Slots) (work : List Item)
-        → Follows nfa x at met before (ToExplore (s, at) ∷ work_onto at stack (ToLoad old ∷ work)) []
-        after (before ++ front) (with_state at on (work_onto at above (ToLoad old ∷ work))) []
-
-  -- The same of all that a state leads to up to the position's next byte.
+  -- Of a set of capacity n: what comes of all that a state leads to up to the position's next byte: the front that it
+  -- adds, and what of it is put into the set.
   pub record ArrivesInSet (at : ℕ) (past : Bool) (n : ℕ) (s : ℕ) (met : Marks) (items : List (ℕ × Slots))
       (set : List Bool)
       (hit : Bool) (after : Marks) (kept : List (ℕ × Slots)) (gathered : List Bool) : Type 0 where
@@ -107,3 +91,15 @@ module _ (nfa : Automaton) (x : Search) where
     pub leads : (old : Slots) (waiting : List Item)
         → Leads nfa x at (unmarked met) [] (tasks at items (ToLoad old ∷ waiting)) [] (GoesPast past hit) after front
         (ToLoad old ∷ waiting)
+
+-- The same of what is reached from where a scan stands.
+
+abbrev pub ArrivesInSetHere : Here → ℕ → Reached → List Bool → Bool → Reached → List Bool → Type 0
+ArrivesInSetHere here s old set hit new gathered =
+    ArrivesInSet here.nfa.now (search_of here.input.now) here.at here.past_match (length set) s old.seen
+    old.next.items set hit new.seen new.next.items gathered
+
+abbrev pub CrossesInSetHere : Here → Reached → List (ℕ × Slots) → List Bool → Bool → Reached → List Bool → Type 0
+CrossesInSetHere here old items set hit new gathered =
+    CrossesInSet here.nfa.now (search_of here.input.now) here.at here.past_match (length set) old.seen items set hit
+    new.seen new.next.items gathered

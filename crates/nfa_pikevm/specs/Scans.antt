@@ -61,17 +61,17 @@ pub record AreSized (size : Sizes) (met : Marks) (frames : ℕ) (curr next : Act
 
 -- the threads have room for a search of the NFA, with rows of this width
 abbrev pub HaveRoom : Automaton → ℕ → Threads → Type 0
-HaveRoom nfa width t = Serves nfa width t.seen (length t.frames.items) t.curr t.next
+HaveRoom nfa width t = Serves nfa width t.reached.seen (length t.frames.items) t.curr t.reached.next
 
 -- and their rows have this width
 abbrev pub HaveRows : Automaton → ℕ → Threads → Type 0
-HaveRows nfa width t = HasThreads nfa width t.seen (length t.frames.items) t.curr t.next
+HaveRows nfa width t = HasThreads nfa width t.reached.seen (length t.frames.items) t.curr t.reached.next
 
 -- the threads have the sizes that they had
 abbrev pub SameSizes : Threads → Threads → Type 0
 SameSizes old new =
-    (size : Sizes) → AreSized size old.seen (length old.frames.items) old.curr old.next
-    → AreSized size new.seen (length new.frames.items) new.curr new.next
+    (size : Sizes) → AreSized size old.reached.seen (length old.frames.items) old.curr old.reached.next
+    → AreSized size new.reached.seen (length new.frames.items) new.curr new.reached.next
 
 -- the scan's starts, and which of them may be passed over; and each state leads to states of the NFA
 pub record AreStarts (nfa : Automaton) (x : Search) (starts_at : Starts) : Type 0 where
@@ -141,6 +141,10 @@ module _ (nfa : Automaton) (x : Search) where
   -- the turns of one scan at most
   abbrev pub scan_turns : ℕ
   scan_turns = (1 + turn_weight nfa) * (span_len x + 1)
+
+  -- so many turns were taken, and no more
+  abbrev pub IsWithinTurns : Threads → Threads → Type 0
+  IsWithinTurns old new = new.reached.seen.turns ≤ old.reached.seen.turns + scan_turns
 
   -- The turns so far and the states at the position are within the starts and the positions before it.
   pub record IsPaidAt (at before : ℕ) (turns items : ℕ) : Type 0 where

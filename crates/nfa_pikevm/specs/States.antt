@@ -2,20 +2,22 @@
 -- that is left, what it keeps for the next position as a front.
 use Rattle.std.specs.Prelude.{◌≡◌, ◌⊎◌, ℕ, ◌+◌, ◌<◌, ◌≤◌, Bool, true, false, List, [], ◌∷◌, ◌++◌, Option, None, Some, cond, length, map, replicate, All, slice_index_or, slice_set}
 use Rattle.std.specs.List.{sum_by}
-use Rattle.regex_search_core.specs.Search.{Search}
+use Rattle.regex_search_core.specs.Search.{Search, search_of}
 use Rattle.regex_search_core.specs.Patterns.{number_of}
 use Rattle.regex_search_core.specs.declared.primitives.PatternID.{PatternID}
 use Rattle.thompson_nfa.specs.Automaton.{Automaton, Node}
 use Rattle.nfa_paths.specs.Graphs.{Pair, NoRepeats}
-use Rattle.nfa_paths.specs.Paths.{degree, node_at, pattern_of, edges, is_match, capture}
+use Rattle.nfa_paths.specs.Paths.{degree, node_at, pattern_of, edges, is_match, capture, byte_at}
 use Rattle.nfa_paths.specs.Exploring.{Slots, Found, Item, Answer, Searching}
 use Rattle.nfa_paths.specs.Exploring.Item.{Explore as ToExplore, Restore as ToRestore, Load as ToLoad}
 use Rattle.nfa_paths.specs.Kinds.{rests, first_match, before_match, last_match, NoMatch}
 use Rattle.nfa_paths.specs.Turns.{marked_sum}
 use Rattle.nfa_pikevm.specs.Rows.{Marks}
 use Rattle.nfa_pikevm.specs.Engines.{room_of}
+use Rattle.nfa_pikevm.specs.declared.closure.Here.{Here}
 use Rattle.nfa_pikevm.specs.declared.closure.Move.{Move}
 use Rattle.nfa_pikevm.specs.declared.closure.Move.TheVariants.{On, Matched, Over}
+use Rattle.nfa_pikevm.specs.declared.closure.Reached.{Reached}
 use Rattle.nfa_pikevm.specs.declared.frame.FollowEpsilon.{FollowEpsilon}
 use Rattle.nfa_pikevm.specs.declared.frame.FollowEpsilon.TheVariants.{Explore, Restore}
 
@@ -147,6 +149,16 @@ pub record Paid (nfa : Automaton) (met : Marks) (kept : ℕ) (stack : List Follo
   pub entered : more + marked_sum (map one_of nfa.states) met.bits ≤ kept
       + marked_sum (map one_of nfa.states) after.bits
 
+-- The position is in the span or at its end, and the byte is the one there.
+pub record IsHere (here : Here) : Type 0 where
+  pub place : here.at ≤ (search_of here.input.now).end
+  pub byte : here.byte ≡ byte_at (search_of here.input.now) here.at
+
+-- There are as many marks, and of what is kept for the next position only the states change.
+pub record KeepsRoom (old new : Reached) : Type 0 where
+  pub size : length new.seen.bits ≡ length old.seen.bits
+  pub same : new.next ≡ record old.next { items = new.next.items }
+
 module _ (nfa : Automaton) (x : Search) where
   -- the search for a set of match pairs, from these starts and with these slots, with such states met and such a front
   -- at position `at`
@@ -184,6 +196,25 @@ module _ (nfa : Automaton) (x : Search) where
         → Follows at met before (ToExplore (s, at) ∷ work_onto at stack (ToLoad old ∷ work)) slots
         after (before ++ front) (with_state at (state_on turn) (work_onto at above (ToLoad old ∷ work))) written
 
+  -- the front ends with this match, and holds no other; or it holds none
+  abbrev pub EndsWith : ℕ → Slots → Option PatternID → Front → Type 0
+  EndsWith at slots None front = NoMatch (is_match nfa) front
+  EndsWith at slots (Some pattern) front = (before : Front) × (s : ℕ) × NoMatch (is_match nfa) before
+      × (front ≡ before ++ ((s, at), slots) ∷ []) × (pattern_of (node_at nfa s) ≡ Some (number_of pattern))
+
+  -- What comes of turns from a state on up to the next match, if there is one: the front that they add, which ends with
+  -- it, and what is left on the stack.
+  pub record Finds (at s : ℕ) (met : Marks) (items : List (ℕ × Slots)) (stack : List FollowEpsilon) (slots : Slots)
+      (hit : Option PatternID) (after : Marks) (kept : List (ℕ × Slots)) (above : List FollowEpsilon)
+      (written : Slots) : Type 0 where
+    pub front : Front
+    pub added : kept ≡ items ++ moves (edges nfa x) front
+    pub ends : EndsWith at written hit front
+    pub formed : (before : Front) → Formed nfa at met.bits before → Formed nfa at after.bits (before ++ front)
+    pub follows : (before : Front) (old : Slots) (work : List Item)
+        → Follows at met before (ToExplore (s, at) ∷ work_onto at stack (ToLoad old ∷ work)) slots
+        after (before ++ front) (work_onto at above (ToLoad old ∷ work)) written
+
   -- The search goes on to a front and some work, which is `rest` where it `goes_on` to the end of its work.
   pub record Leads (at : ℕ) (met : Marks) (before : Front) (work : List Item) (slots : Slots) (goes_on : Type 0)
       (after : Marks) (front : Front) (rest : List Item) : Type 0 where
@@ -218,3 +249,38 @@ module _ (nfa : Automaton) (x : Search) where
     pub leads : (current old : Slots) (waiting : List Item)
         → Leads at (unmarked met) [] (tasks at items (ToLoad old ∷ waiting)) current (GoesOn past hit) after front
         (ToLoad old ∷ waiting)
+
+-- The same of what is reached from where a scan stands.
+
+abbrev pub HasRoomHere : Here → Reached → ℕ → ℕ → Type 0
+HasRoomHere here old top frames =
+    HasRoom here.nfa.now old.seen.bits top frames (length old.next.items) old.next.places
+
+abbrev pub AreWithinHere : Here → ℕ → List FollowEpsilon → Type 0
+AreWithinHere here count stack = All (IsWithin (length here.nfa.now.states) count) stack
+
+abbrev pub PaidHere : Here → Reached → List FollowEpsilon → Reached → List FollowEpsilon → ℕ → Type 0
+PaidHere here old stack new above left =
+    Paid here.nfa.now old.seen (length old.next.items) stack 1 new.seen (length new.next.items) above left
+
+abbrev pub EntersHere : Here → ℕ → Reached → List FollowEpsilon → Slots → Move → Reached → List FollowEpsilon → Slots
+    → Type 0
+EntersHere here s old stack slots turn new above written =
+    Enters here.nfa.now (search_of here.input.now) here.at s old.seen old.next.items stack slots turn new.seen
+    new.next.items above written
+
+abbrev pub FindsHere : Here → ℕ → Reached → List FollowEpsilon → Slots → Option PatternID → Reached
+    → List FollowEpsilon → Slots → Type 0
+FindsHere here s old stack slots hit new above written =
+    Finds here.nfa.now (search_of here.input.now) here.at s old.seen old.next.items stack slots hit new.seen
+    new.next.items above written
+
+abbrev pub ArrivesHere : Here → ℕ → Reached → Slots → Slots → Option PatternID → Reached → Slots → Type 0
+ArrivesHere here s old row slots hit new written =
+    Arrives here.nfa.now (search_of here.input.now) here.at here.past_match s old.seen old.next.items row slots hit
+    new.seen new.next.items written
+
+abbrev pub CrossesHere : Here → Reached → List (ℕ × Slots) → Slots → Option PatternID → Reached → Slots → Type 0
+CrossesHere here old items slots hit new written =
+    Crosses here.nfa.now (search_of here.input.now) here.at here.past_match old.seen items slots hit new.seen
+    new.next.items written

@@ -37,20 +37,21 @@ impl Model for Cache {
     ghost Value = { PikeCache };
 
     ghost view = { λ c. record {
-      states = length c.threads.seen.bits;
+      states = length c.threads.reached.seen.bits;
       slots = c.slots;
       patterns = c.patterns;
       places =
           length c.threads.frames.items;
       scans = c.threads.scans;
-      turns = c.threads.seen.turns;
+      turns = c.threads.reached.seen.turns;
       all_scans =
           c.past_scans + c.threads.scans;
-      all_turns = c.past_turns + c.threads.seen.turns;
+      all_turns = c.past_turns + c.threads.reached.seen.turns;
     } };
 
-    ghost invariant = { λ c. IsRoomFor (length c.threads.seen.bits) c.slots (length c.threads.frames.items) c.threads.seen
-        (length c.threads.frames.items) c.threads.curr c.threads.next (length c.found.items) };
+    ghost invariant = { λ c. IsRoomFor (length c.threads.reached.seen.bits) c.slots (length c.threads.frames.items)
+        c.threads.reached.seen (length c.threads.frames.items) c.threads.curr c.threads.reached.next
+        (length c.found.items) };
 }
 
 impl Cache {
@@ -103,7 +104,7 @@ impl Cache {
         let Some(places) = stack_places(nfa) else {
             return false;
         };
-        nfa.states().len() <= self.threads.seen.len()
+        nfa.states().len() <= self.threads.reached.seen.len()
             && nfa.group_info().slot_len() <= self.slots
             && nfa.pattern_len() <= self.patterns
             && places <= frames
@@ -135,7 +136,7 @@ impl Cache {
     pub fn memory_usage(&self) -> usize
         ensures { result ≡ pike_memory_of self.now }
     {
-        let states = self.threads.seen.len();
+        let states = self.threads.reached.seen.len();
         let rows = states.saturating_mul(2).saturating_add(3);
         let entries = states.saturating_mul(3).saturating_add(2);
         let frames = self.threads.frames.len().saturating_mul(24);

@@ -3,10 +3,9 @@ ghost use Rattle.std.specs.Prelude.{◌≡◌, ℕ, ◌+◌, ◌<◌, ◌≤◌,
 ghost use Rattle.std.specs.List.{sum_by};
 ghost use Rattle.regex_search_core.specs.Search.{Search, search_of};
 ghost use Rattle.thompson_nfa.specs.Automaton.{Automaton};
-ghost use Rattle.nfa_paths.specs.Paths.{byte_at};
 ghost use Rattle.nfa_paths.specs.Exploring.{Item};
 ghost use Rattle.nfa_pikevm.specs.Rows.{Marks};
-ghost use Rattle.nfa_pikevm.specs.States.{Front, work_onto, with_state, tries, tries_of, state_on, undone, state_of, HasSlot, IsBelow, IsWithin, Follows, Paid, HasRoom, Enters, Arrives};
+ghost use Rattle.nfa_pikevm.specs.States.{Front, work_onto, with_state, tries, tries_of, state_on, undone, state_of, HasSlot, IsBelow, IsWithin, Follows, IsHere, KeepsRoom, HasRoomHere, AreWithinHere, PaidHere, EntersHere, FindsHere, ArrivesHere};
 ghost use Rattle.nfa_pikevm.specs.declared.frame.FollowEpsilon.TheVariants.{Explore, Restore};
 
 use crate::active::ActiveStates;
@@ -16,6 +15,25 @@ use crate::slot::{Slot, copy_row};
 use nfa_scanning::transitions::{dense_target, range_target, sparse_target};
 use regex_search_core::{Input, PatternID, StateID};
 use thompson_nfa::{NFA, State, look_matches};
+
+/// Where a scan stands: what stays as it is while the states of a position are followed.
+#[derive(Clone, Copy)]
+pub struct Here<'n, 'h> {
+    pub nfa: &'n NFA,
+    pub input: &'n Input<'h>,
+    pub at: usize,
+    /// The byte at the position, if one is there before the end of the span.
+    pub byte: Option<u8>,
+    /// Whether what stands behind a match is followed, too.
+    pub past_match: bool,
+}
+
+/// What is reached from a position: the states that were met there, and those that its byte leads to.
+#[derive(Debug, Drop)]
+pub struct Reached {
+    pub seen: Seen,
+    pub next: ActiveStates,
+}
 
 /// Where a turn leads.
 #[derive(Clone, Copy)]
@@ -92,53 +110,51 @@ fn keep(target: Option<StateID>, next: &mut ActiveStates, slots: &[Slot])
 /// byte leads to is kept.
 #[inline(always)]
 pub fn enter(
-    nfa: &NFA,
-    input: &Input<'_>,
-    at: usize,
-    byte: Option<u8>,
+    here: &Here<'_, '_>,
     sid: StateID,
     frames: &mut [FollowEpsilon],
     top: &mut usize,
-    seen: &mut Seen,
-    next: &mut ActiveStates,
+    reached: &mut Reached,
     row: &mut [Slot],
 ) -> Move
-    requires place { at ≤ (search_of input.now).end }
-    requires byte { byte ≡ byte_at (search_of input.now) at }
-    requires state { sid < length nfa.now.states }
+    requires here { IsHere here.now }
+    requires state { sid < length here.now.nfa.now.states }
     requires top { top.old ≤ length frames.old }
-    requires room { HasRoom nfa.now seen.old.bits top.old (length frames.old) (length next.old.items) next.old.places }
-    requires width { length row.old ≡ next.old.width }
-    requires within { All (IsWithin (length nfa.now.states) (length row.old)) (take top.old frames.old) }
-    ensures turns { seen.new.turns ≡ seen.old.turns + 1 }
-    ensures size { length seen.new.bits ≡ length seen.old.bits }
-    ensures same { next.new ≡ record next.old { items = next.new.items } }
+    requires room { HasRoomHere here.now reached.old top.old (length frames.old) }
+    requires width { length row.old ≡ reached.old.next.width }
+    requires within { AreWithinHere here.now (length row.old) (take top.old frames.old) }
+    ensures turns { reached.new.seen.turns ≡ reached.old.seen.turns + 1 }
+    ensures keeps { KeepsRoom reached.old reached.new }
     ensures top { top.new ≤ length frames.new }
-    ensures state { IsBelow (length nfa.now.states) (state_on result) }
-    ensures within { All (IsWithin (length nfa.now.states) (length row.old)) (take top.new frames.new) }
-    ensures paid { Paid nfa.now seen.old (length next.old.items) (take top.old frames.old) 1 seen.new (length next.new.items)
-        (take top.new frames.new) (tries_of (state_on result)) }
-    ensures enters { Enters nfa.now (search_of input.now) at sid seen.old next.old.items (take top.old frames.old) row.old result
-        seen.new next.new.items (take top.new frames.new) row.new }
+    ensures state { IsBelow (length here.now.nfa.now.states) (state_on result) }
+    ensures within { AreWithinHere here.now (length row.old) (take top.new frames.new) }
+    ensures paid { PaidHere here.now reached.old (take top.old frames.old) reached.new (take top.new frames.new)
+        (tries_of (state_on result)) }
+    ensures enters { EntersHere here.now sid reached.old (take top.old frames.old) row.old result reached.new
+        (take top.new frames.new) row.new }
 {
-    if !seen.insert(sid.as_usize()) {
+    if !reached.seen.insert(sid.as_usize()) {
         return Move::Over;
     }
-    match nfa.state(sid) {
+    match here.nfa.state(sid) {
         State::ByteRange { trans } => {
-            keep(range_target(trans, byte), next, row);
+            keep(range_target(trans, here.byte), &mut reached.next, row);
             Move::Over
         }
         State::Sparse(transitions) => {
-            keep(sparse_target(transitions, byte), next, row);
+            keep(
+                sparse_target(transitions, here.byte),
+                &mut reached.next,
+                row,
+            );
             Move::Over
         }
         State::Dense(targets) => {
-            keep(dense_target(targets, byte), next, row);
+            keep(dense_target(targets, here.byte), &mut reached.next, row);
             Move::Over
         }
         State::Look { look, next } => {
-            if look_matches(*look, input.haystack(), at) {
+            if look_matches(*look, here.input.haystack(), here.at) {
                 Move::On(*next)
             } else {
                 Move::Over
@@ -158,7 +174,7 @@ pub fn enter(
         State::Capture { next, slot } => {
             if *slot < row.len() {
                 keep_old(frames, top, row, *slot);
-                row[*slot] = Slot::new(at);
+                row[*slot] = Slot::new(here.at);
             }
             Move::On(*next)
         }
@@ -205,56 +221,82 @@ pub fn resume(frames: &[FollowEpsilon], top: &mut usize, row: &mut [Slot]) -> Op
     None
 }
 
-/// Follows all that the root leads to at the position without reading a byte, each state in its turn, and keeps what
-/// the byte leads to. It answers the last match, and copies the row as it is there; without `past_match` it stops at
-/// the first match.
+/// Follows what the state leads to without reading a byte, and then what was put off, each state in its turn, up to the
+/// next match, and keeps what the byte leads to. It answers the match, and leaves what is still put off.
 #[inline(always)]
-pub fn follow(
-    nfa: &NFA,
-    input: &Input<'_>,
-    at: usize,
-    byte: Option<u8>,
-    past_match: bool,
-    root: StateID,
+pub fn next_match(
+    here: &Here<'_, '_>,
+    from: StateID,
     frames: &mut [FollowEpsilon],
-    seen: &mut Seen,
-    next: &mut ActiveStates,
+    top: &mut usize,
+    reached: &mut Reached,
     row: &mut [Slot],
-    slots: &mut [Slot],
 ) -> Option<PatternID>
-    requires place { at ≤ (search_of input.now).end }
-    requires byte { byte ≡ byte_at (search_of input.now) at }
-    requires state { root < length nfa.now.states }
-    requires room { HasRoom nfa.now seen.old.bits 0 (length frames.old) (length next.old.items) next.old.places }
-    requires width { length row.old ≡ next.old.width }
-    requires slots { length slots.old ≡ length row.old }
-    ensures size { length seen.new.bits ≡ length seen.old.bits }
-    ensures grows { seen.old.turns ≤ seen.new.turns }
-    ensures same { next.new ≡ record next.old { items = next.new.items } }
-    ensures arrives { Arrives nfa.now (search_of input.now) at past_match root seen.old next.old.items row.old slots.old result
-        seen.new next.new.items slots.new }
+    requires here { IsHere here.now }
+    requires state { from < length here.now.nfa.now.states }
+    requires top { top.old ≤ length frames.old }
+    requires room { HasRoomHere here.now reached.old top.old (length frames.old) }
+    requires width { length row.old ≡ reached.old.next.width }
+    requires within { AreWithinHere here.now (length row.old) (take top.old frames.old) }
+    ensures turns { reached.old.seen.turns < reached.new.seen.turns }
+    ensures keeps { KeepsRoom reached.old reached.new }
+    ensures top { top.new ≤ length frames.new }
+    ensures over { result ≡ None → top.new ≡ 0 }
+    ensures within { AreWithinHere here.now (length row.old) (take top.new frames.new) }
+    ensures paid { PaidHere here.now reached.old (take top.old frames.old) reached.new (take top.new frames.new) 0 }
+    ensures finds { FindsHere here.now from reached.old (take top.old frames.old) row.old result reached.new
+        (take top.new frames.new) row.new }
 {
-    let mut top = 0;
-    let mut sid = root;
-    let mut hit = None;
+    let mut sid = from;
     loop {
-        match enter(nfa, input, at, byte, sid, frames, &mut top, seen, next, row) {
+        match enter(here, sid, frames, top, reached, row) {
             Move::On(on) => {
                 sid = on;
                 continue;
             }
-            Move::Matched(pattern) => {
-                copy_row(slots, row);
-                hit = Some(pattern);
-                if !past_match {
-                    return hit;
-                }
-            }
+            Move::Matched(pattern) => return Some(pattern),
             Move::Over => {}
         }
-        match resume(frames, &mut top, row) {
+        match resume(frames, top, row) {
             Some(waiting) => sid = waiting,
-            None => return hit,
+            None => return None,
         }
     }
+}
+
+/// Follows all that the root leads to at the position, as [`next_match`] does up to a match. It answers the last match,
+/// and copies the row as it is there; without `past_match` it stops at the first match.
+#[inline(always)]
+pub fn follow(
+    here: &Here<'_, '_>,
+    root: StateID,
+    frames: &mut [FollowEpsilon],
+    reached: &mut Reached,
+    row: &mut [Slot],
+    slots: &mut [Slot],
+) -> Option<PatternID>
+    requires here { IsHere here.now }
+    requires state { root < length here.now.nfa.now.states }
+    requires room { HasRoomHere here.now reached.old 0 (length frames.old) }
+    requires width { length row.old ≡ reached.old.next.width }
+    requires slots { length slots.old ≡ length row.old }
+    ensures keeps { KeepsRoom reached.old reached.new }
+    ensures grows { reached.old.seen.turns ≤ reached.new.seen.turns }
+    ensures arrives { ArrivesHere here.now root reached.old row.old slots.old result reached.new slots.new }
+{
+    let mut top = 0;
+    let mut sid = root;
+    let mut hit = None;
+    while let Some(pattern) = next_match(here, sid, frames, &mut top, reached, row) {
+        copy_row(slots, row);
+        hit = Some(pattern);
+        if !here.past_match {
+            return hit;
+        }
+        let Some(waiting) = resume(frames, &mut top, row) else {
+            return hit;
+        };
+        sid = waiting;
+    }
+    hit
 }

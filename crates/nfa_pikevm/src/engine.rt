@@ -189,7 +189,7 @@ impl PikeVM {
             ..
         } = cache;
         past_scans.take(&mut threads.scans);
-        threads.seen.restart_turns(past_turns);
+        threads.reached.seen.restart_turns(past_turns);
         self.search_with(threads, input, found.as_mut_slice(), slots)
     }
 
@@ -204,15 +204,15 @@ impl PikeVM {
         requires row { slot_count self.now.nfa.groups ≤ length found.old }
         requires serves { HaveRoom self.now.nfa (min (length slots.old) (slot_count self.now.nfa.groups)) threads.old }
         requires counted { threads.old.scans ≡ 0 }
-        requires turned { threads.old.seen.turns ≡ 0 }
+        requires turned { threads.old.reached.seen.turns ≡ 0 }
         ensures answer { IsAnswer self.now.nfa (kind_of self.now) (search_of input.now).earliest (search_of input.now)
             (option_map number_of result) slots.new }
         ensures pattern { IfSome result (λ p. number_of p < length self.now.nfa.patterns) }
         ensures work { IsWork self.now.nfa (kind_of self.now) (search_of input.now).earliest (search_of input.now)
-            threads.new.scans threads.new.seen.turns }
+            threads.new.scans threads.new.reached.seen.turns }
         ensures sizes { SameSizes threads.old threads.new }
         ensures scans { threads.new.scans ≤ scan_limit self.now.nfa (search_of input.now) }
-        ensures turns { threads.new.seen.turns ≤ threads.new.scans * scan_turns self.now.nfa (search_of input.now) }
+        ensures turns { threads.new.reached.seen.turns ≤ threads.new.scans * scan_turns self.now.nfa (search_of input.now) }
     {
         let width = slots.len().min(self.nfa.group_info().slot_len());
         let row = &mut found[..width];
@@ -240,15 +240,15 @@ impl PikeVM {
         requires row { 2 * length self.now.nfa.groups ≤ length found.old }
         requires serves { HaveRoom self.now.nfa (2 * length self.now.nfa.groups) threads.old }
         requires counted { threads.old.scans ≡ 0 }
-        requires turned { threads.old.seen.turns ≡ 0 }
+        requires turned { threads.old.reached.seen.turns ≡ 0 }
         ensures answer { IsMatchAnswer self.now.nfa (kind_of self.now) (search_of input.now).earliest (search_of input.now)
             (option_map found_of result) }
         ensures pattern { IfSome result (λ m. (found_of m).pattern < length self.now.nfa.patterns) }
         ensures work { IsWork self.now.nfa (kind_of self.now) (search_of input.now).earliest (search_of input.now)
-            threads.new.scans threads.new.seen.turns }
+            threads.new.scans threads.new.reached.seen.turns }
         ensures sizes { SameSizes threads.old threads.new }
         ensures scans { threads.new.scans ≤ scan_limit self.now.nfa (search_of input.now) }
-        ensures turns { threads.new.seen.turns ≤ threads.new.scans * scan_turns self.now.nfa (search_of input.now) }
+        ensures turns { threads.new.reached.seen.turns ≤ threads.new.scans * scan_turns self.now.nfa (search_of input.now) }
     {
         let slot_len = self.nfa.group_info().implicit_slot_len();
         let slots = &mut found[..slot_len];
@@ -291,7 +291,7 @@ impl PikeVM {
             ..
         } = cache;
         past_scans.take(&mut threads.scans);
-        threads.seen.restart_turns(past_turns);
+        threads.reached.seen.restart_turns(past_turns);
         self.find_with(threads, &input, found.as_mut_slice())
     }
 
@@ -351,7 +351,7 @@ impl PikeVM {
             ..
         } = cache;
         past_scans.take(&mut threads.scans);
-        threads.seen.restart_turns(past_turns);
+        threads.reached.seen.restart_turns(past_turns);
         let kind = self.config.get_match_kind();
         overlap(&self.nfa, kind, input, threads, patterns);
     }

@@ -6,17 +6,15 @@ ghost use Rattle.regex_search_core.specs.Search.{search_of};
 ghost use Rattle.regex_search_core.specs.declared.search.MatchKind.TheVariants.{All as AllMatches, LeftmostFirst};
 ghost use Rattle.thompson_nfa.specs.Automaton.{IsAutomaton};
 ghost use Rattle.nfa_paths.specs.Overlaps.{IsOverlapResult};
-ghost use Rattle.nfa_paths.specs.Paths.{byte_at};
-ghost use Rattle.nfa_pikevm.specs.States.{IsBelow, IsWithin, HasRoom, Paid, tries_of};
-ghost use Rattle.nfa_pikevm.specs.Scans.{HaveRoom, HaveRows, SameSizes, AreStarts, scan_turns};
+ghost use Rattle.nfa_pikevm.specs.States.{HasRoom, IsHere, KeepsRoom, HasRoomHere};
+ghost use Rattle.nfa_pikevm.specs.Scans.{HaveRoom, HaveRows, SameSizes, AreStarts, scan_turns, IsWithinTurns};
 ghost use Rattle.nfa_pikevm.specs.Engines.{overlap_scans};
-ghost use Rattle.nfa_pikevm.specs.Overlapping.{permits, rowless, AdvancesInSet, ArrivesInSet, CrossesInSet};
+ghost use Rattle.nfa_pikevm.specs.Overlapping.{permits, rowless, CrossesInSet, ArrivesInSetHere, CrossesInSetHere};
 
-use crate::active::{ActiveStates, Parts};
-use crate::closure::{Move, enter, resume};
+use crate::active::Parts;
+use crate::closure::{Here, Reached, next_match, resume};
 use crate::frame::FollowEpsilon;
 use crate::scan::{Starts, join};
-use crate::seen::Seen;
 use crate::threads::{Threads, move_on, set_up};
 use nfa_scanning::starts::{start_limit, start_state};
 use nfa_scanning::transitions::byte_at;
@@ -58,130 +56,65 @@ fn gather(
     !past_match
 }
 
-/// One turn, and where it leads nowhere the state that was put off last. The pattern of a match that counts is put into
-/// the set; without `past_match` the position ends with the first one.
-#[inline(always)]
-fn advance_to_set(
-    nfa: &NFA,
-    input: &Input<'_>,
-    at: usize,
-    byte: Option<u8>,
-    permitted: bool,
-    past_match: bool,
-    sid: StateID,
-    frames: &mut [FollowEpsilon],
-    top: &mut usize,
-    seen: &mut Seen,
-    next: &mut ActiveStates,
-    patterns: &mut PatternSet,
-    met: &mut bool,
-) -> Option<StateID>
-    requires place { at ≤ (search_of input.now).end }
-    requires byte { byte ≡ byte_at (search_of input.now) at }
-    requires permitted { permitted ≡ permits nfa.now (search_of input.now) at }
-    requires state { sid < length nfa.now.states }
-    requires top { top.old ≤ length frames.old }
-    requires room { HasRoom nfa.now seen.old.bits top.old (length frames.old) (length next.old.items) next.old.places }
-    requires width { next.old.width ≡ 0 }
-    requires within { All (IsWithin (length nfa.now.states) 0) (take top.old frames.old) }
-    ensures turns { seen.new.turns ≡ seen.old.turns + 1 }
-    ensures size { length seen.new.bits ≡ length seen.old.bits }
-    ensures same { next.new ≡ record next.old { items = next.new.items } }
-    ensures top { top.new ≤ length frames.new }
-    ensures state { IsBelow (length nfa.now.states) result }
-    ensures within { All (IsWithin (length nfa.now.states) 0) (take top.new frames.new) }
-    ensures over { result ≡ None → (top.new ≡ 0) ⊎ ((past_match ≡ false) × (met.new ≡ true)) }
-    ensures stops { past_match ≡ false → met.new ≡ true → (met.old ≡ true) ⊎ (result ≡ None) }
-    ensures paid { Paid nfa.now seen.old (length next.old.items) (take top.old frames.old) 1 seen.new (length next.new.items)
-        (take top.new frames.new) (tries_of result) }
-    ensures advances { AdvancesInSet nfa.now (search_of input.now) at past_match (length patterns.old) sid seen.old next.old.items
-        (take top.old frames.old) patterns.old met.old result seen.new next.new.items (take top.new frames.new)
-        patterns.new met.new }
-{
-    match enter(nfa, input, at, byte, sid, frames, top, seen, next, &mut []) {
-        Move::On(on) => return Some(on),
-        Move::Matched(pattern) => {
-            if gather(pattern, permitted, past_match, patterns, met) {
-                return None;
-            }
-        }
-        Move::Over => {}
-    }
-    resume(frames, top, &mut [])
-}
-
-/// Follows all that the root leads to at the position without reading a byte, each state in its turn, and keeps what
-/// the byte leads to. The patterns of the matches that count are put into the set; without `past_match` it stops at the
-/// first one. Answers whether one was met.
+/// Follows all that the root leads to at the position, as [`next_match`] does up to a match. The patterns of the
+/// matches that count are put into the set; without `past_match` it stops at the first one. Answers whether one was
+/// met.
 #[inline(always)]
 fn follow_to_set(
-    nfa: &NFA,
-    input: &Input<'_>,
-    at: usize,
-    byte: Option<u8>,
+    here: &Here<'_, '_>,
     permitted: bool,
-    past_match: bool,
     root: StateID,
     frames: &mut [FollowEpsilon],
-    seen: &mut Seen,
-    next: &mut ActiveStates,
+    reached: &mut Reached,
     patterns: &mut PatternSet,
 ) -> bool
-    requires place { at ≤ (search_of input.now).end }
-    requires byte { byte ≡ byte_at (search_of input.now) at }
-    requires permitted { permitted ≡ permits nfa.now (search_of input.now) at }
-    requires state { root < length nfa.now.states }
-    requires room { HasRoom nfa.now seen.old.bits 0 (length frames.old) (length next.old.items) next.old.places }
-    requires width { next.old.width ≡ 0 }
-    ensures size { length seen.new.bits ≡ length seen.old.bits }
-    ensures same { next.new ≡ record next.old { items = next.new.items } }
-    ensures arrives { ArrivesInSet nfa.now (search_of input.now) at past_match (length patterns.old) root seen.old next.old.items
-        patterns.old result seen.new next.new.items patterns.new }
+    requires here { IsHere here.now }
+    requires permitted { permitted ≡ permits here.now.nfa.now (search_of here.now.input.now) here.now.at }
+    requires state { root < length here.now.nfa.now.states }
+    requires room { HasRoomHere here.now reached.old 0 (length frames.old) }
+    requires width { reached.old.next.width ≡ 0 }
+    ensures keeps { KeepsRoom reached.old reached.new }
+    ensures arrives { ArrivesInSetHere here.now root reached.old patterns.old result reached.new patterns.new }
 {
     let mut top = 0;
     let mut sid = root;
     let mut met = false;
-    while let Some(following) = advance_to_set(
-        nfa, input, at, byte, permitted, past_match, sid, frames, &mut top, seen, next, patterns,
-        &mut met,
-    ) {
-        sid = following;
+    while let Some(pattern) = next_match(here, sid, frames, &mut top, reached, &mut []) {
+        if gather(pattern, permitted, here.past_match, patterns, &mut met) {
+            return met;
+        }
+        let Some(waiting) = resume(frames, &mut top, &mut []) else {
+            return met;
+        };
+        sid = waiting;
     }
     met
 }
 
 /// Follows the states at the position, in order, as [`follow_to_set`] does with each, and answers as it does.
 fn cross_states_to_set(
-    nfa: &NFA,
-    input: &Input<'_>,
-    at: usize,
-    past_match: bool,
+    here: &Here<'_, '_>,
     kept: &[StateID],
     frames: &mut [FollowEpsilon],
-    seen: &mut Seen,
-    next: &mut ActiveStates,
+    reached: &mut Reached,
     patterns: &mut PatternSet,
 ) -> bool
-    requires place { at ≤ (search_of input.now).end }
-    requires states { All (λ s. s < length nfa.now.states) kept.now }
-    requires room { HasRoom nfa.now seen.old.bits 0 (length frames.old) 0 next.old.places }
-    requires clear { seen.old.bits ≡ replicate (length seen.old.bits) false }
-    requires empty { next.old.items ≡ [] }
-    requires width { next.old.width ≡ 0 }
-    ensures size { length seen.new.bits ≡ length seen.old.bits }
-    ensures same { next.new ≡ record next.old { items = next.new.items } }
-    ensures crosses { CrossesInSet nfa.now (search_of input.now) at past_match (length patterns.old) seen.old (rowless kept.now)
-        patterns.old result seen.new next.new.items patterns.new }
+    requires here { IsHere here.now }
+    requires states { All (λ s. s < length here.now.nfa.now.states) kept.now }
+    requires room { HasRoom here.now.nfa.now reached.old.seen.bits 0 (length frames.old) 0 reached.old.next.places }
+    requires clear { reached.old.seen.bits ≡ replicate (length reached.old.seen.bits) false }
+    requires empty { reached.old.next.items ≡ [] }
+    requires width { reached.old.next.width ≡ 0 }
+    ensures keeps { KeepsRoom reached.old reached.new }
+    ensures crosses { CrossesInSetHere here.now reached.old (rowless kept.now) patterns.old result reached.new
+        patterns.new }
 {
-    let byte = byte_at(input, at);
-    let permitted = permits(nfa, input, at);
+    let permitted = permits(here.nfa, here.input, here.at);
     let mut met = false;
     for i in 0..kept.len() {
-        if follow_to_set(
-            nfa, input, at, byte, permitted, past_match, kept[i], frames, seen, next, patterns,
-        ) {
+        if follow_to_set(here, permitted, kept[i], frames, reached, patterns) {
             met = true;
-            if !past_match {
+            if !here.past_match {
                 return true;
             }
         }
@@ -202,36 +135,35 @@ fn cross_to_set(
     requires place { at ≤ (search_of input.now).end }
     requires states { All (λ i. i.0 < length nfa.now.states) threads.old.curr.items }
     requires room { HaveRows nfa.now 0 threads.old }
-    requires empty { threads.old.next.items ≡ [] }
+    requires empty { threads.old.reached.next.items ≡ [] }
     ensures room { HaveRows nfa.now 0 threads.new }
-    ensures size { length threads.new.seen.bits ≡ length threads.old.seen.bits }
+    ensures size { length threads.new.reached.seen.bits ≡ length threads.old.reached.seen.bits }
     ensures curr { threads.new.curr ≡ record threads.old.curr { items = threads.new.curr.items } }
-    ensures next { threads.new.next ≡ record threads.old.next { items = threads.new.next.items } }
+    ensures next { threads.new.reached.next
+        ≡ record threads.old.reached.next { items = threads.new.reached.next.items } }
     ensures frames { length threads.new.frames.items ≡ length threads.old.frames.items }
     ensures scans { threads.new.scans ≡ threads.old.scans }
-    ensures crosses { CrossesInSet nfa.now (search_of input.now) at past_match (length patterns.old) threads.old.seen
-        threads.old.curr.items patterns.old result threads.new.seen threads.new.next.items patterns.new }
+    ensures crosses { CrossesInSet nfa.now (search_of input.now) at past_match (length patterns.old)
+        threads.old.reached.seen threads.old.curr.items patterns.old result threads.new.reached.seen
+        threads.new.reached.next.items patterns.new }
 {
     let Threads {
         frames,
-        seen,
         curr,
-        next,
+        reached,
         ..
     } = threads;
-    seen.clear();
+    reached.seen.clear();
     let Parts { kept, len, .. } = &*curr.parts;
-    cross_states_to_set(
+    let here = Here {
         nfa,
         input,
         at,
+        byte: byte_at(input, at),
         past_match,
-        &kept.as_slice()[..*len],
-        frames.as_mut_slice(),
-        seen,
-        next,
-        patterns,
-    )
+    };
+    let kept = &kept.as_slice()[..*len];
+    cross_states_to_set(&here, kept, frames.as_mut_slice(), reached, patterns)
 }
 
 /// The patterns of all matches.
@@ -247,11 +179,11 @@ fn overlap_all(
     requires span { (search_of input.now).start ≤ (search_of input.now).end }
     requires room { HaveRows nfa.now 0 threads.old }
     requires curr { threads.old.curr.items ≡ [] }
-    requires next { threads.old.next.items ≡ [] }
+    requires next { threads.old.reached.next.items ≡ [] }
     ensures serves { HaveRoom nfa.now 0 threads.new }
     ensures sizes { SameSizes threads.old threads.new }
     ensures scans { threads.new.scans ≡ threads.old.scans }
-    ensures turns { threads.new.seen.turns ≤ threads.old.seen.turns + scan_turns nfa.now (search_of input.now) }
+    ensures turns { IsWithinTurns nfa.now (search_of input.now) threads.old threads.new }
     ensures gains { IsOverlapResult nfa.now (search_of input.now) AllMatches false patterns.old patterns.new }
 {
     for at in input.start()..input.end() + 1 {
@@ -281,12 +213,12 @@ fn overlap_earliest(
     requires span { (search_of input.now).start ≤ (search_of input.now).end }
     requires room { HaveRows nfa.now 0 threads.old }
     requires curr { threads.old.curr.items ≡ [] }
-    requires next { threads.old.next.items ≡ [] }
+    requires next { threads.old.reached.next.items ≡ [] }
     requires empty { past_match ≡ false → size_of_set patterns.old ≡ 0 }
     ensures serves { HaveRoom nfa.now 0 threads.new }
     ensures sizes { SameSizes threads.old threads.new }
     ensures scans { threads.new.scans ≡ threads.old.scans }
-    ensures turns { threads.new.seen.turns ≤ threads.old.seen.turns + scan_turns nfa.now (search_of input.now) }
+    ensures turns { IsWithinTurns nfa.now (search_of input.now) threads.old threads.new }
     ensures gains { IsOverlapResult nfa.now (search_of input.now) (cond past_match AllMatches LeftmostFirst) true
         patterns.old patterns.new }
 {
@@ -316,12 +248,12 @@ fn overlap_first(
     requires span { (search_of input.now).start ≤ (search_of input.now).end }
     requires room { HaveRows nfa.now 0 threads.old }
     requires curr { threads.old.curr.items ≡ [] }
-    requires next { threads.old.next.items ≡ [] }
+    requires next { threads.old.reached.next.items ≡ [] }
     requires empty { size_of_set patterns.old ≡ 0 }
     ensures serves { HaveRoom nfa.now 0 threads.new }
     ensures sizes { SameSizes threads.old threads.new }
     ensures scans { threads.new.scans ≡ threads.old.scans }
-    ensures turns { threads.new.seen.turns ≤ threads.old.seen.turns + scan_turns nfa.now (search_of input.now) }
+    ensures turns { IsWithinTurns nfa.now (search_of input.now) threads.old threads.new }
     ensures gains { IsOverlapResult nfa.now (search_of input.now) LeftmostFirst false patterns.old patterns.new }
 {
     let mut joining = *starts;
@@ -353,12 +285,12 @@ fn overlap_from(
     requires span { (search_of input.now).start ≤ (search_of input.now).end }
     requires room { HaveRows nfa.now 0 threads.old }
     requires curr { threads.old.curr.items ≡ [] }
-    requires next { threads.old.next.items ≡ [] }
+    requires next { threads.old.reached.next.items ≡ [] }
     requires empty { kind ≡ LeftmostFirst → size_of_set patterns.old ≡ 0 }
     ensures serves { HaveRoom nfa.now 0 threads.new }
     ensures sizes { SameSizes threads.old threads.new }
     ensures scans { threads.new.scans ≡ threads.old.scans }
-    ensures turns { threads.new.seen.turns ≤ threads.old.seen.turns + scan_turns nfa.now (search_of input.now) }
+    ensures turns { IsWithinTurns nfa.now (search_of input.now) threads.old threads.new }
     ensures gains { IsOverlapResult nfa.now (search_of input.now) kind (search_of input.now).earliest patterns.old patterns.new }
 {
     let past_match = kind.continue_past_first_match();
@@ -385,8 +317,8 @@ pub fn overlap(
     ensures scans { threads.new.scans ≡ threads.old.scans + overlap_scans kind patterns.old }
     ensures serves { HaveRoom nfa.now 0 threads.new }
     ensures sizes { SameSizes threads.old threads.new }
-    ensures turns { threads.new.seen.turns
-        ≤ threads.old.seen.turns + overlap_scans kind patterns.old * scan_turns nfa.now (search_of input.now) }
+    ensures turns { threads.new.reached.seen.turns
+        ≤ threads.old.reached.seen.turns + overlap_scans kind patterns.old * scan_turns nfa.now (search_of input.now) }
 {
     if !kind.continue_past_first_match() && !patterns.is_empty() {
         return;

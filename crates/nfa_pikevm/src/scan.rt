@@ -5,7 +5,7 @@ ghost use Rattle.regex_search_core.specs.Found.{half_found_of};
 ghost use Rattle.regex_search_core.specs.Patterns.{number_of};
 ghost use Rattle.regex_search_core.specs.declared.search.MatchKind.TheVariants.{All, LeftmostFirst};
 ghost use Rattle.nfa_scanning.specs.FirstBytes.{IsFirstBytes, IsRefused};
-ghost use Rattle.nfa_pikevm.specs.Scans.{blank, HaveRoom, HaveRows, SameSizes, AreStarts, Joins, with_start, half_found, Scans, scan_turns};
+ghost use Rattle.nfa_pikevm.specs.Scans.{blank, HaveRoom, HaveRows, SameSizes, AreStarts, Joins, with_start, half_found, Scans, IsWithinTurns};
 
 use crate::slot::{Slot, unset_row};
 use crate::threads::{Threads, cross, move_on, set_up};
@@ -29,8 +29,8 @@ pub fn join(starts: &Starts, at: usize, threads: &mut Threads)
     requires room { length threads.old.curr.items < threads.old.curr.places }
     ensures curr { threads.new.curr ≡ record threads.old.curr
         { items = with_start starts.now threads.old.curr.width at threads.old.curr.items } }
-    ensures next { threads.new.next ≡ threads.old.next }
-    ensures seen { threads.new.seen ≡ threads.old.seen }
+    ensures next { threads.new.reached.next ≡ threads.old.reached.next }
+    ensures seen { threads.new.reached.seen ≡ threads.old.reached.seen }
     ensures frames { threads.new.frames.items ≡ threads.old.frames.items }
     ensures scans { threads.new.scans ≡ threads.old.scans }
 {
@@ -72,8 +72,8 @@ fn join_or_skip(
     requires stop { starts.now.stop ≤ (search_of input.now).end }
     requires order { at < limit → starts.now.stop < limit }
     ensures curr { threads.new.curr ≡ record threads.old.curr { items = threads.new.curr.items } }
-    ensures next { threads.new.next ≡ threads.old.next }
-    ensures seen { threads.new.seen ≡ threads.old.seen }
+    ensures next { threads.new.reached.next ≡ threads.old.reached.next }
+    ensures seen { threads.new.reached.seen ≡ threads.old.reached.seen }
     ensures frames { threads.new.frames.items ≡ threads.old.frames.items }
     ensures scans { threads.new.scans ≡ threads.old.scans }
     ensures joins { Joins first.now.may_begin (search_of input.now) starts.now limit threads.old.curr.width at
@@ -115,13 +115,14 @@ fn scan_first(
     requires span { (search_of input.now).start ≤ (search_of input.now).end }
     requires room { HaveRows nfa.now (length slots.old) threads.old }
     requires curr { threads.old.curr.items ≡ [] }
-    requires next { threads.old.next.items ≡ [] }
+    requires next { threads.old.reached.next.items ≡ [] }
     requires unset { slots.old ≡ blank (length slots.old) }
     ensures serves { HaveRoom nfa.now (length slots.old) threads.new }
     ensures sizes { SameSizes threads.old threads.new }
     ensures scans { threads.new.scans ≡ threads.old.scans }
-    ensures turns { threads.new.seen.turns ≤ threads.old.seen.turns + scan_turns nfa.now (search_of input.now) }
-    ensures answer { Scans nfa.now (search_of input.now) LeftmostFirst false result slots.new threads.new.seen.turns }
+    ensures turns { IsWithinTurns nfa.now (search_of input.now) threads.old threads.new }
+    ensures answer { Scans nfa.now (search_of input.now) LeftmostFirst false result slots.new
+        threads.new.reached.seen.turns }
 {
     let mut limit = starts.limit;
     let mut found = None;
@@ -155,13 +156,13 @@ fn scan_last(
     requires span { (search_of input.now).start ≤ (search_of input.now).end }
     requires room { HaveRows nfa.now (length slots.old) threads.old }
     requires curr { threads.old.curr.items ≡ [] }
-    requires next { threads.old.next.items ≡ [] }
+    requires next { threads.old.reached.next.items ≡ [] }
     requires unset { slots.old ≡ blank (length slots.old) }
     ensures serves { HaveRoom nfa.now (length slots.old) threads.new }
     ensures sizes { SameSizes threads.old threads.new }
     ensures scans { threads.new.scans ≡ threads.old.scans }
-    ensures turns { threads.new.seen.turns ≤ threads.old.seen.turns + scan_turns nfa.now (search_of input.now) }
-    ensures answer { Scans nfa.now (search_of input.now) All false result slots.new threads.new.seen.turns }
+    ensures turns { IsWithinTurns nfa.now (search_of input.now) threads.old threads.new }
+    ensures answer { Scans nfa.now (search_of input.now) All false result slots.new threads.new.reached.seen.turns }
 {
     let mut found = None;
     for at in input.start()..input.end() + 1 {
@@ -189,14 +190,14 @@ fn scan_earliest(
     requires span { (search_of input.now).start ≤ (search_of input.now).end }
     requires room { HaveRows nfa.now (length slots.old) threads.old }
     requires curr { threads.old.curr.items ≡ [] }
-    requires next { threads.old.next.items ≡ [] }
+    requires next { threads.old.reached.next.items ≡ [] }
     requires unset { slots.old ≡ blank (length slots.old) }
     ensures serves { HaveRoom nfa.now (length slots.old) threads.new }
     ensures sizes { SameSizes threads.old threads.new }
     ensures scans { threads.new.scans ≡ threads.old.scans }
-    ensures turns { threads.new.seen.turns ≤ threads.old.seen.turns + scan_turns nfa.now (search_of input.now) }
+    ensures turns { IsWithinTurns nfa.now (search_of input.now) threads.old threads.new }
     ensures answer { Scans nfa.now (search_of input.now) (cond past_match All LeftmostFirst) true result slots.new
-        threads.new.seen.turns }
+        threads.new.reached.seen.turns }
 {
     for at in input.start()..input.end() + 1 {
         join(starts, at, threads);
@@ -210,39 +211,6 @@ fn scan_earliest(
         }
     }
     None
-}
-
-/// The answer of one scan from these starts.
-fn scan_from(
-    nfa: &NFA,
-    first: &FirstBytes,
-    kind: MatchKind,
-    input: &Input<'_>,
-    starts: &Starts,
-    threads: &mut Threads,
-    slots: &mut [Slot],
-) -> Option<HalfMatch>
-    requires first { IsFirstBytes nfa.now first.now.may_begin }
-    requires starts { AreStarts nfa.now (search_of input.now) starts.now }
-    requires span { (search_of input.now).start ≤ (search_of input.now).end }
-    requires room { HaveRows nfa.now (length slots.old) threads.old }
-    requires curr { threads.old.curr.items ≡ [] }
-    requires next { threads.old.next.items ≡ [] }
-    requires unset { slots.old ≡ blank (length slots.old) }
-    ensures serves { HaveRoom nfa.now (length slots.old) threads.new }
-    ensures sizes { SameSizes threads.old threads.new }
-    ensures scans { threads.new.scans ≡ threads.old.scans }
-    ensures turns { threads.new.seen.turns ≤ threads.old.seen.turns + scan_turns nfa.now (search_of input.now) }
-    ensures answer { Scans nfa.now (search_of input.now) kind (search_of input.now).earliest result slots.new threads.new.seen.turns }
-{
-    let past_match = kind.continue_past_first_match();
-    if input.get_earliest() {
-        scan_earliest(nfa, input, starts, past_match, threads, slots)
-    } else if past_match {
-        scan_last(nfa, input, starts, threads, slots)
-    } else {
-        scan_first(nfa, first, input, starts, threads, slots)
-    }
 }
 
 /// One scan, from a clean slate: the path that is meant, its slots, or no slot set.
@@ -259,8 +227,9 @@ pub fn scan(
     ensures scans { threads.new.scans ≡ threads.old.scans + 1 }
     ensures serves { HaveRoom nfa.now (length slots.old) threads.new }
     ensures sizes { SameSizes threads.old threads.new }
-    ensures turns { threads.new.seen.turns ≤ threads.old.seen.turns + scan_turns nfa.now (search_of input.now) }
-    ensures answer { Scans nfa.now (search_of input.now) kind (search_of input.now).earliest result slots.new threads.new.seen.turns }
+    ensures turns { IsWithinTurns nfa.now (search_of input.now) threads.old threads.new }
+    ensures answer { Scans nfa.now (search_of input.now) kind (search_of input.now).earliest result slots.new
+        threads.new.reached.seen.turns }
 {
     threads.scans.tick();
     unset_row(slots);
@@ -274,5 +243,12 @@ pub fn scan(
         stop: skip_limit(nfa, input),
     };
     set_up(threads, slots.len());
-    scan_from(nfa, first, kind, input, &starts, threads, slots)
+    let past_match = kind.continue_past_first_match();
+    if input.get_earliest() {
+        scan_earliest(nfa, input, &starts, past_match, threads, slots)
+    } else if past_match {
+        scan_last(nfa, input, &starts, threads, slots)
+    } else {
+        scan_first(nfa, first, input, &starts, threads, slots)
+    }
 }

@@ -31,13 +31,13 @@ fn search_once(
     requires first { IsFirstBytes nfa.now first.now.may_begin }
     requires serves { HaveRoom nfa.now (length slots.old) threads.old }
     requires counted { threads.old.scans ≡ 0 }
-    requires turned { threads.old.seen.turns ≡ 0 }
+    requires turned { threads.old.reached.seen.turns ≡ 0 }
     requires mode { is_utf8_empty nfa.now ≡ false }
     ensures answer { Searched nfa.now (search_of input.now) kind (search_of input.now).earliest result slots.new threads.new.scans
-        threads.new.seen.turns }
+        threads.new.reached.seen.turns }
     ensures sizes { SameSizes threads.old threads.new }
     ensures scans { threads.new.scans ≤ scan_limit nfa.now (search_of input.now) }
-    ensures turns { threads.new.seen.turns ≤ threads.new.scans * scan_turns nfa.now (search_of input.now) }
+    ensures turns { threads.new.reached.seen.turns ≤ threads.new.scans * scan_turns nfa.now (search_of input.now) }
 {
     scan(nfa, first, kind, input, threads, slots)
 }
@@ -54,14 +54,14 @@ fn search_kept(
     requires first { IsFirstBytes nfa.now first.now.may_begin }
     requires serves { HaveRoom nfa.now (length slots.old) threads.old }
     requires counted { threads.old.scans ≡ 0 }
-    requires turned { threads.old.seen.turns ≡ 0 }
+    requires turned { threads.old.reached.seen.turns ≡ 0 }
     requires mode { is_utf8_empty nfa.now ≡ true }
     requires anchored { is_anchored (search_of input.now).anchored ≡ true }
     ensures answer { Searched nfa.now (search_of input.now) kind (search_of input.now).earliest result slots.new threads.new.scans
-        threads.new.seen.turns }
+        threads.new.reached.seen.turns }
     ensures sizes { SameSizes threads.old threads.new }
     ensures scans { threads.new.scans ≤ scan_limit nfa.now (search_of input.now) }
-    ensures turns { threads.new.seen.turns ≤ threads.new.scans * scan_turns nfa.now (search_of input.now) }
+    ensures turns { threads.new.reached.seen.turns ≤ threads.new.scans * scan_turns nfa.now (search_of input.now) }
 {
     let half = scan(nfa, first, kind, input, threads, slots)?;
     if input.is_char_boundary(half.offset()) {
@@ -83,14 +83,14 @@ fn search_whole(
     requires first { IsFirstBytes nfa.now first.now.may_begin }
     requires serves { HaveRoom nfa.now (length slots.old) threads.old }
     requires counted { threads.old.scans ≡ 0 }
-    requires turned { threads.old.seen.turns ≡ 0 }
+    requires turned { threads.old.reached.seen.turns ≡ 0 }
     requires mode { is_utf8_empty nfa.now ≡ true }
     requires anchored { is_anchored (search_of input.now).anchored ≡ false }
     ensures answer { Searched nfa.now (search_of input.now) kind (search_of input.now).earliest result slots.new threads.new.scans
-        threads.new.seen.turns }
+        threads.new.reached.seen.turns }
     ensures sizes { SameSizes threads.old threads.new }
     ensures scans { threads.new.scans ≤ scan_limit nfa.now (search_of input.now) }
-    ensures turns { threads.new.seen.turns ≤ threads.new.scans * scan_turns nfa.now (search_of input.now) }
+    ensures turns { threads.new.reached.seen.turns ≤ threads.new.scans * scan_turns nfa.now (search_of input.now) }
 {
     let mut search = *input;
     loop {
@@ -115,12 +115,12 @@ pub fn search(
     requires first { IsFirstBytes nfa.now first.now.may_begin }
     requires serves { HaveRoom nfa.now (length slots.old) threads.old }
     requires counted { threads.old.scans ≡ 0 }
-    requires turned { threads.old.seen.turns ≡ 0 }
+    requires turned { threads.old.reached.seen.turns ≡ 0 }
     ensures answer { Searched nfa.now (search_of input.now) kind (search_of input.now).earliest result slots.new threads.new.scans
-        threads.new.seen.turns }
+        threads.new.reached.seen.turns }
     ensures sizes { SameSizes threads.old threads.new }
     ensures scans { threads.new.scans ≤ scan_limit nfa.now (search_of input.now) }
-    ensures turns { threads.new.seen.turns ≤ threads.new.scans * scan_turns nfa.now (search_of input.now) }
+    ensures turns { threads.new.reached.seen.turns ≤ threads.new.scans * scan_turns nfa.now (search_of input.now) }
 {
     if !(nfa.has_empty() && nfa.is_utf8()) {
         search_once(nfa, first, kind, input, threads, slots)

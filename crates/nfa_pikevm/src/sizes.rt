@@ -81,35 +81,39 @@ pub fn make_room(
     filler: StateID,
 ) -> Result<(), Refused>
     requires { IsSize size.now }
-    ensures room { OnOk result (IsRoomFor size.now.states size.now.slots size.now.frames threads.new.seen
-        (length threads.new.frames.items) threads.new.curr threads.new.next (length found.new.items)) }
-    ensures turns { threads.new.seen.turns ≡ threads.old.seen.turns }
+    ensures room { OnOk result (IsRoomFor size.now.states size.now.slots size.now.frames threads.new.reached.seen
+        (length threads.new.frames.items) threads.new.curr threads.new.reached.next (length found.new.items)) }
+    ensures turns { threads.new.reached.seen.turns ≡ threads.old.reached.seen.turns }
     ensures scans { threads.new.scans ≡ threads.old.scans }
-    ensures seen { OnErr result (threads.new.seen ≡ threads.old.seen) }
+    ensures seen { OnErr result (threads.new.reached.seen ≡ threads.old.reached.seen) }
     ensures curr { OnErr result (threads.new.curr ≡ threads.old.curr) }
-    ensures next { OnErr result (threads.new.next ≡ threads.old.next) }
+    ensures next { OnErr result (threads.new.reached.next ≡ threads.old.reached.next) }
     ensures frames { OnErr result (threads.new.frames.items ≡ threads.old.frames.items) }
     ensures found { OnErr result (found.new.items ≡ found.old.items) }
 {
     reserve(&mut threads.frames, size.frames)?;
-    reserve(&mut threads.seen.stamps, size.states)?;
+    reserve(&mut threads.reached.seen.stamps, size.states)?;
     reserve(&mut threads.curr.parts.kept, size.places)?;
     reserve(&mut threads.curr.parts.rows, size.cells)?;
-    reserve(&mut threads.next.parts.kept, size.places)?;
-    reserve(&mut threads.next.parts.rows, size.cells)?;
+    reserve(&mut threads.reached.next.parts.kept, size.places)?;
+    reserve(&mut threads.reached.next.parts.rows, size.cells)?;
     reserve(found, size.slots)?;
     let unused = FollowEpsilon::Explore { sid: filler };
     refill(&mut threads.frames, size.frames, unused);
-    refill(&mut threads.seen.stamps, size.states, 0);
-    threads.seen.newest = 1;
+    refill(&mut threads.reached.seen.stamps, size.states, 0);
+    threads.reached.seen.newest = 1;
     threads.curr.parts.len = 0;
     threads.curr.parts.width = 0;
     refill(&mut threads.curr.parts.kept, size.places, filler);
     refill(&mut threads.curr.parts.rows, size.cells, Slot::unset());
-    threads.next.parts.len = 0;
-    threads.next.parts.width = 0;
-    refill(&mut threads.next.parts.kept, size.places, filler);
-    refill(&mut threads.next.parts.rows, size.cells, Slot::unset());
+    threads.reached.next.parts.len = 0;
+    threads.reached.next.parts.width = 0;
+    refill(&mut threads.reached.next.parts.kept, size.places, filler);
+    refill(
+        &mut threads.reached.next.parts.rows,
+        size.cells,
+        Slot::unset(),
+    );
     refill(found, size.slots, Slot::unset());
     Ok(())
 }

@@ -1,5 +1,5 @@
 -- A turn enters a state: it marks it, keeps what its byte leads to, or tells where to go on.
-use Rattle.std.proofs.Common.{◌∙◌, take, slice_set, arith, sym, ap, refl, inl, inr}
+use Rattle.std.proofs.Common.{◌≡◌, ◌∙◌, length, take, slice_set, arith, rules, sym, ap, refl, inl, inr}
 use Rattle.std.proofs.lemmas.List.{length-drop}
 use Rattle.regex_search_core.specs.Search.{search_of}
 use Rattle.nfa_pikevm.specs.declared.frame.FollowEpsilon.TheVariants.{Explore}
@@ -9,151 +9,185 @@ use Rattle.nfa_pikevm.proofs.closure.enter.Goals.{then-slot-row, else-slot-row}
 
 pub returns-then-not-insert-clause-enters : goal.returns-then-not-insert-clause-enters
 returns-then-not-insert-clause-enters c =
-    Enters-marked (search_of c.args.input.now) c.args.at c.args.sid c.as_usize.result c.args.next.now.items
+    Enters-marked (search_of c.args.here.now.input.now) c.args.here.now.at c.args.sid c.as_usize.result
+    c.args.reached.now.next.items
     (take c.args.top.now c.args.frames.now) c.args.row.now c.insert.ensures.turns c.as_usize.ensures.value
     (c.insert.ensures.seen c.if-not-insert.true)
 
 pub keep-requires-clause-room : goal.keep-requires-clause-room
 keep-requires-clause-room c =
-    let e = Entered-made c.args.seen.now c.insert.new.self c.as_usize.ensures.value c.state.ensures.node
+    let e = Entered-made c.args.reached.now.seen c.insert.new.self c.as_usize.ensures.value c.state.ensures.node
     c.in-ByteRange.is c.requires.state c.requires.room c.insert.ensures.turns
     (c.insert.ensures.fresh c.if-not-insert.false) in
     states-entered e c.requires.room
 
-pub returns-in-ByteRange-clause-same : goal.returns-in-ByteRange-clause-same
-returns-in-ByteRange-clause-same c =
-    IsKept-same _ c.args.row.now c.args.next.now c.keep.new.next
-    (IsKept-made _ c.range_target.result c.args.row.now c.args.next.now c.keep.new.next c.range_target.ensures
-    c.keep.ensures.none c.keep.ensures.some)
+pub returns-in-ByteRange-clause-keeps : goal.returns-in-ByteRange-clause-keeps
+returns-in-ByteRange-clause-keeps c =
+    let size : length c.insert.new.self.bits ≡ length c.args.reached.now.seen.bits = search rules in
+    record {
+      size = size;
+      same = IsKept-same _ c.args.row.now c.args.reached.now.next c.keep.new.next
+          (IsKept-made _ c.range_target.result c.args.row.now c.args.reached.now.next c.keep.new.next
+          c.range_target.ensures
+          c.keep.ensures.none c.keep.ensures.some);
+    }
 
 pub returns-in-ByteRange-clause-paid : goal.returns-in-ByteRange-clause-paid
 returns-in-ByteRange-clause-paid c =
-    let e = Entered-made c.args.seen.now c.insert.new.self c.as_usize.ensures.value c.state.ensures.node
+    let e = Entered-made c.args.reached.now.seen c.insert.new.self c.as_usize.ensures.value c.state.ensures.node
     c.in-ByteRange.is c.requires.state c.requires.room c.insert.ensures.turns
     (c.insert.ensures.fresh c.if-not-insert.false) in
-    Paid-kept e c.args.byte c.args.row.now c.args.next.now c.keep.new.next (take c.args.top.now c.args.frames.now)
-    (IsKept-made _ c.range_target.result c.args.row.now c.args.next.now c.keep.new.next c.range_target.ensures
+    Paid-kept e c.args.here.now.byte c.args.row.now c.args.reached.now.next c.keep.new.next (take c.args.top.now
+    c.args.frames.now)
+    (IsKept-made _ c.range_target.result c.args.row.now c.args.reached.now.next c.keep.new.next c.range_target.ensures
     c.keep.ensures.none c.keep.ensures.some)
 
 pub returns-in-ByteRange-clause-enters : goal.returns-in-ByteRange-clause-enters
 returns-in-ByteRange-clause-enters c =
-    let e = Entered-made c.args.seen.now c.insert.new.self c.as_usize.ensures.value c.state.ensures.node
+    let e = Entered-made c.args.reached.now.seen c.insert.new.self c.as_usize.ensures.value c.state.ensures.node
     c.in-ByteRange.is c.requires.state c.requires.room c.insert.ensures.turns
     (c.insert.ensures.fresh c.if-not-insert.false) in
-    Enters-kept e (search_of c.args.input.now) c.args.at c.args.next.now.items (take c.args.top.now c.args.frames.now)
-    c.args.row.now refl c.args.byte c.args.next.now c.keep.new.next refl c.requires.byte
-    (IsKept-made _ c.range_target.result c.args.row.now c.args.next.now c.keep.new.next c.range_target.ensures
+    Enters-kept e (search_of c.args.here.now.input.now) c.args.here.now.at c.args.reached.now.next.items (take
+    c.args.top.now c.args.frames.now)
+    c.args.row.now refl c.args.here.now.byte c.args.reached.now.next c.keep.new.next refl c.requires.here.byte
+    (IsKept-made _ c.range_target.result c.args.row.now c.args.reached.now.next c.keep.new.next c.range_target.ensures
     c.keep.ensures.none c.keep.ensures.some) refl
 
 pub keep-requires-in-Sparse-clause-room : goal.keep-requires-in-Sparse-clause-room
 keep-requires-in-Sparse-clause-room c =
-    let e = Entered-made c.args.seen.now c.insert.new.self c.as_usize.ensures.value c.state.ensures.node c.in-Sparse.is
+    let e = Entered-made c.args.reached.now.seen c.insert.new.self c.as_usize.ensures.value c.state.ensures.node
+    c.in-Sparse.is
     c.requires.state c.requires.room c.insert.ensures.turns (c.insert.ensures.fresh c.if-not-insert.false) in
     states-entered e c.requires.room
 
-pub returns-in-Sparse-clause-same : goal.returns-in-Sparse-clause-same
-returns-in-Sparse-clause-same c =
-    IsKept-same _ c.args.row.now c.args.next.now c.keep-in-Sparse.new.next
-    (IsKept-made _ c.sparse_target.result c.args.row.now c.args.next.now c.keep-in-Sparse.new.next
-    (rw c.deref.ensures.value at c.sparse_target.ensures) c.keep-in-Sparse.ensures.none
-    c.keep-in-Sparse.ensures.some)
+pub returns-in-Sparse-clause-keeps : goal.returns-in-Sparse-clause-keeps
+returns-in-Sparse-clause-keeps c =
+    let size : length c.insert.new.self.bits ≡ length c.args.reached.now.seen.bits = search rules in
+    record {
+      size = size;
+      same = IsKept-same _ c.args.row.now c.args.reached.now.next c.keep-in-Sparse.new.next
+          (IsKept-made _ c.sparse_target.result c.args.row.now c.args.reached.now.next c.keep-in-Sparse.new.next
+          (rw c.deref.ensures.value at c.sparse_target.ensures) c.keep-in-Sparse.ensures.none
+          c.keep-in-Sparse.ensures.some);
+    }
 
 pub returns-in-Sparse-clause-paid : goal.returns-in-Sparse-clause-paid
 returns-in-Sparse-clause-paid c =
-    let e = Entered-made c.args.seen.now c.insert.new.self c.as_usize.ensures.value c.state.ensures.node c.in-Sparse.is
+    let e = Entered-made c.args.reached.now.seen c.insert.new.self c.as_usize.ensures.value c.state.ensures.node
+    c.in-Sparse.is
     c.requires.state c.requires.room c.insert.ensures.turns (c.insert.ensures.fresh c.if-not-insert.false) in
-    Paid-kept e c.args.byte c.args.row.now c.args.next.now c.keep-in-Sparse.new.next
-    (take c.args.top.now c.args.frames.now) (IsKept-made _ c.sparse_target.result c.args.row.now c.args.next.now
+    Paid-kept e c.args.here.now.byte c.args.row.now c.args.reached.now.next c.keep-in-Sparse.new.next
+    (take c.args.top.now c.args.frames.now) (IsKept-made _ c.sparse_target.result c.args.row.now c.args.reached.now.next
     c.keep-in-Sparse.new.next (rw c.deref.ensures.value at c.sparse_target.ensures) c.keep-in-Sparse.ensures.none
     c.keep-in-Sparse.ensures.some)
 
 pub returns-in-Sparse-clause-enters : goal.returns-in-Sparse-clause-enters
 returns-in-Sparse-clause-enters c =
-    let e = Entered-made c.args.seen.now c.insert.new.self c.as_usize.ensures.value c.state.ensures.node c.in-Sparse.is
+    let e = Entered-made c.args.reached.now.seen c.insert.new.self c.as_usize.ensures.value c.state.ensures.node
+    c.in-Sparse.is
     c.requires.state c.requires.room c.insert.ensures.turns (c.insert.ensures.fresh c.if-not-insert.false) in
-    Enters-kept e (search_of c.args.input.now) c.args.at c.args.next.now.items (take c.args.top.now c.args.frames.now)
-    c.args.row.now refl c.args.byte c.args.next.now c.keep-in-Sparse.new.next refl c.requires.byte
-    (IsKept-made _ c.sparse_target.result c.args.row.now c.args.next.now c.keep-in-Sparse.new.next
+    Enters-kept e (search_of c.args.here.now.input.now) c.args.here.now.at c.args.reached.now.next.items (take
+    c.args.top.now c.args.frames.now)
+    c.args.row.now refl c.args.here.now.byte c.args.reached.now.next c.keep-in-Sparse.new.next refl c.requires.here.byte
+    (IsKept-made _ c.sparse_target.result c.args.row.now c.args.reached.now.next c.keep-in-Sparse.new.next
     (rw c.deref.ensures.value at c.sparse_target.ensures) c.keep-in-Sparse.ensures.none
     c.keep-in-Sparse.ensures.some) refl
 
 pub keep-requires-in-Dense-clause-room : goal.keep-requires-in-Dense-clause-room
 keep-requires-in-Dense-clause-room c =
-    let e = Entered-made c.args.seen.now c.insert.new.self c.as_usize.ensures.value c.state.ensures.node c.in-Dense.is
+    let e = Entered-made c.args.reached.now.seen c.insert.new.self c.as_usize.ensures.value c.state.ensures.node
+    c.in-Dense.is
     c.requires.state c.requires.room c.insert.ensures.turns (c.insert.ensures.fresh c.if-not-insert.false) in
     states-entered e c.requires.room
 
-pub returns-in-Dense-clause-same : goal.returns-in-Dense-clause-same
-returns-in-Dense-clause-same c =
-    IsKept-same _ c.args.row.now c.args.next.now c.keep-in-Dense.new.next
-    (IsKept-made _ c.dense_target.result c.args.row.now c.args.next.now c.keep-in-Dense.new.next
-    (rw c.deref-in-Dense.ensures.value at c.dense_target.ensures) c.keep-in-Dense.ensures.none
-    c.keep-in-Dense.ensures.some)
+pub returns-in-Dense-clause-keeps : goal.returns-in-Dense-clause-keeps
+returns-in-Dense-clause-keeps c =
+    let size : length c.insert.new.self.bits ≡ length c.args.reached.now.seen.bits = search rules in
+    record {
+      size = size;
+      same = IsKept-same _ c.args.row.now c.args.reached.now.next c.keep-in-Dense.new.next
+          (IsKept-made _ c.dense_target.result c.args.row.now c.args.reached.now.next c.keep-in-Dense.new.next
+          (rw c.deref-in-Dense.ensures.value at c.dense_target.ensures) c.keep-in-Dense.ensures.none
+          c.keep-in-Dense.ensures.some);
+    }
 
 pub returns-in-Dense-clause-paid : goal.returns-in-Dense-clause-paid
 returns-in-Dense-clause-paid c =
-    let e = Entered-made c.args.seen.now c.insert.new.self c.as_usize.ensures.value c.state.ensures.node c.in-Dense.is
+    let e = Entered-made c.args.reached.now.seen c.insert.new.self c.as_usize.ensures.value c.state.ensures.node
+    c.in-Dense.is
     c.requires.state c.requires.room c.insert.ensures.turns (c.insert.ensures.fresh c.if-not-insert.false) in
-    Paid-kept e c.args.byte c.args.row.now c.args.next.now c.keep-in-Dense.new.next
-    (take c.args.top.now c.args.frames.now) (IsKept-made _ c.dense_target.result c.args.row.now c.args.next.now
+    Paid-kept e c.args.here.now.byte c.args.row.now c.args.reached.now.next c.keep-in-Dense.new.next
+    (take c.args.top.now c.args.frames.now) (IsKept-made _ c.dense_target.result c.args.row.now c.args.reached.now.next
     c.keep-in-Dense.new.next (rw c.deref-in-Dense.ensures.value at c.dense_target.ensures)
     c.keep-in-Dense.ensures.none c.keep-in-Dense.ensures.some)
 
 pub returns-in-Dense-clause-enters : goal.returns-in-Dense-clause-enters
 returns-in-Dense-clause-enters c =
-    let e = Entered-made c.args.seen.now c.insert.new.self c.as_usize.ensures.value c.state.ensures.node c.in-Dense.is
+    let e = Entered-made c.args.reached.now.seen c.insert.new.self c.as_usize.ensures.value c.state.ensures.node
+    c.in-Dense.is
     c.requires.state c.requires.room c.insert.ensures.turns (c.insert.ensures.fresh c.if-not-insert.false) in
-    Enters-kept e (search_of c.args.input.now) c.args.at c.args.next.now.items (take c.args.top.now c.args.frames.now)
-    c.args.row.now refl c.args.byte c.args.next.now c.keep-in-Dense.new.next refl c.requires.byte
-    (IsKept-made _ c.dense_target.result c.args.row.now c.args.next.now c.keep-in-Dense.new.next
+    Enters-kept e (search_of c.args.here.now.input.now) c.args.here.now.at c.args.reached.now.next.items (take
+    c.args.top.now c.args.frames.now)
+    c.args.row.now refl c.args.here.now.byte c.args.reached.now.next c.keep-in-Dense.new.next refl c.requires.here.byte
+    (IsKept-made _ c.dense_target.result c.args.row.now c.args.reached.now.next c.keep-in-Dense.new.next
     (rw c.deref-in-Dense.ensures.value at c.dense_target.ensures) c.keep-in-Dense.ensures.none
     c.keep-in-Dense.ensures.some) refl
 
 pub returns-then-look_matches-clause-paid : goal.returns-then-look_matches-clause-paid
 returns-then-look_matches-clause-paid c =
-    let e = Entered-made c.args.seen.now c.insert.new.self c.as_usize.ensures.value c.state.ensures.node c.in-Look.is
+    let e = Entered-made c.args.reached.now.seen c.insert.new.self c.as_usize.ensures.value c.state.ensures.node
+    c.in-Look.is
     c.requires.state c.requires.room c.insert.ensures.turns (c.insert.ensures.fresh c.if-not-insert.false) in
     Paid-same e _ _ 1 (omega arith)
 
 pub returns-then-look_matches-clause-enters : goal.returns-then-look_matches-clause-enters
 returns-then-look_matches-clause-enters c =
-    let e = Entered-made c.args.seen.now c.insert.new.self c.as_usize.ensures.value c.state.ensures.node c.in-Look.is
+    let e = Entered-made c.args.reached.now.seen c.insert.new.self c.as_usize.ensures.value c.state.ensures.node
+    c.in-Look.is
     c.requires.state c.requires.room c.insert.ensures.turns (c.insert.ensures.fresh c.if-not-insert.false) in
     let holds = sym (rw c.haystack.ensures at c.look_matches.ensures) ∙ c.if-look_matches.true in
-    Enters-look (search_of c.args.input.now) c.args.at c.args.next.now.items (take c.args.top.now c.args.frames.now)
+    Enters-look (search_of c.args.here.now.input.now) c.args.here.now.at c.args.reached.now.next.items (take
+    c.args.top.now c.args.frames.now)
     c.args.row.now c.in-Look.look c.in-Look.next e holds
 
 pub returns-else-look_matches-clause-paid : goal.returns-else-look_matches-clause-paid
 returns-else-look_matches-clause-paid c =
-    let e = Entered-made c.args.seen.now c.insert.new.self c.as_usize.ensures.value c.state.ensures.node c.in-Look.is
+    let e = Entered-made c.args.reached.now.seen c.insert.new.self c.as_usize.ensures.value c.state.ensures.node
+    c.in-Look.is
     c.requires.state c.requires.room c.insert.ensures.turns (c.insert.ensures.fresh c.if-not-insert.false) in
     Paid-same e _ _ 0 (omega arith)
 
 pub returns-else-look_matches-clause-enters : goal.returns-else-look_matches-clause-enters
 returns-else-look_matches-clause-enters c =
-    let e = Entered-made c.args.seen.now c.insert.new.self c.as_usize.ensures.value c.state.ensures.node c.in-Look.is
+    let e = Entered-made c.args.reached.now.seen c.insert.new.self c.as_usize.ensures.value c.state.ensures.node
+    c.in-Look.is
     c.requires.state c.requires.room c.insert.ensures.turns (c.insert.ensures.fresh c.if-not-insert.false) in
     let fails = sym (rw c.haystack.ensures at c.look_matches.ensures) ∙ c.if-look_matches.false in
-    Enters-no_look (search_of c.args.input.now) c.args.at c.args.next.now.items (take c.args.top.now c.args.frames.now)
+    Enters-no_look (search_of c.args.here.now.input.now) c.args.here.now.at c.args.reached.now.next.items (take
+    c.args.top.now c.args.frames.now)
     c.args.row.now c.in-Look.look c.in-Look.next e fails
 
 pub returns-in_default-clause-paid : goal.returns-in_default-clause-paid
 returns-in_default-clause-paid c =
-    let e = Entered-made c.args.seen.now c.insert.new.self c.as_usize.ensures.value c.state.ensures.node c.in-Union.is
+    let e = Entered-made c.args.reached.now.seen c.insert.new.self c.as_usize.ensures.value c.state.ensures.node
+    c.in-Union.is
     c.requires.state c.requires.room c.insert.ensures.turns (c.insert.ensures.fresh c.if-not-insert.false) in
     Paid-same e _ _ 0 (omega arith)
 
 pub returns-in_default-clause-enters : goal.returns-in_default-clause-enters
 returns-in_default-clause-enters c =
-    let e = Entered-made c.args.seen.now c.insert.new.self c.as_usize.ensures.value c.state.ensures.node c.in-Union.is
+    let e = Entered-made c.args.reached.now.seen c.insert.new.self c.as_usize.ensures.value c.state.ensures.node
+    c.in-Union.is
     c.requires.state c.requires.room c.insert.ensures.turns (c.insert.ensures.fresh c.if-not-insert.false) in
     let none = sym (rw c.deref-in-Union.ensures.value at c.in_default.ensures.value) in
-    Enters-no_union (search_of c.args.input.now) c.args.at c.args.next.now.items (take c.args.top.now c.args.frames.now)
+    Enters-no_union (search_of c.args.here.now.input.now) c.args.here.now.at c.args.reached.now.next.items (take
+    c.args.top.now c.args.frames.now)
     c.args.row.now c.in-Union.alternates.items e none
 
 pub put_off-requires : goal.put_off-requires
 put_off-requires c =
-    let e = Entered-made c.args.seen.now c.insert.new.self c.as_usize.ensures.value c.state.ensures.node c.in-Union.is
+    let e = Entered-made c.args.reached.now.seen c.insert.new.self c.as_usize.ensures.value c.state.ensures.node
+    c.in-Union.is
     c.requires.state c.requires.room c.insert.ensures.turns (c.insert.ensures.fresh c.if-not-insert.false) in
     let room = frames-entered e c.requires.room in
     rw c.deref-in-Union-2.ensures.value (omega (arith, room, length-drop 1 c.in-Union.alternates.items))
@@ -167,53 +201,60 @@ returns-in-Some-clause-within c =
 
 pub returns-in-Some-clause-paid : goal.returns-in-Some-clause-paid
 returns-in-Some-clause-paid c =
-    let e = Entered-made c.args.seen.now c.insert.new.self c.as_usize.ensures.value c.state.ensures.node c.in-Union.is
+    let e = Entered-made c.args.reached.now.seen c.insert.new.self c.as_usize.ensures.value c.state.ensures.node
+    c.in-Union.is
     c.requires.state c.requires.room c.insert.ensures.turns (c.insert.ensures.fresh c.if-not-insert.false) in
     let first = sym (rw c.deref-in-Union.ensures.value at c.in-Some.ensures.value) in
     let stack = rw c.deref-in-Union-2.ensures.value at c.put_off.ensures.stack in
-    Paid-union (search_of c.args.input.now) c.args.at c.args.next.now.items (take c.args.top.now c.args.frames.now)
+    Paid-union (search_of c.args.here.now.input.now) c.args.here.now.at c.args.reached.now.next.items (take
+    c.args.top.now c.args.frames.now)
     c.args.row.now c.in-Union.alternates.items e _ first _ stack _
 
 pub returns-in-Some-clause-enters : goal.returns-in-Some-clause-enters
 returns-in-Some-clause-enters c =
-    let e = Entered-made c.args.seen.now c.insert.new.self c.as_usize.ensures.value c.state.ensures.node c.in-Union.is
+    let e = Entered-made c.args.reached.now.seen c.insert.new.self c.as_usize.ensures.value c.state.ensures.node
+    c.in-Union.is
     c.requires.state c.requires.room c.insert.ensures.turns (c.insert.ensures.fresh c.if-not-insert.false) in
     let first = sym (rw c.deref-in-Union.ensures.value at c.in-Some.ensures.value) in
     let stack = rw c.deref-in-Union-2.ensures.value at c.put_off.ensures.stack in
-    Enters-union (search_of c.args.input.now) c.args.at c.args.next.now.items (take c.args.top.now c.args.frames.now)
+    Enters-union (search_of c.args.here.now.input.now) c.args.here.now.at c.args.reached.now.next.items (take
+    c.args.top.now c.args.frames.now)
     c.args.row.now c.in-Union.alternates.items e _ first _ stack
 
 pub push-requires : goal.push-requires
 push-requires c =
-    let e = Entered-made c.args.seen.now c.insert.new.self c.as_usize.ensures.value c.state.ensures.node
+    let e = Entered-made c.args.reached.now.seen c.insert.new.self c.as_usize.ensures.value c.state.ensures.node
     c.in-BinaryUnion.is c.requires.state c.requires.room c.insert.ensures.turns
     (c.insert.ensures.fresh c.if-not-insert.false) in
     let room = frames-entered e c.requires.room in omega (arith, room)
 
 pub returns-in-BinaryUnion-clause-paid : goal.returns-in-BinaryUnion-clause-paid
 returns-in-BinaryUnion-clause-paid c =
-    let e = Entered-made c.args.seen.now c.insert.new.self c.as_usize.ensures.value c.state.ensures.node
+    let e = Entered-made c.args.reached.now.seen c.insert.new.self c.as_usize.ensures.value c.state.ensures.node
     c.in-BinaryUnion.is c.requires.state c.requires.room c.insert.ensures.turns
     (c.insert.ensures.fresh c.if-not-insert.false) in
     Paid-push e _ _ (Explore c.in-BinaryUnion.alt2) _ 1 c.push.ensures.stack (omega arith) (omega arith)
 
 pub returns-in-BinaryUnion-clause-enters : goal.returns-in-BinaryUnion-clause-enters
 returns-in-BinaryUnion-clause-enters c =
-    let e = Entered-made c.args.seen.now c.insert.new.self c.as_usize.ensures.value c.state.ensures.node
+    let e = Entered-made c.args.reached.now.seen c.insert.new.self c.as_usize.ensures.value c.state.ensures.node
     c.in-BinaryUnion.is c.requires.state c.requires.room c.insert.ensures.turns
     (c.insert.ensures.fresh c.if-not-insert.false) in
-    Enters-both (search_of c.args.input.now) c.args.at c.args.next.now.items (take c.args.top.now c.args.frames.now)
+    Enters-both (search_of c.args.here.now.input.now) c.args.here.now.at c.args.reached.now.next.items (take
+    c.args.top.now c.args.frames.now)
     c.args.row.now c.in-BinaryUnion.alt1 c.in-BinaryUnion.alt2 e _ c.push.ensures.stack
 
 pub keep_old-requires-clause-room : goal.keep_old-requires-clause-room
 keep_old-requires-clause-room c =
-    let e = Entered-made c.args.seen.now c.insert.new.self c.as_usize.ensures.value c.state.ensures.node c.in-Capture.is
+    let e = Entered-made c.args.reached.now.seen c.insert.new.self c.as_usize.ensures.value c.state.ensures.node
+    c.in-Capture.is
     c.requires.state c.requires.room c.insert.ensures.turns (c.insert.ensures.fresh c.if-not-insert.false) in
     let room = frames-entered e c.requires.room in omega (arith, room)
 
 pub returns-after-slot-row-clause-top : goal.returns-after-slot-row-clause-top
 returns-after-slot-row-clause-top c =
-    let e = Entered-made c.args.seen.now c.insert.new.self c.as_usize.ensures.value c.state.ensures.node c.in-Capture.is
+    let e = Entered-made c.args.reached.now.seen c.insert.new.self c.as_usize.ensures.value c.state.ensures.node
+    c.in-Capture.is
     c.requires.state c.requires.room c.insert.ensures.turns (c.insert.ensures.fresh c.if-not-insert.false) in
     let room = frames-entered e c.requires.room in
     let same = c.if-slot-row.auto.frames in
@@ -225,11 +266,11 @@ returns-after-slot-row-clause-top c =
 
 -- what was written and put off
 written : (c : goal.After-result-in-Capture-1)
-    → IsWritten c.args.at c.in-Capture.slot (take c.args.top.now c.args.frames.now) c.args.row.now
+    → IsWritten c.args.here.now.at c.in-Capture.slot (take c.args.top.now c.args.frames.now) c.args.row.now
     (take c.if-slot-row.top c.if-slot-row.frames) c.if-slot-row.row
 written c = elim c.if-slot-row.branch [
   | then-slot-row w ↦
-      let some = offset-some w.new.result _ c.args.at w.new.ensures (omega arith) in
+      let some = offset-some w.new.result _ c.args.here.now.at w.new.ensures (omega arith) in
       inl (
         w.if-slot-row.true,
         rw (w.top-is, w.frames-is) (IsPut-made c.args.top.now w.keep_old.new.top c.args.frames.now w.keep_old.new.frames
@@ -241,44 +282,53 @@ written c = elim c.if-slot-row.branch [
 
 pub returns-after-slot-row-clause-within : goal.returns-after-slot-row-clause-within
 returns-after-slot-row-clause-within c =
-    within-capture _ c.args.at c.in-Capture.slot (take c.args.top.now c.args.frames.now) c.args.row.now _ _ (written c)
+    within-capture _ c.args.here.now.at c.in-Capture.slot (take c.args.top.now c.args.frames.now) c.args.row.now _ _
+    (written c)
     c.requires.within
 
 pub returns-after-slot-row-clause-paid : goal.returns-after-slot-row-clause-paid
 returns-after-slot-row-clause-paid c =
-    let e = Entered-made c.args.seen.now c.insert.new.self c.as_usize.ensures.value c.state.ensures.node c.in-Capture.is
+    let e = Entered-made c.args.reached.now.seen c.insert.new.self c.as_usize.ensures.value c.state.ensures.node
+    c.in-Capture.is
     c.requires.state c.requires.room c.insert.ensures.turns (c.insert.ensures.fresh c.if-not-insert.false) in
-    Paid-capture e c.args.at (take c.args.top.now c.args.frames.now) c.args.row.now _ _ (written c) _
+    Paid-capture e c.args.here.now.at (take c.args.top.now c.args.frames.now) c.args.row.now _ _ (written c) _
 
 pub returns-after-slot-row-clause-enters : goal.returns-after-slot-row-clause-enters
 returns-after-slot-row-clause-enters c =
-    let e = Entered-made c.args.seen.now c.insert.new.self c.as_usize.ensures.value c.state.ensures.node c.in-Capture.is
+    let e = Entered-made c.args.reached.now.seen c.insert.new.self c.as_usize.ensures.value c.state.ensures.node
+    c.in-Capture.is
     c.requires.state c.requires.room c.insert.ensures.turns (c.insert.ensures.fresh c.if-not-insert.false) in
-    Enters-capture e c.args.at (take c.args.top.now c.args.frames.now) c.args.row.now _ _ (written c)
-    (search_of c.args.input.now) c.args.next.now.items
+    Enters-capture e c.args.here.now.at (take c.args.top.now c.args.frames.now) c.args.row.now _ _ (written c)
+    (search_of c.args.here.now.input.now) c.args.reached.now.next.items
 
 pub returns-in-Fail-clause-paid : goal.returns-in-Fail-clause-paid
 returns-in-Fail-clause-paid c =
-    let e = Entered-made c.args.seen.now c.insert.new.self c.as_usize.ensures.value c.state.ensures.node c.in-Fail.is
+    let e = Entered-made c.args.reached.now.seen c.insert.new.self c.as_usize.ensures.value c.state.ensures.node
+    c.in-Fail.is
     c.requires.state c.requires.room c.insert.ensures.turns (c.insert.ensures.fresh c.if-not-insert.false) in
     Paid-same e _ _ 0 (omega arith)
 
 pub returns-in-Fail-clause-enters : goal.returns-in-Fail-clause-enters
 returns-in-Fail-clause-enters c =
-    let e = Entered-made c.args.seen.now c.insert.new.self c.as_usize.ensures.value c.state.ensures.node c.in-Fail.is
+    let e = Entered-made c.args.reached.now.seen c.insert.new.self c.as_usize.ensures.value c.state.ensures.node
+    c.in-Fail.is
     c.requires.state c.requires.room c.insert.ensures.turns (c.insert.ensures.fresh c.if-not-insert.false) in
-    Enters-fail (search_of c.args.input.now) c.args.at c.args.next.now.items (take c.args.top.now c.args.frames.now)
+    Enters-fail (search_of c.args.here.now.input.now) c.args.here.now.at c.args.reached.now.next.items (take
+    c.args.top.now c.args.frames.now)
     c.args.row.now e
 
 pub returns-in-Match-clause-paid : goal.returns-in-Match-clause-paid
 returns-in-Match-clause-paid c =
-    let e = Entered-made c.args.seen.now c.insert.new.self c.as_usize.ensures.value c.state.ensures.node c.in-Match.is
+    let e = Entered-made c.args.reached.now.seen c.insert.new.self c.as_usize.ensures.value c.state.ensures.node
+    c.in-Match.is
     c.requires.state c.requires.room c.insert.ensures.turns (c.insert.ensures.fresh c.if-not-insert.false) in
     Paid-same e _ _ 0 (omega arith)
 
 pub returns-in-Match-clause-enters : goal.returns-in-Match-clause-enters
 returns-in-Match-clause-enters c =
-    let e = Entered-made c.args.seen.now c.insert.new.self c.as_usize.ensures.value c.state.ensures.node c.in-Match.is
+    let e = Entered-made c.args.reached.now.seen c.insert.new.self c.as_usize.ensures.value c.state.ensures.node
+    c.in-Match.is
     c.requires.state c.requires.room c.insert.ensures.turns (c.insert.ensures.fresh c.if-not-insert.false) in
-    Enters-match (search_of c.args.input.now) c.args.at c.args.next.now.items (take c.args.top.now c.args.frames.now)
+    Enters-match (search_of c.args.here.now.input.now) c.args.here.now.at c.args.reached.now.next.items (take
+    c.args.top.now c.args.frames.now)
     c.args.row.now c.in-Match.pattern_id e

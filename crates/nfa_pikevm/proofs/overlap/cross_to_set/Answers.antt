@@ -20,6 +20,6 @@ returns-clause-crosses c =
     c.deref.result.now.rows.items c.args.threads.now.curr (rw (← c.deref.ensures) at c.curr.view_is)
     c.requires.room.curr_width in
     crosses-cleared c.args.nfa.now (search_of c.args.input.now) c.args.at c.args.past_match (length c.args.patterns.now)
-    c.args.threads.now.seen c.clear.new.self _ _ _ _ _ _ _
+    c.args.threads.now.reached.seen c.clear.new.self _ _ _ _ _ _ _
     c.clear.ensures (same ∙ ap (λ k. rowless (take c.deref.result.now.len k)) (sym c.as_slice.ensures.value))
     c.cross_states_to_set.ensures.crosses

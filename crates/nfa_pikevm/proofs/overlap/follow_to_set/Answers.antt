@@ -1,57 +1,90 @@
--- All that a root leads to is entered in order, and the set gains the matches that count.
-use Rattle.std.proofs.Common.{◌∙◌, arith, refl, map, length}
+-- All that a root leads to is followed from match to match, and the set gains the matches that count.
+use Rattle.std.proofs.Common.{inl, inr, arith, refl, map, length}
+use Rattle.std.specs.Prelude.{None}
 use Rattle.regex_search_core.specs.Search.{search_of}
 use Rattle.nfa_paths.specs.Paths.{degree}
 use Rattle.nfa_paths.proofs.TurnLemmas.{marked_sum-le}
-use Rattle.nfa_pikevm.proofs.OverlapTurnLemmas.{Arriving-start, Arriving-step, Arriving-end, Paid-then, Paid-start, Paid-drop, same-after, still-none}
+use Rattle.nfa_pikevm.proofs.ClosureLemmas.{KeepsRoom-none, KeepsRoom-then, Paid-begin, Paid-then, Paid-resumed, Paid-dropped}
+use Rattle.nfa_pikevm.proofs.UnwindLemmas.{within-lower}
+use Rattle.nfa_pikevm.proofs.OverlapTurnLemmas.{Arriving-start, Arriving-plain, Arriving-match, Arriving-resumed, Arriving-end, still-none, stops-there}
 use Rattle.nfa_pikevm.proofs.overlap.follow_to_set.Goals as goal
 
-pub loop-following-init : goal.loop-following-init
-loop-following-init c = record {
+pub loop-pattern-init : goal.loop-pattern-init
+loop-pattern-init c = record {
   state = c.requires.state;
   inside = omega arith;
-  size = refl;
-  same = refl;
+  keeps = KeepsRoom-none c.args.reached.now;
   within = λ k d less. absurd (omega arith);
   going = λ off. refl;
-  paid = Paid-start _ _ _ 1;
-  arriving = Arriving-start c.args.nfa.now (search_of c.args.input.now) c.args.at (length c.args.patterns.now)
-      c.args.past_match c.args.root c.args.seen.now c.args.next.now.items c.args.patterns.now;
+  paid = Paid-begin _ _ _ _ 1;
+  arriving = Arriving-start c.args.here.now.nfa.now (search_of c.args.here.now.input.now) c.args.here.now.at
+      (length c.args.patterns.now) c.args.here.now.past_match c.args.root c.args.reached.now.seen
+      c.args.reached.now.next.items c.args.patterns.now;
 }
 
-pub loop-following-smaller : goal.loop-following-smaller
-loop-following-smaller c =
+pub returns-then-gather-clause-arrives : goal.returns-then-gather-clause-arrives
+returns-then-gather-clause-arrives c =
+    Arriving-end c.args.here.now.nfa.now (search_of c.args.here.now.input.now) c.args.here.now.at
+    (length c.args.patterns.now) c.args.here.now.past_match c.args.root c.args.reached.now.seen
+    c.args.reached.now.next.items c.args.patterns.now c.gather.new.met _ _
+    c.next_match.new.top c.next_match.new.frames c.gather.new.patterns (Arriving-match _ _ _ _
+    c.loop-pattern.invariant.going refl c.loop-pattern.invariant.arriving
+    c.in-Some.ensures.finds c.next_match.auto.row c.args.permitted c.requires.permitted c.gather.ensures.dead
+    c.gather.ensures.put c.gather.ensures.met)
+    (inr (stops-there _ _ _ _ _ c.gather.ensures.stops c.if-gather.true c.gather.ensures.met))
+    (Paid-dropped (Paid-then c.loop-pattern.invariant.paid c.in-Some.ensures.paid))
+
+pub returns-in_default-resume-clause-arrives : goal.returns-in_default-resume-clause-arrives
+returns-in_default-resume-clause-arrives c =
+    Arriving-end c.args.here.now.nfa.now (search_of c.args.here.now.input.now) c.args.here.now.at
+    (length c.args.patterns.now) c.args.here.now.past_match c.args.root c.args.reached.now.seen
+    c.args.reached.now.next.items c.args.patterns.now c.gather.new.met _ _
+    c.resume.new.top c.next_match.new.frames c.gather.new.patterns
+    (Arriving-resumed _ _ _ _ None _ _ c.resume.auto.row (λ front work. c.in_default-resume.ensures.follows
+    c.args.here.now.nfa.now (search_of c.args.here.now.input.now) c.args.here.now.at c.next_match.new.reached.seen
+    front work) (Arriving-match _ _ _ _ c.loop-pattern.invariant.going refl c.loop-pattern.invariant.arriving
+    c.in-Some.ensures.finds c.next_match.auto.row c.args.permitted c.requires.permitted c.gather.ensures.dead
+    c.gather.ensures.put c.gather.ensures.met))
+    (inl (c.in_default-resume.ensures.over refl))
+    (Paid-dropped (Paid-then c.loop-pattern.invariant.paid c.in-Some.ensures.paid))
+
+pub loop-pattern-smaller : goal.loop-pattern-smaller
+loop-pattern-smaller c =
     omega (
       arith,
       c.in-Some.ensures.paid.tried,
       c.in-Some.ensures.turns,
-      marked_sum-le (map degree c.args.nfa.now.states) c.loop-following.seen.bits,
-      marked_sum-le (map degree c.args.nfa.now.states) c.advance_to_set.new.seen.bits,
+      c.in-Some-resume.ensures.tried,
+      marked_sum-le (map degree c.args.here.now.nfa.now.states) c.loop-pattern.reached.seen.bits,
+      marked_sum-le (map degree c.args.here.now.nfa.now.states) c.next_match.new.reached.seen.bits,
     )
 
-pub loop-following-preserved : goal.loop-following-preserved
-loop-following-preserved c = record {
-  state = c.in-Some.ensures.state;
-  inside = c.in-Some.ensures.top;
-  size = c.in-Some.ensures.size ∙ c.loop-following.invariant.size;
-  same = same-after c.args.next.now c.loop-following.next c.advance_to_set.new.next c.loop-following.invariant.same
-      c.in-Some.ensures.same;
-  within = c.in-Some.ensures.within;
-  going = λ off. still-none c.loop-following.met c.advance_to_set.new.met c.in-Some.following
-      (c.loop-following.invariant.going off) (c.in-Some.ensures.stops off);
-  paid = Paid-then c.loop-following.invariant.paid c.in-Some.ensures.paid;
-  arriving = Arriving-step c.args.nfa.now (search_of c.args.input.now) c.args.at (length c.args.patterns.now)
-      c.args.past_match c.args.root c.args.seen.now c.args.next.now.items c.args.patterns.now _ _ _ _ _ _ _ _ _ _ _ _
-      c.loop-following.invariant.going refl c.loop-following.invariant.arriving c.in-Some.ensures.advances;
+pub loop-pattern-preserved : goal.loop-pattern-preserved
+loop-pattern-preserved c = record {
+  state = c.in-Some-resume.ensures.state (length c.args.here.now.nfa.now.states) c.in-Some.ensures.within;
+  inside = omega (arith, c.in-Some-resume.ensures.top, c.in-Some.ensures.top);
+  keeps = KeepsRoom-then c.loop-pattern.invariant.keeps c.in-Some.ensures.keeps;
+  within = within-lower _ _ _ _ _ c.in-Some-resume.ensures.top c.in-Some.ensures.within;
+  going = λ off. still-none _ _ _ _ _ c.gather.ensures.stops c.if-gather.false c.gather.ensures.met off
+      (c.loop-pattern.invariant.going off);
+  paid = Paid-resumed c.next_match.new.top c.resume.new.top c.next_match.new.frames 1 c.in-Some-resume.ensures.top
+      c.in-Some.ensures.top c.in-Some-resume.ensures.tried
+      (Paid-then c.loop-pattern.invariant.paid c.in-Some.ensures.paid);
+  arriving = Arriving-resumed _ _ _ _ _ _ _ c.resume.auto.row (λ front work. c.in-Some-resume.ensures.follows
+      c.args.here.now.nfa.now (search_of c.args.here.now.input.now) c.args.here.now.at c.next_match.new.reached.seen
+      front work) (Arriving-match _ _ _ _ c.loop-pattern.invariant.going refl c.loop-pattern.invariant.arriving
+      c.in-Some.ensures.finds c.next_match.auto.row c.args.permitted c.requires.permitted c.gather.ensures.dead
+      c.gather.ensures.put c.gather.ensures.met);
 }
 
 pub returns-clause-arrives : goal.returns-clause-arrives
 returns-clause-arrives c =
-    Arriving-end c.args.nfa.now (search_of c.args.input.now) c.args.at (length c.args.patterns.now) c.args.past_match
-    c.args.root c.args.seen.now c.args.next.now.items c.args.patterns.now c.advance_to_set.new.met _ _
-    c.advance_to_set.new.top
-    c.advance_to_set.new.frames c.advance_to_set.new.patterns
-    (Arriving-step c.args.nfa.now (search_of c.args.input.now) c.args.at (length c.args.patterns.now) c.args.past_match
-    c.args.root c.args.seen.now c.args.next.now.items c.args.patterns.now _ _ _ _ _ _ _ _ _ _ _ _
-    c.loop-following.invariant.going refl c.loop-following.invariant.arriving c.in_default.ensures.advances)
-    (c.in_default.ensures.over refl) (Paid-drop (Paid-then c.loop-following.invariant.paid c.in_default.ensures.paid))
+    Arriving-end c.args.here.now.nfa.now (search_of c.args.here.now.input.now) c.args.here.now.at
+    (length c.args.patterns.now) c.args.here.now.past_match c.args.root c.args.reached.now.seen
+    c.args.reached.now.next.items c.args.patterns.now c.loop-pattern.met _ _
+    c.next_match.new.top c.next_match.new.frames c.loop-pattern.patterns
+    (Arriving-plain _ _ _ _ c.loop-pattern.invariant.going refl c.loop-pattern.invariant.arriving
+    c.in_default.ensures.finds
+    c.next_match.auto.row)
+    (inl (c.in_default.ensures.over refl))
+    (Paid-dropped (Paid-then c.loop-pattern.invariant.paid c.in_default.ensures.paid))

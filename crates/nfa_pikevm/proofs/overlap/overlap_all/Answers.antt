@@ -11,7 +11,8 @@ loop-at-init c = record {
   low = omega (arith, c.start-at.ensures);
   keeps = Keeps-start _ _ _ _ _ c.requires.room c.requires.next;
   so_far = rw c.start-at.ensures (All-start c.args.nfa.now (search_of c.args.input.now) c.args.starts.now
-      c.requires.starts c.args.threads.now.seen c.args.threads.now.curr.items c.args.patterns.now c.requires.curr);
+      c.requires.starts c.args.threads.now.reached.seen c.args.threads.now.curr.items c.args.patterns.now
+      c.requires.curr);
 }
 
 pub returns-then-is_full-clause-gains : goal.returns-then-is_full-clause-gains
@@ -42,16 +43,20 @@ pub loop-at-preserved : goal.loop-at-preserved
 loop-at-preserved c =
     let items = joined-items c.args.starts.now c.loop-at.at c.loop-at.threads.curr c.join.new.threads.curr
     c.join.ensures.curr c.loop-at.invariant.keeps.room.curr_width in
-    let crosses = crosses-joined (length c.args.patterns.now) c.loop-at.threads.seen _
+    let crosses = crosses-joined (length c.args.patterns.now) c.loop-at.threads.reached.seen _
     c.loop-at.invariant.so_far.gains.capacity c.join.ensures.seen items c.cross_to_set.ensures.crosses in
     record {
       counted = c.move_on.ensures.scans ∙ c.cross_to_set.ensures.scans ∙ c.join.ensures.scans
           ∙ c.loop-at.invariant.counted;
       low = omega arith;
-      keeps = Keeps-next c.loop-at.threads.seen _ c.loop-at.threads.curr c.loop-at.threads.next c.join.new.threads.curr
-          c.cross_to_set.new.threads.curr c.cross_to_set.new.threads.next _ _ _ _ _
+      keeps = Keeps-next c.loop-at.threads.reached.seen _ c.loop-at.threads.curr c.loop-at.threads.reached.next
+          c.join.new.threads.curr
+          c.cross_to_set.new.threads.curr c.cross_to_set.new.threads.reached.next _ _ _ _ _
           c.loop-at.invariant.keeps c.join.ensures.curr c.cross_to_set.ensures.curr
-          (c.cross_to_set.ensures.next ∙ ap (λ (n : Active). record n { items = c.cross_to_set.new.threads.next.items })
+          (c.cross_to_set.ensures.next ∙ ap (λ (n : Active). record n {
+            items =
+                c.cross_to_set.new.threads.reached.next.items;
+          })
           c.join.ensures.next)
           c.move_on.ensures.curr c.move_on.ensures.next
           (ap (λ (m : Marks). length m.bits) c.move_on.ensures.seen ∙ c.cross_to_set.ensures.size

@@ -15,7 +15,8 @@ loop-at-init c = record {
   keeps = Keeps-start _ _ _ _ _ c.requires.room c.requires.next;
   so_far = rw c.start-at.ensures
       (Earliest-start c.args.nfa.now (search_of c.args.input.now) c.args.patterns.now c.args.past_match
-      c.args.starts.now c.requires.starts c.args.threads.now.seen c.args.threads.now.curr.items c.requires.curr);
+      c.args.starts.now c.requires.starts c.args.threads.now.reached.seen c.args.threads.now.curr.items
+      c.requires.curr);
 }
 
 pub returns-then-is_empty-clause-sizes : goal.returns-then-is_empty-clause-sizes
@@ -30,7 +31,7 @@ returns-then-is_empty-clause-gains c =
     Earliest-end c.args.nfa.now (search_of c.args.input.now) c.args.patterns.now c.args.past_match c.requires.empty
     c.loop-at.invariant.so_far
     (ScansAt-over c.args.nfa.now (search_of c.args.input.now) c.args.patterns.now c.args.starts.now c.loop-at.at
-    c.loop-at.threads.seen c.loop-at.threads.curr.items c.loop-at.invariant.so_far.stands.scans
+    c.loop-at.threads.reached.seen c.loop-at.threads.curr.items c.loop-at.invariant.so_far.stands.scans
     (sym items ∙ no-items c.join.new.threads.curr.items (c.is_empty.ensures.0 c.if-is_empty.true)))
 
 pub cross_to_set-met-requires-clause-states : goal.cross_to_set-met-requires-clause-states
@@ -42,11 +43,12 @@ cross_to_set-met-requires-clause-states c =
 
 pub returns-then-met-clause-sizes : goal.returns-then-met-clause-sizes
 returns-then-met-clause-sizes c =
-    (Keeps-next c.loop-at.threads.seen _ c.loop-at.threads.curr c.loop-at.threads.next c.join.new.threads.curr
-    c.cross_to_set-met.new.threads.curr c.cross_to_set-met.new.threads.next _ _ _ _ _
+    (Keeps-next c.loop-at.threads.reached.seen _ c.loop-at.threads.curr c.loop-at.threads.reached.next
+    c.join.new.threads.curr
+    c.cross_to_set-met.new.threads.curr c.cross_to_set-met.new.threads.reached.next _ _ _ _ _
     c.loop-at.invariant.keeps c.join.ensures.curr c.cross_to_set-met.ensures.curr
     (c.cross_to_set-met.ensures.next ∙ ap (λ (n : Active).
-    record n { items = c.cross_to_set-met.new.threads.next.items }) c.join.ensures.next)
+    record n { items = c.cross_to_set-met.new.threads.reached.next.items }) c.join.ensures.next)
     c.move_on.ensures.curr c.move_on.ensures.next
     (ap (λ (m : Marks). length m.bits) c.move_on.ensures.seen ∙ c.cross_to_set-met.ensures.size
     ∙ ap (λ (m : Marks). length m.bits) c.join.ensures.seen)
@@ -57,7 +59,7 @@ pub returns-then-met-clause-turns : goal.returns-then-met-clause-turns
 returns-then-met-clause-turns c =
     let items = joined-items c.args.starts.now c.loop-at.at c.loop-at.threads.curr c.join.new.threads.curr
     c.join.ensures.curr c.loop-at.invariant.keeps.room.curr_width in
-    let crosses = crosses-joined (length c.args.patterns.now) c.loop-at.threads.seen _
+    let crosses = crosses-joined (length c.args.patterns.now) c.loop-at.threads.reached.seen _
     (ap (λ (l : List Bool). length l) c.loop-at.invariant.so_far.still) c.join.ensures.seen items
     c.cross_to_set-met.ensures.crosses in
     rw c.move_on.ensures.seen
@@ -68,7 +70,7 @@ pub returns-then-met-clause-gains : goal.returns-then-met-clause-gains
 returns-then-met-clause-gains c =
     let items = joined-items c.args.starts.now c.loop-at.at c.loop-at.threads.curr c.join.new.threads.curr
     c.join.ensures.curr c.loop-at.invariant.keeps.room.curr_width in
-    let crosses = crosses-joined (length c.args.patterns.now) c.loop-at.threads.seen _
+    let crosses = crosses-joined (length c.args.patterns.now) c.loop-at.threads.reached.seen _
     (ap (λ (l : List Bool). length l) c.loop-at.invariant.so_far.still) c.join.ensures.seen items
     c.cross_to_set-met.ensures.crosses in
     Earliest-found c.args.nfa.now (search_of c.args.input.now) c.args.patterns.now c.args.past_match c.requires.valid
@@ -78,18 +80,19 @@ pub loop-at-preserved : goal.loop-at-preserved
 loop-at-preserved c =
     let items = joined-items c.args.starts.now c.loop-at.at c.loop-at.threads.curr c.join.new.threads.curr
     c.join.ensures.curr c.loop-at.invariant.keeps.room.curr_width in
-    let crosses = crosses-joined (length c.args.patterns.now) c.loop-at.threads.seen _
+    let crosses = crosses-joined (length c.args.patterns.now) c.loop-at.threads.reached.seen _
     (ap (λ (l : List Bool). length l) c.loop-at.invariant.so_far.still) c.join.ensures.seen items
     c.cross_to_set-met.ensures.crosses in
     record {
       counted = c.move_on.ensures.scans ∙ c.cross_to_set-met.ensures.scans ∙ c.join.ensures.scans
           ∙ c.loop-at.invariant.counted;
       low = omega arith;
-      keeps = Keeps-next c.loop-at.threads.seen _ c.loop-at.threads.curr c.loop-at.threads.next c.join.new.threads.curr
-          c.cross_to_set-met.new.threads.curr c.cross_to_set-met.new.threads.next _ _ _ _ _
+      keeps = Keeps-next c.loop-at.threads.reached.seen _ c.loop-at.threads.curr c.loop-at.threads.reached.next
+          c.join.new.threads.curr
+          c.cross_to_set-met.new.threads.curr c.cross_to_set-met.new.threads.reached.next _ _ _ _ _
           c.loop-at.invariant.keeps c.join.ensures.curr c.cross_to_set-met.ensures.curr
           (c.cross_to_set-met.ensures.next ∙ ap (λ (n : Active).
-          record n { items = c.cross_to_set-met.new.threads.next.items }) c.join.ensures.next)
+          record n { items = c.cross_to_set-met.new.threads.reached.next.items }) c.join.ensures.next)
           c.move_on.ensures.curr c.move_on.ensures.next
           (ap (λ (m : Marks). length m.bits) c.move_on.ensures.seen ∙ c.cross_to_set-met.ensures.size
           ∙ ap (λ (m : Marks). length m.bits) c.join.ensures.seen)

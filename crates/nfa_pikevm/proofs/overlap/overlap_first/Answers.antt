@@ -18,7 +18,7 @@ loop-at-init c = record {
   keeps = Keeps-start _ _ _ _ _ c.requires.room c.requires.next;
   so_far = rw c.start-at.ensures
       (FirstWay-start c.args.nfa.now (search_of c.args.input.now) c.args.patterns.now c.args.starts.now
-      c.requires.starts c.args.threads.now.seen c.args.threads.now.curr.items c.requires.curr);
+      c.requires.starts c.args.threads.now.reached.seen c.args.threads.now.curr.items c.requires.curr);
 }
 
 pub returns-then-is_empty-clause-sizes : goal.returns-then-is_empty-clause-sizes
@@ -45,7 +45,7 @@ pub loop-at-preserved : goal.loop-at-preserved
 loop-at-preserved c =
     let items = joined-items c.loop-at.joining c.loop-at.at c.loop-at.threads.curr c.join.new.threads.curr
     c.join.ensures.curr c.loop-at.invariant.keeps.room.curr_width in
-    let crosses = crosses-joined (length c.args.patterns.now) c.loop-at.threads.seen _
+    let crosses = crosses-joined (length c.args.patterns.now) c.loop-at.threads.reached.seen _
     (FirstWay-capacity c.args.nfa.now (search_of c.args.input.now) c.args.patterns.now c.loop-at.invariant.so_far)
     c.join.ensures.seen items c.cross_to_set-met.ensures.crosses in
     record {
@@ -62,11 +62,12 @@ loop-at-preserved c =
       ];
       last = λ past. rw c.move_on.ensures.curr
           (kept-none c.args.nfa.now (search_of c.args.input.now) c.args.patterns.now crosses (omega arith));
-      keeps = Keeps-next c.loop-at.threads.seen _ c.loop-at.threads.curr c.loop-at.threads.next c.join.new.threads.curr
-          c.cross_to_set-met.new.threads.curr c.cross_to_set-met.new.threads.next _ _ _ _ _
+      keeps = Keeps-next c.loop-at.threads.reached.seen _ c.loop-at.threads.curr c.loop-at.threads.reached.next
+          c.join.new.threads.curr
+          c.cross_to_set-met.new.threads.curr c.cross_to_set-met.new.threads.reached.next _ _ _ _ _
           c.loop-at.invariant.keeps c.join.ensures.curr c.cross_to_set-met.ensures.curr
           (c.cross_to_set-met.ensures.next ∙ ap (λ (n : Active).
-          record n { items = c.cross_to_set-met.new.threads.next.items }) c.join.ensures.next)
+          record n { items = c.cross_to_set-met.new.threads.reached.next.items }) c.join.ensures.next)
           c.move_on.ensures.curr c.move_on.ensures.next
           (ap (λ (m : Marks). length m.bits) c.move_on.ensures.seen ∙ c.cross_to_set-met.ensures.size
           ∙ ap (λ (m : Marks). length m.bits) c.join.ensures.seen)

@@ -11,9 +11,11 @@ invariant-loop-at l = record {
   state : l.joining.state < length l.nfa.states;
   limit : l.joining.limit ≤ (search_of l.input).end + 1;
   last : (search_of l.input).end < l.at → l.threads.curr.items ≡ [];
-  keeps : Keeps l.nfa l.fn.threads.seen (length l.fn.threads.frames.items) l.fn.threads.curr l.fn.threads.next
-      l.threads.seen (length l.threads.frames.items) l.threads.curr l.threads.next;
-  so_far : FirstWay l.nfa (search_of l.input) l.fn.patterns l.joining l.at l.fn.threads.seen.turns l.threads.seen
+  keeps : Keeps l.nfa l.fn.threads.reached.seen (length l.fn.threads.frames.items) l.fn.threads.curr
+      l.fn.threads.reached.next
+      l.threads.reached.seen (length l.threads.frames.items) l.threads.curr l.threads.reached.next;
+  so_far : FirstWay l.nfa (search_of l.input) l.fn.patterns l.joining l.at l.fn.threads.reached.seen.turns
+      l.threads.reached.seen
       l.threads.curr.items l.patterns;
   counted : l.threads.scans ≡ l.fn.threads.scans;
 }

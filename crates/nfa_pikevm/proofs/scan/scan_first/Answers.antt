@@ -27,16 +27,17 @@ loop-at-init c =
       paid = rw (start, c.requires.curr) (record { bound = omega arith });
       searches = rw (start, c.requires.curr)
           (SearchesFirst-begin c.args.nfa.now (search_of c.args.input.now) c.args.starts.now c.requires.starts
-          c.args.slots.now c.args.threads.now.seen c.requires.unset);
+          c.args.slots.now c.args.threads.now.reached.seen c.requires.unset);
     }
 
 pub returns-then-is_empty-clause-sizes : goal.returns-then-is_empty-clause-sizes
 returns-then-is_empty-clause-sizes c = λ size h.
-    AreSized-kept size c.loop-at.threads.seen c.join_or_skip-at.new.threads.seen _ _ c.loop-at.threads.curr
-    c.loop-at.threads.next c.join_or_skip-at.new.threads.curr c.join_or_skip-at.new.threads.next
+    AreSized-kept size c.loop-at.threads.reached.seen c.join_or_skip-at.new.threads.reached.seen _ _
+    c.loop-at.threads.curr
+    c.loop-at.threads.reached.next c.join_or_skip-at.new.threads.curr c.join_or_skip-at.new.threads.reached.next
     (ap (λ (m : Marks). length m.bits) c.join_or_skip-at.ensures.seen) (ap length c.join_or_skip-at.ensures.frames)
     c.join_or_skip-at.ensures.curr
-    (same-all c.loop-at.threads.next c.join_or_skip-at.new.threads.next c.join_or_skip-at.ensures.next)
+    (same-all c.loop-at.threads.reached.next c.join_or_skip-at.new.threads.reached.next c.join_or_skip-at.ensures.next)
     (c.loop-at.invariant.sizes size h)
 
 pub returns-then-is_empty-clause-answer : goal.returns-then-is_empty-clause-answer
@@ -55,7 +56,7 @@ returns-then-is_empty-clause-answer c =
     c.loop-at.invariant.searches in
     rw c.join_or_skip-at.ensures.seen
     (first-over c.args.nfa.now x to (to + 1) width c.args.starts.now.state c.loop-at.limit c.loop-at.found
-    c.loop-at.slots c.loop-at.threads.seen c.loop-at.invariant.searches.so_far
+    c.loop-at.slots c.loop-at.threads.reached.seen c.loop-at.invariant.searches.so_far
     c.join_or_skip-at.new.threads.curr.items c.loop-at.invariant.searches.is_so_far next none s
     (sym c.loop-at.auto.slots))
 
@@ -90,23 +91,28 @@ loop-at-preserved c =
     record {
       counted = c.move_on.ensures.scans ∙ c.cross.ensures.scans ∙ c.join_or_skip-at.ensures.scans
           ∙ c.loop-at.invariant.counted;
-      room = HasThreads-swap c.args.nfa.now width c.cross.new.threads.seen c.move_on.new.threads.seen _ _
-          c.cross.new.threads.curr c.cross.new.threads.next c.move_on.new.threads.curr c.move_on.new.threads.next
+      room = HasThreads-swap c.args.nfa.now width c.cross.new.threads.reached.seen c.move_on.new.threads.reached.seen _
+          _
+          c.cross.new.threads.curr c.cross.new.threads.reached.next c.move_on.new.threads.curr
+          c.move_on.new.threads.reached.next
           c.move_on.ensures.seen (ap length c.move_on.ensures.frames) c.move_on.ensures.curr c.move_on.ensures.next
           (rw c.loop-at.auto.slots at c.cross.ensures.room);
       sizes = λ size h.
-          AreSized-swap size c.cross.new.threads.seen c.move_on.new.threads.seen _ _ c.cross.new.threads.curr
-          c.cross.new.threads.next c.move_on.new.threads.curr c.move_on.new.threads.next
+          AreSized-swap size c.cross.new.threads.reached.seen c.move_on.new.threads.reached.seen _ _
+          c.cross.new.threads.curr
+          c.cross.new.threads.reached.next c.move_on.new.threads.curr c.move_on.new.threads.reached.next
           c.move_on.ensures.seen (ap length c.move_on.ensures.frames) c.move_on.ensures.curr c.move_on.ensures.next
-          (AreSized-kept size c.join_or_skip-at.new.threads.seen c.cross.new.threads.seen _ _
-          c.join_or_skip-at.new.threads.curr c.join_or_skip-at.new.threads.next c.cross.new.threads.curr
-          c.cross.new.threads.next
+          (AreSized-kept size c.join_or_skip-at.new.threads.reached.seen c.cross.new.threads.reached.seen _ _
+          c.join_or_skip-at.new.threads.curr c.join_or_skip-at.new.threads.reached.next c.cross.new.threads.curr
+          c.cross.new.threads.reached.next
           c.cross.ensures.size c.cross.ensures.frames c.cross.ensures.curr c.cross.ensures.next
-          (AreSized-kept size c.loop-at.threads.seen c.join_or_skip-at.new.threads.seen _ _ c.loop-at.threads.curr
-          c.loop-at.threads.next c.join_or_skip-at.new.threads.curr c.join_or_skip-at.new.threads.next
+          (AreSized-kept size c.loop-at.threads.reached.seen c.join_or_skip-at.new.threads.reached.seen _ _
+          c.loop-at.threads.curr
+          c.loop-at.threads.reached.next c.join_or_skip-at.new.threads.curr c.join_or_skip-at.new.threads.reached.next
           (ap (λ (m : Marks). length m.bits) c.join_or_skip-at.ensures.seen)
           (ap length c.join_or_skip-at.ensures.frames) c.join_or_skip-at.ensures.curr
-          (same-all c.loop-at.threads.next c.join_or_skip-at.new.threads.next c.join_or_skip-at.ensures.next)
+          (same-all c.loop-at.threads.reached.next c.join_or_skip-at.new.threads.reached.next
+          c.join_or_skip-at.ensures.next)
           (c.loop-at.invariant.sizes size h)));
       next = ap (λ (a : Active). a.items) c.move_on.ensures.next;
       items = rw kept (AreAt-cross c.args.nfa.now x to width state c.loop-at.limit c.requires.starts.leads crosses);
@@ -122,15 +128,16 @@ loop-at-preserved c =
       over = λ past. kept ∙ over-cross c.args.nfa.now x to width state c.loop-at.limit
           (let h : x.end ≤ to = omega arith in h) crosses;
       paid = rw (c.move_on.ensures.seen, kept)
-          (IsPaidAt-cross c.args.nfa.now x to c.args.threads.now.seen.turns c.loop-at.threads.seen.turns
+          (IsPaidAt-cross c.args.nfa.now x to c.args.threads.now.reached.seen.turns c.loop-at.threads.reached.seen.turns
           (length c.loop-at.threads.curr.items) (length c.join_or_skip-at.new.threads.curr.items)
-          c.cross.new.threads.seen.turns (length c.cross.new.threads.next.items) from
-          (IsPaidAt-later c.args.nfa.now x c.loop-at.at to c.args.threads.now.seen.turns c.loop-at.threads.seen.turns
+          c.cross.new.threads.reached.seen.turns (length c.cross.new.threads.reached.next.items) from
+          (IsPaidAt-later c.args.nfa.now x c.loop-at.at to c.args.threads.now.reached.seen.turns
+          c.loop-at.threads.reached.seen.turns
           (length c.loop-at.threads.curr.items) ahead c.loop-at.invariant.paid) few
           (rw c.join_or_skip-at.ensures.seen at
-          (Paid-next c.args.nfa.now x c.join_or_skip-at.new.threads.seen
-          (length c.join_or_skip-at.new.threads.curr.items) c.cross.new.threads.seen
-          (length c.cross.new.threads.next.items) crosses.paid)));
+          (Paid-next c.args.nfa.now x c.join_or_skip-at.new.threads.reached.seen
+          (length c.join_or_skip-at.new.threads.curr.items) c.cross.new.threads.reached.seen
+          (length c.cross.new.threads.reached.next.items) crosses.paid)));
       searches = rw (c.move_on.ensures.seen, kept)
           (elim c.if-is_some.branch [
             | then-is_some w ↦
@@ -156,6 +163,6 @@ returns-clause-answer c =
     let over : c.loop-at.limit ≤ c.loop-at.at =
     elim c.loop-at.invariant.limits [ inl same ↦ omega arith | inr none ↦ omega arith ] in
     first-over c.args.nfa.now x c.loop-at.at c.loop-at.at (length c.args.slots.now) c.args.starts.now.state
-    c.loop-at.limit c.loop-at.found c.loop-at.slots c.loop-at.threads.seen
+    c.loop-at.limit c.loop-at.found c.loop-at.slots c.loop-at.threads.reached.seen
     c.loop-at.invariant.searches.so_far c.loop-at.threads.curr.items c.loop-at.invariant.searches.is_so_far over
     (c.loop-at.invariant.over past) c.loop-at.invariant.searches.searching (sym c.loop-at.auto.slots)

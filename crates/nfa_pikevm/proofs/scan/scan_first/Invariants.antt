@@ -6,21 +6,21 @@ use Rattle.nfa_pikevm.proofs.scan.scan_first.Given as goal
 
 abbrev pub invariant-loop-at : goal.invariant-loop-at
 invariant-loop-at l = record {
-  room : HasThreads l.nfa (length l.fn.slots) l.threads.seen (length l.threads.frames.items) l.threads.curr
-      l.threads.next;
-  sizes : (size : Sizes) → AreSized size l.fn.threads.seen (length l.fn.threads.frames.items) l.fn.threads.curr
-      l.fn.threads.next
-      → AreSized size l.threads.seen (length l.threads.frames.items) l.threads.curr l.threads.next;
-  next : l.threads.next.items ≡ [];
+  room : HasThreads l.nfa (length l.fn.slots) l.threads.reached.seen (length l.threads.frames.items) l.threads.curr
+      l.threads.reached.next;
+  sizes : (size : Sizes) → AreSized size l.fn.threads.reached.seen (length l.fn.threads.frames.items) l.fn.threads.curr
+      l.fn.threads.reached.next
+      → AreSized size l.threads.reached.seen (length l.threads.frames.items) l.threads.curr l.threads.reached.next;
+  next : l.threads.reached.next.items ≡ [];
   items : AreAt l.nfa l.threads.curr.items;
   low : (search_of l.input).start ≤ l.at;
   high : l.at ≤ (search_of l.input).end + 1;
   limits : (l.limit ≡ l.starts.limit) ⊎ (l.limit ≡ 0);
   over : (search_of l.input).end < l.at → l.threads.curr.items ≡ [];
-  paid : IsPaidAt l.nfa (search_of l.input) l.at l.fn.threads.seen.turns l.threads.seen.turns
+  paid : IsPaidAt l.nfa (search_of l.input) l.at l.fn.threads.reached.seen.turns l.threads.reached.seen.turns
       (length l.threads.curr.items);
   searches : SearchesFirst l.nfa (search_of l.input) l.at (length l.fn.slots) l.starts.state l.limit l.found l.slots
-      l.threads.seen l.threads.curr.items;
+      l.threads.reached.seen l.threads.curr.items;
   counted : l.threads.scans ≡ l.fn.threads.scans;
 }
 

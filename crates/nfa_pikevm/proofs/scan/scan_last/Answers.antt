@@ -21,19 +21,20 @@ loop-at-init c =
       items = rw c.requires.curr (AreAt-none c.args.nfa.now);
       paid = rw (start, c.requires.curr) (record { bound = omega arith });
       scans = rw (start, c.requires.curr) (ScansAll-begin c.args.nfa.now (search_of c.args.input.now) c.args.starts.now
-          c.requires.starts c.args.slots.now c.args.threads.now.seen);
+          c.requires.starts c.args.slots.now c.args.threads.now.reached.seen);
       last = rw start (HasLast-begin c.args.nfa.now (search_of c.args.input.now) c.args.starts.now c.requires.starts
-          c.args.slots.now c.args.threads.now.seen c.requires.unset);
+          c.args.slots.now c.args.threads.now.reached.seen c.requires.unset);
     }
 
 pub returns-then-is_empty-clause-sizes : goal.returns-then-is_empty-clause-sizes
 returns-then-is_empty-clause-sizes c = λ size h.
-    AreSized-kept size c.loop-at.threads.seen c.join.new.threads.seen _ _ c.loop-at.threads.curr c.loop-at.threads.next
-    c.join.new.threads.curr c.join.new.threads.next
+    AreSized-kept size c.loop-at.threads.reached.seen c.join.new.threads.reached.seen _ _ c.loop-at.threads.curr
+    c.loop-at.threads.reached.next
+    c.join.new.threads.curr c.join.new.threads.reached.next
     (ap (λ (m : Marks). length m.bits) c.join.ensures.seen) (ap length c.join.ensures.frames)
     (same-items c.loop-at.threads.curr c.join.new.threads.curr
     (with_start c.args.starts.now c.loop-at.threads.curr.width c.loop-at.at c.loop-at.threads.curr.items)
-    c.join.ensures.curr) (same-all c.loop-at.threads.next c.join.new.threads.next c.join.ensures.next)
+    c.join.ensures.curr) (same-all c.loop-at.threads.reached.next c.join.new.threads.reached.next c.join.ensures.next)
     (c.loop-at.invariant.sizes size h)
 
 pub returns-then-is_empty-clause-answer : goal.returns-then-is_empty-clause-answer
@@ -45,13 +46,13 @@ returns-then-is_empty-clause-answer c =
     over-joined c.args.nfa.now (search_of c.args.input.now) c.args.starts.now c.requires.starts
     (length c.args.slots.now) c.loop-at.at c.loop-at.threads.curr.items (sym items ∙ none) in
     let s = ScansAll-join c.args.nfa.now (search_of c.args.input.now) c.args.starts.now c.loop-at.at
-    (length c.args.slots.now) c.loop-at.threads.seen c.join.new.threads.seen c.join.ensures.seen
+    (length c.args.slots.now) c.loop-at.threads.reached.seen c.join.new.threads.reached.seen c.join.ensures.seen
     c.loop-at.threads.curr.items c.join.new.threads.curr.items items c.loop-at.invariant.scans in
     rw c.join.ensures.seen
     (last-over c.args.nfa.now (search_of c.args.input.now) c.loop-at.at (length c.args.slots.now) c.loop-at.found
-    c.loop-at.slots c.loop-at.threads.seen.turns c.loop-at.invariant.last
+    c.loop-at.slots c.loop-at.threads.reached.seen.turns c.loop-at.invariant.last
     (all-over c.args.nfa.now (search_of c.args.input.now) c.loop-at.at (c.loop-at.at + 1) (length c.args.slots.now)
-    c.args.starts.now.state c.args.starts.now.limit c.join.new.threads.seen
+    c.args.starts.now.state c.args.starts.now.limit c.join.new.threads.reached.seen
     c.join.new.threads.curr.items (omega arith) none s) (sym c.loop-at.auto.slots))
 
 pub cross-requires-clause-states : goal.cross-requires-clause-states
@@ -68,8 +69,8 @@ loop-at-preserved c =
     let low : x.start ≤ c.loop-at.at = omega (arith, c.start-at.ensures, c.loop-at.auto.at) in
     let items = joined-items c.args.starts.now c.loop-at.at width c.loop-at.threads.curr c.join.new.threads.curr
     c.join.ensures.curr c.loop-at.invariant.room.curr_width in
-    let s = ScansAll-join c.args.nfa.now x c.args.starts.now c.loop-at.at width c.loop-at.threads.seen
-    c.join.new.threads.seen c.join.ensures.seen
+    let s = ScansAll-join c.args.nfa.now x c.args.starts.now c.loop-at.at width c.loop-at.threads.reached.seen
+    c.join.new.threads.reached.seen c.join.ensures.seen
     c.loop-at.threads.curr.items c.join.new.threads.curr.items items c.loop-at.invariant.scans in
     let crosses = c.cross.ensures.crosses in
     let few : length c.join.new.threads.curr.items ≤ length c.loop-at.threads.curr.items + 1 =
@@ -78,33 +79,41 @@ loop-at-preserved c =
     let kept = ap (λ (a : Active). a.items) c.move_on.ensures.curr in
     record {
       counted = c.move_on.ensures.scans ∙ c.cross.ensures.scans ∙ c.join.ensures.scans ∙ c.loop-at.invariant.counted;
-      room = HasThreads-swap c.args.nfa.now width c.cross.new.threads.seen c.move_on.new.threads.seen _ _
-          c.cross.new.threads.curr c.cross.new.threads.next c.move_on.new.threads.curr c.move_on.new.threads.next
+      room = HasThreads-swap c.args.nfa.now width c.cross.new.threads.reached.seen c.move_on.new.threads.reached.seen _
+          _
+          c.cross.new.threads.curr c.cross.new.threads.reached.next c.move_on.new.threads.curr
+          c.move_on.new.threads.reached.next
           c.move_on.ensures.seen (ap length c.move_on.ensures.frames) c.move_on.ensures.curr c.move_on.ensures.next
           (rw c.loop-at.auto.slots at c.cross.ensures.room);
       sizes = λ size h.
-          AreSized-swap size c.cross.new.threads.seen c.move_on.new.threads.seen _ _ c.cross.new.threads.curr
-          c.cross.new.threads.next c.move_on.new.threads.curr c.move_on.new.threads.next
+          AreSized-swap size c.cross.new.threads.reached.seen c.move_on.new.threads.reached.seen _ _
+          c.cross.new.threads.curr
+          c.cross.new.threads.reached.next c.move_on.new.threads.curr c.move_on.new.threads.reached.next
           c.move_on.ensures.seen (ap length c.move_on.ensures.frames) c.move_on.ensures.curr c.move_on.ensures.next
-          (AreSized-kept size c.join.new.threads.seen c.cross.new.threads.seen _ _ c.join.new.threads.curr
-          c.join.new.threads.next c.cross.new.threads.curr c.cross.new.threads.next
+          (AreSized-kept size c.join.new.threads.reached.seen c.cross.new.threads.reached.seen _ _
+          c.join.new.threads.curr
+          c.join.new.threads.reached.next c.cross.new.threads.curr c.cross.new.threads.reached.next
           c.cross.ensures.size c.cross.ensures.frames c.cross.ensures.curr c.cross.ensures.next
-          (AreSized-kept size c.loop-at.threads.seen c.join.new.threads.seen _ _ c.loop-at.threads.curr
-          c.loop-at.threads.next c.join.new.threads.curr c.join.new.threads.next
+          (AreSized-kept size c.loop-at.threads.reached.seen c.join.new.threads.reached.seen _ _ c.loop-at.threads.curr
+          c.loop-at.threads.reached.next c.join.new.threads.curr c.join.new.threads.reached.next
           (ap (λ (m : Marks). length m.bits) c.join.ensures.seen) (ap length c.join.ensures.frames)
           (same-items c.loop-at.threads.curr c.join.new.threads.curr
           (with_start c.args.starts.now c.loop-at.threads.curr.width c.loop-at.at c.loop-at.threads.curr.items)
-          c.join.ensures.curr) (same-all c.loop-at.threads.next c.join.new.threads.next c.join.ensures.next)
+          c.join.ensures.curr) (same-all c.loop-at.threads.reached.next c.join.new.threads.reached.next
+          c.join.ensures.next)
           (c.loop-at.invariant.sizes size h)));
       next = ap (λ (a : Active). a.items) c.move_on.ensures.next;
       items = rw kept (AreAt-cross c.args.nfa.now x c.loop-at.at width c.args.starts.now.state c.args.starts.now.limit
           c.requires.starts.leads crosses);
       paid = rw (c.move_on.ensures.seen, kept)
-          (IsPaidAt-cross c.args.nfa.now x c.loop-at.at c.args.threads.now.seen.turns c.loop-at.threads.seen.turns
+          (IsPaidAt-cross c.args.nfa.now x c.loop-at.at c.args.threads.now.reached.seen.turns
+          c.loop-at.threads.reached.seen.turns
           (length c.loop-at.threads.curr.items) (length c.join.new.threads.curr.items)
-          c.cross.new.threads.seen.turns (length c.cross.new.threads.next.items) low c.loop-at.invariant.paid few
-          (rw c.join.ensures.seen at (Paid-next c.args.nfa.now x c.join.new.threads.seen
-          (length c.join.new.threads.curr.items) c.cross.new.threads.seen (length c.cross.new.threads.next.items)
+          c.cross.new.threads.reached.seen.turns (length c.cross.new.threads.reached.next.items) low
+          c.loop-at.invariant.paid few
+          (rw c.join.ensures.seen at (Paid-next c.args.nfa.now x c.join.new.threads.reached.seen
+          (length c.join.new.threads.curr.items) c.cross.new.threads.reached.seen (length
+          c.cross.new.threads.reached.next.items)
           crosses.paid)));
       scans = rw (c.move_on.ensures.seen, kept)
           (ScansAll-cross c.args.nfa.now x c.loop-at.at width c.args.starts.now.state c.args.starts.now.limit
@@ -123,5 +132,5 @@ returns-clause-answer c =
     let span : (search_of c.args.input.now).start ≤ (search_of c.args.input.now).end = c.requires.span in
     let within : c.loop-at.at ≤ c.end-at-end.result + 1 = c.loop-at.auto.at-end (omega arith) in
     last-over c.args.nfa.now (search_of c.args.input.now) c.loop-at.at (length c.args.slots.now) c.loop-at.found
-    c.loop-at.slots c.loop-at.threads.seen.turns c.loop-at.invariant.last
+    c.loop-at.slots c.loop-at.threads.reached.seen.turns c.loop-at.invariant.last
     (ends-at c.args.nfa.now (search_of c.args.input.now) c.loop-at.at (omega arith)) (sym c.loop-at.auto.slots)

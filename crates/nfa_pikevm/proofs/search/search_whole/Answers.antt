@@ -10,7 +10,7 @@ pub returns-in_err-half-clause-answer : goal.returns-in_err-half-clause-answer
 returns-in_err-half-clause-answer c =
     let none = Scans-raised c.args.nfa.now (search_of c.args.input.now) (search_of c.loop-half.search)
     c.loop-half.threads.scans c.loop-half.invariant.is c.args.kind None c.scan.new.slots
-    c.scan.new.threads.seen.turns c.in_err-half.ensures.answer in
+    c.scan.new.threads.reached.seen.turns c.in_err-half.ensures.answer in
     rw c.from_residual.ensures
     (Searched-none c.args.nfa.now c.args.kind _ (search_of c.args.input.now) c.loop-half.threads.scans _ _ _
     (restarted-answer c.args.nfa.now c.args.kind _ (search_of c.args.input.now) c.requires.mode c.requires.anchored

@@ -10,11 +10,12 @@ invariant-loop-half l = record {
   is : search_of l.search ≡ raised (search_of l.input) l.threads.scans;
   split : (i : ℕ) → i < l.threads.scans → SplitsCharacter l.nfa l.kind (search_of l.input).earliest
       (raised (search_of l.input) i);
-  serves : Serves l.nfa (length l.slots) l.threads.seen (length l.threads.frames.items) l.threads.curr l.threads.next;
-  sizes : (size : Sizes) → AreSized size l.fn.threads.seen (length l.fn.threads.frames.items) l.fn.threads.curr
-      l.fn.threads.next
-      → AreSized size l.threads.seen (length l.threads.frames.items) l.threads.curr l.threads.next;
-  turns : l.threads.seen.turns ≤ l.threads.scans * scan_turns l.nfa (search_of l.input);
+  serves : Serves l.nfa (length l.slots) l.threads.reached.seen (length l.threads.frames.items) l.threads.curr
+      l.threads.reached.next;
+  sizes : (size : Sizes) → AreSized size l.fn.threads.reached.seen (length l.fn.threads.frames.items) l.fn.threads.curr
+      l.fn.threads.reached.next
+      → AreSized size l.threads.reached.seen (length l.threads.frames.items) l.threads.curr l.threads.reached.next;
+  turns : l.threads.reached.seen.turns ≤ l.threads.scans * scan_turns l.nfa (search_of l.input);
 }
 
 -- the positions that are left to start at
