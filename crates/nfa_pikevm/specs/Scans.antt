@@ -12,6 +12,7 @@ use Rattle.nfa_paths.specs.Paths.{node_at, pattern_of, edges, is_match, capture,
 use Rattle.nfa_paths.specs.Exploring.{Slots, Found, Item, seeds}
 use Rattle.nfa_paths.specs.Exploring.Item.{Load}
 use Rattle.nfa_paths.specs.Kinds.{Scanning}
+pub use Rattle.nfa_paths.specs.Restarts.{scan_turns}
 use Rattle.nfa_scanning.specs.FirstBytes.{IsRefused}
 use Rattle.nfa_pikevm.specs.Rows.{Marks, Active}
 use Rattle.nfa_pikevm.specs.Engines.{room_of}
@@ -137,10 +138,6 @@ module _ (nfa : Automaton) (x : Search) where
   abbrev pub Scans : MatchKind → Bool → Option HalfMatch → Slots → ℕ → Type 0
   Scans kind earliest None slots turns = IsScanAnswer nfa x kind earliest None × (slots ≡ blank (length slots))
   Scans kind earliest (Some half) slots turns = ScanFinds kind earliest half slots turns
-
-  -- the turns of one scan at most
-  abbrev pub scan_turns : ℕ
-  scan_turns = (1 + turn_weight nfa) * (span_len x + 1)
 
   -- The turns so far and the states at the position are within the starts and the positions before it.
   pub record IsPaidAt (at before : ℕ) (turns items : ℕ) : Type 0 where
