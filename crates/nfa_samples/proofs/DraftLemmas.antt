@@ -19,13 +19,14 @@ use Rattle.thompson_nfa.specs.Built.{IsBuilt}
 use Rattle.nfa_samples.specs.declared.draft.Row.{Row}
 use Rattle.nfa_samples.specs.declared.draft.Row.TheVariants.{Byte, Range, Ranges, Either, Union, Capture, Assert, Match}
 use Rattle.nfa_samples.specs.declared.draft.Draft.{Draft}
-use Rattle.nfa_samples.specs.Drafts.{IsSmall, automaton_in, groups_in, is_row, is_sound, node_in, prefix_at, transition_in}
+use Rattle.nfa_samples.specs.Drafts.{automaton_in, groups_in, is_row, is_sound, node_in, prefix_at, transition_in}
 
 -- what passes the test has the property
 all-passing : {X : Type 0} (p : X → Bool) (P : X → Type 0) (xs : List X) → ((x : X) → p x ≡ true → P x)
     → list_all p xs ≡ true → All P xs
 all-passing p P xs each e = λ i d below. each (slice_index_or xs i d) (AllPass-from_list_all p xs e i d below)
 
+-- what tests say that pass
 both : (a b : Bool) → (a && b) ≡ true → (a ≡ true) × (b ≡ true)
 both true true e = (refl, refl)
 both true false e = (refl, e)
@@ -45,6 +46,7 @@ either : (a b c : ℕ) → (nat_eq a b || nat_eq a c) ≡ true → (a ≡ b) ⊎
 either a b c e = one-of (nat_eq a b) (nat_eq a c) (a ≡ b) (a ≡ c) (eqb-true a b) (eqb-true a c) e
 
 module _ (states slots patterns : ℕ) where
+  -- the state of a row that passes its test
   leads : (r : Row) → is_row states slots patterns r ≡ true → LeadsBelow states (node_in r)
   leads (Byte byte next) e = below next states e
   leads (Range start end next) e = below next states e
@@ -77,23 +79,6 @@ module _ (states slots patterns : ℕ) where
   matches (Assert look next) e = tt
   matches (Match pattern) e = below pattern patterns e
 
-  module _ (few_states : states ≤ 2147483647) (few_patterns : patterns ≤ 2147483647) where
-    small : (number : ℕ) → number < states → number ≤ 2147483646
-    small number inside = omega arith
-
-    small-row : (r : Row) → is_row states slots patterns r ≡ true → IsSmall r
-    small-row (Byte byte next) e = small next (below next states e)
-    small-row (Range start end next) e = small next (below next states e)
-    small-row (Ranges ranges next) e = small next (below next states e)
-    small-row (Either first second) e =
-        let parts = both (nat_lt first states) (nat_lt second states) e in
-        (small first (below first states parts.0), small second (below second states parts.1))
-    small-row (Union numbers) e =
-        all-passing _ (λ s. s ≤ 2147483646) numbers.now (λ s passes. small s (below s states passes)) e
-    small-row (Capture slot next) e = small next (below next states (both (nat_lt next states) (nat_lt slot slots) e).0)
-    small-row (Assert look next) e = small next (below next states e)
-    small-row (Match pattern) e = let inside = below pattern patterns e in omega arith
-
 -- what the tests of a draft say
 pub record Sound (more : ℕ) (d : Draft) : Type 0 where
   pub filled : 0 < length d.rows.now
@@ -105,6 +90,7 @@ pub record Sound (more : ℕ) (d : Draft) : Type 0 where
   pub groups : (length d.groups.now ≡ length d.starts.now) ⊎ (length d.groups.now ≡ 0)
   pub few_slots : slot_count (groups_in d.groups.now) ≤ 2147483646
 
+-- a draft that passes them
 pub sound : (more : ℕ) (d : Draft) → IsTrue (is_sound more d) → Sound more d
 sound more d e =
     let g = both _ (nat_le (slot_count (groups_in d.groups.now)) 2147483646) e in
@@ -125,16 +111,11 @@ sound more d e =
     }
 
 module _ (more : ℕ) (d : Draft) (is : Sound more d) where
+  -- what holds of rows that pass, of each
   all-rows : (P : Row → Type 0) → ((r : Row)
       → is_row (length d.rows.now + more) (slot_count (groups_in d.groups.now)) (length d.starts.now) r ≡ true → P r)
       → All P d.rows.now
   all-rows P each = all-passing _ P d.rows.now each is.rows
-
-  pub small-rows : All IsSmall d.rows.now
-  small-rows = all-rows IsSmall (small-row _ _ _ is.few is.few_patterns)
-
-  pub small-starts : All (λ start. start ≤ 2147483646) d.starts.now
-  small-starts = λ i s inside. let start = is.starts i s inside in let few = is.few in omega arith
 
   -- with the states of its rows, and others that are sound too
   module _ (nodes : List Node) (unanchored : ℕ)
@@ -186,10 +167,12 @@ IsBuilt-made a (Err (error.Pattern state pattern)) is built =
     absurd (built.2.0.1 (at-place (PatternBelow (length a.patterns)) a.states state nfa.Fail is.patterns tt))
 IsBuilt-made a (Err (error.Groups groups patterns)) is built = absurd (built.3 is.groups)
 
+-- so the error, if there is one, is that of memory
 pub memory-alone : (a : Automaton) (r : Result Automaton BuildError) → IsAutomaton a → IsBuilt a r
     → IsOkUnless r error.Memory
 memory-alone a r is built = rw (IsBuilt-made a r is built) tt
 
+-- the states of the rows alone
 pub anchored-makes : (d : Draft) → Sound 0 d → IsAutomaton (automaton_in (map node_in d.rows.now) 0 d)
 anchored-makes d is =
     let filled = is.filled in
@@ -201,6 +184,7 @@ two : {X : Type 0} (P : X → Type 0) (x y : X) → P x → P y → All P (x ∷
 two P x y first second =
     All-cons P x (y ∷ []) first (All-cons P y [] second (λ (i : ℕ). λ d inside. absurd (omega arith)))
 
+-- and with the prefix
 pub prefixed-makes : (d : Draft) → Sound 2 d
     → IsAutomaton (automaton_in (map node_in d.rows.now ++ prefix_at (length d.rows.now)) (length d.rows.now) d)
 prefixed-makes d is =
@@ -212,12 +196,14 @@ prefixed-makes d is =
     (nfa.ByteRange (transition_in 0 255 n)) tt tt)
     (two (PatternBelow (length d.starts.now)) (nfa.BinaryUnion 0 (n + 1)) (nfa.ByteRange (transition_in 0 255 n)) tt tt)
 
+-- the states of the rows, and two that were pushed
 pub two-pushed : (states first second : List State) (s t : State) (rows : List Row) (a b : Node)
     → map node_of states ≡ map node_in rows → first ≡ states ++ s ∷ [] → second ≡ first ++ t ∷ []
     → node_of s ≡ a → node_of t ≡ b → map node_of second ≡ map node_in rows ++ a ∷ b ∷ []
 two-pushed states first second s t rows a b are one two is_a is_b =
     rw two (rw one (rw map-append (rw map-append (rw are (rw is_a (rw is_b (rw append_assoc refl)))))))
 
+-- there are as many as rows
 pub as-many : (states : List State) (rows : List Row) → map node_of states ≡ map node_in rows
     → length states ≡ length rows
 as-many states rows are = simp length-map at (ap length are)
