@@ -9,16 +9,16 @@ use Rattle.nfa_paths.specs.Exploring.{Item, Slots}
 use Rattle.nfa_paths.specs.Turns.{marked_sum}
 use Rattle.nfa_backtrack.specs.Begin.{kept_onto, IsPutBack, BeginsAt}
 use Rattle.nfa_backtrack.specs.Bits.{Marks}
-use Rattle.nfa_backtrack.specs.Walk.{pair_of, weights, IsPlace, Follows, Taken}
+use Rattle.nfa_backtrack.specs.Walk.{pair_of, weights, IsPlace, Carries, Taken}
 use Rattle.nfa_backtrack.specs.declared.frame.Place.{Place}
-use Rattle.nfa_backtrack.proofs.WalkLemmas.{Follows-none, Follows-restore, Follows-write, marked_sum-weights}
+use Rattle.nfa_backtrack.proofs.WalkLemmas.{Carries-none, Carries-restore, Carries-write, marked_sum-weights}
 
 module _ (nfa : Automaton) (x : Search) where
-  pub Follows-put_back : (m : Marks) (work : List Item) (slot : Option ℕ) (slots after : Slots)
+  pub Carries-put_back : (m : Marks) (work : List Item) (slot : Option ℕ) (slots after : Slots)
       → IsPutBack slot slots after
-      → Follows nfa x m (kept_onto slot work) slots m work after
-  Follows-put_back m work None slots after h = rw h (Follows-none nfa x m work slots)
-  Follows-put_back m work (Some k) slots after h = rw h (Follows-restore nfa x m work slots k None)
+      → Carries nfa x m (kept_onto slot work) slots m work after
+  Carries-put_back m work None slots after h = rw h (Carries-none nfa x m work slots)
+  Carries-put_back m work (Some k) slots after h = rw h (Carries-restore nfa x m work slots k None)
 
   -- a Capture that writes a slot without an offset
   pub BeginsAt-write : {place : Place} {m n : Marks} → Taken nfa x (pair_of place) m n → IsPlace nfa x place
@@ -35,7 +35,7 @@ module _ (nfa : Automaton) (x : Search) where
         place = record { state = below; from = p.from; to = p.to; row = p.row };
         slot = λ k same. let e : slot ≡ k = cc in rw (← e, length-set) within;
         follows = λ work.
-            rw unset at (Follows-write nfa x m place.sid place.at work slots n t.counted t.state t.from t.inside t.clear
+            rw unset at (Carries-write nfa x m place.sid place.at work slots n t.counted t.state t.from t.inside t.clear
             t.set next slot is);
         spent = omega (arith, t.counted, put, more);
       }

@@ -70,7 +70,8 @@ pub find-serves : (s : TryFindMatches)
 find-serves s =
     finder-serves IsSureAt backtracker_knowing fits_always IsFindOf (λ e x a. SearchesOnce e x a)
     (λ e x a old new work fits. tt) (IsInside span_of) (λ e t a h. (find-lies e t a h).0)
-    (lent_state (backtracker_finds s)).asker (lent_walk (backtracker_finds s)).at (record { fits = tt; knows = s.knows })
+    (lent_state (backtracker_finds s)).asker (lent_walk (backtracker_finds s)).at
+    (record { fits = tt; knows = s.knows })
 
 -- and goes on after a step
 pub step-goes : (s : TryFindMatches) (r : Option (Result Match SearchError)) (t : Steps (With Finder Work))

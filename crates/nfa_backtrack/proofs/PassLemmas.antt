@@ -12,16 +12,16 @@ use Rattle.nfa_paths.specs.Exploring.Item.{Explore}
 use Rattle.nfa_paths.proofs.AnswerLemmas.{pairs_from-step, pairs_from-end}
 use Rattle.nfa_backtrack.specs.Bits.{Marks}
 use Rattle.nfa_scanning.specs.FirstBytes.{IsRefused, IsFirstBytes}
-use Rattle.nfa_backtrack.specs.Walk.{WalkAnswer, Follows}
-use Rattle.nfa_backtrack.proofs.WalkLemmas.{Follows-then, Follows-none}
+use Rattle.nfa_backtrack.specs.Walk.{WalkAnswer, Carries}
+use Rattle.nfa_backtrack.proofs.WalkLemmas.{Carries-then, Carries-none}
 
 module _ (nfa : Automaton) (x : Search) where
   -- a start from which no match is reached is passed over, with no turn
-  Follows-dead : (m : Marks) (v : Pair) (w : List Item) (s : Slots)
+  Carries-dead : (m : Marks) (v : Pair) (w : List Item) (s : Slots)
       → ((marks : List Pair) → IsFirst (edges nfa x) (is_match nfa) marks v None)
-      → Follows nfa x m (Explore v ∷ w) s m w s
+      → Carries nfa x m (Explore v ∷ w) s m w s
   unfolding WalkAnswer Answer
-  Follows-dead m v w s dead = record {
+  Carries-dead m v w s dead = record {
     grows = omega arith;
     back = λ left more g e h pairs agrees.
         let same : more ≡ left = omega arith in
@@ -33,22 +33,22 @@ module _ (nfa : Automaton) (x : Search) where
   }
 
   -- and so are all up to the next one
-  pub Follows-skip : (table : List Bool) → IsFirstBytes nfa table → (m : Marks) (s : Slots) (count at to limit : ℕ) → to
+  pub Carries-skip : (table : List Bool) → IsFirstBytes nfa table → (m : Marks) (s : Slots) (count at to limit : ℕ) → to
       ≡ at + count
       → ((k : ℕ) → at ≤ k → k < to → IsRefused table x k)
-      → Follows nfa x m (map Explore (pairs_from nfa.anchored at (limit - at))) s m
+      → Carries nfa x m (map Explore (pairs_from nfa.anchored at (limit - at))) s m
       (map Explore (pairs_from nfa.anchored to (limit - to))) s
-  Follows-skip table first m s zero at to limit is refused =
+  Carries-skip table first m s zero at to limit is refused =
       let same : to ≡ at = omega arith in rw same
-      (Follows-none nfa x m (map Explore (pairs_from nfa.anchored at (limit - at))) s)
-  Follows-skip table first m s (suc count) at to limit is refused =
+      (Carries-none nfa x m (map Explore (pairs_from nfa.anchored at (limit - at))) s)
+  Carries-skip table first m s (suc count) at to limit is refused =
       let next : to ≡ at + 1 + count = omega arith in
-      let more = Follows-skip table first m s count (at + 1) to limit next (λ k h l. refused k (omega arith) l) in
+      let more = Carries-skip table first m s count (at + 1) to limit next (λ k h l. refused k (omega arith) l) in
       let here : IsRefused table x at = refused at (omega arith) (omega arith) in
       elim (cases_lt at limit) [
         | inl less ↦
             rw (pairs_from-step nfa.anchored less)
-            (Follows-then nfa x (Follows-dead m (nfa.anchored, at)
+            (Carries-then nfa x (Carries-dead m (nfa.anchored, at)
             (map Explore (pairs_from nfa.anchored (at + 1) (limit - (at + 1)))) s (first.none x at here)) more)
         | inr past ↦
             let behind : limit ≤ at + 1 = omega arith in
@@ -56,31 +56,31 @@ module _ (nfa : Automaton) (x : Search) where
       ]
 
   -- the starts that were passed over, or none where they may not be
-  pub Follows-pass : (table : List Bool) → IsFirstBytes nfa table
+  pub Carries-pass : (table : List Bool) → IsFirstBytes nfa table
       → (m : Marks) (s : Slots) (sid from until to limit : ℕ) → x.start ≤ from → from ≤ to
       → (until ≤ from → to ≡ from) → (x.start < until → start_state nfa x.anchored ≡ Some nfa.anchored)
       → start_state nfa x.anchored ≡ Some sid
       → ((k : ℕ) → from ≤ k → k < to → IsRefused table x k)
-      → Follows nfa x m (map Explore (pairs_from sid from (limit - from))) s m
+      → Carries nfa x m (map Explore (pairs_from sid from (limit - from))) s m
       (map Explore (pairs_from sid to (limit - to))) s
-  Follows-pass table first m s sid from until to limit ahead le stays anchored is refused =
+  Carries-pass table first m s sid from until to limit ahead le stays anchored is refused =
       elim (cases_lt from until) [
         | inl less ↦
             let here : x.start < until = omega arith in
             let known : start_state nfa x.anchored ≡ Some nfa.anchored = anchored here in
             let same : sid ≡ nfa.anchored = cc in
-            rw same (Follows-skip table first m s (to - from) from to limit (omega arith) refused)
-        | inr past ↦ rw (stays past) (Follows-none nfa x m (map Explore (pairs_from sid from (limit - from))) s)
+            rw same (Carries-skip table first m s (to - from) from to limit (omega arith) refused)
+        | inr past ↦ rw (stays past) (Carries-none nfa x m (map Explore (pairs_from sid from (limit - from))) s)
       ]
 
   -- from all starts on
-  pub Follows-first : (table : List Bool) → IsFirstBytes nfa table → (m : Marks) (s : Slots) (sid until to limit : ℕ)
+  pub Carries-first : (table : List Bool) → IsFirstBytes nfa table → (m : Marks) (s : Slots) (sid until to limit : ℕ)
       → x.start ≤ to
       → (until ≤ x.start → to ≡ x.start) → (x.start < until → start_state nfa x.anchored ≡ Some nfa.anchored)
       → start_state nfa x.anchored ≡ Some sid
       → ((k : ℕ) → x.start ≤ k → k < to → IsRefused table x k) → starts nfa x ≡ pairs_from sid x.start (limit - x.start)
-      → Follows nfa x m (map Explore (starts nfa x)) s m (map Explore (pairs_from sid to (limit - to))) s
-  Follows-first table first m s sid until to limit le stays anchored is refused all =
-      subst (λ (ps : List Pair). Follows nfa x m (map Explore ps) s m (map Explore (pairs_from sid to (limit - to))) s)
+      → Carries nfa x m (map Explore (starts nfa x)) s m (map Explore (pairs_from sid to (limit - to))) s
+  Carries-first table first m s sid until to limit le stays anchored is refused all =
+      subst (λ (ps : List Pair). Carries nfa x m (map Explore ps) s m (map Explore (pairs_from sid to (limit - to))) s)
       (sym all)
-      (Follows-pass table first m s sid x.start until to limit (omega arith) le stays anchored is refused)
+      (Carries-pass table first m s sid x.start until to limit (omega arith) le stays anchored is refused)

@@ -15,7 +15,7 @@ use Rattle.nfa_paths.specs.Turns.{marked_sum}
 use Rattle.nfa_paths.proofs.AnswerLemmas.{scan_none, scan_some}
 use Rattle.nfa_paths.proofs.TurnLemmas.{marked_sum-le}
 use Rattle.nfa_backtrack.specs.Bits.{Marks}
-use Rattle.nfa_backtrack.specs.Walk.{HasRoom, Agrees, WalkAnswer, Ends, EndsAt, weights}
+use Rattle.nfa_backtrack.specs.Walk.{HasBits, Agrees, WalkAnswer, Ends, EndsAt, weights}
 use Rattle.nfa_backtrack.proofs.WalkLemmas.{IsMarked-clear, sum-weights}
 
 module _ (nfa : Automaton) (x : Search) where
@@ -66,8 +66,8 @@ module _ (nfa : Automaton) (x : Search) where
   turns-bound tried turns after before bits few h k = omega (arith, sum-weights nfa x)
 
   -- a scan from further on has room too
-  HasRoom-raised : (bits : List Bool) (i : ℕ) → HasRoom nfa x bits → HasRoom nfa (raised x i) bits
-  HasRoom-raised bits i room =
+  HasBits-raised : (bits : List Bool) (i : ℕ) → HasBits nfa x bits → HasBits nfa (raised x i) bits
+  HasBits-raised bits i room =
       let few : span_len (raised x i) + 1 ≤ span_len x + 1 = omega arith in
       let le = mul-le-mul_left (length nfa.states) few in
       let r = room.room in let f = room.fits in
@@ -78,7 +78,7 @@ module _ (nfa : Automaton) (x : Search) where
 -- so it has after some restarts, where there are as many marks as before
 pub room-after : (nfa : Automaton) (x y : Search) (i : ℕ) (bits after : List Bool) → length after ≡ length bits → y
     ≡ raised x i
-    → HasRoom nfa x bits → HasRoom nfa y after
+    → HasBits nfa x bits → HasBits nfa y after
 room-after nfa x y i bits after same is room =
-    let raised_room = HasRoom-raised nfa x bits i room in
+    let raised_room = HasBits-raised nfa x bits i room in
     rw is (record { room = rw same raised_room.room; fits = raised_room.fits })

@@ -21,13 +21,13 @@ use Rattle.nfa_paths.specs.Exploring.{Item, Slots}
 use Rattle.nfa_paths.specs.Exploring.Item.{Explore, Restore}
 use Rattle.nfa_scanning.proofs.TargetLemmas.{byte_at-within, target-below, target-degree}
 use Rattle.nfa_backtrack.specs.Bits.{Marks}
-use Rattle.nfa_backtrack.specs.Walk.{pair_of, work_item, work_onto, restoring, move_of, tries, tries_of_move, bit_of}
-use Rattle.nfa_backtrack.specs.Walk.{HasRoom, IsPlace, IsWithin, Paid, Follows, Ends, Goes, Taken, WasMarked}
+use Rattle.nfa_backtrack.specs.Walk.{pair_of, work_item, stacked, restoring, move_of, frame_tries, tries_of_move, bit_of}
+use Rattle.nfa_backtrack.specs.Walk.{HasBits, IsPlace, IsFrame, PaidFor, Carries, Ends, Goes, Taken, WasMarked}
 use Rattle.nfa_backtrack.specs.declared.frame.Place.{Place}
 use Rattle.nfa_backtrack.specs.declared.frame.Frame.{Frame}
 use Rattle.nfa_backtrack.specs.declared.frame.Frame.TheVariants.{Step}
-use Rattle.nfa_backtrack.proofs.WalkLemmas.{node_at-get, bit_of-within, marked_sum-weights, Follows-plain}
-use Rattle.nfa_backtrack.proofs.WalkLemmas.{Follows-write, Follows-unkept, Ends-match}
+use Rattle.nfa_backtrack.proofs.WalkLemmas.{node_at-get, bit_of-within, marked_sum-weights, Carries-plain}
+use Rattle.nfa_backtrack.proofs.WalkLemmas.{Carries-write, Carries-unkept, Ends-match}
 
 -- the states that the code holds are those of the NFA
 pub same_size : (nfa : Automaton) (states : List State) → map node_of states ≡ nfa.states → length states
@@ -39,7 +39,7 @@ module _ (nfa : Automaton) (x : Search) (place : Place) (is_place : IsPlace nfa 
   pub bit_of-place : (sid : ℕ) → sid ≡ place.sid → place.row + sid ≡ bit_of nfa x (pair_of place)
   bit_of-place sid is = rw (is_place.row, is) refl
 
-  module _ (bits : List Bool) (room : HasRoom nfa x bits) where
+  module _ (bits : List Bool) (room : HasBits nfa x bits) where
     lies : (place.at - x.start) * length nfa.states + place.sid < length nfa.states * (span_len x + 1)
     lies =
         let f = is_place.from in let t = is_place.to in
@@ -62,7 +62,7 @@ row-next nfa x at row states from is wide =
 
 -- a row ends in the table
 pub Fits-row : (nfa : Automaton) (x : Search) (place : Place) (bits : List Bool) → IsPlace nfa x place
-    → HasRoom nfa x bits
+    → HasBits nfa x bits
     → (states : ℕ) → states ≡ length nfa.states → place.row + states ≤ 2 ^ 64 - 1
 Fits-row nfa x place bits p room states wide =
     let f = p.from in let t = p.to in
@@ -77,7 +77,7 @@ Fits-row nfa x place bits p room states wide =
 -- the turn at a place marked it
 pub Taken-place : (nfa : Automaton) (x : Search) (place : Place) (marks marked : Marks) (bit : ℕ) → bit
     ≡ bit_of nfa x (pair_of place)
-    → IsPlace nfa x place → HasRoom nfa x marks.bits → marked.turns ≡ marks.turns + 1
+    → IsPlace nfa x place → HasBits nfa x marks.bits → marked.turns ≡ marks.turns + 1
     → (get_or marks.bits bit true ≡ false) × (marked.bits ≡ set marks.bits bit true)
     → Taken nfa x (pair_of place) marks marked
 Taken-place nfa x place marks marked bit is p room counted fresh = record {
@@ -112,10 +112,10 @@ none-nil [] e = refl
 none-nil (x ∷ xs) e = cc
 
 -- frames as work
-pub work_onto-push : (fs : List Frame) (f : Frame) (work : List Item) → work_onto (fs ++ f ∷ []) work
-    ≡ work_item f ∷ work_onto fs work
-work_onto-push [] f work = refl
-work_onto-push (g ∷ fs) f work = work_onto-push fs f (work_item g ∷ work)
+pub stacked-push : (fs : List Frame) (f : Frame) (work : List Item) → stacked (fs ++ f ∷ []) work
+    ≡ work_item f ∷ stacked fs work
+stacked-push [] f work = refl
+stacked-push (g ∷ fs) f work = stacked-push fs f (work_item g ∷ work)
 
 -- the alternatives that are put off, the earliest on top
 abbrev pub put : ℕ → ℕ → List ℕ → List Frame
@@ -128,32 +128,33 @@ put-cons stack at row e es =
     (map_push (λ s. Step s at row) (reverse es) e)
     ∙ sym (append_assoc stack (put at row es) (Step e at row ∷ []))
 
-pub work_onto-put : (stack : List Frame) (at row : ℕ) (es : List ℕ) (work : List Item)
-    → work_onto (stack ++ put at row es) work ≡ map Explore (map (λ n. (n, at)) es) ++ work_onto stack work
-work_onto-put stack at row [] work = rw append-nil refl
-work_onto-put stack at row (e ∷ es) work =
-    ap (λ t. work_onto t work) (put-cons stack at row e es) ∙ work_onto-push (stack ++ put at row es) (Step e at row)
+pub stacked-put : (stack : List Frame) (at row : ℕ) (es : List ℕ) (work : List Item)
+    → stacked (stack ++ put at row es) work ≡ map Explore (map (λ n. (n, at)) es) ++ stacked stack work
+stacked-put stack at row [] work = rw append-nil refl
+stacked-put stack at row (e ∷ es) work =
+    ap (λ t. stacked t work) (put-cons stack at row e es) ∙ stacked-push (stack ++ put at row es) (Step e at row)
     work
-    ∙ ap (λ t. Explore (e, at) ∷ t) (work_onto-put stack at row es work)
+    ∙ ap (λ t. Explore (e, at) ∷ t) (stacked-put stack at row es work)
 
-pub tries-put : (stack : List Frame) (at row : ℕ) (es : List ℕ) → sum_by tries (stack ++ put at row es)
-    ≡ sum_by tries stack + length es
+pub tries-put : (stack : List Frame) (at row : ℕ) (es : List ℕ) → sum_by frame_tries (stack ++ put at row es)
+    ≡ sum_by frame_tries stack + length es
 tries-put stack at row [] = rw append-nil (omega arith)
 tries-put stack at row (e ∷ es) =
-    ap (sum_by tries) (put-cons stack at row e es) ∙ sum_by_push tries (stack ++ put at row es) (Step e at row)
+    ap (sum_by frame_tries) (put-cons stack at row e es)
+    ∙ sum_by_push frame_tries (stack ++ put at row es) (Step e at row)
     ∙ (let k = tries-put stack at row es in omega arith)
 
 module _ (nfa : Automaton) (x : Search) (count : ℕ) where
   pub within-put : (stack : List Frame) (at row : ℕ) → x.start ≤ at → at ≤ x.end → row
       ≡ (at - x.start) * length nfa.states → (es : List ℕ)
-      → All (IsWithin nfa x count) stack → All (λ s. s < length nfa.states) es
-      → All (IsWithin nfa x count) (stack ++ put at row es)
+      → All (IsFrame nfa x count) stack → All (λ s. s < length nfa.states) es
+      → All (IsFrame nfa x count) (stack ++ put at row es)
   within-put stack at row from to is [] fits below = rw append-nil fits
   within-put stack at row from to is (e ∷ es) fits below =
       let here : e < length nfa.states = below 0 e (omega arith) in
       let rest : All (λ s. s < length nfa.states) es = λ k d h. below (suc k) d (omega arith) in
       rw (put-cons stack at row e es)
-      (All-push (IsWithin nfa x count) (stack ++ put at row es) (Step e at row)
+      (All-push (IsFrame nfa x count) (stack ++ put at row es) (Step e at row)
       (within-put stack at row from to is es fits rest)
       (record { state = here; from = from; to = to; row = is }))
 
@@ -162,12 +163,12 @@ pub work_item-restoring : (slot : ℕ) (old : Option ℕ) → work_item (restori
 work_item-restoring slot None = refl
 work_item-restoring slot (Some offset) = refl
 
-pub IsWithin-restoring : (nfa : Automaton) (x : Search) (count slot : ℕ) (old : Option ℕ) → slot < count
-    → IsWithin nfa x count (restoring slot old)
-IsWithin-restoring nfa x count slot None h = h
-IsWithin-restoring nfa x count slot (Some offset) h = h
+pub IsFrame-restoring : (nfa : Automaton) (x : Search) (count slot : ℕ) (old : Option ℕ) → slot < count
+    → IsFrame nfa x count (restoring slot old)
+IsFrame-restoring nfa x count slot None h = h
+IsFrame-restoring nfa x count slot (Some offset) h = h
 
-pub tries-restoring : (slot : ℕ) (old : Option ℕ) → tries (restoring slot old) ≡ 0
+pub tries-restoring : (slot : ℕ) (old : Option ℕ) → frame_tries (restoring slot old) ≡ 0
 tries-restoring slot None = refl
 tries-restoring slot (Some offset) = refl
 
@@ -184,46 +185,47 @@ target-tries node place states (Some b) =
 
 module _ {nfa : Automaton} {x : Search} {s at : ℕ} {m n : Marks} (t : Taken nfa x (s, at) m n) where
   -- what is pushed is paid for by the state's degree
-  pub Paid-step : (node : Node) → slice_get nfa.states s ≡ Some node
+  pub PaidFor-step : (node : Node) → slice_get nfa.states s ≡ Some node
       → (count : ℕ) (stack after : List Frame) (in_hand : ℕ)
-      → All (IsWithin nfa x count) after → sum_by tries after + in_hand ≤ sum_by tries stack + degree node
-      → Paid nfa x count stack m.bits after n.bits in_hand
-  Paid-step node is count stack after in_hand within tried = record {
+      → All (IsFrame nfa x count) after → sum_by frame_tries after + in_hand ≤ sum_by frame_tries stack + degree node
+      → PaidFor nfa x count stack m.bits after n.bits in_hand
+  PaidFor-step node is count stack after in_hand within tried = record {
     within = within;
     tried = rw t.set (omega (arith, marked_sum-weights nfa x m.bits s at node t.state t.from t.to is t.clear));
   }
 
-  pub Paid-same : (node : Node) → slice_get nfa.states s ≡ Some node → (count : ℕ) (stack : List Frame) (in_hand : ℕ)
-      → All (IsWithin nfa x count) stack → in_hand ≤ degree node → Paid nfa x count stack m.bits stack n.bits in_hand
-  Paid-same node is count stack in_hand within few = Paid-step node is count stack stack in_hand within (omega arith)
+  pub PaidFor-same : (node : Node) → slice_get nfa.states s ≡ Some node → (count : ℕ) (stack : List Frame) (in_hand : ℕ)
+      → All (IsFrame nfa x count) stack → in_hand ≤ degree node → PaidFor nfa x count stack m.bits stack n.bits in_hand
+  PaidFor-same node is count stack in_hand within few =
+      PaidFor-step node is count stack stack in_hand within (omega arith)
 
-  pub Paid-push : (node : Node) → slice_get nfa.states s ≡ Some node
+  pub PaidFor-push : (node : Node) → slice_get nfa.states s ≡ Some node
       → (count : ℕ) (stack : List Frame) (f : Frame) (in_hand : ℕ)
-      → All (IsWithin nfa x count) stack → IsWithin nfa x count f → tries f + in_hand ≤ degree node
-      → Paid nfa x count stack m.bits (stack ++ f ∷ []) n.bits in_hand
-  Paid-push node is count stack f in_hand within fits few =
-      Paid-step node is count stack (stack ++ f ∷ []) in_hand (All-push (IsWithin nfa x count) stack f within fits)
-      (omega (arith, sum_by_push tries stack f))
+      → All (IsFrame nfa x count) stack → IsFrame nfa x count f → frame_tries f + in_hand ≤ degree node
+      → PaidFor nfa x count stack m.bits (stack ++ f ∷ []) n.bits in_hand
+  PaidFor-push node is count stack f in_hand within fits few =
+      PaidFor-step node is count stack (stack ++ f ∷ []) in_hand (All-push (IsFrame nfa x count) stack f within fits)
+      (omega (arith, sum_by_push frame_tries stack f))
 
-  pub Paid-put : (alternates : List ℕ) → slice_get nfa.states s ≡ Some (Union alternates)
+  pub PaidFor-put : (alternates : List ℕ) → slice_get nfa.states s ≡ Some (Union alternates)
       → (count : ℕ) (stack : List Frame) (f : ℕ)
       → slice_get alternates 0 ≡ Some f → (row : ℕ) → row ≡ (at - x.start) * length nfa.states
-      → All (IsWithin nfa x count) stack → All (λ q. q < length nfa.states) alternates
-      → Paid nfa x count stack m.bits (stack ++ put at row (drop 1 alternates)) n.bits 1
-  Paid-put alternates is count stack f first row placed within below =
+      → All (IsFrame nfa x count) stack → All (λ q. q < length nfa.states) alternates
+      → PaidFor nfa x count stack m.bits (stack ++ put at row (drop 1 alternates)) n.bits 1
+  PaidFor-put alternates is count stack f first row placed within below =
       let split = first-drop alternates f first in
       let rest : All (λ q. q < length nfa.states) (drop 1 alternates) = λ k d h. (rw split at below) (suc k) d
       (omega arith) in
-      Paid-step (Union alternates) is count stack (stack ++ put at row (drop 1 alternates)) 1
+      PaidFor-step (Union alternates) is count stack (stack ++ put at row (drop 1 alternates)) 1
       (within-put nfa x count stack at row t.from t.to placed (drop 1 alternates) within rest)
       (omega (arith, tries-put stack at row (drop 1 alternates), ap length split))
 
   -- on to the edges
   pub Goes-edges : (node : Node) → slice_get nfa.states s ≡ Some node → pattern_of node ≡ None → slot_of node ≡ None
       → (es : List Pair) → edges_of x node at ≡ es → (rest : List Item) (slots : Slots)
-      → Follows nfa x m (Explore (s, at) ∷ rest) slots n (map Explore es ++ rest) slots
+      → Carries nfa x m (Explore (s, at) ∷ rest) slots n (map Explore es ++ rest) slots
   Goes-edges node is plain writes es leads rest slots =
-      Follows-plain nfa x m s at rest slots n t.counted t.state t.from t.inside t.clear t.set node is plain writes es
+      Carries-plain nfa x m s at rest slots n t.counted t.state t.from t.inside t.clear t.set node is plain writes es
       leads
 
   -- a byte state, at a place with its row
@@ -237,13 +239,13 @@ module _ {nfa : Automaton} {x : Search} {s at : ℕ} {m n : Marks} (t : Taken nf
         → Goes nfa x (s, at) (move_of (option_and_then (target_on node) byte) (record { sid = s; at = at; row = row })
         states) stack m slots stack n slots
     Goes-target node is plain writes below leads None e stack slots = λ work.
-        Goes-edges node is plain writes [] (leads ∙ rw (← e) refl) (work_onto stack work) slots
+        Goes-edges node is plain writes [] (leads ∙ rw (← e) refl) (stacked stack work) slots
     Goes-target node is plain writes below leads (Some b) e stack slots =
         (elim (target_on node b) as (λ o. target_on node b ≡ o
         → Goes nfa x (s, at) (move_of o (record { sid = s; at = at; row = row }) states) stack m slots stack n
         slots) [
           | None ↦ λ none. λ work. Goes-edges node is plain writes [] (leads ∙ rw (← e, none) refl)
-              (work_onto stack work) slots
+              (stacked stack work) slots
           | Some q ↦ λ some.
               let f = t.from in let inside = byte_at-within x at b (sym e) in
               let state : q < length nfa.states = target-below (length nfa.states) node b q below some in
@@ -251,7 +253,7 @@ module _ {nfa : Automaton} {x : Search} {s at : ℕ} {m n : Marks} (t : Taken nf
               let to : at + 1 ≤ x.end = omega arith in (
                 record { state = state; from = from; to = to; row = row-next nfa x at row states t.from placed wide },
                 λ work. Goes-edges node is plain writes ((q, at + 1) ∷ []) (leads ∙ rw (← e, some) refl)
-                    (work_onto stack work) slots,
+                    (stacked stack work) slots,
               )
         ]) refl
 
@@ -284,66 +286,66 @@ module _ {nfa : Automaton} {x : Search} {s at : ℕ} {m n : Marks} (t : Taken nf
   module _ (look : looks.Look) (next : ℕ) (is : slice_get nfa.states s ≡ Some (Look look next)) (rest : List Item)
       (slots : Slots) where
     pub Goes-look : look_holds look x.haystack at ≡ true
-        → Follows nfa x m (Explore (s, at) ∷ rest) slots n (Explore (next, at) ∷ rest) slots
+        → Carries nfa x m (Explore (s, at) ∷ rest) slots n (Explore (next, at) ∷ rest) slots
     unfolding edges_of
     Goes-look holds = Goes-edges (Look look next) is refl refl ((next, at) ∷ []) (rw holds refl) rest slots
 
     pub Goes-no_look : look_holds look x.haystack at ≡ false
-        → Follows nfa x m (Explore (s, at) ∷ rest) slots n rest slots
+        → Carries nfa x m (Explore (s, at) ∷ rest) slots n rest slots
     unfolding edges_of
     Goes-no_look fails = Goes-edges (Look look next) is refl refl [] (rw fails refl) rest slots
 
   -- alternatives
   module _ (alternates : List ℕ) (is : slice_get nfa.states s ≡ Some (Union alternates)) (slots : Slots) where
     pub Goes-union : (f : ℕ) → slice_get alternates 0 ≡ Some f → (stack : List Frame) (work : List Item)
-        → (row : ℕ) → Follows nfa x m (Explore (s, at) ∷ work_onto stack work) slots n
-        (Explore (f, at) ∷ work_onto (stack ++ put at row (drop 1 alternates)) work) slots
+        → (row : ℕ) → Carries nfa x m (Explore (s, at) ∷ stacked stack work) slots n
+        (Explore (f, at) ∷ stacked (stack ++ put at row (drop 1 alternates)) work) slots
     unfolding edges_of
     Goes-union f first stack work row =
         let split = first-drop alternates f first in
-        rw (work_onto-put stack at row (drop 1 alternates) work)
+        rw (stacked-put stack at row (drop 1 alternates) work)
         (Goes-edges (Union alternates) is refl refl ((f, at) ∷ map (λ q. (q, at)) (drop 1 alternates))
-        (ap (map (λ q. (q, at))) split) (work_onto stack work) slots)
+        (ap (map (λ q. (q, at))) split) (stacked stack work) slots)
 
     pub Goes-no_union : slice_get alternates 0 ≡ None → (rest : List Item)
-        → Follows nfa x m (Explore (s, at) ∷ rest) slots n rest slots
+        → Carries nfa x m (Explore (s, at) ∷ rest) slots n rest slots
     unfolding edges_of
     Goes-no_union none rest = Goes-edges (Union alternates) is refl refl []
         (ap (map (λ q. (q, at))) (none-nil alternates none)) rest slots
 
   pub Goes-both : (alt1 alt2 : ℕ) → slice_get nfa.states s ≡ Some (BinaryUnion alt1 alt2)
       → (slots : Slots) (stack : List Frame) (work : List Item) (row : ℕ)
-      → Follows nfa x m (Explore (s, at) ∷ work_onto stack work) slots n
-      (Explore (alt1, at) ∷ work_onto (stack ++ Step alt2 at row ∷ []) work) slots
+      → Carries nfa x m (Explore (s, at) ∷ stacked stack work) slots n
+      (Explore (alt1, at) ∷ stacked (stack ++ Step alt2 at row ∷ []) work) slots
   unfolding edges_of
   Goes-both alt1 alt2 is slots stack work row =
-      rw (work_onto-push stack (Step alt2 at row) work)
-      (Goes-edges (BinaryUnion alt1 alt2) is refl refl ((alt1, at) ∷ (alt2, at) ∷ []) refl (work_onto stack work) slots)
+      rw (stacked-push stack (Step alt2 at row) work)
+      (Goes-edges (BinaryUnion alt1 alt2) is refl refl ((alt1, at) ∷ (alt2, at) ∷ []) refl (stacked stack work) slots)
 
   pub Goes-fail : slice_get nfa.states s ≡ Some Fail → (rest : List Item) (slots : Slots)
-      → Follows nfa x m (Explore (s, at) ∷ rest) slots n rest slots
+      → Carries nfa x m (Explore (s, at) ∷ rest) slots n rest slots
   unfolding edges_of
   Goes-fail is rest slots = Goes-edges Fail is refl refl [] refl rest slots
 
   -- a Capture, whose slot is tracked or is not
   module _ (next slot : ℕ) (is : slice_get nfa.states s ≡ Some (Capture next slot)) (slots : Slots) (stack : List Frame)
       (work : List Item) where
-    pub Goes-write : Follows nfa x m (Explore (s, at) ∷ work_onto stack work) slots n
-        (Explore (next, at) ∷ work_onto (stack ++ restoring slot (get_or slots slot None) ∷ []) work)
+    pub Goes-write : Carries nfa x m (Explore (s, at) ∷ stacked stack work) slots n
+        (Explore (next, at) ∷ stacked (stack ++ restoring slot (get_or slots slot None) ∷ []) work)
         (set slots slot (Some at))
     Goes-write =
         rw (
-          work_onto-push stack (restoring slot (get_or slots slot None)) work,
+          stacked-push stack (restoring slot (get_or slots slot None)) work,
           work_item-restoring slot
               (get_or slots slot None),
         )
-        (Follows-write nfa x m s at (work_onto stack work) slots n t.counted t.state t.from t.inside t.clear t.set next
+        (Carries-write nfa x m s at (stacked stack work) slots n t.counted t.state t.from t.inside t.clear t.set next
         slot is)
 
     pub Goes-unkept : length slots ≤ slot
-        → Follows nfa x m (Explore (s, at) ∷ work_onto stack work) slots n (Explore (next, at) ∷ work_onto stack work)
+        → Carries nfa x m (Explore (s, at) ∷ stacked stack work) slots n (Explore (next, at) ∷ stacked stack work)
         slots
-    Goes-unkept past = Follows-unkept nfa x m s at (work_onto stack work) slots n t.counted t.state t.from t.inside
+    Goes-unkept past = Carries-unkept nfa x m s at (stacked stack work) slots n t.counted t.state t.from t.inside
         t.clear t.set next slot is past
 
   -- a match

@@ -23,7 +23,7 @@ use Rattle.nfa_paths.proofs.SearchLemmas.{Answer-write, Answer-unkept}
 use Rattle.nfa_paths.proofs.TurnLemmas.{marked_sum-set, sum-repeated, get_or-repeated}
 use Rattle.nfa_backtrack.specs.Bits.{Marks}
 use Rattle.regex_search_core.specs.declared.search.HalfMatch.{HalfMatch}
-use Rattle.nfa_backtrack.specs.Walk.{bit_of, HasRoom, IsMarked, Agrees, weights, WalkAnswer, Follows, Ends, EndsAt}
+use Rattle.nfa_backtrack.specs.Walk.{bit_of, HasBits, IsMarked, Agrees, weights, WalkAnswer, Carries, Ends, EndsAt}
 
 module _ (nfa : Automaton) (x : Search) where
   -- what a state's number names
@@ -32,7 +32,7 @@ module _ (nfa : Automaton) (x : Search) where
   node_at-get s node is = get_or_from_slice_get nfa.states s node Fail is
 
   -- the bit of a place lies in the table
-  pub bit_of-within : (bits : List Bool) (s at : ℕ) → HasRoom nfa x bits → s < length nfa.states → x.start
+  pub bit_of-within : (bits : List Bool) (s at : ℕ) → HasBits nfa x bits → s < length nfa.states → x.start
       ≤ at → at ≤ x.end
       → bit_of nfa x (s, at) < length bits
   bit_of-within bits s at room state from to =
@@ -119,11 +119,11 @@ module _ (nfa : Automaton) (x : Search) where
   module _ (marks : Marks) (s at : ℕ) (rest : List Item) (slots : Slots) (after : Marks)
       (counted : after.turns ≡ marks.turns + 1) where
     -- a turn that finds its pair marked
-    pub Follows-marked : s < length nfa.states → x.start ≤ at → get_or marks.bits (bit_of nfa x (s, at)) false ≡ true
+    pub Carries-marked : s < length nfa.states → x.start ≤ at → get_or marks.bits (bit_of nfa x (s, at)) false ≡ true
         → after.bits ≡ marks.bits
-        → Follows nfa x marks (Explore (s, at) ∷ rest) slots after rest slots
+        → Carries nfa x marks (Explore (s, at) ∷ rest) slots after rest slots
     unfolding WalkAnswer
-    Follows-marked state from seen same = record {
+    Carries-marked state from seen same = record {
       grows = omega arith;
       back = λ left more g e a pairs agrees.
           let one : more ≡ suc left = omega arith in
@@ -151,13 +151,13 @@ module _ (nfa : Automaton) (x : Search) where
           )
 
       -- a turn that marks the pair
-      Follows-taken : (work : List Item) (written : Slots)
+      Carries-taken : (work : List Item) (written : Slots)
           → ((left : ℕ) (pairs : List Pair) (g : Found) → ¬ (In (s, at) pairs)
           → Answer (edges nfa x) (is_match nfa) (capture nfa) left None ((s, at) ∷ pairs) work written g
           → Answer (edges nfa x) (is_match nfa) (capture nfa) (suc left) None pairs (Explore (s, at) ∷ rest) slots g)
-          → Follows nfa x marks (Explore (s, at) ∷ rest) slots after work written
+          → Carries nfa x marks (Explore (s, at) ∷ rest) slots after work written
       unfolding WalkAnswer
-      Follows-taken work written step = record {
+      Carries-taken work written step = record {
         grows = omega arith;
         back = λ left more g e a pairs agrees.
             let one : more ≡ suc left = omega arith in
@@ -179,65 +179,65 @@ module _ (nfa : Automaton) (x : Search) where
       }
 
       -- a state that writes nothing gives way to its edges
-      pub Follows-plain : (node : Node) → slice_get nfa.states s ≡ Some node → pattern_of node ≡ None → slot_of node
+      pub Carries-plain : (node : Node) → slice_get nfa.states s ≡ Some node → pattern_of node ≡ None → slot_of node
           ≡ None
           → (es : List Pair) → edges_of x node at ≡ es
-          → Follows nfa x marks (Explore (s, at) ∷ rest) slots after (map Explore es ++ rest) slots
-      Follows-plain node is plain writes es leads =
+          → Carries nfa x marks (Explore (s, at) ∷ rest) slots after (map Explore es ++ rest) slots
+      Carries-plain node is plain writes es leads =
           let n = node_at-get s node is in
-          Follows-taken (map Explore es ++ rest) slots
+          Carries-taken (map Explore es ++ rest) slots
           (λ left pairs g f. Answer-plain (edges nfa x) (is_match nfa) (capture nfa) left None pairs (s, at) rest slots
           g f (rw (n, plain) refl) es (rw n leads) (rw (n, writes) refl))
 
       -- a Capture writes its slot, which is restored below its edge
-      pub Follows-write : (next slot : ℕ) → slice_get nfa.states s ≡ Some (Capture next slot)
-          → Follows nfa x marks (Explore (s, at) ∷ rest) slots after
+      pub Carries-write : (next slot : ℕ) → slice_get nfa.states s ≡ Some (Capture next slot)
+          → Carries nfa x marks (Explore (s, at) ∷ rest) slots after
           (Explore (next, at) ∷ Restore slot (get_or slots slot None) ∷ rest) (set slots slot (Some at))
       unfolding edges_of
-      Follows-write next slot is =
+      Carries-write next slot is =
           let n = node_at-get s (Capture next slot) is in
-          Follows-taken (Explore (next, at) ∷ Restore slot (get_or slots slot None) ∷ rest) (set slots slot (Some at))
+          Carries-taken (Explore (next, at) ∷ Restore slot (get_or slots slot None) ∷ rest) (set slots slot (Some at))
           (λ left pairs g f. Answer-write (edges nfa x) (is_match nfa) (capture nfa) left None pairs (s, at) rest slots
           g f (rw n refl) ((next, at) ∷ []) (rw n refl) slot (rw n refl))
 
       -- a Capture of a slot that is not tracked
-      pub Follows-unkept : (next slot : ℕ) → slice_get nfa.states s ≡ Some (Capture next slot) → length slots ≤ slot
-          → Follows nfa x marks (Explore (s, at) ∷ rest) slots after (Explore (next, at) ∷ rest) slots
+      pub Carries-unkept : (next slot : ℕ) → slice_get nfa.states s ≡ Some (Capture next slot) → length slots ≤ slot
+          → Carries nfa x marks (Explore (s, at) ∷ rest) slots after (Explore (next, at) ∷ rest) slots
       unfolding edges_of
-      Follows-unkept next slot is past =
+      Carries-unkept next slot is past =
           let n = node_at-get s (Capture next slot) is in
-          Follows-taken (Explore (next, at) ∷ rest) slots
+          Carries-taken (Explore (next, at) ∷ rest) slots
           (λ left pairs g f. Answer-unkept (edges nfa x) (is_match nfa) (capture nfa) left None pairs (s, at) rest slots
           g f (rw n refl) ((next, at) ∷ []) (rw n refl) slot (rw n refl) past)
 
   -- steps one after another
   module _ {m : Marks} {w : List Item} {s : Slots} where
-    module _ {n : Marks} {y : List Item} {t : Slots} (f : Follows nfa x m w s n y t) where
-      pub Follows-then : {o : Marks} {z : List Item} {u : Slots} → Follows nfa x n y t o z u → Follows nfa x m w s o z u
-      Follows-then {o = o} k = let p = f.grows in let q = k.grows in record {
+    module _ {n : Marks} {y : List Item} {t : Slots} (f : Carries nfa x m w s n y t) where
+      pub Carries-then : {o : Marks} {z : List Item} {u : Slots} → Carries nfa x n y t o z u → Carries nfa x m w s o z u
+      Carries-then {o = o} k = let p = f.grows in let q = k.grows in record {
         grows = omega arith;
         back = λ left more g e h.
             f.back (left + (o.turns - n.turns)) more g (omega arith)
             (k.back left (left + (o.turns - n.turns)) g (omega arith) h);
       }
 
-      pub Follows-ends : {g : Found} {turns : ℕ} → Ends nfa x n y t g turns → Ends nfa x m w s g turns
-      Follows-ends {g} {turns} e = let p = f.grows in let q = e.grows in record {
+      pub Carries-ends : {g : Found} {turns : ℕ} → Ends nfa x n y t g turns → Ends nfa x m w s g turns
+      Carries-ends {g} {turns} e = let p = f.grows in let q = e.grows in record {
         grows = omega arith;
         answer = λ left k. f.back (turns - n.turns) left g (omega arith) (e.answer (turns - n.turns) (omega arith));
       }
 
-  pub Follows-none : (m : Marks) (w : List Item) (s : Slots) → Follows nfa x m w s m w s
-  Follows-none m w s = record {
+  pub Carries-none : (m : Marks) (w : List Item) (s : Slots) → Carries nfa x m w s m w s
+  Carries-none m w s = record {
     grows = omega arith;
     back = λ left more g e h. let same : more ≡ left = omega arith in rw same h;
   }
 
   -- a slot has its old value again
-  pub Follows-restore : (m : Marks) (w : List Item) (s : Slots) (k : ℕ) (old : Option ℕ)
-      → Follows nfa x m (Restore k old ∷ w) s m w (set s k old)
+  pub Carries-restore : (m : Marks) (w : List Item) (s : Slots) (k : ℕ) (old : Option ℕ)
+      → Carries nfa x m (Restore k old ∷ w) s m w (set s k old)
   unfolding WalkAnswer
-  Follows-restore m w s k old = record {
+  Carries-restore m w s k old = record {
     grows = omega arith;
     back = λ left more g e h pairs agrees.
         let same : more ≡ left = omega arith in
@@ -256,5 +256,5 @@ module _ (nfa : Automaton) (x : Search) where
   -- steps before the end
   pub EndsAt-along : {half : HalfMatch} {m : Marks} {w : List Item} {s : Slots} {n : Marks} {y : List Item}
       {t written : Slots} {turns : ℕ}
-      → Follows nfa x m w s n y t → EndsAt nfa x half n y t written turns → EndsAt nfa x half m w s written turns
-  EndsAt-along f e = record { state = e.state; matches = e.matches; ends = Follows-ends f e.ends }
+      → Carries nfa x m w s n y t → EndsAt nfa x half n y t written turns → EndsAt nfa x half m w s written turns
+  EndsAt-along f e = record { state = e.state; matches = e.matches; ends = Carries-ends f e.ends }

@@ -8,7 +8,7 @@ use Rattle.nfa_paths.specs.Exploring.{Slots, Item}
 use Rattle.nfa_paths.specs.Exploring.Item.{Explore as ToExplore, Restore as ToRestore}
 use Rattle.nfa_paths.specs.Turns.{marked_sum}
 use Rattle.nfa_backtrack.specs.Bits.{Marks}
-use Rattle.nfa_backtrack.specs.Walk.{pair_of, weights, IsPlace, Follows, WalkFails}
+use Rattle.nfa_backtrack.specs.Walk.{pair_of, weights, IsPlace, Carries, WalkFails}
 use Rattle.nfa_backtrack.specs.declared.walk.Begun.{Begun}
 
 -- the slot that was written gets no offset again, above some work
@@ -29,7 +29,7 @@ module _ (nfa : Automaton) (x : Search) where
     pub place : IsPlace nfa x begun.place
     pub slot : ForSome begun.slot (λ k. k < length written)
     pub follows : (work : List Item)
-        → Follows nfa x marks (ToExplore v ∷ work) slots marked
+        → Carries nfa x marks (ToExplore v ∷ work) slots marked
         (ToExplore (pair_of begun.place) ∷ kept_onto begun.slot work) written
     pub spent : marked.turns + marked_sum (weights nfa x) marks.bits
         ≤ marks.turns + marked_sum (weights nfa x) marked.bits

@@ -73,7 +73,8 @@ GivesNextMatch e x s = (xs : List (Result Match SearchError)) (t : TryFindMatche
 -- an item is `Ok` only where the span is not too long, and else a refusal
 abbrev pub GivesByLength : Backtracker → Search → TryFindMatches → Type 0
 GivesByLength e x s = (xs : List (Result Match SearchError)) (t : TryFindMatches) (i : Result Match SearchError)
-    (u : TryFindMatches) → Yields backtracker_finds_next s xs t → backtracker_finds_next t (Some i) u → AnswersByLength e x i
+    (u : TryFindMatches) → Yields backtracker_finds_next s xs t → backtracker_finds_next t (Some i) u
+    → AnswersByLength e x i
 
 -- and they end without an error only where it is not too long
 abbrev pub EndsByLength : Backtracker → Search → TryFindMatches → Type 0

@@ -45,21 +45,21 @@ move_of None place states = Stuck
 move_of (Some sid) place states = Go (record { sid = sid; at = place.at + 1; row = place.row + states })
 
 -- the turns that a frame waits to take
-abbrev pub tries : Frame → ℕ
-tries (Step sid at row) = 1
-tries (Restore slot offset) = 0
-tries (Clear slot) = 0
+abbrev pub frame_tries : Frame → ℕ
+frame_tries (Step sid at row) = 1
+frame_tries (Restore slot offset) = 0
+frame_tries (Clear slot) = 0
 
 -- a frame that writes a slot writes one of these
-abbrev pub HasSlot : ℕ → Frame → Type 0
-HasSlot count (Step sid at row) = Unit {0}
-HasSlot count (Restore slot offset) = slot < count
-HasSlot count (Clear slot) = slot < count
+abbrev pub WritesSlot : ℕ → Frame → Type 0
+WritesSlot count (Step sid at row) = Unit {0}
+WritesSlot count (Restore slot offset) = slot < count
+WritesSlot count (Clear slot) = slot < count
 
 -- the frames of a stack, the top first, above some work
-abbrev pub work_onto : List Frame → List Item → List Item
-work_onto [] work = work
-work_onto (f ∷ fs) work = work_onto fs (work_item f ∷ work)
+abbrev pub stacked : List Frame → List Item → List Item
+stacked [] work = work
+stacked (f ∷ fs) work = stacked fs (work_item f ∷ work)
 
 -- what comes of taking a frame up: a place to search on from, or a slot that has its old value again
 abbrev pub Unwinds : Frame → Slots → Option Place → Slots → Type 0
@@ -103,17 +103,17 @@ module _ (nfa : Automaton) (x : Search) where
   IsPlaceOr (Some place) = IsPlace place
 
   -- a frame's place is in the span, and its slot is one of these
-  abbrev pub IsWithin : ℕ → Frame → Type 0
-  IsWithin count (Step sid at row) = IsPlace (record { sid = sid; at = at; row = row })
-  IsWithin count (Restore slot offset) = slot < count
-  IsWithin count (Clear slot) = slot < count
+  abbrev pub IsFrame : ℕ → Frame → Type 0
+  IsFrame count (Step sid at row) = IsPlace (record { sid = sid; at = at; row = row })
+  IsFrame count (Restore slot offset) = slot < count
+  IsFrame count (Clear slot) = slot < count
 
   -- the bit of a pair: a row of the NFA's states for each position from the start on
   abbrev pub bit_of : Pair → ℕ
   bit_of v = (v.1 - x.start) * length nfa.states + v.0
 
   -- there is a bit for each pair of the span, and its number fits a `usize`
-  pub record HasRoom (bits : List Bool) : Type 0 where
+  pub record HasBits (bits : List Bool) : Type 0 where
     pub room : length nfa.states * (span_len x + 1) ≤ length bits
     pub fits : length nfa.states * (span_len x + 1) < 2 ^ 64
 
@@ -154,13 +154,14 @@ module _ (nfa : Automaton) (x : Search) where
     pub counted : marked.turns ≡ marks.turns + 1
 
   -- What a step pushed is paid for by what it marked. `in_hand` is 1 where it goes on at a place.
-  pub record Paid (count : ℕ) (stack : List Frame) (bits : List Bool) (after : List Frame) (marked : List Bool)
+  pub record PaidFor (count : ℕ) (stack : List Frame) (bits : List Bool) (after : List Frame) (marked : List Bool)
       (in_hand : ℕ) : Type 0 where
-    pub within : All (IsWithin count) after
-    pub tried : sum_by tries after + in_hand + marked_sum weights bits ≤ sum_by tries stack + marked_sum weights marked
+    pub within : All (IsFrame count) after
+    pub tried : sum_by frame_tries after + in_hand + marked_sum weights bits
+        ≤ sum_by frame_tries stack + marked_sum weights marked
 
   -- The answer from the state after is the answer from the state before.
-  pub record Follows (marks : Marks) (work : List Item) (slots : Slots) (after : Marks) (work_after : List Item)
+  pub record Carries (marks : Marks) (work : List Item) (slots : Slots) (after : Marks) (work_after : List Item)
       (slots_after : Slots) : Type 0 where
     pub grows : marks.turns ≤ after.turns
     pub back : (left more : ℕ) (g : Found) → marks.turns + more ≡ after.turns + left
@@ -175,14 +176,14 @@ module _ (nfa : Automaton) (x : Search) where
   abbrev pub Goes : Pair → Move → List Frame → Marks → Slots → List Frame → Marks → Slots → Type 0
   Goes v (Go place) stack marks slots after marked written =
       IsPlace place
-      × ((work : List Item) → Follows marks (ToExplore v ∷ work_onto stack work) slots marked
-      (ToExplore (pair_of place) ∷ work_onto after work) written)
+      × ((work : List Item) → Carries marks (ToExplore v ∷ stacked stack work) slots marked
+      (ToExplore (pair_of place) ∷ stacked after work) written)
   Goes v Stuck stack marks slots after marked written =
-      (work : List Item) → Follows marks (ToExplore v ∷ work_onto stack work) slots marked (work_onto after work)
+      (work : List Item) → Carries marks (ToExplore v ∷ stacked stack work) slots marked (stacked after work)
       written
   Goes v (Matched pattern) stack marks slots after marked written =
       (pattern_of (node_at nfa v.0) ≡ Some (number_of pattern))
-      × ((work : List Item) → Ends marks (ToExplore v ∷ work_onto stack work) slots (Some (v, written)) marked.turns)
+      × ((work : List Item) → Ends marks (ToExplore v ∷ stacked stack work) slots (Some (v, written)) marked.turns)
 
   -- the search ends at a match: its state is of the pattern, and this is where it ends
   pub record EndsAt (half : HalfMatch) (marks : Marks) (work : List Item) (slots : Slots) (written : Slots) (turns : ℕ)
@@ -192,22 +193,22 @@ module _ (nfa : Automaton) (x : Search) where
     pub ends : Ends marks work slots (Some ((state, (half_found_of half).offset), written)) turns
 
   -- what comes of a turn at v and of what was put off, where it goes nowhere
-  abbrev pub Advances : Pair → Turn → List Frame → Marks → Slots → List Frame → Marks → Slots → Type 0
-  Advances v (On place) stack marks slots after marked written =
+  abbrev pub ComesTo : Pair → Turn → List Frame → Marks → Slots → List Frame → Marks → Slots → Type 0
+  ComesTo v (On place) stack marks slots after marked written =
       IsPlace place
-      × ((work : List Item) → Follows marks (ToExplore v ∷ work_onto stack work) slots marked
-      (ToExplore (pair_of place) ∷ work_onto after work) written)
-  Advances v (Ended half) stack marks slots after marked written =
-      (work : List Item) → EndsAt half marks (ToExplore v ∷ work_onto stack work) slots written marked.turns
-  Advances v Over stack marks slots after marked written =
-      (after ≡ []) × ((work : List Item) → Follows marks (ToExplore v ∷ work_onto stack work) slots marked work written)
+      × ((work : List Item) → Carries marks (ToExplore v ∷ stacked stack work) slots marked
+      (ToExplore (pair_of place) ∷ stacked after work) written)
+  ComesTo v (Ended half) stack marks slots after marked written =
+      (work : List Item) → EndsAt half marks (ToExplore v ∷ stacked stack work) slots written marked.turns
+  ComesTo v Over stack marks slots after marked written =
+      (after ≡ []) × ((work : List Item) → Carries marks (ToExplore v ∷ stacked stack work) slots marked work written)
 
   -- nothing was found at v, and what was tried is paid for
   pub record WalkFails (v : Pair) (marks : Marks) (slots : Slots) (after : List Frame) (marked : Marks)
       (written : Slots) :
       Type 0 where
     pub empty : after ≡ []
-    pub follows : (work : List Item) → Follows marks (ToExplore v ∷ work) slots marked work written
+    pub follows : (work : List Item) → Carries marks (ToExplore v ∷ work) slots marked work written
     pub spent : marked.turns + marked_sum weights marks.bits ≤ marks.turns + 1 + marked_sum weights marked.bits
 
   -- what a walk from v comes to

@@ -9,7 +9,7 @@ ghost use Rattle.nfa_paths.specs.Paths.{span_len, start_state, starts, pairs_fro
 ghost use Rattle.nfa_paths.specs.Restarts.{scan_turns, AreUnset, ScanGives, SearchGives};
 ghost use Rattle.nfa_scanning.specs.FirstBytes.{IsFirstBytes};
 ghost use Rattle.nfa_backtrack.specs.Backtrack.{GrowsBlocks};
-ghost use Rattle.nfa_backtrack.specs.Walk.{pair_of, HasRoom, IsPlace, StartsGive};
+ghost use Rattle.nfa_backtrack.specs.Walk.{pair_of, HasBits, IsPlace, StartsGive};
 
 use crate::engine::BoundedBacktracker;
 use crate::frame::Place;
@@ -49,7 +49,7 @@ fn try_starts(
     slots: &mut [Option<NonMaxUsize>],
 ) -> Result<Option<HalfMatch>, Refused>
     requires first { IsFirstBytes nfa.now first.now.may_begin }
-    requires room { HasRoom nfa.now (search_of input.now) scratch.old.visited.bits }
+    requires room { HasBits nfa.now (search_of input.now) scratch.old.visited.bits }
     requires clear { scratch.old.visited.bits ≡ replicate (length scratch.old.visited.bits) false }
     requires empty { scratch.old.stack.items ≡ [] }
     requires unset { slots.old ≡ replicate (length slots.old) None }
@@ -87,7 +87,7 @@ fn scan(
     slots: &mut [Option<NonMaxUsize>],
 ) -> Result<Option<HalfMatch>, Refused>
     requires first { IsFirstBytes nfa.now first.now.may_begin }
-    requires room { HasRoom nfa.now (search_of input.now) scratch.old.visited.bits }
+    requires room { HasBits nfa.now (search_of input.now) scratch.old.visited.bits }
     ensures scans { scratch.new.scans ≡ scratch.old.scans + 1 }
     ensures size { length scratch.new.visited.bits ≡ length scratch.old.visited.bits }
     ensures turns { scratch.new.visited.turns ≤ scratch.old.visited.turns + scan_turns nfa.now (search_of input.now) }
@@ -121,7 +121,7 @@ impl BoundedBacktracker {
         scratch: &mut Scratch,
         slots: &mut [Option<NonMaxUsize>],
     ) -> Result<Option<HalfMatch>, Refused>
-        requires { HasRoom self.now.nfa (search_of input.now) scratch.old.visited.bits }
+        requires { HasBits self.now.nfa (search_of input.now) scratch.old.visited.bits }
         ensures scans { scratch.new.scans ≡ scratch.old.scans + 1 }
         ensures size { length scratch.new.visited.bits ≡ length scratch.old.visited.bits }
         ensures turns { scratch.new.visited.turns
@@ -142,7 +142,7 @@ impl BoundedBacktracker {
         scratch: &mut Scratch,
         slots: &mut [Option<NonMaxUsize>],
     ) -> Result<Option<HalfMatch>, Refused>
-        requires room { HasRoom self.now.nfa (search_of input.now) scratch.old.visited.bits }
+        requires room { HasBits self.now.nfa (search_of input.now) scratch.old.visited.bits }
         requires counted { scratch.old.scans ≡ 0 }
         requires turned { scratch.old.visited.turns ≡ 0 }
         ensures answer { IfOk result (λ half. SearchGives self.now.nfa LeftmostFirst false (search_of input.now) half

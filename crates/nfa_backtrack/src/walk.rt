@@ -14,9 +14,9 @@ ghost use Rattle.nfa_paths.specs.Exploring.{Item};
 ghost use Rattle.nfa_paths.specs.Turns.{marked_sum};
 ghost use Rattle.nfa_backtrack.specs.Begin.{Begins, IsPutBack};
 ghost use Rattle.nfa_backtrack.specs.Bits.{Marks};
-ghost use Rattle.nfa_backtrack.specs.Walk.{pair_of, work_onto, restoring, move_of, tries, tries_of_move};
-ghost use Rattle.nfa_backtrack.specs.Walk.{tries_of_place, tries_of_turn, with_place, HasSlot, Unwinds, IsPlace};
-ghost use Rattle.nfa_backtrack.specs.Walk.{IsPlaceOr, IsWithin, HasRoom, Paid, Follows, Goes, Advances, Walks, weights};
+ghost use Rattle.nfa_backtrack.specs.Walk.{pair_of, stacked, restoring, move_of, frame_tries, tries_of_move};
+ghost use Rattle.nfa_backtrack.specs.Walk.{tries_of_place, tries_of_turn, with_place, WritesSlot, Unwinds, IsPlace};
+ghost use Rattle.nfa_backtrack.specs.Walk.{IsPlaceOr, IsFrame, HasBits, PaidFor, Carries, Goes, ComesTo, Walks, weights};
 ghost use Rattle.nfa_backtrack.specs.Walk.{Taken, WasMarked};
 ghost use Rattle.nfa_backtrack.specs.declared.frame.Frame.TheVariants.{Step};
 
@@ -151,7 +151,7 @@ pub struct Begun {
 #[inline(always)]
 fn mark(nfa: &NFA, input: &Input<'_>, place: Place, visited: &mut Visited) -> bool
     requires place { IsPlace nfa.now (search_of input.now) place }
-    requires room { HasRoom nfa.now (search_of input.now) visited.old.bits }
+    requires room { HasBits nfa.now (search_of input.now) visited.old.bits }
     ensures turns { visited.new.turns ≡ visited.old.turns + 1 }
     ensures size { length visited.new.bits ≡ length visited.old.bits }
     ensures taken { result ≡ true → Taken nfa.now (search_of input.now) (pair_of place) visited.old visited.new }
@@ -173,12 +173,12 @@ fn step(
     requires states { map node_of states.now ≡ nfa.now.states }
     requires valid { IsAutomaton nfa.now }
     requires place { IsPlace nfa.now (search_of input.now) place }
-    requires room { HasRoom nfa.now (search_of input.now) scratch.old.visited.bits }
-    requires within { All (IsWithin nfa.now (search_of input.now) (length slots.old)) scratch.old.stack.items }
+    requires room { HasBits nfa.now (search_of input.now) scratch.old.visited.bits }
+    requires within { All (IsFrame nfa.now (search_of input.now) (length slots.old)) scratch.old.stack.items }
     ensures turns { scratch.new.visited.turns ≡ scratch.old.visited.turns + 1 }
     ensures scans { scratch.new.scans ≡ scratch.old.scans }
     ensures size { length scratch.new.visited.bits ≡ length scratch.old.visited.bits }
-    ensures paid { IfOk result (λ move. Paid nfa.now (search_of input.now) (length slots.old) scratch.old.stack.items
+    ensures paid { IfOk result (λ move. PaidFor nfa.now (search_of input.now) (length slots.old) scratch.old.stack.items
         scratch.old.visited.bits scratch.new.stack.items scratch.new.visited.bits (tries_of_move move)) }
     ensures goes { IfOk result (λ move. Goes nfa.now (search_of input.now) (pair_of place) move scratch.old.stack.items
         scratch.old.visited slots.old scratch.new.stack.items scratch.new.visited slots.new) }
@@ -234,7 +234,7 @@ fn step(
 /// Takes a frame up: it gives a place to search on from, or a slot its old value back.
 #[inline(always)]
 fn unwind(frame: Frame, slots: &mut [Option<NonMaxUsize>]) -> Option<Place>
-    requires { HasSlot (length slots.old) frame }
+    requires { WritesSlot (length slots.old) frame }
     ensures { Unwinds frame slots.old result slots.new }
 {
     match frame {
@@ -253,13 +253,13 @@ fn unwind(frame: Frame, slots: &mut [Option<NonMaxUsize>]) -> Option<Place>
 /// Takes up what was put off last, down to a place to search on from.
 #[inline(always)]
 fn resume(stack: &mut Vec<Frame>, slots: &mut [Option<NonMaxUsize>]) -> Option<Place>
-    requires { All (HasSlot (length slots.old)) stack.old.items }
+    requires { All (WritesSlot (length slots.old)) stack.old.items }
     ensures follows { (nfa : Automaton) (x : Search) (marks : Marks) (work : List Item)
-        → Follows nfa x marks (work_onto stack.old.items work) slots.old marks
-        (with_place result (work_onto stack.new.items work)) slots.new }
-    ensures within { (nfa : Automaton) (x : Search) → All (IsWithin nfa x (length slots.old)) stack.old.items
-        → All (IsWithin nfa x (length slots.old)) stack.new.items × IsPlaceOr nfa x result }
-    ensures tried { sum_by tries stack.new.items + tries_of_place result ≡ sum_by tries stack.old.items }
+        → Carries nfa x marks (stacked stack.old.items work) slots.old marks
+        (with_place result (stacked stack.new.items work)) slots.new }
+    ensures within { (nfa : Automaton) (x : Search) → All (IsFrame nfa x (length slots.old)) stack.old.items
+        → All (IsFrame nfa x (length slots.old)) stack.new.items × IsPlaceOr nfa x result }
+    ensures tried { sum_by frame_tries stack.new.items + tries_of_place result ≡ sum_by frame_tries stack.old.items }
     ensures over { result ≡ None → stack.new.items ≡ [] }
 {
     while let Some(frame) = stack.pop() {
@@ -283,15 +283,15 @@ fn advance(
     requires states { map node_of states.now ≡ nfa.now.states }
     requires valid { IsAutomaton nfa.now }
     requires place { IsPlace nfa.now (search_of input.now) place }
-    requires room { HasRoom nfa.now (search_of input.now) scratch.old.visited.bits }
-    requires within { All (IsWithin nfa.now (search_of input.now) (length slots.old)) scratch.old.stack.items }
+    requires room { HasBits nfa.now (search_of input.now) scratch.old.visited.bits }
+    requires within { All (IsFrame nfa.now (search_of input.now) (length slots.old)) scratch.old.stack.items }
     ensures turns { scratch.new.visited.turns ≡ scratch.old.visited.turns + 1 }
     ensures scans { scratch.new.scans ≡ scratch.old.scans }
     ensures size { length scratch.new.visited.bits ≡ length scratch.old.visited.bits }
-    ensures paid { IfOk result (λ turn. Paid nfa.now (search_of input.now) (length slots.old) scratch.old.stack.items
+    ensures paid { IfOk result (λ turn. PaidFor nfa.now (search_of input.now) (length slots.old) scratch.old.stack.items
         scratch.old.visited.bits scratch.new.stack.items scratch.new.visited.bits (tries_of_turn turn)) }
     ensures advances { IfOk result
-        (λ turn. Advances nfa.now (search_of input.now) (pair_of place) turn scratch.old.stack.items scratch.old.visited
+        (λ turn. ComesTo nfa.now (search_of input.now) (pair_of place) turn scratch.old.stack.items scratch.old.visited
         slots.old scratch.new.stack.items scratch.new.visited slots.new) }
 {
     let at = place.at;
@@ -337,7 +337,7 @@ fn begin(
     slots: &mut [Option<NonMaxUsize>],
 ) -> Option<Begun>
     requires place { IsPlace nfa.now (search_of input.now) place }
-    requires room { HasRoom nfa.now (search_of input.now) visited.old.bits }
+    requires room { HasBits nfa.now (search_of input.now) visited.old.bits }
     ensures size { length visited.new.bits ≡ length visited.old.bits }
     ensures begins { Begins nfa.now (search_of input.now) (pair_of place) result visited.old slots.old visited.new
         slots.new }
@@ -382,7 +382,7 @@ pub fn walk(
     slots: &mut [Option<NonMaxUsize>],
 ) -> Result<Option<HalfMatch>, Refused>
     requires place { IsPlace nfa.now (search_of input.now) start }
-    requires room { HasRoom nfa.now (search_of input.now) scratch.old.visited.bits }
+    requires room { HasBits nfa.now (search_of input.now) scratch.old.visited.bits }
     requires empty { scratch.old.stack.items ≡ [] }
     ensures scans { scratch.new.scans ≡ scratch.old.scans }
     ensures size { length scratch.new.visited.bits ≡ length scratch.old.visited.bits }
@@ -413,7 +413,7 @@ fn walk_on(
     slots: &mut [Option<NonMaxUsize>],
 ) -> Result<Option<HalfMatch>, Refused>
     requires place { IsPlace nfa.now (search_of input.now) start }
-    requires room { HasRoom nfa.now (search_of input.now) scratch.old.visited.bits }
+    requires room { HasBits nfa.now (search_of input.now) scratch.old.visited.bits }
     requires empty { scratch.old.stack.items ≡ [] }
     ensures scans { scratch.new.scans ≡ scratch.old.scans }
     ensures size { length scratch.new.visited.bits ≡ length scratch.old.visited.bits }

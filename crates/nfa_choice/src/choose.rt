@@ -223,7 +223,8 @@ impl Choice {
 
     /// The match that a search answers.
     pub fn find<'h>(&mut self, input: Input<'h>) -> Option<Match>
-        ensures answer { IsMatchAnswer self.old.nfa (kind_in self.old) (search_of input.entry).earliest (search_of input.entry)
+        ensures answer { IsMatchAnswer self.old.nfa (kind_in self.old) (search_of input.entry).earliest
+            (search_of input.entry)
             (option_map found_of result) }
         ensures pattern { IfSome result (λ m. (found_of m).pattern < length self.old.nfa.patterns) }
         ensures inside { IfSome result (λ m. IsInside (search_of input.entry) (found_of m)) }

@@ -53,7 +53,8 @@ module _ (edges : Pair → List Pair) (capture : Pair → Option ℕ) (starts : 
     module _ {v : Pair} (s : Scanning edges capture starts is_match slots e Seen spent front (Explore v ∷ rest) current)
       where
         -- a turn that finds its pair marked
-        pub Scanning-marked : Seen v → Scanning edges capture starts is_match slots e Seen (spent + 1) front rest current
+        pub Scanning-marked : Seen v
+            → Scanning edges capture starts is_match slots e Seen (spent + 1) front rest current
         Scanning-marked seen = record {
           searching =
               λ target at. Searching-marked edges target capture (s.searching target at) seen;
@@ -105,7 +106,8 @@ module _ (edges : Pair → List Pair) (capture : Pair → Option ℕ) (starts : 
           -- a pair at e whose edges all rise is put aside, a match pair too
           pub Scanning-keep : ((x y : Pair) → In y (edges x) → x.1 ≤ y.1) → ((w : Pair) → In w (edges v) → e < w.1)
               → ((x : Pair) → Seen x → x.1 ≤ e)
-              → Scanning edges capture starts is_match slots e After (spent + 1) (front ++ (v, current) ∷ []) rest current
+              → Scanning edges capture starts is_match slots e After (spent + 1) (front ++ (v, current) ∷ []) rest
+              current
           Scanning-keep onward leaves past = record {
             searching = λ target at.
                 Searching-keep edges target capture (s.searching target at) fresh adds (λ x. e < x.1)

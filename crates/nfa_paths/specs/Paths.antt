@@ -16,6 +16,7 @@ use Rattle.thompson_nfa.specs.declared.state.Transition.{Transition}
 use Rattle.thompson_nfa.specs.Automaton.{Automaton, Node}
 use Rattle.thompson_nfa.specs.Automaton.Node.{ByteRange, Sparse, Dense, Look, Union, BinaryUnion, Capture, Fail, Match}
 use Rattle.thompson_nfa.specs.Looks.{look_holds}
+pub use Rattle.thompson_nfa.specs.Built.{pattern_of, slot_of}
 use Rattle.nfa_paths.specs.Graphs.{Pair, IsFirstPath, IsEarliestPath, IsLastPath, IsEarliestLastPath}
 
 -- the transition holds the byte
@@ -33,16 +34,6 @@ target_on (ByteRange t) b = if holds_byte t b then Some t.next else None
 target_on (Sparse ts) b = first_target ts b
 target_on (Dense targets) b = option_and_then (λ target. target) (slice_get targets b)
 target_on _ b = None
-
--- the slot that a Capture writes
-abbrev pub slot_of : Node → Option ℕ
-slot_of (Capture next slot) = Some slot
-slot_of _ = None
-
--- the pattern of a Match
-abbrev pub pattern_of : Node → Option ℕ
-pattern_of (Match pattern) = Some pattern
-pattern_of _ = None
 
 -- the state at each of `count` positions from this one on
 abbrev pub pairs_from : ℕ → ℕ → ℕ → List Pair

@@ -12,6 +12,7 @@ use Rattle.nfa_paths.specs.Paths.{node_at, pattern_of, edges, is_match, capture,
 use Rattle.nfa_paths.specs.Exploring.{Slots, Found, Item, seeds}
 use Rattle.nfa_paths.specs.Exploring.Item.{Load}
 use Rattle.nfa_paths.specs.Kinds.{Scanning}
+pub use Rattle.nfa_paths.specs.Restarts.{scan_turns}
 use Rattle.nfa_scanning.specs.FirstBytes.{IsRefused}
 use Rattle.nfa_pikevm.specs.Rows.{Marks, Active}
 use Rattle.nfa_pikevm.specs.Engines.{room_of}
@@ -138,13 +139,9 @@ module _ (nfa : Automaton) (x : Search) where
   Scans kind earliest None slots turns = IsScanAnswer nfa x kind earliest None × (slots ≡ blank (length slots))
   Scans kind earliest (Some half) slots turns = ScanFinds kind earliest half slots turns
 
-  -- the turns of one scan at most
-  abbrev pub scan_turns : ℕ
-  scan_turns = (1 + turn_weight nfa) * (span_len x + 1)
-
-  -- so many turns were taken, and no more
+  -- no more turns were taken than a scan takes
   abbrev pub IsWithinTurns : Threads → Threads → Type 0
-  IsWithinTurns old new = new.reached.seen.turns ≤ old.reached.seen.turns + scan_turns
+  IsWithinTurns old new = new.reached.seen.turns ≤ old.reached.seen.turns + scan_turns nfa x
 
   -- The turns so far and the states at the position are within the starts and the positions before it.
   pub record IsPaidAt (at before : ℕ) (turns items : ℕ) : Type 0 where

@@ -18,6 +18,7 @@ use crate::search::search;
 use crate::slot::{Slot, hand_out, match_in};
 use crate::threads::Threads;
 use nfa_scanning::first_bytes::FirstBytes;
+use nfa_scanning::starts::is_utf8_empty;
 use nfa_search_base::error::SearchError;
 use regex_search_core::{Captures, Input, Match, NonMaxUsize, PatternID, PatternSet};
 use std::alloc::Global;
@@ -312,7 +313,7 @@ impl PikeVM {
         ensures turns { cache.new.turns ≤ cache.new.scans * ((1 + turn_weight self.now.nfa)
             * (span_len (search_of input.entry) + 1)) }
     {
-        let earliest = !(self.nfa.has_empty() && self.nfa.is_utf8());
+        let earliest = !is_utf8_empty(&self.nfa);
         let input = input.earliest(earliest);
         self.search_slots(cache, &input, &mut []).is_some()
     }

@@ -9,6 +9,7 @@ use crate::scan::scan;
 use crate::slot::Slot;
 use crate::threads::Threads;
 use nfa_scanning::first_bytes::FirstBytes;
+use nfa_scanning::starts::is_utf8_empty;
 use regex_search_core::{HalfMatch, Input, MatchKind};
 use thompson_nfa::NFA;
 
@@ -122,7 +123,7 @@ pub fn search(
     ensures scans { threads.new.scans ≤ scan_limit nfa.now (search_of input.now) }
     ensures turns { threads.new.reached.seen.turns ≤ threads.new.scans * scan_turns nfa.now (search_of input.now) }
 {
-    if !(nfa.has_empty() && nfa.is_utf8()) {
+    if !is_utf8_empty(nfa) {
         search_once(nfa, first, kind, input, threads, slots)
     } else if input.get_anchored().is_anchored() {
         search_kept(nfa, first, kind, input, threads, slots)

@@ -1,1 +1,2 @@
+pub mod DraftLemmas
 pub mod NameLemmas

@@ -1,7 +1,23 @@
-//! A draft of an NFA, written state by state.
+//! A draft of an NFA, as a table has it: state by state.
+ghost use Rattle.std.specs.Prelude.{◌≡◌, ◌≤◌, length, map, option_map, string_bytes, All, IfOk, IsOkUnless, IsTrue};
+ghost use Rattle.regex_search_core.specs.Groups.{names_of, slot_count};
+ghost use Rattle.regex_search_core.specs.Patterns.{number_of};
+ghost use Rattle.thompson_nfa.specs.Automaton.{IsAutomaton, node_of};
+ghost use Rattle.nfa_samples.specs.Drafts.{
+  IsSmall,
+  anchored_nfa,
+  automaton_in,
+  groups_in,
+  is_sound,
+  names_in,
+  node_in,
+  prefixed_nfa,
+  transition_in,
+};
+
 use regex_search_core::{GroupInfo, PatternID, StateID};
-use std::alloc::Global;
-use thompson_nfa::{BuildError, Holder, Look, NFA, State, Transition};
+use std::alloc::{AllocError, Global};
+use thompson_nfa::{BuildError, Look, NFA, State, Transition};
 
 /// A state as a table has it. The last number of each but `Union` and `Match` is the state after it.
 #[derive(Clone, Copy, Debug)]
@@ -25,189 +41,190 @@ pub enum Row<'a> {
 }
 
 impl Row<'_> {
-    /// The state of the row. `at` is its number, which an error names.
-    fn state(self, alloc: Global, at: usize) -> Result<State, BuildError> {
-        Ok(match self {
-            Row::Byte(byte, next) => State::ByteRange {
-                trans: transition(byte, byte, next, at)?,
-            },
-            Row::Range(start, end, next) => State::ByteRange {
-                trans: transition(start, end, next, at)?,
-            },
-            Row::Ranges(ranges, next) => State::Sparse(transitions(alloc, ranges, next, at)?),
-            Row::Either(first, second) => State::BinaryUnion {
-                alt1: state_id(first, at)?,
-                alt2: state_id(second, at)?,
-            },
-            Row::Union(indexes) => State::Union {
-                alternates: state_ids(alloc, indexes, at)?,
-            },
-            Row::Capture(slot, next) => State::Capture {
-                next: state_id(next, at)?,
+    /// The state of the row.
+    fn state(self, alloc: Global) -> Result<State, AllocError>
+        requires { IsSmall self }
+        ensures { IfOk result (λ state. node_of state ≡ node_in self.entry) }
+    {
+        match self {
+            Row::Byte(byte, next) => Ok(State::ByteRange {
+                trans: transition(byte, byte, next),
+            }),
+            Row::Range(start, end, next) => Ok(State::ByteRange {
+                trans: transition(start, end, next),
+            }),
+            Row::Ranges(ranges, next) => Ok(State::Sparse(transitions(alloc, ranges, next)?)),
+            Row::Either(first, second) => Ok(State::BinaryUnion {
+                alt1: state_id(first),
+                alt2: state_id(second),
+            }),
+            Row::Union(numbers) => Ok(State::Union {
+                alternates: state_ids(alloc, numbers)?,
+            }),
+            Row::Capture(slot, next) => Ok(State::Capture {
+                next: state_id(next),
                 slot,
-            },
-            Row::Assert(look, next) => State::Look {
+            }),
+            Row::Assert(look, next) => Ok(State::Look {
                 look,
-                next: state_id(next, at)?,
-            },
-            Row::Match(pattern) => State::Match {
-                pattern_id: PatternID::new(pattern).ok_or(BuildError::Pattern {
-                    state: at,
-                    pattern,
-                })?,
-            },
-        })
+                next: state_id(next),
+            }),
+            Row::Match(pattern) => Ok(State::Match {
+                pattern_id: pattern_id(pattern),
+            }),
+        }
     }
 }
 
-fn transition(start: u8, end: u8, next: usize, at: usize) -> Result<Transition, BuildError> {
-    let next = state_id(next, at)?;
-    Ok(Transition { start, end, next })
+/// The step on a byte of the range.
+fn transition(start: u8, end: u8, next: usize) -> Transition
+    requires { next ≤ 2147483646 }
+    ensures { result ≡ transition_in start end next }
+{
+    Transition {
+        start,
+        end,
+        next: state_id(next),
+    }
 }
 
+/// The steps on a byte of one of the ranges.
 fn transitions(
     alloc: Global,
     ranges: &[(u8, u8)],
     next: usize,
-    at: usize,
-) -> Result<Vec<Transition>, BuildError> {
-    let mut transitions = Vec::with_capacity(alloc, ranges.len())?;
+) -> Result<Vec<Transition>, AllocError>
+    requires { next ≤ 2147483646 }
+    ensures { IfOk result (λ steps. steps.items ≡ map (λ r. transition_in r.0 r.1 next) ranges.now) }
+{
+    let mut steps = Vec::with_capacity(alloc, ranges.len())?;
     for &(start, end) in ranges {
-        transitions.push(transition(start, end, next, at)?)?;
+        steps.push(transition(start, end, next))?;
     }
-    Ok(transitions)
+    Ok(steps)
 }
 
-fn state_id(index: usize, at: usize) -> Result<StateID, BuildError> {
-    numbered(index, Holder::State(at))
+/// The state of this number.
+fn state_id(number: usize) -> StateID
+    requires { number ≤ 2147483646 }
+    ensures { result ≡ number }
+{
+    StateID::new(number).unwrap()
 }
 
-fn numbered(index: usize, holder: Holder) -> Result<StateID, BuildError> {
-    StateID::new(index).ok_or(BuildError::State(holder))
+/// The pattern of this number.
+fn pattern_id(number: usize) -> PatternID
+    requires { number ≤ 2147483646 }
+    ensures { number_of result ≡ number }
+{
+    PatternID::new(number).unwrap()
 }
 
-fn state_ids(alloc: Global, indexes: &[usize], at: usize) -> Result<Vec<StateID>, BuildError> {
-    let mut ids = Vec::with_capacity(alloc, indexes.len())?;
-    for &index in indexes {
-        ids.push(state_id(index, at)?)?;
+/// The states of these numbers.
+fn state_ids(alloc: Global, numbers: &[usize]) -> Result<Vec<StateID>, AllocError>
+    requires { All (λ number. number ≤ 2147483646) numbers.now }
+    ensures { IfOk result (λ ids. ids.items ≡ numbers.now) }
+{
+    let mut ids = Vec::with_capacity(alloc, numbers.len())?;
+    for &number in numbers {
+        ids.push(state_id(number))?;
     }
     Ok(ids)
 }
 
-/// An NFA in the making: its states in the order of their numbers, and its patterns.
-#[derive(Drop)]
-pub struct Draft {
-    alloc: Global,
-    states: Vec<State>,
-    starts: Vec<StateID>,
-    groups: Vec<Vec<Option<String>>>,
-    has_empty: bool,
-    utf8: bool,
+/// The states of the rows.
+fn states(alloc: Global, rows: &[Row<'_>]) -> Result<Vec<State>, AllocError>
+    requires { All IsSmall rows.now }
+    ensures { IfOk result (λ states. map node_of states.items ≡ map node_in rows.now) }
+{
+    let mut states = Vec::with_capacity(alloc, rows.len())?;
+    for row in rows {
+        states.push(row.state(alloc)?)?;
+    }
+    Ok(states)
 }
 
-impl Draft {
-    /// These states and no pattern yet. The NFA is in UTF-8 mode and said to have no empty match.
-    pub fn new(alloc: Global, rows: &[Row<'_>]) -> Result<Draft, BuildError> {
-        let mut draft = Draft {
-            alloc,
-            states: Vec::with_capacity(alloc, rows.len())?,
-            starts: Vec::new(alloc),
-            groups: Vec::new(alloc),
-            has_empty: false,
-            utf8: true,
-        };
-        for row in rows {
-            draft.push(*row)?;
-        }
-        Ok(draft)
+/// The names of a pattern's groups.
+fn owned_names(alloc: Global, names: &[Option<&str>]) -> Result<Vec<Option<String>>, AllocError>
+    ensures { IfOk result (λ owned. map (option_map string_bytes) owned.items ≡ names_in names.now) }
+{
+    let mut owned = Vec::with_capacity(alloc, names.len())?;
+    for name in names {
+        owned.push(match name {
+            Some(name) => Some(String::from_str(alloc, name)?),
+            None => None,
+        })?;
     }
+    Ok(owned)
+}
 
-    /// Adds the state of the row.
-    pub fn push(&mut self, row: Row<'_>) -> Result<(), BuildError> {
-        let at = self.states.len();
-        self.states.push(row.state(self.alloc, at)?)?;
-        Ok(())
+/// The groups of these patterns.
+fn group_info(alloc: Global, patterns: &[&[Option<&str>]]) -> Result<GroupInfo, AllocError>
+    requires { slot_count (groups_in patterns.now) ≤ 2147483646 }
+    ensures { IfOk result (λ groups. groups ≡ groups_in patterns.now) }
+{
+    let mut names = Vec::with_capacity(alloc, patterns.len())?;
+    for pattern in patterns {
+        names.push(owned_names(alloc, pattern)?)?;
     }
+    Ok(GroupInfo::new(names).unwrap())
+}
 
-    /// The next pattern is that word, whose states are pushed in a chain.
-    pub fn word(mut self, word: &str) -> Result<Draft, BuildError> {
-        let start = self.states.len();
-        let pattern = self.starts.len();
-        self.push(Row::Capture(2 * pattern, self.after_next()))?;
-        for &byte in word.as_bytes() {
-            self.push(Row::Byte(byte, self.after_next()))?;
-        }
-        self.push(Row::Capture(2 * pattern + 1, self.after_next()))?;
-        self.push(Row::Match(pattern))?;
-        self.pattern(start, &[])
-    }
+/// An NFA as a table has it.
+#[derive(Clone, Copy, Debug)]
+pub struct Draft<'a> {
+    /// The states, in the order of their numbers. The first one is where a search starts.
+    pub rows: &'a [Row<'a>],
+    /// Where each pattern begins.
+    pub starts: &'a [usize],
+    /// The explicit groups of each pattern, each with its name if it has one; or those of no pattern.
+    pub groups: &'a [&'a [Option<&'a str>]],
+    /// Whether the NFA may match without a byte.
+    pub has_empty: bool,
+    /// Whether it is in UTF-8 mode.
+    pub utf8: bool,
+}
 
-    /// The number of the state after the one that is pushed next.
-    fn after_next(&self) -> usize {
-        self.states.len() + 1
-    }
-
-    /// The next pattern begins at the state `start` and has these explicit groups, each with its
-    /// name if it has one.
-    pub fn pattern(self, start: usize, groups: &[Option<&str>]) -> Result<Draft, BuildError> {
-        let mut draft = self.bare_pattern(start)?;
-        let mut names = Vec::with_capacity(draft.alloc, groups.len())?;
-        for group in groups {
-            names.push(match group {
-                Some(name) => Some(String::from_str(draft.alloc, name)?),
-                None => None,
-            })?;
-        }
-        draft.groups.push(names)?;
-        Ok(draft)
-    }
-
-    /// The next pattern begins at the state `start`. For an NFA with no groups at all.
-    pub fn bare_pattern(mut self, start: usize) -> Result<Draft, BuildError> {
-        let holder = Holder::Pattern(self.starts.len());
-        self.starts.push(numbered(start, holder)?)?;
-        Ok(self)
-    }
-
-    /// The NFA may match without a byte.
-    pub fn with_empty(mut self) -> Draft {
-        self.has_empty = true;
-        self
-    }
-
-    /// The NFA is not in UTF-8 mode.
-    pub fn without_utf8(mut self) -> Draft {
-        self.utf8 = false;
-        self
+impl Draft<'_> {
+    /// The NFA whose matches start where the search does.
+    pub fn anchored(&self, alloc: Global) -> Result<NFA, BuildError>
+        requires { IsTrue (is_sound 0 self.now) }
+        ensures made { IfOk result (λ made. made ≡ anchored_nfa self.now) }
+        ensures memory { IsOkUnless result BuildError.Memory }
+    {
+        self.build(states(alloc, self.rows)?, 0)
     }
 
     /// The NFA whose matches may start anywhere: a prefix of two more states skips bytes until one
     /// starts.
-    pub fn with_prefix(mut self) -> Result<NFA, BuildError> {
-        let prefix = self.states.len();
-        let skip = self.after_next();
-        self.push(Row::Either(0, skip))?;
-        self.push(Row::Range(0x00, 0xFF, prefix))?;
-        self.build(prefix)
+    pub fn with_prefix(&self, alloc: Global) -> Result<NFA, BuildError>
+        requires { IsTrue (is_sound 2 self.now) }
+        ensures made { IfOk result (λ made. made ≡ prefixed_nfa self.now) }
+        ensures memory { IsOkUnless result BuildError.Memory }
+    {
+        let mut states = states(alloc, self.rows)?;
+        let prefix = states.len();
+        states.push(Row::Either(0, prefix + 1).state(alloc)?)?;
+        states.push(Row::Range(0x00, 0xFF, prefix).state(alloc)?)?;
+        self.build(states, prefix)
     }
 
-    /// The NFA whose matches start where the search does.
-    pub fn anchored(self) -> Result<NFA, BuildError> {
-        self.build(0)
-    }
-
-    fn build(self, unanchored: usize) -> Result<NFA, BuildError> {
-        let patterns = self.starts.len();
-        let too_many = BuildError::Groups {
-            groups: self.groups.len(),
-            patterns,
-        };
+    /// The NFA of these states.
+    fn build(&self, states: Vec<State>, unanchored: usize) -> Result<NFA, BuildError>
+        requires start { unanchored ≤ 2147483646 }
+        requires starts { All (λ start. start ≤ 2147483646) self.now.starts.now }
+        requires slots { slot_count (groups_in self.now.groups.now) ≤ 2147483646 }
+        requires sound { IsAutomaton (automaton_in (map node_of states.items) unanchored self.now) }
+        ensures made { IfOk result (λ made. made ≡ automaton_in (map node_of states.items) unanchored self.now) }
+        ensures memory { IsOkUnless result BuildError.Memory }
+    {
+        let alloc = *states.allocator();
         NFA::from_states(
-            self.states,
-            numbered(0, Holder::Anchored)?,
-            numbered(unanchored, Holder::Unanchored)?,
-            self.starts,
-            GroupInfo::new(self.groups).ok_or(too_many)?,
+            states,
+            state_id(0),
+            state_id(unanchored),
+            state_ids(alloc, self.starts)?,
+            group_info(alloc, self.groups)?,
             self.has_empty,
             self.utf8,
         )

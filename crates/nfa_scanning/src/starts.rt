@@ -26,7 +26,8 @@ pub fn start_state(nfa: &NFA, input: &Input<'_>) -> Option<StateID>
 pub fn start_limit(nfa: &NFA, input: &Input<'_>) -> usize
     requires { (search_of input.now).start ≤ (search_of input.now).end }
     ensures starts { (sid : ℕ) → start_state nfa.now (search_of input.now).anchored ≡ Some sid
-        → starts nfa.now (search_of input.now) ≡ pairs_from sid (search_of input.now).start (result - (search_of input.now).start) }
+        → starts nfa.now (search_of input.now)
+        ≡ pairs_from sid (search_of input.now).start (result - (search_of input.now).start) }
     ensures count { result ≡ (search_of input.now).start + start_count nfa.now (search_of input.now) }
     ensures low { (search_of input.now).start ≤ result }
     ensures high { result ≤ (search_of input.now).end + 1 }

@@ -138,7 +138,8 @@ module _ {A X F : Type 0} (view : A → X) (span : X → Span)
       (λ found. AreAllFound span (May s) view (steps_walk s) (map (λ m. Ok m) found)) s
       (λ xs t ran. sure-first s going xs t ran) (λ xs t u ran st. sure-all s going xs t u ran st)
 
-  sure-spans : (ms : List A) → map span (matches_in (map (item_by view) (map (λ m. Ok m) ms))) ≡ map (λ m. span (view m)) ms
+  sure-spans : (ms : List A)
+      → map span (matches_in (map (item_by view) (map (λ m. Ok m) ms))) ≡ map (λ m. span (view m)) ms
   sure-spans [] = refl
   sure-spans (m ∷ ms) = ap (λ (l : List Span). span (view m) ∷ l) (sure-spans ms)
 

@@ -107,7 +107,8 @@ module _ {F : Type 0} (g : Mut F (Bor Input × (MutBor Captured × Unit {0}))
   module _ (c : Catching F) (w : Walk) where
     -- each run of calls gives the first captures from w on, as c tells them, and all of them where it goes on to `None`
     abbrev pub CaughtRun : Steps (Catching F) → Type 0
-    CaughtRun s = RunsGive caught_steps (AreFirstCaught (MayAnswerRow c w.at) w) (AreAllCaught (MayAnswerRow c w.at) w) s
+    CaughtRun s = RunsGive caught_steps (AreFirstCaught (MayAnswerRow c w.at) w)
+        (AreAllCaught (MayAnswerRow c w.at) w) s
 
     -- the items so far are the first captures
     abbrev pub CaughtFirst : Steps (Catching F) → Type 0
@@ -119,7 +120,8 @@ module _ {F : Type 0} (g : Mut F (Bor Input × (MutBor Captured × Unit {0}))
 
     -- and at `None` all
     abbrev pub CaughtAll : Steps (Catching F) → Type 0
-    CaughtAll s = GivesAll caught_steps (AreFirstCaught (MayAnswerRow c w.at) w) (AreAllCaught (MayAnswerRow c w.at) w) s
+    CaughtAll s = GivesAll caught_steps (AreFirstCaught (MayAnswerRow c w.at) w)
+        (AreAllCaught (MayAnswerRow c w.at) w) s
 
     -- the same of the iterator whose finder never errs
     abbrev pub SureCaughtRun : Steps (Catching F) → Type 0

@@ -74,3 +74,6 @@ places_from_rise n (false ∷ bs) = places_from_rise (n + 1) bs
 
 pub patterns_of_rise : (which : List Bool) → IsStrictlyIncreasing (patterns_of which)
 patterns_of_rise which = places_from_rise 0 which
+
+-- what the patterns of a set are: rising, and just those that it holds
+pub ruleset patterns_in_set = (patterns_of_rise, patterns_of_contain)

@@ -31,7 +31,11 @@ impl Model for Captures {
 
     ghost Value = { Captured };
 
-    ghost view = { λ c. record { groups = c.group_info; pattern = option_map number_of c.pattern; slots = c.slots.items } };
+    ghost view = { λ c. record {
+      groups = c.group_info;
+      pattern = option_map number_of c.pattern;
+      slots = c.slots.items;
+    } };
 }
 
 impl Captures {

@@ -126,7 +126,7 @@ fn is_named(group: &Option<String>, name: &str) -> bool
 }
 
 /// Where the slots of the pattern's explicit groups begin.
-#[tactic(auto, using(crate::proofs::GroupLemmas::group_len, crate::proofs::GroupLemmas::group_room, crate::proofs::GroupLemmas::sum_more))]
+#[tactic(auto, using(crate::proofs::GroupLemmas::slots_before))]
 fn explicit_start(names: &[Vec<Option<String>>], index: usize) -> usize
     requires inside { index < length names.now }
     requires small { slot_count (names_of names.now) ≤ 2147483646 }

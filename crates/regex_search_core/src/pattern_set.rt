@@ -98,7 +98,7 @@ impl PatternSet {
     }
 
     /// The patterns in the set, from the least number on.
-    #[tactic(auto, using(crate::proofs::PatternSetLemmas::patterns_of_rise, crate::proofs::PatternSetLemmas::patterns_of_contain))]
+    #[tactic(auto, using(crate::proofs::PatternSetLemmas::patterns_in_set))]
     pub fn iter(&self) -> PatternSetIter<'_>
         ensures all { patterns_left result ≡ patterns_of self.now }
         ensures ascending { IsStrictlyIncreasing (patterns_of self.now) }

@@ -65,3 +65,9 @@ char_of_ascii (b ∷ []) e h =
     ascii zero = h
     ascii (suc i) = omega arith
 char_of_ascii (b ∷ c ∷ bs) e h = absurd (omega arith)
+
+-- the character whose UTF-8 some bytes are
+pub ruleset chars_of = (char_of_ascii, char_of_text, char_of_ill_formed)
+
+-- the character of a text of one character
+pub ruleset only_chars = (only_none, only_one, only_more)

@@ -93,7 +93,7 @@ fn char_of_len_after(haystack: &[u8], at: usize, len: usize) -> Option<char>
 }
 
 /// The character whose UTF-8 these bytes are.
-#[tactic(auto, using(crate::proofs::CharacterLemmas::char_of_ascii, crate::proofs::CharacterLemmas::char_of_text, crate::proofs::CharacterLemmas::char_of_ill_formed))]
+#[tactic(auto, using(crate::proofs::CharacterLemmas::chars_of))]
 fn char_of(bytes: &[u8]) -> Option<char>
     ensures { result ≡ char_of bytes.now }
 {
@@ -108,7 +108,7 @@ fn char_of(bytes: &[u8]) -> Option<char>
 }
 
 /// The character of a text of one character.
-#[tactic(auto, using(crate::proofs::CharacterLemmas::only_none, crate::proofs::CharacterLemmas::only_one, crate::proofs::CharacterLemmas::only_more))]
+#[tactic(auto, using(crate::proofs::CharacterLemmas::only_chars))]
 fn only_char(text: &str) -> Option<char>
     ensures { result ≡ only (chars text.now) }
 {

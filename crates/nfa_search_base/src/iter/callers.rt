@@ -143,7 +143,8 @@ where
 
 // The greedy list of that finder, by a loop.
 fn looped(alloc: Global, haystack: &[u8]) -> Result<Vec<Result<Match, SearchError>>, AllocError>
-    ensures { IfOk result (λ v. map (item_by found_of) v.items ≡ greedy span_of empty_answer (fresh (whole haystack.now))) }
+    ensures { IfOk result
+        (λ v. map (item_by found_of) v.items ≡ greedy span_of empty_answer (fresh (whole haystack.now))) }
 {
     let mut found = Vec::new(alloc);
     let input = Input::new(haystack);

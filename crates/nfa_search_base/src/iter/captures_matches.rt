@@ -46,15 +46,18 @@ impl<'h> Searcher<'h> {
     pub fn into_captures_iter<F>(self, captures: Captures, finder: F) -> TryCapturesIter<'h, F>
     where
         F: FnMut(&Input<'_>, &mut Captures) -> Result<(), SearchError>,
-        requires { CatchesAlong F.FnMut (IsInside row_span) (record { finder = finder; captures = captures }) (walk_of self).at }
+        requires { CatchesAlong F.FnMut (IsInside row_span) (record { finder = finder; captures = captures })
+            (walk_of self).at }
         ensures can { can_step (CanCatch F.FnMut) (Catches F.FnMut) row_span result }
         ensures walk { steps_walk result ≡ walk_of self.entry }
         ensures finder { result.asker ≡ record { finder = finder; captures = captures } }
         ensures going { result.done ≡ false }
         // Each run of calls gives the first captures, and all of them where it goes on to `None`.
         ensures runs { CaughtRun F.FnMut (record { finder = finder; captures = captures }) (walk_of self.entry) result }
-        ensures first { CaughtFirst F.FnMut (record { finder = finder; captures = captures }) (walk_of self.entry) result }
-        ensures next { CaughtNext F.FnMut (record { finder = finder; captures = captures }) (walk_of self.entry) result }
+        ensures first { CaughtFirst F.FnMut (record { finder = finder; captures = captures }) (walk_of self.entry)
+            result }
+        ensures next { CaughtNext F.FnMut (record { finder = finder; captures = captures }) (walk_of self.entry)
+            result }
         ensures all { CaughtAll F.FnMut (record { finder = finder; captures = captures }) (walk_of self.entry) result }
         // Their matches lie in the span, in order and apart.
         ensures apart { CaughtApart F.FnMut (walk_of self.entry) result }

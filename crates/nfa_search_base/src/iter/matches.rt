@@ -116,7 +116,8 @@ impl<'h, F> TryMatchesIter<'h, F> {
         ensures apart { self.entry.done ≡ false
             → SureFoundApart found_of span_of F.FnMut (steps_walk self.entry) result }
         // Where the finder computes h, the matches are those of the greedy list of h.
-        ensures list { (h : Search → Answer Found) → Computes found_of F.FnMut h self.entry.asker (steps_walk self.entry).at
+        ensures list { (h : Search → Answer Found)
+            → Computes found_of F.FnMut h self.entry.asker (steps_walk self.entry).at
             → YieldsList (takes_sure_steps span_of (Finds found_of F.FnMut) (λ _. GivesItem found_of)) found_of
             result (matches_in (greedy_unless span_of self.entry.done h (steps_walk self.entry))) }
     {

@@ -258,7 +258,8 @@ impl<'h> Searcher<'h> {
     // The same step, where each search is lent a cache.
     #[inline]
     pub(crate) fn step_with<A: Searches>(&mut self, asker: &mut A, cache: &mut A::Cache) -> A::Reply
-        requires { ServesTurn A.accepts A.asks A.span (IsInside A.span) (record { asker = asker.old; cache = cache.old })
+        requires { ServesTurn A.accepts A.asks A.span (IsInside A.span)
+            (record { asker = asker.old; cache = cache.old })
             (walk_of self.old) }
         ensures { StepDone A.accepts A.asks A.span (record { asker = asker.old; cache = cache.old }) (walk_of self.old)
             (A.shows asker.new result) (record { asker = asker.new; cache = cache.new }) (walk_of self.new) }

@@ -43,7 +43,8 @@ pub trait Searches: Drop {
     /// Searches the input.
     fn answer(&mut self, cache: &mut Self::Cache, input: &Input<'_>) -> Self::Reply
         requires { accepts (record { asker = self.old; cache = cache.old }) (search_of input.now) }
-        ensures { asks (record { asker = self.old; cache = cache.old }) (search_of input.now) (shows self.new result) (record { asker = self.new; cache = cache.new }) };
+        ensures { asks (record { asker = self.old; cache = cache.old }) (search_of input.now) (shows self.new result)
+            (record { asker = self.new; cache = cache.new }) };
 
     /// Where the match of the answer lies.
     fn place(&self, reply: Self::Reply) -> Option<Span>

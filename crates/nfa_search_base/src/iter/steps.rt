@@ -30,7 +30,8 @@ impl<'h, A: Searches> Steps<'h, A> {
     #[inline]
     pub fn next_with(&mut self, cache: &mut A::Cache) -> Option<Result<A::Item, SearchError>>
         requires { can_step A.accepts A.asks A.span (lend self.old cache.old) }
-        ensures { takes_steps A.span A.asks (λ q. A.gives q.asker) (lend self.old cache.old) result (lend self.new cache.new) }
+        ensures { takes_steps A.span A.asks (λ q. A.gives q.asker) (lend self.old cache.old) result
+            (lend self.new cache.new) }
     {
         if self.done {
             return None;

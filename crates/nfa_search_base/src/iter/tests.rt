@@ -210,7 +210,8 @@ fn offers_and_texts(rt: HostRuntime) -> Result<(), Fail> {
     assert_eq!(rt; searcher.offer(None), Offered::Done(None));
     let copy = searcher.clone()?;
     let text =
-        "Searcher { input: Input { haystack: [97], span: Span { start: 1, end: 1 }, anchored: No, earliest: false }, last_match_end: Some(0) }";
+        "Searcher { input: Input { haystack: [97], span: Span { start: 1, end: 1 }, anchored: No, \
+        earliest: false }, last_match_end: Some(0) }";
     assert_eq!(rt; format!(in rt.alloc(); "{copy:?}")?.as_str(), text);
     assert_eq!(rt;
         format!(in rt.alloc(); "{:?}", Offered::Again)?.as_str(),

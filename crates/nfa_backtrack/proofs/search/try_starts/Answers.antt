@@ -5,8 +5,8 @@ use Rattle.regex_search_core.specs.Search.{search_of}
 use Rattle.nfa_paths.specs.Paths.{pairs_from}
 use Rattle.nfa_paths.specs.Exploring.Item.{Explore}
 use Rattle.nfa_paths.proofs.AnswerLemmas.{pairs_from-step, pairs_from-end}
-use Rattle.nfa_backtrack.proofs.PassLemmas.{Follows-first, Follows-pass}
-use Rattle.nfa_backtrack.proofs.WalkLemmas.{Follows-then, Follows-ends, Ends-none, EndsAt-along}
+use Rattle.nfa_backtrack.proofs.PassLemmas.{Carries-first, Carries-pass}
+use Rattle.nfa_backtrack.proofs.WalkLemmas.{Carries-then, Carries-ends, Ends-none, EndsAt-along}
 use Rattle.nfa_backtrack.proofs.ScanLemmas.{starts-none, starts-some, turns-all, turns-bound}
 use Rattle.nfa_backtrack.proofs.search.try_starts.Goals as goal
 
@@ -43,7 +43,7 @@ loop-at-init c =
     let low : (search_of c.args.input.now).start
     ≤ c.next_start-at.result = omega (arith, c.next_start-at.ensures.low) in
     record {
-      follows = Follows-first c.args.nfa.now (search_of c.args.input.now) c.args.first.now.may_begin c.requires.first
+      follows = Carries-first c.args.nfa.now (search_of c.args.input.now) c.args.first.now.may_begin c.requires.first
           c.args.scratch.now.visited c.args.slots.now
           c.in-Some.sid c.skip_limit-stop.result c.next_start-at.result c.start_limit-limit.result low
           (λ past. c.next_start-at.ensures.stays (omega arith) ∙ start) c.skip_limit-stop.ensures.anchored known
@@ -64,11 +64,11 @@ loop-at-preserved c =
     let fails = rw (c.in_default-2.is, c.place_of-place.ensures.pair) at c.in_ok-half.ensures.walks in
     let rest = map Explore (pairs_from c.in-Some.sid (c.loop-at.at + 1)
     (c.start_limit-limit.result - (c.loop-at.at + 1))) in
-    let walked = Follows-then c.args.nfa.now (search_of c.args.input.now) follows (fails.follows rest) in
+    let walked = Carries-then c.args.nfa.now (search_of c.args.input.now) follows (fails.follows rest) in
     let next = c.next_start-at-in-loop-at.ensures in
     record {
-      follows = Follows-then c.args.nfa.now (search_of c.args.input.now) walked
-          (Follows-pass c.args.nfa.now (search_of c.args.input.now) c.args.first.now.may_begin c.requires.first
+      follows = Carries-then c.args.nfa.now (search_of c.args.input.now) walked
+          (Carries-pass c.args.nfa.now (search_of c.args.input.now) c.args.first.now.may_begin c.requires.first
           c.walk.new.scratch.visited c.walk.new.slots
           c.in-Some.sid (c.loop-at.at + 1) c.skip_limit-stop.result c.next_start-at-in-loop-at.result
           c.start_limit-limit.result
@@ -93,5 +93,5 @@ returns-clause-answer c =
     let follows = rw (pairs_from-end c.in-Some.sid over) at c.loop-at.invariant.follows in
     starts-none c.args.nfa.now (search_of c.args.input.now) c.args.scratch.now.visited c.requires.clear c.args.slots.now
     c.loop-at.scratch.visited.turns
-    (Follows-ends c.args.nfa.now (search_of c.args.input.now) follows
+    (Carries-ends c.args.nfa.now (search_of c.args.input.now) follows
     (Ends-none c.args.nfa.now (search_of c.args.input.now) c.loop-at.scratch.visited c.loop-at.slots))

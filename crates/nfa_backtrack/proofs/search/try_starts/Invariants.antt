@@ -4,12 +4,12 @@ use Rattle.regex_search_core.specs.Search.{search_of}
 use Rattle.nfa_paths.specs.Paths.{starts, pairs_from}
 use Rattle.nfa_paths.specs.Exploring.Item.{Explore}
 use Rattle.nfa_paths.specs.Turns.{marked_sum}
-use Rattle.nfa_backtrack.specs.Walk.{Follows, weights}
+use Rattle.nfa_backtrack.specs.Walk.{Carries, weights}
 use Rattle.nfa_backtrack.proofs.search.try_starts.Given as goal
 
 abbrev pub invariant-loop-at : goal.invariant-loop-at
 invariant-loop-at l = record {
-  follows : Follows l.nfa (search_of l.input) l.fn.scratch.visited (map Explore (starts l.nfa (search_of l.input)))
+  follows : Carries l.nfa (search_of l.input) l.fn.scratch.visited (map Explore (starts l.nfa (search_of l.input)))
       l.fn.slots
       l.scratch.visited (map Explore (pairs_from l.sid l.at (l.limit - l.at))) l.slots;
   low : (search_of l.input).start ≤ l.at;

@@ -3,7 +3,7 @@ use Rattle.std.proofs.Common.{◌∙◌, ap, arith, refl, sym}
 use Rattle.std.specs.Prelude.{Some}
 use Rattle.regex_search_core.specs.Found.{HalfFound}
 use Rattle.regex_search_core.specs.Search.{search_of}
-use Rattle.nfa_backtrack.proofs.WalkLemmas.{Follows-then}
+use Rattle.nfa_backtrack.proofs.WalkLemmas.{Carries-then}
 use Rattle.nfa_backtrack.proofs.walk.advance.Goals as goal
 
 pub returns-in-Matched-clause-advances : goal.returns-in-Matched-clause-advances
@@ -25,7 +25,7 @@ returns-in-Some-clause-advances c =
     let within = rw c.step.auto.slots at (c.in-Some.ensures.within c.args.nfa.now (search_of c.args.input.now)) in
     let goes = rw c.in-Stuck.is at c.in_ok-next.ensures.goes in (
       (within paid.within).1,
-      λ work. Follows-then c.args.nfa.now (search_of c.args.input.now) (goes work)
+      λ work. Carries-then c.args.nfa.now (search_of c.args.input.now) (goes work)
           (c.in-Some.ensures.follows c.args.nfa.now (search_of c.args.input.now) c.step.new.scratch.visited work),
     )
 
@@ -34,7 +34,7 @@ returns-in-None-clause-advances c =
     let goes = rw c.in-Stuck.is at c.in_ok-next.ensures.goes in
     let over = c.in-None.ensures.over refl in (
       over,
-      λ work. Follows-then c.args.nfa.now (search_of c.args.input.now) (goes work)
+      λ work. Carries-then c.args.nfa.now (search_of c.args.input.now) (goes work)
           (rw over at (c.in-None.ensures.follows c.args.nfa.now (search_of c.args.input.now) c.step.new.scratch.visited
           work)),
     )

@@ -1,7 +1,7 @@
 -- The first turn of a walk: it goes on from the place that it leads to, or fails where the place was marked.
 use Rattle.std.proofs.Common.{arith, refl}
 use Rattle.regex_search_core.specs.Search.{search_of}
-use Rattle.nfa_backtrack.proofs.WalkLemmas.{Follows-marked}
+use Rattle.nfa_backtrack.proofs.WalkLemmas.{Carries-marked}
 use Rattle.nfa_backtrack.proofs.BeginLemmas.{BeginsAt-write}
 use Rattle.nfa_backtrack.proofs.walk.begin.Goals as goal
 
@@ -11,7 +11,7 @@ returns-then-not-mark-clause-begins c =
     record {
       empty = refl;
       follows = λ work.
-          Follows-marked c.args.nfa.now (search_of c.args.input.now) c.args.visited.now c.args.place.sid
+          Carries-marked c.args.nfa.now (search_of c.args.input.now) c.args.visited.now c.args.place.sid
           c.args.place.at work
           c.args.slots.now c.mark.new.visited met.counted met.marked_before.state met.marked_before.from
           met.marked_before.set met.same;

@@ -1,11 +1,11 @@
 -- A frame that is taken up does not change the answer.
 use Rattle.std.proofs.Common.{append-nil, arith, ◌∙◌}
-use Rattle.nfa_backtrack.proofs.UnwindLemmas.{Follows-unwound, within-unwound, tries-unwound, slots-unwound}
+use Rattle.nfa_backtrack.proofs.UnwindLemmas.{Carries-unwound, within-unwound, tries-unwound, slots-unwound}
 use Rattle.nfa_backtrack.proofs.walk.resume.Goals as goal
 
 pub returns-in-Some-unwind-clause-follows : goal.returns-in-Some-unwind-clause-follows
 returns-in-Some-unwind-clause-follows c = λ nfa x marks work.
-    Follows-unwound nfa x marks work c.args.stack.now.items _ _ c.in-Some.frame _ _ _ _ c.in-Some.ensures.items
+    Carries-unwound nfa x marks work c.args.stack.now.items _ _ c.in-Some.frame _ _ _ _ c.in-Some.ensures.items
     c.in-Some-unwind.ensures (c.loop-frame.invariant.follows nfa x marks work)
 
 pub returns-in-Some-unwind-clause-within : goal.returns-in-Some-unwind-clause-within
@@ -18,7 +18,7 @@ loop-frame-preserved c = record {
   slots = slots-unwound _ _ c.in-Some.frame _ _ _ c.in-Some.ensures.items c.in_default-unwind.ensures
       c.loop-frame.invariant.slots;
   follows = λ nfa x marks work.
-      Follows-unwound nfa x marks work c.args.stack.now.items _ _ c.in-Some.frame _ _ _ _ c.in-Some.ensures.items
+      Carries-unwound nfa x marks work c.args.stack.now.items _ _ c.in-Some.frame _ _ _ _ c.in-Some.ensures.items
       c.in_default-unwind.ensures (c.loop-frame.invariant.follows nfa x marks work);
   within = λ nfa x fits. (within-unwound nfa x _ _ _ c.in-Some.frame _ _ _ c.in-Some.ensures.items
       c.in_default-unwind.ensures (c.loop-frame.invariant.within nfa x fits)).0;

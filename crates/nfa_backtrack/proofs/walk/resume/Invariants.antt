@@ -6,17 +6,17 @@ use Rattle.regex_search_core.specs.Search.{Search}
 use Rattle.thompson_nfa.specs.Automaton.{Automaton}
 use Rattle.nfa_paths.specs.Exploring.{Item}
 use Rattle.nfa_backtrack.specs.Bits.{Marks}
-use Rattle.nfa_backtrack.specs.Walk.{HasSlot, IsWithin, Follows, work_onto, tries}
+use Rattle.nfa_backtrack.specs.Walk.{WritesSlot, IsFrame, Carries, stacked, frame_tries}
 use Rattle.nfa_backtrack.proofs.walk.resume.Given as goal
 
 abbrev pub invariant-loop-frame : goal.invariant-loop-frame
 invariant-loop-frame l = record {
-  slots : All (HasSlot (length l.slots)) l.stack.items;
+  slots : All (WritesSlot (length l.slots)) l.stack.items;
   follows : (nfa : Automaton) (x : Search) (marks : Marks) (work : List Item)
-      → Follows nfa x marks (work_onto l.fn.stack.items work) l.fn.slots marks (work_onto l.stack.items work) l.slots;
-  within : (nfa : Automaton) (x : Search) → All (IsWithin nfa x (length l.fn.slots)) l.fn.stack.items
-      → All (IsWithin nfa x (length l.fn.slots)) l.stack.items;
-  tried : sum_by tries l.stack.items ≡ sum_by tries l.fn.stack.items;
+      → Carries nfa x marks (stacked l.fn.stack.items work) l.fn.slots marks (stacked l.stack.items work) l.slots;
+  within : (nfa : Automaton) (x : Search) → All (IsFrame nfa x (length l.fn.slots)) l.fn.stack.items
+      → All (IsFrame nfa x (length l.fn.slots)) l.stack.items;
+  tried : sum_by frame_tries l.stack.items ≡ sum_by frame_tries l.fn.stack.items;
 }
 
 abbrev pub decreases-loop-frame : goal.decreases-loop-frame

@@ -3,11 +3,11 @@ use Rattle.std.proofs.Common.{[], ◌<◌, ◌∙◌, length, arith, sym}
 use Rattle.regex_search_core.specs.Search.{search_of}
 use Rattle.nfa_backtrack.specs.declared.frame.Frame.TheVariants.{Step}
 use Rattle.thompson_nfa.specs.Automaton.Node.{ByteRange, Sparse, Dense, Look, Union, BinaryUnion, Capture, Fail}
-use Rattle.nfa_backtrack.proofs.WalkLemmas.{Follows-marked}
-use Rattle.nfa_backtrack.proofs.StepLemmas.{same_size, Fits-row, target-tries, first-drop, Paid-same, Paid-push}
-use Rattle.nfa_backtrack.proofs.StepLemmas.{Paid-put, Goes-range, Goes-sparse, Goes-dense, Goes-look, Goes-no_look}
+use Rattle.nfa_backtrack.proofs.WalkLemmas.{Carries-marked}
+use Rattle.nfa_backtrack.proofs.StepLemmas.{same_size, Fits-row, target-tries, first-drop, PaidFor-same, PaidFor-push}
+use Rattle.nfa_backtrack.proofs.StepLemmas.{PaidFor-put, Goes-range, Goes-sparse, Goes-dense, Goes-look, Goes-no_look}
 use Rattle.nfa_backtrack.proofs.StepLemmas.{Goes-union, Goes-no_union, Goes-both, Goes-fail, Goes-write, Goes-unkept}
-use Rattle.nfa_backtrack.proofs.StepLemmas.{Goes-match, IsWithin-restoring, tries-restoring}
+use Rattle.nfa_backtrack.proofs.StepLemmas.{Goes-match, IsFrame-restoring, tries-restoring}
 use Rattle.nfa_backtrack.proofs.walk.step.Goals as goal
 use Rattle.nfa_backtrack.proofs.walk.step.Goals.{then-slot-slots+in_ok-save-in-Capture, else-slot-slots}
 
@@ -20,7 +20,7 @@ past_byte-requires-clause-row c =
 pub returns-then-not-mark-clause-goes : goal.returns-then-not-mark-clause-goes
 returns-then-not-mark-clause-goes c = λ work.
     let met = c.mark.ensures.seen c.if-not-mark.true in
-    Follows-marked c.args.nfa.now (search_of c.args.input.now) c.args.scratch.now.visited c.args.place.sid
+    Carries-marked c.args.nfa.now (search_of c.args.input.now) c.args.scratch.now.visited c.args.place.sid
     c.args.place.at _ _ c.mark.new.visited met.counted
     met.marked_before.state met.marked_before.from met.marked_before.set met.same
 
@@ -28,7 +28,7 @@ pub returns-in-ByteRange-clause-paid : goal.returns-in-ByteRange-clause-paid
 returns-in-ByteRange-clause-paid c =
     let t = c.mark.ensures.taken c.if-not-mark.false in
     let is = rw c.in-ByteRange.is at c.state_at.ensures.node in
-    Paid-same t (ByteRange c.in-ByteRange.trans) is _ _ _ c.requires.within
+    PaidFor-same t (ByteRange c.in-ByteRange.trans) is _ _ _ c.requires.within
     (rw (c.past_byte.ensures, c.range_target-target.ensures)
     (target-tries (ByteRange c.in-ByteRange.trans) c.args.place _ c.byte_at.result))
 
@@ -47,7 +47,7 @@ returns-in-Sparse-clause-paid c =
     let t = c.mark.ensures.taken c.if-not-mark.false in
     let is = rw c.in-Sparse.is at c.state_at.ensures.node in
     let list = c.deref.ensures.value in
-    Paid-same t (Sparse c.in-Sparse.transitions.items) is _ _ _ c.requires.within
+    PaidFor-same t (Sparse c.in-Sparse.transitions.items) is _ _ _ c.requires.within
     (rw (c.past_byte-in-Sparse.ensures, (rw list at c.sparse_target-target.ensures))
     (target-tries (Sparse c.in-Sparse.transitions.items) c.args.place _ c.byte_at-in-Sparse.result))
 
@@ -67,7 +67,7 @@ returns-in-Dense-clause-paid c =
     let t = c.mark.ensures.taken c.if-not-mark.false in
     let is = rw c.in-Dense.is at c.state_at.ensures.node in
     let list = c.deref-in-Dense.ensures.value in
-    Paid-same t (Dense c.in-Dense.targets.items) is _ _ _ c.requires.within
+    PaidFor-same t (Dense c.in-Dense.targets.items) is _ _ _ c.requires.within
     (rw (c.past_byte-in-Dense.ensures, (rw list at c.dense_target-target.ensures))
     (target-tries (Dense c.in-Dense.targets.items) c.args.place _ c.byte_at-in-Dense.result))
 
@@ -86,7 +86,7 @@ pub returns-then-assertion_holds-clause-paid : goal.returns-then-assertion_holds
 returns-then-assertion_holds-clause-paid c =
     let t = c.mark.ensures.taken c.if-not-mark.false in
     let is = rw c.in-Look.is at c.state_at.ensures.node in
-    Paid-same t (Look c.in-Look.look c.in-Look.next) is _ _ _ c.requires.within (omega arith)
+    PaidFor-same t (Look c.in-Look.look c.in-Look.next) is _ _ _ c.requires.within (omega arith)
 
 pub returns-then-assertion_holds-clause-goes : goal.returns-then-assertion_holds-clause-goes
 returns-then-assertion_holds-clause-goes c =
@@ -108,7 +108,7 @@ pub returns-else-assertion_holds-clause-paid : goal.returns-else-assertion_holds
 returns-else-assertion_holds-clause-paid c =
     let t = c.mark.ensures.taken c.if-not-mark.false in
     let is = rw c.in-Look.is at c.state_at.ensures.node in
-    Paid-same t (Look c.in-Look.look c.in-Look.next) is _ _ _ c.requires.within (omega arith)
+    PaidFor-same t (Look c.in-Look.look c.in-Look.next) is _ _ _ c.requires.within (omega arith)
 
 pub returns-else-assertion_holds-clause-goes : goal.returns-else-assertion_holds-clause-goes
 returns-else-assertion_holds-clause-goes c =
@@ -121,7 +121,7 @@ pub returns-in_default-clause-paid : goal.returns-in_default-clause-paid
 returns-in_default-clause-paid c =
     let t = c.mark.ensures.taken c.if-not-mark.false in
     let is = rw c.in-Union.is at c.state_at.ensures.node in
-    Paid-same t (Union c.in-Union.alternates.items) is _ _ _ c.requires.within (omega arith)
+    PaidFor-same t (Union c.in-Union.alternates.items) is _ _ _ c.requires.within (omega arith)
 
 pub returns-in_default-clause-goes : goal.returns-in_default-clause-goes
 returns-in_default-clause-goes c =
@@ -137,7 +137,7 @@ returns-in_ok-put_off-in-Union-clause-paid c =
     let below = rw c.in-Union.is at c.state_at.ensures.leads in
     let first = sym (rw c.deref-in-Union.ensures.value at c.in-Some.ensures.value) in
     rw (c.in_ok-put_off-in-Union.ensures, c.deref-in-Union-2.ensures.value)
-    (Paid-put t c.in-Union.alternates.items is _ _ _ first _ c.requires.place.row c.requires.within below)
+    (PaidFor-put t c.in-Union.alternates.items is _ _ _ first _ c.requires.place.row c.requires.within below)
 
 pub returns-in_ok-put_off-in-Union-clause-goes : goal.returns-in_ok-put_off-in-Union-clause-goes
 returns-in_ok-put_off-in-Union-clause-goes c =
@@ -159,7 +159,7 @@ returns-in_ok-push-in-BinaryUnion-clause-paid c =
     let is = rw c.in-BinaryUnion.is at c.state_at.ensures.node in
     let below = rw c.in-BinaryUnion.is at c.state_at.ensures.leads in
     rw (c.in_ok-push-in-BinaryUnion.ensures.items, c.later.ensures)
-    (Paid-push t (BinaryUnion c.in-BinaryUnion.alt1 c.in-BinaryUnion.alt2) is _ _
+    (PaidFor-push t (BinaryUnion c.in-BinaryUnion.alt1 c.in-BinaryUnion.alt2) is _ _
     (Step c.in-BinaryUnion.alt2 c.args.place.at c.args.place.row) _ c.requires.within
     (record { state = below.1; from = c.requires.place.from; to = c.requires.place.to; row = c.requires.place.row })
     (omega arith))
@@ -183,11 +183,11 @@ returns-after-slot-slots-clause-paid c =
     elim c.if-slot-slots.branch [
       | then-slot-slots+in_ok-save-in-Capture w ↦
           rw (w.scratch-is, w.in_ok-save-in-Capture.ensures.stack)
-          (Paid-push t (Capture c.in-Capture.next c.in-Capture.slot) is _ _ _ _ c.requires.within
-          (IsWithin-restoring c.args.nfa.now (search_of c.args.input.now) _ c.in-Capture.slot _ w.if-slot-slots.true)
+          (PaidFor-push t (Capture c.in-Capture.next c.in-Capture.slot) is _ _ _ _ c.requires.within
+          (IsFrame-restoring c.args.nfa.now (search_of c.args.input.now) _ c.in-Capture.slot _ w.if-slot-slots.true)
           (omega (arith, tries-restoring)))
       | else-slot-slots w ↦
-          rw w.scratch-is (Paid-same t (Capture c.in-Capture.next c.in-Capture.slot) is _ _ _ c.requires.within
+          rw w.scratch-is (PaidFor-same t (Capture c.in-Capture.next c.in-Capture.slot) is _ _ _ c.requires.within
           (omega arith))
     ]
 
@@ -219,7 +219,7 @@ pub returns-in-Fail-clause-paid : goal.returns-in-Fail-clause-paid
 returns-in-Fail-clause-paid c =
     let t = c.mark.ensures.taken c.if-not-mark.false in
     let is = rw c.in-Fail.is at c.state_at.ensures.node in
-    Paid-same t Fail is _ _ _ c.requires.within (omega arith)
+    PaidFor-same t Fail is _ _ _ c.requires.within (omega arith)
 
 pub returns-in-Fail-clause-goes : goal.returns-in-Fail-clause-goes
 returns-in-Fail-clause-goes c = λ work.
@@ -231,7 +231,7 @@ pub returns-in-Match-clause-paid : goal.returns-in-Match-clause-paid
 returns-in-Match-clause-paid c =
     let t = c.mark.ensures.taken c.if-not-mark.false in
     let is = rw c.in-Match.is at c.state_at.ensures.node in
-    Paid-same t _ is _ _ _ c.requires.within (omega arith)
+    PaidFor-same t _ is _ _ _ c.requires.within (omega arith)
 
 pub returns-in-Match-clause-goes : goal.returns-in-Match-clause-goes
 returns-in-Match-clause-goes c =

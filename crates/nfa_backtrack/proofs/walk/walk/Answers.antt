@@ -4,8 +4,8 @@ use Rattle.regex_search_core.specs.Search.{search_of}
 use Rattle.nfa_paths.proofs.TurnLemmas.{marked_sum-le}
 use Rattle.nfa_backtrack.specs.Begin.{kept_onto}
 use Rattle.nfa_backtrack.specs.Walk.{weights}
-use Rattle.nfa_backtrack.proofs.BeginLemmas.{Follows-put_back}
-use Rattle.nfa_backtrack.proofs.WalkLemmas.{Follows-then, EndsAt-along}
+use Rattle.nfa_backtrack.proofs.BeginLemmas.{Carries-put_back}
+use Rattle.nfa_backtrack.proofs.WalkLemmas.{Carries-then, EndsAt-along}
 use Rattle.nfa_backtrack.proofs.walk.walk.Goals as goal
 
 pub returns-in-None-clause-bounded : goal.returns-in-None-clause-bounded
@@ -32,10 +32,10 @@ returns-in-None-2-clause-walks c =
     record {
       empty = fails.empty;
       follows = λ work.
-          Follows-then c.args.nfa.now (search_of c.args.input.now)
-          (Follows-then c.args.nfa.now (search_of c.args.input.now) (goes.follows work)
+          Carries-then c.args.nfa.now (search_of c.args.input.now)
+          (Carries-then c.args.nfa.now (search_of c.args.input.now) (goes.follows work)
           (fails.follows (kept_onto c.in-Some.begun.slot work)))
-          (Follows-put_back c.args.nfa.now (search_of c.args.input.now) c.walk_on.new.scratch.visited work
+          (Carries-put_back c.args.nfa.now (search_of c.args.input.now) c.walk_on.new.scratch.visited work
           c.in-Some.begun.slot c.walk_on.new.slots c.put_back.new.slots c.put_back.ensures);
       spent = omega (arith, goes.spent, fails.spent);
     }

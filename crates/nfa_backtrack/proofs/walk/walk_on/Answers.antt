@@ -3,7 +3,7 @@ use Rattle.std.proofs.Common.{◌∙◌, arith}
 use Rattle.regex_search_core.specs.Search.{search_of}
 use Rattle.nfa_paths.proofs.TurnLemmas.{marked_sum-le}
 use Rattle.nfa_backtrack.specs.Walk.{weights}
-use Rattle.nfa_backtrack.proofs.WalkLemmas.{Follows-then, EndsAt-along}
+use Rattle.nfa_backtrack.proofs.WalkLemmas.{Carries-then, EndsAt-along}
 use Rattle.nfa_backtrack.proofs.walk.walk_on.Goals as goal
 
 pub returns-in_err-next-clause-bounded : goal.returns-in_err-next-clause-bounded
@@ -35,7 +35,7 @@ loop-next-preserved c =
       scans = c.advance.ensures.scans ∙ c.loop-next.invariant.scans;
       size = c.advance.ensures.size ∙ c.loop-next.invariant.size;
       within = rw c.loop-next.auto.slots at paid.within;
-      follows = λ work. Follows-then c.args.nfa.now (search_of c.args.input.now) (c.loop-next.invariant.follows work)
+      follows = λ work. Carries-then c.args.nfa.now (search_of c.args.input.now) (c.loop-next.invariant.follows work)
           (advances.1 work);
       tried = omega (arith, c.loop-next.invariant.tried, c.advance.ensures.turns, paid.tried);
     }
@@ -71,7 +71,7 @@ returns-in-Over-clause-walks c =
     let advances = rw c.in-Over.is at c.in_ok-next.ensures.advances in
     record {
       empty = advances.0;
-      follows = λ work. Follows-then c.args.nfa.now (search_of c.args.input.now) (c.loop-next.invariant.follows work)
+      follows = λ work. Carries-then c.args.nfa.now (search_of c.args.input.now) (c.loop-next.invariant.follows work)
           (advances.1 work);
       spent = omega (arith, c.loop-next.invariant.tried, c.advance.ensures.turns, paid.tried);
     }

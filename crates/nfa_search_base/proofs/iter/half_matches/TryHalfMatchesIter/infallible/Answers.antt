@@ -22,7 +22,8 @@ pub returns-clause-all : goal.returns-clause-all
 returns-clause-all g c = λ going. sure-all half_found_of half_span_of g.F.FnMut c.args.self going
 
 pub returns-clause-apart : goal.returns-clause-apart
-returns-clause-apart g c = λ going. sure-apart half_found_of half_span_of g.F.FnMut (λ m. omega arith) c.args.self going c.requires
+returns-clause-apart g c =
+    λ going. sure-apart half_found_of half_span_of g.F.FnMut (λ m. omega arith) c.args.self going c.requires
 
 pub returns-clause-next : goal.returns-clause-next
 returns-clause-next g c = λ going. sure-next half_found_of half_span_of g.F.FnMut c.args.self going

@@ -11,13 +11,15 @@ use Rattle.nfa_search_base.proofs.StepLemmas.{ServesTurn-surely, step-surely}
 use Rattle.nfa_search_base.proofs.iter.searcher.Searcher.advance_by_ref.Goals as goal
 
 pub try_advance_by_ref-requires : goal.try_advance_by_ref-requires
-try_advance_by_ref-requires g c = ServesTurn-surely (IsCallableOn g.F.FnMut) (Finds found_of g.F.FnMut) span_of c.args.finder.now
+try_advance_by_ref-requires g c =
+    ServesTurn-surely (IsCallableOn g.F.FnMut) (Finds found_of g.F.FnMut) span_of c.args.finder.now
     (walk_of c.args.self.now) c.requires
 
 pub unreachable-requires : goal.unreachable-requires
 unreachable-requires g c =
     let no : false ≡ true =
     subst (λ (r : Result (Option Match) SearchError). IsOk (answer_by found_of r)) c.in-Err.is
-    (step-surely (IsCallableOn g.F.FnMut) (Finds found_of g.F.FnMut) span_of c.args.finder.now (walk_of c.args.self.now) _ _
+    (step-surely (IsCallableOn g.F.FnMut) (Finds found_of g.F.FnMut) span_of c.args.finder.now
+    (walk_of c.args.self.now) _ _
     _ c.requires c.try_advance_by_ref.ensures.step) in
     cc

@@ -11,7 +11,8 @@ use Rattle.nfa_search_base.proofs.StepLemmas.{ServesTurn-surely, step-surely}
 use Rattle.nfa_search_base.proofs.iter.searcher.Searcher.advance_half_by_ref.Goals as goal
 
 pub try_advance_half_by_ref-requires : goal.try_advance_half_by_ref-requires
-try_advance_half_by_ref-requires g c = ServesTurn-surely (IsCallableOn g.F.FnMut) (Finds half_found_of g.F.FnMut) half_span_of
+try_advance_half_by_ref-requires g c =
+    ServesTurn-surely (IsCallableOn g.F.FnMut) (Finds half_found_of g.F.FnMut) half_span_of
     c.args.finder.now (walk_of c.args.self.now) c.requires
 
 pub unreachable-requires : goal.unreachable-requires

@@ -12,5 +12,6 @@ step_with-requires g c = serves-lent (IsCallableOn g.F.FnMut) (Finds found_of g.
     (walk_of c.args.self.now) c.requires
 
 pub returns-clause-step : goal.returns-clause-step
-returns-clause-step g c = step-lent (IsCallableOn g.F.FnMut) (Finds found_of g.F.FnMut) span_of _ (walk_of c.args.self.now) _ _ _
+returns-clause-step g c =
+    step-lent (IsCallableOn g.F.FnMut) (Finds found_of g.F.FnMut) span_of _ (walk_of c.args.self.now) _ _ _
     c.step_with.ensures.step

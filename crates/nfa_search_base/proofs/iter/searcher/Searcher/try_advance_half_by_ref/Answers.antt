@@ -8,9 +8,11 @@ use Rattle.nfa_search_base.proofs.StepLemmas.{serves-lent, step-lent}
 use Rattle.nfa_search_base.proofs.iter.searcher.Searcher.try_advance_half_by_ref.Goals as goal
 
 pub step_with-requires : goal.step_with-requires
-step_with-requires g c = serves-lent (IsCallableOn g.F.FnMut) (Finds half_found_of g.F.FnMut) half_span_of (IsInside half_span_of) _
+step_with-requires g c =
+    serves-lent (IsCallableOn g.F.FnMut) (Finds half_found_of g.F.FnMut) half_span_of (IsInside half_span_of) _
     (walk_of c.args.self.now) c.requires
 
 pub returns-clause-step : goal.returns-clause-step
-returns-clause-step g c = step-lent (IsCallableOn g.F.FnMut) (Finds half_found_of g.F.FnMut) half_span_of _ (walk_of c.args.self.now) _ _ _
+returns-clause-step g c =
+    step-lent (IsCallableOn g.F.FnMut) (Finds half_found_of g.F.FnMut) half_span_of _ (walk_of c.args.self.now) _ _ _
     c.step_with.ensures.step
