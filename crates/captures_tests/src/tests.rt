@@ -5,6 +5,7 @@ mod others;
 mod refused;
 mod table;
 mod texts;
+mod used;
 
 use nfa_engines::backtrack::BoundedBacktracker;
 use nfa_engines::pikevm::PikeVM;

@@ -47,7 +47,8 @@ impl BoundedBacktracker {
     ghost use Rattle.nfa_search_base.specs.Catching.{caught_by};
     ghost use Rattle.nfa_search_base.specs.CaughtRuns.{CapturesApart, CapturesFirst, CapturesGroups, CapturesNext};
     ghost use Rattle.nfa_search_base.specs.CaughtRuns.{CapturesRun, CapturesWithin, MatchesInAll, MatchesInFirst};
-    ghost use Rattle.nfa_search_base.specs.CaughtRuns.{MatchesInNext, MatchesInRun, RowsRun};
+    ghost use Rattle.nfa_search_base.specs.CaughtRuns.{MatchesInNext, MatchesInRun, RowsAll, RowsFirst, RowsNext};
+    ghost use Rattle.nfa_search_base.specs.CaughtRuns.{RowsRun};
     ghost use Rattle.nfa_search_base.specs.Walks.{fresh};
     ghost use Rattle.nfa_backtrack.specs.CapturesMatches.{CatchesRefused, backtracker_catches_cache};
     ghost use Rattle.nfa_backtrack.specs.CapturesMatches.{backtracker_catches_done, backtracker_catches_engine};
@@ -85,6 +86,12 @@ impl BoundedBacktracker {
         ensures refused { IfOk result (CatchesRefused self.now (search_of input.entry)) }
         // Where no copy is refused, their rows and their matches are those of the input.
         ensures rows { IfOk result (RowsRun backtracker_catches_next self.now.nfa LeftmostFirst false
+            (search_of input.entry)) }
+        ensures first_rows { IfOk result (RowsFirst backtracker_catches_next self.now.nfa LeftmostFirst false
+            (search_of input.entry)) }
+        ensures next_row { IfOk result (RowsNext backtracker_catches_next self.now.nfa LeftmostFirst false
+            (search_of input.entry)) }
+        ensures all_rows { IfOk result (RowsAll backtracker_catches_next self.now.nfa LeftmostFirst false
             (search_of input.entry)) }
         ensures matches { IfOk result (MatchesInRun backtracker_catches_next self.now.nfa LeftmostFirst false
             (search_of input.entry)) }
@@ -124,6 +131,12 @@ impl BoundedBacktracker {
         ensures refused { CatchesRefused self.now (search_of input.entry) result }
         // Where no copy is refused, their rows and their matches are those of the input.
         ensures rows { RowsRun backtracker_catches_next self.now.nfa LeftmostFirst false
+            (search_of input.entry) result }
+        ensures first_rows { RowsFirst backtracker_catches_next self.now.nfa LeftmostFirst false
+            (search_of input.entry) result }
+        ensures next_row { RowsNext backtracker_catches_next self.now.nfa LeftmostFirst false
+            (search_of input.entry) result }
+        ensures all_rows { RowsAll backtracker_catches_next self.now.nfa LeftmostFirst false
             (search_of input.entry) result }
         ensures matches { MatchesInRun backtracker_catches_next self.now.nfa LeftmostFirst false
             (search_of input.entry) result }

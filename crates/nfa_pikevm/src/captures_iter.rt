@@ -48,7 +48,8 @@ impl PikeVM {
     ghost use Rattle.nfa_search_base.specs.CaughtLists.{TellsRow};
     ghost use Rattle.nfa_search_base.specs.CaughtRuns.{CapturesApart, CapturesFirst, CapturesGroups, CapturesMemory};
     ghost use Rattle.nfa_search_base.specs.CaughtRuns.{CapturesNext, CapturesRun, CapturesWithin, MatchesInAll};
-    ghost use Rattle.nfa_search_base.specs.CaughtRuns.{MatchesInFirst, MatchesInNext, MatchesInRun, RowsRun};
+    ghost use Rattle.nfa_search_base.specs.CaughtRuns.{MatchesInFirst, MatchesInNext, MatchesInRun, RowsAll};
+    ghost use Rattle.nfa_search_base.specs.CaughtRuns.{RowsFirst, RowsNext, RowsRun};
     ghost use Rattle.nfa_search_base.specs.Walks.{fresh};
     ghost use Rattle.nfa_pikevm.specs.CapturesMatches.{CatchesGiveCache, pike_catches_cache, pike_catches_done};
     ghost use Rattle.nfa_pikevm.specs.CapturesMatches.{pike_catches_engine, pike_catches_next, pike_catches_walk};
@@ -85,6 +86,12 @@ impl PikeVM {
         ensures errors { IfOk result (CapturesMemory pike_catches_next) }
         // Where no copy is refused, their rows and their matches are those of the input.
         ensures rows { IfOk result (RowsRun pike_catches_next self.now.nfa (kind_of self.now)
+            (search_of input.entry).earliest (search_of input.entry)) }
+        ensures first_rows { IfOk result (RowsFirst pike_catches_next self.now.nfa (kind_of self.now)
+            (search_of input.entry).earliest (search_of input.entry)) }
+        ensures next_row { IfOk result (RowsNext pike_catches_next self.now.nfa (kind_of self.now)
+            (search_of input.entry).earliest (search_of input.entry)) }
+        ensures all_rows { IfOk result (RowsAll pike_catches_next self.now.nfa (kind_of self.now)
             (search_of input.entry).earliest (search_of input.entry)) }
         ensures matches { IfOk result (MatchesInRun pike_catches_next self.now.nfa (kind_of self.now)
             (search_of input.entry).earliest (search_of input.entry)) }
@@ -129,6 +136,12 @@ impl PikeVM {
         ensures errors { CapturesMemory pike_catches_next result }
         // Where no copy is refused, their rows and their matches are those of the input.
         ensures rows { RowsRun pike_catches_next self.now.nfa (kind_of self.now)
+            (search_of input.entry).earliest (search_of input.entry) result }
+        ensures first_rows { RowsFirst pike_catches_next self.now.nfa (kind_of self.now)
+            (search_of input.entry).earliest (search_of input.entry) result }
+        ensures next_row { RowsNext pike_catches_next self.now.nfa (kind_of self.now)
+            (search_of input.entry).earliest (search_of input.entry) result }
+        ensures all_rows { RowsAll pike_catches_next self.now.nfa (kind_of self.now)
             (search_of input.entry).earliest (search_of input.entry) result }
         ensures matches { MatchesInRun pike_catches_next self.now.nfa (kind_of self.now)
             (search_of input.entry).earliest (search_of input.entry) result }

@@ -15,7 +15,8 @@ use Rattle.nfa_search_base.specs.Asking.{SameButStart}
 use Rattle.nfa_search_base.specs.Catching.{Row, Catching, GivesCaptures, row_found, row_of, row_span}
 use Rattle.nfa_search_base.specs.CaughtLists.{IsRow, TellsRow, AreFirstRows, AreRows, AreFirstCaptures, AreAllCaptures}
 use Rattle.nfa_search_base.specs.CaughtRuns.{match_in, CapturesInside, CapturesRun, CapturesFirst, CapturesNext}
-use Rattle.nfa_search_base.specs.CaughtRuns.{CapturesWithin, CapturesApart, CapturesMemory, RowsRun}
+use Rattle.nfa_search_base.specs.CaughtRuns.{CapturesWithin, CapturesApart, CapturesMemory}
+use Rattle.nfa_search_base.specs.CaughtRuns.{RowsRun, RowsFirst, RowsAll, RowsNext}
 use Rattle.nfa_search_base.specs.CaughtRuns.{MatchesInRun, MatchesInFirst, MatchesInAll, MatchesInNext}
 use Rattle.nfa_search_base.specs.Items.{Item, item_by}
 use Rattle.nfa_search_base.specs.Lending.{With}
@@ -316,6 +317,16 @@ module _ (nfa : Automaton) (kind : MatchKind) (earliest : Bool) (tells : Search 
         let k = captures-run p seen from in
         (first-rows_of p.items cs k.0 are, λ whole. all-rows_of p.items cs (k.1 whole) are)
 
+    pub rows-first : RowsFirst steps nfa kind earliest x s
+    rows-first = λ xs t cs ran are. first-rows_of xs cs (captures-first xs t ran) are
+
+    pub rows-all : RowsAll steps nfa kind earliest x s
+    rows-all = λ xs t u cs ran st are. all-rows_of xs cs (captures-all xs t u ran st) are
+
+    pub rows-next : RowsNext steps nfa kind earliest x s
+    rows-next = λ xs t i u cs c ran st are ok.
+        rows-first (xs ++ i ∷ []) u (cs ++ c ∷ []) (yields-more steps xs s t u i ran st) (oks xs cs i c are ok)
+
     matches-first_of : (cs : List Captured) → AreFirstRows nfa kind earliest x (map row_of cs)
         → AreFirstMatches nfa kind earliest x (map match_in cs)
     matches-first_of cs h = subst (λ (ms : List Found). AreFirstMatches nfa kind earliest x ms) (found-rows cs)
@@ -335,11 +346,11 @@ module _ (nfa : Automaton) (kind : MatchKind) (earliest : Bool) (tells : Search 
         matches-apart nfa kind earliest x (map match_in cs) (matches_in-run p seen from cs are).0
 
     pub matches_in-first : MatchesInFirst steps nfa kind earliest x s
-    matches_in-first = λ xs t cs ran are. matches-first_of cs (first-rows_of xs cs (captures-first xs t ran) are)
+    matches_in-first = λ xs t cs ran are. matches-first_of cs (rows-first xs t cs ran are)
 
     pub matches_in-all : MatchesInAll steps nfa kind earliest x s
-    matches_in-all = λ xs t u cs ran st are. matches-all_of cs (all-rows_of xs cs (captures-all xs t u ran st) are)
+    matches_in-all = λ xs t u cs ran st are. matches-all_of cs (rows-all xs t u cs ran st are)
 
     pub matches_in-next : MatchesInNext steps nfa kind earliest x s
     matches_in-next = λ xs t i u cs c ran st are ok.
-        matches_in-first (xs ++ i ∷ []) u (cs ++ c ∷ []) (yields-more steps xs s t u i ran st) (oks xs cs i c are ok)
+        matches-first_of (cs ++ c ∷ []) (rows-next xs t i u cs c ran st are ok)

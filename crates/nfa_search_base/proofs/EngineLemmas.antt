@@ -30,7 +30,8 @@ use Rattle.nfa_search_base.specs.declared.iter.steps.Steps.{Steps}
 use Rattle.nfa_search_base.proofs.AskingLemmas.{same_start-self, same_start-then, ServesOnAlong-by}
 use Rattle.nfa_search_base.proofs.CaughtRunLemmas.{captures-apart, captures-first, captures-next, captures-run}
 use Rattle.nfa_search_base.proofs.CaughtRunLemmas.{captures-within, copy-of, matches_in-all, matches_in-first}
-use Rattle.nfa_search_base.proofs.CaughtRunLemmas.{matches_in-next, matches_in-run, rows-run, runs-hold}
+use Rattle.nfa_search_base.proofs.CaughtRunLemmas.{matches_in-next, matches_in-run, rows-all, rows-first, rows-next}
+use Rattle.nfa_search_base.proofs.CaughtRunLemmas.{rows-run, runs-hold}
 use Rattle.nfa_search_base.proofs.ListLemmas.{match-lies}
 use Rattle.nfa_search_base.proofs.RunLemmas.{calls-keep, step-holds, step-keeps}
 
@@ -289,6 +290,10 @@ module _ {E C : Type 0} (nfa : E → Automaton) (Fits : C → E → Type 0) (Tel
         first = captures-first (nfa e) kind earliest Told row x AsksRow Good told-acts calls inner is s walk going good;
         next = captures-next (nfa e) kind earliest Told row x AsksRow Good told-acts calls inner is s walk going good;
         rows = rows-run (nfa e) kind earliest Told row x AsksRow Good told-acts calls inner is s walk going good;
+        first_rows = rows-first (nfa e) kind earliest Told row x AsksRow Good told-acts calls inner is s walk going
+            good;
+        next_row = rows-next (nfa e) kind earliest Told row x AsksRow Good told-acts calls inner is s walk going good;
+        all_rows = rows-all (nfa e) kind earliest Told row x AsksRow Good told-acts calls inner is s walk going good;
         matches = matches_in-run (nfa e) kind earliest Told row x AsksRow Good told-acts calls inner is s walk going
             good;
         first_matches = matches_in-first (nfa e) kind earliest Told row x AsksRow Good told-acts calls inner is s walk

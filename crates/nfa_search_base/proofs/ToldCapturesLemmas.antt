@@ -1,12 +1,15 @@
 -- What a stored finder of captures may answer, its iterator gives.
-use Rattle.std.proofs.Common.{◌≡◌, ℕ, ◌≤◌, false, List, [], ◌∷◌, ◌++◌, map, refl, sym, ap, subst, arith}
-use Rattle.std.proofs.Common.{Option, None, Some, Result, Ok, Err}
+use Rattle.std.proofs.Common.{◌≡◌, ℕ, ◌≤◌, ◌⊎◌, inl, inr, false, List, [], ◌∷◌, ◌++◌, map, refl, sym, ap, subst, arith}
+use Rattle.std.proofs.Common.{Option, None, Some, Result, Ok, Err, IfOk}
 use Rattle.std.specs.Prelude.{unwrap_or}
 use Rattle.std.specs.Option.{option_map}
 use Rattle.std.specs.Fn.{Mut}
 use Rattle.std.specs.Borrow.{Bor, MutBor}
 use Rattle.std.specs.Iterator.{Yields}
+use Rattle.std.specs.Vec.{vec_items}
+use Rattle.std.specs.declared.vec.Vec.{Vec}
 use Rattle.std.proofs.lemmas.Fn.{FoldsTo-push}
+use Rattle.std.proofs.lemmas.Iterator.{IsCollectResult}
 use Rattle.regex_search_core.specs.Search.{Search}
 use Rattle.regex_search_core.specs.Found.{Found}
 use Rattle.regex_search_core.specs.Slots.{Captured, match_of}
@@ -16,16 +19,16 @@ use Rattle.nfa_paths.proofs.InsideLemmas.{offsets}
 use Rattle.nfa_search_base.specs.Asking.{SameButStart}
 use Rattle.nfa_search_base.specs.Catching.{Row, Catching, CanCatch, Catches, CatchesAlong, GivesCaptures, row_of, row_span}
 use Rattle.nfa_search_base.specs.Catching.{caught_by, row_found}
-use Rattle.nfa_search_base.specs.Items.{item_by}
+use Rattle.nfa_search_base.specs.Items.{Item, item_by}
 use Rattle.nfa_search_base.specs.CaughtLists.{AreFirstCaught, AreAllCaught}
-use Rattle.nfa_search_base.specs.Lists.{IsStep, FailsOrIsRefused}
+use Rattle.nfa_search_base.specs.Lists.{IsStep, ItemsLast, FailsOrIsRefused}
 use Rattle.nfa_search_base.specs.Serving.{LeadsOn}
 use Rattle.nfa_search_base.specs.Stored.{steps_walk}
 use Rattle.nfa_search_base.specs.StoredRuns.{MayAnswerRow, caught_steps, CaughtRun, CaughtFirst, CaughtAll}
 use Rattle.nfa_search_base.specs.StoredRuns.{CaughtApart, CaughtNext, SureCaughtApart, SureCaughtNext}
 use Rattle.nfa_search_base.specs.StoredRuns.{SureCaughtRun, SureCaughtFirst, SureCaughtAll}
 use Rattle.nfa_search_base.specs.CaughtSteps.{takes_sure_catches}
-use Rattle.nfa_search_base.specs.Walks.{Answer, IsInside, IsSurelyInside, place_of}
+use Rattle.nfa_search_base.specs.Walks.{Answer, Walk, IsInside, IsSurelyInside, after, place_of}
 use Rattle.nfa_search_base.specs.declared.error.SearchError.{SearchError}
 use Rattle.nfa_search_base.specs.declared.iter.steps.Steps.{Steps}
 use Rattle.nfa_search_base.proofs.AskingLemmas.{same_start-self}
@@ -33,6 +36,7 @@ use Rattle.nfa_search_base.proofs.CaughtRunLemmas.{copy-says}
 use Rattle.nfa_search_base.proofs.ListLemmas.{spans-apart}
 use Rattle.nfa_search_base.proofs.WalkLemmas.{IsOrdered}
 use Rattle.nfa_search_base.proofs.RunLemmas.{first-from, all-from, runs-give, yields-more}
+use Rattle.nfa_search_base.proofs.ToldLemmas.{step-told}
 
 -- a match of captures starts not behind its end
 match-ordered : (pattern : Option ℕ) (slots : List (Option ℕ)) (m : Found) → match_of pattern slots ≡ Some m
@@ -170,3 +174,52 @@ module _ {F : Type 0} (g : Mut F (Bor Input × (MutBor Captured × Unit {0}))
       spans-apart row_span (May s) (may-lies (IsSurelyInside row_span) (λ t a k. k.0) s.asker (steps_walk s).at serves)
       (FailsOrIsRefused row_span (May s)) (steps_walk s).at (steps_walk s) (map (item_by row_of) p.items)
       (omega arith) refl s.searcher.behind (sure-caught_run s going p seen from).0.come
+
+-- Where an answer that is told one way is told another way, so are the captures.
+module _ (under tells : Search → Answer Row → Type 0)
+    (so : (t : Search) (a : Answer Row) → under t a → tells t a) where
+  ends-told : (w : Walk) (e : SearchError) → FailsOrIsRefused row_span under w e → FailsOrIsRefused row_span tells w e
+  ends-told w e (inl fails) = inl (step-told row_span under tells so w (Err e) fails)
+  ends-told w e (inr refused) =
+      inr (refused.0, refused.1, step-told row_span under tells so w (Ok (Some refused.1)) refused.2)
+
+  last-told : (w : Walk) (items : List (Item Row)) → ItemsLast row_span under (FailsOrIsRefused row_span under) w items
+      → ItemsLast row_span tells (FailsOrIsRefused row_span tells) w items
+  last-told w [] h = step-told row_span under tells so w (Ok None) h
+  last-told w (Ok x ∷ items) h =
+      (step-told row_span under tells so w (Ok (Some x)) h.0, last-told (after w (Some (row_span x))) items h.1)
+  last-told w (Err e ∷ items) h = (ends-told w e h.0, h.1)
+
+  all-told : (w : Walk) (items : List (Result Captured SearchError)) → AreAllCaught under w items
+      → AreAllCaught tells w items
+  all-told w items h = record { come = last-told w (map (item_by row_of) items) h.come }
+
+-- What `collect` makes of such an iterator, whose finder tells this whatever captures it is lent: all captures.
+pub told_caught : {F Z E : Type 0} {g : Mut F (Bor Input × (MutBor Captured × Unit {0}))
+    (Result (Unit {0}) SearchError × (MutBor Captured × Unit {0}))} {c : Catching F} {w : Walk} {s : Steps (Catching F)}
+    (tells : Search → Answer Row → Type 0) (v : Walk) (r : Result (Vec (Result Captured SearchError) Z) E)
+    → IsCollectResult (caught_steps g) s r → CaughtAll g c w s → w ≡ v
+    → ((q : Catching F) (t : Search) (a : Answer Row) (q' : Catching F) → Catches g q t a q' → tells t a)
+    → IfOk r (λ all. AreAllCaught tells v (vec_items all))
+told_caught {g = g} {c = c} {w = w} tells v (Ok all) ran gives is says =
+    let end = ran.1.2 tt in
+    subst (λ (u : Walk). AreAllCaught tells u (vec_items all)) is
+    (subst (λ (xs : List (Result Captured SearchError)). AreAllCaught tells w xs) (sym ran.2.0)
+    (all-told (MayAnswerRow g c w.at) tells (λ t a k. says k.between t a k.left k.asked) w ran.0
+    (gives ran.0 ran.1.0 end.0 ran.1.1 end.1)))
+told_caught tells v (Err e) ran gives is says = tt
+
+-- And of one whose finder never errs.
+pub told_surely_caught : {F Z E : Type 0} {g : Mut F (Bor Input × (MutBor Captured × Unit {0}))
+    (Result (Unit {0}) SearchError × (MutBor Captured × Unit {0}))} {c : Catching F} {w : Walk} {s : Steps (Catching F)}
+    (tells : Search → Answer Row → Type 0) (v : Walk) (r : Result (Vec (Result Captured SearchError) Z) E)
+    → IsCollectResult (takes_sure_catches g) s r → SureCaughtAll g c w s → w ≡ v
+    → ((q : Catching F) (t : Search) (a : Answer Row) (q' : Catching F) → Catches g q t a q' → tells t a)
+    → IfOk r (λ all. AreAllCaught tells v (vec_items all))
+told_surely_caught {g = g} {c = c} {w = w} tells v (Ok all) ran gives is says =
+    let end = ran.1.2 tt in
+    subst (λ (u : Walk). AreAllCaught tells u (vec_items all)) is
+    (subst (λ (xs : List (Result Captured SearchError)). AreAllCaught tells w xs) (sym ran.2.0)
+    (all-told (MayAnswerRow g c w.at) tells (λ t a k. says k.between t a k.left k.asked) w ran.0
+    (gives ran.0 ran.1.0 end.0 ran.1.1 end.1)))
+told_surely_caught tells v (Err e) ran gives is says = tt

@@ -35,7 +35,7 @@ some-span e = cc
 -- Where an answer that is told one way is told another way, so are the items.
 module _ {X : Type 0} (span : X → Span) (under tells : Search → Answer X → Type 0)
     (so : (t : Search) (a : Answer X) → under t a → tells t a) where
-  step-told : (w : Walk) (a : Answer X) → IsStep span under w a → IsStep span tells w a
+  pub step-told : (w : Walk) (a : Answer X) → IsStep span under w a → IsStep span tells w a
   step-told w a h = record {
     first = h.first;
     is_first = so w.at h.first h.is_first;
@@ -213,3 +213,21 @@ told_collected {A = A} {view = view} {span = span} {g = g} {f = f} {w = w} tells
           (map (item_by view) ran.0) k.come;
     }))
 told_collected tells v (Err e) ran gives is says = tt
+
+-- And of one whose finder never errs.
+pub told_surely_collected : {A X F Z E : Type 0} {view : A → X} {span : X → Span}
+    {g : Mut F (Bor Input × Unit {0}) (Result (Option A) SearchError)} {f : F} {w : Walk} {s : Steps F}
+    (tells : Search → Answer X → Type 0) (v : Walk) (r : Result (Vec A Z) E)
+    → IsCollectResult (sure_found_steps view span g) s r → SureFoundAll view span g f w s → w ≡ v
+    → ((t : Search) (a : Answer X) (f' : F) → Finds view g f t a f' → (f' ≡ f) × tells t a)
+    → IfOk r (λ all. AreAllFound span tells view v (map (λ m. Ok m) (vec_items all)))
+told_surely_collected {A = A} {view = view} {span = span} {g = g} {f = f} {w = w} tells v (Ok all) ran gives is says =
+    let end = ran.1.2 tt in
+    let k = gives ran.0 ran.1.0 end.0 ran.1.1 end.1 in
+    subst (λ (u : Walk). AreAllFound span tells view u (map (λ m. Ok m) (vec_items all))) is
+    (subst (λ (xs : List A). AreAllFound span tells view w (map (λ m. Ok m) xs)) (sym ran.2.0)
+    (record {
+      come = last-told span (MayAnswer view span g f w.at) tells (may-tells view span g f w.at tells says) w
+          (map (item_by view) (map (λ m. Ok m) ran.0)) k.come;
+    }))
+told_surely_collected tells v (Err e) ran gives is says = tt

@@ -6,8 +6,8 @@ use Rattle.regex_search_core.specs.declared.search.MatchKind.{MatchKind}
 use Rattle.thompson_nfa.specs.Automaton.{Automaton}
 use Rattle.nfa_search_base.specs.Catching.{Row}
 use Rattle.nfa_search_base.specs.CaughtRuns.{CapturesRun, CapturesFirst, CapturesNext, CapturesGroups, CapturesWithin}
-use Rattle.nfa_search_base.specs.CaughtRuns.{CapturesApart, RowsRun, MatchesInRun, MatchesInFirst}
-use Rattle.nfa_search_base.specs.CaughtRuns.{MatchesInAll, MatchesInNext}
+use Rattle.nfa_search_base.specs.CaughtRuns.{CapturesApart, RowsRun, RowsFirst, RowsNext, RowsAll}
+use Rattle.nfa_search_base.specs.CaughtRuns.{MatchesInRun, MatchesInFirst, MatchesInNext, MatchesInAll}
 use Rattle.nfa_search_base.specs.Walks.{Answer}
 use Rattle.nfa_search_base.specs.declared.error.SearchError.{SearchError}
 
@@ -19,6 +19,9 @@ pub record CapturesGiven {T : Type 0} (steps : T → Option (Result Captured Sea
   pub first : CapturesFirst steps Tells x s
   pub next : CapturesNext steps Tells x s
   pub rows : RowsRun steps nfa kind earliest x s
+  pub first_rows : RowsFirst steps nfa kind earliest x s
+  pub next_row : RowsNext steps nfa kind earliest x s
+  pub all_rows : RowsAll steps nfa kind earliest x s
   pub matches : MatchesInRun steps nfa kind earliest x s
   pub first_matches : MatchesInFirst steps nfa kind earliest x s
   pub next_match : MatchesInNext steps nfa kind earliest x s

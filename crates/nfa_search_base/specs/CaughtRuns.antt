@@ -65,7 +65,23 @@ module _ {T : Type 0} (steps : T → Option (Result Captured SearchError) → T 
         → AreFirstRows nfa kind earliest x (map row_of cs)
         × (p.whole ≡ true → AreRows nfa kind earliest x (map row_of cs)))
 
-    -- and their matches are the first matches of x, and all of them
+    -- where the items so far are all `Ok`, their rows are the first rows of x
+    abbrev pub RowsFirst : T → Type 0
+    RowsFirst s = (xs : List (Result Captured SearchError)) (t : T) (cs : List Captured) → Yields steps s xs t
+        → xs ≡ map Ok cs → AreFirstRows nfa kind earliest x (map row_of cs)
+
+    -- at `None` they are all
+    abbrev pub RowsAll : T → Type 0
+    RowsAll s = (xs : List (Result Captured SearchError)) (t u : T) (cs : List Captured) → Yields steps s xs t
+        → steps t None u → xs ≡ map Ok cs → AreRows nfa kind earliest x (map row_of cs)
+
+    -- after an item the rows so far and that of the item are
+    abbrev pub RowsNext : T → Type 0
+    RowsNext s = (xs : List (Result Captured SearchError)) (t : T) (i : Result Captured SearchError) (u : T)
+        (cs : List Captured) (c : Captured) → Yields steps s xs t → steps t (Some i) u → xs ≡ map Ok cs → i ≡ Ok c
+        → AreFirstRows nfa kind earliest x (map row_of (cs ++ c ∷ []))
+
+    -- where the items are all `Ok`, their matches are the first matches of x, and all of them
     abbrev pub MatchesInRun : T → Type 0
     MatchesInRun s = EachRunFrom steps s (λ p. (cs : List Captured) → p.items ≡ map Ok cs
         → AreFirstMatches nfa kind earliest x (map match_in cs)

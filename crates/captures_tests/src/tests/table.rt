@@ -1,7 +1,5 @@
 //! Lists of captures of the sample NFAs, of both engines.
-use super::callers::{
-    collected, collected_with, looped, tries_collected, tries_collected_with, tries_looped,
-};
+use super::callers::{collected, collected_with, tries_collected, tries_collected_with};
 use super::{backtracker, pikevm};
 use nfa_engines::Captures;
 use nfa_engines::error::SearchError;
@@ -129,26 +127,6 @@ fn backtracker_gives_the_lists(rt: HostRuntime) -> Result<(), Fail> {
         let items = tries_collected(&engine, alloc, &mut cache, text)?;
         assert_rows(&rt, items.as_slice(), rows, name);
     }
-    Ok(())
-}
-
-#[test]
-fn pikevm_gives_them_to_a_loop(rt: HostRuntime) -> Result<(), Fail> {
-    let alloc = rt.alloc();
-    let vm = pikevm(alloc, "words_numbers")?;
-    let mut cache = vm.create_cache(alloc)?;
-    let all = looped(&vm, alloc, &mut cache, b"abc 1 foo 4567 0 quux")?;
-    assert_eq!(rt; all.len(), 6);
-    Ok(())
-}
-
-#[test]
-fn backtracker_gives_them_to_a_loop(rt: HostRuntime) -> Result<(), Fail> {
-    let alloc = rt.alloc();
-    let engine = backtracker(alloc, "words_numbers")?;
-    let mut cache = engine.create_cache(alloc);
-    let all = tries_looped(&engine, alloc, &mut cache, b"abc 1 foo 4567 0 quux")?;
-    assert_eq!(rt; all.len(), 6);
     Ok(())
 }
 

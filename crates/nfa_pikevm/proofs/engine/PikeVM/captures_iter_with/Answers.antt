@@ -13,6 +13,15 @@ returns-clause-next c = c.catch_from.ensures.given.next
 pub returns-clause-rows : goal.returns-clause-rows
 returns-clause-rows c = c.catch_from.ensures.given.rows
 
+pub returns-clause-first_rows : goal.returns-clause-first_rows
+returns-clause-first_rows c = c.catch_from.ensures.given.first_rows
+
+pub returns-clause-next_row : goal.returns-clause-next_row
+returns-clause-next_row c = c.catch_from.ensures.given.next_row
+
+pub returns-clause-all_rows : goal.returns-clause-all_rows
+returns-clause-all_rows c = c.catch_from.ensures.given.all_rows
+
 pub returns-clause-matches : goal.returns-clause-matches
 returns-clause-matches c = c.catch_from.ensures.given.matches
 
