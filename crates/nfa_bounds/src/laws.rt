@@ -9,8 +9,9 @@
 //! ```
 ghost use Rattle.regex_search_core.specs.declared.search.MatchKind.TheVariants.{LeftmostFirst};
 ghost use Rattle.std.specs.Prelude.{false};
-ghost use Rattle.nfa_bounds.specs.BoundsLaws.{AnchoredStartsTheSpan, EverySearchIsRecorded, NoneIsNoPathThere};
-ghost use Rattle.nfa_bounds.specs.BoundsLaws.{NoneStartsBeforeThere};
+ghost use Rattle.nfa_bounds.specs.BoundsLaws.{AnchoredStartsTheSpan, BytesAreAnswered, EverySearchIsRecorded};
+ghost use Rattle.nfa_bounds.specs.BoundsLaws.{MatchesAreOfPaths, NoBytesAreAnswered, NoBytesAreNoPath};
+ghost use Rattle.nfa_bounds.specs.BoundsLaws.{NoneIsNoPathThere, NoneStartsBeforeThere};
 
 /// Where `records_bounds` is true, each accepting path of each search writes its start and its end into the two slots
 /// of its pattern: what `nfa_engines::laws::no_gap` asks of an NFA.
@@ -29,4 +30,19 @@ pub fn no_match_is_passed_over()
 /// And the match of an anchored search starts where its span does, of each match kind, `earliest` or not.
 pub fn anchored_matches_start_the_span()
     ensures { AnchoredStartsTheSpan }
+{}
+
+/// The match of a search is that of the path which the search answers: its pattern, its start and its end. Where the
+/// search answers no path there is no match. So it is of each match kind, `earliest` or not, and also where a match has
+/// to end on a boundary.
+pub fn matches_are_of_paths()
+    ensures { MatchesAreOfPaths }
+{}
+
+/// An anchored search tells whether the path that it answers reads a byte: exactly where its match has one. Where it
+/// has none, though each accepting path reads a byte, and a match may end anywhere, there is no such path.
+pub fn anchored_matches_tell_bytes()
+    ensures some { BytesAreAnswered }
+    ensures none { NoBytesAreAnswered }
+    ensures nowhere { NoBytesAreNoPath }
 {}
