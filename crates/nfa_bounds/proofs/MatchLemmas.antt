@@ -7,14 +7,15 @@ use Rattle.regex_search_core.specs.Search.{Search, is_anchored}
 use Rattle.regex_search_core.specs.Slots.{match_of}
 use Rattle.regex_search_core.specs.declared.search.MatchKind.{MatchKind}
 use Rattle.thompson_nfa.specs.Automaton.{Automaton, IsAutomaton}
-use Rattle.nfa_paths.specs.Graphs.{Pair, HeadIs, EndsWith, NoPath}
-use Rattle.nfa_paths.specs.Paths.{starts, edges, raised, is_utf8_empty, path_pattern, slot_row, IsMatch}
+use Rattle.nfa_paths.specs.Graphs.{Pair, HeadIs, EndsWith}
+use Rattle.nfa_paths.specs.Paths.{raised, is_utf8_empty, path_pattern, slot_row}
 use Rattle.nfa_paths.specs.Paths.{IsScanAnswer, IsKeptAnswer, IsRestartedAnswer, IsSearchAnswer, IsMatchAnswer}
 use Rattle.nfa_paths.proofs.AnswerLemmas.{scan_answer-leads, search_answer-unique, never_none, raised-zero}
 use Rattle.nfa_paths.proofs.ExistenceLemmas.{scan_answer-none}
 use Rattle.nfa_paths.proofs.PathToLemmas.{EndsWith-last}
 use Rattle.nfa_engines.proofs.GapLemmas.{path-match}
-use Rattle.nfa_bounds.specs.Matches.{AnswersBytes, AreOneMatch, HasNoByteAt, PathsReadBytes}
+use Rattle.nfa_bounds.specs.Matches.{AnswersBytes, AnswersNoBytes, AreOneMatch, HasNoByteAt, MatchesNothing}
+use Rattle.nfa_bounds.specs.Matches.{PathsReadBytes}
 use Rattle.nfa_bounds.specs.Ways.{RecordsBounds}
 use Rattle.nfa_bounds.proofs.LawLemmas.{paths-recorded, start-anchored}
 
@@ -145,7 +146,7 @@ module _ (nfa : Automaton) (kind : MatchKind) (earliest : Bool) (x : Search) whe
           }
 
       -- and one without a byte, or none, is not
-      pub no-bytes-answered : (found : Option Found) → IsMatchAnswer nfa kind earliest x found
+      no-bytes-answered : (found : Option Found) → IsMatchAnswer nfa kind earliest x found
           → HasNoByteAt x.start found → AnswersBytes nfa kind earliest x → ⊥
       no-bytes-answered None answer none bytes = match-of-once (Some bytes.along) None bytes.answers answer
       no-bytes-answered (Some m) answer none bytes =
@@ -159,16 +160,15 @@ module _ (nfa : Automaton) (kind : MatchKind) (earliest : Bool) (x : Search) whe
           omega arith
 
       -- where each path has a byte, there is none
-      pub no-path-answered : is_utf8_empty nfa ≡ false → PathsReadBytes nfa x → (found : Option Found)
-          → IsMatchAnswer nfa kind earliest x found → HasNoByteAt x.start found
-          → NoPath (edges nfa x) (starts nfa x) (IsMatch nfa)
+      no-path-answered : is_utf8_empty nfa ≡ false → PathsReadBytes nfa x → (found : Option Found)
+          → IsMatchAnswer nfa kind earliest x found → HasNoByteAt x.start found → MatchesNothing nfa x
       no-path-answered anywhere read found answer none = of answer.path (own-path found answer)
         where
           of : (path : Option (List Pair)) → IsSearchAnswer nfa kind earliest x 0 path
-              → NoPath (edges nfa x) (starts nfa x) (IsMatch nfa)
+              → MatchesNothing nfa x
           of None h =
               let scan : (0 ≡ 0) × IsScanAnswer nfa x kind earliest None = rw anywhere at h in
-              scan_answer-none nfa x kind earliest scan.1
+              record { no_path = scan_answer-none nfa x kind earliest scan.1 }
           of (Some p) h =
               let scan : (0 ≡ 0) × IsScanAnswer nfa x kind earliest (Some p) = rw anywhere at h in
               let to = scan_answer-leads nfa x kind earliest p scan.1 in
@@ -179,3 +179,10 @@ module _ (nfa : Automaton) (kind : MatchKind) (earliest : Bool) (x : Search) whe
                 ends = to.path.ends;
                 some_bytes = read to.end p to.path to.matches;
               }))
+
+      pub no-bytes-told : (found : Option Found) → IsMatchAnswer nfa kind earliest x found → HasNoByteAt x.start found
+          → AnswersNoBytes nfa kind earliest x
+      no-bytes-told found answer none = record {
+        no_bytes = no-bytes-answered found answer none;
+        nothing = λ anywhere read. no-path-answered anywhere read found answer none;
+      }

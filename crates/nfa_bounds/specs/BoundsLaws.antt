@@ -7,7 +7,7 @@ use Rattle.thompson_nfa.specs.Automaton.{Automaton, IsAutomaton}
 use Rattle.nfa_paths.specs.Graphs.{Pair, NoPath}
 use Rattle.nfa_paths.specs.Paths.{edges, starts, raised, is_utf8_empty, IsMatch, IsSearchAnswer, IsMatchAnswer}
 use Rattle.nfa_engines.specs.GapLaws.{PathsWriteTheirEnds, StartsBeforePaths}
-use Rattle.nfa_bounds.specs.Matches.{AnswersBytes, AreOneMatch, HasNoByteAt, PathsReadBytes}
+use Rattle.nfa_bounds.specs.Matches.{AnswersBytes, AnswersNoBytes, AreOneMatch, HasNoByteAt, MatchesNothing}
 use Rattle.nfa_bounds.specs.Ways.{RecordsBounds}
 
 -- each accepting path of each search writes its start and its end
@@ -21,6 +21,13 @@ NoneIsNoPathThere =
     → is_utf8_empty nfa ≡ false
     → RecordsBounds nfa
     → IsMatchAnswer nfa kind earliest x found → (found ≡ None) ↔ NoPath (edges nfa x) (starts nfa x) (IsMatch nfa)
+
+-- where it answers none, there is no accepting path
+abbrev pub NoneIsNothing : Type 0
+NoneIsNothing =
+    (nfa : Automaton) (kind : MatchKind) (earliest : Bool) (x : Search) → IsAutomaton nfa → is_utf8_empty nfa ≡ false
+    → RecordsBounds nfa
+    → IsMatchAnswer nfa kind earliest x None → MatchesNothing nfa x
 
 -- and no accepting path starts before the match
 abbrev pub NoneStartsBeforeThere : MatchKind → Bool → Type 0
@@ -60,15 +67,4 @@ NoBytesAreAnswered =
     (nfa : Automaton) (kind : MatchKind) (earliest : Bool) (x : Search) (found : Option Found) → IsAutomaton nfa
     → is_anchored x.anchored ≡ true
     → RecordsBounds nfa
-    → IsMatchAnswer nfa kind earliest x found → HasNoByteAt x.start found → ¬ AnswersBytes nfa kind earliest x
-
--- there it has no accepting path at all, if none reads no byte
-abbrev pub NoBytesAreNoPath : Type 0
-NoBytesAreNoPath =
-    (nfa : Automaton) (kind : MatchKind) (earliest : Bool) (x : Search) (found : Option Found) → IsAutomaton nfa
-    → is_anchored x.anchored ≡ true
-    → is_utf8_empty nfa ≡ false
-    → RecordsBounds nfa
-    → PathsReadBytes nfa x
-    → IsMatchAnswer nfa kind earliest x found → HasNoByteAt x.start found
-    → NoPath (edges nfa x) (starts nfa x) (IsMatch nfa)
+    → IsMatchAnswer nfa kind earliest x found → HasNoByteAt x.start found → AnswersNoBytes nfa kind earliest x

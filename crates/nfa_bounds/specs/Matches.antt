@@ -1,11 +1,16 @@
 -- What a match tells of the path that its search answers, where each way of the NFA writes its bounds.
-use Rattle.std.specs.Prelude.{◌≡◌, ℕ, ◌<◌, ◌≤◌, Bool, List, Option, None, Some, IfSome, ⊤}
+use Rattle.std.specs.Prelude.{◌≡◌, ℕ, ◌<◌, ◌≤◌, Bool, false, List, Option, None, Some, IfSome, ⊤}
 use Rattle.regex_search_core.specs.Found.{Found}
 use Rattle.regex_search_core.specs.Search.{Search}
 use Rattle.regex_search_core.specs.declared.search.MatchKind.{MatchKind}
 use Rattle.thompson_nfa.specs.Automaton.{Automaton}
-use Rattle.nfa_paths.specs.Graphs.{Pair, EndsWith, PathTo}
-use Rattle.nfa_paths.specs.Paths.{edges, starts, path_pattern, IsMatch, IsSearchAnswer}
+use Rattle.nfa_paths.specs.Graphs.{Pair, EndsWith, PathTo, NoPath}
+use Rattle.nfa_paths.specs.Paths.{edges, starts, is_utf8_empty, path_pattern, IsMatch, IsSearchAnswer}
+
+-- The search has no accepting path: nothing that it may match is there. (A record, so that a law which concludes it shows
+-- of which NFA and search.)
+pub record MatchesNothing (nfa : Automaton) (x : Search) : Type 0 where
+  pub no_path : NoPath (edges nfa x) (starts nfa x) (IsMatch nfa)
 
 -- the match is that of this accepting path: its pattern, where it starts and where it ends
 pub record IsMatchOfPath (nfa : Automaton) (x : Search) (p : List Pair) (m : Found) : Type 0 where
@@ -27,6 +32,11 @@ AreOneMatch nfa x (Some p) None = ⊥
 abbrev pub HasNoByteAt : ℕ → Option Found → Type 0
 HasNoByteAt at found = IfSome found (λ m. m.start ≡ at → m.end ≤ at)
 
+-- each accepting path of the search ends behind the start of the span, so where it is anchored no empty text matches
+abbrev pub PathsReadBytes : Automaton → Search → Type 0
+PathsReadBytes nfa x =
+    (end : Pair) (p : List Pair) → PathTo (edges nfa x) (starts nfa x) end p → IsMatch nfa end → x.start < end.1
+
 module _ (nfa : Automaton) (kind : MatchKind) (earliest : Bool) where
   -- The path that the anchored search answers, of all its accepting paths, reads a byte at least: it ends behind the
   -- start of the span.
@@ -37,7 +47,8 @@ module _ (nfa : Automaton) (kind : MatchKind) (earliest : Bool) where
     pub ends : EndsWith end along
     pub some_bytes : x.start < end.1
 
--- each accepting path of the search ends behind the start of the span, so where it is anchored no empty text matches
-abbrev pub PathsReadBytes : Automaton → Search → Type 0
-PathsReadBytes nfa x =
-    (end : Pair) (p : List Pair) → PathTo (edges nfa x) (starts nfa x) end p → IsMatch nfa end → x.start < end.1
+  -- That path reads no byte, or there is none. Where a match may end anywhere, and each accepting path reads a byte, there
+  -- is no accepting path.
+  pub record AnswersNoBytes (x : Search) : Type 0 where
+    pub no_bytes : ¬ AnswersBytes x
+    pub nothing : is_utf8_empty nfa ≡ false → PathsReadBytes nfa x → MatchesNothing nfa x

@@ -1,5 +1,5 @@
 -- An anchored search is one scan, all of whose paths start there.
-use Rattle.nfa_bounds.proofs.MatchLemmas.{bytes-answered, no-bytes-answered, no-path-answered}
+use Rattle.nfa_bounds.proofs.MatchLemmas.{bytes-answered, no-bytes-told}
 use Rattle.nfa_bounds.proofs.laws.anchored_matches_tell_bytes.Goals as goal
 
 pub returns-clause-some : goal.returns-clause-some
@@ -8,8 +8,4 @@ returns-clause-some c = λ nfa kind earliest x m valid bound records.
 
 pub returns-clause-none : goal.returns-clause-none
 returns-clause-none c = λ nfa kind earliest x found valid bound records.
-    no-bytes-answered nfa kind earliest x valid records bound found
-
-pub returns-clause-nowhere : goal.returns-clause-nowhere
-returns-clause-nowhere c = λ nfa kind earliest x found valid bound anywhere records read.
-    no-path-answered nfa kind earliest x valid records bound anywhere read found
+    no-bytes-told nfa kind earliest x valid records bound found
