@@ -1,27 +1,17 @@
--- Each accepting path of a search is a way, and what follows where each way writes its bounds.
-use Rattle.std.proofs.Common.{◌≡◌, ℕ, suc, zero, ◌+◌, ◌-◌, ◌*◌, ◌<◌, inl, inr, List, [], ◌∷◌, map, refl, ap, sym}
+-- Each accepting path of a search is a way, and so writes its bounds where each way does.
+use Rattle.std.proofs.Common.{◌≡◌, ℕ, suc, zero, ◌+◌, ◌-◌, inl, inr, List, [], ◌∷◌, map, refl, ap, sym}
 use Rattle.std.proofs.Common.{◌∙◌, subst}
-use Rattle.std.specs.Prelude.{Option, Some, None, IfSome, true, false, Bool, MatchBool, ◌||◌, ◌==◌, option_map}
-use Rattle.std.specs.Prelude.{option_and_then, option_to_list, filter_map, if◌then◌else◌, nat_le, nat_lt, slice_get}
+use Rattle.std.specs.Prelude.{Option, Some, None, true, false, Bool, ◌||◌, ◌==◌, option_map}
+use Rattle.std.specs.Prelude.{option_and_then, option_to_list, filter_map, if◌then◌else◌, nat_lt, slice_get}
 use Rattle.std.specs.Option.{option_map_or}
-use Rattle.std.proofs.lemmas.Bool.{cases_lt}
-use Rattle.regex_search_core.specs.Found.{Found}
-use Rattle.regex_search_core.specs.Groups.{slot_count}
 use Rattle.regex_search_core.specs.Search.{Search, is_anchored}
-use Rattle.regex_search_core.specs.Slots.{offset_at, match_of}
-use Rattle.regex_search_core.specs.declared.search.MatchKind.{MatchKind}
-use Rattle.regex_search_core.specs.declared.search.Span.{Span}
 use Rattle.thompson_nfa.specs.declared.state.Transition.{Transition}
-use Rattle.thompson_nfa.specs.Automaton.{Automaton, Node, IsAutomaton}
+use Rattle.thompson_nfa.specs.Automaton.{Automaton, Node}
 use Rattle.thompson_nfa.specs.Automaton.Node.{ByteRange, Sparse, Dense, Look, Union, BinaryUnion, Capture, Fail, Match}
 use Rattle.thompson_nfa.specs.Looks.{look_holds}
-use Rattle.nfa_paths.specs.Graphs.{Pair, In, HeadIs, Linked, PathTo}
+use Rattle.nfa_paths.specs.Graphs.{Pair, In, Linked, PathTo}
 use Rattle.nfa_paths.specs.Paths.{node_at, start_state, start_count, starts, pairs_from, edges, edges_of, byte_at}
-use Rattle.nfa_paths.specs.Paths.{target_on, first_target, holds_byte, is_utf8_empty, path_pattern, slot_among}
-use Rattle.nfa_paths.specs.Paths.{slot_row, IsScanAnswer, IsKeptAnswer, IsRestartedAnswer, IsSearchAnswer}
-use Rattle.nfa_paths.specs.Paths.{IsMatchAnswer}
-use Rattle.nfa_paths.proofs.AnswerLemmas.{scan_answer-leads, never_none}
-use Rattle.nfa_paths.proofs.PatternLemmas.{offset_at-slot_row, slot_among-past}
+use Rattle.nfa_paths.specs.Paths.{target_on, first_target, holds_byte}
 use Rattle.nfa_engines.specs.GapLaws.{PathsWriteTheirEnds}
 use Rattle.nfa_bounds.specs.Ways.{targets, reads, position_after, open_edges, IsStart, IsWay, RecordsBounds}
 use Rattle.nfa_bounds.proofs.WayLemmas.{In-map}
@@ -101,26 +91,6 @@ pairs_from-state state p (suc count) v i = elim i [
 pairs_from-one : (state p : ℕ) (v : Pair) → In v (pairs_from state p 1) → v.1 ≡ p
 pairs_from-one state p v i = elim i [ inl e ↦ ap (λ (z : Pair). z.1) e | inr never ↦ absurd never ]
 
--- a match starts where its pattern's first slot says
-match-start : (m : Found) (q : ℕ) (slots : List (Option ℕ)) (from : ℕ) → offset_at slots (2 * q) ≡ Some from
-    → Some m ≡ match_of (Some q) slots → m.start ≡ from
-match-start m q slots from low is = second (offset_at slots (2 * q + 1)) (rw low at is)
-  where
-    third : (end : ℕ) (ordered : Bool)
-        → Some m ≡ option_map (λ (s : Span). record { pattern = q; start = s.start; end = s.end })
-        (if ordered then Some (record { start = from; end = end }) else None)
-        → m.start ≡ from
-    third end true e =
-        let same : m ≡ record { pattern = q; start = from; end = end } = cc in ap (λ (g : Found). g.start) same
-    third end false e = cc
-
-    second : (o : Option ℕ)
-        → Some m ≡ option_map (λ (s : Span). record { pattern = q; start = s.start; end = s.end })
-        (option_and_then (λ end. if nat_le from end then Some (record { start = from; end = end }) else None) o)
-        → m.start ≡ from
-    second None e = cc
-    second (Some end) e = third end (nat_le from end) e
-
 module _ (nfa : Automaton) (x : Search) where
   start-state : (v : Pair) → In v (starts nfa x) → IsStart nfa v.0
   start-state v i = of (start_state nfa x.anchored) refl i
@@ -131,7 +101,7 @@ module _ (nfa : Automaton) (x : Search) where
       of (Some s) e i = (x.anchored, e ∙ ap Some (sym (pairs_from-state s x.start (start_count nfa x) v i)))
 
   -- an anchored search starts where its span does
-  start-anchored : is_anchored x.anchored ≡ true → (v : Pair) → In v (starts nfa x) → v.1 ≡ x.start
+  pub start-anchored : is_anchored x.anchored ≡ true → (v : Pair) → In v (starts nfa x) → v.1 ≡ x.start
   start-anchored bound v i = of (start_state nfa x.anchored) i
     where
       counted : (late : Bool) (s : ℕ)
@@ -163,50 +133,3 @@ module _ (nfa : Automaton) (x : Search) where
 
   pub paths-recorded : RecordsBounds nfa → PathsWriteTheirEnds nfa x
   paths-recorded records end p path matches = records end p (path-way end p path) matches
-
-  -- an anchored search is one scan
-  scanned : (kind : MatchKind) (earliest : Bool) → is_anchored x.anchored ≡ true → (restarts : ℕ) (p : List Pair)
-      → IsSearchAnswer nfa kind earliest x restarts (Some p) → IsScanAnswer nfa x kind earliest (Some p)
-  scanned kind earliest bound restarts p h = of (is_utf8_empty nfa) h
-    where
-      of : (b : Bool)
-          → MatchBool b (MatchBool (is_anchored x.anchored)
-          ((restarts ≡ 0) × IsKeptAnswer nfa kind earliest x (Some p))
-          (IsRestartedAnswer nfa kind earliest x restarts (Some p)))
-          ((restarts ≡ 0) × IsScanAnswer nfa x kind earliest (Some p))
-          → IsScanAnswer nfa x kind earliest (Some p)
-      of false h = h.1
-      of true h = let kept : (restarts ≡ 0) × IsKeptAnswer nfa kind earliest x (Some p) = rw bound at h in kept.1.0
-
-  -- the match of an anchored search starts where the span does
-  pub starts-the-span : (kind : MatchKind) (earliest : Bool) (found : Option Found) → IsAutomaton nfa
-      → is_anchored x.anchored ≡ true → RecordsBounds nfa → IsMatchAnswer nfa kind earliest x found
-      → IfSome found (λ m. m.start ≡ x.start)
-  starts-the-span kind earliest None valid bound records answer = tt
-  starts-the-span kind earliest (Some m) valid bound records answer = of answer.path answer.answers answer.found_is
-    where
-      written-below : (p : List Pair) (slot at : ℕ) → slot_among nfa p slot ≡ Some at → slot < slot_count nfa.groups
-      written-below p slot at e =
-          elim (cases_lt slot (slot_count nfa.groups)) [
-            | inl below ↦ below
-            | inr past ↦ absurd (never_none at (sym e ∙ slot_among-past nfa valid p slot past))
-          ]
-
-      heads : (a b : Pair) (p : List Pair) → HeadIs a p → HeadIs b p → a ≡ b
-      heads a b [] h k = absurd h
-      heads a b (v ∷ p) h k = sym h ∙ k
-
-      of : (path : Option (List Pair)) → IsSearchAnswer nfa kind earliest x answer.restarts path
-          → Some m ≡ match_of (option_and_then (path_pattern nfa) path) (slot_row nfa (slot_count nfa.groups) path)
-          → m.start ≡ x.start
-      of None h is = absurd (never_none m is)
-      of (Some p) h is =
-          let to = scan_answer-leads nfa x kind earliest p (scanned kind earliest bound answer.restarts p h) in
-          let writes = paths-recorded records to.end p to.path to.matches in
-          let low = written-below p (2 * writes.pattern) writes.start.1 writes.start_slot in
-          let row = slot_row nfa (slot_count nfa.groups) (Some p) in
-          let same : writes.start ≡ to.path.start = heads writes.start to.path.start p writes.head to.path.head in
-          match-start m writes.pattern row writes.start.1
-          (offset_at-slot_row nfa p (slot_count nfa.groups) (2 * writes.pattern) low ∙ writes.start_slot)
-          (is ∙ ap (λ o. match_of o row) writes.pattern_is)
-          ∙ ap (λ (z : Pair). z.1) same ∙ start-anchored bound to.path.start to.path.among

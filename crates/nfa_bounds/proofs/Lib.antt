@@ -1,5 +1,6 @@
 -- The lemmas on tables, places and ways.
 pub mod LawLemmas
+pub mod MatchLemmas
 pub mod PlaceLemmas
 pub mod SearchLemmas
 pub mod TableLemmas

@@ -1,12 +1,13 @@
 -- What follows where each way of an NFA writes its bounds.
-use Rattle.std.specs.Prelude.{◌≡◌, ◌↔◌, Bool, false, true, Option, None, IfSome}
+use Rattle.std.specs.Prelude.{◌≡◌, ◌↔◌, ℕ, ◌<◌, Bool, List, false, true, Option, None, Some, IfSome}
 use Rattle.regex_search_core.specs.Found.{Found}
 use Rattle.regex_search_core.specs.Search.{Search, is_anchored}
 use Rattle.regex_search_core.specs.declared.search.MatchKind.{MatchKind}
 use Rattle.thompson_nfa.specs.Automaton.{Automaton, IsAutomaton}
-use Rattle.nfa_paths.specs.Graphs.{NoPath}
-use Rattle.nfa_paths.specs.Paths.{edges, starts, is_utf8_empty, IsMatch, IsMatchAnswer}
+use Rattle.nfa_paths.specs.Graphs.{Pair, NoPath}
+use Rattle.nfa_paths.specs.Paths.{edges, starts, raised, is_utf8_empty, IsMatch, IsSearchAnswer, IsMatchAnswer}
 use Rattle.nfa_engines.specs.GapLaws.{PathsWriteTheirEnds, StartsBeforePaths}
+use Rattle.nfa_bounds.specs.Matches.{AnswersBytes, AnswersNoBytes, AreOneMatch, HasNoByteAt, MatchesNothing}
 use Rattle.nfa_bounds.specs.Ways.{RecordsBounds}
 
 -- each accepting path of each search writes its start and its end
@@ -20,6 +21,13 @@ NoneIsNoPathThere =
     → is_utf8_empty nfa ≡ false
     → RecordsBounds nfa
     → IsMatchAnswer nfa kind earliest x found → (found ≡ None) ↔ NoPath (edges nfa x) (starts nfa x) (IsMatch nfa)
+
+-- where it answers none, there is no accepting path
+abbrev pub NoneIsNothing : Type 0
+NoneIsNothing =
+    (nfa : Automaton) (kind : MatchKind) (earliest : Bool) (x : Search) → IsAutomaton nfa → is_utf8_empty nfa ≡ false
+    → RecordsBounds nfa
+    → IsMatchAnswer nfa kind earliest x None → MatchesNothing nfa x
 
 -- and no accepting path starts before the match
 abbrev pub NoneStartsBeforeThere : MatchKind → Bool → Type 0
@@ -35,3 +43,28 @@ AnchoredStartsTheSpan =
     → is_anchored x.anchored ≡ true
     → RecordsBounds nfa
     → IsMatchAnswer nfa kind earliest x found → IfSome found (λ m. m.start ≡ x.start)
+
+-- the match that a search of any kind answers is that of the path which it answers, and none where there is no path
+abbrev pub MatchesAreOfPaths : Type 0
+MatchesAreOfPaths =
+    (nfa : Automaton) (kind : MatchKind) (earliest : Bool) (x : Search) (restarts : ℕ) (path : Option (List Pair))
+    (found : Option Found) → IsAutomaton nfa
+    → RecordsBounds nfa
+    → IsSearchAnswer nfa kind earliest x restarts path
+    → IsMatchAnswer nfa kind earliest x found → AreOneMatch nfa (raised x restarts) path found
+
+-- an anchored search answers a path with a byte where its match has one
+abbrev pub BytesAreAnswered : Type 0
+BytesAreAnswered =
+    (nfa : Automaton) (kind : MatchKind) (earliest : Bool) (x : Search) (m : Found) → IsAutomaton nfa
+    → is_anchored x.anchored ≡ true
+    → RecordsBounds nfa
+    → IsMatchAnswer nfa kind earliest x (Some m) → x.start < m.end → AnswersBytes nfa kind earliest x
+
+-- and none where its match has no byte, or there is no match
+abbrev pub NoBytesAreAnswered : Type 0
+NoBytesAreAnswered =
+    (nfa : Automaton) (kind : MatchKind) (earliest : Bool) (x : Search) (found : Option Found) → IsAutomaton nfa
+    → is_anchored x.anchored ≡ true
+    → RecordsBounds nfa
+    → IsMatchAnswer nfa kind earliest x found → HasNoByteAt x.start found → AnswersNoBytes nfa kind earliest x

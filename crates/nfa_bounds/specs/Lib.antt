@@ -1,3 +1,4 @@
 pub mod BoundsLaws
+pub mod Matches
 pub mod Places
 pub mod Ways

@@ -1,4 +1,4 @@
-//! What `records_bounds` means for searches. Each function is empty: its contract is the theorem.
+//! What `records_bounds` means for searches. Each function is empty, but for one that reads: its contract is the theorem.
 //!
 //! Take one where a proof needs that no match is missed: the call costs nothing when it runs, and its clauses are at
 //! hand in the proof of the function that makes it. What holds of every NFA stands in the laws of `nfa_engines`.
@@ -9,8 +9,19 @@
 //! ```
 ghost use Rattle.regex_search_core.specs.declared.search.MatchKind.TheVariants.{LeftmostFirst};
 ghost use Rattle.std.specs.Prelude.{false};
-ghost use Rattle.nfa_bounds.specs.BoundsLaws.{AnchoredStartsTheSpan, EverySearchIsRecorded, NoneIsNoPathThere};
-ghost use Rattle.nfa_bounds.specs.BoundsLaws.{NoneStartsBeforeThere};
+ghost use Rattle.thompson_nfa.specs.Automaton.{IsAutomaton};
+ghost use Rattle.nfa_bounds.specs.BoundsLaws.{AnchoredStartsTheSpan, BytesAreAnswered, EverySearchIsRecorded};
+ghost use Rattle.nfa_bounds.specs.BoundsLaws.{MatchesAreOfPaths, NoBytesAreAnswered, NoneIsNothing};
+ghost use Rattle.nfa_bounds.specs.BoundsLaws.{NoneIsNoPathThere, NoneStartsBeforeThere};
+
+use nfa_engines::pikevm::PikeVM;
+
+/// The NFA that a PikeVM searches for is one that `NFA::from_states` takes. The laws ask for that.
+pub fn pikevm_nfa_is_valid(vm: &PikeVM)
+    ensures { IsAutomaton vm.now.nfa }
+{
+    vm.get_nfa().pattern_len();
+}
 
 /// Where `records_bounds` is true, each accepting path of each search writes its start and its end into the two slots
 /// of its pattern: what `nfa_engines::laws::no_gap` asks of an NFA.
@@ -23,10 +34,25 @@ pub fn bounds_are_written()
 /// match.
 pub fn no_match_is_passed_over()
     ensures none { NoneIsNoPathThere }
+    ensures nothing { NoneIsNothing }
     ensures start { NoneStartsBeforeThere LeftmostFirst false }
 {}
 
 /// And the match of an anchored search starts where its span does, of each match kind, `earliest` or not.
 pub fn anchored_matches_start_the_span()
     ensures { AnchoredStartsTheSpan }
+{}
+
+/// The match of a search is that of the path which the search answers: its pattern, its start and its end. Where the
+/// search answers no path there is no match. So it is of each match kind, `earliest` or not, and also where a match has
+/// to end on a boundary.
+pub fn matches_are_of_paths()
+    ensures { MatchesAreOfPaths }
+{}
+
+/// An anchored search tells whether the path that it answers reads a byte: exactly where its match has one. Where it
+/// has none, though each accepting path reads a byte, and a match may end anywhere, there is no such path.
+pub fn anchored_matches_tell_bytes()
+    ensures some { BytesAreAnswered }
+    ensures none { NoBytesAreAnswered }
 {}

@@ -2,8 +2,8 @@
 ghost use Rattle.std.specs.Prelude.{◌≡◌, IfOk, true, false};
 ghost use Rattle.regex_search_core.specs.Search.{search_of};
 ghost use Rattle.nfa_engines.specs.Engines.{Fits};
-ghost use Rattle.nfa_paths.specs.Graphs.{NoPath};
-ghost use Rattle.nfa_paths.specs.Paths.{edges, starts, is_utf8_empty, IsMatch};
+ghost use Rattle.nfa_paths.specs.Paths.{is_utf8_empty};
+ghost use Rattle.nfa_bounds.specs.Matches.{MatchesNothing};
 
 use nfa_bounds::laws::no_match_is_passed_over;
 use nfa_bounds::records_bounds;
@@ -20,12 +20,14 @@ pub fn surely_matches_nothing(
 ) -> Result<bool, AllocError>
     requires fits { Fits cache.old vm.now.nfa }
     requires anywhere { is_utf8_empty vm.now.nfa ≡ false }
-    ensures { IfOk result (λ sure. sure ≡ true → NoPath (edges vm.now.nfa (search_of input.entry))
-        (starts vm.now.nfa (search_of input.entry)) (IsMatch vm.now.nfa)) }
+    ensures { IfOk result (λ sure. sure ≡ true → MatchesNothing vm.now.nfa (search_of input.entry)) }
 {
     no_match_is_passed_over();
     if !records_bounds(alloc, vm.get_nfa())? {
         return Ok(false);
     }
-    Ok(vm.find(cache, input).is_none())
+    match vm.find(cache, input) {
+        None => Ok(true),
+        Some(_) => Ok(false),
+    }
 }

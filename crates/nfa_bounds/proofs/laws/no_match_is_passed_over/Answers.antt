@@ -1,4 +1,6 @@
 -- What `no_gap` asks holds of each search.
+use Rattle.std.proofs.Common.{refl}
+use Rattle.std.specs.Prelude.{None}
 use Rattle.nfa_engines.proofs.GapLemmas.{none-is_no_path, none-starts_before}
 use Rattle.nfa_bounds.proofs.LawLemmas.{paths-recorded}
 use Rattle.nfa_bounds.proofs.laws.no_match_is_passed_over.Goals as goal
@@ -6,6 +8,12 @@ use Rattle.nfa_bounds.proofs.laws.no_match_is_passed_over.Goals as goal
 pub returns-clause-none : goal.returns-clause-none
 returns-clause-none c = λ nfa kind earliest x found valid anywhere records.
     none-is_no_path nfa valid x anywhere (paths-recorded nfa x records) kind earliest found
+
+pub returns-clause-nothing : goal.returns-clause-nothing
+returns-clause-nothing c = λ nfa kind earliest x valid anywhere records answer.
+    record {
+      no_path = (none-is_no_path nfa valid x anywhere (paths-recorded nfa x records) kind earliest None answer).0 refl;
+    }
 
 pub returns-clause-start : goal.returns-clause-start
 returns-clause-start c = λ nfa x found valid anywhere records.
