@@ -1,4 +1,4 @@
-//! What the tests of programs write to and read from: a writer that refuses, and a reader that cannot be read.
+//! What tests of programs write to and read from: a writer that refuses, and a reader that cannot be read.
 #![tactic(auto)]
 
 use std::io::{self, Read, Write};
