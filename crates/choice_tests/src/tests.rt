@@ -281,7 +281,8 @@ fn expect_shown(rt: &impl Abort, alloc: Global, choice: &mut Choice) -> Result<(
     assert!(rt; shown.as_str().ends_with(" }, ran: Some(Backtracker) }"));
     let matches = choice.find_iter(Input::new(b"a"));
     let want = format!(in alloc;
-        "ChoiceMatches {{ choice: {shown}, steps: Steps {{ searcher: Searcher {{ input: {:?}, last_match_end: None }}, asker: ByRule, done: false }} }}",
+        "ChoiceMatches {{ choice: {shown}, steps: Steps {{ searcher: Searcher {{ input: {:?}, \
+        last_match_end: None }}, asker: ByRule, done: false }} }}",
         Input::new(b"a")
     )?;
     assert_eq!(rt; format!(in alloc; "{matches:?}")?.as_str(), want.as_str());

@@ -34,13 +34,13 @@ module _ (vm : Pike) (text : List ℕ) where
 
   -- tokens from the last to the first: the last ends at this offset, each starts where the one before it in the text
   -- ends, and the first starts at 0
-  abbrev pub EndAt : ℕ → List Token → Type 0
-  EndAt end [] = end ≡ 0
-  EndAt end (token ∷ before) = (token.span.end ≡ end) × IsToken token × EndAt token.span.start before
+  abbrev pub TokensEndAt : ℕ → List Token → Type 0
+  TokensEndAt end [] = end ≡ 0
+  TokensEndAt end (token ∷ before) = (token.span.end ≡ end) × IsToken token × TokensEndAt token.span.start before
 
   -- the tokens are the text up to this offset, with no gap and no overlap
   abbrev pub AreTokens : List Token → ℕ → Type 0
-  AreTokens tokens end = EndAt end (reverse tokens)
+  AreTokens tokens end = TokensEndAt end (reverse tokens)
 
   -- At this place, before the end of the text, the search that is bound to start there gives this, which is no token.
   pub record IsStuck (stuck : Stuck) : Type 0 where

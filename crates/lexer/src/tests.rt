@@ -1,8 +1,7 @@
 //! Tests of what no clause says: the language of the patterns, the texts that are printed, and what ends the program.
 use crate::report::run;
-use std::io;
-use std::io::{Read, Write};
 use std::test::Fail;
+use test_io::{Refusing, Unreadable};
 
 #[test]
 fn prints_the_tokens(rt: HostRuntime) -> Result<(), Fail> {
@@ -40,51 +39,19 @@ fn prints_the_tokens(rt: HostRuntime) -> Result<(), Fail> {
     Ok(())
 }
 
-// Takes so many writes, and refuses each one after them.
-#[derive(Drop)]
-struct Refusing {
-    left: usize,
-    refused: usize,
-}
-
-impl Write for Refusing {
-    fn write(&mut self, buf: &[u8]) -> io::Result<usize> {
-        if self.left == 0 {
-            self.refused = self.refused.saturating_add(1);
-            return Err(io::Error::from(io::ErrorKind::BrokenPipe));
-        }
-        self.left -= 1;
-        Ok(buf.len())
-    }
-
-    fn flush(&mut self) -> io::Result<()> {
-        Ok(())
-    }
-}
-
 #[test]
 fn ends_where_a_write_fails(rt: HostRuntime) -> Result<(), Fail> {
     let alloc = rt.alloc();
     let mut taken_all = false;
     for left in 0..48 {
-        let mut out = Refusing { left, refused: 0 };
+        let mut out = Refusing::after(left);
         let ended = run(alloc, &b"a = 1\n\""[..], &mut out);
-        assert_eq!(rt; ended.is_err(), out.refused == 1, "{left} writes");
-        assert!(rt; out.refused <= 1, "{left} writes");
+        assert_eq!(rt; ended.is_err(), out.refused() == 1, "{left} writes");
+        assert!(rt; out.refused() <= 1, "{left} writes");
         taken_all = taken_all || ended.is_ok();
     }
     assert!(rt; taken_all);
     Ok(())
-}
-
-// Cannot be read.
-#[derive(Drop)]
-struct Unreadable;
-
-impl Read for Unreadable {
-    fn read(&mut self, _: &mut [u8]) -> io::Result<usize> {
-        Err(io::Error::from(io::ErrorKind::PermissionDenied))
-    }
 }
 
 #[test]

@@ -30,8 +30,8 @@ fn number_in(text: &[u8]) -> usize {
 }
 
 /// Reads how many requests to make before all cases, runs these, and says what came of them: `wrong` and the case, or
-/// `ok`; whether a call said that it was refused; and which request was refused: one before all cases, the one before or
-/// behind the PikeVM's searches, one behind all cases, which shows that no earlier one was, or another.
+/// `ok`; whether a call said that it was refused; and which request was refused: one before all cases, the one before
+/// or behind the PikeVM's searches, one behind all cases, which shows that no earlier one was, or another.
 fn main(rt: HostRuntime) -> io::Result<ExitCode> {
     let mut text = [0; 16];
     let mut input = rt.stdin();

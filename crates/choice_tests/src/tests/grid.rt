@@ -1,13 +1,15 @@
-//! `Choice` beside the PikeVM, over each sample: each span of some haystacks, three anchorings, and three capacities.
+//! `Choice` beside the PikeVM, over each sample: each span of some haystacks, four ways to search it, and three
+//! capacities.
 
 use nfa_choice::choose::Choice;
 use nfa_engines::backtrack;
 use nfa_engines::pikevm::{self, PikeVM};
-use regex_search_core::{Anchored, Input, NonMaxUsize, PatternID};
+use regex_search_core::{Input, NonMaxUsize};
 use std::alloc::Global;
 use std::process::Abort;
 use std::test::Fail;
 use test_support::made::{MakeError, NAMES, pikevm};
+use test_support::searches::searches_of;
 use thompson_nfa::NFA;
 
 const HAYSTACKS: &[&[u8]] = &[
@@ -70,25 +72,6 @@ fn expect_same_on(
         expect_same_slots(rt, vm, threads, choice, input);
         expect_same_match(rt, vm, threads, choice, input);
     }
-}
-
-// The searches of each span of the haystack: unanchored, anchored, and anchored for the first pattern.
-fn searches_of<'h>(alloc: Global, haystack: &'h [u8]) -> Result<Vec<Input<'h>>, Fail> {
-    let mut searches = Vec::new(alloc);
-    for start in 0..haystack.len() + 1 {
-        for end in start..haystack.len() + 1 {
-            add_modes(&mut searches, Input::new(haystack).range(start..end))?;
-        }
-    }
-    Ok(searches)
-}
-
-fn add_modes<'h>(searches: &mut Vec<Input<'h>>, input: Input<'h>) -> Result<(), Fail> {
-    let first = PatternID::new(0).ok_or("too great a number")?;
-    searches.push(input)?;
-    searches.push(input.anchored(Anchored::Yes))?;
-    searches.push(input.anchored(Anchored::Pattern(first)))?;
-    Ok(())
 }
 
 fn expect_same(
