@@ -6,6 +6,7 @@ use Rattle.regex_search_core.specs.Search.{Search}
 use Rattle.regex_search_core.specs.declared.search.Anchored.TheVariants.{Yes}
 use Rattle.nfa_engines.specs.Engines.{Pike, kind_of}
 use Rattle.nfa_engines.specs.Paths.{IsMatchAnswer}
+use Rattle.nfa_bounds.specs.Matches.{AnswersBytes, AnswersNoBytes, HasNoByteAt}
 use Rattle.lexer.specs.declared.lexer.Stuck.{Stuck}
 use Rattle.lexer.specs.declared.lexer.Token.{Token}
 
@@ -27,6 +28,14 @@ end_of_tokens None len = len
 end_of_tokens (Some stuck) len = stuck.at
 
 module _ (vm : Pike) (text : List ℕ) where
+  -- The path that the search bound to this place answers, the first of all its accepting paths, reads a byte at least.
+  abbrev pub StartsToken : ℕ → Type 0
+  StartsToken at = AnswersBytes vm.nfa (kind_of vm) false (search_at text at)
+
+  -- That path reads no byte, or there is none. If no pattern matches the empty text there, none matches anything.
+  abbrev pub StartsNoToken : ℕ → Type 0
+  StartsNoToken at = AnswersNoBytes vm.nfa (kind_of vm) false (search_at text at)
+
   -- the token is what the search that is bound to its start answers, and has a byte at least
   pub record IsToken (token : Token) : Type 0 where
     pub answer : IsMatchAnswer vm.nfa (kind_of vm) false (search_at text token.span.start) (Some (token_found token))
@@ -46,4 +55,4 @@ module _ (vm : Pike) (text : List ℕ) where
   pub record IsStuck (stuck : Stuck) : Type 0 where
     pub before_end : stuck.at < length text
     pub answer : IsMatchAnswer vm.nfa (kind_of vm) false (search_at text stuck.at) (option_map found_of stuck.found)
-    pub no_token : IfSome stuck.found (λ m. (found_of m).start ≡ stuck.at → (found_of m).end ≤ stuck.at)
+    pub no_token : HasNoByteAt stuck.at (option_map found_of stuck.found)

@@ -1,8 +1,10 @@
 //! The tokens of a text, one after the other, by anchored searches.
 ghost use Rattle.std.specs.Prelude.{◌≡◌, ◌≤◌, ◌<◌, IfErr, IfOk, IfSome, drop, flat_map, length, ◌++◌};
 ghost use Rattle.nfa_engines.specs.Engines.{Fits, SameNumbers};
-ghost use Rattle.lexer.specs.Tokens.{AreTokens, IsStuck, IsToken, end_of_tokens, text_of};
+ghost use Rattle.nfa_bounds.specs.Ways.{RecordsBounds};
+ghost use Rattle.lexer.specs.Tokens.{AreTokens, IsStuck, IsToken, StartsNoToken, StartsToken, end_of_tokens, text_of};
 
+use nfa_bounds::laws::{anchored_matches_tell_bytes, pikevm_nfa_is_valid};
 use nfa_engines::pikevm::{Cache, PikeVM};
 use regex_search_core::{Anchored, Input, Match, PatternID, Span};
 use std::alloc::{AllocError, Global};
@@ -40,8 +42,12 @@ pub fn token_at(vm: &PikeVM, cache: &mut Cache, text: &[u8], at: usize) -> Resul
     ensures inside { IfOk result (λ token. token.span.end ≤ length text.now) }
     ensures stuck { IfErr result (IsStuck vm.now text.now) }
     ensures place { IfErr result (λ stuck. stuck.at ≡ at) }
+    ensures starts { RecordsBounds vm.now.nfa → IfOk result (λ token. StartsToken vm.now text.now token.span.start) }
+    ensures starts_none { RecordsBounds vm.now.nfa → IfErr result (λ stuck. StartsNoToken vm.now text.now stuck.at) }
     ensures numbers { SameNumbers cache.old cache.new }
 {
+    anchored_matches_tell_bytes();
+    pikevm_nfa_is_valid(vm);
     let input = Input::new(text)
         .range(at..text.len())
         .anchored(Anchored::Yes);

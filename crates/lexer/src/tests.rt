@@ -1,5 +1,7 @@
 //! Tests of what no clause says: the language of the patterns, the texts that are printed, and what ends the program.
+use crate::patterns::language;
 use crate::report::run;
+use nfa_bounds::records_bounds;
 use std::test::Fail;
 use test_io::{Refusing, Unreadable};
 
@@ -59,5 +61,13 @@ fn ends_where_the_input_is_not_read(rt: HostRuntime) -> Result<(), Fail> {
     let mut out = Vec::new(rt.alloc());
     let ended = run(rt.alloc(), Unreadable, &mut out);
     assert!(rt; ended.is_err() && out.is_empty());
+    Ok(())
+}
+
+// So no match is passed over, and a search that finds nothing says that nothing matches.
+#[test]
+fn nfa_records_its_bounds(rt: HostRuntime) -> Result<(), Fail> {
+    let nfa = language(rt.alloc())?;
+    assert!(rt; records_bounds(rt.alloc(), &nfa)?);
     Ok(())
 }

@@ -1,7 +1,9 @@
 //! Tests of what no clause says: the language of a line, the texts that are printed, and what ends the program.
 use crate::options::Options;
 use crate::parser::Parser;
+use crate::pattern::line_nfa;
 use crate::report::run;
+use nfa_bounds::records_bounds;
 use std::io;
 use std::io::{BufReader, Read, Write};
 use std::test::Fail;
@@ -151,5 +153,13 @@ fn ends_where_the_input_is_not_read(rt: HostRuntime) -> Result<(), Fail> {
         // The counts stand at the end of an input that was read.
         assert!(rt; !out.ends_with(b"not matching 0\n"));
     }
+    Ok(())
+}
+
+// So no match is passed over, and a search that finds nothing says that nothing matches.
+#[test]
+fn nfa_records_its_bounds(rt: HostRuntime) -> Result<(), Fail> {
+    let nfa = line_nfa(rt.alloc())?;
+    assert!(rt; records_bounds(rt.alloc(), &nfa)?);
     Ok(())
 }

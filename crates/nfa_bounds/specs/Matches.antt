@@ -7,8 +7,7 @@ use Rattle.thompson_nfa.specs.Automaton.{Automaton}
 use Rattle.nfa_paths.specs.Graphs.{Pair, EndsWith, PathTo, NoPath}
 use Rattle.nfa_paths.specs.Paths.{edges, starts, is_utf8_empty, path_pattern, IsMatch, IsSearchAnswer}
 
--- The search has no accepting path: nothing that it may match is there. (A record, so that a law which concludes it shows
--- of which NFA and search.)
+-- The search has no accepting path. (A record, so that what concludes it shows the NFA and the search.)
 pub record MatchesNothing (nfa : Automaton) (x : Search) : Type 0 where
   pub no_path : NoPath (edges nfa x) (starts nfa x) (IsMatch nfa)
 
@@ -47,8 +46,8 @@ module _ (nfa : Automaton) (kind : MatchKind) (earliest : Bool) where
     pub ends : EndsWith end along
     pub some_bytes : x.start < end.1
 
-  -- That path reads no byte, or there is none. Where a match may end anywhere, and each accepting path reads a byte, there
-  -- is no accepting path.
+  -- That path reads no byte, or there is none. Where a match may end anywhere, and each accepting path reads a byte,
+  -- there is no accepting path.
   pub record AnswersNoBytes (x : Search) : Type 0 where
     pub no_bytes : ¬ AnswersBytes x
     pub nothing : is_utf8_empty nfa ≡ false → PathsReadBytes nfa x → MatchesNothing nfa x

@@ -1,11 +1,15 @@
-//! What `records_bounds` means for searches. Each function is empty, but for one that reads: its contract is the theorem.
+//! What `records_bounds` means for searches. Each function is empty, or only reads: its contract is the theorem.
 //!
 //! Take one where a proof needs that no match is missed: the call costs nothing when it runs, and its clauses are at
 //! hand in the proof of the function that makes it. What holds of every NFA stands in the laws of `nfa_engines`.
 //!
 //! ```
 //! no_match_is_passed_over();
-//! let nothing = records_bounds(alloc, vm.get_nfa())? && vm.find(&mut cache, input).is_none();
+//! let recorded = records_bounds(alloc, vm.get_nfa())?;
+//! match vm.find(&mut cache, input) {
+//!     None => Ok(recorded),
+//!     Some(_) => Ok(false),
+//! }
 //! ```
 ghost use Rattle.regex_search_core.specs.declared.search.MatchKind.TheVariants.{LeftmostFirst};
 ghost use Rattle.std.specs.Prelude.{false};

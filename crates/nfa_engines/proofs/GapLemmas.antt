@@ -51,7 +51,8 @@ module _ (nfa : Automaton) where
   match-made slots q start end from to ordered = rw (from, to, le-leb start end ordered) refl
 
   -- the match of a path that writes its ends is the path's
-  pub path-match : IsAutomaton nfa → (x : Search) (end : Pair) (p : List Pair) → PathTo (edges nfa x) (starts nfa x) end p
+  pub path-match : IsAutomaton nfa → (x : Search) (end : Pair) (p : List Pair)
+      → PathTo (edges nfa x) (starts nfa x) end p
       → (writes : WritesItsEnds nfa end p)
       → match_of (path_pattern nfa p) (slot_row nfa (slot_count nfa.groups) (Some p))
       ≡ Some (record { pattern = writes.pattern; start = writes.start.1; end = end.1 })
