@@ -1,5 +1,5 @@
 -- The groups that names in a template mean.
-use Rattle.std.specs.Prelude.{ℕ, ◌≡◌, ◌⊎◌, ◌<◌, ◌≤◌, ◌^◌, List, Option, None, Some, IsSome}
+use Rattle.std.specs.Prelude.{ℕ, ◌≡◌, ◌⊎◌, ◌<◌, ◌≤◌, ◌^◌, List, Option, None, option_map}
 use Rattle.std.specs.Str.{IsUtf8}
 use Rattle.std.specs.Str.Parse.{IsNumeral, digits_value, without_leading_plus}
 use Rattle.regex_search_core.specs.Groups.{group_named, slot_at}
@@ -9,24 +9,19 @@ abbrev pub IsWord : ℕ → Type 0
 IsWord byte =
     (byte ≡ 95) ⊎ (((48 ≤ byte) × (byte ≤ 57)) ⊎ (((65 ≤ byte) × (byte ≤ 90)) ⊎ ((97 ≤ byte) × (byte ≤ 122))))
 
--- the name is a number of 64 bits, as `parse` reads it
-abbrev pub IsNumber : List ℕ → ℕ → Type 0
-IsNumber name n =
-    IsNumeral 10 (without_leading_plus name) × (digits_value 10 (without_leading_plus name) ≡ n) × (n < 2 ^ 64)
+-- the number that the digits of the name write
+abbrev pub number_in : List ℕ → ℕ
+number_in name = digits_value 10 (without_leading_plus name)
 
--- the name is no number
-abbrev pub IsNoNumber : List ℕ → Type 0
-IsNoNumber name = (n : ℕ) → ¬ IsNumber name n
+-- the name is a number of 64 bits, as `parse` reads it
+abbrev pub IsNumber : List ℕ → Type 0
+IsNumber name = IsNumeral 10 (without_leading_plus name) × (number_in name < 2 ^ 64)
 
 module _ (groups : List (List (Option (List ℕ)))) (pattern : ℕ) (name : List ℕ) where
-  -- the name means this group of the pattern, which has it: by its number, or by its name
-  abbrev pub IsMeant : ℕ → Type 0
-  IsMeant group =
-      (IsNumber name group × IsSome (slot_at groups pattern group))
-      ⊎ (IsNoNumber name × (group_named groups pattern name ≡ Some group))
-
-  -- the name, if it is a text, is neither the number nor the name of a group of the pattern
-  abbrev pub IsUnknown : Type 0
-  IsUnknown =
-      IsUtf8 name → ((n : ℕ) → IsNumber name n → slot_at groups pattern n ≡ None)
-      × (IsNoNumber name → group_named groups pattern name ≡ None)
+  -- the name means this group of the pattern: that of its number, where it is one, else that of its name; and none
+  -- where the pattern has no such group, or the name is no text
+  pub record Means (group : Option ℕ) : Type 0 where
+    pub no_text : ¬ IsUtf8 name → group ≡ None
+    pub by_number : IsUtf8 name → IsNumber name
+        → group ≡ option_map (λ _. number_in name) (slot_at groups pattern (number_in name))
+    pub by_name : IsUtf8 name → ¬ IsNumber name → group ≡ group_named groups pattern name

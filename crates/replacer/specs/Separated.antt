@@ -1,15 +1,16 @@
 -- What stands before, between and behind the matches of a text.
-use Rattle.std.specs.Prelude.{ℕ, ◌≡◌, ◌+◌, ◌≤◌, ◌⊎◌, false, List, [], ◌∷◌, ◌++◌, drop, length, map, flat_map, slice_range}
+use Rattle.std.specs.Prelude.{ℕ, ◌≡◌, ◌+◌, ◌≤◌, ◌⊎◌, ◌==◌, if◌then◌else◌, false, List, [], ◌∷◌, ◌++◌, drop, length, map}
+use Rattle.std.specs.Prelude.{reverse, slice_range, take, Option, None, Some}
 use Rattle.std.specs.Borrow.{Bor}
-use Rattle.regex_search_core.specs.Found.{Found}
+use Rattle.regex_search_core.specs.Found.{Found, found_of}
 use Rattle.regex_search_core.specs.Search.{whole}
+use Rattle.regex_search_core.specs.declared.search.Match.{Match}
 use Rattle.nfa_engines.specs.Engines.{Pike, kind_of}
-use Rattle.nfa_engines.specs.Lists.{AreFirstMatches, AreMatches}
+use Rattle.nfa_engines.specs.Lists.{AreApart, AreFirstMatches, AreMatches}
 
--- the matches lie one behind the other, from the first offset on and up to the last
-abbrev pub AreInOrder : ℕ → List Found → ℕ → Type 0
-AreInOrder from [] to = from ≤ to
-AreInOrder from (m ∷ ms) to = (from ≤ m.start) × (m.start ≤ m.end) × AreInOrder m.end ms to
+-- where the last one ended of the first i matches: at this offset, if there is one
+abbrev pub last_end : ℕ → ℕ → Option ℕ
+last_end i from = if i == 0 then None else Some from
 
 -- the text of a match
 abbrev pub match_text : List ℕ → Found → List ℕ
@@ -20,11 +21,20 @@ abbrev pub gaps : List ℕ → ℕ → List Found → List (List ℕ)
 gaps haystack from [] = drop from haystack ∷ []
 gaps haystack from (m ∷ ms) = slice_range haystack from m.start ∷ gaps haystack m.end ms
 
+-- fields and the match behind each, from the last to the first, joined in their order
+abbrev pub turns : List (List ℕ) → List (List ℕ) → List ℕ
+turns (field ∷ fields) (m ∷ matches) = turns fields matches ++ field ++ m
+turns (field ∷ fields) [] = []
+turns [] matches = []
+
+-- fields and matches from the last to the first: the last field stands behind all matches
+abbrev pub woven_back : List (List ℕ) → List (List ℕ) → List ℕ
+woven_back [] matches = []
+woven_back (field ∷ fields) matches = turns fields matches ++ field
+
 -- fields and matches in turn, joined
 abbrev pub woven : List (List ℕ) → List (List ℕ) → List ℕ
-woven [] matches = flat_map (λ m. m) matches
-woven (field ∷ fields) [] = field ++ woven fields []
-woven (field ∷ fields) (m ∷ ms) = field ++ m ++ woven fields ms
+woven fields matches = woven_back (reverse fields) (reverse matches)
 
 -- what the slices hold
 abbrev pub texts : List (Bor (List ℕ)) → List (List ℕ)
@@ -35,6 +45,18 @@ module _ (haystack : List ℕ) where
   pub record AreAround (matches : List Found) (fields : List (List ℕ)) : Type 0 where
     pub fields_are : fields ≡ gaps haystack 0 matches
     pub joined : woven fields (map (match_text haystack) matches) ≡ haystack
+
+  -- These fields were cut out, up to this offset, which is where the last one ended of the first i matches: they and
+  -- what stands around the matches that are left are what stands around all.
+  pub record HasCut (matches : List Match) (i from : ℕ) (fields : List (List ℕ)) : Type 0 where
+    pub fields_are : fields ++ gaps haystack from (map found_of (drop i matches))
+        ≡ gaps haystack 0 (map found_of matches)
+    pub count : length fields ≡ i
+    pub first : i ≡ 0 → from ≡ 0
+    pub within : from ≤ length haystack
+    pub apart : AreApart (whole haystack) (last_end i from) (map found_of (drop i matches))
+    pub joined : turns (reverse fields) (reverse (map (match_text haystack) (map found_of (take i matches))))
+        ++ drop from haystack ≡ haystack
 
   module _ (vm : Pike) where
     -- the fields are what stands around the matches of the haystack

@@ -1,7 +1,8 @@
 -- How a template is written.
-use Rattle.std.specs.Prelude.{ℕ, ◌≡◌, ◌≢◌, ◌⊎◌, ◌+◌, ◌-◌, ◌<◌, List, [], ◌∷◌, Option, length, reverse, slice_index, slice_range, ⊤}
+use Rattle.std.specs.Prelude.{ℕ, ◌≡◌, ◌≢◌, ◌⊎◌, ◌+◌, ◌-◌, ◌<◌, List, [], ◌∷◌, Option, Some, None, length}
+use Rattle.std.specs.Prelude.{reverse, slice_index, slice_range, ⊤}
 use Rattle.std.specs.List.{AllWithin}
-use Rattle.replacer.specs.Names.{IsMeant, IsUnknown, IsWord}
+use Rattle.replacer.specs.Names.{IsWord, Means}
 use Rattle.replacer.specs.declared.template.Part.{Part}
 use Rattle.replacer.specs.declared.template.Part.TheVariants.{Text, Group}
 use Rattle.replacer.specs.declared.template.TemplateError.{TemplateError}
@@ -24,6 +25,10 @@ Has text at byte = (at < length text) × (slice_index text at ≡ byte)
 -- none of the bytes from one offset to another is this one
 abbrev pub HasNo : List ℕ → ℕ → ℕ → ℕ → Type 0
 HasNo text from to byte = AllWithin (λ b. b ≢ byte) text from to
+
+-- a name without braces begins there
+abbrev pub BeginsName : List ℕ → ℕ → Type 0
+BeginsName text at = (at < length text) × IsWord (slice_index text at)
 
 -- neither a dollar, a brace nor a name stands there
 abbrev pub NothingBegins : List ℕ → ℕ → Type 0
@@ -50,15 +55,15 @@ module _ (groups : List (List (Option (List ℕ)))) (pattern : ℕ) (text : List
     pub opening : Has text (start + 1) open_brace
     pub closing : Has text (end - 1) close_brace
     pub inside : HasNo text (start + 2) (end - 1) close_brace
-    pub meant : IsMeant groups pattern (slice_range text (start + 2) (end - 1)) group
+    pub meant : Means groups pattern (slice_range text (start + 2) (end - 1)) (Some group)
 
   -- a group whose name is the longest run of letters, digits and underscores behind the dollar
   pub record IsBare (start end group : ℕ) : Type 0 where
     pub first : Has text start dollar
-    pub some_bytes : start + 1 < end
+    pub begins : BeginsName text (start + 1)
     pub word : AllWithin IsWord text (start + 1) end
     pub longest : end < length text → ¬ IsWord (slice_index text end)
-    pub meant : IsMeant groups pattern (slice_range text (start + 1) end) group
+    pub meant : Means groups pattern (slice_range text (start + 1) end) (Some group)
 
   -- the text says this part between these offsets
   abbrev pub IsPart : ℕ → ℕ → Part → Type 0
@@ -78,6 +83,6 @@ module _ (groups : List (List (Option (List ℕ)))) (pattern : ℕ) (text : List
   -- what stands between these offsets names no group; or a brace behind this dollar is not closed
   abbrev pub IsMistake : TemplateError → Type 0
   IsMistake Memory = ⊤
-  IsMistake (UnknownGroup start end) = IsUnknown groups pattern (slice_range text start end)
+  IsMistake (UnknownGroup start end) = Means groups pattern (slice_range text start end) None
   IsMistake (Unclosed at) =
       Has text at dollar × Has text (at + 1) open_brace × HasNo text (at + 2) (length text) close_brace

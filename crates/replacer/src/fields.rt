@@ -50,6 +50,7 @@ pub fn splitn<'h>(
 }
 
 /// What stands before, between and behind these matches.
+#[tactic(auto, using(std::proofs::lemmas::Grind::common_steps, std::proofs::lemmas::List::Folds::drop_split))]
 fn fields_between<'h>(
     alloc: Global,
     haystack: &'h [u8],

@@ -1,14 +1,14 @@
 //! How a template names a group.
-ghost use Rattle.std.specs.Prelude.{◌↔◌, IfNone, IfSome, IsTrue};
+ghost use Rattle.std.specs.Prelude.{MatchBool};
 ghost use Rattle.regex_search_core.specs.Patterns.{number_of};
-ghost use Rattle.replacer.specs.Names.{IsMeant, IsUnknown, IsWord};
+ghost use Rattle.replacer.specs.Names.{IsWord, Means};
 
 use regex_search_core::{GroupInfo, PatternID};
 use std::str;
 
 /// Whether the byte may stand in a name that has no braces: a letter, a digit or an underscore.
 pub fn is_word(byte: u8) -> bool
-    ensures { IsTrue result ↔ IsWord byte }
+    ensures { MatchBool result (IsWord byte) (¬ IsWord byte) }
 {
     matches!(byte, b'_' | b'0'..=b'9' | b'A'..=b'Z' | b'a'..=b'z')
 }
@@ -16,8 +16,7 @@ pub fn is_word(byte: u8) -> bool
 /// The group of the pattern that is meant: by its number where the name is one, else by its name. None where the
 /// pattern has no such group.
 pub fn group_of(groups: &GroupInfo, pattern: PatternID, name: &[u8]) -> Option<usize>
-    ensures meant { IfSome result (IsMeant groups.now (number_of pattern) name.now) }
-    ensures unknown { IfNone result (IsUnknown groups.now (number_of pattern) name.now) }
+    ensures { Means groups.now (number_of pattern) name.now result }
 {
     let Ok(name) = str::from_utf8(name) else {
         return None;

@@ -1,7 +1,10 @@
 //! A text with something else in place of its matches.
-ghost use Rattle.std.specs.Prelude.{◌≡◌, IfOk};
+ghost use Rattle.std.specs.Prelude.{◌≡◌, ◌≤◌, ◌++◌, All, IfOk, None, OnOk, map};
+ghost use Rattle.regex_search_core.specs.Search.{whole};
+ghost use Rattle.nfa_engines.specs.CaughtRuns.{CapturesInside, match_in};
 ghost use Rattle.nfa_engines.specs.Engines.{Fits};
-ghost use Rattle.replacer.specs.Replaced.{IsReplaced, LieBehind, replaced};
+ghost use Rattle.nfa_engines.specs.Lists.{AreApart};
+ghost use Rattle.replacer.specs.Replaced.{IsReplaced, replaced, replaced_one};
 
 use crate::found::all_captures;
 use crate::template::Template;
@@ -34,19 +37,38 @@ fn replace_caught(
     caught: &[Captures],
     template: &Template<'_>,
 ) -> Result<Vec<u8>, AllocError>
-    requires { LieBehind haystack.now 0 caught.now }
+    requires inside { All (CapturesInside (whole haystack.now)) caught.now }
+    requires apart { AreApart (whole haystack.now) None (map match_in caught.now) }
     ensures { IfOk result (λ output. output.items ≡ replaced haystack.now template.now.parts.items 0 caught.now) }
 {
     let mut output = Vec::new(alloc);
     let mut from = 0;
     for captures in caught {
-        let Some(found) = captures.get_match() else {
-            unreachable!()
-        };
-        output.extend_from_slice(&haystack[from..found.start()])?;
-        template.fill(haystack, captures, &mut output)?;
-        from = found.end();
+        from = replace_one(haystack, from, captures, template, &mut output)?;
     }
     output.extend_from_slice(&haystack[from..])?;
     Ok(output)
+}
+
+/// Appends what stands before the match of these captures, from an offset on, and the template filled by it. The end of
+/// the match.
+fn replace_one(
+    haystack: &[u8],
+    from: usize,
+    captures: &Captures,
+    template: &Template<'_>,
+    output: &mut Vec<u8>,
+) -> Result<usize, AllocError>
+    requires inside { CapturesInside (whole haystack.now) captures.now }
+    requires before { from ≤ (match_in captures.now).start }
+    ensures output { OnOk result (output.new.items
+        ≡ output.old.items ++ replaced_one haystack.now template.now.parts.items from captures.now) }
+    ensures end { IfOk result (λ end. end ≡ (match_in captures.now).end) }
+{
+    let Some(found) = captures.get_match() else {
+        unreachable!()
+    };
+    output.extend_from_slice(&haystack[from..found.start()])?;
+    template.fill(haystack, captures, output)?;
+    Ok(found.end())
 }

@@ -2,8 +2,9 @@
 ghost use Rattle.std.specs.Prelude.{◌≡◌, ◌+◌, ◌<◌, ◌≤◌, IfErr, IfOk, length, slice_index};
 ghost use Rattle.std.specs.List.{AllWithin};
 ghost use Rattle.regex_search_core.specs.Patterns.{number_of};
-ghost use Rattle.replacer.specs.Names.{IsMeant, IsUnknown, IsWord};
-ghost use Rattle.replacer.specs.Writing.{Has, HasNo, IsMistake, IsPart, dollar, open_brace};
+ghost use Rattle.replacer.specs.Names.{IsWord};
+ghost use Rattle.replacer.specs.Writing.{BeginsName, Has, HasNo, IsBare, IsBraced, IsMistake, IsPart, dollar};
+ghost use Rattle.replacer.specs.Writing.{open_brace};
 
 use crate::name::{group_of, is_word};
 use crate::template::{Part, TemplateError};
@@ -14,6 +15,13 @@ use regex_search_core::{GroupInfo, PatternID};
 pub struct Piece<'t> {
     pub part: Part<'t>,
     pub end: usize,
+}
+
+/// A group that the text names, and the offset behind the name.
+#[derive(Clone, Copy, Debug)]
+struct Named {
+    group: usize,
+    end: usize,
 }
 
 /// The part that the text says at this offset.
@@ -35,7 +43,7 @@ pub fn piece_at<'t>(
         return Ok(Piece { part, end });
     }
     let start = at + 1;
-    let part = Part::Text(&text[at..start]);
+    let part = Part::Text(b"$");
     if start == text.len() {
         return Ok(Piece { part, end: start });
     }
@@ -44,64 +52,68 @@ pub fn piece_at<'t>(
         return Ok(Piece { part, end });
     }
     if text[start] == b'{' {
-        return braced_at(text, at, groups, pattern);
+        let named = braced_at(text, at, groups, pattern)?;
+        let part = Part::Group(named.group);
+        let end = named.end;
+        return Ok(Piece { part, end });
     }
     if is_word(text[start]) {
-        return bare_at(text, at, groups, pattern);
+        let named = bare_at(text, at, groups, pattern)?;
+        let part = Part::Group(named.group);
+        let end = named.end;
+        return Ok(Piece { part, end });
     }
     Ok(Piece { part, end: start })
 }
 
 /// The group whose name stands in braces behind the dollar at this offset.
-fn braced_at<'t>(
-    text: &'t [u8],
+fn braced_at(
+    text: &[u8],
     at: usize,
     groups: &GroupInfo,
     pattern: PatternID,
-) -> Result<Piece<'t>, TemplateError>
+) -> Result<Named, TemplateError>
     requires first { Has text.now at dollar }
     requires opening { Has text.now (at + 1) open_brace }
-    ensures part { IfOk result (λ piece. IsPart groups.now (number_of pattern) text.now at piece.end piece.part) }
-    ensures moves { IfOk result (λ piece. at < piece.end) }
-    ensures within { IfOk result (λ piece. piece.end ≤ length text.now) }
+    ensures group { IfOk result (λ named.
+        IsBraced groups.now (number_of pattern) text.now at named.end named.group) }
+    ensures moves { IfOk result (λ named. at < named.end) }
+    ensures within { IfOk result (λ named. named.end ≤ length text.now) }
     ensures mistake { IfErr result (IsMistake groups.now (number_of pattern) text.now) }
 {
     let start = at + 2;
-    let end = find_byte(text, start, b'}');
-    if end == text.len() {
+    let close = find_byte(text, start, b'}');
+    if close == text.len() {
         return Err(TemplateError::Unclosed { dollar: at });
     }
-    match group_of(groups, pattern, &text[start..end]) {
-        Some(group) => Ok(Piece {
-            part: Part::Group(group),
-            end: end + 1,
+    match group_of(groups, pattern, &text[start..close]) {
+        Some(group) => Ok(Named {
+            group,
+            end: close + 1,
         }),
-        None => Err(TemplateError::UnknownGroup { start, end }),
+        None => Err(TemplateError::UnknownGroup { start, end: close }),
     }
 }
 
 /// The group whose name is the longest one behind the dollar at this offset.
-fn bare_at<'t>(
-    text: &'t [u8],
+fn bare_at(
+    text: &[u8],
     at: usize,
     groups: &GroupInfo,
     pattern: PatternID,
-) -> Result<Piece<'t>, TemplateError>
+) -> Result<Named, TemplateError>
     requires first { Has text.now at dollar }
-    requires second { at + 1 < length text.now }
-    requires word { IsWord (slice_index text.now (at + 1)) }
-    ensures part { IfOk result (λ piece. IsPart groups.now (number_of pattern) text.now at piece.end piece.part) }
-    ensures moves { IfOk result (λ piece. at < piece.end) }
-    ensures within { IfOk result (λ piece. piece.end ≤ length text.now) }
+    requires begins { BeginsName text.now (at + 1) }
+    ensures group { IfOk result (λ named.
+        IsBare groups.now (number_of pattern) text.now at named.end named.group) }
+    ensures moves { IfOk result (λ named. at < named.end) }
+    ensures within { IfOk result (λ named. named.end ≤ length text.now) }
     ensures mistake { IfErr result (IsMistake groups.now (number_of pattern) text.now) }
 {
     let start = at + 1;
     let end = word_end(text, start);
     match group_of(groups, pattern, &text[start..end]) {
-        Some(group) => Ok(Piece {
-            part: Part::Group(group),
-            end,
-        }),
+        Some(group) => Ok(Named { group, end }),
         None => Err(TemplateError::UnknownGroup { start, end }),
     }
 }

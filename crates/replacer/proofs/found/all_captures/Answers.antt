@@ -1,11 +1,18 @@
 -- The captures of a text are all of its matches.
-use Rattle.std.proofs.Common.{◌≡◌, ◌∙◌, ap, false, Ok, map}
+use Rattle.std.proofs.Common.{◌≡◌, ◌∙◌, ap, false, IfOk, List, [], ◌∷◌, All, Ok, Result, map}
 use Rattle.std.proofs.iter.runs.Made.{run_of_exit}
+use Rattle.std.proofs.lemmas.List.Elements.{All-cons, All-head, All-nil, All-tail}
 use Rattle.regex_search_core.specs.Search.{Search, whole}
 use Rattle.nfa_engines.specs.CaughtLists.{HasGroups}
 use Rattle.nfa_engines.specs.CaughtRuns.{CapturesInside}
-use Rattle.replacer.proofs.OrderLemmas.{all_ok, captures_in_order}
 use Rattle.replacer.proofs.found.all_captures.Goals as goal
+
+-- what is true of each `Ok` is true of each value
+all_ok : {X E : Type 0} (P : X → Type 0) (xs : List X) → All (λ (item : Result X E). IfOk item P) (map Ok xs) → All P xs
+all_ok P [] h = All-nil P
+all_ok {X} {E} P (x ∷ xs) h =
+    let each : Result X E → Type 0 = λ item. IfOk item P in
+    All-cons P x xs (All-head each (Ok x) (map Ok xs) h) (all_ok P xs (All-tail each (Ok x) (map Ok xs) h))
 
 pub returns : goal.returns
 returns c =
@@ -23,5 +30,6 @@ returns c =
     record {
       rows = rows;
       groups = all_ok (HasGroups c.args.vm.now.nfa) all groups;
-      in_order = captures_in_order c.args.text.now all apart (all_ok (CapturesInside (whole c.args.text.now)) all inside);
+      inside = all_ok (CapturesInside (whole c.args.text.now)) all inside;
+      apart = apart;
     }
