@@ -5,8 +5,9 @@ use crate::pattern::line_nfa;
 use crate::report::run;
 use nfa_bounds::records_bounds;
 use std::io;
-use std::io::{BufReader, Read, Write};
+use std::io::{BufReader, Read};
 use std::test::Fail;
+use test_io::Refusing;
 
 #[test]
 fn finds_the_fields(rt: HostRuntime) -> Result<(), Fail> {
@@ -86,38 +87,16 @@ fn knows_its_words(rt: HostRuntime) -> Result<(), Fail> {
     Ok(())
 }
 
-// Takes so many writes, and refuses each one after them.
-#[derive(Drop)]
-struct Refusing {
-    left: usize,
-    refused: usize,
-}
-
-impl Write for Refusing {
-    fn write(&mut self, buf: &[u8]) -> io::Result<usize> {
-        if self.left == 0 {
-            self.refused = self.refused.saturating_add(1);
-            return Err(io::Error::from(io::ErrorKind::BrokenPipe));
-        }
-        self.left -= 1;
-        Ok(buf.len())
-    }
-
-    fn flush(&mut self) -> io::Result<()> {
-        Ok(())
-    }
-}
-
 #[test]
 fn ends_where_a_write_fails(rt: HostRuntime) -> Result<(), Fail> {
     let alloc = rt.alloc();
     let log = b"2026-11-22 14:03:07 ERROR disk full\nnoise\n";
     let mut taken_all = false;
     for left in 0..40 {
-        let mut out = Refusing { left, refused: 0 };
+        let mut out = Refusing::after(left);
         let ended = run(alloc, Options { rejects: true }, &log[..], &mut out);
-        assert_eq!(rt; ended.is_err(), out.refused == 1, "{left} writes");
-        assert!(rt; out.refused <= 1, "{left} writes");
+        assert_eq!(rt; ended.is_err(), out.refused() == 1, "{left} writes");
+        assert!(rt; out.refused() <= 1, "{left} writes");
         taken_all = taken_all || ended.is_ok();
     }
     assert!(rt; taken_all);

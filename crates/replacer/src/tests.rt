@@ -5,6 +5,7 @@ use crate::fields::{split, splitn};
 use crate::pattern::date_nfa;
 use crate::replace::replace_all;
 use crate::template::{Template, TemplateError};
+use nfa_bounds::records_bounds;
 use nfa_draft::{Draft, Expr};
 use nfa_engines::pikevm::{Cache, PikeVM};
 use regex_search_core::PatternID;
@@ -122,6 +123,14 @@ fn expect_replaced(
             "{template} in {text}"
         );
     }
+    Ok(())
+}
+
+// So no match is passed over, and a search that finds nothing says that nothing matches.
+#[test]
+fn nfa_records_its_bounds(rt: HostRuntime) -> Result<(), Fail> {
+    let nfa = date_nfa(rt.alloc())?;
+    assert!(rt; records_bounds(rt.alloc(), &nfa)?);
     Ok(())
 }
 

@@ -120,7 +120,8 @@ fn first_two(
     cache: &mut Cache,
     text: &[u8],
 ) -> Result<Vec<Match>, ListError>
-    ensures { IfOk result (λ v. AreFirstMatches engine.now.nfa LeftmostFirst false (whole text.now) (map found_of v.items)) }
+    ensures { IfOk result
+        (λ v. AreFirstMatches engine.now.nfa LeftmostFirst false (whole text.now) (map found_of v.items)) }
 {
     let mut found = Vec::new(alloc);
     for item in engine.try_find_iter(cache, Input::new(text)) {

@@ -12,16 +12,20 @@ use regex_search_core::{HalfMatch, Input, PatternID};
 use std::test::Fail;
 
 const FRESH: &str =
-    "Searcher { input: Input { haystack: [97, 98], span: Span { start: 0, end: 2 }, anchored: No, earliest: false }, last_match_end: None }";
+    "Searcher { input: Input { haystack: [97, 98], span: Span { start: 0, end: 2 }, anchored: No, \
+    earliest: false }, last_match_end: None }";
 
 const AFTER_THE_LAST: &str =
-    "Searcher { input: Input { haystack: [97, 98], span: Span { start: 3, end: 2 }, anchored: No, earliest: false }, last_match_end: Some(2) }";
+    "Searcher { input: Input { haystack: [97, 98], span: Span { start: 3, end: 2 }, anchored: No, \
+    earliest: false }, last_match_end: Some(2) }";
 
 const NEVER: &str =
-    "NFA { states: [Fail], anchored: StateID(0), unanchored: StateID(0), patterns: [], groups: GroupInfo { names: [], slot_len: 0 }, has_empty: false, utf8: false }";
+    "NFA { states: [Fail], anchored: StateID(0), unanchored: StateID(0), patterns: [], \
+    groups: GroupInfo { names: [], slot_len: 0 }, has_empty: false, utf8: false }";
 
 const UNUSED: &str =
-    "Cache { scratch: Scratch { stack: [], visited: Visited { blocks: [], used: 0, turns: Counter }, scans: Counter }, slots: [], answered: Counter, refused: Counter, past_scans: Counter, past_turns: Counter }";
+    "Cache { scratch: Scratch { stack: [], visited: Visited { blocks: [], used: 0, turns: Counter }, \
+    scans: Counter }, slots: [], answered: Counter, refused: Counter, past_scans: Counter, past_turns: Counter }";
 
 #[test]
 fn an_iterator_over_an_engine_is_shown(rt: HostRuntime) -> Result<(), Fail> {
@@ -30,7 +34,9 @@ fn an_iterator_over_an_engine_is_shown(rt: HostRuntime) -> Result<(), Fail> {
     let mut cache = engine.create_cache(alloc);
     let matches = engine.try_find_iter(&mut cache, Input::new(b"ab"));
     let want = format!(in alloc;
-        "TryFindMatches {{ cache: {UNUSED}, steps: Steps {{ searcher: {FRESH}, asker: Finder {{ engine: BoundedBacktracker {{ config: Config {{ visited_capacity: None }}, first: FirstBytes {{ .. }}, nfa: {NEVER} }}, known: None }}, done: false }} }}"
+        "TryFindMatches {{ cache: {UNUSED}, steps: Steps {{ searcher: {FRESH}, \
+        asker: Finder {{ engine: BoundedBacktracker {{ config: Config {{ visited_capacity: None }}, \
+        first: FirstBytes {{ .. }}, nfa: {NEVER} }}, known: None }}, done: false }} }}"
     )?;
     assert_eq!(rt; format!(in alloc; "{matches:?}")?.as_str(), want.as_str());
     Ok(())

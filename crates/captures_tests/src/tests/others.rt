@@ -1,7 +1,7 @@
 //! Single searches that fill captures: those of another NFA than the one that is searched, with all their slots, with
 //! those of the matches alone, and with none.
 use super::table::is_row;
-use super::{backtracker, pikevm};
+use super::{DATE_SLOTS, backtracker, pikevm};
 use nfa_engines::backtrack::{self, BoundedBacktracker};
 use nfa_engines::error::SearchError;
 use nfa_engines::pikevm::{self, PikeVM};
@@ -79,23 +79,7 @@ const ROWS: &[Row] = &[
         &[Some(0), Some(2)],
     ),
     ("groups", "groups", Nothing, b"ab", Some(0), &[]),
-    (
-        "date",
-        "date",
-        Groups,
-        b"2010-03-14",
-        Some(0),
-        &[
-            Some(0),
-            Some(10),
-            Some(0),
-            Some(4),
-            Some(5),
-            Some(7),
-            Some(8),
-            Some(10),
-        ],
-    ),
+    ("date", "date", Groups, b"2010-03-14", Some(0), DATE_SLOTS),
     // The second pattern matches, and the captures have slots for the first one alone.
     (
         "words_numbers",

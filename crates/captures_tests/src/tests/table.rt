@@ -1,6 +1,6 @@
 //! Lists of captures of the sample NFAs, of both engines.
 use super::callers::{collected, collected_with, tries_collected, tries_collected_with};
-use super::{backtracker, pikevm};
+use super::{DATE_SLOTS, backtracker, pikevm};
 use nfa_engines::Captures;
 use nfa_engines::error::SearchError;
 use std::alloc::Global;
@@ -22,23 +22,7 @@ const FOO_ROWS: &[Row] = &[
 const LISTS: &[(&str, &[u8], &[Row])] = &[
     ("a_bare", b"a", &[]),
     ("foo_num", FOOS, FOO_ROWS),
-    (
-        "date",
-        b"2010-03-14",
-        &[(
-            0,
-            &[
-                Some(0),
-                Some(10),
-                Some(0),
-                Some(4),
-                Some(5),
-                Some(7),
-                Some(8),
-                Some(10),
-            ],
-        )],
-    ),
+    ("date", b"2010-03-14", &[(0, DATE_SLOTS)]),
     (
         "groups",
         b"abac",

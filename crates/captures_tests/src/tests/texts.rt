@@ -8,7 +8,8 @@ use std::process::Abort;
 use std::test::Fail;
 
 const FRESH: &str =
-    "Searcher { input: Input { haystack: [97], span: Span { start: 0, end: 1 }, anchored: No, earliest: false }, last_match_end: None }";
+    "Searcher { input: Input { haystack: [97], span: Span { start: 0, end: 1 }, anchored: No, \
+    earliest: false }, last_match_end: None }";
 
 const NEVER: &str =
     "Captures { group_info: GroupInfo { names: [], slot_len: 0 }, pattern: None, slots: [] }";
@@ -22,7 +23,8 @@ fn expect_tries(
     let shown = format!(in alloc; "{cache:?}")?;
     let items = engine.try_captures_iter(alloc, cache, Input::new(b"a"))?;
     let want = format!(in alloc;
-        "TryCapturesMatches {{ cache: {shown}, steps: Steps {{ searcher: {FRESH}, asker: Catcher {{ engine: {engine:?}, captures: {NEVER} }}, done: false }} }}"
+        "TryCapturesMatches {{ cache: {shown}, steps: Steps {{ searcher: {FRESH}, \
+        asker: Catcher {{ engine: {engine:?}, captures: {NEVER} }}, done: false }} }}"
     )?;
     assert_eq!(rt; format!(in alloc; "{items:?}")?.as_str(), want.as_str());
     Ok(())
@@ -38,7 +40,8 @@ fn expect_sure(
     assert!(rt; cache.fits(vm));
     let items = vm.captures_iter(alloc, cache, Input::new(b"a"))?;
     let want = format!(in alloc;
-        "CapturesMatches {{ cache: {shown}, steps: Steps {{ searcher: {FRESH}, asker: Catcher {{ engine: {vm:?}, captures: {NEVER} }}, done: false }} }}"
+        "CapturesMatches {{ cache: {shown}, steps: Steps {{ searcher: {FRESH}, \
+        asker: Catcher {{ engine: {vm:?}, captures: {NEVER} }}, done: false }} }}"
     )?;
     assert_eq!(rt; format!(in alloc; "{items:?}")?.as_str(), want.as_str());
     Ok(())

@@ -1,5 +1,5 @@
-//! Both engines and the one that chooses over each sample, each span of some haystacks, four ways to search it, and both
-//! match kinds; by each call that searches, with caches and captures that all of them share.
+//! Both engines and the one that chooses over each sample, each span of some haystacks, four ways to search it, and
+//! both match kinds; by each call that searches, with caches and captures that all of them share.
 
 use super::alike::{expect_backtracked_alike, expect_piked_alike};
 use super::sums::{
@@ -9,11 +9,12 @@ use nfa_choice::choose::Choice;
 use nfa_engines::backtrack::{self, BoundedBacktracker};
 use nfa_engines::error::SearchError;
 use nfa_engines::pikevm::{self, PikeVM};
-use regex_search_core::{Anchored, Input, MatchKind, PatternID};
+use regex_search_core::{Input, MatchKind};
 use std::alloc::Global;
 use std::process::Abort;
 use std::test::Fail;
 use test_support::made::{MakeError, nfa_named};
+use test_support::searches::searches_of;
 use thompson_nfa::NFA;
 
 // A name, and the number that is made of the answers of all searches. The numbers were made of the answers of
@@ -118,27 +119,6 @@ fn fold_set(
         return Ok(sum);
     }
     Ok(fold(sum, set))
-}
-
-// The searches of each span of the haystack: unanchored, also with `earliest`, anchored, and anchored for the first
-// pattern.
-fn searches_of<'h>(alloc: Global, haystack: &'h [u8]) -> Result<Vec<Input<'h>>, Fail> {
-    let mut searches = Vec::new(alloc);
-    for start in 0..haystack.len() + 1 {
-        for end in start..haystack.len() + 1 {
-            add_modes(&mut searches, Input::new(haystack).range(start..end))?;
-        }
-    }
-    Ok(searches)
-}
-
-fn add_modes<'h>(searches: &mut Vec<Input<'h>>, input: Input<'h>) -> Result<(), Fail> {
-    let first = PatternID::new(0).ok_or("too great a number")?;
-    searches.push(input)?;
-    searches.push(input.earliest(true))?;
-    searches.push(input.anchored(Anchored::Yes))?;
-    searches.push(input.anchored(Anchored::Pattern(first)))?;
-    Ok(())
 }
 
 fn fold_searches(

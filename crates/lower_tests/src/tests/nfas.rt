@@ -301,8 +301,8 @@ fn reads(rt: HostRuntime) -> Result<(), Fail> {
 fn simple_nfas(rt: HostRuntime) -> Result<(), Fail> {
     let alloc = rt.alloc();
     let always = NFA::always_match(alloc)?;
-    let want =
-        "[Capture { next: StateID(1), slot: 0 }, Capture { next: StateID(2), slot: 1 }, Match { pattern_id: PatternID { index: 0 } }]";
+    let want = "[Capture { next: StateID(1), slot: 0 }, Capture { next: StateID(2), slot: 1 }, \
+        Match { pattern_id: PatternID { index: 0 } }]";
     assert_eq!(rt; format!(in alloc; "{:?}", always.states())?.as_str(), want);
     assert!(rt; always.is_always_start_anchored() && always.has_empty() && !always.is_utf8());
     assert_eq!(rt;
@@ -360,7 +360,8 @@ fn debug_texts(rt: HostRuntime) -> Result<(), Fail> {
     let never = NFA::never_match(alloc)?;
     assert_eq!(rt;
         format!(in alloc; "{never:?}")?.as_str(),
-        "NFA { states: [Fail], anchored: StateID(0), unanchored: StateID(0), patterns: [], groups: GroupInfo { names: [], slot_len: 0 }, has_empty: false, utf8: false }"
+        "NFA { states: [Fail], anchored: StateID(0), unanchored: StateID(0), patterns: [], \
+        groups: GroupInfo { names: [], slot_len: 0 }, has_empty: false, utf8: false }"
     );
     Ok(())
 }

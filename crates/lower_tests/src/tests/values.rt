@@ -300,7 +300,8 @@ fn debug_texts(rt: HostRuntime) -> Result<(), Fail> {
         ),
         (
             format!(in alloc; "{:?}", input)?,
-            "Input { haystack: [97], span: Span { start: 0, end: 1 }, anchored: Pattern(PatternID { index: 1 }), earliest: false }",
+            "Input { haystack: [97], span: Span { start: 0, end: 1 }, \
+            anchored: Pattern(PatternID { index: 1 }), earliest: false }",
         ),
         (
             format!(in alloc; "{:?}", HalfMatch::new(one, 4))?,
@@ -334,7 +335,8 @@ fn debug_texts(rt: HostRuntime) -> Result<(), Fail> {
         ),
         (
             format!(in alloc; "{:?}", Captures::matches(alloc, groups)?)?,
-            "Captures { group_info: GroupInfo { names: [[Some(\"n\")]], slot_len: 4 }, pattern: None, slots: [None, None] }",
+            "Captures { group_info: GroupInfo { names: [[Some(\"n\")]], slot_len: 4 }, pattern: None, \
+            slots: [None, None] }",
         ),
     ] {
         assert_eq!(rt; text.as_str(), want);

@@ -36,7 +36,8 @@ fn collected_whole(
     haystack: &[u8],
 ) -> Result<Vec<Match>, AllocError>
     requires { Fits cache.old vm.now.nfa }
-    ensures { IfOk result (λ v. AreMatches vm.now.nfa (kind_of vm.now) false (whole haystack.now) (map found_of v.items)) }
+    ensures { IfOk result
+        (λ v. AreMatches vm.now.nfa (kind_of vm.now) false (whole haystack.now) (map found_of v.items)) }
 {
     vm.find_iter(cache, Input::new(haystack)).collect(alloc)
 }
@@ -49,7 +50,8 @@ fn looped(
     haystack: &[u8],
 ) -> Result<Vec<Match>, AllocError>
     requires { Fits cache.old vm.now.nfa }
-    ensures { IfOk result (λ v. AreMatches vm.now.nfa (kind_of vm.now) false (whole haystack.now) (map found_of v.items)) }
+    ensures { IfOk result
+        (λ v. AreMatches vm.now.nfa (kind_of vm.now) false (whole haystack.now) (map found_of v.items)) }
 {
     let mut found = Vec::new(alloc);
     for item in vm.find_iter(cache, Input::new(haystack)) {
@@ -66,7 +68,8 @@ fn first_two(
     haystack: &[u8],
 ) -> Result<Vec<Match>, AllocError>
     requires { Fits cache.old vm.now.nfa }
-    ensures { IfOk result (λ v. AreFirstMatches vm.now.nfa (kind_of vm.now) false (whole haystack.now) (map found_of v.items)) }
+    ensures { IfOk result
+        (λ v. AreFirstMatches vm.now.nfa (kind_of vm.now) false (whole haystack.now) (map found_of v.items)) }
 {
     let mut found = Vec::new(alloc);
     for item in vm.find_iter(cache, Input::new(haystack)) {
@@ -169,7 +172,8 @@ fn collected_inside(
     requires { Fits cache.old vm.now.nfa }
     ensures inside { IfOk result (λ v. All (λ m. IsInside (whole text.now) (found_of m)) v.items) }
     ensures apart { IfOk result (λ v. AreApart (whole text.now) None (map found_of v.items)) }
-    ensures all { IfOk result (λ v. AreMatches vm.now.nfa (kind_of vm.now) false (whole text.now) (map found_of v.items)) }
+    ensures all { IfOk result
+        (λ v. AreMatches vm.now.nfa (kind_of vm.now) false (whole text.now) (map found_of v.items)) }
 {
     vm.find_iter(cache, Input::new(text)).collect(alloc)
 }
@@ -210,7 +214,8 @@ fn numbers_kept(vm: &PikeVM, cache: &mut Cache, text: &[u8]) -> usize
 // How many matches there are, by `count`.
 fn how_many(vm: &PikeVM, cache: &mut Cache, text: &[u8]) -> usize
     requires { Fits cache.old vm.now.nfa }
-    ensures { (all : List Found) → AreMatches vm.now.nfa (kind_of vm.now) false (whole text.now) all → result ≡ length all }
+    ensures { (all : List Found) → AreMatches vm.now.nfa (kind_of vm.now) false (whole text.now) all
+        → result ≡ length all }
 {
     vm.find_iter(cache, Input::new(text)).count()
 }
@@ -264,7 +269,8 @@ fn in_order(vm: &PikeVM, cache: &mut Cache, text: &[u8]) -> usize
 // The first match, by `next`.
 fn first_alone(vm: &PikeVM, cache: &mut Cache, text: &[u8]) -> Option<Match>
     requires { Fits cache.old vm.now.nfa }
-    ensures { IfSome result (λ m. AreFirstMatches vm.now.nfa (kind_of vm.now) false (whole text.now) (found_of m ∷ [])) }
+    ensures { IfSome result
+        (λ m. AreFirstMatches vm.now.nfa (kind_of vm.now) false (whole text.now) (found_of m ∷ [])) }
 {
     let mut items = vm.find_iter(cache, Input::new(text));
     items.next()

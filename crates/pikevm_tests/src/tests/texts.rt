@@ -7,7 +7,9 @@ use std::process::Abort;
 use std::test::Fail;
 
 const NEVER: &str =
-    "PikeVM { config: Config { match_kind: None }, first: FirstBytes { .. }, nfa: NFA { states: [Fail], anchored: StateID(0), unanchored: StateID(0), patterns: [], groups: GroupInfo { names: [], slot_len: 0 }, has_empty: false, utf8: false } }";
+    "PikeVM { config: Config { match_kind: None }, first: FirstBytes { .. }, nfa: NFA { states: [Fail], \
+    anchored: StateID(0), unanchored: StateID(0), patterns: [], groups: GroupInfo { names: [], slot_len: 0 }, \
+    has_empty: false, utf8: false } }";
 
 // A cache for it, before any search.
 const CACHE: &str = "Cache { threads: Threads { frames: [Explore { sid: StateID(0) }], \
@@ -17,7 +19,8 @@ next: ActiveStates { parts: Parts { kept: [StateID(0), StateID(0)], rows: [], le
 scans: Counter }, found: [], slots: 0, patterns: 0, past_scans: Counter, past_turns: Counter }";
 
 const FRESH: &str =
-    "Searcher { input: Input { haystack: [97], span: Span { start: 0, end: 1 }, anchored: No, earliest: false }, last_match_end: None }";
+    "Searcher { input: Input { haystack: [97], span: Span { start: 0, end: 1 }, anchored: No, \
+    earliest: false }, last_match_end: None }";
 
 // The iterator shows the cache as it is, then where the iteration stands, and the engine.
 fn expect_shown(
@@ -32,7 +35,8 @@ fn expect_shown(
     assert!(rt; cache.fits(vm));
     let matches = vm.find_iter(cache, Input::new(b"a"));
     let want = format!(in alloc;
-        "FindMatches {{ cache: {shown}, steps: Steps {{ searcher: {FRESH}, asker: Finder {{ engine: {NEVER}, known: None }}, done: false }} }}"
+        "FindMatches {{ cache: {shown}, steps: Steps {{ searcher: {FRESH}, asker: Finder {{ engine: {NEVER}, \
+        known: None }}, done: false }} }}"
     )?;
     assert_eq!(rt; format!(in alloc; "{matches:?}")?.as_str(), want.as_str());
     Ok(())

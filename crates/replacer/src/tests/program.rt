@@ -5,10 +5,9 @@ use crate::report::run;
 use crate::template::TemplateError;
 use nfa_engines::pikevm::PikeVM;
 use std::alloc::Global;
-use std::io;
-use std::io::{Read, Write};
 use std::process::Abort;
 use std::test::Fail;
+use test_io::{Refusing, Unreadable};
 
 #[test]
 fn knows_its_words(rt: HostRuntime) {
@@ -63,37 +62,15 @@ fn prints_nothing_where_the_template_is_none(rt: HostRuntime) -> Result<(), Fail
     Ok(())
 }
 
-// Takes so many writes, and refuses each one after them.
-#[derive(Drop)]
-struct Refusing {
-    left: usize,
-    refused: usize,
-}
-
-impl Write for Refusing {
-    fn write(&mut self, buf: &[u8]) -> io::Result<usize> {
-        if self.left == 0 {
-            self.refused = self.refused.saturating_add(1);
-            return Err(io::Error::from(io::ErrorKind::BrokenPipe));
-        }
-        self.left -= 1;
-        Ok(buf.len())
-    }
-
-    fn flush(&mut self) -> io::Result<()> {
-        Ok(())
-    }
-}
-
 fn expect_end(rt: &impl Abort, alloc: Global, vm: &PikeVM, command: Command<'_>, left: usize) {
-    let mut out = Refusing { left, refused: 0 };
+    let mut out = Refusing::after(left);
     let ended = run(alloc, vm, command, TEXT, &mut out);
     assert_eq!(rt;
         ended.is_err(),
-        out.refused == 1,
+        out.refused() == 1,
         "{left} writes of {command:?}"
     );
-    assert!(rt; out.refused <= 1, "{left} writes of {command:?}");
+    assert!(rt; out.refused() <= 1, "{left} writes of {command:?}");
 }
 
 #[test]
@@ -105,16 +82,6 @@ fn ends_where_a_write_fails(rt: HostRuntime) -> Result<(), Fail> {
         expect_end(&rt, alloc, &vm, Command::Split, left);
     }
     Ok(())
-}
-
-// Cannot be read.
-#[derive(Drop)]
-struct Unreadable;
-
-impl Read for Unreadable {
-    fn read(&mut self, _: &mut [u8]) -> io::Result<usize> {
-        Err(io::Error::from(io::ErrorKind::PermissionDenied))
-    }
 }
 
 #[test]
