@@ -2,6 +2,7 @@
 mod bounds;
 mod bounds_caller;
 mod drafts;
+mod finders;
 mod languages;
 mod nfas;
 mod samples;

@@ -1,0 +1,169 @@
+//! Callers of the iterators over stored finders, as a user of the library would write them: finders that are functions.
+ghost use Rattle.std.specs.Prelude.{IfOk, Ok, map};
+ghost use Rattle.regex_search_core.specs.Found.{found_of, half_found_of};
+ghost use Rattle.regex_search_core.specs.Search.{search_of, whole};
+ghost use Rattle.nfa_engines.specs.Catching.{caught_by, row_span};
+ghost use Rattle.nfa_engines.specs.CaughtLists.{AreAllCaught};
+ghost use Rattle.nfa_engines.specs.Finders.{answer_by};
+ghost use Rattle.nfa_engines.specs.Lists.{AreAllFound};
+ghost use Rattle.nfa_engines.specs.Walks.{IsSurelyInside, fresh, half_span_of, span_of};
+
+use nfa_engines::error::SearchError;
+use nfa_engines::iter::Searcher;
+use regex_search_core::{
+    Captures, GroupInfo, HalfMatch, Input, Match, NonMaxUsize, PatternID, Span,
+};
+use std::alloc::{AllocError, Global};
+use std::test::Fail;
+
+// An empty match of the first pattern at the start of the span.
+fn empty_at_start(input: &Input<'_>) -> Result<Option<Match>, SearchError>
+    ensures { IsSurelyInside span_of (search_of input.now) (answer_by found_of result) }
+{
+    let start = input.start();
+    if input.is_done() {
+        return Ok(None);
+    }
+    match PatternID::new(0) {
+        Some(pattern) => Ok(Some(Match::new(pattern, Span { start, end: start }))),
+        None => Ok(None),
+    }
+}
+
+// Its end.
+fn half_at_start(input: &Input<'_>) -> Result<Option<HalfMatch>, SearchError>
+    ensures { IsSurelyInside half_span_of (search_of input.now) (answer_by half_found_of result) }
+{
+    let start = input.start();
+    if input.is_done() {
+        return Ok(None);
+    }
+    match PatternID::new(0) {
+        Some(pattern) => Ok(Some(HalfMatch::new(pattern, start))),
+        None => Ok(None),
+    }
+}
+
+// The match that the slots tell, where it lies in the span, or none.
+fn kept_match(input: &Input<'_>, captures: &mut Captures) -> Result<(), SearchError>
+    ensures { IsSurelyInside row_span (search_of input.now) (caught_by captures.new result) }
+{
+    captures.set_pattern(PatternID::new(0));
+    let inside = match captures.get_match() {
+        Some(found) => found.start() >= input.start() && found.end() <= input.end(),
+        None => false,
+    };
+    if !inside {
+        captures.set_pattern(None);
+    }
+    Ok(())
+}
+
+// All items, by `collect`.
+fn collected(alloc: Global, haystack: &[u8]) -> Result<Vec<Result<Match, SearchError>>, AllocError>
+    ensures { IfOk result (λ v. AreAllFound span_of (IsSurelyInside span_of) found_of (fresh (whole haystack.now))
+        v.items) }
+{
+    let input = Input::new(haystack);
+    let searcher = Searcher::new(input);
+    let items = searcher.into_matches_iter(empty_at_start);
+    items.collect(alloc)
+}
+
+// The same of a finder that never errs.
+fn surely_collected(alloc: Global, haystack: &[u8]) -> Result<Vec<Match>, AllocError>
+    ensures { IfOk result (λ v. AreAllFound span_of (IsSurelyInside span_of) found_of (fresh (whole haystack.now))
+        (map (λ m. Ok m) v.items)) }
+{
+    let input = Input::new(haystack);
+    let searcher = Searcher::new(input);
+    let items = searcher.into_matches_iter(empty_at_start).infallible();
+    items.collect(alloc)
+}
+
+// The same of half matches.
+fn halves_collected(
+    alloc: Global,
+    haystack: &[u8],
+) -> Result<Vec<Result<HalfMatch, SearchError>>, AllocError>
+    ensures { IfOk result (λ v. AreAllFound half_span_of (IsSurelyInside half_span_of) half_found_of
+        (fresh (whole haystack.now)) v.items) }
+{
+    let input = Input::new(haystack);
+    let searcher = Searcher::new(input);
+    let items = searcher.into_half_matches_iter(half_at_start);
+    items.collect(alloc)
+}
+
+fn halves_surely_collected(alloc: Global, haystack: &[u8]) -> Result<Vec<HalfMatch>, AllocError>
+    ensures { IfOk result (λ v. AreAllFound half_span_of (IsSurelyInside half_span_of) half_found_of
+        (fresh (whole haystack.now)) (map (λ m. Ok m) v.items)) }
+{
+    let input = Input::new(haystack);
+    let searcher = Searcher::new(input);
+    let items = searcher.into_half_matches_iter(half_at_start).infallible();
+    items.collect(alloc)
+}
+
+// The captures that a finder leaves.
+fn captures_collected(
+    alloc: Global,
+    haystack: &[u8],
+    captures: Captures,
+) -> Result<Vec<Result<Captures, SearchError>>, AllocError>
+    ensures { IfOk result (λ v. AreAllCaught (IsSurelyInside row_span) (fresh (whole haystack.now)) v.items) }
+{
+    let input = Input::new(haystack);
+    let searcher = Searcher::new(input);
+    let items = searcher.into_captures_iter(captures, kept_match);
+    items.collect(alloc)
+}
+
+fn captures_surely_collected(
+    alloc: Global,
+    haystack: &[u8],
+    captures: Captures,
+) -> Result<Vec<Result<Captures, SearchError>>, AllocError>
+    ensures { IfOk result (λ v. AreAllCaught (IsSurelyInside row_span) (fresh (whole haystack.now)) v.items) }
+{
+    let input = Input::new(haystack);
+    let searcher = Searcher::new(input);
+    let items = searcher
+        .into_captures_iter(captures, kept_match)
+        .infallible();
+    items.collect(alloc)
+}
+
+// Captures of one pattern, whose slots are the bounds of the first byte.
+fn first_byte(alloc: Global) -> Result<Captures, Fail> {
+    let groups = GroupInfo::new(vec![in alloc; Vec::new(alloc)]?).ok_or("too many slots")?;
+    let mut captures = Captures::matches(alloc, groups)?;
+    for (slot, offset) in captures.slots_mut().iter_mut().zip([0, 1]) {
+        *slot = NonMaxUsize::new(offset);
+    }
+    Ok(captures)
+}
+
+#[test]
+fn functions_are_finders(rt: HostRuntime) -> Result<(), Fail> {
+    let alloc = rt.alloc();
+    let tries = collected(alloc, b"ab")?;
+    let matches = surely_collected(alloc, b"ab")?;
+    let half_tries = halves_collected(alloc, b"ab")?;
+    let halves = halves_surely_collected(alloc, b"ab")?;
+    assert_eq!(rt; (tries.len(), matches.len()), (3, 3));
+    assert_eq!(rt; (half_tries.len(), halves.len()), (3, 3));
+    for (at, (found, half)) in matches.iter().zip(halves.iter()).enumerate() {
+        assert_eq!(rt; (found.start(), found.end(), half.offset()), (at, at, at));
+    }
+    Ok(())
+}
+
+#[test]
+fn functions_are_finders_of_captures(rt: HostRuntime) -> Result<(), Fail> {
+    let alloc = rt.alloc();
+    let tries = captures_collected(alloc, b"ab", first_byte(alloc)?)?;
+    let all = captures_surely_collected(alloc, b"ab", first_byte(alloc)?)?;
+    assert_eq!(rt; (tries.len(), all.len()), (1, 1));
+    Ok(())
+}
