@@ -1,8 +1,13 @@
 //! The tokens of a text, one after the other, by anchored searches.
-ghost use Rattle.std.specs.Prelude.{◌≡◌, ◌≤◌, ◌<◌, IfErr, IfOk, IfSome, drop, flat_map, length, ◌++◌};
-ghost use Rattle.nfa_engines.specs.Engines.{Fits, SameNumbers};
+ghost use Rattle.std.specs.Prelude.{◌≡◌, ◌≤◌, ◌<◌, IfErr, IfOk, IfSome, drop, false, flat_map, length, ◌++◌};
+ghost use Rattle.std.specs.Prelude.{option_map};
+ghost use Rattle.regex_search_core.specs.Found.{found_of};
+ghost use Rattle.nfa_engines.specs.Engines.{Fits, SameNumbers, kind_of};
+ghost use Rattle.nfa_engines.specs.Paths.{IsMatchAnswer};
+ghost use Rattle.nfa_bounds.specs.Matches.{HasNoByteAt};
 ghost use Rattle.nfa_bounds.specs.Ways.{RecordsBounds};
 ghost use Rattle.lexer.specs.Tokens.{AreTokens, IsStuck, IsToken, StartsNoToken, StartsToken, end_of_tokens, text_of};
+ghost use Rattle.lexer.specs.Tokens.{search_at};
 
 use nfa_bounds::laws::{anchored_matches_tell_bytes, pikevm_nfa_is_valid};
 use nfa_engines::pikevm::{Cache, PikeVM};
@@ -61,6 +66,17 @@ pub fn token_at(vm: &PikeVM, cache: &mut Cache, text: &[u8], at: usize) -> Resul
         }
     }
     Err(Stuck { at, found })
+}
+
+/// Where the NFA records its bounds, a search that gave no token says rightly that none starts there.
+fn starts_no_token(vm: &PikeVM, text: &[u8], stuck: Stuck)
+    requires answer { IsMatchAnswer vm.now.nfa (kind_of vm.now) false (search_at text.now stuck.at)
+        (option_map found_of stuck.found) }
+    requires no_token { HasNoByteAt stuck.at (option_map found_of stuck.found) }
+    ensures { RecordsBounds vm.now.nfa → StartsNoToken vm.now text.now stuck.at }
+{
+    anchored_matches_tell_bytes();
+    pikevm_nfa_is_valid(vm);
 }
 
 /// The tokens of a text, from its start on; behind the last one, where the text does not end there, comes where it is
@@ -138,6 +154,8 @@ pub fn tokens(
     ensures joined { IfOk result (λ lexed. flat_map (text_of text.now) lexed.tokens.items
         ++ drop (end_of_tokens lexed.stuck (length text.now)) text.now ≡ text.now) }
     ensures stuck { IfOk result (λ lexed. IfSome lexed.stuck (IsStuck vm.now text.now)) }
+    ensures starts_none { RecordsBounds vm.now.nfa → IfOk result (λ lexed.
+        IfSome lexed.stuck (λ stuck. StartsNoToken vm.now text.now stuck.at)) }
     ensures numbers { SameNumbers cache.old cache.new }
 {
     let mut tokens = Vec::new(alloc);
@@ -145,6 +163,7 @@ pub fn tokens(
         match item {
             Ok(token) => tokens.push(token)?,
             Err(stuck) => {
+                starts_no_token(vm, text, stuck);
                 return Ok(Lexed {
                     tokens,
                     stuck: Some(stuck),

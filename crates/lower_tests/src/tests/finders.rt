@@ -14,6 +14,7 @@ use regex_search_core::{
     Captures, GroupInfo, HalfMatch, Input, Match, NonMaxUsize, PatternID, Span,
 };
 use std::alloc::{AllocError, Global};
+use std::process::Abort;
 use std::test::Fail;
 
 // An empty match of the first pattern at the start of the span.
@@ -138,32 +139,59 @@ fn captures_surely_collected(
 fn first_byte(alloc: Global) -> Result<Captures, Fail> {
     let groups = GroupInfo::new(vec![in alloc; Vec::new(alloc)]?).ok_or("too many slots")?;
     let mut captures = Captures::matches(alloc, groups)?;
-    for (slot, offset) in captures.slots_mut().iter_mut().zip([0, 1]) {
+    mark_first_byte(captures.slots_mut());
+    Ok(captures)
+}
+
+fn mark_first_byte(slots: &mut [Option<NonMaxUsize>]) {
+    for (slot, offset) in slots.iter_mut().zip([0, 1]) {
         *slot = NonMaxUsize::new(offset);
     }
-    Ok(captures)
+}
+
+// At each offset of two bytes, and behind them, there is one.
+fn expect_empty(rt: &impl Abort, matches: &[Match]) {
+    assert_eq!(rt; matches.len(), 3);
+    for (at, found) in matches.iter().enumerate() {
+        assert_eq!(rt; (found.start(), found.end()), (at, at));
+    }
+}
+
+fn expect_ends(rt: &impl Abort, halves: &[HalfMatch]) {
+    assert_eq!(rt; halves.len(), 3);
+    for (at, half) in halves.iter().enumerate() {
+        assert_eq!(rt; half.offset(), at);
+    }
 }
 
 #[test]
 fn functions_are_finders(rt: HostRuntime) -> Result<(), Fail> {
     let alloc = rt.alloc();
-    let tries = collected(alloc, b"ab")?;
-    let matches = surely_collected(alloc, b"ab")?;
-    let half_tries = halves_collected(alloc, b"ab")?;
-    let halves = halves_surely_collected(alloc, b"ab")?;
-    assert_eq!(rt; (tries.len(), matches.len()), (3, 3));
-    assert_eq!(rt; (half_tries.len(), halves.len()), (3, 3));
-    for (at, (found, half)) in matches.iter().zip(halves.iter()).enumerate() {
-        assert_eq!(rt; (found.start(), found.end(), half.offset()), (at, at, at));
-    }
+    expect_empty(&rt, &surely_collected(alloc, b"ab")?);
+    assert_eq!(rt; collected(alloc, b"ab")?.len(), 3);
+    Ok(())
+}
+
+#[test]
+fn functions_are_finders_of_ends(rt: HostRuntime) -> Result<(), Fail> {
+    let alloc = rt.alloc();
+    expect_ends(&rt, &halves_surely_collected(alloc, b"ab")?);
+    assert_eq!(rt; halves_collected(alloc, b"ab")?.len(), 3);
     Ok(())
 }
 
 #[test]
 fn functions_are_finders_of_captures(rt: HostRuntime) -> Result<(), Fail> {
     let alloc = rt.alloc();
-    let tries = captures_collected(alloc, b"ab", first_byte(alloc)?)?;
+    let all = captures_collected(alloc, b"ab", first_byte(alloc)?)?;
+    assert_eq!(rt; all.len(), 1);
+    Ok(())
+}
+
+#[test]
+fn functions_that_never_err_are_finders_of_captures(rt: HostRuntime) -> Result<(), Fail> {
+    let alloc = rt.alloc();
     let all = captures_surely_collected(alloc, b"ab", first_byte(alloc)?)?;
-    assert_eq!(rt; (tries.len(), all.len()), (1, 1));
+    assert_eq!(rt; all.len(), 1);
     Ok(())
 }
