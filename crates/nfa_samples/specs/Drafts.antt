@@ -1,4 +1,4 @@
--- what a draft says, and when it is sound
+-- What a draft of a table says, and when it is sound.
 use Rattle.std.specs.Prelude.{◌≡◌, ℕ, ◌+◌, ◌≤◌, Bool, true, ◌&&◌, ◌||◌, nat_lt, nat_le, nat_eq}
 use Rattle.std.specs.Borrow.{Bor}
 use Rattle.std.specs.Prelude.{List, [], ◌∷◌, ◌++◌, map, length, All, Option, option_map, ⊤}
