@@ -14,6 +14,7 @@ use Rattle.nfa_paths.specs.FirstPaths.{IsFirst}
 use Rattle.nfa_paths.specs.Exploring.{Item, Slots, Found, seeds}
 use Rattle.nfa_paths.specs.Exploring.Item.{Load}
 use Rattle.nfa_paths.specs.Kinds.{is_resting, IsFoundBy, NoneBefore, EndsBefore, Scanning}
+use Rattle.nfa_paths.specs.Restarts.{ScanGives}
 use Rattle.nfa_paths.specs.Paths.{edges, is_match, capture, starts, IsScanAnswer}
 use Rattle.nfa_paths.proofs.SearchingLemmas.{Searching-load, Searching-done}
 use Rattle.nfa_paths.proofs.ScanAnswerLemmas.{Scanned-matches, starts-from, EndsBefore-span, IsFoundBy-none, IsFoundBy-some, scan_first-found, scan_last-found}
@@ -22,7 +23,7 @@ use Rattle.nfa_paths.proofs.ScanningLemmas.{Scanning-load, Scanning-over}
 use Rattle.nfa_scanning.specs.FirstBytes.{IsFirstBytes}
 use Rattle.nfa_pikevm.specs.Rows.{Marks}
 use Rattle.nfa_pikevm.specs.States.{tasks, unmarked, SeenAt, SearchingAt, Crosses}
-use Rattle.nfa_pikevm.specs.Scans.{blank, starts_from, with_start, half_found, IsPassed, Joins, AreStarts, IsSoFar, Scans, SearchesFirst, ScansAll}
+use Rattle.nfa_pikevm.specs.Scans.{blank, starts_from, with_start, half_found, IsPassed, Joins, AreStarts, IsSoFar, SearchesFirst, ScansAll}
 use Rattle.nfa_pikevm.specs.declared.scan.Starts.{Starts}
 use Rattle.nfa_pikevm.proofs.TaskLemmas.{tasks-joins, tasks-alone, tasks-joined, starts_from-end, AnswersFor, AnswersFor-same, AnswersFor-then, AnswersFor-tasks, AnswersFor-pass, AnswersFor-skip, Searching-for, Searching-seen, Searching-begin}
 use Rattle.nfa_pikevm.proofs.FrontLemmas.{SeenAt-none}
@@ -183,7 +184,7 @@ module _ (nfa : Automaton) (x : Search) where
   pub Scans-so_far : (kind : MatchKind) (earliest : Bool) (width turns : ℕ) (found : Option HalfMatch) (slots : Slots)
       (g : Found) → IsSoFar nfa x found slots g
       → IsFoundBy (capture nfa) (blank width) (IsScanAnswer nfa x kind earliest) turns g → width ≡ length slots
-      → Scans nfa x kind earliest found slots turns
+      → ScanGives nfa kind earliest x found slots turns
   Scans-so_far kind earliest width turns None slots g is f size =
       (IsFoundBy-none nfa x kind earliest turns (blank width) (rw is.0 at f), is.1)
   Scans-so_far kind earliest width turns (Some half) slots g is f size =
@@ -207,7 +208,7 @@ module _ (nfa : Automaton) (x : Search) where
       (so_far : Found) (items : List (ℕ × Slots)) → IsSoFar nfa x found slots so_far → limit ≤ next → items ≡ []
       → SearchingAt nfa x at (is_match nfa) (starts nfa x) (blank width) so_far (unmarked met) []
       (tasks at items (Load (blank width) ∷ starts_from width state next limit)) (blank width)
-      → width ≡ length slots → Scans nfa x LeftmostFirst false found slots met.turns
+      → width ≡ length slots → ScanGives nfa LeftmostFirst false x found slots met.turns
   first-over at next width state limit found slots met so_far items is past none s size =
       let alone : SearchingAt nfa x at (is_match nfa) (starts nfa x) (blank width) so_far (unmarked met) []
       (Load (blank width) ∷ []) (blank width) = rw (none, starts_from-end width state past) at s in
@@ -235,7 +236,7 @@ module _ (nfa : Automaton) (x : Search) where
   pub last-over : (at width : ℕ) (found : Option HalfMatch) (slots : Slots) (turns : ℕ)
       → HasLast nfa x at width found slots turns
       → EndsBefore (edges nfa x) (starts nfa x) (is_match nfa) at → width ≡ length slots
-      → Scans nfa x AllMatches false found slots turns
+      → ScanGives nfa AllMatches false x found slots turns
   last-over at width found slots turns h ends size =
       Scans-so_far AllMatches false width turns found slots h.so_far h.is_so_far
       (scan_last-found nfa x (blank width) h.last ends) size
@@ -271,7 +272,7 @@ module _ (nfa : Automaton) (x : Search) where
       (tasks at items (Load (blank width) ∷ starts_from width state (at + 1) limit)) (blank width)
       → NoneBefore (edges nfa x) (starts nfa x) (is_match nfa) at → (half : Option HalfMatch) → EndsAt at hit half
       → is_some half ≡ true → width ≡ length written
-      → Scans nfa x (cond past AllMatches LeftmostFirst) true half written after.turns
+      → ScanGives nfa (cond past AllMatches LeftmostFirst) true x half written after.turns
   earliest-over at width state limit true {hit = None} c s none half is some size = let k =
       EndsAt-some at None half is some in absurd (k refl)
   earliest-over at width state limit false {hit = None} c s none half is some size = let k =

@@ -1,24 +1,22 @@
 -- From what a search comes to, to what its callers are told.
-use Rattle.std.proofs.Common.{◌≡◌, ℕ, ◌+◌, ◌*◌, ◌≤◌, min, inl, inr, List, [], ◌∷◌, ◌++◌, length, refl, ap, sym, ◌∙◌, arith, length-append}
-use Rattle.std.specs.Prelude.{Option, Some, None, Bool, option_map, option_and_then, IfSome, IfNone, All, ◌<◌}
+use Rattle.std.proofs.Common.{◌≡◌, ℕ, ◌+◌, ◌≤◌, min, inl, inr, List, [], ◌∷◌, ◌++◌, length, refl, ap, sym, ◌∙◌, arith, length-append}
+use Rattle.std.specs.Prelude.{Option, Some, None, Bool, option_map, IfSome, IfNone, All, ◌<◌}
 use Rattle.std.proofs.lemmas.Bool.{cases_lt}
 use Rattle.std.proofs.lemmas.List.{append-nil}
-use Rattle.regex_search_core.specs.Found.{Found, found_of, half_found_of}
+use Rattle.regex_search_core.specs.Found.{found_of}
 use Rattle.regex_search_core.specs.Patterns.{number_of}
 use Rattle.regex_search_core.specs.declared.search.Match.{Match}
 use Rattle.regex_search_core.specs.declared.primitives.PatternID.{PatternID}
 use Rattle.regex_search_core.specs.Groups.{slot_count}
 use Rattle.regex_search_core.specs.Search.{Search}
-use Rattle.regex_search_core.specs.Slots.{match_of}
-use Rattle.regex_search_core.specs.declared.search.HalfMatch.{HalfMatch}
 use Rattle.regex_search_core.specs.declared.search.MatchKind.{MatchKind}
 use Rattle.thompson_nfa.specs.Automaton.{Automaton, IsAutomaton}
 use Rattle.nfa_paths.specs.Graphs.{Pair}
-use Rattle.nfa_paths.specs.Paths.{path_pattern, slot_row, IsAnswer, IsMatchAnswer, IsWork}
+use Rattle.nfa_paths.specs.Paths.{slot_row, IsAnswer, IsMatchAnswer}
 use Rattle.nfa_paths.specs.Exploring.{Slots}
-use Rattle.nfa_paths.proofs.PatternLemmas.{slot_row-more, match-along-path, slots-unset}
+use Rattle.nfa_paths.proofs.PatternLemmas.{slot_row-more, slots-unset}
 use Rattle.nfa_paths.proofs.InsideLemmas.{match-within, match-pattern, slots-within, pattern-within}
-use Rattle.nfa_pikevm.specs.Scans.{blank, Searched}
+use Rattle.nfa_pikevm.specs.Scans.{blank}
 use Rattle.nfa_search_base.specs.Lists.{IsInside, IsSlotInside}
 
 module _ (nfa : Automaton) where
@@ -46,83 +44,31 @@ module _ (nfa : Automaton) where
       nil_of [] e = refl
       nil_of (o ∷ l) e = absurd (omega arith)
 
-module _ (nfa : Automaton) (kind : MatchKind) (earliest : Bool) where
-  module _ (x : Search) {slots : Slots} {scans turns : ℕ} where
-    -- the pattern and the slots, of which the searched ones are a part
-    pub answer-of : (half : Option HalfMatch) (pattern : Option ℕ)
-        → pattern ≡ option_map (λ h. (half_found_of h).pattern) half
-        → Searched nfa x kind earliest half slots scans turns
-        → (all : Slots) → ((path : Option (List Pair)) → slots ≡ slot_row nfa (length slots) path
-        → all ≡ slot_row nfa (length all) path) → IsAnswer nfa kind earliest x pattern all
-    answer-of half pattern is s all whole =
-        record {
-          restarts = s.restarts;
-          path = s.path;
-          answers = s.answers;
-          pattern_is = is ∙ s.pattern_is;
-          slots_are =
-              whole s.path s.slots_are;
-        }
+-- what callers learn of the numbers in an answer
+module _ (nfa : Automaton) (kind : MatchKind) (earliest : Bool) (x : Search) where
+  pub inside-of : (r : Option Match) → IsMatchAnswer nfa kind earliest x (option_map found_of r)
+      → IfSome r (λ m. IsInside x (found_of m))
+  inside-of None h = tt
+  inside-of (Some m) h = let k = match-within nfa kind earliest x (found_of m) h in
+      record { from = k.0; ordered = k.1; to = k.2 }
 
-    -- the work
-    pub work : (half : Option HalfMatch) → Searched nfa x kind earliest half slots scans turns
-        → IsWork nfa kind earliest x scans turns
-    work half s = record {
-      restarts = s.restarts;
-      path = s.path;
-      answers = s.answers;
-      scans_are = s.scans_are;
-      turns_reach = s.turns_reach;
-    }
+  pub pattern-of : IsAutomaton nfa → (r : Option Match) → IsMatchAnswer nfa kind earliest x (option_map found_of r)
+      → IfSome r (λ m. (found_of m).pattern < length nfa.patterns)
+  pattern-of valid None h = tt
+  pattern-of valid (Some m) h = match-pattern nfa kind earliest valid x (found_of m) h
 
-    -- the match
-    pub match-none : Searched nfa x kind earliest None slots scans turns → IsMatchAnswer nfa kind earliest x None
-    match-none s = record {
-      restarts = s.restarts;
-      path = s.path;
-      answers = s.answers;
-      found_is =
-          rw (← s.pattern_is) refl;
-    }
+  pub slots-inside : (pattern : Option ℕ) (slots : List (Option ℕ)) → IsAnswer nfa kind earliest x pattern slots
+      → All (IsSlotInside x) slots
+  slots-inside pattern slots a = slots-within nfa kind earliest x pattern slots a
 
-    pub match-some : IsAutomaton nfa → (half : HalfMatch) (k : ℕ) → k ≡ (half_found_of half).pattern
-        → length slots ≡ 2 * length nfa.groups
-        → (s : Searched nfa x kind earliest (Some half) slots scans turns)
-        → (found : Option Found) → found ≡ match_of (Some k) slots → IsMatchAnswer nfa kind earliest x found
-    match-some valid half k is size s found leads = record {
-      restarts = s.restarts;
-      path = s.path;
-      answers = s.answers;
-      found_is =
-          let pattern : Some k ≡ option_and_then (path_pattern nfa) s.path = ap Some is ∙ s.pattern_is in
-          leads ∙ match-along-path nfa valid k slots size s.path pattern s.slots_are;
-    }
+  pub slots-pattern : IsAutomaton nfa → (r : Option PatternID) (slots : List (Option ℕ))
+      → IsAnswer nfa kind earliest x (option_map number_of r) slots
+      → IfSome r (λ p. number_of p < length nfa.patterns)
+  slots-pattern valid None slots a = tt
+  slots-pattern valid (Some p) slots a = pattern-within nfa kind earliest valid x (Some (number_of p)) slots a
 
-  -- what callers learn of the numbers in an answer
-  module _ (x : Search) where
-    pub inside-of : (r : Option Match) → IsMatchAnswer nfa kind earliest x (option_map found_of r)
-        → IfSome r (λ m. IsInside x (found_of m))
-    inside-of None h = tt
-    inside-of (Some m) h = let k = match-within nfa kind earliest x (found_of m) h in
-        record { from = k.0; ordered = k.1; to = k.2 }
-
-    pub pattern-of : IsAutomaton nfa → (r : Option Match) → IsMatchAnswer nfa kind earliest x (option_map found_of r)
-        → IfSome r (λ m. (found_of m).pattern < length nfa.patterns)
-    pattern-of valid None h = tt
-    pattern-of valid (Some m) h = match-pattern nfa kind earliest valid x (found_of m) h
-
-    pub slots-inside : (pattern : Option ℕ) (slots : List (Option ℕ)) → IsAnswer nfa kind earliest x pattern slots
-        → All (IsSlotInside x) slots
-    slots-inside pattern slots a = slots-within nfa kind earliest x pattern slots a
-
-    pub slots-pattern : IsAutomaton nfa → (r : Option PatternID) (slots : List (Option ℕ))
-        → IsAnswer nfa kind earliest x (option_map number_of r) slots
-        → IfSome r (λ p. number_of p < length nfa.patterns)
-    slots-pattern valid None slots a = tt
-    slots-pattern valid (Some p) slots a = pattern-within nfa kind earliest valid x (Some (number_of p)) slots a
-
-    -- after no match no slot is set
-    pub slots-none : (n : ℕ) (pattern : Option ℕ) (slots : List (Option ℕ)) → IsAnswer nfa kind earliest x pattern slots
-        → length slots ≡ n → IfNone pattern (slots ≡ blank n)
-    slots-none n None slots a size = slots-unset nfa kind earliest x slots a ∙ ap blank size
-    slots-none n (Some p) slots a size = tt
+  -- after no match no slot is set
+  pub slots-none : (n : ℕ) (pattern : Option ℕ) (slots : List (Option ℕ)) → IsAnswer nfa kind earliest x pattern slots
+      → length slots ≡ n → IfNone pattern (slots ≡ blank n)
+  slots-none n None slots a size = slots-unset nfa kind earliest x slots a ∙ ap blank size
+  slots-none n (Some p) slots a size = tt

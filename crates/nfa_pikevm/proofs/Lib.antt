@@ -13,7 +13,6 @@ pub mod AllLemmas
 pub mod EarliestLemmas
 pub mod EndLemmas
 pub mod RoomLemmas
-pub mod RestartLemmas
 pub mod SizeLemmas
 pub mod EngineLemmas
 pub mod IsMatchLemmas

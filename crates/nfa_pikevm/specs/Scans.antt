@@ -1,14 +1,11 @@
 -- What the scans and the search of a PikeVM come to, over the theory of paths.
-use Rattle.std.specs.Prelude.{◌≡◌, ◌⊎◌, ℕ, ◌++◌, ◌+◌, ◌-◌, ◌*◌, ◌<◌, ◌≤◌, Bool, List, [], ◌∷◌, Option, None, Some, length, replicate, nat_lt, if◌then◌else◌, All, option_map, option_and_then}
+use Rattle.std.specs.Prelude.{◌≡◌, ◌⊎◌, ℕ, ◌++◌, ◌+◌, ◌-◌, ◌*◌, ◌<◌, ◌≤◌, Bool, List, [], ◌∷◌, Option, None, Some, length, replicate, nat_lt, if◌then◌else◌, All}
 use Rattle.std.specs.List.{sum_by}
-use Rattle.std.specs.Option.{option_map_or}
 use Rattle.regex_search_core.specs.Found.{HalfFound, half_found_of}
 use Rattle.regex_search_core.specs.Search.{Search}
 use Rattle.regex_search_core.specs.declared.search.HalfMatch.{HalfMatch}
-use Rattle.regex_search_core.specs.declared.search.MatchKind.{MatchKind}
 use Rattle.thompson_nfa.specs.Automaton.{Automaton, LeadsBelow}
-use Rattle.nfa_paths.specs.Graphs.{Pair}
-use Rattle.nfa_paths.specs.Paths.{node_at, pattern_of, edges, is_match, capture, starts, pairs_from, span_len, turn_weight, last_of, path_pattern, slot_row, IsScanAnswer, IsSearchAnswer}
+use Rattle.nfa_paths.specs.Paths.{node_at, pattern_of, edges, is_match, capture, starts, pairs_from, turn_weight}
 use Rattle.nfa_paths.specs.Exploring.{Slots, Found, Item, seeds}
 use Rattle.nfa_paths.specs.Exploring.Item.{Load}
 use Rattle.nfa_paths.specs.Kinds.{Scanning}
@@ -123,22 +120,6 @@ module _ (nfa : Automaton) (x : Search) where
       (state : ℕ) × (g ≡ Some ((state, (half_found_of half).offset), slots))
       × (pattern_of (node_at nfa state) ≡ Some (half_found_of half).pattern)
 
-  -- the scan's answer is this path, of which the match and the slots are
-  pub record ScanFinds (kind : MatchKind) (earliest : Bool) (half : HalfMatch) (slots : Slots)
-      (turns : ℕ) : Type 0 where
-    pub path : List Pair
-    pub state : ℕ
-    pub answers : IsScanAnswer nfa x kind earliest (Some path)
-    pub matches : pattern_of (node_at nfa state) ≡ Some (half_found_of half).pattern
-    pub ends : last_of path ≡ Some (state, (half_found_of half).offset)
-    pub row : slots ≡ slot_row nfa (length slots) (Some path)
-    pub short : length path ≤ turns
-
-  -- what a scan comes to, by as many turns
-  abbrev pub Scans : MatchKind → Bool → Option HalfMatch → Slots → ℕ → Type 0
-  Scans kind earliest None slots turns = IsScanAnswer nfa x kind earliest None × (slots ≡ blank (length slots))
-  Scans kind earliest (Some half) slots turns = ScanFinds kind earliest half slots turns
-
   -- no more turns were taken than a scan takes
   abbrev pub IsWithinTurns : Threads → Threads → Type 0
   IsWithinTurns old new = new.reached.seen.turns ≤ old.reached.seen.turns + scan_turns nfa x
@@ -160,14 +141,3 @@ module _ (nfa : Automaton) (x : Search) where
     pub scanning : Scanning (edges nfa x) (capture nfa) (starts nfa x) (is_match nfa) (blank width) at
         (SeenAt at (unmarked met).bits) met.turns []
         (tasks at items (Load (blank width) ∷ starts_from width start at limit)) (blank width)
-
-  -- the search's answer is this, after so many scans and turns
-  pub record Searched (kind : MatchKind) (earliest : Bool) (half : Option HalfMatch) (slots : Slots)
-      (scans turns : ℕ) : Type 0 where
-    pub restarts : ℕ
-    pub path : Option (List Pair)
-    pub answers : IsSearchAnswer nfa kind earliest x restarts path
-    pub pattern_is : option_map (λ h. (half_found_of h).pattern) half ≡ option_and_then (path_pattern nfa) path
-    pub slots_are : slots ≡ slot_row nfa (length slots) path
-    pub scans_are : scans ≡ restarts + 1
-    pub turns_reach : option_map_or length path 0 ≤ turns

@@ -4,8 +4,10 @@ ghost use Rattle.regex_search_core.specs.Search.{search_of};
 ghost use Rattle.regex_search_core.specs.Found.{half_found_of};
 ghost use Rattle.regex_search_core.specs.Patterns.{number_of};
 ghost use Rattle.regex_search_core.specs.declared.search.MatchKind.TheVariants.{All, LeftmostFirst};
+ghost use Rattle.nfa_paths.specs.Restarts.{ScanGives};
 ghost use Rattle.nfa_scanning.specs.FirstBytes.{IsFirstBytes, IsRefused};
-ghost use Rattle.nfa_pikevm.specs.Scans.{blank, HaveRoom, HaveRows, SameSizes, AreStarts, Joins, with_start, half_found, Scans, IsWithinTurns};
+ghost use Rattle.nfa_pikevm.specs.Scans.{blank, HaveRoom, HaveRows, SameSizes, AreStarts, Joins, with_start};
+ghost use Rattle.nfa_pikevm.specs.Scans.{half_found, IsWithinTurns};
 
 use crate::slot::{Slot, unset_row};
 use crate::threads::{Threads, cross, move_on, set_up};
@@ -121,7 +123,7 @@ fn scan_first(
     ensures sizes { SameSizes threads.old threads.new }
     ensures scans { threads.new.scans ≡ threads.old.scans }
     ensures turns { IsWithinTurns nfa.now (search_of input.now) threads.old threads.new }
-    ensures answer { Scans nfa.now (search_of input.now) LeftmostFirst false result slots.new
+    ensures answer { ScanGives nfa.now LeftmostFirst false (search_of input.now) result slots.new
         threads.new.reached.seen.turns }
 {
     let mut limit = starts.limit;
@@ -162,7 +164,8 @@ fn scan_last(
     ensures sizes { SameSizes threads.old threads.new }
     ensures scans { threads.new.scans ≡ threads.old.scans }
     ensures turns { IsWithinTurns nfa.now (search_of input.now) threads.old threads.new }
-    ensures answer { Scans nfa.now (search_of input.now) All false result slots.new threads.new.reached.seen.turns }
+    ensures answer { ScanGives nfa.now All false (search_of input.now) result slots.new
+        threads.new.reached.seen.turns }
 {
     let mut found = None;
     for at in input.start()..input.end() + 1 {
@@ -196,7 +199,7 @@ fn scan_earliest(
     ensures sizes { SameSizes threads.old threads.new }
     ensures scans { threads.new.scans ≡ threads.old.scans }
     ensures turns { IsWithinTurns nfa.now (search_of input.now) threads.old threads.new }
-    ensures answer { Scans nfa.now (search_of input.now) (cond past_match All LeftmostFirst) true result slots.new
+    ensures answer { ScanGives nfa.now (cond past_match All LeftmostFirst) true (search_of input.now) result slots.new
         threads.new.reached.seen.turns }
 {
     for at in input.start()..input.end() + 1 {
@@ -228,7 +231,7 @@ pub fn scan(
     ensures serves { HaveRoom nfa.now (length slots.old) threads.new }
     ensures sizes { SameSizes threads.old threads.new }
     ensures turns { IsWithinTurns nfa.now (search_of input.now) threads.old threads.new }
-    ensures answer { Scans nfa.now (search_of input.now) kind (search_of input.now).earliest result slots.new
+    ensures answer { ScanGives nfa.now kind (search_of input.now).earliest (search_of input.now) result slots.new
         threads.new.reached.seen.turns }
 {
     threads.scans.tick();

@@ -4,8 +4,9 @@ use Rattle.std.proofs.lemmas.List.{length-take}
 use Rattle.regex_search_core.specs.Patterns.{number_of}
 use Rattle.regex_search_core.specs.Search.{search_of}
 use Rattle.thompson_nfa.specs.Automaton.{IsAutomaton}
+use Rattle.nfa_paths.proofs.RestartLemmas.{match-some}
 use Rattle.nfa_pikevm.specs.Engines.{kind_of}
-use Rattle.nfa_pikevm.proofs.EngineLemmas.{match-some, pattern-of}
+use Rattle.nfa_pikevm.proofs.EngineLemmas.{pattern-of}
 use Rattle.nfa_pikevm.proofs.engine.PikeVM.find_with.Goals as goal
 
 pub returns-clause-answer : goal.returns-clause-answer
