@@ -1,29 +1,34 @@
 -- What the searches of an iteration over captures by a backtracker answer, and what its iterator may ask and gives.
-use Rattle.std.proofs.Common.{◌≡◌, ◌∙◌, ◌≤◌, false, Option, Result, Ok, Err, sym, ap, length}
+use Rattle.std.proofs.Common.{◌≡◌, ◌∙◌, ◌≤◌, false, List, None, Option, Result, Ok, Err, sym, ap, length, map}
 use Rattle.std.proofs.Common.{◌↔◌, ◌⊎◌, inl, inr}
-use Rattle.std.specs.Prelude.{IfErr, IsErrOf, OnErr, OnOk}
+use Rattle.std.specs.Prelude.{All, IfErr, IfOk, IsErrOf, OnErr, OnOk}
 use Rattle.regex_search_core.specs.Groups.{slot_count}
 use Rattle.regex_search_core.specs.Search.{Search}
 use Rattle.regex_search_core.specs.Slots.{Captured}
 use Rattle.regex_search_core.specs.declared.search.MatchKind.TheVariants.{LeftmostFirst}
 use Rattle.nfa_paths.specs.Paths.{IsAnswer, IsWithinScans, IsWork, span_len}
 use Rattle.nfa_search_base.specs.CapturesGiven.{CapturesGiven}
-use Rattle.nfa_search_base.specs.Catching.{Catching, GivesCaptures, Row, caught_by, row_span}
+use Rattle.nfa_search_base.specs.Catching.{Catching, GivesCaptures, Row, caught_by, row_of, row_span}
+use Rattle.nfa_search_base.specs.CaughtLists.{AreRows, HasGroups}
+use Rattle.nfa_search_base.specs.CaughtRuns.{CapturesInside, match_in}
+use Rattle.nfa_search_base.specs.Drained.{DrainsAll, DrainsToError}
 use Rattle.nfa_search_base.specs.Lending.{With}
 use Rattle.nfa_search_base.specs.Lent.{lent_state, lent_walk}
-use Rattle.nfa_search_base.specs.Stored.{can_step, takes_steps}
+use Rattle.nfa_search_base.specs.Lists.{AreApart, AreMatches}
+use Rattle.nfa_search_base.specs.Stored.{can_step, steps_walk, takes_steps}
 use Rattle.nfa_search_base.specs.Walks.{Answer, fresh, IsInside}
 use Rattle.nfa_search_base.specs.declared.error.SearchError.{SearchError}
 use Rattle.nfa_search_base.specs.declared.error.SearchError.TheVariants.{HaystackTooLong, Memory}
 use Rattle.nfa_search_base.specs.declared.iter.steps.Steps.{Steps}
 use Rattle.nfa_search_base.proofs.CaughtLemmas.{caught-tells, row-lies}
 use Rattle.nfa_search_base.proofs.CaughtRunLemmas.{captures-memory, only-item}
+use Rattle.nfa_search_base.proofs.DrainedLemmas.{all-drained, error-drained}
 use Rattle.nfa_search_base.proofs.EngineLemmas.{captures-given, catcher-acts, catcher-goes, catcher-serves}
 use Rattle.nfa_backtrack.specs.Backtrack.{Backtracker, CountsAnswer, CountsRefusal, IsTooLong, Work}
 use Rattle.nfa_backtrack.specs.CapturesMatches.{AsksBacktrackerRow, CatchesRefused, MayCatchByBacktracker}
 use Rattle.nfa_backtrack.specs.CapturesMatches.{backtracker_catches, backtracker_catches_next}
 use Rattle.nfa_backtrack.specs.FindMatches.{fits_always}
-use Rattle.nfa_backtrack.specs.Finding.{Counts, DoesWork, IsCatchOf, SearchesOnce}
+use Rattle.nfa_backtrack.specs.Finding.{AnswersByLength, Counts, DoesWork, IsCatchOf, SearchesOnce}
 use Rattle.nfa_backtrack.specs.declared.captures_iter.TryCapturesMatches.{TryCapturesMatches}
 use Rattle.nfa_backtrack.proofs.FindLemmas.{still-fits}
 
@@ -71,13 +76,17 @@ catch-lies : (e : Backtracker) (t : Search) (a : Answer Row) → IsCatchOf e t a
 catch-lies e t (Ok o) h = (row-lies e.nfa LeftmostFirst false t (Ok o) h.1).0
 catch-lies e t (Err error) h = tt
 
--- the iterator may search wherever it stands
+-- steps may search wherever they stand
+pub steps-serve : (s : Steps (With (Catching Backtracker) Work)) → MayCatchByBacktracker s.asker
+    → can_step (λ q x. MayCatchByBacktracker q) AsksBacktrackerRow row_span s
+steps-serve s may =
+    catcher-serves (λ e. e.nfa) fits_always IsCatchOf (λ e x a. SearchesOnce e x a) (λ e x a old new work fits. tt)
+    catch-lies s.asker (steps_walk s).at may
+
+-- so the iterator may
 pub catch-serves : (s : TryCapturesMatches)
     → can_step (λ q x. MayCatchByBacktracker q) AsksBacktrackerRow row_span (lent_state (backtracker_catches s))
-catch-serves s =
-    catcher-serves (λ e. e.nfa) fits_always IsCatchOf (λ e x a. SearchesOnce e x a) (λ e x a old new work fits. tt)
-    catch-lies (lent_state (backtracker_catches s)).asker (lent_walk (backtracker_catches s)).at
-    (record { fits = tt; holds = s.holds })
+catch-serves s = steps-serve (lent_state (backtracker_catches s)) (record { fits = tt; holds = s.holds })
 
 -- and after a step
 pub step-may : (s : TryCapturesMatches) (r : Option (Result Captured SearchError))
@@ -87,6 +96,14 @@ pub step-may : (s : TryCapturesMatches) (r : Option (Result Captured SearchError
 step-may s r t st =
     catcher-goes (λ e. e.nfa) fits_always IsCatchOf (λ e x a. SearchesOnce e x a) (λ e x a old new work fits. tt)
     (lent_state (backtracker_catches s)) r t st (record { fits = tt; holds = s.holds })
+
+-- where the span is not too long, a search from one of its positions on has no error but that of memory
+memory-alone : (e : Backtracker) (x : Search) → ¬ (IsTooLong e x) → (t : Search) (error : SearchError)
+    → x.start ≤ t.start → t.end ≡ x.end → IsCatchOf e t (Err error) → error ≡ Memory
+memory-alone e x fits t error from to h = elim h [
+  | inl refused ↦ absurd (still-fits e x t to from fits refused.0)
+  | inr memory ↦ memory.1
+]
 
 module _ (e : Backtracker) (x : Search) (s : TryCapturesMatches)
     (engine : (backtracker_catches s).steps.asker.finder ≡ e) (walk : lent_walk (backtracker_catches s) ≡ fresh x)
@@ -109,7 +126,7 @@ module _ (e : Backtracker) (x : Search) (s : TryCapturesMatches)
             (λ q t a q' same is asked. catcher-acts (λ e. e.nfa) fits_always IsCatchOf (λ e x a. SearchesOnce e x a)
             (λ e x a old new work fits. tt) e q t a q' is asked)
             backtracker_catches_next (λ q. lent_state (backtracker_catches q)) (λ a r b st. st.takes.step) s walk going
-            engine (λ t error from to h. memory-alone fits t error from to h) p seen from;
+            engine (memory-alone e x fits) p seen from;
       }
     where
       only-refused : IsTooLong e x → (a : Answer Row) → IsCatchOf e x a → a ≡ Err (HaystackTooLong (span_len x))
@@ -119,9 +136,35 @@ module _ (e : Backtracker) (x : Search) (s : TryCapturesMatches)
         | inr memory ↦ absurd (memory.0 long)
       ]
 
-      memory-alone : ¬ (IsTooLong e x) → (t : Search) (error : SearchError) → x.start ≤ t.start → t.end ≡ x.end
-          → IsCatchOf e t (Err error) → error ≡ Memory
-      memory-alone fits t error from to h = elim h [
-        | inl refused ↦ absurd (still-fits e x t to from fits refused.0)
-        | inr memory ↦ memory.1
-      ]
+-- ---- all captures
+
+-- a call of a backtracker's steps
+abbrev pub BacktrackerSteps : Steps (With (Catching Backtracker) Work) → Option (Result Captured SearchError)
+    → Steps (With (Catching Backtracker) Work) → Type 0
+BacktrackerSteps = takes_steps row_span AsksBacktrackerRow (λ q. GivesCaptures q.asker)
+
+module _ (e : Backtracker) (x : Search) (s : Steps (With (Catching Backtracker) Work))
+    (may : MayCatchByBacktracker s.asker) (engine : s.asker.asker.finder ≡ e) (walk : steps_walk s ≡ fresh x)
+    (going : s.done ≡ false) where
+  -- its steps give all captures of the NFA
+  pub all-caught : {V : Type 0} (r : Result V SearchError) (items : V → List Captured)
+      (t : Steps (With (Catching Backtracker) Work)) → IfOk r (λ v. DrainsAll BacktrackerSteps s (items v) t)
+      → IfOk r (λ v. AreRows e.nfa LeftmostFirst false x (map row_of (items v)))
+      × IfOk r (λ v. AreMatches e.nfa LeftmostFirst false x (map match_in (items v)))
+      × IfOk r (λ v. All (HasGroups e.nfa) (items v)) × IfOk r (λ v. All (CapturesInside x) (items v))
+      × IfOk r (λ v. AreApart x None (map match_in (items v)))
+  all-caught =
+      all-drained (λ e. e.nfa) fits_always IsCatchOf (λ e x a. SearchesOnce e x a) (λ e x a old new work fits. tt) e
+      LeftmostFirst false (IsCatchOf e) (λ t o h. h.1) x (λ t a same h. h) s may engine walk going
+
+  -- and err by memory alone where the span is not too long
+  pub caught-by_length : {V : Type 0} (r : Result V SearchError) (t : Steps (With (Catching Backtracker) Work))
+      → ¬ (IsTooLong e x)
+      → IfErr r (λ error. (error ≡ Memory) ⊎ DrainsToError BacktrackerSteps s error t) → AnswersByLength e x r
+  caught-by_length (Ok v) t fits errors = fits
+  caught-by_length (Err error) t fits errors = inr (
+    fits,
+    error-drained (λ e. e.nfa) fits_always IsCatchOf (λ e x a. SearchesOnce e x a) (λ e x a old new work fits. tt) e
+        LeftmostFirst false (IsCatchOf e) (λ t o h. h.1) x (λ t a same h. h) s may engine walk going
+        (memory-alone e x fits) error t errors,
+  )

@@ -40,20 +40,22 @@ impl<'r> Model for Catcher<'r> {
 }
 
 impl BoundedBacktracker {
-    ghost use Rattle.std.specs.Prelude.{◌≡◌, false, IfOk, IsOkUnless};
+    ghost use Rattle.std.specs.Prelude.{◌≡◌, false, All, IfOk, IsOkUnless, None, map};
     ghost use Rattle.regex_search_core.specs.Search.{search_of};
     ghost use Rattle.regex_search_core.specs.declared.search.MatchKind.TheVariants.{LeftmostFirst};
     ghost use Rattle.nfa_search_base.specs.CapturesGiven.{CapturesGiven};
-    ghost use Rattle.nfa_search_base.specs.Catching.{caught_by};
+    ghost use Rattle.nfa_search_base.specs.Catching.{caught_by, row_of};
+    ghost use Rattle.nfa_search_base.specs.CaughtLists.{AreRows};
     ghost use Rattle.nfa_search_base.specs.CaughtRuns.{CapturesApart, CapturesFirst, CapturesGroups, CapturesNext};
     ghost use Rattle.nfa_search_base.specs.CaughtRuns.{CapturesRun, CapturesWithin, MatchesInAll, MatchesInFirst};
     ghost use Rattle.nfa_search_base.specs.CaughtRuns.{MatchesInNext, MatchesInRun, RowsAll, RowsFirst, RowsNext};
-    ghost use Rattle.nfa_search_base.specs.CaughtRuns.{RowsRun};
+    ghost use Rattle.nfa_search_base.specs.CaughtRuns.{CapturesInside, RowsRun, match_in};
+    ghost use Rattle.nfa_search_base.specs.Lists.{AreApart, AreMatches};
     ghost use Rattle.nfa_search_base.specs.Walks.{fresh};
     ghost use Rattle.nfa_backtrack.specs.CapturesMatches.{CatchesRefused, backtracker_catches_cache};
     ghost use Rattle.nfa_backtrack.specs.CapturesMatches.{backtracker_catches_done, backtracker_catches_engine};
     ghost use Rattle.nfa_backtrack.specs.CapturesMatches.{backtracker_catches_next, backtracker_catches_walk};
-    ghost use Rattle.nfa_backtrack.specs.Finding.{IsCatchOf, SearchesOnce};
+    ghost use Rattle.nfa_backtrack.specs.Finding.{AnswersByLength, IsCatchOf, SearchesOnce};
 
     /// The captures of the matches of the input that do not overlap, from left to right, each with all groups of the
     /// NFA. To make this changes no cache. The error is that there is no memory for the captures that are searched
@@ -151,6 +153,39 @@ impl BoundedBacktracker {
         ensures apart { CapturesApart backtracker_catches_next (search_of input.entry) result }
     {
         self.catch_from(cache, input, captures)
+    }
+
+    /// The captures of all matches of the input that do not overlap, from left to right, each with all groups of the
+    /// NFA.
+    ///
+    /// # Errors
+    ///
+    /// `HaystackTooLong` exactly where the span is too long, which is tested before all else, and else `Memory`.
+    pub fn try_captures_all(
+        &self,
+        alloc: Global,
+        cache: &mut Cache,
+        input: Input<'_>,
+    ) -> Result<Vec<Captures>, SearchError>
+        ensures rows { IfOk result (λ all. AreRows self.now.nfa LeftmostFirst false (search_of input.entry)
+            (map row_of all.items)) }
+        ensures matches { IfOk result (λ all. AreMatches self.now.nfa LeftmostFirst false (search_of input.entry)
+            (map match_in all.items)) }
+        ensures groups { IfOk result (λ all. All (HasGroups self.now.nfa) all.items) }
+        ensures inside { IfOk result (λ all. All (CapturesInside (search_of input.entry)) all.items) }
+        ensures apart { IfOk result (λ all. AreApart (search_of input.entry) None (map match_in all.items)) }
+        ensures by_length { AnswersByLength self.now (search_of input.entry) result }
+    {
+        if self.is_too_long(&input) {
+            return Err(SearchError::HaystackTooLong {
+                len: input.get_span().len(),
+            });
+        }
+        let catcher = Catcher {
+            engine: self,
+            captures: self.create_captures(alloc)?,
+        };
+        Steps::new(input, catcher).all_with(alloc, cache)
     }
 
     // The iterator that searches with these captures.

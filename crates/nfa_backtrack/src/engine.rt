@@ -206,7 +206,7 @@ impl BoundedBacktracker {
     }
 
     /// Whether the search has more pairs than may be marked.
-    fn is_too_long(&self, input: &Input<'_>) -> bool
+    pub(crate) fn is_too_long(&self, input: &Input<'_>) -> bool
         ensures { IsTrue result ↔ IsTooLong self.now (search_of input.now) }
     {
         let positions = input.get_span().len() + 1;

@@ -1,20 +1,25 @@
 -- What the searches of an iteration over captures by a PikeVM answer, and what its iterator may ask and gives.
-use Rattle.std.proofs.Common.{◌≡◌, Bool, false, Option, Result, subst}
+use Rattle.std.proofs.Common.{◌≡◌, ◌⊎◌, Bool, false, List, None, Option, Result, map, subst}
+use Rattle.std.specs.Prelude.{All, IfOk}
 use Rattle.regex_search_core.specs.Search.{Search}
 use Rattle.regex_search_core.specs.Slots.{Captured}
 use Rattle.nfa_search_base.specs.Asking.{SameButStart}
 use Rattle.nfa_search_base.specs.CapturesGiven.{CapturesGiven}
-use Rattle.nfa_search_base.specs.Catching.{Catching, GivesCaptures, Row, row_span}
-use Rattle.nfa_search_base.specs.CaughtLists.{TellsRow}
-use Rattle.nfa_search_base.specs.CaughtRuns.{CapturesMemory}
+use Rattle.nfa_search_base.specs.Catching.{Catching, GivesCaptures, Row, row_of, row_span}
+use Rattle.nfa_search_base.specs.CaughtLists.{AreRows, HasGroups, TellsRow}
+use Rattle.nfa_search_base.specs.CaughtRuns.{CapturesInside, CapturesMemory, match_in}
+use Rattle.nfa_search_base.specs.Drained.{CallsLead, DrainsAll, DrainsToError}
 use Rattle.nfa_search_base.specs.Lending.{With}
 use Rattle.nfa_search_base.specs.Lent.{lent_state, lent_walk}
-use Rattle.nfa_search_base.specs.Stored.{can_step, takes_steps}
+use Rattle.nfa_search_base.specs.Lists.{AreApart, AreMatches}
+use Rattle.nfa_search_base.specs.Stored.{can_step, steps_walk, takes_steps}
 use Rattle.nfa_search_base.specs.Walks.{Answer, fresh}
 use Rattle.nfa_search_base.specs.declared.error.SearchError.{SearchError}
+use Rattle.nfa_search_base.specs.declared.error.SearchError.TheVariants.{Memory}
 use Rattle.nfa_search_base.specs.declared.iter.steps.Steps.{Steps}
 use Rattle.nfa_search_base.proofs.CaughtLemmas.{row-lies}
 use Rattle.nfa_search_base.proofs.CaughtRunLemmas.{captures-memory}
+use Rattle.nfa_search_base.proofs.DrainedLemmas.{all-drained, calls-cache, error-drained}
 use Rattle.nfa_search_base.proofs.EngineLemmas.{calls-kept, captures-given, catcher-acts, catcher-goes, catcher-serves}
 use Rattle.nfa_pikevm.specs.CapturesMatches.{AsksPikeRow, CatchesGiveCache, MayCatchByPike}
 use Rattle.nfa_pikevm.specs.CapturesMatches.{pike_catches, pike_catches_next}
@@ -27,13 +32,17 @@ use Rattle.nfa_pikevm.proofs.FindLemmas.{same_numbers, same_numbers-then, search
 may-now : (s : CapturesMatches) → MayCatchByPike (lent_state (pike_catches s)).asker
 may-now s = record { fits = s.fits; holds = s.holds }
 
--- the iterator may search wherever it stands
+-- steps may search wherever they stand
+pub steps-serve : (s : Steps (With (Catching Pike) PikeCache)) → MayCatchByPike s.asker
+    → can_step (λ q x. MayCatchByPike q) AsksPikeRow row_span s
+steps-serve s may =
+    catcher-serves (λ vm. vm.nfa) fits_pike PikeTellsRow (λ vm x a. PikeSearches vm x) (λ vm x a. searched-fits vm x)
+    (λ vm t a h. (row-lies vm.nfa (kind_of vm) t.earliest t a h).0) s.asker (steps_walk s).at may
+
+-- so the iterator may
 pub catch-serves : (s : CapturesMatches)
     → can_step (λ q x. MayCatchByPike q) AsksPikeRow row_span (lent_state (pike_catches s))
-catch-serves s =
-    catcher-serves (λ vm. vm.nfa) fits_pike PikeTellsRow (λ vm x a. PikeSearches vm x) (λ vm x a. searched-fits vm x)
-    (λ vm t a h. (row-lies vm.nfa (kind_of vm) t.earliest t a h).0)
-    (lent_state (pike_catches s)).asker (lent_walk (pike_catches s)).at (may-now s)
+catch-serves s = steps-serve (lent_state (pike_catches s)) (may-now s)
 
 -- and after a step
 pub step-may : (s : CapturesMatches) (r : Option (Result Captured SearchError))
@@ -79,3 +88,39 @@ catches-cache s = λ xs t r u ran st.
     (λ p x a q asked. asked.work.numbers) pike_catches_next pike_catches (λ i. i) (λ p i q h. h.takes) s xs t r u ran
     st in
     record { cache = k.cache; numbers = k.keeps }
+
+-- ---- all captures
+
+-- what comes of such calls by a PikeVM
+abbrev pub PikeSteps : Steps (With (Catching Pike) PikeCache) → Option (Result Captured SearchError)
+    → Steps (With (Catching Pike) PikeCache) → Type 0
+PikeSteps = takes_steps row_span AsksPikeRow (λ q. GivesCaptures q.asker)
+
+module _ (vm : Pike) (x : Search) (s : Steps (With (Catching Pike) PikeCache)) (may : MayCatchByPike s.asker)
+    (engine : s.asker.asker.finder ≡ vm) (walk : steps_walk s ≡ fresh x) (going : s.done ≡ false) where
+  -- its steps give all captures of the NFA
+  pub all-caught : {V : Type 0} (r : Result V SearchError) (items : V → List Captured)
+      (t : Steps (With (Catching Pike) PikeCache)) → IfOk r (λ v. DrainsAll PikeSteps s (items v) t)
+      → IfOk r (λ v. AreRows vm.nfa (kind_of vm) x.earliest x (map row_of (items v)))
+      × IfOk r (λ v. AreMatches vm.nfa (kind_of vm) x.earliest x (map match_in (items v)))
+      × IfOk r (λ v. All (HasGroups vm.nfa) (items v)) × IfOk r (λ v. All (CapturesInside x) (items v))
+      × IfOk r (λ v. AreApart x None (map match_in (items v)))
+  all-caught =
+      all-drained (λ vm. vm.nfa) fits_pike PikeTellsRow (λ vm x a. PikeSearches vm x) (λ vm x a. searched-fits vm x) vm
+      (kind_of vm) x.earliest (TellsRow vm.nfa (kind_of vm) x.earliest) (λ t o h. h) x (tells-now vm x) s may engine
+      walk going
+
+  -- and err by memory alone
+  pub caught-memory : (error : SearchError) (t : Steps (With (Catching Pike) PikeCache))
+      → (error ≡ Memory) ⊎ DrainsToError PikeSteps s error t → error ≡ Memory
+  caught-memory =
+      error-drained (λ vm. vm.nfa) fits_pike PikeTellsRow (λ vm x a. PikeSearches vm x)
+      (λ vm x a. searched-fits vm x) vm (kind_of vm) x.earliest (TellsRow vm.nfa (kind_of vm) x.earliest)
+      (λ t o h. h) x (tells-now vm x) s may engine walk going (λ t error from to never. absurd never)
+
+-- and keep the numbers of the cache
+pub caught-numbers : (s t : Steps (With (Catching Pike) PikeCache)) → CallsLead PikeSteps s t
+    → SameNumbers s.asker.cache t.asker.cache
+caught-numbers =
+    calls-cache (λ vm. vm.nfa) fits_pike PikeTellsRow (λ vm x a. PikeSearches vm x) (λ vm x a. searched-fits vm x)
+    SameNumbers same_numbers same_numbers-then (λ vm x a old new work. work.numbers)

@@ -42,18 +42,20 @@ impl<'r> Model for Catcher<'r> {
 }
 
 impl PikeVM {
-    ghost use Rattle.std.specs.Prelude.{◌≡◌, false, IfOk, IsOkUnless};
+    ghost use Rattle.std.specs.Prelude.{◌≡◌, false, All, IfOk, IsOkUnless, None, map};
     ghost use Rattle.regex_search_core.specs.Search.{search_of};
     ghost use Rattle.nfa_search_base.specs.CapturesGiven.{CapturesGiven};
-    ghost use Rattle.nfa_search_base.specs.CaughtLists.{TellsRow};
+    ghost use Rattle.nfa_search_base.specs.Catching.{row_of};
+    ghost use Rattle.nfa_search_base.specs.CaughtLists.{AreRows, TellsRow};
     ghost use Rattle.nfa_search_base.specs.CaughtRuns.{CapturesApart, CapturesFirst, CapturesGroups, CapturesMemory};
     ghost use Rattle.nfa_search_base.specs.CaughtRuns.{CapturesNext, CapturesRun, CapturesWithin, MatchesInAll};
     ghost use Rattle.nfa_search_base.specs.CaughtRuns.{MatchesInFirst, MatchesInNext, MatchesInRun, RowsAll};
-    ghost use Rattle.nfa_search_base.specs.CaughtRuns.{RowsFirst, RowsNext, RowsRun};
+    ghost use Rattle.nfa_search_base.specs.CaughtRuns.{CapturesInside, RowsFirst, RowsNext, RowsRun, match_in};
+    ghost use Rattle.nfa_search_base.specs.Lists.{AreApart, AreMatches};
     ghost use Rattle.nfa_search_base.specs.Walks.{fresh};
     ghost use Rattle.nfa_pikevm.specs.CapturesMatches.{CatchesGiveCache, pike_catches_cache, pike_catches_done};
     ghost use Rattle.nfa_pikevm.specs.CapturesMatches.{pike_catches_engine, pike_catches_next, pike_catches_walk};
-    ghost use Rattle.nfa_pikevm.specs.Engines.{kind_of};
+    ghost use Rattle.nfa_pikevm.specs.Engines.{SameNumbers, kind_of};
 
     /// The captures of the matches of the input that do not overlap, from left to right, each with all groups of the
     /// NFA. The caller owes a cache that fits. To make this changes no cache. The error is that there is no memory for
@@ -157,6 +159,32 @@ impl PikeVM {
         ensures keeps { CatchesGiveCache result }
     {
         self.catch_from(cache, input, captures)
+    }
+
+    /// The captures of all matches of the input that do not overlap, from left to right, each with all groups of the
+    /// NFA. The error is that there was no memory: [`SearchError::Memory`] alone.
+    pub fn captures_all(
+        &self,
+        alloc: Global,
+        cache: &mut Cache,
+        input: Input<'_>,
+    ) -> Result<Vec<Captures>, SearchError>
+        requires { Fits cache.old self.now.nfa }
+        ensures memory { IsOkUnless result SearchError.Memory }
+        ensures rows { IfOk result (λ all. AreRows self.now.nfa (kind_of self.now) (search_of input.entry).earliest
+            (search_of input.entry) (map row_of all.items)) }
+        ensures matches { IfOk result (λ all. AreMatches self.now.nfa (kind_of self.now)
+            (search_of input.entry).earliest (search_of input.entry) (map match_in all.items)) }
+        ensures groups { IfOk result (λ all. All (HasGroups self.now.nfa) all.items) }
+        ensures inside { IfOk result (λ all. All (CapturesInside (search_of input.entry)) all.items) }
+        ensures apart { IfOk result (λ all. AreApart (search_of input.entry) None (map match_in all.items)) }
+        ensures numbers { SameNumbers cache.old cache.new }
+    {
+        let catcher = Catcher {
+            engine: self,
+            captures: self.create_captures(alloc)?,
+        };
+        Steps::new(input, catcher).all_with(alloc, cache)
     }
 
     // The iterator that searches with these captures.

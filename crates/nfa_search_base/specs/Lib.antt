@@ -6,6 +6,7 @@ pub mod CaughtLists
 pub mod CaughtRuns
 pub mod CaughtSteps
 pub mod CapturesGiven
+pub mod Drained
 pub mod EmptyFinder
 pub mod EngineSearches
 pub mod Finders

@@ -1,6 +1,7 @@
 -- A text with something else in place of its matches.
 use Rattle.std.specs.Prelude.{ℕ, ◌≡◌, ◌≤◌, false, List, [], ◌∷◌, ◌++◌, All, None, drop, length, map}
 use Rattle.std.specs.Prelude.{slice_range}
+use Rattle.std.specs.List.{AllByRecursion}
 use Rattle.regex_search_core.specs.Search.{whole}
 use Rattle.regex_search_core.specs.Slots.{Captured}
 use Rattle.nfa_engines.specs.Catching.{row_of}
@@ -30,14 +31,15 @@ pub record AreCaught (vm : Pike) (haystack : List ℕ) (cs : List Captured) : Ty
   pub inside : All (CapturesInside (whole haystack)) cs
   pub apart : AreApart (whole haystack) None (map match_in cs)
 
--- The matches of the first i captures were replaced, up to this offset, which is where the last one ended: the output
--- and what comes for those that are left are what comes for all.
-pub record HasReplaced (haystack : List ℕ) (parts : List Part) (cs : List Captured) (i from : ℕ)
+-- The matches of the first i of these captures were replaced, up to this offset, which is where the last one ended: the
+-- output and what comes for those that are left are what comes for all.
+pub record HasReplaced (haystack : List ℕ) (parts : List Part) (all left : List Captured) (i from : ℕ)
     (output : List ℕ) : Type 0 where
-  pub output_is : output ++ replaced haystack parts from (drop i cs) ≡ replaced haystack parts 0 cs
+  pub output_is : output ++ replaced haystack parts from left ≡ replaced haystack parts 0 all
   pub first : i ≡ 0 → from ≡ 0
   pub within : from ≤ length haystack
-  pub apart : AreApart (whole haystack) (last_end i from) (map match_in (drop i cs))
+  pub inside : AllByRecursion (CapturesInside (whole haystack)) left
+  pub apart : AreApart (whole haystack) (last_end i from) (map match_in left)
 
 -- the output is the haystack with the template in place of each of its matches
 pub record IsReplaced (vm : Pike) (haystack : List ℕ) (parts : List Part) (output : List ℕ) : Type 0 where

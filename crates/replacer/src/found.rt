@@ -1,37 +1,13 @@
-//! The matches of a text, and their captures, as lists.
+//! The first matches of a text, as a list.
 ghost use Rattle.std.specs.Prelude.{◌≡◌, ◌⊎◌, ◌≤◌, false, IfOk, None, length, map};
 ghost use Rattle.regex_search_core.specs.Found.{found_of};
 ghost use Rattle.regex_search_core.specs.Search.{whole};
 ghost use Rattle.nfa_engines.specs.Engines.{Fits, SameNumbers, kind_of};
 ghost use Rattle.nfa_engines.specs.Lists.{AreApart, AreFirstMatches, AreMatches};
-ghost use Rattle.replacer.specs.Replaced.{AreCaught};
 
 use nfa_engines::pikevm::{Cache, PikeVM};
-use regex_search_core::{Captures, Input, Match};
+use regex_search_core::{Input, Match};
 use std::alloc::{AllocError, Global};
-
-/// The captures of all matches of the text.
-pub fn all_captures(
-    alloc: Global,
-    vm: &PikeVM,
-    cache: &mut Cache,
-    text: &[u8],
-) -> Result<Vec<Captures>, AllocError>
-    requires { Fits cache.old vm.now.nfa }
-    ensures { IfOk result (λ all. AreCaught vm.now text.now all.items) }
-{
-    let Ok(items) = vm.captures_iter(alloc, cache, Input::new(text)) else {
-        return Err(AllocError);
-    };
-    let mut all = Vec::new(alloc);
-    for item in items {
-        let Ok(captures) = item else {
-            return Err(AllocError);
-        };
-        all.push(captures)?;
-    }
-    Ok(all)
-}
 
 /// The first matches of the text, so many or all that there are.
 pub fn first_matches(

@@ -2,14 +2,13 @@
 ghost use Rattle.std.specs.Prelude.{◌≡◌, ◌≤◌, ◌++◌, All, IfOk, None, OnOk, map};
 ghost use Rattle.regex_search_core.specs.Search.{whole};
 ghost use Rattle.nfa_engines.specs.CaughtRuns.{CapturesInside, match_in};
-ghost use Rattle.nfa_engines.specs.Engines.{Fits};
+ghost use Rattle.nfa_engines.specs.Engines.{Fits, SameNumbers};
 ghost use Rattle.nfa_engines.specs.Lists.{AreApart};
 ghost use Rattle.replacer.specs.Replaced.{IsReplaced, replaced, replaced_one};
 
-use crate::found::all_captures;
 use crate::template::Template;
 use nfa_engines::pikevm::{Cache, PikeVM};
-use regex_search_core::Captures;
+use regex_search_core::{Captures, Input};
 use std::alloc::{AllocError, Global};
 
 /// The haystack with the template, filled by each match, in place of the match. The error is that a growth was refused.
@@ -25,26 +24,30 @@ pub fn replace_all(
 ) -> Result<Vec<u8>, AllocError>
     requires { Fits cache.old vm.now.nfa }
     ensures replaced { IfOk result (λ output. IsReplaced vm.now haystack.now template.now.parts.items output.items) }
+    ensures numbers { SameNumbers cache.old cache.new }
 {
-    let caught = all_captures(alloc, vm, cache, haystack)?;
-    replace_caught(alloc, haystack, &caught, template)
+    let Ok(caught) = vm.captures_all(alloc, cache, Input::new(haystack)) else {
+        return Err(AllocError);
+    };
+    replace_caught(alloc, haystack, caught, template)
 }
 
 /// The haystack with the filled template in place of the match of each of these captures.
+#[tactic(auto, using(std::proofs::lemmas::List::Elements::recursion_from_All))]
 fn replace_caught(
     alloc: Global,
     haystack: &[u8],
-    caught: &[Captures],
+    caught: Vec<Captures>,
     template: &Template<'_>,
 ) -> Result<Vec<u8>, AllocError>
-    requires inside { All (CapturesInside (whole haystack.now)) caught.now }
-    requires apart { AreApart (whole haystack.now) None (map match_in caught.now) }
-    ensures { IfOk result (λ output. output.items ≡ replaced haystack.now template.now.parts.items 0 caught.now) }
+    requires inside { All (CapturesInside (whole haystack.now)) caught.items }
+    requires apart { AreApart (whole haystack.now) None (map match_in caught.items) }
+    ensures { IfOk result (λ output. output.items ≡ replaced haystack.now template.now.parts.items 0 caught.items) }
 {
     let mut output = Vec::new(alloc);
     let mut from = 0;
     for captures in caught {
-        from = replace_one(haystack, from, captures, template, &mut output)?;
+        from = replace_one(haystack, from, &captures, template, &mut output)?;
     }
     output.extend_from_slice(&haystack[from..])?;
     Ok(output)

@@ -1,8 +1,8 @@
 //! Lists of captures of the sample NFAs, of both engines.
 use super::callers::{collected, collected_with, tries_collected, tries_collected_with};
 use super::{DATE_SLOTS, backtracker, pikevm};
-use nfa_engines::Captures;
 use nfa_engines::error::SearchError;
+use nfa_engines::{Captures, Input};
 use std::alloc::Global;
 use std::process::Abort;
 use std::test::Fail;
@@ -90,6 +90,13 @@ fn assert_rows(rt: &impl Abort, items: &[Result<Captures, SearchError>], rows: &
     }
 }
 
+fn assert_caught(rt: &impl Abort, all: &[Captures], rows: &[Row], name: &str) {
+    assert_eq!(rt; all.len(), rows.len(), "{name}");
+    for (captures, row) in all.iter().zip(rows) {
+        assert!(rt; is_row(captures, row), "{name}");
+    }
+}
+
 #[test]
 fn pikevm_gives_the_lists(rt: HostRuntime) -> Result<(), Fail> {
     let alloc = rt.alloc();
@@ -110,6 +117,30 @@ fn backtracker_gives_the_lists(rt: HostRuntime) -> Result<(), Fail> {
         let mut cache = engine.create_cache(alloc);
         let items = tries_collected(&engine, alloc, &mut cache, text)?;
         assert_rows(&rt, items.as_slice(), rows, name);
+    }
+    Ok(())
+}
+
+#[test]
+fn pikevm_gives_the_lists_as_one_value(rt: HostRuntime) -> Result<(), Fail> {
+    let alloc = rt.alloc();
+    for &(name, text, rows) in LISTS {
+        let vm = pikevm(alloc, name)?;
+        let mut cache = vm.create_cache(alloc)?;
+        let all = vm.captures_all(alloc, &mut cache, Input::new(text))?;
+        assert_caught(&rt, &all, rows, name);
+    }
+    Ok(())
+}
+
+#[test]
+fn backtracker_gives_the_lists_as_one_value(rt: HostRuntime) -> Result<(), Fail> {
+    let alloc = rt.alloc();
+    for &(name, text, rows) in LISTS {
+        let engine = backtracker(alloc, name)?;
+        let mut cache = engine.create_cache(alloc);
+        let all = engine.try_captures_all(alloc, &mut cache, Input::new(text))?;
+        assert_caught(&rt, &all, rows, name);
     }
     Ok(())
 }

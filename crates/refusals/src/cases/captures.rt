@@ -92,6 +92,10 @@ fn tried(
     cache: &mut backtrack::Cache,
 ) -> Result<(), Wrong> {
     expect_tries(alloc, seen, engine, cache)?;
+    expect_all(
+        seen,
+        engine.try_captures_all(alloc, cache, Input::new(HAYSTACK)),
+    )?;
     let found = searches::found(seen, engine, cache, HAYSTACK)?;
     expect(
         found.map(parts) == Some((0, 0, 4)),
@@ -111,6 +115,14 @@ fn expect_tries(
     }
 }
 
+fn expect_rows(all: &[Captures]) -> Result<(), Wrong> {
+    expect(all.len() == SLOTS.len(), "the number of all captures")?;
+    for (captures, want) in all.iter().zip(SLOTS) {
+        expect(is_row(captures, want), "one of all captures")?;
+    }
+    Ok(())
+}
+
 fn sure(
     alloc: Global,
     seen: &mut Seen,
@@ -121,11 +133,20 @@ fn sure(
     if !cache.fits(vm) {
         return Err(Wrong("a cache that fits no more after captures"));
     }
+    expect_all(seen, vm.captures_all(alloc, cache, Input::new(HAYSTACK)))?;
     let found = vm.find(cache, Input::new(HAYSTACK));
     expect(
         found.map(parts) == Some((0, 0, 4)),
         "the match after captures",
     )
+}
+
+// As one value the list comes whole, or not at all.
+fn expect_all(seen: &mut Seen, all: Result<Vec<Captures>, SearchError>) -> Result<(), Wrong> {
+    match all {
+        Ok(all) => expect_rows(&all),
+        Err(error) => seen.note(error == SearchError::Memory),
+    }
 }
 
 fn expect_sures(

@@ -1,0 +1,47 @@
+-- The steps may be made, give the captures of the input, and keep the numbers of the cache.
+use Rattle.std.proofs.Common.{ap}
+use Rattle.std.proofs.lemmas.Result.{IfErr-weaker}
+use Rattle.regex_search_core.specs.Search.{search_of}
+use Rattle.nfa_search_base.specs.Lending.{lend}
+use Rattle.nfa_search_base.proofs.DrainedLemmas.{made-holds}
+use Rattle.nfa_pikevm.specs.CapturesMatches.{MayCatchByPike}
+use Rattle.nfa_pikevm.specs.Engines.{Pike}
+use Rattle.nfa_pikevm.proofs.CaughtLemmas.{all-caught, caught-memory, caught-numbers, steps-serve}
+use Rattle.nfa_pikevm.proofs.engine.PikeVM.captures_all.Goals as goal
+
+pub all_with-requires : goal.all_with-requires
+all_with-requires c =
+    let captures = c.in_ok-create_captures in
+    let begun = lend c.new.result c.args.cache.now in
+    let may : MayCatchByPike begun.asker = rw c.new.ensures.asker (record {
+      fits = c.requires;
+      holds = made-holds c.args.self.now.nfa captures.field-0 captures.ensures.made;
+    }) in
+    steps-serve begun may
+
+pub returns : goal.returns
+returns c =
+    let vm = c.args.self.now in
+    let x = search_of c.args.input in
+    let captures = c.in_ok-create_captures in
+    let begun = lend c.new.result c.args.cache.now in
+    let left = lend c.all_with.new.self c.all_with.new.cache in
+    let may : MayCatchByPike begun.asker = rw c.new.ensures.asker (record {
+      fits = c.requires;
+      holds = made-holds vm.nfa captures.field-0 captures.ensures.made;
+    }) in
+    let engine = ap (λ q. q.finder) c.new.ensures.asker in
+    let given = c.all_with.ensures in
+    let all = all-caught vm x begun may engine c.new.ensures.walk c.new.ensures.going c.all_with.result (λ v. v.items)
+    left given.all in
+    record {
+      memory = IfErr-weaker c.all_with.result _ _
+          (λ error h. caught-memory vm x begun may engine c.new.ensures.walk c.new.ensures.going error left h)
+          given.errors;
+      rows = all.0;
+      matches = all.1;
+      groups = all.2;
+      inside = all.3;
+      apart = all.4;
+      numbers = caught-numbers begun left given.calls;
+    }

@@ -1,0 +1,70 @@
+-- Each call gives one item more. The last one gave none, an error, or the item that could not be kept.
+use Rattle.std.proofs.Common.{◌≡◌, ap, inr, refl, sym, List, [], ◌∷◌, ◌++◌, Ok, Result, Some, map}
+use Rattle.std.proofs.lemmas.Result.{err_from_is_err_and}
+use Rattle.std.specs.Iterator.{Yields}
+use Rattle.nfa_search_base.specs.Lending.{lend}
+use Rattle.nfa_search_base.specs.Stored.{takes_steps}
+use Rattle.nfa_search_base.specs.Walks.{IsInside}
+use Rattle.nfa_search_base.proofs.RunLemmas.{yields-more}
+use Rattle.nfa_search_base.proofs.StoredLemmas.{takes-progress}
+use Rattle.nfa_search_base.proofs.iter.steps.Steps.all_with.Goals as goal
+
+oked-more : {Y E : Type 0} (ys : List Y) (y : Y)
+    → (let ok : Y → Result Y E = λ v. Ok v in map ok ys ++ ok y ∷ [] ≡ map ok (ys ++ y ∷ []))
+oked-more [] y = refl
+oked-more {Y} {E} (x ∷ xs) y =
+    let ok : Y → Result Y E = λ v. Ok v in ap (λ (l : List (Result Y E)). ok x ∷ l) (oked-more xs y)
+
+pub loop-item-preserved : goal.loop-item-preserved
+loop-item-preserved g c =
+    let a = g.A.Searches in
+    let calls = takes_steps a.span a.asks (λ q. a.gives q.asker) in
+    let from = lend c.loop-item.self c.loop-item.cache in
+    let to = lend c.next_with.new.self c.next_with.new.cache in
+    let item = c.in_ok-item.field-0 in
+    let more = yields-more calls (map Ok c.loop-item.all.items) (lend c.args.self.now c.args.cache.now) from to
+    (Ok item) c.loop-item.invariant.ran (rw c.in_ok-item.was at c.in-Some.ensures) in
+    let goes = takes-progress a.accepts a.asks a.span (λ q. a.gives q.asker) (IsInside a.span) from to
+    (Some c.in-Some.item) c.loop-item.invariant.can c.in-Some.ensures in
+    record {
+      ran = rw (c.in_ok-push.ensures.items, ← oked-more c.loop-item.all.items item) more;
+      can = goes.keeps;
+    }
+
+pub returns-in_err-item-clause-errors : goal.returns-in_err-item-clause-errors
+returns-in_err-item-clause-errors g c =
+    let error = rw c.in_err-item.was at c.in-Some.ensures in
+    let p = err_from_is_err_and c.from_residual.result c.from_residual.ensures.1 in
+    rw (p.1, p.2) (inr (record {
+      items = c.loop-item.all.items;
+      last = lend c.loop-item.self c.loop-item.cache;
+      ran = c.loop-item.invariant.ran;
+      over = error;
+    }))
+
+pub returns-in_err-item-clause-calls : goal.returns-in_err-item-clause-calls
+returns-in_err-item-clause-calls g c = record {
+  items = map Ok c.loop-item.all.items;
+  last = lend c.loop-item.self c.loop-item.cache;
+  item = c.next_with.result;
+  ran = c.loop-item.invariant.ran;
+  over = c.next_with.ensures;
+}
+
+pub returns-in_err-push-clause-calls : goal.returns-in_err-push-clause-calls
+returns-in_err-push-clause-calls g c = record {
+  items = map Ok c.loop-item.all.items;
+  last = lend c.loop-item.self c.loop-item.cache;
+  item = c.next_with.result;
+  ran = c.loop-item.invariant.ran;
+  over = c.next_with.ensures;
+}
+
+pub returns-clause-calls : goal.returns-clause-calls
+returns-clause-calls g c = record {
+  items = map Ok c.loop-item.all.items;
+  last = lend c.loop-item.self c.loop-item.cache;
+  item = c.next_with.result;
+  ran = c.loop-item.invariant.ran;
+  over = c.next_with.ensures;
+}
