@@ -1,6 +1,6 @@
 -- What stands before, between and behind the matches of a text.
 use Rattle.std.specs.Prelude.{ℕ, ◌≡◌, ◌+◌, ◌≤◌, ◌⊎◌, ◌==◌, if◌then◌else◌, false, List, [], ◌∷◌, ◌++◌, drop, length, map}
-use Rattle.std.specs.Prelude.{reverse, slice_range, take, Option, None, Some}
+use Rattle.std.specs.Prelude.{slice_range, Option, None, Some}
 use Rattle.std.specs.Borrow.{Bor}
 use Rattle.regex_search_core.specs.Found.{Found, found_of}
 use Rattle.regex_search_core.specs.Search.{whole}
@@ -21,20 +21,11 @@ abbrev pub gaps : List ℕ → ℕ → List Found → List (List ℕ)
 gaps haystack from [] = drop from haystack ∷ []
 gaps haystack from (m ∷ ms) = slice_range haystack from m.start ∷ gaps haystack m.end ms
 
--- fields and the match behind each, from the last to the first, joined in their order
-abbrev pub turns : List (List ℕ) → List (List ℕ) → List ℕ
-turns (field ∷ fields) (m ∷ matches) = turns fields matches ++ field ++ m
-turns (field ∷ fields) [] = []
-turns [] matches = []
-
--- fields and matches from the last to the first: the last field stands behind all matches
-abbrev pub woven_back : List (List ℕ) → List (List ℕ) → List ℕ
-woven_back [] matches = []
-woven_back (field ∷ fields) matches = turns fields matches ++ field
-
--- fields and matches in turn, joined
+-- fields and matches in turn, joined: the last field stands behind all matches
 abbrev pub woven : List (List ℕ) → List (List ℕ) → List ℕ
-woven fields matches = woven_back (reverse fields) (reverse matches)
+woven [] matches = []
+woven (field ∷ fields) [] = field
+woven (field ∷ fields) (m ∷ matches) = field ++ (m ++ woven fields matches)
 
 -- what the slices hold
 abbrev pub texts : List (Bor (List ℕ)) → List (List ℕ)
@@ -46,8 +37,13 @@ module _ (haystack : List ℕ) where
     pub fields_are : fields ≡ gaps haystack 0 matches
     pub joined : woven fields (map (match_text haystack) matches) ≡ haystack
 
+  -- what stands around these matches from an offset on, and the matches, are the haystack from there
+  abbrev pub IsJoined : ℕ → List Found → Type 0
+  IsJoined from matches = woven (gaps haystack from matches) (map (match_text haystack) matches) ≡ drop from haystack
+
   -- These fields were cut out, up to this offset, which is where the last one ended of the first i matches: they and
-  -- what stands around the matches that are left are what stands around all.
+  -- what stands around the matches that are left are what stands around all. So all joined are the haystack
+  -- where those that are left are the rest of it.
   pub record HasCut (matches : List Match) (i from : ℕ) (fields : List (List ℕ)) : Type 0 where
     pub fields_are : fields ++ gaps haystack from (map found_of (drop i matches))
         ≡ gaps haystack 0 (map found_of matches)
@@ -55,8 +51,7 @@ module _ (haystack : List ℕ) where
     pub first : i ≡ 0 → from ≡ 0
     pub within : from ≤ length haystack
     pub apart : AreApart (whole haystack) (last_end i from) (map found_of (drop i matches))
-    pub joined : turns (reverse fields) (reverse (map (match_text haystack) (map found_of (take i matches))))
-        ++ drop from haystack ≡ haystack
+    pub joined : IsJoined from (map found_of (drop i matches)) → IsJoined 0 (map found_of matches)
 
   module _ (vm : Pike) where
     -- the fields are what stands around the matches of the haystack
