@@ -217,6 +217,8 @@ fn scan_earliest(
 }
 
 /// One scan, from a clean slate: the path that is meant, its slots, or no slot set.
+// A call of its own, so that a search's loop takes no registers from the scan's.
+#[inline(never)]
 pub fn scan(
     nfa: &NFA,
     first: &FirstBytes,
