@@ -8,7 +8,7 @@ use Rattle.thompson_nfa.specs.Automaton.Node.{Capture}
 use Rattle.nfa_paths.specs.Exploring.{Item, Slots}
 use Rattle.nfa_paths.specs.Turns.{marked_sum}
 use Rattle.nfa_backtrack.specs.Begin.{kept_onto, IsPutBack, BeginsAt}
-use Rattle.nfa_backtrack.specs.Bits.{Marks}
+use Rattle.nfa_scanning.specs.Marks.{Marks}
 use Rattle.nfa_backtrack.specs.Walk.{pair_of, weights, IsPlace, Carries, Taken}
 use Rattle.nfa_backtrack.specs.declared.frame.Place.{Place}
 use Rattle.nfa_backtrack.proofs.WalkLemmas.{Carries-none, Carries-restore, Carries-write, marked_sum-weights}

@@ -16,7 +16,7 @@ use Rattle.nfa_search_base.specs.Lending.{With}
 use Rattle.nfa_search_base.specs.Lent.{lent_state, lent_walk}
 use Rattle.nfa_search_base.specs.Lists.{AreApart, AreMatches}
 use Rattle.nfa_search_base.specs.Stored.{can_step, steps_walk, takes_steps}
-use Rattle.nfa_search_base.specs.Walks.{Answer, fresh, IsInside}
+use Rattle.nfa_search_base.specs.Walks.{Answer, fresh, AnswerIsInside}
 use Rattle.nfa_search_base.specs.declared.error.SearchError.{SearchError}
 use Rattle.nfa_search_base.specs.declared.error.SearchError.TheVariants.{HaystackTooLong, Memory}
 use Rattle.nfa_search_base.specs.declared.iter.steps.Steps.{Steps}
@@ -72,7 +72,7 @@ work-caught e x c (Ok u) new work within = work
 work-caught e x c (Err error) new work within = within
 
 -- what is answered lies in the span
-catch-lies : (e : Backtracker) (t : Search) (a : Answer Row) → IsCatchOf e t a → IsInside row_span t a
+catch-lies : (e : Backtracker) (t : Search) (a : Answer Row) → IsCatchOf e t a → AnswerIsInside row_span t a
 catch-lies e t (Ok o) h = (row-lies e.nfa LeftmostFirst false t (Ok o) h.1).0
 catch-lies e t (Err error) h = tt
 

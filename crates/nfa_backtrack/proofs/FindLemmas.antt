@@ -14,7 +14,7 @@ use Rattle.nfa_search_base.specs.Lending.{With}
 use Rattle.nfa_search_base.specs.Lent.{lent_state, lent_walk}
 use Rattle.nfa_search_base.specs.Steps.{GivesItem}
 use Rattle.nfa_search_base.specs.Stored.{steps_walk, can_step, takes_steps}
-use Rattle.nfa_search_base.specs.Walks.{Answer, IsInside, place_of, span_of}
+use Rattle.nfa_search_base.specs.Walks.{Answer, AnswerIsInside, place_of, span_of}
 use Rattle.nfa_search_base.specs.declared.error.SearchError.{SearchError}
 use Rattle.nfa_search_base.specs.declared.iter.steps.Steps.{Steps}
 use Rattle.nfa_search_base.proofs.EngineLemmas.{finder-acts, finder-goes, finder-serves}
@@ -60,7 +60,7 @@ work-by e x (Err error) new work within = within
 
 -- a match that is found lies in the span
 pub find-lies : (e : Backtracker) (t : Search) (a : Answer Found) → IsFindOf e t a
-    → IsInside span_of t a × IsOrdered (place_of span_of a)
+    → AnswerIsInside span_of t a × IsOrdered (place_of span_of a)
 find-lies e t (Ok found) h = match-lies e.nfa LeftmostFirst false t (Ok found) h.1
 find-lies e t (Err error) h = (tt, λ p is. let never : None ≡ Some p = is in cc)
 
@@ -69,7 +69,7 @@ pub find-serves : (s : TryFindMatches)
     → can_step MayFindByBacktracker AsksBacktracker span_of (lent_state (backtracker_finds s))
 find-serves s =
     finder-serves IsSureAt backtracker_knowing fits_always IsFindOf (λ e x a. SearchesOnce e x a)
-    (λ e x a old new work fits. tt) (IsInside span_of) (λ e t a h. (find-lies e t a h).0)
+    (λ e x a old new work fits. tt) (AnswerIsInside span_of) (λ e t a h. (find-lies e t a h).0)
     (lent_state (backtracker_finds s)).asker (lent_walk (backtracker_finds s)).at
     (record { fits = tt; knows = s.knows })
 

@@ -7,10 +7,10 @@ use Rattle.thompson_nfa.specs.Automaton.{Automaton}
 use Rattle.nfa_paths.specs.Graphs.{Pair}
 use Rattle.nfa_paths.specs.FirstPaths.{IsFirst}
 use Rattle.nfa_paths.specs.Paths.{start_state, starts, pairs_from, edges, is_match, capture}
-use Rattle.nfa_paths.specs.Exploring.{Item, Slots, Answer}
+use Rattle.nfa_paths.specs.Exploring.{Item, Slots, ExploresTo}
 use Rattle.nfa_paths.specs.Exploring.Item.{Explore}
 use Rattle.nfa_paths.proofs.AnswerLemmas.{pairs_from-step, pairs_from-end}
-use Rattle.nfa_backtrack.specs.Bits.{Marks}
+use Rattle.nfa_scanning.specs.Marks.{Marks}
 use Rattle.nfa_scanning.specs.FirstBytes.{IsRefused, IsFirstBytes}
 use Rattle.nfa_backtrack.specs.Walk.{WalkAnswer, Carries}
 use Rattle.nfa_backtrack.proofs.WalkLemmas.{Carries-then, Carries-none}
@@ -20,14 +20,14 @@ module _ (nfa : Automaton) (x : Search) where
   Carries-dead : (m : Marks) (v : Pair) (w : List Item) (s : Slots)
       → ((marks : List Pair) → IsFirst (edges nfa x) (is_match nfa) marks v None)
       → Carries nfa x m (Explore v ∷ w) s m w s
-  unfolding WalkAnswer Answer
+  unfolding WalkAnswer ExploresTo
   Carries-dead m v w s dead = record {
     grows = omega arith;
     back = λ left more g e h pairs agrees.
         let same : more ≡ left = omega arith in
         inr (
           dead pairs,
-          subst (λ n. Answer (edges nfa x) (is_match nfa) (capture nfa) n None pairs w s g) (sym same)
+          subst (λ n. ExploresTo (edges nfa x) (is_match nfa) (capture nfa) n None pairs w s g) (sym same)
               (h pairs agrees),
         );
   }

@@ -14,7 +14,7 @@ use Rattle.nfa_paths.specs.Exploring.Item.{Explore}
 use Rattle.nfa_paths.specs.Turns.{marked_sum}
 use Rattle.nfa_paths.proofs.AnswerLemmas.{scan_none, scan_some}
 use Rattle.nfa_paths.proofs.TurnLemmas.{marked_sum-le}
-use Rattle.nfa_backtrack.specs.Bits.{Marks}
+use Rattle.nfa_scanning.specs.Marks.{Marks}
 use Rattle.nfa_backtrack.specs.Walk.{HasBits, Agrees, WalkAnswer, Ends, EndsAt, weights}
 use Rattle.nfa_backtrack.proofs.WalkLemmas.{IsMarked-clear, sum-weights}
 

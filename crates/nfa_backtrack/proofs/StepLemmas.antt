@@ -20,7 +20,7 @@ use Rattle.nfa_paths.specs.Paths.{span_len, degree, node_at, pattern_of, slot_of
 use Rattle.nfa_paths.specs.Exploring.{Item, Slots}
 use Rattle.nfa_paths.specs.Exploring.Item.{Explore, Restore}
 use Rattle.nfa_scanning.proofs.TargetLemmas.{byte_at-within, target-below, target-degree}
-use Rattle.nfa_backtrack.specs.Bits.{Marks}
+use Rattle.nfa_scanning.specs.Marks.{Marks}
 use Rattle.nfa_backtrack.specs.Walk.{pair_of, work_item, stacked, restoring, move_of, frame_tries, tries_of_move, bit_of}
 use Rattle.nfa_backtrack.specs.Walk.{HasBits, IsPlace, IsFrame, PaidFor, Carries, Ends, Goes, Taken, WasMarked}
 use Rattle.nfa_backtrack.specs.declared.frame.Place.{Place}

@@ -7,7 +7,7 @@ use Rattle.std.proofs.lemmas.List.Sums.{sum_by_push}
 use Rattle.regex_search_core.specs.Search.{Search}
 use Rattle.thompson_nfa.specs.Automaton.{Automaton}
 use Rattle.nfa_paths.specs.Exploring.{Item, Slots}
-use Rattle.nfa_backtrack.specs.Bits.{Marks}
+use Rattle.nfa_scanning.specs.Marks.{Marks}
 use Rattle.nfa_backtrack.specs.Walk.{work_item, stacked, frame_tries, tries_of_place, with_place, WritesSlot, Unwinds, IsPlaceOr}
 use Rattle.nfa_backtrack.specs.Walk.{IsFrame, Carries}
 use Rattle.nfa_backtrack.specs.declared.frame.Place.{Place}

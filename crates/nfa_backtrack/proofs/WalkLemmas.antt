@@ -15,13 +15,13 @@ use Rattle.thompson_nfa.specs.Automaton.Node.{Capture, Fail, Match}
 use Rattle.nfa_paths.specs.Graphs.{Pair, In}
 use Rattle.nfa_paths.specs.Paths.{span_len, degree, node_at, pattern_of, slot_of, edges, edges_of, is_match, capture}
 use Rattle.nfa_paths.specs.Paths.{turn_weight}
-use Rattle.nfa_paths.specs.Exploring.{Item, Slots, Found, Answer}
+use Rattle.nfa_paths.specs.Exploring.{Item, Slots, Hit, ExploresTo}
 use Rattle.nfa_paths.specs.Exploring.Item.{Explore, Restore}
 use Rattle.nfa_paths.specs.Turns.{marked_sum, repeated}
 use Rattle.nfa_paths.proofs.SearchLemmas.{Answer-none, Answer-restore, Answer-marked, Answer-target, Answer-plain}
 use Rattle.nfa_paths.proofs.SearchLemmas.{Answer-write, Answer-unkept}
 use Rattle.nfa_paths.proofs.TurnLemmas.{marked_sum-set, sum-repeated, get_or-repeated}
-use Rattle.nfa_backtrack.specs.Bits.{Marks}
+use Rattle.nfa_scanning.specs.Marks.{Marks}
 use Rattle.regex_search_core.specs.declared.search.HalfMatch.{HalfMatch}
 use Rattle.nfa_backtrack.specs.Walk.{bit_of, HasBits, IsMarked, Agrees, weights, WalkAnswer, Carries, Ends, EndsAt}
 
@@ -152,9 +152,9 @@ module _ (nfa : Automaton) (x : Search) where
 
       -- a turn that marks the pair
       Carries-taken : (work : List Item) (written : Slots)
-          → ((left : ℕ) (pairs : List Pair) (g : Found) → ¬ (In (s, at) pairs)
-          → Answer (edges nfa x) (is_match nfa) (capture nfa) left None ((s, at) ∷ pairs) work written g
-          → Answer (edges nfa x) (is_match nfa) (capture nfa) (suc left) None pairs (Explore (s, at) ∷ rest) slots g)
+          → ((left : ℕ) (pairs : List Pair) (g : Hit) → ¬ (In (s, at) pairs)
+          → ExploresTo (edges nfa x) (is_match nfa) (capture nfa) left None ((s, at) ∷ pairs) work written g
+          → ExploresTo (edges nfa x) (is_match nfa) (capture nfa) (suc left) None pairs (Explore (s, at) ∷ rest) slots g)
           → Carries nfa x marks (Explore (s, at) ∷ rest) slots after work written
       unfolding WalkAnswer
       Carries-taken work written step = record {
@@ -221,7 +221,7 @@ module _ (nfa : Automaton) (x : Search) where
             (k.back left (left + (o.turns - n.turns)) g (omega arith) h);
       }
 
-      pub Carries-ends : {g : Found} {turns : ℕ} → Ends nfa x n y t g turns → Ends nfa x m w s g turns
+      pub Carries-ends : {g : Hit} {turns : ℕ} → Ends nfa x n y t g turns → Ends nfa x m w s g turns
       Carries-ends {g} {turns} e = let p = f.grows in let q = e.grows in record {
         grows = omega arith;
         answer = λ left k. f.back (turns - n.turns) left g (omega arith) (e.answer (turns - n.turns) (omega arith));

@@ -7,7 +7,7 @@ use Rattle.nfa_paths.specs.Graphs.{Pair}
 use Rattle.nfa_paths.specs.Exploring.{Slots, Item}
 use Rattle.nfa_paths.specs.Exploring.Item.{Explore as ToExplore, Restore as ToRestore}
 use Rattle.nfa_paths.specs.Turns.{marked_sum}
-use Rattle.nfa_backtrack.specs.Bits.{Marks}
+use Rattle.nfa_scanning.specs.Marks.{Marks}
 use Rattle.nfa_backtrack.specs.Walk.{pair_of, weights, IsPlace, Carries, WalkFails}
 use Rattle.nfa_backtrack.specs.declared.walk.Begun.{Begun}
 

@@ -12,11 +12,6 @@ unfoldable pub bits_of : List ℕ → List Bool
 bits_of [] = []
 bits_of (block ∷ blocks) = block_bits block ++ bits_of blocks
 
--- which pairs are marked, and how often one was tried to be
-pub record Marks : Type 0 where
-  pub bits : List Bool
-  pub turns : ℕ
-
 -- every block from this one on is zero
 pub record IsClearFrom (used : ℕ) (blocks : List ℕ) : Type 0 where
   pub clear : (i : ℕ) → used ≤ i → slice_index blocks i ≡ 0

@@ -12,10 +12,10 @@ use Rattle.thompson_nfa.specs.Automaton.{Automaton}
 use Rattle.nfa_paths.specs.Graphs.{Pair, In}
 use Rattle.nfa_paths.specs.Paths.{span_len, degree, node_at, pattern_of, edges, is_match, capture, IsScanAnswer}
 use Rattle.nfa_paths.specs.Restarts.{GivesPath}
-use Rattle.nfa_paths.specs.Exploring.{Slots, Found, Item, Answer}
+use Rattle.nfa_paths.specs.Exploring.{Slots, Hit, Item, ExploresTo}
 use Rattle.nfa_paths.specs.Exploring.Item.{Explore as ToExplore, Restore as ToRestore}
 use Rattle.nfa_paths.specs.Turns.{marked_sum, repeated}
-use Rattle.nfa_backtrack.specs.Bits.{Marks}
+use Rattle.nfa_scanning.specs.Marks.{Marks}
 use Rattle.nfa_backtrack.specs.declared.frame.Place.{Place}
 use Rattle.nfa_backtrack.specs.declared.frame.Frame.{Frame}
 use Rattle.nfa_backtrack.specs.declared.frame.Frame.TheVariants.{Step, Restore, Clear}
@@ -132,10 +132,10 @@ module _ (nfa : Automaton) (x : Search) where
   weights = repeated (span_len x + 1) (map degree nfa.states)
 
   -- what the search answers from here on, with `left` turns left
-  unfoldable pub WalkAnswer : ℕ → List Bool → List Item → Slots → Found → Type 0
+  unfoldable pub WalkAnswer : ℕ → List Bool → List Item → Slots → Hit → Type 0
   WalkAnswer left bits work slots g =
       (seen : List Pair) → Agrees bits seen
-      → Answer (edges nfa x) (is_match nfa) (capture nfa) left None seen work slots g
+      → ExploresTo (edges nfa x) (is_match nfa) (capture nfa) left None seen work slots g
 
   -- the turn at v marked it
   pub record Taken (v : Pair) (marks marked : Marks) : Type 0 where
@@ -164,11 +164,11 @@ module _ (nfa : Automaton) (x : Search) where
   pub record Carries (marks : Marks) (work : List Item) (slots : Slots) (after : Marks) (work_after : List Item)
       (slots_after : Slots) : Type 0 where
     pub grows : marks.turns ≤ after.turns
-    pub back : (left more : ℕ) (g : Found) → marks.turns + more ≡ after.turns + left
+    pub back : (left more : ℕ) (g : Hit) → marks.turns + more ≡ after.turns + left
         → WalkAnswer left after.bits work_after slots_after g → WalkAnswer more marks.bits work slots g
 
   -- The answer is g.
-  pub record Ends (marks : Marks) (work : List Item) (slots : Slots) (g : Found) (turns : ℕ) : Type 0 where
+  pub record Ends (marks : Marks) (work : List Item) (slots : Slots) (g : Hit) (turns : ℕ) : Type 0 where
     pub grows : marks.turns ≤ turns
     pub answer : (left : ℕ) → marks.turns + left ≡ turns → WalkAnswer left marks.bits work slots g
 

@@ -23,7 +23,8 @@ pub struct Visited {
 
 impl Model for Visited {
     ghost use Rattle.std.specs.Prelude.{◌≤◌, length};
-    ghost use Rattle.nfa_backtrack.specs.Bits.{Marks, bits_of, IsClearFrom};
+    ghost use Rattle.nfa_scanning.specs.Marks.{Marks};
+    ghost use Rattle.nfa_backtrack.specs.Bits.{bits_of, IsClearFrom};
 
     ghost Value = { Marks };
 

@@ -13,7 +13,7 @@ ghost use Rattle.nfa_paths.specs.Paths.{byte_at, target_on};
 ghost use Rattle.nfa_paths.specs.Exploring.{Item};
 ghost use Rattle.nfa_paths.specs.Turns.{marked_sum};
 ghost use Rattle.nfa_backtrack.specs.Begin.{Begins, IsPutBack};
-ghost use Rattle.nfa_backtrack.specs.Bits.{Marks};
+ghost use Rattle.nfa_scanning.specs.Marks.{Marks};
 ghost use Rattle.nfa_backtrack.specs.Walk.{pair_of, stacked, restoring, move_of, frame_tries, tries_of_move};
 ghost use Rattle.nfa_backtrack.specs.Walk.{tries_of_place, tries_of_turn, with_place, WritesSlot, Unwinds, IsPlace};
 ghost use Rattle.nfa_backtrack.specs.Walk.{IsPlaceOr, IsFrame, HasBits, PaidFor, Carries, Goes, ComesTo, Walks, weights};

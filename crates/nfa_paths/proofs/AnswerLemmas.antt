@@ -15,7 +15,7 @@ use Rattle.thompson_nfa.specs.Automaton.{Automaton, Node}
 use Rattle.thompson_nfa.specs.Automaton.Node.{ByteRange, Sparse, Dense, Look, Union, BinaryUnion, Capture, Fail, Match}
 use Rattle.nfa_paths.specs.Graphs.{Pair, In, ComesBefore, PathTo}
 use Rattle.nfa_paths.specs.FirstPaths.{Increasing}
-use Rattle.nfa_paths.specs.Exploring.{Slots, write, apply, Answer}
+use Rattle.nfa_paths.specs.Exploring.{Slots, write, apply, ExploresTo}
 use Rattle.nfa_paths.specs.Exploring.Item.{Explore}
 use Rattle.nfa_paths.specs.Paths.{pattern_of, slot_of, pairs_from, raised, span_len, node_at, is_match, IsMatch, capture, is_utf8_empty, start_state, edges_of, edges, start_count, starts, IsScanAnswer, last_of, slot_among, slot_row, EndsOnBoundary, IsWhole, SplitsCharacter, IsKeptAnswer, IsRestartedAnswer, IsSearchAnswer, IsWithinScans, scan_limit}
 use Rattle.nfa_paths.proofs.PathLemmas.{IsLeast-from_first}
@@ -227,7 +227,7 @@ module _ (nfa : Automaton) where
   module _ (x : Search) where
     -- a search that finds nothing: there is no accepting path
     pub scan_none : (total : ℕ) (slots : Slots)
-        → Answer (edges nfa x) (is_match nfa) (capture nfa) total None [] (map Explore (starts nfa x)) slots None
+        → ExploresTo (edges nfa x) (is_match nfa) (capture nfa) total None [] (map Explore (starts nfa x)) slots None
         → IsScanAnswer nfa x LeftmostFirst false None
     scan_none total slots answer =
         elim (Answer-starts (edges nfa x) (is_match nfa) (capture nfa) total (starts nfa x) slots None answer) [
@@ -247,7 +247,7 @@ module _ (nfa : Automaton) where
 
     -- what a search finds is the first accepting path's
     pub scan_some : (count total : ℕ) (v : Pair) (row : Slots)
-        → Answer (edges nfa x) (is_match nfa) (capture nfa) total None [] (map Explore (starts nfa x))
+        → ExploresTo (edges nfa x) (is_match nfa) (capture nfa) total None [] (map Explore (starts nfa x))
         (replicate count None) (Some (v, row))
         → FindsPath count total v row
     scan_some count total v row answer =

@@ -6,7 +6,7 @@ use Rattle.std.proofs.lemmas.Bool.{cases_Bool}
 use Rattle.nfa_paths.specs.Graphs.{Pair, In, NoRepeats, ComesBefore, PathTo, NoPath, IsFirstTo, WantedAt, IsLastOfFirsts}
 use Rattle.nfa_paths.specs.FirstPaths.{Path, IsFirst}
 use Rattle.nfa_paths.specs.FirstPaths.Path.{stop, go}
-use Rattle.nfa_paths.specs.Exploring.{Slots, Found, Item, apply, found, Answer, AnswerBehind}
+use Rattle.nfa_paths.specs.Exploring.{Slots, Hit, Item, apply, found, ExploresTo, ExploresBehind}
 use Rattle.nfa_paths.specs.Exploring.Item.{Explore, Restore, Load}
 use Rattle.nfa_paths.specs.Kinds.{Passes, MatchesAt, NoMatch, first_match, last_match, Scanned, IsFront}
 use Rattle.nfa_paths.proofs.PathLemmas.{same, IsFirst-target, IsLeast-from_first}
@@ -45,8 +45,8 @@ module _ (edges : Pair → List Pair) (target : Pair → Bool) (capture : Pair �
     -- work at later positions alone finds nothing
     Answer-later : (left : ℕ) (marks : List Pair) (work : List Item) (slots : Slots)
         → ((k : Pair) → In (Explore k) work → e < k.1)
-        → Answer edges target capture left None marks work slots None
-    unfolding Answer
+        → ExploresTo edges target capture left None marks work slots None
+    unfolding ExploresTo
     Answer-later left marks [] slots l = refl
     Answer-later left marks (Explore v ∷ rest) slots l =
         inr (IsFirst-later marks v (l v (inl refl)), Answer-later left marks rest slots (λ k i. l k (inr i)))
@@ -59,8 +59,8 @@ module _ (edges : Pair → List Pair) (target : Pair → Bool) (capture : Pair �
       AnswerBehind-none : (front : List (Pair × Slots))
           → ((a : Pair × Slots) → In a front → (w : Pair) → In w (edges a.0) → e < w.1)
           → ((a : Pair × Slots) → In a front → target a.0 ≡ true → ⊥)
-          → AnswerBehind edges target capture left front None marks waiting slots None
-      unfolding AnswerBehind
+          → ExploresBehind edges target capture left front None marks waiting slots None
+      unfolding ExploresBehind
       AnswerBehind-none [] rises plain = Answer-later left marks waiting slots later
       AnswerBehind-none (a ∷ front) rises plain =
           inr (
@@ -72,9 +72,9 @@ module _ (edges : Pair → List Pair) (target : Pair → Bool) (capture : Pair �
       AnswerBehind-first : (before : List (Pair × Slots)) (a : Pair × Slots) (after : List (Pair × Slots))
           → ((b : Pair × Slots) → In b before → (w : Pair) → In w (edges b.0) → e < w.1)
           → ((b : Pair × Slots) → In b before → target b.0 ≡ true → ⊥) → target a.0 ≡ true
-          → AnswerBehind edges target capture left (before ++ a ∷ after) None marks waiting slots
+          → ExploresBehind edges target capture left (before ++ a ∷ after) None marks waiting slots
           (found capture (a.0 ∷ []) a.1)
-      unfolding AnswerBehind
+      unfolding ExploresBehind
       AnswerBehind-first [] a after rises plain t =
           let short : length (a.0 ∷ []) ≤ suc left = omega arith in
           inl (a.0 ∷ [], IsFirst-target edges target [] a.0 (λ n. n) t, refl, short)
@@ -234,7 +234,7 @@ module _ (edges : Pair → List Pair) (capture : Pair → Option ℕ) (starts : 
         f.later before a after
         (λ b i. rising b (in_front b i)) (λ b i u. plain b i (is_target b.0 u)) (target_is a.0 t) in
         let answer = leads.1 (found capture (a.0 ∷ []) a.1)
-        (subst (λ x. AnswerBehind edges target capture 0 x None leads.0 f.waiting f.current
+        (subst (λ x. ExploresBehind edges target capture 0 x None leads.0 f.waiting f.current
         (found capture (a.0 ∷ []) a.1)) (sym split) behind) in
         let wrote : found capture (a.0 ∷ []) a.1 ≡ Some a = rw (shape.writes_nothing a.0 (matches a.0 t).0) refl in
         elim (Answer-starts edges target capture turns starts slots (found capture (a.0 ∷ []) a.1) answer) [
@@ -321,7 +321,7 @@ module _ (is_match : Pair → Bool) where
       ]
 
   -- a front's last match pair, or that there is none
-  pub last_match-is : (g : Found) (front : List (Pair × Slots))
+  pub last_match-is : (g : Hit) (front : List (Pair × Slots))
       → ((last_match is_match g front ≡ g) × NoMatch is_match front)
       ⊎ ((a : Pair × Slots) × (last_match is_match g front ≡ Some a) × LastMatch front a)
   last_match-is g [] = inl (refl, λ b i. absurd i)

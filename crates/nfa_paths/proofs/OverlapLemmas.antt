@@ -11,7 +11,7 @@ use Rattle.regex_search_core.specs.declared.search.MatchKind.TheVariants.{All, L
 use Rattle.thompson_nfa.specs.Automaton.{Automaton, Node}
 use Rattle.thompson_nfa.specs.Automaton.Node.{ByteRange, Sparse, Dense, Look, Union, BinaryUnion, Capture, Fail, Match}
 use Rattle.nfa_paths.specs.Graphs.{Pair, In, PathTo, NoPath, IsFirstPath, IsFirstTo, IsLeastEnd, WantedAt}
-use Rattle.nfa_paths.specs.Exploring.{Slots, Found, Item, found, apply, round, Answer, AnswerBehind}
+use Rattle.nfa_paths.specs.Exploring.{Slots, Hit, Item, found, apply, round, ExploresTo, ExploresBehind}
 use Rattle.nfa_paths.specs.Exploring.Item.{Explore, Restore, Load}
 use Rattle.nfa_paths.specs.Kinds.{Passes, WantedBefore, IsReached, NoneBefore, ReachedBefore, EndsBefore, HoldsMatch, found_along, first_match, before_match, MatchesFrom, Scanned, IsFront, Scanning, rests, is_resting}
 use Rattle.nfa_paths.specs.Paths.{node_at, slot_of, capture, edges, starts}
@@ -166,10 +166,10 @@ module _ (edges : Pair → List Pair) (target : Pair → Bool) (capture : Pair �
       of None e = refl
       of (Some v) e = cc
 
-  pub heads-Answer : (left : ℕ) (marks : List Pair) (work : List Item) (slots other : Slots) (h : Found)
-      → Answer edges target capture left None marks (map Explore (heads work)) other h
-      → (g : Found) × Answer edges target capture left None marks work slots g × (g ≡ None → h ≡ None)
-  unfolding heads Answer
+  pub heads-Answer : (left : ℕ) (marks : List Pair) (work : List Item) (slots other : Slots) (h : Hit)
+      → ExploresTo edges target capture left None marks (map Explore (heads work)) other h
+      → (g : Hit) × ExploresTo edges target capture left None marks work slots g × (g ≡ None → h ≡ None)
+  unfolding heads ExploresTo
   heads-Answer left marks [] slots other h a = (None, refl, λ e. a)
   heads-Answer left marks (Explore v ∷ rest) slots other h (inl k) =
       (found capture k.0 slots, inl (k.0, k.1, refl, k.3), λ e. k.2 ∙ found-other k.0 slots other e)
@@ -181,10 +181,10 @@ module _ (edges : Pair → List Pair) (target : Pair → Bool) (capture : Pair �
 
   -- what is behind a part of a front is dropped: nothing is found, or what was found is found with it
   pub AnswerBehind-drop : (left : ℕ) (before after : List (Pair × Slots)) (m n : List Pair) (old : Slots)
-      (work : List Item) (slots current : Slots) (g : Found)
-      → AnswerBehind edges target capture left before None m (Load old ∷ []) slots g
-      → (g ≡ None) ⊎ AnswerBehind edges target capture left (before ++ after) None n work current g
-  unfolding Answer AnswerBehind
+      (work : List Item) (slots current : Slots) (g : Hit)
+      → ExploresBehind edges target capture left before None m (Load old ∷ []) slots g
+      → (g ≡ None) ⊎ ExploresBehind edges target capture left (before ++ after) None n work current g
+  unfolding ExploresTo ExploresBehind
   AnswerBehind-drop left [] after m n old work slots current g h = inl h
   AnswerBehind-drop left (b ∷ before) after m n old work slots current g (inl h) = inr (inl h)
   AnswerBehind-drop left (b ∷ before) after m n old work slots current g (inr h) =
@@ -539,9 +539,9 @@ module _ (nfa : Automaton) (x : Search) (old : List Bool) (wants : Pair → Bool
       (front : List (Pair × Slots)) (a : Pair × Slots)
       → ((b : Pair × Slots) → In b front → (is_resting nfa b.0 ≡ true) × (b.0.1 ≡ e))
       → first_match target front ≡ Some a
-      → AnswerBehind (edges nfa x) target (capture nfa) left front None marks work slots
+      → ExploresBehind (edges nfa x) target (capture nfa) left front None marks work slots
       (found (capture nfa) (a.0 ∷ []) a.1)
-  unfolding AnswerBehind
+  unfolding ExploresBehind
   front-answers target e at left marks work slots [] a rests is = cc
   front-answers target e at left marks work slots (b ∷ front) a rests is =
       elim (cases_Bool (target b.0)) [
@@ -567,8 +567,8 @@ module _ (nfa : Automaton) (x : Search) (old : List Bool) (wants : Pair → Bool
     pub first : IsFirstTo (edges nfa x) (starts nfa x) (λ v. target v ≡ true) path
 
   answer-reaches : (target : Pair → Bool) → ((v : Pair) → target v ≡ true → wants v ≡ true)
-      → (turns : ℕ) (slots : Slots) (g : Found)
-      → Answer (edges nfa x) target (capture nfa) turns None [] (map Explore (starts nfa x)) slots g
+      → (turns : ℕ) (slots : Slots) (g : Hit)
+      → ExploresTo (edges nfa x) target (capture nfa) turns None [] (map Explore (starts nfa x)) slots g
       → (g ≡ None) ⊎ ((r : Reaches target) × (g ≡ found (capture nfa) r.path slots))
   answer-reaches target sub turns slots g answer =
       elim (Answer-starts (edges nfa x) target (capture nfa) turns (starts nfa x) slots g answer) [
@@ -729,8 +729,8 @@ module _ (nfa : Automaton) (x : Search) (old : List Bool) (wants : Pair → Bool
   -- What some work leads to was reached by the starts, whichever wanted pairs at e or behind it it leads to: so it
   -- stays where work is dropped.
   pub record Sound (e : ℕ) (pairs : List Pair) : Type 0 where
-    pub reaches : (target : Pair → Bool) → MatchesFrom wants e target → (left : ℕ) (slots : Slots) (g : Found)
-        → Answer (edges nfa x) target (capture nfa) left None [] (map Explore pairs) slots g
+    pub reaches : (target : Pair → Bool) → MatchesFrom wants e target → (left : ℕ) (slots : Slots) (g : Hit)
+        → ExploresTo (edges nfa x) target (capture nfa) left None [] (map Explore pairs) slots g
         → (g ≡ None) ⊎ Reaches target
 
   pub Sound-start : (e : ℕ) → Sound e (starts nfa x)
@@ -744,8 +744,8 @@ module _ (nfa : Automaton) (x : Search) (old : List Bool) (wants : Pair → Bool
       (written : Slots) : Type 0 where
     pub leads : (target : Pair → Bool) → ((v : Pair) → target v ≡ true → wants v ≡ true)
         → (marks : List Pair) × ((v : Pair) → In v marks → v.1 ≤ e)
-        × ((left : ℕ) (g : Found) → AnswerBehind (edges nfa x) target (capture nfa) left front None marks work written g
-        → (total : ℕ) × Answer (edges nfa x) target (capture nfa) total None [] (map Explore pairs) [] g)
+        × ((left : ℕ) (g : Hit) → ExploresBehind (edges nfa x) target (capture nfa) left front None marks work written g
+        → (total : ℕ) × ExploresTo (edges nfa x) target (capture nfa) total None [] (map Explore pairs) [] g)
 
   -- a state that rests writes nothing
   pub resting-capture : (v : Pair) → is_resting nfa v ≡ true → capture nfa v ≡ None
@@ -804,9 +804,9 @@ module _ (nfa : Automaton) (x : Search) (old : List Bool) (wants : Pair → Bool
     module _ (kept : List (Pair × Slots)) (loaded : Slots) (waiting : List Item)
         (among : (b : Pair × Slots) → In b kept → In b front)
         (comes : (k : Pair) → In (Explore k) waiting → e < k.1)
-        (drops : (target : Pair → Bool) (marks : List Pair) (left : ℕ) (g : Found)
-        → AnswerBehind (edges nfa x) target (capture nfa) left kept None marks (Load loaded ∷ waiting) written g
-        → (g ≡ None) ⊎ AnswerBehind (edges nfa x) target (capture nfa) left front None marks work written g) where
+        (drops : (target : Pair → Bool) (marks : List Pair) (left : ℕ) (g : Hit)
+        → ExploresBehind (edges nfa x) target (capture nfa) left kept None marks (Load loaded ∷ waiting) written g
+        → (g ≡ None) ⊎ ExploresBehind (edges nfa x) target (capture nfa) left front None marks work written g) where
       Sound-next : Sound (e + 1) (heads (round (edges nfa x) kept (Load loaded ∷ waiting)))
       Sound-next = record {
         reaches = λ target at left slots g a.
@@ -890,11 +890,11 @@ module _ (nfa : Automaton) (x : Search) (old : List Bool) (wants : Pair → Bool
         → (k ≡ pattern) ⊎ IsPatternOf nfa x (WantedBefore (IsPermitted nfa x) v.1) k
 
   -- the same, or that there was none yet
-  abbrev pub UpTo : ℕ → Found → List Bool → Type 0
+  abbrev pub UpTo : ℕ → Hit → List Bool → Type 0
   UpTo e None new = new ≡ old
   UpTo e (Some a) new = UpToMatch e a.0 new
 
-  pub UpTo-next : (e : ℕ) (g : Found) (new : List Bool) → UpTo e g new → UpTo (e + 1) g new
+  pub UpTo-next : (e : ℕ) (g : Hit) (new : List Bool) → UpTo e g new → UpTo (e + 1) g new
   UpTo-next e None new h = h
   UpTo-next e (Some a) new h = record {
     capacity = h.capacity;
@@ -909,7 +909,7 @@ module _ (nfa : Automaton) (x : Search) (old : List Bool) (wants : Pair → Bool
   }
 
   -- one more match
-  pub UpTo-match : (e : ℕ) {k : ℕ} (g : Found) (a : Pair × Slots) (mid new : List Bool)
+  pub UpTo-match : (e : ℕ) {k : ℕ} (g : Hit) (a : Pair × Slots) (mid new : List Bool)
       → size_of_set old ≡ 0 → UpTo e g mid
       → (p : List Pair) × PathTo (edges nfa x) (starts nfa x) a.0 p × (wants a.0 ≡ true) × (a.0.1 ≡ e)
       → pattern_at nfa a.0 ≡ Some k → new ≡ with_pattern mid k → UpTo (e + 1) (Some a) new
@@ -933,11 +933,11 @@ module _ (nfa : Automaton) (x : Search) (old : List Bool) (wants : Pair → Bool
             ];
       }
     where
-      capacity : (g : Found) → UpTo e g mid → length mid ≡ length old
+      capacity : (g : Hit) → UpTo e g mid → length mid ≡ length old
       capacity None same_set = ap (λ (l : List Bool). length l) same_set
       capacity (Some b) h = h.capacity
 
-      earlier : (g : Found) → UpTo e g mid → (j : ℕ) → HoldsPattern mid j
+      earlier : (g : Hit) → UpTo e g mid → (j : ℕ) → HoldsPattern mid j
           → IsPatternOf nfa x (WantedBefore (IsPermitted nfa x) e) j
       earlier None same_set j h = absurd (size-none old empty j (rw same_set at h))
       earlier (Some b) u j h =
@@ -957,15 +957,15 @@ module _ (nfa : Automaton) (x : Search) (old : List Bool) (wants : Pair → Bool
           ]
 
   -- what the search comes to in the end
-  pub UpTo-end : (e turns : ℕ) (slots : Slots) (g : Found) (new : List Bool) → size_of_set old ≡ 0 → UpTo e g new
-      → Answer (edges nfa x) wants (capture nfa) turns None [] (map Explore (starts nfa x)) slots g
+  pub UpTo-end : (e turns : ℕ) (slots : Slots) (g : Hit) (new : List Bool) → size_of_set old ≡ 0 → UpTo e g new
+      → ExploresTo (edges nfa x) wants (capture nfa) turns None [] (map Explore (starts nfa x)) slots g
       → IsOverlapResult nfa x LeftmostFirst false old new
   UpTo-end e turns slots g new empty so_far answer =
       let h = IsFirstPath-found (edges nfa x) (capture nfa) (starts nfa x) (is_resting nfa) wants slots wanted-shape
       turns g answer in
       of g so_far h.path h.meant h.leads
     where
-      of : (g : Found) → UpTo e g new → (o : Option (List Pair))
+      of : (g : Hit) → UpTo e g new → (o : Option (List Pair))
           → IsFirstPath (edges nfa x) (starts nfa x) (Passes wants) o → found_along (capture nfa) o slots ≡ g
           → IsOverlapResult nfa x LeftmostFirst false old new
       of None same_set None none is = rw same_set (First-none none false empty)

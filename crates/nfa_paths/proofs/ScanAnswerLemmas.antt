@@ -10,7 +10,7 @@ use Rattle.thompson_nfa.specs.Automaton.{Automaton, Node}
 use Rattle.thompson_nfa.specs.Automaton.Node.{ByteRange, Sparse, Dense, Look, Union, BinaryUnion, Capture, Fail, Match}
 use Rattle.thompson_nfa.specs.Looks.{look_holds}
 use Rattle.nfa_paths.specs.Graphs.{Pair, In, NoPath}
-use Rattle.nfa_paths.specs.Exploring.{Slots, Found, apply, Answer, seeds}
+use Rattle.nfa_paths.specs.Exploring.{Slots, Hit, apply, ExploresTo, seeds}
 use Rattle.nfa_paths.specs.Exploring.Item.{Explore, Load}
 use Rattle.nfa_paths.specs.Kinds.{IsFoundBy, found_along, NoneBefore, LastBefore, EndsBefore, first_match, last_match, Scanned, IsFront, rests, is_resting}
 use Rattle.nfa_paths.specs.Paths.{target_on, pairs_from, node_at, is_match, IsMatch, capture, start_state, byte_at, edges_of, edges, start_count, starts, IsScanAnswer, last_of, slot_row}
@@ -248,8 +248,8 @@ module _ (nfa : Automaton) (x : Search) where
 
 module _ (nfa : Automaton) (x : Search) (slots : Slots) where
   -- the search for any match finds the first path
-  pub scan_first-found : (turns : ℕ) (g : Found)
-      → Answer (edges nfa x) (is_match nfa) (capture nfa) turns None [] (map Explore (starts nfa x)) slots g
+  pub scan_first-found : (turns : ℕ) (g : Hit)
+      → ExploresTo (edges nfa x) (is_match nfa) (capture nfa) turns None [] (map Explore (starts nfa x)) slots g
       → IsFoundBy (capture nfa) slots (IsScanAnswer nfa x LeftmostFirst false) turns g
   scan_first-found turns g answer =
       IsFirstPath-found (edges nfa x) (capture nfa) (starts nfa x) (is_resting nfa) (is_match nfa) slots
@@ -276,7 +276,7 @@ module _ (nfa : Automaton) (x : Search) (slots : Slots) where
       (Scanned-matches nfa x (is_match nfa) (λ v m. m)) none f a is
 
   -- once every path has ended, what was found last is the last path's
-  pub scan_last-found : {turns e : ℕ} {g : Found}
+  pub scan_last-found : {turns e : ℕ} {g : Hit}
       → LastBefore (edges nfa x) (capture nfa) (starts nfa x) (is_match nfa) slots e turns g
       → EndsBefore (edges nfa x) (starts nfa x) (is_match nfa) e
       → IsFoundBy (capture nfa) slots (IsScanAnswer nfa x All false) turns g

@@ -4,7 +4,7 @@ use Rattle.std.specs.Prelude.{Option, None, Some}
 use Rattle.std.specs.Option.{option_map_or}
 use Rattle.std.proofs.lemmas.Bool.{cases_lt, cases_Bool}
 use Rattle.nfa_paths.specs.Graphs.{Pair, In, HeadIs, Linked, EndsWith, PathTo, NoPath, IsFirstTo, IsEnd, IsLeastEnd, IsGreatestEnd, WantedAt, IsLastOfFirsts, IsFirstPath, IsEarliestPath, IsLastPath, IsEarliestLastPath}
-use Rattle.nfa_paths.specs.Exploring.{Slots, Found, Answer}
+use Rattle.nfa_paths.specs.Exploring.{Slots, Hit, ExploresTo}
 use Rattle.nfa_paths.specs.Exploring.Item.{Explore}
 use Rattle.nfa_paths.specs.Kinds.{Passes, WantedBefore, IsLastAt, IsFoundBy, IsReached, NoneBefore, LastBefore, ReachedBefore, EndsBefore, first_match, last_match, NoMatch, HoldsMatch, Scanned, IsFront, IsOver}
 use Rattle.nfa_paths.proofs.PathLemmas.{IsLeast-from_first}
@@ -14,7 +14,7 @@ use Rattle.nfa_paths.proofs.KindsLemmas.{first_match-is, last_match-is, IsFront-
 
 -- what is found in few turns is found in more
 pub IsFoundBy-more : {capture : Pair → Option ℕ} {slots : Slots} {Meant : Option (List Pair) → Type 0}
-    {turns more : ℕ} {g : Found}
+    {turns more : ℕ} {g : Hit}
     → turns ≤ more → IsFoundBy capture slots Meant turns g → IsFoundBy capture slots Meant more g
 IsFoundBy-more {more = more} le h = record {
   path = h.path;
@@ -227,7 +227,7 @@ module _ (edges : Pair → List Pair) (capture : Pair → Option ℕ) (starts : 
   LastBefore-start e from = record { path = None; meant = NoneBefore-start e from; leads = refl; short = omega arith }
 
   -- with one more front: its last match pair, or what was found before
-  pub LastBefore-step : {before turns e : ℕ} {front : List (Pair × Slots)} {g : Found} → before ≤ turns
+  pub LastBefore-step : {before turns e : ℕ} {front : List (Pair × Slots)} {g : Hit} → before ≤ turns
       → LastBefore edges capture starts is_match slots e before g
       → IsFront edges capture starts resting is_match slots turns front e
       → LastBefore edges capture starts is_match slots (e + 1) turns (last_match is_match g front)
@@ -287,7 +287,7 @@ module _ (edges : Pair → List Pair) (capture : Pair → Option ℕ) (starts : 
       }
 
   -- where every path has ended: the last path of all
-  pub LastBefore-end : {turns e : ℕ} {g : Found} → LastBefore edges capture starts is_match slots e turns g
+  pub LastBefore-end : {turns e : ℕ} {g : Hit} → LastBefore edges capture starts is_match slots e turns g
       → EndsBefore edges starts is_match e
       → IsFoundBy capture slots (IsLastPath edges starts (Passes is_match)) turns g
   LastBefore-end {e = e} so_far ends = record {
@@ -299,8 +299,8 @@ module _ (edges : Pair → List Pair) (capture : Pair → Option ℕ) (starts : 
   }
 
   -- the whole search for any match pair finds the first path
-  pub IsFirstPath-found : (turns : ℕ) (g : Found)
-      → Answer edges is_match capture turns None [] (map Explore starts) slots g
+  pub IsFirstPath-found : (turns : ℕ) (g : Hit)
+      → ExploresTo edges is_match capture turns None [] (map Explore starts) slots g
       → IsFoundBy capture slots (IsFirstPath edges starts (Passes is_match)) turns g
   IsFirstPath-found turns g answer =
       elim (Answer-starts edges is_match capture turns starts slots g answer) [

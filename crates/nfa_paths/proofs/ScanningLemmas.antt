@@ -4,7 +4,7 @@ use Rattle.std.specs.Prelude.{Option, None, Some, cond}
 use Rattle.std.specs.Option.{option_or}
 use Rattle.std.proofs.lemmas.Bool.{cases_Bool}
 use Rattle.nfa_paths.specs.Graphs.{Pair, In, NoRepeats}
-use Rattle.nfa_paths.specs.Exploring.{Slots, Found, Item, round, seeds, found, Searching, Answer, AnswerBehind}
+use Rattle.nfa_paths.specs.Exploring.{Slots, Hit, Item, round, seeds, found, Searching, ExploresTo, ExploresBehind}
 use Rattle.nfa_paths.specs.Exploring.Item.{Explore, Restore, Load}
 use Rattle.nfa_paths.specs.Kinds.{MatchesFrom, NoMatch, first_match, before_match, behind_match, IsFront, IsOver, Scanning}
 use Rattle.nfa_paths.proofs.PathLemmas.{IsFirst-target}
@@ -186,11 +186,11 @@ once-keep (b ∷ front) v slots n other = (
 module _ (edges : Pair → List Pair) (target : Pair → Bool) (capture : Pair → Option ℕ) where
   -- a target that was put aside answers, if nothing before it does
   AnswerBehind-cut : (left : ℕ) (before : List (Pair × Slots)) (a : Pair × Slots) (after : List (Pair × Slots))
-      (otherwise : Found) (m n : List Pair)
-      (work : List Item) (current slots : Slots) (g : Found) → target a.0 ≡ true
-      → AnswerBehind edges target capture left before (found capture (a.0 ∷ []) a.1) m [] current g
-      → AnswerBehind edges target capture left (before ++ a ∷ after) otherwise n work slots g
-  unfolding Answer AnswerBehind
+      (otherwise : Hit) (m n : List Pair)
+      (work : List Item) (current slots : Slots) (g : Hit) → target a.0 ≡ true
+      → ExploresBehind edges target capture left before (found capture (a.0 ∷ []) a.1) m [] current g
+      → ExploresBehind edges target capture left (before ++ a ∷ after) otherwise n work slots g
+  unfolding ExploresTo ExploresBehind
   AnswerBehind-cut left [] a after otherwise m n work current slots g t h =
       let short : length (a.0 ∷ []) ≤ suc left = omega arith in
       inl (a.0 ∷ [], IsFirst-target edges target [] a.0 (λ i. i) t, h, short)
@@ -199,7 +199,7 @@ module _ (edges : Pair → List Pair) (target : Pair → Bool) (capture : Pair �
       inr (h.0, AnswerBehind-cut left before a after otherwise m n work current slots g t h.1)
 
   -- what stands behind a target is dropped, and the target becomes the answer otherwise
-  pub Searching-cut : {goal : Found → ℕ → Type 0} {Seen : Pair → Type 0} {spent : ℕ} {otherwise : Found}
+  pub Searching-cut : {goal : Hit → ℕ → Type 0} {Seen : Pair → Type 0} {spent : ℕ} {otherwise : Hit}
       {work : List Item} {slots : Slots}
       (before : List (Pair × Slots)) (a : Pair × Slots) (after : List (Pair × Slots))
       → Searching edges target capture goal Seen spent (before ++ a ∷ after) otherwise work slots → target a.0 ≡ true
@@ -215,11 +215,11 @@ module _ (edges : Pair → List Pair) (target : Pair → Bool) (capture : Pair �
   }
 
   -- no work is left but to load
-  pub Searching-wait : {goal : Found → ℕ → Type 0} {Seen : Pair → Type 0} {spent : ℕ} {front : List (Pair × Slots)}
-      {otherwise : Found} {slots : Slots} (old : Slots)
+  pub Searching-wait : {goal : Hit → ℕ → Type 0} {Seen : Pair → Type 0} {spent : ℕ} {front : List (Pair × Slots)}
+      {otherwise : Hit} {slots : Slots} (old : Slots)
       → Searching edges target capture goal Seen spent front otherwise [] slots
       → Searching edges target capture goal Seen spent front otherwise (Load old ∷ []) slots
-  unfolding Answer
+  unfolding ExploresTo
   Searching-wait {front = front} {otherwise} {slots} old s = record {
     marks = s.marks;
     agrees = s.agrees;
@@ -284,8 +284,8 @@ module _ (edges : Pair → List Pair) (target : Pair → Bool) (capture : Pair �
   -- The next position of the search that drops what stands behind a match pair: the items before the front's first
   -- match pair go on,
   -- and that pair becomes the answer otherwise.
-  pub Searching-cut_round : {goal : Found → ℕ → Type 0} {e : ℕ} {Seen After : Pair → Type 0} {spent : ℕ}
-      {front : List (Pair × Slots)} {otherwise : Found} {waiting : List Item} {slots old : Slots}
+  pub Searching-cut_round : {goal : Hit → ℕ → Type 0} {e : ℕ} {Seen After : Pair → Type 0} {spent : ℕ}
+      {front : List (Pair × Slots)} {otherwise : Hit} {waiting : List Item} {slots old : Slots}
       → Searching edges target capture goal Seen spent front otherwise (Load old ∷ waiting) slots
       → ((x y : Pair) → In y (edges x) → x.1 ≤ y.1)
       → ((a : Pair × Slots) → In a front → (capture a.0 ≡ None) × (a.0.1 ≡ e)
@@ -316,7 +316,7 @@ module _ (edges : Pair → List Pair) (target : Pair → Bool) (capture : Pair �
       In-middle [] a later = inl refl
       In-middle (b ∷ before) a later = inr (In-middle before a later)
 
-      next : (other : Found) (waits : List Item)
+      next : (other : Hit) (waits : List Item)
           → Searching edges target capture goal Seen spent (before_match target front) other (Load old ∷ waits) slots
           → ((k : Pair) → In (Explore k) waits → e < k.1)
           → Searching edges target capture goal After spent [] other

@@ -7,7 +7,7 @@ use Rattle.std.specs.List.{last_or}
 use Rattle.nfa_paths.specs.Graphs.{Pair, In}
 use Rattle.nfa_paths.specs.FirstPaths.{Path, IsFirst, FirstAmong, IsFirstOfAll}
 use Rattle.nfa_paths.specs.FirstPaths.Path.{stop, go}
-use Rattle.nfa_paths.specs.Exploring.{Slots, Found, Item, write, apply, found, Answer, AnswerBehind, round, seeds}
+use Rattle.nfa_paths.specs.Exploring.{Slots, Hit, Item, write, apply, found, ExploresTo, ExploresBehind, round, seeds}
 use Rattle.nfa_paths.specs.Exploring.Item.{Explore, Restore, Load}
 use Rattle.nfa_paths.proofs.PathLemmas.{IsFirst-marked, IsFirst-dead, IsFirst-target, IsFirstOfAll-from_among, IsFirst-step, IsFirst-mark, IsFirst-ahead, IsFirst-resting, IsFirst-unique}
 
@@ -18,34 +18,34 @@ last_or-Some f x (y ∷ ys) e = last_or-Some f y ys e
 
 module _ (edges : Pair → List Pair) (target : Pair → Bool) (capture : Pair → Option ℕ) where
   -- with nothing to do
-  pub Answer-none : (left : ℕ) (otherwise : Found) (marks : List Pair) (slots : Slots)
-      → Answer edges target capture left otherwise marks [] slots otherwise
-  unfolding Answer
+  pub Answer-none : (left : ℕ) (otherwise : Hit) (marks : List Pair) (slots : Slots)
+      → ExploresTo edges target capture left otherwise marks [] slots otherwise
+  unfolding ExploresTo
   Answer-none left otherwise marks slots = refl
 
   -- a slot is restored
-  pub Answer-restore : (left : ℕ) (otherwise : Found) (marks : List Pair) (k : ℕ) (old : Option ℕ) (rest : List Item)
-      (slots : Slots) (g : Found)
-      → Answer edges target capture left otherwise marks rest (set slots k old) g
-      ↔ Answer edges target capture left otherwise marks (Restore k old ∷ rest) slots g
-  unfolding Answer
+  pub Answer-restore : (left : ℕ) (otherwise : Hit) (marks : List Pair) (k : ℕ) (old : Option ℕ) (rest : List Item)
+      (slots : Slots) (g : Hit)
+      → ExploresTo edges target capture left otherwise marks rest (set slots k old) g
+      ↔ ExploresTo edges target capture left otherwise marks (Restore k old ∷ rest) slots g
+  unfolding ExploresTo
   Answer-restore left otherwise marks k old rest slots g = (λ h. h, λ h. h)
 
   -- slots are loaded
-  pub Answer-load : (left : ℕ) (otherwise : Found) (marks : List Pair) (old : Slots) (rest : List Item)
-      (slots : Slots) (g : Found)
-      → Answer edges target capture left otherwise marks rest old g
-      ↔ Answer edges target capture left otherwise marks (Load old ∷ rest) slots g
-  unfolding Answer
+  pub Answer-load : (left : ℕ) (otherwise : Hit) (marks : List Pair) (old : Slots) (rest : List Item)
+      (slots : Slots) (g : Hit)
+      → ExploresTo edges target capture left otherwise marks rest old g
+      ↔ ExploresTo edges target capture left otherwise marks (Load old ∷ rest) slots g
+  unfolding ExploresTo
   Answer-load left otherwise marks old rest slots g = (λ h. h, λ h. h)
 
   -- what the pairs at the head of the work come to
-  pub Answer-among : (left : ℕ) (otherwise : Found) (marks es : List Pair) (rest : List Item)
-      (slots : Slots) (g : Found)
-      → Answer edges target capture left otherwise marks (map Explore es ++ rest) slots g
+  pub Answer-among : (left : ℕ) (otherwise : Hit) (marks es : List Pair) (rest : List Item)
+      (slots : Slots) (g : Hit)
+      → ExploresTo edges target capture left otherwise marks (map Explore es ++ rest) slots g
       → ((p : List Pair) × FirstAmong edges target marks es (Some p) × (g ≡ found capture p slots) × (length p ≤ left))
-      ⊎ (FirstAmong edges target marks es None × Answer edges target capture left otherwise marks rest slots g)
-  unfolding Answer
+      ⊎ (FirstAmong edges target marks es None × ExploresTo edges target capture left otherwise marks rest slots g)
+  unfolding ExploresTo
   Answer-among left otherwise marks [] rest slots g h = inr (refl, h)
   Answer-among left otherwise marks (e ∷ es) rest slots g (inl h) = inl (h.0, inl (h.0, h.1, refl), h.2, h.3)
   Answer-among left otherwise marks (e ∷ es) rest slots g (inr h) =
@@ -54,12 +54,12 @@ module _ (edges : Pair → List Pair) (target : Pair → Bool) (capture : Pair �
 
   -- marks that agree at what is to be explored, and no fewer turns
   Answer-along : (left more : ℕ) → left ≤ more
-      → (otherwise : Found) (m n : List Pair) (work : List Item) (slots : Slots) (g : Found)
+      → (otherwise : Hit) (m n : List Pair) (work : List Item) (slots : Slots) (g : Hit)
       → ((k : Pair) → In (Explore k) work → (r : Option (List Pair)) → IsFirst edges target m k r
       → IsFirst edges target n k r)
-      → Answer edges target capture left otherwise m work slots g
-      → Answer edges target capture more otherwise n work slots g
-  unfolding Answer
+      → ExploresTo edges target capture left otherwise m work slots g
+      → ExploresTo edges target capture more otherwise n work slots g
+  unfolding ExploresTo
   Answer-along left more le otherwise m n [] slots g f h = h
   Answer-along left more le otherwise m n (Explore k ∷ rest) slots g f (inl h) =
       let short : length h.0 ≤ more = omega (arith, h.3) in
@@ -73,26 +73,26 @@ module _ (edges : Pair → List Pair) (target : Pair → Bool) (capture : Pair �
 
   -- more turns may be left
   pub Answer-more : (left more : ℕ) → left ≤ more
-      → (otherwise : Found) (marks : List Pair) (work : List Item) (slots : Slots) (g : Found)
-      → Answer edges target capture left otherwise marks work slots g
-      → Answer edges target capture more otherwise marks work slots g
+      → (otherwise : Hit) (marks : List Pair) (work : List Item) (slots : Slots) (g : Hit)
+      → ExploresTo edges target capture left otherwise marks work slots g
+      → ExploresTo edges target capture more otherwise marks work slots g
   Answer-more left more le otherwise marks work slots g =
       Answer-along left more le otherwise marks marks work slots g (λ k i r h. h)
 
   -- marking a pair that leads to no target loses nothing, and takes a turn
-  pub Answer-mark : (left : ℕ) (otherwise : Found) (marks : List Pair) (v : Pair) → IsFirst edges target marks v None
-      → (work : List Item) (slots : Slots) (g : Found)
-      → Answer edges target capture left otherwise (v ∷ marks) work slots g
-      → Answer edges target capture (suc left) otherwise marks work slots g
+  pub Answer-mark : (left : ℕ) (otherwise : Hit) (marks : List Pair) (v : Pair) → IsFirst edges target marks v None
+      → (work : List Item) (slots : Slots) (g : Hit)
+      → ExploresTo edges target capture left otherwise (v ∷ marks) work slots g
+      → ExploresTo edges target capture (suc left) otherwise marks work slots g
   Answer-mark left otherwise marks v none work slots g =
       Answer-along left (suc left) (omega arith) otherwise (v ∷ marks) marks work slots g
       (λ k i r. (IsFirst-mark edges target marks v none k r).0)
 
   -- only which pairs are marked matters
-  pub Answer-same : (left : ℕ) (otherwise : Found) (m n : List Pair) → ((x : Pair) → In x m ↔ In x n)
-      → (work : List Item) (slots : Slots) (g : Found)
-      → Answer edges target capture left otherwise m work slots g
-      → Answer edges target capture left otherwise n work slots g
+  pub Answer-same : (left : ℕ) (otherwise : Hit) (m n : List Pair) → ((x : Pair) → In x m ↔ In x n)
+      → (work : List Item) (slots : Slots) (g : Hit)
+      → ExploresTo edges target capture left otherwise m work slots g
+      → ExploresTo edges target capture left otherwise n work slots g
   Answer-same left otherwise m n agree work slots g =
       Answer-along left left (omega arith) otherwise m n work slots g
       (λ k i. IsFirst-ahead edges target (λ x. Unit {0}) (λ x y a e. tt) m n (λ x a. (agree x).0)
@@ -104,13 +104,13 @@ module _ (edges : Pair → List Pair) (target : Pair → Bool) (capture : Pair �
   found-cons v slots (stop t) = refl
   found-cons v slots (go t e n h) = refl
 
-  module _ (left : ℕ) (otherwise : Found) (marks : List Pair) (v : Pair) (rest : List Item) (slots : Slots)
-      (g : Found) where
+  module _ (left : ℕ) (otherwise : Hit) (marks : List Pair) (v : Pair) (rest : List Item) (slots : Slots)
+      (g : Hit) where
     -- a marked pair is dropped
     pub Answer-marked : In v marks
-        → Answer edges target capture left otherwise marks rest slots g
-        → Answer edges target capture (suc left) otherwise marks (Explore v ∷ rest) slots g
-    unfolding Answer
+        → ExploresTo edges target capture left otherwise marks rest slots g
+        → ExploresTo edges target capture (suc left) otherwise marks (Explore v ∷ rest) slots g
+    unfolding ExploresTo
     Answer-marked m h = inr (
       IsFirst-marked edges target marks v m,
       Answer-more left (suc left) (omega arith) otherwise marks rest slots g h,
@@ -118,26 +118,26 @@ module _ (edges : Pair → List Pair) (target : Pair → Bool) (capture : Pair �
 
     -- a pair from which nothing can be reached is dropped, with no turn
     pub Answer-dead : target v ≡ false → edges v ≡ []
-        → Answer edges target capture left otherwise marks rest slots g
-        → Answer edges target capture left otherwise marks (Explore v ∷ rest) slots g
-    unfolding Answer
+        → ExploresTo edges target capture left otherwise marks rest slots g
+        → ExploresTo edges target capture left otherwise marks (Explore v ∷ rest) slots g
+    unfolding ExploresTo
     Answer-dead plain leads h = inr (IsFirst-dead edges target marks v plain leads, h)
 
     -- a target ends the search
     pub Answer-target : ¬ (In v marks) → target v ≡ true → g ≡ Some (v, write (capture v) v.1 slots)
-        → Answer edges target capture (suc left) otherwise marks (Explore v ∷ rest) slots g
-    unfolding Answer
+        → ExploresTo edges target capture (suc left) otherwise marks (Explore v ∷ rest) slots g
+    unfolding ExploresTo
     Answer-target free t e = let short : length (v ∷ []) ≤ suc left = omega arith in
         inl (v ∷ [], IsFirst-target edges target marks v free t, e, short)
 
     module _ (free : ¬ (In v marks)) (plain : target v ≡ false) (es : List Pair) (leads : edges v ≡ es) where
       -- a pair gives way to its edges, and to `next` below them, which leads back to `rest`
       pub Answer-step : (next : List Item) (after : Slots) → write (capture v) v.1 slots ≡ after
-          → (Answer edges target capture left otherwise (v ∷ marks) next after g
-          → Answer edges target capture left otherwise (v ∷ marks) rest slots g)
-          → Answer edges target capture left otherwise (v ∷ marks) (map Explore es ++ next) after g
-          → Answer edges target capture (suc left) otherwise marks (Explore v ∷ rest) slots g
-      unfolding Answer
+          → (ExploresTo edges target capture left otherwise (v ∷ marks) next after g
+          → ExploresTo edges target capture left otherwise (v ∷ marks) rest slots g)
+          → ExploresTo edges target capture left otherwise (v ∷ marks) (map Explore es ++ next) after g
+          → ExploresTo edges target capture (suc left) otherwise marks (Explore v ∷ rest) slots g
+      unfolding ExploresTo
       Answer-step next after wrote back h =
           elim (Answer-among left otherwise (v ∷ marks) es next after g h) [
             | inl k ↦
@@ -157,41 +157,41 @@ module _ (edges : Pair → List Pair) (target : Pair → Bool) (capture : Pair �
 
       -- a pair that writes nothing
       pub Answer-plain : capture v ≡ None
-          → Answer edges target capture left otherwise (v ∷ marks) (map Explore es ++ rest) slots g
-          → Answer edges target capture (suc left) otherwise marks (Explore v ∷ rest) slots g
+          → ExploresTo edges target capture left otherwise (v ∷ marks) (map Explore es ++ rest) slots g
+          → ExploresTo edges target capture (suc left) otherwise marks (Explore v ∷ rest) slots g
       Answer-plain e = Answer-step rest slots (rw e refl) (λ a. a)
 
       -- a pair that writes to a slot, which is restored below its edges
       pub Answer-write : (k : ℕ) → capture v ≡ Some k
-          → Answer edges target capture left otherwise (v ∷ marks)
+          → ExploresTo edges target capture left otherwise (v ∷ marks)
           (map Explore es ++ Restore k (get_or slots k None) ∷ rest) (set slots k (Some v.1)) g
-          → Answer edges target capture (suc left) otherwise marks (Explore v ∷ rest) slots g
-      unfolding Answer
+          → ExploresTo edges target capture (suc left) otherwise marks (Explore v ∷ rest) slots g
+      unfolding ExploresTo
       Answer-write k e =
           Answer-step (Restore k (get_or slots k None) ∷ rest) (set slots k (Some v.1)) (rw e refl)
           (λ a. rw (set-set, set-get_or) at a)
 
       -- a pair that writes to a slot that is not kept
       pub Answer-unkept : (k : ℕ) → capture v ≡ Some k → length slots ≤ k
-          → Answer edges target capture left otherwise (v ∷ marks) (map Explore es ++ rest) slots g
-          → Answer edges target capture (suc left) otherwise marks (Explore v ∷ rest) slots g
+          → ExploresTo edges target capture left otherwise (v ∷ marks) (map Explore es ++ rest) slots g
+          → ExploresTo edges target capture (suc left) otherwise marks (Explore v ∷ rest) slots g
       Answer-unkept k e past = Answer-step rest slots (rw e (set_past slots k _ past)) (λ a. a)
 
     -- a pair with no edge is dropped, whatever it writes
     pub Answer-end : ¬ (In v marks) → target v ≡ false → edges v ≡ []
-        → Answer edges target capture left otherwise (v ∷ marks) rest slots g
-        → Answer edges target capture (suc left) otherwise marks (Explore v ∷ rest) slots g
-    unfolding Answer
+        → ExploresTo edges target capture left otherwise (v ∷ marks) rest slots g
+        → ExploresTo edges target capture (suc left) otherwise marks (Explore v ∷ rest) slots g
+    unfolding ExploresTo
     Answer-end free plain leads h =
         let none = IsFirst-dead edges target marks v plain leads in
         inr (none, Answer-mark left otherwise marks v none rest slots g h)
 
   -- there is one answer, however many turns are left
-  pub Answer-unique : (left more : ℕ) (otherwise : Found) (marks : List Pair) (work : List Item)
-      (slots : Slots) (g h : Found)
-      → Answer edges target capture left otherwise marks work slots g
-      → Answer edges target capture more otherwise marks work slots h → g ≡ h
-  unfolding Answer
+  pub Answer-unique : (left more : ℕ) (otherwise : Hit) (marks : List Pair) (work : List Item)
+      (slots : Slots) (g h : Hit)
+      → ExploresTo edges target capture left otherwise marks work slots g
+      → ExploresTo edges target capture more otherwise marks work slots h → g ≡ h
+  unfolding ExploresTo
   Answer-unique left more otherwise marks [] slots g h a b = a ∙ sym b
   Answer-unique left more otherwise marks (Restore k old ∷ rest) slots g h a b =
       Answer-unique left more otherwise marks rest (set slots k old) g h a b
@@ -211,20 +211,20 @@ module _ (edges : Pair → List Pair) (target : Pair → Bool) (capture : Pair �
   found-Some slots (go {v = v} {p = p} t i n h) e = last_or-Some (λ (x : Pair). (x, apply capture (v ∷ p) slots)) v p e
 
   -- what the answer says where one pair is all the work
-  pub Answer-first : (left : ℕ) (marks : List Pair) (v : Pair) (slots : Slots) (g : Found)
-      → Answer edges target capture left None marks (Explore v ∷ []) slots g
+  pub Answer-first : (left : ℕ) (marks : List Pair) (v : Pair) (slots : Slots) (g : Hit)
+      → ExploresTo edges target capture left None marks (Explore v ∷ []) slots g
       → ((p : List Pair) × IsFirst edges target marks v (Some p) × (g ≡ found capture p slots) × (length p ≤ left))
       ⊎ (IsFirst edges target marks v None × (g ≡ None))
-  unfolding Answer
+  unfolding ExploresTo
   Answer-first left marks v slots g h = h
 
   -- several starts, one after another, with the marks kept
-  pub Answer-starts : (left : ℕ) (starts : List Pair) (slots : Slots) (g : Found)
-      → Answer edges target capture left None [] (map Explore starts) slots g
+  pub Answer-starts : (left : ℕ) (starts : List Pair) (slots : Slots) (g : Hit)
+      → ExploresTo edges target capture left None [] (map Explore starts) slots g
       → ((p : List Pair) × IsFirstOfAll edges target [] starts (Some p) × (g ≡ found capture p slots)
       × (length p ≤ left))
       ⊎ (IsFirstOfAll edges target [] starts None × (g ≡ None))
-  unfolding Answer
+  unfolding ExploresTo
   Answer-starts left starts slots g h =
       elim (Answer-among left None [] starts [] slots g (rw append-nil h)) [
         | inl k ↦ inl (k.0, IsFirstOfAll-from_among edges target [] starts (Some k.0) k.1, k.2, k.3)
@@ -232,10 +232,10 @@ module _ (edges : Pair → List Pair) (target : Pair → Bool) (capture : Pair �
       ]
 
   -- the starts with their slots loaded anew are the starts
-  pub Answer-seeds : (left : ℕ) (otherwise : Found) (marks starts : List Pair) (slots : Slots) (g : Found)
-      → Answer edges target capture left otherwise marks (seeds slots starts) slots g
-      → Answer edges target capture left otherwise marks (map Explore starts) slots g
-  unfolding Answer seeds
+  pub Answer-seeds : (left : ℕ) (otherwise : Hit) (marks starts : List Pair) (slots : Slots) (g : Hit)
+      → ExploresTo edges target capture left otherwise marks (seeds slots starts) slots g
+      → ExploresTo edges target capture left otherwise marks (map Explore starts) slots g
+  unfolding ExploresTo seeds
   Answer-seeds left otherwise marks [] slots g h = h
   Answer-seeds left otherwise marks (s ∷ starts) slots g (inl h) = inl h
   Answer-seeds left otherwise marks (s ∷ starts) slots g (inr h) =
@@ -243,11 +243,11 @@ module _ (edges : Pair → List Pair) (target : Pair → Bool) (capture : Pair �
 
   -- behind what was put aside, each step goes on as before
   pub AnswerBehind-along : (front : List (Pair × Slots)) (left more : ℕ) → left ≤ more
-      → (o u : Found) (m n : List Pair) (work later : List Item) (slots after : Slots) (g : Found)
-      → (Answer edges target capture left o m work slots g → Answer edges target capture more u n later after g)
-      → AnswerBehind edges target capture left front o m work slots g
-      → AnswerBehind edges target capture more front u n later after g
-  unfolding AnswerBehind
+      → (o u : Hit) (m n : List Pair) (work later : List Item) (slots after : Slots) (g : Hit)
+      → (ExploresTo edges target capture left o m work slots g → ExploresTo edges target capture more u n later after g)
+      → ExploresBehind edges target capture left front o m work slots g
+      → ExploresBehind edges target capture more front u n later after g
+  unfolding ExploresBehind
   AnswerBehind-along [] left more le o u m n work later slots after g f h = f h
   AnswerBehind-along (a ∷ front) left more le o u m n work later slots after g f (inl h) =
       let short : length h.0 ≤ suc more = omega (arith, h.3) in inl (h.0, h.1, h.2, short)
@@ -255,24 +255,24 @@ module _ (edges : Pair → List Pair) (target : Pair → Bool) (capture : Pair �
       inr (h.0, AnswerBehind-along front left more le o u m n work later slots after g f h.1)
 
   -- a target: what is below it is dropped, and what was put aside comes first
-  pub AnswerBehind-target : (left : ℕ) (front : List (Pair × Slots)) (otherwise : Found) (marks : List Pair) (v : Pair)
-      (rest : List Item) (slots : Slots) (g : Found)
+  pub AnswerBehind-target : (left : ℕ) (front : List (Pair × Slots)) (otherwise : Hit) (marks : List Pair) (v : Pair)
+      (rest : List Item) (slots : Slots) (g : Hit)
       → ¬ (In v marks) → target v ≡ true
-      → AnswerBehind edges target capture left front (Some (v, write (capture v) v.1 slots)) marks [] slots g
-      → AnswerBehind edges target capture (suc left) front otherwise marks (Explore v ∷ rest) slots g
-  unfolding Answer
+      → ExploresBehind edges target capture left front (Some (v, write (capture v) v.1 slots)) marks [] slots g
+      → ExploresBehind edges target capture (suc left) front otherwise marks (Explore v ∷ rest) slots g
+  unfolding ExploresTo
   AnswerBehind-target left front otherwise marks v rest slots g free t =
       AnswerBehind-along front left (suc left) (omega arith) _ otherwise marks marks [] (Explore v ∷ rest) slots slots g
       (Answer-target left otherwise marks v rest slots g free t)
 
   module _ (ahead : Pair → Type 0) (closed : (x y : Pair) → ahead x → In y (edges x) → ahead y) where
     -- a resting pair is put aside: its edges lead to pairs ahead of all that is marked
-    pub AnswerBehind-keep : (left : ℕ) (front : List (Pair × Slots)) (otherwise : Found) (marks : List Pair) (v : Pair)
-        (rest : List Item) (slots : Slots) (g : Found)
+    pub AnswerBehind-keep : (left : ℕ) (front : List (Pair × Slots)) (otherwise : Hit) (marks : List Pair) (v : Pair)
+        (rest : List Item) (slots : Slots) (g : Hit)
         → ¬ (In v marks) → ((w : Pair) → In w (edges v) → ahead w) → ((x : Pair) → In x marks → ahead x → ⊥)
-        → AnswerBehind edges target capture left (front ++ (v, slots) ∷ []) otherwise (v ∷ marks) rest slots g
-        → AnswerBehind edges target capture (suc left) front otherwise marks (Explore v ∷ rest) slots g
-    unfolding Answer AnswerBehind
+        → ExploresBehind edges target capture left (front ++ (v, slots) ∷ []) otherwise (v ∷ marks) rest slots g
+        → ExploresBehind edges target capture (suc left) front otherwise marks (Explore v ∷ rest) slots g
+    unfolding ExploresTo ExploresBehind
     AnswerBehind-keep left [] otherwise marks v rest slots g free leaves past (inl h) =
         inl (h.0, (IsFirst-resting edges target ahead closed marks v free leaves past (Some h.0)).0 h.1, h.2, h.3)
     AnswerBehind-keep left [] otherwise marks v rest slots g free leaves past (inr h) =
@@ -284,10 +284,10 @@ module _ (edges : Pair → List Pair) (target : Pair → Bool) (capture : Pair �
         inr (h.0, AnswerBehind-keep left front otherwise marks v rest slots g free leaves past h.1)
 
     -- marks that are not ahead do not matter to work that is
-    pub Answer-ahead : (left : ℕ) (otherwise : Found) (marks : List Pair) (work : List Item) (slots : Slots) (g : Found)
+    pub Answer-ahead : (left : ℕ) (otherwise : Hit) (marks : List Pair) (work : List Item) (slots : Slots) (g : Hit)
         → ((k : Pair) → In (Explore k) work → ahead k) → ((x : Pair) → In x marks → ahead x → ⊥)
-        → Answer edges target capture left otherwise [] work slots g
-        → Answer edges target capture left otherwise marks work slots g
+        → ExploresTo edges target capture left otherwise [] work slots g
+        → ExploresTo edges target capture left otherwise marks work slots g
     Answer-ahead left otherwise marks work slots g comes past =
         Answer-along left left (omega arith) otherwise [] marks work slots g
         (λ k i. IsFirst-ahead edges target ahead closed [] marks (λ x b m. absurd m)
@@ -308,14 +308,14 @@ module _ (edges : Pair → List Pair) (target : Pair → Bool) (capture : Pair �
         ]
 
     -- the next position: what was put aside is taken up in turn, with no marks
-    pub AnswerBehind-round : (left : ℕ) (front : List (Pair × Slots)) (otherwise : Found) (marks : List Pair)
-        (waiting : List Item) (slots old after : Slots) (g : Found)
+    pub AnswerBehind-round : (left : ℕ) (front : List (Pair × Slots)) (otherwise : Hit) (marks : List Pair)
+        (waiting : List Item) (slots old after : Slots) (g : Hit)
         → ((a : Pair × Slots) → In a front → (target a.0 ≡ false) × (capture a.0 ≡ None) × (ahead a.0 → ⊥)
         × ((w : Pair) → In w (edges a.0) → ahead w))
         → ((k : Pair) → In (Explore k) waiting → ahead k) → ((x : Pair) → In x marks → ahead x → ⊥)
-        → Answer edges target capture left otherwise [] (round edges front (Load old ∷ waiting)) after g
-        → AnswerBehind edges target capture left front otherwise marks (Load old ∷ waiting) slots g
-    unfolding Answer AnswerBehind round
+        → ExploresTo edges target capture left otherwise [] (round edges front (Load old ∷ waiting)) after g
+        → ExploresBehind edges target capture left front otherwise marks (Load old ∷ waiting) slots g
+    unfolding ExploresTo ExploresBehind round
     AnswerBehind-round left [] otherwise marks waiting slots old after g rests comes past h =
         Answer-ahead left otherwise marks waiting old g comes past h
     AnswerBehind-round left (a ∷ front) otherwise marks waiting slots old after g rests comes past h =

@@ -2,17 +2,17 @@
 use Rattle.std.proofs.Common.{◌≡◌, ℕ, suc, ◌+◌, ◌≤◌, arith, ◌⊎◌, ◌↔◌, inl, inr, Bool, true, false, List, [], ◌∷◌, ◌++◌, map, length, get_or, set, refl}
 use Rattle.std.specs.Prelude.{Option, None, Some}
 use Rattle.nfa_paths.specs.Graphs.{Pair, In}
-use Rattle.nfa_paths.specs.Exploring.{Slots, Found, Item, write, Answer, AnswerBehind, round, seeds, Searching}
+use Rattle.nfa_paths.specs.Exploring.{Slots, Hit, Item, write, ExploresTo, ExploresBehind, round, seeds, Searching}
 use Rattle.nfa_paths.specs.Exploring.Item.{Explore, Restore, Load}
 use Rattle.nfa_paths.proofs.SearchLemmas.{Answer-more, Answer-seeds, Answer-restore, Answer-load, Answer-marked, Answer-target, Answer-plain, Answer-write, Answer-unkept, Answer-end, AnswerBehind-along, AnswerBehind-keep, AnswerBehind-round}
 
 module _ (edges : Pair → List Pair) (target : Pair → Bool) (capture : Pair → Option ℕ) where
   -- nothing is seen yet
-  pub Searching-start : (Seen : Pair → Type 0) (otherwise : Found) (work : List Item) (slots : Slots)
+  pub Searching-start : (Seen : Pair → Type 0) (otherwise : Hit) (work : List Item) (slots : Slots)
       → ((x : Pair) → Seen x → ⊥)
-      → Searching edges target capture (λ g total. Answer edges target capture total otherwise [] work slots g) Seen 0
+      → Searching edges target capture (λ g total. ExploresTo edges target capture total otherwise [] work slots g) Seen 0
       [] otherwise work slots
-  unfolding AnswerBehind
+  unfolding ExploresBehind
   Searching-start Seen otherwise work slots fresh = record {
     marks = [];
     agrees = λ x. (λ i. absurd i, λ s. absurd (fresh x s));
@@ -20,11 +20,11 @@ module _ (edges : Pair → List Pair) (target : Pair → Bool) (capture : Pair �
   }
 
   -- nothing is seen yet, and each start has its slots loaded
-  pub Searching-seeds : (Seen : Pair → Type 0) (otherwise : Found) (starts : List Pair) (slots current : Slots)
+  pub Searching-seeds : (Seen : Pair → Type 0) (otherwise : Hit) (starts : List Pair) (slots current : Slots)
       → ((x : Pair) → Seen x → ⊥)
-      → Searching edges target capture (λ g total. Answer edges target capture total otherwise [] (map Explore starts)
+      → Searching edges target capture (λ g total. ExploresTo edges target capture total otherwise [] (map Explore starts)
       slots g) Seen 0 [] otherwise (Load slots ∷ seeds slots starts) current
-  unfolding Answer AnswerBehind
+  unfolding ExploresTo ExploresBehind
   Searching-seeds Seen otherwise starts slots current fresh = record {
     marks = [];
     agrees = λ x. (λ i. absurd i, λ s. absurd (fresh x s));
@@ -34,14 +34,14 @@ module _ (edges : Pair → List Pair) (target : Pair → Bool) (capture : Pair �
   }
 
   -- nothing is left to do, and nothing was put aside
-  pub Searching-done : {goal : Found → ℕ → Type 0} {Seen : Pair → Type 0} {spent : ℕ} {otherwise : Found}
+  pub Searching-done : {goal : Hit → ℕ → Type 0} {Seen : Pair → Type 0} {spent : ℕ} {otherwise : Hit}
       {slots : Slots}
       → Searching edges target capture goal Seen spent [] otherwise [] slots → goal otherwise spent
-  unfolding Answer AnswerBehind
+  unfolding ExploresTo ExploresBehind
   Searching-done {spent = spent} s = s.leads _ 0 spent (omega arith) refl
 
-  module _ {goal : Found → ℕ → Type 0} {Seen : Pair → Type 0} {spent : ℕ} {front : List (Pair × Slots)}
-      {otherwise : Found} where
+  module _ {goal : Hit → ℕ → Type 0} {Seen : Pair → Type 0} {spent : ℕ} {front : List (Pair × Slots)}
+      {otherwise : Hit} where
     module _ {rest : List Item} {slots : Slots} where
       -- a slot is restored
       pub Searching-restore : {k : ℕ} {old : Option ℕ}
@@ -71,8 +71,8 @@ module _ (edges : Pair → List Pair) (target : Pair → Bool) (capture : Pair �
             (Answer-load edges target capture left otherwise s.marks old rest slots g).0 h);
       }
 
-  module _ {goal : Found → ℕ → Type 0} {Seen : Pair → Type 0} {spent : ℕ} {front : List (Pair × Slots)}
-      {otherwise : Found} {v : Pair} {rest : List Item} {slots : Slots}
+  module _ {goal : Hit → ℕ → Type 0} {Seen : Pair → Type 0} {spent : ℕ} {front : List (Pair × Slots)}
+      {otherwise : Hit} {v : Pair} {rest : List Item} {slots : Slots}
       (s : Searching edges target capture goal Seen spent front otherwise (Explore v ∷ rest) slots) where
     -- a turn that finds its pair marked
     pub Searching-marked : Seen v → Searching edges target capture goal Seen (spent + 1) front otherwise rest slots
@@ -89,7 +89,7 @@ module _ (edges : Pair → List Pair) (target : Pair → Bool) (capture : Pair �
     -- with nothing put aside
     pub Searching-found : ¬ (Seen v) → target v ≡ true → front ≡ []
         → goal (Some (v, write (capture v) v.1 slots)) (spent + 1)
-    unfolding AnswerBehind
+    unfolding ExploresBehind
     Searching-found fresh t e =
         s.leads _ 1 (spent + 1) refl
         (rw e (Answer-target edges target capture 0 otherwise s.marks v rest slots _
@@ -109,8 +109,8 @@ module _ (edges : Pair → List Pair) (target : Pair → Bool) (capture : Pair �
 
       -- v is marked and gives way to `next`
       Searching-next : (next : List Item) (after : Slots)
-          → ((left : ℕ) (g : Found) → Answer edges target capture left otherwise (v ∷ s.marks) next after g
-          → Answer edges target capture (suc left) otherwise s.marks (Explore v ∷ rest) slots g)
+          → ((left : ℕ) (g : Hit) → ExploresTo edges target capture left otherwise (v ∷ s.marks) next after g
+          → ExploresTo edges target capture (suc left) otherwise s.marks (Explore v ∷ rest) slots g)
           → Searching edges target capture goal After (spent + 1) front otherwise next after
       Searching-next next after back = record {
         marks = v ∷ s.marks;
@@ -156,7 +156,7 @@ module _ (edges : Pair → List Pair) (target : Pair → Bool) (capture : Pair �
       -- a target, where pairs were put aside
       pub Searching-target : target v ≡ true
           → Searching edges target capture goal After (spent + 1) front (Some (v, write (capture v) v.1 slots)) [] slots
-      unfolding Answer
+      unfolding ExploresTo
       Searching-target t = record {
         marks = v ∷ s.marks;
         agrees = grows;
@@ -182,8 +182,8 @@ module _ (edges : Pair → List Pair) (target : Pair → Bool) (capture : Pair �
       }
 
   -- the next position
-  pub Searching-round : {goal : Found → ℕ → Type 0} {Seen After : Pair → Type 0} {spent : ℕ}
-      {front : List (Pair × Slots)} {otherwise : Found} {waiting : List Item} {slots old : Slots}
+  pub Searching-round : {goal : Hit → ℕ → Type 0} {Seen After : Pair → Type 0} {spent : ℕ}
+      {front : List (Pair × Slots)} {otherwise : Hit} {waiting : List Item} {slots old : Slots}
       → Searching edges target capture goal Seen spent front otherwise (Load old ∷ waiting) slots
       → (ahead : Pair → Type 0) → ((x y : Pair) → ahead x → In y (edges x) → ahead y)
       → ((a : Pair × Slots) → In a front → (target a.0 ≡ false) × (capture a.0 ≡ None) × (ahead a.0 → ⊥)
@@ -192,7 +192,7 @@ module _ (edges : Pair → List Pair) (target : Pair → Bool) (capture : Pair �
       → ((x : Pair) → After x → ⊥)
       → (after : Slots) → Searching edges target capture goal After spent [] otherwise
       (round edges front (Load old ∷ waiting)) after
-  unfolding AnswerBehind
+  unfolding ExploresBehind
   Searching-round {front = front} {otherwise} {waiting} {slots} {old} s ahead closed rests comes past fresh after =
       record {
         marks = [];

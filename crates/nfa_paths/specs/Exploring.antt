@@ -10,8 +10,8 @@ abbrev pub Slots : Type 0
 Slots = List (Option ℕ)
 
 -- what a search finds: the pair that it ends with, and the slots there
-abbrev pub Found : Type 0
-Found = Option (Pair × Slots)
+abbrev pub Hit : Type 0
+Hit = Option (Pair × Slots)
 
 -- an item of work: a pair to explore, a slot to restore, or slots to load
 pub data Item : Type 0 where
@@ -31,7 +31,7 @@ module _ (capture : Pair → Option ℕ) where
   apply (v ∷ p) slots = apply p (write (capture v) v.1 slots)
 
   -- what is found along a list: its last pair, and the slots there
-  abbrev pub found : List Pair → Slots → Found
+  abbrev pub found : List Pair → Slots → Hit
   found p slots = option_map (λ e. (e, apply p slots)) (last_or None p)
 
 -- what was put aside, as the work of the next position, above what waits
@@ -47,27 +47,27 @@ seeds slots (s ∷ starts) = Explore s ∷ Load slots ∷ seeds slots starts
 module _ (edges : Pair → List Pair) (target : Pair → Bool) (capture : Pair → Option ℕ) where
   -- The first explored pair from which a path is left has the answer. If there is none, it is `otherwise`.
   -- A turn tries to mark one pair, and `left` turns are left: as many as the pairs of the answer's path, or more.
-  unfoldable pub Answer : ℕ → Found → List Pair → List Item → Slots → Found → Type 0
-  Answer left otherwise marks [] slots g = g ≡ otherwise
-  Answer left otherwise marks (Explore v ∷ rest) slots g =
+  unfoldable pub ExploresTo : ℕ → Hit → List Pair → List Item → Slots → Hit → Type 0
+  ExploresTo left otherwise marks [] slots g = g ≡ otherwise
+  ExploresTo left otherwise marks (Explore v ∷ rest) slots g =
       ((p : List Pair) × IsFirst edges target marks v (Some p) × (g ≡ found capture p slots) × (length p ≤ left))
-      ⊎ (IsFirst edges target marks v None × Answer left otherwise marks rest slots g)
-  Answer left otherwise marks (Restore k old ∷ rest) slots g =
-      Answer left otherwise marks rest (slice_set slots k old) g
-  Answer left otherwise marks (Load old ∷ rest) slots g = Answer left otherwise marks rest old g
+      ⊎ (IsFirst edges target marks v None × ExploresTo left otherwise marks rest slots g)
+  ExploresTo left otherwise marks (Restore k old ∷ rest) slots g =
+      ExploresTo left otherwise marks rest (slice_set slots k old) g
+  ExploresTo left otherwise marks (Load old ∷ rest) slots g = ExploresTo left otherwise marks rest old g
 
   -- the same behind pairs that were put aside, each with its slots, after its turn
-  unfoldable pub AnswerBehind : ℕ → List (Pair × Slots) → Found → List Pair → List Item → Slots → Found → Type 0
-  AnswerBehind left [] otherwise marks work slots g = Answer left otherwise marks work slots g
-  AnswerBehind left (a ∷ front) otherwise marks work slots g =
+  unfoldable pub ExploresBehind : ℕ → List (Pair × Slots) → Hit → List Pair → List Item → Slots → Hit → Type 0
+  ExploresBehind left [] otherwise marks work slots g = ExploresTo left otherwise marks work slots g
+  ExploresBehind left (a ∷ front) otherwise marks work slots g =
       ((p : List Pair) × IsFirst edges target [] a.0 (Some p) × (g ≡ found capture p a.1) × (length p ≤ suc left))
-      ⊎ (IsFirst edges target [] a.0 None × AnswerBehind left front otherwise marks work slots g)
+      ⊎ (IsFirst edges target [] a.0 None × ExploresBehind left front otherwise marks work slots g)
 
   -- A search under way, in the form that a loop keeps: some list holds just the pairs that are `Seen`, and whatever is
   -- the answer from here on meets `goal`, with the number of turns when the search ends. `spent` turns were taken.
-  pub record Searching (goal : Found → ℕ → Type 0) (Seen : Pair → Type 0) (spent : ℕ) (front : List (Pair × Slots))
-      (otherwise : Found) (work : List Item) (slots : Slots) : Type 0 where
+  pub record Searching (goal : Hit → ℕ → Type 0) (Seen : Pair → Type 0) (spent : ℕ) (front : List (Pair × Slots))
+      (otherwise : Hit) (work : List Item) (slots : Slots) : Type 0 where
     pub marks : List Pair
     pub agrees : (x : Pair) → In x marks ↔ Seen x
-    pub leads : (g : Found) (left total : ℕ) → spent + left ≡ total
-        → AnswerBehind left front otherwise marks work slots g → goal g total
+    pub leads : (g : Hit) (left total : ℕ) → spent + left ≡ total
+        → ExploresBehind left front otherwise marks work slots g → goal g total

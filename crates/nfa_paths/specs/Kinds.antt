@@ -5,7 +5,7 @@ use Rattle.thompson_nfa.specs.Automaton.{Automaton, Node}
 use Rattle.thompson_nfa.specs.Automaton.Node.{ByteRange, Sparse, Dense, Look, Union, BinaryUnion, Capture, Fail, Match}
 use Rattle.nfa_paths.specs.Graphs.{Pair, In, NoRepeats, WantedAt, PathTo, NoPath, IsLastOfFirsts, IsLastPath}
 use Rattle.nfa_paths.specs.FirstPaths.{Increasing}
-use Rattle.nfa_paths.specs.Exploring.{Slots, Found, Item, found, Answer, AnswerBehind, Searching}
+use Rattle.nfa_paths.specs.Exploring.{Slots, Hit, Item, found, ExploresTo, ExploresBehind, Searching}
 use Rattle.nfa_paths.specs.Exploring.Item.{Explore}
 use Rattle.nfa_paths.specs.Paths.{node_at}
 
@@ -24,13 +24,13 @@ IsLastAt edges starts Wanted e None = NoPath edges starts (WantedAt Wanted e)
 IsLastAt edges starts Wanted e (Some p) = IsLastOfFirsts edges starts Wanted e p
 
 -- what is found along a path, if there is one
-abbrev pub found_along : (Pair → Option ℕ) → Option (List Pair) → Slots → Found
+abbrev pub found_along : (Pair → Option ℕ) → Option (List Pair) → Slots → Hit
 found_along capture None slots = None
 found_along capture (Some p) slots = found capture p slots
 
 -- the found pair and slots are those of the path that is meant, which has no more pairs than there were turns
 pub record IsFoundBy (capture : Pair → Option ℕ) (slots : Slots) (Meant : Option (List Pair) → Type 0) (turns : ℕ)
-    (g : Found) : Type 0 where
+    (g : Hit) : Type 0 where
   pub path : Option (List Pair)
   pub meant : Meant path
   pub leads : found_along capture path slots ≡ g
@@ -51,7 +51,7 @@ NoneBefore edges starts is_match e = NoPath edges starts (WantedBefore (Passes i
 
 -- g is what the last of the first paths that end before e finds: of those with the greatest end
 abbrev pub LastBefore : (Pair → List Pair) → (Pair → Option ℕ) → List Pair → (Pair → Bool) → Slots → ℕ → ℕ
-    → Found → Type 0
+    → Hit → Type 0
 LastBefore edges capture starts is_match slots e turns g =
     IsFoundBy capture slots (IsLastPath edges starts (WantedBefore (Passes is_match) e)) turns g
 
@@ -64,7 +64,7 @@ abbrev pub EndsBefore : (Pair → List Pair) → List Pair → (Pair → Bool) �
 EndsBefore edges starts is_match e = (m : Pair) (p : List Pair) → PathTo edges starts m p → is_match m ≡ true → m.1 < e
 
 -- the first match pair of a front, with its slots
-abbrev pub first_match : (Pair → Bool) → List (Pair × Slots) → Found
+abbrev pub first_match : (Pair → Bool) → List (Pair × Slots) → Hit
 first_match is_match [] = None
 first_match is_match (a ∷ front) = cond (is_match a.0) (Some a) (first_match is_match front)
 
@@ -74,12 +74,12 @@ before_match is_match [] = []
 before_match is_match (a ∷ front) = cond (is_match a.0) [] (a ∷ before_match is_match front)
 
 -- what waits behind a front, if it has no match pair
-abbrev pub behind_match : Found → List Item → List Item
+abbrev pub behind_match : Hit → List Item → List Item
 behind_match None waiting = waiting
 behind_match (Some a) waiting = []
 
 -- its last match pair, or what was found before
-abbrev pub last_match : (Pair → Bool) → Found → List (Pair × Slots) → Found
+abbrev pub last_match : (Pair → Bool) → Hit → List (Pair × Slots) → Hit
 last_match is_match g [] = g
 last_match is_match g (a ∷ front) = last_match is_match (cond (is_match a.0) (Some a) g) front
 
@@ -125,15 +125,15 @@ pub record IsFront (edges : Pair → List Pair) (capture : Pair → Option ℕ) 
   pub later : (k : Pair) → In (Explore k) waiting → e < k.1
   pub leads : (target : Pair → Bool) → MatchesAt is_match e target
       → (marks : List Pair)
-      × ((g : Found) → AnswerBehind edges target capture 0 front None marks waiting current g
-      → Answer edges target capture turns None [] (map Explore starts) slots g)
+      × ((g : Hit) → ExploresBehind edges target capture 0 front None marks waiting current g
+      → ExploresTo edges target capture turns None [] (map Explore starts) slots g)
 
 -- nothing is left to explore at position e or behind it: whichever match pairs there the search is for, it finds none
 pub record IsOver (edges : Pair → List Pair) (capture : Pair → Option ℕ) (starts : List Pair) (is_match : Pair → Bool)
     (slots : Slots)
     (turns e : ℕ) : Type 0 where
   pub none : (target : Pair → Bool) → MatchesFrom is_match e target
-      → Answer edges target capture turns None [] (map Explore starts) slots None
+      → ExploresTo edges target capture turns None [] (map Explore starts) slots None
 
 -- A scan at position e, in the form that a loop keeps: the searches for every set of match pairs at e or behind it, all
 -- in one state,
@@ -143,7 +143,7 @@ pub record Scanning (edges : Pair → List Pair) (capture : Pair → Option ℕ)
     (e : ℕ) (Seen : Pair → Type 0) (spent : ℕ) (front : List (Pair × Slots)) (work : List Item)
     (current : Slots) : Type 0 where
   pub searching : (target : Pair → Bool) → MatchesFrom is_match e target
-      → Searching edges target capture (λ g total. Answer edges target capture total None [] (map Explore starts) slots
+      → Searching edges target capture (λ g total. ExploresTo edges target capture total None [] (map Explore starts) slots
       g) Seen spent front None work current
 
 -- a state whose edges lead to the next position or nowhere, and that writes nothing: a byte state, a Fail or a Match

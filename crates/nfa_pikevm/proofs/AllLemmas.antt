@@ -10,7 +10,7 @@ use Rattle.regex_search_core.specs.declared.search.HalfMatch.{HalfMatch}
 use Rattle.regex_search_core.specs.declared.search.MatchKind.TheVariants.{All as AllMatches, LeftmostFirst}
 use Rattle.thompson_nfa.specs.Automaton.{Automaton}
 use Rattle.nfa_paths.specs.Graphs.{Pair, In}
-use Rattle.nfa_paths.specs.Exploring.{Item, Slots, Found, round}
+use Rattle.nfa_paths.specs.Exploring.{Item, Slots, Hit, round}
 use Rattle.nfa_paths.specs.Exploring.Item.{Explore, Load}
 use Rattle.nfa_paths.specs.Kinds.{is_resting, NoMatch, IsFoundBy, NoneBefore, LastBefore, last_match, IsFront, Scanning}
 use Rattle.nfa_paths.specs.Paths.{node_at, pattern_of, edges, is_match, capture, starts, IsScanAnswer}
@@ -18,7 +18,7 @@ use Rattle.nfa_paths.proofs.KindsLemmas.{first_match-is, last_match-is}
 use Rattle.nfa_paths.proofs.ScanAnswerLemmas.{edges-onward, seeds-later, Scanned-matches, scan_earliest_last-found}
 use Rattle.nfa_paths.proofs.ScanLemmas.{NoneBefore-step, LastBefore-step}
 use Rattle.nfa_paths.proofs.ScanningLemmas.{Scanning-front, Scanning-round}
-use Rattle.nfa_pikevm.specs.Rows.{Marks}
+use Rattle.nfa_scanning.specs.Marks.{Marks}
 use Rattle.nfa_pikevm.specs.States.{Front, tasks, unmarked, meant, GoesOn, SeenAt, Crosses}
 use Rattle.nfa_pikevm.specs.Scans.{blank, starts_from, half_found, IsSoFar, ScansAll}
 use Rattle.nfa_pikevm.proofs.TaskLemmas.{AnswersFor, AnswersFor-round, Searching-for}
@@ -26,7 +26,7 @@ use Rattle.nfa_pikevm.proofs.FrontLemmas.{Formed-rests, Formed-resting, Formed-n
 use Rattle.nfa_pikevm.proofs.EarliestLemmas.{scan_earliest-cut}
 
 -- what is found last stands in the front, or was found before
-last_match-among : (is : Pair → Bool) (g : Found) (front : Front) (a : Pair × Slots) → last_match is g front ≡ Some a
+last_match-among : (is : Pair → Bool) (g : Hit) (front : Front) (a : Pair × Slots) → last_match is g front ≡ Some a
     → (g ≡ Some a) ⊎ In a front
 last_match-among is g [] a e = inl e
 last_match-among is g (b ∷ front) a e =
@@ -53,7 +53,7 @@ EndsAt-none at (Some p) (Some m) e none = cc
 -- The match that was found last, of the paths that end before the position.
 pub record HasLast (nfa : Automaton) (x : Search) (at width : ℕ) (found : Option HalfMatch) (slots : Slots)
     (turns : ℕ) : Type 0 where
-  pub so_far : Found
+  pub so_far : Hit
   pub is_so_far : IsSoFar nfa x found slots so_far
   pub last : LastBefore (edges nfa x) (capture nfa) (starts nfa x) (is_match nfa) (blank width) at turns so_far
 
@@ -212,7 +212,7 @@ module _ (nfa : Automaton) (x : Search) (at width state limit : ℕ) where
   HasLast-cross {slots = slots} {hit = hit} {after = after} {written = written} {found = found} c s grows half is h =
       record {
         so_far = last_match (is_match nfa) h.so_far c.front;
-        is_so_far = subst (λ (g : Found). IsSoFar nfa x (option_or half found) written g)
+        is_so_far = subst (λ (g : Hit). IsSoFar nfa x (option_or half found) written g)
             (sym (last_match-or (is_match nfa) h.so_far c.front)) (of hit refl half is);
         last = LastBefore-step (edges nfa x) (capture nfa) (starts nfa x) (is_resting nfa) (is_match nfa) (blank width)
             (Scanned-matches nfa x (is_match nfa) (λ v t. t)) grows h.last (all-front c s (inl refl));

@@ -8,12 +8,13 @@ use Rattle.regex_search_core.specs.declared.primitives.PatternID.{PatternID}
 use Rattle.thompson_nfa.specs.Automaton.{Automaton}
 use Rattle.nfa_paths.specs.Graphs.{Pair}
 use Rattle.nfa_paths.specs.Paths.{edges, is_match}
-use Rattle.nfa_paths.specs.Exploring.{Item, Slots, Found}
+use Rattle.nfa_paths.specs.Exploring.{Item, Slots, Hit}
 use Rattle.nfa_paths.specs.Exploring.Item.{Explore as ToExplore, Load as ToLoad}
 use Rattle.nfa_paths.specs.Kinds.{first_match, before_match, last_match, NoMatch}
 use Rattle.nfa_paths.proofs.AnswerLemmas.{IsMatch-edges}
-use Rattle.nfa_pikevm.specs.Rows.{Marks, Active}
-use Rattle.nfa_pikevm.specs.States.{Front, moves, work_onto, with_state, state_on, tries, meant, IsHit, Follows, Formed, Paid, HasRoom, KeepsRoom, Enters, Finds, Arrives}
+use Rattle.nfa_scanning.specs.Marks.{Marks}
+use Rattle.nfa_pikevm.specs.Rows.{Active}
+use Rattle.nfa_pikevm.specs.States.{Front, moves, work_onto, with_state, state_on, tries, meant, IsHit, Follows, Formed, Paid, HasRoom, KeepsRoom, Enters, FindsMatch, Arrives}
 use Rattle.nfa_pikevm.specs.declared.closure.Move.{Move}
 use Rattle.nfa_pikevm.specs.declared.closure.Reached.{Reached}
 use Rattle.nfa_pikevm.specs.declared.closure.Move.TheVariants.{Matched}
@@ -54,12 +55,12 @@ module _ (test : Pair → Bool) where
   first_match-plain [] more plain = first_match-none more plain
   first_match-plain (a ∷ front) more plain = ap (λ g. cond (test a.0) (Some a) g) (first_match-plain front more plain)
 
-  last_match-none : (g : Found) (front : Front) → NoMatch test front → last_match test g front ≡ g
+  last_match-none : (g : Hit) (front : Front) → NoMatch test front → last_match test g front ≡ g
   last_match-none g [] plain = refl
   last_match-none g (a ∷ front) plain = rw (head-plain a front plain)
       (last_match-none g front (tail-plain a front plain))
 
-  last_match-plain : (g : Found) (front more : Front) → NoMatch test more
+  last_match-plain : (g : Hit) (front more : Front) → NoMatch test more
       → last_match test g (front ++ more) ≡ last_match test g front
   last_match-plain g [] more plain = last_match-none g more plain
   last_match-plain g (a ∷ front) more plain = last_match-plain (cond (test a.0) (Some a) g) front more plain
@@ -70,7 +71,7 @@ module _ (test : Pair → Bool) where
   first_match-new (b ∷ front) a plain t = rw (head-plain b front plain)
       (first_match-new front a (tail-plain b front plain) t)
 
-  last_match-new : (g : Found) (front : Front) (a : Pair × Slots) → test a.0 ≡ true
+  last_match-new : (g : Hit) (front : Front) (a : Pair × Slots) → test a.0 ≡ true
       → last_match test g (front ++ a ∷ []) ≡ Some a
   last_match-new g [] a t = rw t refl
   last_match-new g (b ∷ front) a t = last_match-new (cond (test b.0) (Some b) g) front a t
@@ -206,7 +207,7 @@ module _ {nfa : Automaton} {x : Search} {at s : ℕ} {met : Marks} {items : List
 
   -- no match came
   pub Finds-none : (f : Passed nfa x at s met items below row m i None stack now)
-      → Finds nfa x at s met items below row None m i stack now
+      → FindsMatch nfa x at s met items below row None m i stack now
   Finds-none f = record {
     front = f.front;
     added = f.added;
@@ -253,7 +254,7 @@ module _ {nfa : Automaton} {x : Search} {at s : ℕ} {met : Marks} {items : List
       {pattern : PatternID}
       → (f : Passed nfa x at s met items below row m i (Some sid) stack now)
       → (h : Enters nfa x at sid m i stack now (Matched pattern) n j above then)
-      → Finds nfa x at s met items below row (Some pattern) n j above then
+      → FindsMatch nfa x at s met items below row (Some pattern) n j above then
   Finds-match {sid} {then = then} f h = record {
     front = f.front ++ h.front;
     added = passed_added f h;
@@ -337,7 +338,7 @@ module _ {nfa : Automaton} {x : Search} {at : ℕ} {past : Bool} {s : ℕ} {met 
   module _ {sid : ℕ} {n : Marks} {j : List (ℕ × Slots)} {above : List FollowEpsilon} {then : Slots}
       (f : Followed nfa x at past s met items row slots m i (Some sid) stack now hit written) where
     -- What comes up to a match adds its front.
-    module _ {one : Option PatternID} (h : Finds nfa x at sid m i stack now one n j above then) where
+    module _ {one : Option PatternID} (h : FindsMatch nfa x at sid m i stack now one n j above then) where
       added : j ≡ items ++ moves (edges nfa x) (f.front ++ h.front)
       added =
           h.added ∙ ap (λ l. l ++ moves (edges nfa x) h.front) f.added
@@ -354,7 +355,7 @@ module _ {nfa : Automaton} {x : Search} {at : ℕ} {past : Bool} {s : ℕ} {met 
           (Follows-then nfa x at (f.follows before old work) (h.follows (before ++ f.front) old work))
 
     -- no match comes
-    pub Followed-plain : (h : Finds nfa x at sid m i stack now None n j above then)
+    pub Followed-plain : (h : FindsMatch nfa x at sid m i stack now None n j above then)
         → Followed nfa x at past s met items row slots n j None above then hit written
     Followed-plain h = record {
       front = f.front ++ h.front;
@@ -366,7 +367,7 @@ module _ {nfa : Automaton} {x : Search} {at : ℕ} {past : Bool} {s : ℕ} {met 
     }
 
     -- a match comes
-    module _ {pattern : PatternID} (h : Finds nfa x at sid m i stack now (Some pattern) n j above then) where
+    module _ {pattern : PatternID} (h : FindsMatch nfa x at sid m i stack now (Some pattern) n j above then) where
       abbrev v : Pair
       v = (h.ends.1, at)
 

@@ -12,14 +12,15 @@ use Rattle.regex_search_core.specs.declared.primitives.PatternID.{PatternID}
 use Rattle.thompson_nfa.specs.Automaton.{Automaton}
 use Rattle.nfa_paths.specs.Graphs.{Pair}
 use Rattle.nfa_paths.specs.Paths.{degree, edges, is_match, capture}
-use Rattle.nfa_paths.specs.Exploring.{Item, Slots, Found}
+use Rattle.nfa_paths.specs.Exploring.{Item, Slots, Hit}
 use Rattle.nfa_paths.specs.Exploring.Item.{Explore, Load}
 use Rattle.nfa_paths.specs.Kinds.{first_match, before_match, last_match}
 use Rattle.nfa_paths.specs.Turns.{marked_sum}
 use Rattle.nfa_paths.proofs.SearchLemmas.{Answer-load, AnswerBehind-along}
 use Rattle.nfa_paths.proofs.SearchingLemmas.{Searching-load}
 use Rattle.nfa_paths.proofs.TurnLemmas.{marked_sum-clear}
-use Rattle.nfa_pikevm.specs.Rows.{Marks, Active, items_of}
+use Rattle.nfa_scanning.specs.Marks.{Marks}
+use Rattle.nfa_pikevm.specs.Rows.{Active, items_of}
 use Rattle.nfa_pikevm.specs.Engines.{room_of}
 use Rattle.nfa_pikevm.specs.States.{Front, moves, tasks, unmarked, one_of, meant, IsHit, GoesOn, Formed, HasRoom, Paid, Follows, Leads, Arrives, Crosses}
 use Rattle.nfa_pikevm.proofs.RowLemmas.{drop-items_of, length-items_of}
@@ -103,7 +104,7 @@ or-none None = refl
 or-none (Some a) = refl
 
 module _ (m : Pair → Bool) where
-  last_match-or : (g : Found) (front : Front) → last_match m g front ≡ option_or (last_match m None front) g
+  last_match-or : (g : Hit) (front : Front) → last_match m g front ≡ option_or (last_match m None front) g
   last_match-or g [] = refl
   last_match-or g (a ∷ front) =
       elim (m a.0) as (λ b. last_match m (cond b (Some a) g) front
@@ -114,7 +115,7 @@ module _ (m : Pair → Bool) where
         | false ↦ last_match-or g front
       ]
 
-  last_match-append : (g : Found) (front more : Front)
+  last_match-append : (g : Hit) (front more : Front)
       → last_match m g (front ++ more) ≡ last_match m (last_match m g front) more
   last_match-append g [] more = refl
   last_match-append g (a ∷ front) more = last_match-append (cond (m a.0) (Some a) g) front more

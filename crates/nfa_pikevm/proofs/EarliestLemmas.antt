@@ -10,7 +10,7 @@ use Rattle.thompson_nfa.specs.Automaton.{Automaton}
 use Rattle.nfa_paths.specs.Graphs.{Pair, In, WantedAt, IsFirstTo, IsFirstPath}
 use Rattle.nfa_paths.specs.FirstPaths.{Path, IsFirst}
 use Rattle.nfa_paths.specs.FirstPaths.Path.{stop, go}
-use Rattle.nfa_paths.specs.Exploring.{Item, Slots, AnswerBehind, found}
+use Rattle.nfa_paths.specs.Exploring.{Item, Slots, ExploresBehind, found}
 use Rattle.nfa_paths.specs.Kinds.{Passes, IsFoundBy, found_along, NoneBefore, first_match, is_resting, Scanning}
 use Rattle.nfa_paths.specs.Paths.{edges, is_match, capture, starts, IsScanAnswer}
 use Rattle.nfa_paths.proofs.AnswerLemmas.{IsMatch-capture, never_none}
@@ -62,9 +62,9 @@ module _ (nfa : Automaton) (x : Search) (e : ℕ) where
   AnswerBehind-match : (front : Front) → ((b : Pair × Slots) → In b front → (is_resting nfa b.0 ≡ true) × (b.0.1 ≡ e))
       → (a : Pair × Slots) → first_match (is_match nfa) front ≡ Some a
       → (left : ℕ) (marks : List Pair) (work : List Item) (slots : Slots)
-      → AnswerBehind (edges nfa x) wanted (capture nfa) left front None marks work slots
+      → ExploresBehind (edges nfa x) wanted (capture nfa) left front None marks work slots
       (found (capture nfa) (a.0 ∷ []) a.1)
-  unfolding AnswerBehind
+  unfolding ExploresBehind
   AnswerBehind-match [] rest a first left marks work slots = cc
   AnswerBehind-match (b ∷ front) rest a first left marks work slots =
       elim (cases_Bool (is_match nfa b.0)) [

@@ -11,7 +11,7 @@ use Rattle.regex_search_core.specs.declared.search.MatchKind.TheVariants.{All as
 use Rattle.thompson_nfa.specs.Automaton.{Automaton}
 use Rattle.nfa_paths.specs.Graphs.{Pair}
 use Rattle.nfa_paths.specs.FirstPaths.{IsFirst}
-use Rattle.nfa_paths.specs.Exploring.{Item, Slots, Found, seeds}
+use Rattle.nfa_paths.specs.Exploring.{Item, Slots, Hit, seeds}
 use Rattle.nfa_paths.specs.Exploring.Item.{Load}
 use Rattle.nfa_paths.specs.Kinds.{is_resting, IsFoundBy, NoneBefore, EndsBefore, Scanning}
 use Rattle.nfa_paths.specs.Restarts.{ScanGives}
@@ -21,7 +21,7 @@ use Rattle.nfa_paths.proofs.ScanAnswerLemmas.{Scanned-matches, starts-from, Ends
 use Rattle.nfa_paths.proofs.ScanLemmas.{IsFoundBy-more, NoneBefore-start, LastBefore-start, EndsBefore-over}
 use Rattle.nfa_paths.proofs.ScanningLemmas.{Scanning-load, Scanning-over}
 use Rattle.nfa_scanning.specs.FirstBytes.{IsFirstBytes}
-use Rattle.nfa_pikevm.specs.Rows.{Marks}
+use Rattle.nfa_scanning.specs.Marks.{Marks}
 use Rattle.nfa_pikevm.specs.States.{tasks, unmarked, SeenAt, SearchingAt, Crosses}
 use Rattle.nfa_pikevm.specs.Scans.{blank, starts_from, with_start, half_found, IsPassed, Joins, AreStarts, IsSoFar, SearchesFirst, ScansAll}
 use Rattle.nfa_pikevm.specs.declared.scan.Starts.{Starts}
@@ -182,7 +182,7 @@ module _ (nfa : Automaton) (x : Search) where
 
   -- what was found is what the scan's answer finds
   pub Scans-so_far : (kind : MatchKind) (earliest : Bool) (width turns : ℕ) (found : Option HalfMatch) (slots : Slots)
-      (g : Found) → IsSoFar nfa x found slots g
+      (g : Hit) → IsSoFar nfa x found slots g
       → IsFoundBy (capture nfa) (blank width) (IsScanAnswer nfa x kind earliest) turns g → width ≡ length slots
       → ScanGives nfa kind earliest x found slots turns
   Scans-so_far kind earliest width turns None slots g is f size =
@@ -205,7 +205,7 @@ module _ (nfa : Automaton) (x : Search) where
 
   -- nothing is left of the search for the first path
   pub first-over : (at next width state limit : ℕ) (found : Option HalfMatch) (slots : Slots) (met : Marks)
-      (so_far : Found) (items : List (ℕ × Slots)) → IsSoFar nfa x found slots so_far → limit ≤ next → items ≡ []
+      (so_far : Hit) (items : List (ℕ × Slots)) → IsSoFar nfa x found slots so_far → limit ≤ next → items ≡ []
       → SearchingAt nfa x at (is_match nfa) (starts nfa x) (blank width) so_far (unmarked met) []
       (tasks at items (Load (blank width) ∷ starts_from width state next limit)) (blank width)
       → width ≡ length slots → ScanGives nfa LeftmostFirst false x found slots met.turns
@@ -250,7 +250,7 @@ module _ (nfa : Automaton) (x : Search) where
 
   -- a position with a match, of the search for the first path
   pub SearchesFirst-some : (at width state limit : ℕ) {met : Marks} {items : List (ℕ × Slots)} {slots : Slots}
-      {hit : Option PatternID} {after : Marks} {kept : List (ℕ × Slots)} {written : Slots} {so_far : Found}
+      {hit : Option PatternID} {after : Marks} {kept : List (ℕ × Slots)} {written : Slots} {so_far : Hit}
       → Crosses nfa x at false met items slots hit after kept written
       → SearchingAt nfa x at (is_match nfa) (starts nfa x) (blank width) so_far (unmarked met) []
       (tasks at items (Load (blank width) ∷ starts_from width state (at + 1) limit)) (blank width)

@@ -25,7 +25,8 @@ use Rattle.nfa_paths.proofs.TurnLemmas.{marked_sum-set, marked_sum-le}
 use Rattle.nfa_paths.proofs.ScanningLemmas.{once-keep}
 use Rattle.nfa_paths.proofs.ScanAnswerLemmas.{edges-onward, edges-rise}
 use Rattle.nfa_scanning.proofs.TargetLemmas.{target-degree}
-use Rattle.nfa_pikevm.specs.Rows.{Marks, Active}
+use Rattle.nfa_scanning.specs.Marks.{Marks}
+use Rattle.nfa_pikevm.specs.Rows.{Active}
 use Rattle.nfa_pikevm.specs.Engines.{room_of}
 use Rattle.nfa_pikevm.specs.States.{Front, moves, work_onto, with_state, tries, state_on, one_of, IsWithin, Follows, Formed, Paid, HasRoom, Enters, IsMet}
 use Rattle.nfa_pikevm.specs.declared.closure.Move.{Move}

@@ -7,11 +7,11 @@ use Rattle.regex_search_core.specs.Search.{Search}
 use Rattle.thompson_nfa.specs.Automaton.{Automaton}
 use Rattle.nfa_paths.specs.Graphs.{Pair, In}
 use Rattle.nfa_paths.specs.Paths.{edges, is_match, capture}
-use Rattle.nfa_paths.specs.Exploring.{Item, Slots, Found, Answer, Searching}
+use Rattle.nfa_paths.specs.Exploring.{Item, Slots, Hit, ExploresTo, Searching}
 use Rattle.nfa_paths.specs.Exploring.Item.{Explore, Restore, Load}
 use Rattle.nfa_paths.proofs.SearchLemmas.{AnswerBehind-along}
 use Rattle.nfa_paths.proofs.SearchingLemmas.{Searching-restore, Searching-load, Searching-marked, Searching-plain, Searching-write, Searching-unkept, Searching-keep}
-use Rattle.nfa_pikevm.specs.Rows.{Marks}
+use Rattle.nfa_scanning.specs.Marks.{Marks}
 use Rattle.nfa_pikevm.specs.States.{Front, SeenAt, AreMatchPairs, Follows}
 
 -- a pair that is no match is in no set of matches
@@ -52,12 +52,12 @@ SeenAt-clear at s bits inside clear m =
 
 -- Behind a pair a slot need not be restored where slots are loaded next.
 Searching-unrestored : (edges : Pair → List Pair) (target : Pair → Bool) (capture : Pair → Option ℕ)
-    {goal : Found → ℕ → Type 0} {Seen : Pair → Type 0} {spent : ℕ} {front : Front} {otherwise : Found} {v : Pair}
+    {goal : Hit → ℕ → Type 0} {Seen : Pair → Type 0} {spent : ℕ} {front : Front} {otherwise : Hit} {v : Pair}
     {k : ℕ} {back : Option ℕ} {old : Slots} {rest : List Item} {slots : Slots}
     → Searching edges target capture goal Seen spent front otherwise
     (Explore v ∷ Restore k back ∷ Load old ∷ rest) slots
     → Searching edges target capture goal Seen spent front otherwise (Explore v ∷ Load old ∷ rest) slots
-unfolding Answer
+unfolding ExploresTo
 Searching-unrestored edges target capture {front = front} {otherwise} {v} {k} {back} {old} {rest} {slots} s = record {
   marks = s.marks;
   agrees = s.agrees;

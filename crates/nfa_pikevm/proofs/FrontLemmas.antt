@@ -11,13 +11,13 @@ use Rattle.regex_search_core.specs.Search.{Search}
 use Rattle.thompson_nfa.specs.Automaton.{Automaton, Node, LeadsBelow}
 use Rattle.thompson_nfa.specs.Automaton.Node.{ByteRange, Sparse, Dense, Look, Union, BinaryUnion, Capture, Fail, Match}
 use Rattle.nfa_paths.specs.Graphs.{Pair, In}
-use Rattle.nfa_paths.specs.Exploring.{Slots, Found}
+use Rattle.nfa_paths.specs.Exploring.{Slots, Hit}
 use Rattle.nfa_paths.specs.Kinds.{rests, is_resting, NoMatch, first_match, before_match, last_match}
 use Rattle.nfa_paths.specs.Paths.{degree, node_at, slot_of, edges, edges_of, byte_at, target_on, capture, turn_weight, span_len}
 use Rattle.nfa_paths.proofs.ScanAnswerLemmas.{edges-rise}
 use Rattle.nfa_paths.proofs.TurnLemmas.{marked_sum-le}
 use Rattle.nfa_scanning.proofs.TargetLemmas.{target-below, byte_at-within}
-use Rattle.nfa_pikevm.specs.Rows.{Marks}
+use Rattle.nfa_scanning.specs.Marks.{Marks}
 use Rattle.nfa_pikevm.specs.States.{Front, moves, unmarked, one_of, SeenAt, Formed, Paid}
 use Rattle.nfa_pikevm.specs.Scans.{IsPaidAt, scan_turns}
 
@@ -201,19 +201,19 @@ module _ (target : Pair → Bool) where
       ]
 
   -- the last match pair, or what was found before
-  pub last_match-or : (g : Found) (front : Front)
+  pub last_match-or : (g : Hit) (front : Front)
       → last_match target g front ≡ option_or (last_match target None front) g
   last_match-or g [] = refl
   last_match-or g (a ∷ front) = of (target a.0) (last_match-or (Some a) front) (last_match-or g front)
     where
-      some : (o : Found) (h : Found) → option_or (option_or o (Some a)) h ≡ option_or o (Some a)
+      some : (o : Hit) (h : Hit) → option_or (option_or o (Some a)) h ≡ option_or o (Some a)
       some None h = refl
       some (Some b) h = refl
 
       of : (c : Bool) → last_match target (Some a) front ≡ option_or (last_match target None front) (Some a)
           → last_match target g front ≡ option_or (last_match target None front) g
           → last_match target (cond c (Some a) g) front ≡ option_or (last_match target (cond c (Some a) None) front) g
-      of true e f = e ∙ sym (ap (λ (o : Found). option_or o g) e ∙ some (last_match target None front) g)
+      of true e f = e ∙ sym (ap (λ (o : Hit). option_or o g) e ∙ some (last_match target None front) g)
       of false e f = f
 
 -- marks

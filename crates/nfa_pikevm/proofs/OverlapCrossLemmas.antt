@@ -9,7 +9,8 @@ use Rattle.nfa_paths.specs.Paths.{edges}
 use Rattle.nfa_paths.specs.Exploring.{Slots, Item}
 use Rattle.nfa_paths.specs.Exploring.Item.{Explore as ToExplore, Load as ToLoad}
 use Rattle.nfa_paths.specs.Kinds.{before_match}
-use Rattle.nfa_pikevm.specs.Rows.{Marks, Active, items_of}
+use Rattle.nfa_scanning.specs.Marks.{Marks}
+use Rattle.nfa_pikevm.specs.Rows.{Active, items_of}
 use Rattle.nfa_pikevm.specs.States.{Front, moves, tasks, unmarked, Formed, Paid, Follows, Leads}
 use Rattle.nfa_pikevm.specs.Overlapping.{wants, Gathers, GoesPast, rowless, ArrivesInSet, CrossesInSet}
 use Rattle.nfa_pikevm.proofs.OverlapSetLemmas.{Gathers-none, Gathers-then, Gathers-capacity, before-then}

@@ -9,7 +9,7 @@ use Rattle.regex_search_core.specs.declared.search.MatchKind.TheVariants.{Leftmo
 use Rattle.thompson_nfa.specs.Automaton.{Automaton, IsAutomaton}
 use Rattle.nfa_paths.specs.Graphs.{Pair, In}
 use Rattle.nfa_paths.specs.Paths.{edges, capture, starts, pairs_from}
-use Rattle.nfa_paths.specs.Exploring.{Slots, Found, Item, round, seeds}
+use Rattle.nfa_paths.specs.Exploring.{Slots, Hit, Item, round, seeds}
 use Rattle.nfa_paths.specs.Exploring.Item.{Explore as ToExplore, Load as ToLoad}
 use Rattle.nfa_paths.specs.Kinds.{first_match, before_match}
 use Rattle.nfa_paths.specs.Overlaps.{IsOverlapResult}
@@ -20,7 +20,7 @@ use Rattle.nfa_paths.proofs.SearchingLemmas.{Searching-load, Searching-round, Se
 use Rattle.nfa_paths.proofs.ScanningLemmas.{Searching-cut, Searching-wait}
 use Rattle.nfa_paths.proofs.PathToLemmas.{is_false}
 use Rattle.nfa_paths.proofs.OverlapLemmas.{heads, Sound, Sound-start, Sound-hit, Sound-round, Sound-cut, Searched, UpTo, UpTo-next, UpTo-match, UpTo-end}
-use Rattle.nfa_pikevm.specs.Rows.{Marks}
+use Rattle.nfa_scanning.specs.Marks.{Marks}
 use Rattle.nfa_pikevm.specs.Scans.{starts_from, with_start, AreStarts, AreAt, IsPaidAt}
 use Rattle.nfa_pikevm.specs.States.{Front, moves, tasks, unmarked, SearchingAt, Leads}
 use Rattle.nfa_pikevm.specs.Overlapping.{wants, Gathers, GathersFirst, GoesPast, CrossesInSet}
@@ -101,7 +101,7 @@ module _ (nfa : Automaton) (x : Search) (old : List Bool) where
       (new : List Bool) : Type 0 where
     pub states : AreAt nfa items
     pub paid : IsPaidAt nfa x at before met.turns (length items)
-    pub so_far : Found
+    pub so_far : Hit
     pub searching : SearchingAt nfa x at (wants nfa x (length old)) (starts nfa x) [] so_far (unmarked met) []
         (tasks at items (ToLoad [] ∷ starts_from 0 from.state at from.limit)) []
     pub sound : Sound nfa x old (wants nfa x (length old)) (wants-tells nfa x (length old)) at
@@ -113,7 +113,7 @@ module _ (nfa : Automaton) (x : Search) (old : List Bool) where
       → FirstWay from at before met items new → length new ≡ length old
   FirstWay-capacity {at = at} {new = new} w = of w.so_far w.holds
     where
-      of : (g : Found) → UpTo nfa x old (wants nfa x (length old)) (wants-tells nfa x (length old)) at g new
+      of : (g : Hit) → UpTo nfa x old (wants nfa x (length old)) (wants-tells nfa x (length old)) at g new
           → length new ≡ length old
       of None h = ap (λ (l : List Bool). length l) h
       of (Some a) h = h.capacity

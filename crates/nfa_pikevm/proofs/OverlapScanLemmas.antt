@@ -10,7 +10,7 @@ use Rattle.thompson_nfa.specs.Automaton.{Automaton, Node, LeadsBelow, IsAutomato
 use Rattle.thompson_nfa.specs.Automaton.Node.{ByteRange, Sparse, Dense, Look, Union, BinaryUnion, Capture, Fail, Match}
 use Rattle.nfa_paths.specs.Graphs.{Pair, In}
 use Rattle.nfa_paths.specs.Paths.{node_at, degree, edges, edges_of, byte_at, target_on, capture, starts, pairs_from, turn_weight}
-use Rattle.nfa_paths.specs.Exploring.{Slots, Found, Item, Answer, AnswerBehind, Searching, round, seeds}
+use Rattle.nfa_paths.specs.Exploring.{Slots, Hit, Item, ExploresTo, ExploresBehind, Searching, round, seeds}
 use Rattle.nfa_paths.specs.Exploring.Item.{Explore as ToExplore, Load as ToLoad}
 use Rattle.nfa_paths.specs.Kinds.{rests, is_resting, Scanning, IsFront, EndsBefore}
 use Rattle.nfa_paths.specs.Turns.{marked_sum}
@@ -22,7 +22,7 @@ use Rattle.nfa_paths.proofs.ScanLemmas.{EndsBefore-over}
 use Rattle.nfa_paths.proofs.TurnLemmas.{marked_sum-le, marked_sum-clear}
 use Rattle.nfa_paths.proofs.OverlapLemmas.{wanted-shape, resting-capture}
 use Rattle.nfa_scanning.proofs.TargetLemmas.{target-below}
-use Rattle.nfa_pikevm.specs.Rows.{Marks}
+use Rattle.nfa_scanning.specs.Marks.{Marks}
 use Rattle.nfa_pikevm.specs.Scans.{starts_from, with_start, AreStarts, AreAt, IsPaidAt}
 use Rattle.nfa_pikevm.specs.States.{Front, moves, tasks, unmarked, SeenAt, Formed, Leads, one_of}
 use Rattle.nfa_pikevm.specs.Overlapping.{wants, GoesPast, CrossesInSet}
@@ -149,15 +149,15 @@ module _ (nfa : Automaton) (x : Search) where
 
   -- the same work with fewer loads
 
-  module _ (target : Pair → Bool) (left : ℕ) (otherwise : Found) (marks : List Pair) (at : ℕ) (g : Found) where
+  module _ (target : Pair → Bool) (left : ℕ) (otherwise : Hit) (marks : List Pair) (at : ℕ) (g : Hit) where
     answer-edges : (vs : List Pair) (s : Slots) (items : List (ℕ × Slots)) (work rest : List Item) (slots : Slots)
         → ((v : Pair) → In v vs → v.1 ≡ at)
-        → ((after : Slots) → Answer (edges nfa x) target (capture nfa) left otherwise marks (tasks at items work) after
-        g → Answer (edges nfa x) target (capture nfa) left otherwise marks rest s g)
-        → Answer (edges nfa x) target (capture nfa) left otherwise marks
+        → ((after : Slots) → ExploresTo (edges nfa x) target (capture nfa) left otherwise marks (tasks at items work) after
+        g → ExploresTo (edges nfa x) target (capture nfa) left otherwise marks rest s g)
+        → ExploresTo (edges nfa x) target (capture nfa) left otherwise marks
         (tasks at (map (λ v. (v.0, s)) vs ++ items) work) slots g
-        → Answer (edges nfa x) target (capture nfa) left otherwise marks (map ToExplore vs ++ rest) s g
-    unfolding Answer
+        → ExploresTo (edges nfa x) target (capture nfa) left otherwise marks (map ToExplore vs ++ rest) s g
+    unfolding ExploresTo
     answer-edges [] s items work rest slots here next a = next slots a
     answer-edges (v ∷ vs) s items work rest slots here next a =
         let e : v.1 ≡ at = here v (inl refl) in
@@ -170,11 +170,11 @@ module _ (nfa : Automaton) (x : Search) where
 
     pub answer-tasks : (front : Front) (old : Slots) (waiting : List Item) (slots current : Slots)
         → ((a : Pair × Slots) → In a front → (v : Pair) → In v (edges nfa x a.0) → v.1 ≡ at)
-        → Answer (edges nfa x) target (capture nfa) left otherwise marks
+        → ExploresTo (edges nfa x) target (capture nfa) left otherwise marks
         (tasks at (moves (edges nfa x) front) (ToLoad old ∷ waiting)) slots g
-        → Answer (edges nfa x) target (capture nfa) left otherwise marks
+        → ExploresTo (edges nfa x) target (capture nfa) left otherwise marks
         (round (edges nfa x) front (ToLoad old ∷ waiting)) current g
-    unfolding Answer round
+    unfolding ExploresTo round
     answer-tasks [] old waiting slots current here a = a
     answer-tasks (b ∷ front) old waiting slots current here a =
         answer-edges (edges nfa x b.0) b.1 (moves (edges nfa x) front) (ToLoad old ∷ waiting)
@@ -182,14 +182,14 @@ module _ (nfa : Automaton) (x : Search) where
         (here b (inl refl)) (λ after h. answer-tasks front old waiting after b.1 (λ c i. here c (inr i)) h) a
 
   -- the same of a search under way
-  pub round-tasks : (target : Pair → Bool) {goal : Found → ℕ → Type 0} {Seen : Pair → Type 0} {spent : ℕ}
-      {otherwise : Found} (at : ℕ) (front : Front) (old : Slots) (waiting : List Item)
+  pub round-tasks : (target : Pair → Bool) {goal : Hit → ℕ → Type 0} {Seen : Pair → Type 0} {spent : ℕ}
+      {otherwise : Hit} (at : ℕ) (front : Front) (old : Slots) (waiting : List Item)
       (current slots : Slots) → ((a : Pair × Slots) → In a front → (v : Pair) → In v (edges nfa x a.0) → v.1 ≡ at)
       → Searching (edges nfa x) target (capture nfa) goal Seen spent [] otherwise
       (round (edges nfa x) front (ToLoad old ∷ waiting)) current
       → Searching (edges nfa x) target (capture nfa) goal Seen spent [] otherwise
       (tasks at (moves (edges nfa x) front) (ToLoad old ∷ waiting)) slots
-  unfolding AnswerBehind
+  unfolding ExploresBehind
   round-tasks target {otherwise = otherwise} at front old waiting current slots here h = record {
     marks = h.marks;
     agrees = h.agrees;
@@ -200,10 +200,10 @@ module _ (nfa : Automaton) (x : Search) where
   -- a search from some starts, after as many turns as were taken before it
   pub fresh-search : (target : Pair → Bool) (at : ℕ) (met : Marks) (from : List Pair)
       → Searching (edges nfa x) target (capture nfa)
-      (λ g total. Answer (edges nfa x) target (capture nfa) total None [] (map ToExplore from) [] g)
+      (λ g total. ExploresTo (edges nfa x) target (capture nfa) total None [] (map ToExplore from) [] g)
       (SeenAt at (unmarked met).bits) met.turns [] None
       (ToLoad [] ∷ seeds [] from) []
-  unfolding Answer AnswerBehind
+  unfolding ExploresTo ExploresBehind
   fresh-search target at met from = record {
     marks = [];
     agrees = λ v. (λ i. absurd i, λ s. absurd (unseen at met v s));

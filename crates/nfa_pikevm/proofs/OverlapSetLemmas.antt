@@ -9,7 +9,7 @@ use Rattle.regex_search_core.specs.Search.{Search}
 use Rattle.thompson_nfa.specs.Automaton.{Automaton}
 use Rattle.nfa_paths.specs.Graphs.{Pair, In}
 use Rattle.nfa_paths.specs.Paths.{node_at, pattern_of, is_match, is_utf8_empty}
-use Rattle.nfa_paths.specs.Exploring.{Slots, Found}
+use Rattle.nfa_paths.specs.Exploring.{Slots, Hit}
 use Rattle.nfa_paths.specs.Kinds.{HoldsMatch, NoMatch, first_match, before_match}
 use Rattle.nfa_paths.specs.Overlaps.{pattern_at, IsPermittedEnd, IsHeld}
 use Rattle.nfa_paths.proofs.OverlapLemmas.{holds-with, length-with}
@@ -152,7 +152,7 @@ module _ (nfa : Automaton) (wanted : Pair → Bool) where
   Gathers-capacity true front old met new g = g.capacity
   Gathers-capacity false front old met new g = of (first_match wanted front) g
     where
-      of : (o : Found) → GathersFirst nfa o old met new → length new ≡ length old
+      of : (o : Hit) → GathersFirst nfa o old met new → length new ≡ length old
       of None h = ap (λ (l : List Bool). length l) h.1
       of (Some a) h = ap (λ (l : List Bool). length l) h.1.2 ∙ length-with old h.1.0
 
@@ -196,7 +196,7 @@ module _ (nfa : Automaton) (wanted : Pair → Bool) where
       → first_match wanted front ≡ None
   first-none front set new = of (first_match wanted front)
     where
-      of : (o : Found) → GathersFirst nfa o set false new → o ≡ None
+      of : (o : Hit) → GathersFirst nfa o set false new → o ≡ None
       of None h = refl
       of (Some a) h = let never : false ≡ true = h.0 in cc
 
@@ -270,7 +270,7 @@ module _ (nfa : Automaton) (wanted : Pair → Bool) where
       let still : mid ≡ old = (let at : GathersFirst nfa None old false mid = rw none at first in at.1) in
       rw (first-append f g none) (of (first_match wanted g) k off (rw still at b))
     where
-      of : (o : Found) (k : Bool) → h ≡ false → GathersFirst nfa o old k new → GathersFirst nfa o old (k || h) new
+      of : (o : Hit) (k : Bool) → h ≡ false → GathersFirst nfa o old k new → GathersFirst nfa o old (k || h) new
       of None true off w = let never : true ≡ false = w.0 in cc
       of None false off w = (off, w.1)
       of (Some c) true off w = w

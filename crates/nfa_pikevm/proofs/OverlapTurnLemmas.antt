@@ -16,8 +16,9 @@ use Rattle.nfa_paths.specs.Kinds.{NoMatch, before_match}
 use Rattle.nfa_paths.proofs.AnswerLemmas.{IsMatch-edges}
 use Rattle.nfa_paths.proofs.SearchLemmas.{Answer-load, AnswerBehind-along}
 use Rattle.nfa_paths.proofs.SearchingLemmas.{Searching-load}
-use Rattle.nfa_pikevm.specs.Rows.{Marks, Active}
-use Rattle.nfa_pikevm.specs.States.{Front, moves, work_onto, with_state, Finds, Formed, Paid, Follows}
+use Rattle.nfa_scanning.specs.Marks.{Marks}
+use Rattle.nfa_pikevm.specs.Rows.{Active}
+use Rattle.nfa_pikevm.specs.States.{Front, moves, work_onto, with_state, FindsMatch, Formed, Paid, Follows}
 use Rattle.nfa_pikevm.specs.Overlapping.{permits, wants, Gathers, ArrivesInSet}
 use Rattle.nfa_pikevm.specs.declared.frame.FollowEpsilon.{FollowEpsilon}
 use Rattle.nfa_pikevm.proofs.OverlapSetLemmas.{wants-match, wants-here, Gathers-none, Gathers-one, Gathers-then, Gathers-capacity, before-none, before-then}
@@ -191,7 +192,7 @@ module _ (nfa : Automaton) (x : Search) (at : ℕ) where
       -- what comes up to a match adds its front
       Arriving-then : {after : Marks} {more : List (ℕ × Slots)} {above : List FollowEpsilon} {written : Slots}
           {one : Option PatternID} {gathered : List Bool} {now : Bool}
-          → (h : Finds nfa x at sid middle kept stack [] one after more above written) → length written ≡ 0
+          → (h : FindsMatch nfa x at sid middle kept stack [] one after more above written) → length written ≡ 0
           → MoveInSet past h.front mid hit gathered now
           → Arriving past s met items set now None after more above gathered
       Arriving-then {after} {above = above} {written} {gathered = gathered} h empty t = record {
@@ -222,14 +223,14 @@ module _ (nfa : Automaton) (x : Search) (at : ℕ) where
 
       -- no match comes
       pub Arriving-plain : {after : Marks} {more : List (ℕ × Slots)} {above : List FollowEpsilon} {written : Slots}
-          → Finds nfa x at sid middle kept stack [] None after more above written → length written ≡ 0
+          → FindsMatch nfa x at sid middle kept stack [] None after more above written → length written ≡ 0
           → Arriving past s met items set hit None after more above mid
       Arriving-plain h empty = Arriving-then h empty (turn-plain past h.front mid hit mid hit h.ends refl refl)
 
       -- a match comes, which counts or not
       pub Arriving-match : {after : Marks} {more : List (ℕ × Slots)} {above : List FollowEpsilon} {written : Slots}
           {pattern : PatternID} {gathered : List Bool} {now : Bool}
-          → Finds nfa x at sid middle kept stack [] (Some pattern) after more above written → length written ≡ 0
+          → FindsMatch nfa x at sid middle kept stack [] (Some pattern) after more above written → length written ≡ 0
           → (permitted : Bool) → permitted ≡ permits nfa x at
           → ((permitted && nat_lt (number_of pattern) (length mid)) ≡ false → gathered ≡ mid)
           → ((permitted && nat_lt (number_of pattern) (length mid)) ≡ true

@@ -6,7 +6,8 @@ use Rattle.std.proofs.lemmas.List.Elements.{All-push, All-nil}
 use Rattle.regex_search_core.specs.Search.{Search}
 use Rattle.thompson_nfa.specs.Automaton.{Automaton}
 use Rattle.nfa_paths.specs.Exploring.{Slots}
-use Rattle.nfa_pikevm.specs.Rows.{Marks, Active}
+use Rattle.nfa_scanning.specs.Marks.{Marks}
+use Rattle.nfa_pikevm.specs.Rows.{Active}
 use Rattle.nfa_pikevm.specs.Scans.{blank, with_start, HasThreads, Sizes, AreSized, AreStarts, Joins, AreAt}
 use Rattle.nfa_pikevm.specs.declared.scan.Starts.{Starts}
 

@@ -7,7 +7,8 @@ use Rattle.std.proofs.lemmas.List.{take-take, take-append-le, drop-append-le, dr
 use Rattle.std.proofs.lemmas.List.Elements.{All-head, All-tail}
 use Rattle.nfa_paths.specs.Exploring.{Slots}
 use Rattle.std.proofs.Math.Nat.{mul-le-mul_right}
-use Rattle.nfa_pikevm.specs.Rows.{Marks, Active, items_of, marks_of}
+use Rattle.nfa_scanning.specs.Marks.{Marks}
+use Rattle.nfa_pikevm.specs.Rows.{Active, items_of, marks_of}
 
 -- one more times the width
 times-suc : (n width : ℕ) → suc n * width ≡ width + n * width

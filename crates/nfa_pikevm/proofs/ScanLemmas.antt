@@ -8,7 +8,7 @@ use Rattle.regex_search_core.specs.declared.primitives.PatternID.{PatternID}
 use Rattle.regex_search_core.specs.declared.search.HalfMatch.{HalfMatch}
 use Rattle.thompson_nfa.specs.Automaton.{Automaton, LeadsBelow}
 use Rattle.nfa_paths.specs.Graphs.{Pair, In}
-use Rattle.nfa_paths.specs.Exploring.{Item, Slots, Found, round}
+use Rattle.nfa_paths.specs.Exploring.{Item, Slots, Hit, round}
 use Rattle.nfa_paths.specs.Exploring.Item.{Explore, Load}
 use Rattle.nfa_paths.specs.Kinds.{first_match, before_match}
 use Rattle.nfa_paths.specs.Paths.{edges, is_match, capture, starts}
@@ -17,7 +17,7 @@ use Rattle.nfa_paths.proofs.ScanAnswerLemmas.{edges-onward, seeds-later}
 use Rattle.nfa_paths.proofs.ScanningLemmas.{Searching-cut, Searching-wait, Searching-cut_round}
 use Rattle.nfa_paths.proofs.SearchingLemmas.{Searching-round}
 use Rattle.nfa_paths.proofs.PathToLemmas.{is_false}
-use Rattle.nfa_pikevm.specs.Rows.{Marks}
+use Rattle.nfa_scanning.specs.Marks.{Marks}
 use Rattle.nfa_pikevm.specs.States.{Front, moves, tasks, unmarked, GoesOn, SeenAt, SearchingAt, Crosses}
 use Rattle.nfa_pikevm.specs.Scans.{blank, starts_from, half_found, AreAt, IsSoFar, SearchesFirst}
 use Rattle.nfa_pikevm.proofs.TaskLemmas.{starts_from-end, AnswersFor, AnswersFor-round, Searching-for}
@@ -47,7 +47,7 @@ module _ (nfa : Automaton) (x : Search) (at width state limit : ℕ) where
   -- the first path
 
   module _ {met : Marks} {items : List (ℕ × Slots)} {slots : Slots} {hit : Option PatternID} {after : Marks}
-      {kept : List (ℕ × Slots)} {written : Slots} {so_far : Found}
+      {kept : List (ℕ × Slots)} {written : Slots} {so_far : Hit}
       (c : Crosses nfa x at false met items slots hit after kept written)
       (s : SearchingAt nfa x at (is_match nfa) (starts nfa x) (blank width) so_far (unmarked met) []
       (tasks at items (Load (blank width) ∷ starts_from width state (at + 1) limit)) (blank width)) where
@@ -113,7 +113,7 @@ module _ (nfa : Automaton) (x : Search) (at width state limit : ℕ) where
 module _ (nfa : Automaton) (x : Search) (at width state limit : ℕ) where
   -- a position with no match
   pub SearchesFirst-miss : {met : Marks} {items : List (ℕ × Slots)} {slots : Slots} {hit : Option PatternID}
-      {after : Marks} {kept : List (ℕ × Slots)} {written : Slots} {so_far : Found} {found : Option HalfMatch}
+      {after : Marks} {kept : List (ℕ × Slots)} {written : Slots} {so_far : Hit} {found : Option HalfMatch}
       → (c : Crosses nfa x at false met items slots hit after kept written)
       → SearchingAt nfa x at (is_match nfa) (starts nfa x) (blank width) so_far (unmarked met) []
       (tasks at items (Load (blank width) ∷ starts_from width state (at + 1) limit)) (blank width)
@@ -129,7 +129,7 @@ module _ (nfa : Automaton) (x : Search) (at width state limit : ℕ) where
 
   -- a position with a match: no start is left
   pub SearchesFirst-hit : {met : Marks} {items : List (ℕ × Slots)} {slots : Slots} {hit : Option PatternID}
-      {after : Marks} {kept : List (ℕ × Slots)} {written : Slots} {so_far : Found}
+      {after : Marks} {kept : List (ℕ × Slots)} {written : Slots} {so_far : Hit}
       → (c : Crosses nfa x at false met items slots hit after kept written)
       → SearchingAt nfa x at (is_match nfa) (starts nfa x) (blank width) so_far (unmarked met) []
       (tasks at items (Load (blank width) ∷ starts_from width state (at + 1) limit)) (blank width)

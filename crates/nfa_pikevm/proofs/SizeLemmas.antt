@@ -6,7 +6,8 @@ use Rattle.std.proofs.lemmas.List.Sums.{sum_by_more_le}
 use Rattle.thompson_nfa.specs.Automaton.{node_of}
 use Rattle.thompson_nfa.specs.declared.state.State.{State}
 use Rattle.nfa_pikevm.specs.Engines.{room_of}
-use Rattle.nfa_pikevm.specs.Rows.{Marks, Active}
+use Rattle.nfa_scanning.specs.Marks.{Marks}
+use Rattle.nfa_pikevm.specs.Rows.{Active}
 use Rattle.nfa_pikevm.specs.Scans.{Sizes, AreSized}
 use Rattle.nfa_pikevm.specs.Sizes.{sizes_for, IsRoomFor}
 

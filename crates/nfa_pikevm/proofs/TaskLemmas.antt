@@ -4,7 +4,7 @@ use Rattle.std.specs.Prelude.{Option, None}
 use Rattle.std.proofs.lemmas.Bool.{cases_lt, lt-ltb, le-ltb}
 use Rattle.nfa_paths.specs.Graphs.{Pair, In}
 use Rattle.nfa_paths.specs.FirstPaths.{IsFirst}
-use Rattle.nfa_paths.specs.Exploring.{Item, Slots, Found, Answer, AnswerBehind, Searching, round, seeds}
+use Rattle.nfa_paths.specs.Exploring.{Item, Slots, Hit, ExploresTo, ExploresBehind, Searching, round, seeds}
 use Rattle.nfa_paths.specs.Exploring.Item.{Explore, Load}
 use Rattle.nfa_paths.proofs.SearchLemmas.{Answer-more, Answer-seeds, AnswerBehind-along}
 use Rattle.nfa_paths.proofs.AnswerLemmas.{pairs_from-step, pairs_from-end}
@@ -66,15 +66,15 @@ tasks-joined starts width at items =
 -- Whatever the work `less` answers, `more` answers too; and what is loaded before does not matter to either.
 pub record AnswersFor (edges : Pair → List Pair) (target : Pair → Bool) (capture : Pair → Option ℕ)
     (more less : List Item) : Type 0 where
-  pub back : (left : ℕ) (otherwise : Found) (marks : List Pair) (slots after : Slots) (g : Found)
-      → Answer edges target capture left otherwise marks less after g
-      → Answer edges target capture left otherwise marks more slots g
+  pub back : (left : ℕ) (otherwise : Hit) (marks : List Pair) (slots after : Slots) (g : Hit)
+      → ExploresTo edges target capture left otherwise marks less after g
+      → ExploresTo edges target capture left otherwise marks more slots g
 
 module _ (edges : Pair → List Pair) (target : Pair → Bool) (capture : Pair → Option ℕ) where
   -- work that loads slots first answers for itself
   pub AnswersFor-same : (old : Slots) (work : List Item)
       → AnswersFor edges target capture (Load old ∷ work) (Load old ∷ work)
-  unfolding Answer
+  unfolding ExploresTo
   AnswersFor-same old work = record { back = λ left otherwise marks slots after g h. h }
 
   -- one after the other
@@ -88,7 +88,7 @@ module _ (edges : Pair → List Pair) (target : Pair → Bool) (capture : Pair �
   -- slots that are loaded in vain
   pub AnswersFor-load : {a b : List Item} (old : Slots) → AnswersFor edges target capture a b
       → AnswersFor edges target capture (Load old ∷ a) b
-  unfolding Answer
+  unfolding ExploresTo
   AnswersFor-load old f = record {
     back = λ left otherwise marks slots after g h.
         f.back left otherwise marks old after g h;
@@ -97,7 +97,7 @@ module _ (edges : Pair → List Pair) (target : Pair → Bool) (capture : Pair �
   -- below one more state
   pub AnswersFor-item : {a b : List Item} (old : Slots) (v : Pair) → AnswersFor edges target capture a b
       → AnswersFor edges target capture (Load old ∷ Explore v ∷ a) (Load old ∷ Explore v ∷ b)
-  unfolding Answer
+  unfolding ExploresTo
   AnswersFor-item old v f = record {
     back = λ left otherwise marks slots after g h.
         elim h [ inl k ↦ inl k | inr k ↦ inr (k.0, f.back left otherwise marks old old g k.1) ];
@@ -113,7 +113,7 @@ module _ (edges : Pair → List Pair) (target : Pair → Bool) (capture : Pair �
   pub AnswersFor-dead : (slots : Slots) (v : Pair) (work : List Item)
       → ((marks : List Pair) → IsFirst edges target marks v None)
       → AnswersFor edges target capture (Load slots ∷ Explore v ∷ Load slots ∷ work) (Load slots ∷ work)
-  unfolding Answer
+  unfolding ExploresTo
   AnswersFor-dead slots v work dead = record { back = λ left otherwise marks s after g h. inr (dead marks, h) }
 
   -- what was put aside, as the states of the next position
@@ -131,8 +131,8 @@ module _ (edges : Pair → List Pair) (target : Pair → Bool) (capture : Pair �
       ]
 
   -- the search goes on with the work that answers for what was left
-  pub Searching-for : {goal : Found → ℕ → Type 0} {Seen : Pair → Type 0} {spent : ℕ} {front : List (Pair × Slots)}
-      {otherwise : Found} {more less : List Item} {slots : Slots}
+  pub Searching-for : {goal : Hit → ℕ → Type 0} {Seen : Pair → Type 0} {spent : ℕ} {front : List (Pair × Slots)}
+      {otherwise : Hit} {more less : List Item} {slots : Slots}
       → Searching edges target capture goal Seen spent front otherwise more slots
       → AnswersFor edges target capture more less → (after : Slots)
       → Searching edges target capture goal Seen spent front otherwise less after
@@ -147,8 +147,8 @@ module _ (edges : Pair → List Pair) (target : Pair → Bool) (capture : Pair �
   }
 
   -- other words for what is seen
-  pub Searching-seen : {goal : Found → ℕ → Type 0} {Seen : Pair → Type 0} {spent : ℕ} {front : List (Pair × Slots)}
-      {otherwise : Found} {work : List Item} {slots : Slots}
+  pub Searching-seen : {goal : Hit → ℕ → Type 0} {Seen : Pair → Type 0} {spent : ℕ} {front : List (Pair × Slots)}
+      {otherwise : Hit} {work : List Item} {slots : Slots}
       → Searching edges target capture goal Seen spent front otherwise work slots → (After : Pair → Type 0)
       → ((v : Pair) → Seen v ↔ After v)
       → Searching edges target capture goal After spent front otherwise work slots
@@ -159,11 +159,11 @@ module _ (edges : Pair → List Pair) (target : Pair → Bool) (capture : Pair �
   }
 
   -- a search begins, where some turns were taken before
-  pub Searching-begin : (Seen : Pair → Type 0) (spent : ℕ) (otherwise : Found) (starts : List Pair)
+  pub Searching-begin : (Seen : Pair → Type 0) (spent : ℕ) (otherwise : Hit) (starts : List Pair)
       (slots current : Slots) → ((v : Pair) → Seen v → ⊥)
-      → Searching edges target capture (λ g total. Answer edges target capture total otherwise [] (map Explore starts)
+      → Searching edges target capture (λ g total. ExploresTo edges target capture total otherwise [] (map Explore starts)
       slots g) Seen spent [] otherwise (Load slots ∷ seeds slots starts) current
-  unfolding Answer AnswerBehind
+  unfolding ExploresTo ExploresBehind
   Searching-begin Seen spent otherwise starts slots current fresh = record {
     marks = [];
     agrees = λ v. (λ i. absurd i, λ s. absurd (fresh v s));

@@ -5,11 +5,11 @@ use Rattle.regex_search_core.specs.Search.{Search, search_of}
 use Rattle.thompson_nfa.specs.Automaton.{Automaton}
 use Rattle.nfa_paths.specs.Graphs.{Pair}
 use Rattle.nfa_paths.specs.Paths.{edges, is_utf8_empty}
-use Rattle.nfa_paths.specs.Exploring.{Slots, Found, Item}
+use Rattle.nfa_paths.specs.Exploring.{Slots, Hit, Item}
 use Rattle.nfa_paths.specs.Exploring.Item.{Explore as ToExplore, Load as ToLoad}
 use Rattle.nfa_paths.specs.Kinds.{HoldsMatch, first_match, before_match}
 use Rattle.nfa_paths.specs.Overlaps.{HoldsPattern, pattern_at}
-use Rattle.nfa_pikevm.specs.Rows.{Marks}
+use Rattle.nfa_scanning.specs.Marks.{Marks}
 use Rattle.nfa_pikevm.specs.States.{Front, moves, tasks, unmarked, Formed, Paid, Leads}
 use Rattle.nfa_pikevm.specs.declared.closure.Here.{Here}
 use Rattle.nfa_pikevm.specs.declared.closure.Reached.{Reached}
@@ -44,7 +44,7 @@ pub record GathersAll (nfa : Automaton) (wanted : Pair → Bool) (front : Front)
   pub none : met ≡ false → (k : ℕ) → k < length old → HoldsMatch wanted (pattern_at nfa) k front → ⊥
 
 -- the pattern of the first wanted pair is put into the set, if there is one
-abbrev pub GathersFirst : Automaton → Found → List Bool → Bool → List Bool → Type 0
+abbrev pub GathersFirst : Automaton → Hit → List Bool → Bool → List Bool → Type 0
 GathersFirst nfa None old met new = (met ≡ false) × (new ≡ old)
 GathersFirst nfa (Some a) old met new = (met ≡ true)
     × ((k : ℕ) × (pattern_at nfa a.0 ≡ Some k) × (new ≡ with_pattern old k))

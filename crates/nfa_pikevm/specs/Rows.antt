@@ -3,18 +3,13 @@ use Rattle.std.specs.Prelude.{ℕ, ◌-◌, ◌^◌, ◌==◌, Bool, List, [], �
 use Rattle.nfa_paths.specs.Exploring.{Slots}
 
 -- the offset that a slot of a row holds: the greatest `usize` stands for none
-abbrev pub slot_of : ℕ → Option ℕ
-slot_of raw = cond (raw == 2 ^ 64 - 1) None (Some raw)
+abbrev pub offset_of : ℕ → Option ℕ
+offset_of raw = cond (raw == 2 ^ 64 - 1) None (Some raw)
 
 -- how a row holds an offset, or none
 abbrev pub raw_of : Option ℕ → ℕ
 raw_of None = 2 ^ 64 - 1
 raw_of (Some offset) = offset
-
--- which states are marked at a position, and how often one was tried to be
-pub record Marks : Type 0 where
-  pub bits : List Bool
-  pub turns : ℕ
 
 -- the states that are kept, each with its row, the cells of a row, for how many states there is room, and the cells of
 -- all rows

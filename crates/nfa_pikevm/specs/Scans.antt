@@ -6,12 +6,13 @@ use Rattle.regex_search_core.specs.Search.{Search}
 use Rattle.regex_search_core.specs.declared.search.HalfMatch.{HalfMatch}
 use Rattle.thompson_nfa.specs.Automaton.{Automaton, LeadsBelow}
 use Rattle.nfa_paths.specs.Paths.{node_at, pattern_of, edges, is_match, capture, starts, pairs_from, turn_weight}
-use Rattle.nfa_paths.specs.Exploring.{Slots, Found, Item, seeds}
+use Rattle.nfa_paths.specs.Exploring.{Slots, Hit, Item, seeds}
 use Rattle.nfa_paths.specs.Exploring.Item.{Load}
 use Rattle.nfa_paths.specs.Kinds.{Scanning}
 pub use Rattle.nfa_paths.specs.Restarts.{scan_turns}
 use Rattle.nfa_scanning.specs.FirstBytes.{IsRefused}
-use Rattle.nfa_pikevm.specs.Rows.{Marks, Active}
+use Rattle.nfa_scanning.specs.Marks.{Marks}
+use Rattle.nfa_pikevm.specs.Rows.{Active}
 use Rattle.nfa_pikevm.specs.Engines.{room_of}
 use Rattle.nfa_pikevm.specs.declared.scan.Starts.{Starts}
 use Rattle.nfa_pikevm.specs.declared.threads.Threads.{Threads}
@@ -114,7 +115,7 @@ pub record AreAt (nfa : Automaton) (items : List (ℕ × Slots)) : Type 0 where
 
 module _ (nfa : Automaton) (x : Search) where
   -- the match that was found so far, and where it ends: none, and no slot set; or one, and its slots
-  abbrev pub IsSoFar : Option HalfMatch → Slots → Found → Type 0
+  abbrev pub IsSoFar : Option HalfMatch → Slots → Hit → Type 0
   IsSoFar None slots g = (g ≡ None) × (slots ≡ blank (length slots))
   IsSoFar (Some half) slots g =
       (state : ℕ) × (g ≡ Some ((state, (half_found_of half).offset), slots))
@@ -131,7 +132,7 @@ module _ (nfa : Automaton) (x : Search) where
   -- The search for the first path, at a position where it has followed no state yet.
   pub record SearchesFirst (at width start limit : ℕ) (found : Option HalfMatch) (slots : Slots) (met : Marks)
       (items : List (ℕ × Slots)) : Type 0 where
-    pub so_far : Found
+    pub so_far : Hit
     pub is_so_far : IsSoFar found slots so_far
     pub searching : SearchingAt nfa x at (is_match nfa) (starts nfa x) (blank width) so_far (unmarked met) []
         (tasks at items (Load (blank width) ∷ starts_from width start at limit)) (blank width)

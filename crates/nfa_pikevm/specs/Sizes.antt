@@ -2,7 +2,8 @@
 use Rattle.std.specs.Prelude.{◌≡◌, ◌⊎◌, ℕ, ◌+◌, ◌*◌, ◌^◌, ◌≤◌, length}
 use Rattle.regex_search_core.specs.Groups.{slot_count}
 use Rattle.thompson_nfa.specs.Automaton.{Automaton}
-use Rattle.nfa_pikevm.specs.Rows.{Marks, Active}
+use Rattle.nfa_scanning.specs.Marks.{Marks}
+use Rattle.nfa_pikevm.specs.Rows.{Active}
 use Rattle.nfa_pikevm.specs.Engines.{stack_places}
 use Rattle.nfa_pikevm.specs.Scans.{Sizes, AreSized}
 use Rattle.nfa_pikevm.specs.declared.sizes.Size.{Size}

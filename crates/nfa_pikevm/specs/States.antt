@@ -8,11 +8,11 @@ use Rattle.regex_search_core.specs.declared.primitives.PatternID.{PatternID}
 use Rattle.thompson_nfa.specs.Automaton.{Automaton, Node}
 use Rattle.nfa_paths.specs.Graphs.{Pair, NoRepeats}
 use Rattle.nfa_paths.specs.Paths.{degree, node_at, pattern_of, edges, is_match, capture, byte_at}
-use Rattle.nfa_paths.specs.Exploring.{Slots, Found, Item, Answer, Searching}
+use Rattle.nfa_paths.specs.Exploring.{Slots, Hit, Item, ExploresTo, Searching}
 use Rattle.nfa_paths.specs.Exploring.Item.{Explore as ToExplore, Restore as ToRestore, Load as ToLoad}
 use Rattle.nfa_paths.specs.Kinds.{rests, first_match, before_match, last_match, NoMatch}
 use Rattle.nfa_paths.specs.Turns.{marked_sum}
-use Rattle.nfa_pikevm.specs.Rows.{Marks}
+use Rattle.nfa_scanning.specs.Marks.{Marks}
 use Rattle.nfa_pikevm.specs.Engines.{room_of}
 use Rattle.nfa_pikevm.specs.declared.closure.Here.{Here}
 use Rattle.nfa_pikevm.specs.declared.closure.Move.{Move}
@@ -110,11 +110,11 @@ abbrev pub one_of : Node → ℕ
 one_of node = 1
 
 -- the match of a front that is meant: the first one, or with `past` the last
-abbrev pub meant : Bool → (Pair → Bool) → Front → Found
+abbrev pub meant : Bool → (Pair → Bool) → Front → Hit
 meant past is_match front = cond past (last_match is_match None front) (first_match is_match front)
 
 -- what comes of a position: no match, and the slots as before; or a match of the pattern, and its slots
-abbrev pub IsHit : Automaton → Found → Slots → Option PatternID → Slots → Type 0
+abbrev pub IsHit : Automaton → Hit → Slots → Option PatternID → Slots → Type 0
 IsHit nfa g before None after = (g ≡ None) × (after ≡ before)
 IsHit nfa g before (Some pattern) after = (v : Pair) × (g ≡ Some (v, after))
     × (pattern_of (node_at nfa v.0) ≡ Some (number_of pattern))
@@ -162,17 +162,17 @@ pub record KeepsRoom (old new : Reached) : Type 0 where
 module _ (nfa : Automaton) (x : Search) where
   -- the search for a set of match pairs, from these starts and with these slots, with such states met and such a front
   -- at position `at`
-  abbrev pub SearchingAt : ℕ → (Pair → Bool) → List Pair → Slots → Found → Marks → Front → List Item → Slots → Type 0
+  abbrev pub SearchingAt : ℕ → (Pair → Bool) → List Pair → Slots → Hit → Marks → Front → List Item → Slots → Type 0
   SearchingAt at target starts entry otherwise met front work slots =
       Searching (edges nfa x) target (capture nfa)
-      (λ g total. Answer (edges nfa x) target (capture nfa) total None [] (map ToExplore starts) entry g)
+      (λ g total. ExploresTo (edges nfa x) target (capture nfa) total None [] (map ToExplore starts) entry g)
       (SeenAt at met.bits) met.turns front otherwise work slots
 
   -- The search for any set of match pairs goes on from the state after as it did from the state before.
   pub record Follows (at : ℕ) (met : Marks) (front : Front) (work : List Item) (slots : Slots)
       (after : Marks) (more : Front) (rest : List Item) (written : Slots) : Type 0 where
     pub leads : (target : Pair → Bool) → AreMatchPairs nfa target
-        → (starts : List Pair) (entry : Slots) (otherwise : Found)
+        → (starts : List Pair) (entry : Slots) (otherwise : Hit)
         → SearchingAt at target starts entry otherwise met front work slots
         → SearchingAt at target starts entry otherwise after more rest written
 
@@ -197,19 +197,19 @@ module _ (nfa : Automaton) (x : Search) where
         after (before ++ front) (with_state at (state_on turn) (work_onto at above (ToLoad old ∷ work))) written
 
   -- the front ends with this match, and holds no other; or it holds none
-  abbrev pub EndsWith : ℕ → Slots → Option PatternID → Front → Type 0
-  EndsWith at slots None front = NoMatch (is_match nfa) front
-  EndsWith at slots (Some pattern) front = (before : Front) × (s : ℕ) × NoMatch (is_match nfa) before
+  abbrev pub EndsInMatch : ℕ → Slots → Option PatternID → Front → Type 0
+  EndsInMatch at slots None front = NoMatch (is_match nfa) front
+  EndsInMatch at slots (Some pattern) front = (before : Front) × (s : ℕ) × NoMatch (is_match nfa) before
       × (front ≡ before ++ ((s, at), slots) ∷ []) × (pattern_of (node_at nfa s) ≡ Some (number_of pattern))
 
   -- What comes of turns from a state on up to the next match, if there is one: the front that they add, which ends with
   -- it, and what is left on the stack.
-  pub record Finds (at s : ℕ) (met : Marks) (items : List (ℕ × Slots)) (stack : List FollowEpsilon) (slots : Slots)
+  pub record FindsMatch (at s : ℕ) (met : Marks) (items : List (ℕ × Slots)) (stack : List FollowEpsilon) (slots : Slots)
       (hit : Option PatternID) (after : Marks) (kept : List (ℕ × Slots)) (above : List FollowEpsilon)
       (written : Slots) : Type 0 where
     pub front : Front
     pub added : kept ≡ items ++ moves (edges nfa x) front
-    pub ends : EndsWith at written hit front
+    pub ends : EndsInMatch at written hit front
     pub formed : (before : Front) → Formed nfa at met.bits before → Formed nfa at after.bits (before ++ front)
     pub follows : (before : Front) (old : Slots) (work : List Item)
         → Follows at met before (ToExplore (s, at) ∷ work_onto at stack (ToLoad old ∷ work)) slots
@@ -272,7 +272,7 @@ EntersHere here s old stack slots turn new above written =
 abbrev pub FindsHere : Here → ℕ → Reached → List FollowEpsilon → Slots → Option PatternID → Reached
     → List FollowEpsilon → Slots → Type 0
 FindsHere here s old stack slots hit new above written =
-    Finds here.nfa.now (search_of here.input.now) here.at s old.seen old.next.items stack slots hit new.seen
+    FindsMatch here.nfa.now (search_of here.input.now) here.at s old.seen old.next.items stack slots hit new.seen
     new.next.items above written
 
 abbrev pub ArrivesHere : Here → ℕ → Reached → Slots → Slots → Option PatternID → Reached → Slots → Type 0

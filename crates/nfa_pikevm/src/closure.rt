@@ -4,7 +4,7 @@ ghost use Rattle.std.specs.List.{sum_by};
 ghost use Rattle.regex_search_core.specs.Search.{Search, search_of};
 ghost use Rattle.thompson_nfa.specs.Automaton.{Automaton};
 ghost use Rattle.nfa_paths.specs.Exploring.{Item};
-ghost use Rattle.nfa_pikevm.specs.Rows.{Marks};
+ghost use Rattle.nfa_scanning.specs.Marks.{Marks};
 ghost use Rattle.nfa_pikevm.specs.States.{Front, work_onto, with_state, tries, tries_of, state_on, undone, state_of, HasSlot, IsBelow, IsWithin, Follows, IsHere, KeepsRoom, HasRoomHere, AreWithinHere, PaidHere, EntersHere, FindsHere, ArrivesHere};
 ghost use Rattle.nfa_pikevm.specs.declared.frame.FollowEpsilon.TheVariants.{Explore, Restore};
 

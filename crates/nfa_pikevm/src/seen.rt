@@ -19,7 +19,8 @@ pub struct Seen {
 
 impl Model for Seen {
     ghost use Rattle.std.specs.Prelude.{All, ◌≤◌, ◌<◌};
-    ghost use Rattle.nfa_pikevm.specs.Rows.{Marks, marks_of};
+    ghost use Rattle.nfa_scanning.specs.Marks.{Marks};
+    ghost use Rattle.nfa_pikevm.specs.Rows.{marks_of};
 
     ghost Value = { Marks };
 

@@ -16,11 +16,11 @@ pub struct Slot(usize);
 
 impl Model for Slot {
     ghost use Rattle.std.specs.Prelude.{ℕ, Option};
-    ghost use Rattle.nfa_pikevm.specs.Rows.{slot_of, raw_of};
+    ghost use Rattle.nfa_pikevm.specs.Rows.{offset_of, raw_of};
 
     ghost Value = { Option ℕ };
 
-    ghost view = { λ s. slot_of s.0 };
+    ghost view = { λ s. offset_of s.0 };
 
     ghost inverse = { λ o. record { 0 = raw_of o } };
 }

@@ -21,7 +21,7 @@ use Rattle.nfa_search_base.specs.CaughtLists.{IsRow, TellsRow, AreFirstRows, Are
 use Rattle.nfa_search_base.specs.Items.{Item, matches_in, greedy}
 use Rattle.nfa_search_base.specs.Lists.{IsStep, Fails, FailsOrIsRefused, ItemsNext, ItemsLast}
 use Rattle.nfa_search_base.specs.Lists.{TellsMatch, ComeNext, ComeLast, AreFirstMatches, AreMatches}
-use Rattle.nfa_search_base.specs.Walks.{Walk, Answer, IsInside as AnswersInside}
+use Rattle.nfa_search_base.specs.Walks.{Walk, Answer, AnswerIsInside}
 use Rattle.nfa_search_base.specs.Walks.{fresh, repeats, shifted, after, place_of, span_of}
 use Rattle.nfa_search_base.specs.declared.error.SearchError.{SearchError}
 use Rattle.nfa_search_base.proofs.ListLemmas.{as_items, last-unique, match-lies, match-same, matches_in-as_items}
@@ -72,7 +72,7 @@ module _ (nfa : Automaton) (kind : MatchKind) (earliest : Bool) where
 
   -- what is told lies in the span
   pub row-lies : (t : Search) (a : Answer Row) → tells t a
-      → AnswersInside row_span t a × IsOrdered (place_of row_span a)
+      → AnswerIsInside row_span t a × IsOrdered (place_of row_span a)
   row-lies t (Ok (Some row)) h = match-lies nfa kind earliest t (Ok (Some (row_found row))) (row-match t row h)
   row-lies t (Ok None) h = (tt, λ p is. let never : None ≡ Some p = is in cc)
   row-lies t (Err e) h = absurd h

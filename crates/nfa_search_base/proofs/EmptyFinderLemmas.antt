@@ -7,7 +7,7 @@ use Rattle.regex_search_core.specs.declared.search.Match.{Match}
 use Rattle.nfa_search_base.specs.EmptyFinder.{empty_answer, zero_row}
 use Rattle.nfa_search_base.specs.Catching.{Row, row_span}
 use Rattle.nfa_search_base.specs.Finders.{answer_by}
-use Rattle.nfa_search_base.specs.Walks.{Answer, IsInside, LiesIn, place_of}
+use Rattle.nfa_search_base.specs.Walks.{Answer, AnswerIsInside, LiesIn, place_of}
 
 pub empty_found : (s : Search) (m : Match) → found_of m ≡ record { pattern = 0; start = s.start; end = s.start }
     → s.start ≤ s.end → answer_by found_of (Ok (Some m)) ≡ empty_answer s
@@ -17,8 +17,8 @@ pub empty_none : (s : Search) → s.end < s.start → ◌≡◌ {A = Answer Foun
 empty_none s done = rw (lt-leb s.start s.end done)
 
 -- the empty match at the start of the haystack lies in the span of a search that starts there
-pub zero_inside : (s : Search) (a : Answer Row) → a ≡ zero_row s → IsInside row_span s a
-zero_inside s a is = subst (λ (b : Answer Row). IsInside row_span s b) (sym is)
+pub zero_inside : (s : Search) (a : Answer Row) → a ≡ zero_row s → AnswerIsInside row_span s a
+zero_inside s a is = subst (λ (b : Answer Row). AnswerIsInside row_span s b) (sym is)
     (of (nat_eq s.start 0) (λ e. eqb-true s.start 0 e))
   where
     found : Row

@@ -24,7 +24,7 @@ use Rattle.nfa_search_base.specs.Lists.{TellsMatch}
 use Rattle.nfa_search_base.specs.Serving.{ServesOnAlong}
 use Rattle.nfa_search_base.specs.Steps.{TakesStep}
 use Rattle.nfa_search_base.specs.Stored.{steps_walk, takes_steps}
-use Rattle.nfa_search_base.specs.Walks.{Answer, IsInside, IsSurelyInside, fresh, span_of}
+use Rattle.nfa_search_base.specs.Walks.{Answer, AnswerIsInside, IsSurelyInside, fresh, span_of}
 use Rattle.nfa_search_base.specs.declared.error.SearchError.{SearchError}
 use Rattle.nfa_search_base.specs.declared.iter.steps.Steps.{Steps}
 use Rattle.nfa_search_base.proofs.AskingLemmas.{same_start-self, same_start-then, ServesOnAlong-by}
@@ -215,11 +215,11 @@ module _ {E C : Type 0} (nfa : E → Automaton) (Fits : C → E → Type 0) (Tel
   }
 
   -- the iterator may search wherever searches lead
-  pub catcher-serves : ((e : E) (t : Search) (a : Answer Row) → Tells e t a → IsInside row_span t a)
+  pub catcher-serves : ((e : E) (t : Search) (a : Answer Row) → Tells e t a → AnswerIsInside row_span t a)
       → (s : With (Catching E) C) (x : Search) → MayRow s
-      → ServesOnAlong (λ q t. MayRow q) AsksRow SameButStart (IsInside row_span) s x
+      → ServesOnAlong (λ q t. MayRow q) AsksRow SameButStart (AnswerIsInside row_span) s x
   catcher-serves lies s x may =
-      ServesOnAlong-by (λ q t. MayRow q) AsksRow SameButStart same_start-self same_start-then (IsInside row_span)
+      ServesOnAlong-by (λ q t. MayRow q) AsksRow SameButStart same_start-self same_start-then (AnswerIsInside row_span)
       (λ (q : With (Catching E) C). MayRow q) s x may (λ q t same may. may)
       (λ q t a q' same may asked. (lies q.asker.finder t a asked.tells, may_row-after q t a q' may asked))
 

@@ -24,7 +24,7 @@ use Rattle.nfa_search_base.specs.Behind.{IsBehind}
 use Rattle.nfa_search_base.specs.Items.{Item, matches_in, items_from, items_within, greedy, step_answer, step_walk}
 use Rattle.nfa_search_base.specs.Lists.{IsStep, Fails, ItemsNext, ItemsLast, IsInside, AreApart, AreSpansApart}
 use Rattle.nfa_search_base.specs.Lists.{TellsMatch, ComeNext, ComeLast, AreFirstMatches, AreMatches}
-use Rattle.nfa_search_base.specs.Walks.{Walk, Answer, Advances, LiesIn, ComesAfter, IsInside as AnswersInside}
+use Rattle.nfa_search_base.specs.Walks.{Walk, Answer, Advances, LiesIn, ComesAfter, AnswerIsInside}
 use Rattle.nfa_search_base.specs.Walks.{fresh, repeats, shifted, after, place_of, span_of, ends_left}
 use Rattle.nfa_search_base.specs.declared.error.SearchError.{SearchError}
 use Rattle.nfa_search_base.proofs.AskingLemmas.{same_start-self, same_start-then}
@@ -125,7 +125,7 @@ module _ {X : Type 0} (span : X → Span) (tells : Search → Answer X → Type 
   last-next ends w (Err e ∷ items) h = h
 
   -- where what a search tells lies in its span
-  module _ (lies : (t : Search) (a : Answer X) → tells t a → AnswersInside span t a × IsOrdered (place_of span a)) where
+  module _ (lies : (t : Search) (a : Answer X) → tells t a → AnswerIsInside span t a × IsOrdered (place_of span a)) where
     abbrev asks : Unit {0} → Search → Answer X → Unit {0} → Type 0
     asks s t a s' = tells t a
 
@@ -278,7 +278,7 @@ as_items-rest {X} (x ∷ xs) (y ∷ ys) more e =
 
 -- Matches that a search tells lie in its span, and so the matches of an iteration are apart.
 module _ (tells : Search → Answer Found → Type 0)
-    (lies : (t : Search) (a : Answer Found) → tells t a → AnswersInside span_of t a × IsOrdered (place_of span_of a))
+    (lies : (t : Search) (a : Answer Found) → tells t a → AnswerIsInside span_of t a × IsOrdered (place_of span_of a))
     (ends : Walk → SearchError → Type 0) where
   come-apart : (x : Search) (w : Walk) (items : List (Item Found)) → x.start ≤ w.at.start → w.at.end ≡ x.end
       → IsBehind w.last w.at.start → ItemsNext span_of tells ends w items → AreApart x w.last (matches_in items)
@@ -309,7 +309,7 @@ module _ (nfa : Automaton) (kind : MatchKind) (earliest : Bool) where
 
   -- which lies in its span
   pub match-lies : (t : Search) (a : Answer Found) → tells t a
-      → AnswersInside span_of t a × IsOrdered (place_of span_of a)
+      → AnswerIsInside span_of t a × IsOrdered (place_of span_of a)
   match-lies t (Ok (Some m)) h =
       let k = match-within nfa kind earliest t m h in
       ((k.0, k.2), λ p is. subst (λ (q : Span). q.start ≤ q.end) (some-injective (span_of m) p is) k.1)

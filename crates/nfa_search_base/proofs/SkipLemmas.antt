@@ -10,7 +10,7 @@ use Rattle.regex_search_core.specs.declared.search.Input.{Input}
 use Rattle.nfa_search_base.specs.Asking.{Asks, IsCallableOn, SameButStart, SameButEnd, ServesAlong}
 use Rattle.nfa_search_base.specs.Serving.{LeadsOn}
 use Rattle.nfa_search_base.specs.declared.error.SearchError.{SearchError}
-use Rattle.nfa_search_base.specs.Skipping.{Placed, value_of, IsPlacedIn, IsSplit, IsWholeReply}
+use Rattle.nfa_search_base.specs.Skipping.{Placed, value_of, IsPlacedIn, IsInCharacter, IsWholeReply}
 use Rattle.nfa_search_base.specs.Skipping.{start_raised, lowered, Answers}
 use Rattle.nfa_search_base.specs.Skipping.{LeadsTo, Reaches, ServesSkips, SkipsTo}
 
@@ -19,13 +19,13 @@ module _ {T F : Type 0} (g : Mut F (Bor Input × Unit {0}) (Placed T))
   -- one call more, after an answer that splits a character
   Reaches-more : (n : ℕ) (r : Placed T) (f : F) (answers : List (Placed T)) (last : Placed T) (left : F)
       (a : Placed T) (f' : F)
-      → IsSplit haystack last → Answers g left (moved (n + length answers + 1)) a f'
+      → IsInCharacter haystack last → Answers g left (moved (n + length answers + 1)) a f'
       → Reaches g haystack moved n r f answers last left → Reaches g haystack moved n r f (answers ++ a ∷ []) a f'
   Reaches-more n r f [] last left a f' split answered reaches =
       let e : n + 0 + 1 ≡ n + 1 = omega arith in
       let here = subst (λ (k : ℕ). Answers g left (moved k) a f') e answered in
       let from = subst (λ (q : F). Answers g q (moved (n + 1)) a f') reaches.1 here in
-      (subst (λ (p : Placed T). IsSplit haystack p) reaches.0 split, (f', from, (refl, refl)))
+      (subst (λ (p : Placed T). IsInCharacter haystack p) reaches.0 split, (f', from, (refl, refl)))
   Reaches-more n r f (b ∷ answers) last left a f' split answered reaches =
       let e : n + suc (length answers) + 1 ≡ n + 1 + length answers + 1 = omega arith in
       let here = subst (λ (k : ℕ). Answers g left (moved k) a f') e answered in
@@ -61,7 +61,7 @@ module _ {T F : Type 0} (g : Mut F (Bor Input × Unit {0}) (Placed T))
         (come : HasCome s r0 f0 t r f) where
       -- one answer more
       more : (o : Option Search) (a : Placed T) (f' : F) → ((n : ℕ) → moved n ≡ Some t → moved (n + 1) ≡ o)
-          → IsSplit haystack r → Answers g f o a f' → Reaches g haystack moved 0 r0 f0 (come.answers ++ a ∷ []) a f'
+          → IsInCharacter haystack r → Answers g f o a f' → Reaches g haystack moved 0 r0 f0 (come.answers ++ a ∷ []) a f'
       more o a f' up split answered =
           let e : length come.answers + 1 ≡ 0 + length come.answers + 1 = omega arith in
           let is : moved (0 + length come.answers + 1) ≡ o =
@@ -78,7 +78,7 @@ module _ {T F : Type 0} (g : Mut F (Bor Input × Unit {0}) (Placed T))
           subst (λ (k : ℕ). moved k ≡ Some u) e (up (length come.answers) come.at)
 
       module _ (u : Search) (up : (n : ℕ) → moved n ≡ Some t → moved (n + 1) ≡ Some u)
-          (split : IsSplit haystack r) where
+          (split : IsInCharacter haystack r) where
         -- where an answer splits a character, the next call may be made
         pub HasCome-callable : (p : Bor Input) → search_of p.now ≡ u → g.pre f (p, tt)
         HasCome-callable =
@@ -113,7 +113,7 @@ module _ {T F : Type 0} (g : Mut F (Bor Input × Unit {0}) (Placed T))
 
       -- where nothing is left to search, the answer is none
       pub HasCome-none : (result : Result (Option T) SearchError) → ((n : ℕ) → moved n ≡ Some t → moved (n + 1) ≡ None)
-          → IsSplit haystack r → result ≡ Ok None → SkipsTo g haystack moved r0 f0 result f
+          → IsInCharacter haystack r → result ≡ Ok None → SkipsTo g haystack moved r0 f0 result f
       HasCome-none result out split gives = record {
         answers = come.answers ++ Ok None ∷ [];
         last = Ok None;
@@ -137,14 +137,14 @@ module _ {T F : Type 0} (g : Mut F (Bor Input × Unit {0}) (Placed T))
     (like : (n : ℕ) (u : Search) → moved n ≡ Some u → Same s u) where
   -- after none, which splits no character, there is no call
   none-ends : (n : ℕ) (r : Placed T) (f : F) (answers : List (Placed T)) (last : Placed T) (left : F) → r ≡ Ok None
-      → Reaches g haystack moved n r f answers last left → IsSplit haystack last → ⊥
+      → Reaches g haystack moved n r f answers last left → IsInCharacter haystack last → ⊥
   none-ends n r f [] last left is reaches split =
-      subst (λ (p : Placed T). IsSplit haystack p) is (subst (λ (p : Placed T). IsSplit haystack p) reaches.0 split)
-  none-ends n r f (a ∷ answers) last left is reaches split = subst (λ (p : Placed T). IsSplit haystack p) is reaches.0
+      subst (λ (p : Placed T). IsInCharacter haystack p) is (subst (λ (p : Placed T). IsInCharacter haystack p) reaches.0 split)
+  none-ends n r f (a ∷ answers) last left is reaches split = subst (λ (p : Placed T). IsInCharacter haystack p) is reaches.0
 
   -- the calls that are made are calls on searches like s
   calls-like : (n : ℕ) (r : Placed T) (f : F) (answers : List (Placed T)) (last : Placed T) (left : F)
-      → Reaches g haystack moved n r f answers last left → IsSplit haystack last
+      → Reaches g haystack moved n r f answers last left → IsInCharacter haystack last
       → (calls : List (Search × Placed T)) × LeadsOn (IsCallableOn g) (Asks g) Same s f calls left
   calls-like n r f [] last left reaches split = ([], sym reaches.1)
   calls-like n r f (a ∷ answers) last left reaches split =

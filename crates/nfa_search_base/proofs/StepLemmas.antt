@@ -7,7 +7,7 @@ use Rattle.regex_search_core.specs.declared.search.Input.{Input}
 use Rattle.regex_search_core.specs.declared.search.Span.{Span}
 use Rattle.nfa_search_base.specs.Asking.{IsCallableOn, SameButStart}
 use Rattle.nfa_search_base.specs.Behind.{IsBehind}
-use Rattle.nfa_search_base.specs.Walks.{Walk, Answer, place_of, IsInside, IsSurelyInside, LiesIn, repeats, after, shifted, Advances, ComesAfter, LeavesFewer}
+use Rattle.nfa_search_base.specs.Walks.{Walk, Answer, place_of, AnswerIsInside, IsSurelyInside, LiesIn, repeats, after, shifted, Advances, ComesAfter, LeavesFewer}
 use Rattle.nfa_search_base.specs.Finders.{answer_by, Finds, AnswersAlong}
 use Rattle.nfa_search_base.specs.Lending.{With, accepts_lent, asks_lent}
 use Rattle.nfa_search_base.specs.Serving.{ServesOnAlong, ServesTurn, StepDone}
@@ -108,7 +108,7 @@ module _ {S X : Type 0} (accepts : S → Search → Type 0) (asks : S → Search
 
   -- so may what is asked of a step
   pub ServesTurn-surely : (f : S) (w : Walk) → ServesTurn accepts asks span (IsSurelyInside span) f w
-      → ServesTurn accepts asks span (IsInside span) f w
+      → ServesTurn accepts asks span (AnswerIsInside span) f w
   ServesTurn-surely f w h = record {
     first = record { callable = h.first.callable; replies = λ a f' asked. (h.first.replies a f' asked).0 };
     second = λ a f' asked again.
@@ -132,7 +132,7 @@ lies-before w None inside = tt
 -- What is asked for a step of the iteration w, from the state s.
 module _ {S X : Type 0} (accepts : S → Search → Type 0) (asks : S → Search → Answer X → S → Type 0) (span : X → Span)
     (s : S) (w : Walk)
-    (serves : ServesTurn accepts asks span (IsInside span) s w) (behind : IsBehind w.last w.at.start) where
+    (serves : ServesTurn accepts asks span (AnswerIsInside span) s w) (behind : IsBehind w.last w.at.start) where
   -- a first answer that does not repeat the last match is the step's
   pub step-once : (a : Answer X) (s' : S) (place : Option Span) (w' : Walk) → asks s w.at a s' → place ≡ place_of span a
       → IsOrdered place
@@ -162,7 +162,7 @@ module _ {S X : Type 0} (accepts : S → Search → Type 0) (asks : S → Search
   step-twice b between first w1 a s' place w' asked was again one asked_again is ordered moved =
       let repeated : repeats w (place_of span b) ≡ true = subst (λ (p : Option Span). repeats w p ≡ true) was again in
       let there : asks between (shifted w).at a s' = subst (λ (v : Walk). asks between v.at a s') one asked_again in
-      let inside : IsInside span (shifted w).at a = (serves.second b between asked repeated).replies a s' there in
+      let inside : AnswerIsInside span (shifted w).at a = (serves.second b between asked repeated).replies a s' there in
       let lies : LiesIn (shifted w).at place = subst (λ (p : Option Span). LiesIn (shifted w).at p) (sym is) inside in
       let rises : ComesAfter w place = ComesAfter-second w place behind lies ordered in
       let here : w' ≡ after (shifted w) place = moved ∙ ap (λ (v : Walk). after v place) one in
@@ -210,7 +210,7 @@ module _ {A X F : Type 0} (view : A → X) (g : Mut F (Bor Input × Unit {0}) (R
 
 -- A step of any searcher whose answers lie in the span, as an engine over a cache.
 module _ {X S : Type 0} (span : X → Span) (asks : S → Search → Answer X → S → Type 0)
-    (good : (s : S) (t : Search) (a : Answer X) (s' : S) → asks s t a s' → IsInside span t a
+    (good : (s : S) (t : Search) (a : Answer X) (s' : S) → asks s t a s' → AnswerIsInside span t a
     × IsOrdered (place_of span a))
     (s : S) (w : Walk) (r : Answer X) (s' : S) (w' : Walk) (behind : IsBehind w.last w.at.start)
     (step : Advances span asks s w r s' w') where

@@ -6,7 +6,7 @@ use Rattle.std.proofs.lemmas.Iterator.{YieldsList}
 use Rattle.regex_search_core.specs.Search.{Search}
 use Rattle.regex_search_core.specs.declared.search.Span.{Span}
 use Rattle.nfa_search_base.specs.Asking.{SameButStart}
-use Rattle.nfa_search_base.specs.Walks.{Walk, Answer, place_of, IsInside, IsSurelyInside, LeavesFewer, ends_left}
+use Rattle.nfa_search_base.specs.Walks.{Walk, Answer, place_of, AnswerIsInside, IsSurelyInside, LeavesFewer, ends_left}
 use Rattle.nfa_search_base.specs.Items.{Item, item_by, item_of, ends_with, items_left, matches_left, matches_in, greedy_unless}
 use Rattle.nfa_search_base.specs.Serving.{ServesOnAlong, StepDone}
 use Rattle.nfa_search_base.specs.Steps.{TakesStep, GivesItem, ends_at, ComesOfMatch}
@@ -166,7 +166,7 @@ module _ {S X Y : Type 0} (accepts : S → Search → Type 0) (asks : S → Sear
 
   -- where no call errs, the matches stay in the span
   pub surely-inside : (s : Steps S) → can_step_surely accepts asks span s → can_step accepts asks span s
-  surely-inside s h = Along-weaker accepts asks span (IsSurelyInside span) (IsInside span) s.asker (steps_walk s).at
+  surely-inside s h = Along-weaker accepts asks span (IsSurelyInside span) (AnswerIsInside span) s.asker (steps_walk s).at
       (λ t a p. p.0) h
 
   module _ (s t : Steps S) (r : Option (Result Y SearchError)) (h : can_step_surely accepts asks span s)

@@ -28,7 +28,7 @@ use Rattle.nfa_search_base.specs.StoredRuns.{MayAnswerRow, caught_steps, CaughtR
 use Rattle.nfa_search_base.specs.StoredRuns.{CaughtApart, CaughtNext, SureCaughtApart, SureCaughtNext}
 use Rattle.nfa_search_base.specs.StoredRuns.{SureCaughtRun, SureCaughtFirst, SureCaughtAll}
 use Rattle.nfa_search_base.specs.CaughtSteps.{takes_sure_catches}
-use Rattle.nfa_search_base.specs.Walks.{Answer, Walk, IsInside, IsSurelyInside, after, place_of}
+use Rattle.nfa_search_base.specs.Walks.{Answer, Walk, AnswerIsInside, IsSurelyInside, after, place_of}
 use Rattle.nfa_search_base.specs.declared.error.SearchError.{SearchError}
 use Rattle.nfa_search_base.specs.declared.iter.steps.Steps.{Steps}
 use Rattle.nfa_search_base.proofs.AskingLemmas.{same_start-self}
@@ -152,19 +152,19 @@ module _ {F : Type 0} (g : Mut F (Bor Input × (MutBor Captured × Unit {0}))
       (λ xs t ran. sure-caught_first s going xs t ran) (λ xs t u ran st. sure-caught_all s going xs t u ran st)
 
   -- Their matches lie in the spans that the finder is asked for.
-  may-lies : (P : Search → Answer Row → Type 0) → ((t : Search) (a : Answer Row) → P t a → IsInside row_span t a)
+  may-lies : (P : Search → Answer Row → Type 0) → ((t : Search) (a : Answer Row) → P t a → AnswerIsInside row_span t a)
       → (c : Catching F) (x : Search) → CatchesAlong g P c x
       → (t : Search) (a : Answer Row) → MayAnswerRow g c x t a
-      → IsInside row_span t a × IsOrdered (place_of row_span a)
+      → AnswerIsInside row_span t a × IsOrdered (place_of row_span a)
   may-lies P lies c x serves t a k = (
     lies t a ((serves.at k.calls k.between t k.leads k.same).replies a k.left k.asked),
     row-ordered k.left.captures k.asked.reply a k.asked.answers,
   )
 
   pub caught-apart : (s : Steps (Catching F)) → s.done ≡ false
-      → CatchesAlong g (IsInside row_span) s.asker (steps_walk s).at → CaughtApart g (steps_walk s) s
+      → CatchesAlong g (AnswerIsInside row_span) s.asker (steps_walk s).at → CaughtApart g (steps_walk s) s
   caught-apart s going serves = λ p seen from.
-      spans-apart row_span (May s) (may-lies (IsInside row_span) (λ t a k. k) s.asker (steps_walk s).at serves)
+      spans-apart row_span (May s) (may-lies (AnswerIsInside row_span) (λ t a k. k) s.asker (steps_walk s).at serves)
       (FailsOrIsRefused row_span (May s)) (steps_walk s).at (steps_walk s) (map (item_by row_of) p.items)
       (omega arith) refl s.searcher.behind (caught-run s going p seen from).0.come
 

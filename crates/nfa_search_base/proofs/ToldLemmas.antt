@@ -21,7 +21,7 @@ use Rattle.nfa_search_base.specs.Stored.{steps_walk, takes_steps}
 use Rattle.nfa_search_base.specs.StoredRuns.{MayAnswer, found_steps, sure_found_steps, FoundRun, FoundFirst, FoundAll}
 use Rattle.nfa_search_base.specs.StoredRuns.{FoundApart, FoundNext, SureFoundApart, SureFoundNext}
 use Rattle.nfa_search_base.specs.StoredRuns.{SureFoundRun, SureFoundFirst, SureFoundAll}
-use Rattle.nfa_search_base.specs.Walks.{Answer, Walk, after, repeats, shifted, place_of, IsInside, IsSurelyInside}
+use Rattle.nfa_search_base.specs.Walks.{Answer, Walk, after, repeats, shifted, place_of, AnswerIsInside, IsSurelyInside}
 use Rattle.nfa_search_base.specs.declared.error.SearchError.{SearchError}
 use Rattle.nfa_search_base.specs.declared.iter.steps.Steps.{Steps}
 use Rattle.nfa_search_base.proofs.AskingLemmas.{same_start-self}
@@ -154,19 +154,19 @@ module _ {A X F : Type 0} (view : A → X) (span : X → Span)
     view-ordered (Err e) a is = subst (λ (b : Answer X). IsOrdered (place_of span b)) (sym is)
         (λ p same. let never : None ≡ Some p = same in cc)
 
-    may-lies : (P : Search → Answer X → Type 0) → ((t : Search) (a : Answer X) → P t a → IsInside span t a)
+    may-lies : (P : Search → Answer X → Type 0) → ((t : Search) (a : Answer X) → P t a → AnswerIsInside span t a)
         → (f : F) (x : Search) → AnswersAlong view g P f x
         → (t : Search) (a : Answer X) → MayAnswer view span g f x t a
-        → IsInside span t a × IsOrdered (place_of span a)
+        → AnswerIsInside span t a × IsOrdered (place_of span a)
     may-lies P lies f x serves t a k = (
       lies t a ((serves.at k.calls k.between t k.leads k.same).replies a k.left k.asked),
       view-ordered k.asked.reply a k.asked.shows,
     )
 
-    pub found-apart : (s : Steps F) → s.done ≡ false → AnswersAlong view g (IsInside span) s.asker (steps_walk s).at
+    pub found-apart : (s : Steps F) → s.done ≡ false → AnswersAlong view g (AnswerIsInside span) s.asker (steps_walk s).at
         → FoundApart view span g (steps_walk s) s
     found-apart s going serves = λ p seen from.
-        spans-apart span (May s) (may-lies (IsInside span) (λ t a k. k) s.asker (steps_walk s).at serves)
+        spans-apart span (May s) (may-lies (AnswerIsInside span) (λ t a k. k) s.asker (steps_walk s).at serves)
         (Fails span (May s)) (steps_walk s).at (steps_walk s) (map (item_by view) p.items)
         (omega arith) refl s.searcher.behind (found-run s going p seen from).0.come
 

@@ -10,7 +10,7 @@ use Rattle.regex_search_core.specs.declared.search.Match.{Match}
 use Rattle.regex_search_core.specs.declared.search.Span.{Span}
 use Rattle.nfa_search_base.specs.Asking.{Asks, IsCallableOn, SameButStart}
 use Rattle.nfa_search_base.specs.Serving.{ServesOnAlong, ServesTurn}
-use Rattle.nfa_search_base.specs.Walks.{Answer, Walk, place_of, IsInside, IsSurelyInside, span_of, half_span_of, Advances}
+use Rattle.nfa_search_base.specs.Walks.{Answer, Walk, place_of, AnswerIsInside, IsSurelyInside, span_of, half_span_of, Advances}
 use Rattle.nfa_search_base.specs.declared.error.SearchError.{SearchError}
 
 -- the reply as values
@@ -53,7 +53,7 @@ half_place reply = place_of half_span_of (answer_by half_found_of reply)
 module _ {F : Type 0} (g : Mut F (Bor Input × Unit {0}) (Result (Option Match) SearchError)) where
   -- the finder may be asked for a step, and answers matches in the span
   abbrev pub FindsStep : F → Walk → Type 0
-  FindsStep f w = ServesStep found_of g span_of (IsInside span_of) f w
+  FindsStep f w = ServesStep found_of g span_of (AnswerIsInside span_of) f w
 
   -- and never errs
   abbrev pub FindsStepSurely : F → Walk → Type 0
@@ -67,7 +67,7 @@ module _ {F : Type 0} (g : Mut F (Bor Input × Unit {0}) (Result (Option Match) 
 module _ {F : Type 0} (g : Mut F (Bor Input × Unit {0}) (Result (Option HalfMatch) SearchError)) where
   -- the finder may be asked for a step, and answers offsets in the span
   abbrev pub FindsHalfStep : F → Walk → Type 0
-  FindsHalfStep f w = ServesStep half_found_of g half_span_of (IsInside half_span_of) f w
+  FindsHalfStep f w = ServesStep half_found_of g half_span_of (AnswerIsInside half_span_of) f w
 
   -- and never errs
   abbrev pub FindsHalfStepSurely : F → Walk → Type 0

@@ -31,10 +31,10 @@ IsPlacedIn s (Ok None) = Unit {0}
 IsPlacedIn s (Err e) = Unit {0}
 
 -- the answer is a value whose offset is no edge of a character
-abbrev pub IsSplit : {T : Type 0} → List ℕ → Placed T → Type 0
-IsSplit haystack (Ok (Some x)) = ¬ (IsBoundary haystack x.1)
-IsSplit haystack (Ok None) = ⊥
-IsSplit haystack (Err e) = ⊥
+abbrev pub IsInCharacter : {T : Type 0} → List ℕ → Placed T → Type 0
+IsInCharacter haystack (Ok (Some x)) = ¬ (IsBoundary haystack x.1)
+IsInCharacter haystack (Ok None) = ⊥
+IsInCharacter haystack (Err e) = ⊥
 
 -- the answer is an error, is none, or has its offset on an edge of a character
 abbrev pub IsWholeReply : {T : Type 0} → List ℕ → Placed T → Type 0
@@ -61,20 +61,20 @@ module _ {T F : Type 0} (g : Mut F (Bor Input × Unit {0}) (Placed T)) where
     abbrev pub LeadsTo : ℕ → Placed T → F → List (Placed T) → Placed T → F → Type 0
     LeadsTo n r f [] last left = IsWholeReply haystack r × (last ≡ r) × (left ≡ f)
     LeadsTo n r f (a ∷ answers) last left =
-        IsSplit haystack r × ((f' : F) × Answers f (moved (n + 1)) a f' × LeadsTo (n + 1) a f' answers last left)
+        IsInCharacter haystack r × ((f' : F) × Answers f (moved (n + 1)) a f' × LeadsTo (n + 1) a f' answers last left)
 
     -- From the answer r, of the search moved by n, and the finder f on, calls gave `answers`, and left the last of them
     -- and a finder: each answer before the last splits a character.
     abbrev pub Reaches : ℕ → Placed T → F → List (Placed T) → Placed T → F → Type 0
     Reaches n r f [] last left = (last ≡ r) × (left ≡ f)
     Reaches n r f (a ∷ answers) last left =
-        IsSplit haystack r × ((f' : F) × Answers f (moved (n + 1)) a f' × Reaches (n + 1) a f' answers last left)
+        IsInCharacter haystack r × ((f' : F) × Answers f (moved (n + 1)) a f' × Reaches (n + 1) a f' answers last left)
 
     -- The finder may be called where a call is made, and there alone: where the last answer splits a character and the
     -- search can be moved once more. It answers with an offset in the span.
     pub record ServesSkips (r : Placed T) (f : F) : Type 0 where
       pub at : (answers : List (Placed T)) (last : Placed T) (left : F) (s : Search)
-          → Reaches 0 r f answers last left → IsSplit haystack last → moved (length answers + 1) ≡ Some s
+          → Reaches 0 r f answers last left → IsInCharacter haystack last → moved (length answers + 1) ≡ Some s
           → ServesOn (IsCallableOn g) (Asks g) IsPlacedIn left s
 
     -- from the finder f and the first answer r, the result is the first answer that splits no character

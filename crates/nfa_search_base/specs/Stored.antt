@@ -4,7 +4,7 @@ use Rattle.std.specs.Iterator.{Count, at_most}
 use Rattle.regex_search_core.specs.Search.{Search}
 use Rattle.regex_search_core.specs.declared.search.Span.{Span}
 use Rattle.nfa_search_base.specs.Likes.{SameButStart}
-use Rattle.nfa_search_base.specs.Walks.{Answer, Walk, IsInside, IsSurelyInside}
+use Rattle.nfa_search_base.specs.Walks.{Answer, Walk, AnswerIsInside, IsSurelyInside}
 use Rattle.nfa_search_base.specs.Items.{items_left, matches_left}
 use Rattle.nfa_search_base.specs.Searchers.{walk_of}
 use Rattle.nfa_search_base.specs.Serving.{ServesOnAlong}
@@ -28,7 +28,7 @@ module _ {S X : Type 0} (accepts : S → Search → Type 0) (asks : S → Search
     (span : X → Span) where
   -- wherever calls lead, the next on a search of the iteration may be made, and its match lies in the span
   abbrev pub can_step : Steps S → Type 0
-  can_step s = ServesOnAlong accepts asks SameButStart (IsInside span) s.asker (steps_walk s).at
+  can_step s = ServesOnAlong accepts asks SameButStart (AnswerIsInside span) s.asker (steps_walk s).at
 
   -- and is no error
   abbrev pub can_step_surely : Steps S → Type 0

@@ -85,12 +85,12 @@ module _ {X : Type 0} (span : X → Span) where
   place_of (Err e) = None
 
   -- the answer's match, if there is one, lies in the span of the search
-  abbrev pub IsInside : Search → Answer X → Type 0
-  IsInside s a = LiesIn s (place_of a)
+  abbrev pub AnswerIsInside : Search → Answer X → Type 0
+  AnswerIsInside s a = LiesIn s (place_of a)
 
   -- and the answer is no error
   abbrev pub IsSurelyInside : Search → Answer X → Type 0
-  IsSurelyInside s a = IsInside s a × IsOk a
+  IsSurelyInside s a = AnswerIsInside s a × IsOk a
 
   -- A step, of what is asked in the state s and of the iteration w, gave r: the first answer, or, where that is an
   -- empty match at the last end, the answer one on.

@@ -9,7 +9,7 @@ ghost use Rattle.nfa_search_base.specs.Finders.{AnswersAlong, answer_by};
 ghost use Rattle.nfa_search_base.specs.Items.{item_by, greedy};
 ghost use Rattle.nfa_search_base.specs.Lists.{AreAllFound};
 ghost use Rattle.nfa_search_base.specs.StoredRuns.{MayAnswer, MayAnswerRow};
-ghost use Rattle.nfa_search_base.specs.Walks.{IsInside, IsSurelyInside, fresh, half_span_of, span_of};
+ghost use Rattle.nfa_search_base.specs.Walks.{AnswerIsInside, IsSurelyInside, fresh, half_span_of, span_of};
 
 use crate::error::SearchError;
 use crate::iter::Searcher;
@@ -52,7 +52,7 @@ pub(super) fn collected_by<F>(
 ) -> Result<Vec<Result<Match, SearchError>>, AllocError>
 where
     F: FnMut(&Input<'_>) -> Result<Option<Match>, SearchError>,
-    requires { AnswersAlong found_of F.FnMut (IsInside span_of) finder (whole haystack.now) }
+    requires { AnswersAlong found_of F.FnMut (AnswerIsInside span_of) finder (whole haystack.now) }
     ensures { IfOk result (λ v. AreAllFound span_of (MayAnswer found_of span_of F.FnMut finder (whole haystack.now))
         found_of (fresh (whole haystack.now)) v.items) }
 {
@@ -69,7 +69,7 @@ pub(super) fn surely_collected_by<F>(
 ) -> Result<Vec<Match>, AllocError>
 where
     F: FnMut(&Input<'_>) -> Result<Option<Match>, SearchError>,
-    requires inside { AnswersAlong found_of F.FnMut (IsInside span_of) finder (whole haystack.now) }
+    requires inside { AnswersAlong found_of F.FnMut (AnswerIsInside span_of) finder (whole haystack.now) }
     requires surely { AnswersAlong found_of F.FnMut (IsSurelyInside span_of) finder (whole haystack.now) }
     ensures { IfOk result (λ v. AreAllFound span_of (MayAnswer found_of span_of F.FnMut finder (whole haystack.now))
         found_of (fresh (whole haystack.now)) (map (λ m. Ok m) v.items)) }
@@ -88,7 +88,7 @@ pub(super) fn halves_collected_by<F>(
 ) -> Result<Vec<Result<HalfMatch, SearchError>>, AllocError>
 where
     F: FnMut(&Input<'_>) -> Result<Option<HalfMatch>, SearchError>,
-    requires { AnswersAlong half_found_of F.FnMut (IsInside half_span_of) finder (whole haystack.now) }
+    requires { AnswersAlong half_found_of F.FnMut (AnswerIsInside half_span_of) finder (whole haystack.now) }
     ensures { IfOk result (λ v. AreAllFound half_span_of
         (MayAnswer half_found_of half_span_of F.FnMut finder (whole haystack.now)) half_found_of
         (fresh (whole haystack.now)) v.items) }
@@ -107,7 +107,7 @@ fn captures_collected_by<F>(
 ) -> Result<Vec<Result<Captures, SearchError>>, AllocError>
 where
     F: FnMut(&Input<'_>, &mut Captures) -> Result<(), SearchError>,
-    requires { CatchesAlong F.FnMut (IsInside row_span) (record { finder = finder; captures = captures })
+    requires { CatchesAlong F.FnMut (AnswerIsInside row_span) (record { finder = finder; captures = captures })
         (whole haystack.now) }
     ensures { IfOk result (λ v. AreAllCaught
         (MayAnswerRow F.FnMut (record { finder = finder; captures = captures }) (whole haystack.now))
@@ -127,7 +127,7 @@ fn captures_surely_collected_by<F>(
 ) -> Result<Vec<Result<Captures, SearchError>>, AllocError>
 where
     F: FnMut(&Input<'_>, &mut Captures) -> Result<(), SearchError>,
-    requires inside { CatchesAlong F.FnMut (IsInside row_span) (record { finder = finder; captures = captures })
+    requires inside { CatchesAlong F.FnMut (AnswerIsInside row_span) (record { finder = finder; captures = captures })
         (whole haystack.now) }
     requires surely { CatchesAlong F.FnMut (IsSurelyInside row_span) (record { finder = finder; captures = captures })
         (whole haystack.now) }
@@ -173,7 +173,7 @@ fn captured_at_zero(input: &Input<'_>, captures: &mut Captures) -> Result<(), Se
 
 // Captures of an empty match of the first pattern at the start of the haystack, and an error anywhere else.
 fn captured_or_error(input: &Input<'_>, captures: &mut Captures) -> Result<(), SearchError>
-    ensures { IsInside row_span (search_of input.now) (caught_by captures.new result) }
+    ensures { AnswerIsInside row_span (search_of input.now) (caught_by captures.new result) }
 {
     if input.start() > 0 {
         return Err(SearchError::Finder(MatchError::GaveUp { offset: 7 }));
@@ -189,7 +189,7 @@ fn captured_or_fails(
     captures: &mut Captures,
     fails: usize,
 ) -> Result<(), SearchError>
-    ensures { IsInside row_span (search_of input.now) (caught_by captures.new result) }
+    ensures { AnswerIsInside row_span (search_of input.now) (caught_by captures.new result) }
 {
     if input.start() == fails {
         return Err(SearchError::Finder(MatchError::GaveUp { offset: 7 }));

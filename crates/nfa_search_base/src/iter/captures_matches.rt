@@ -36,7 +36,7 @@ impl<'h> Searcher<'h> {
     ghost use Rattle.nfa_search_base.specs.Searchers.{walk_of};
     ghost use Rattle.nfa_search_base.specs.Stored.{steps_walk, can_step, takes_steps};
     ghost use Rattle.nfa_search_base.specs.StoredRuns.{CaughtAll, CaughtApart, CaughtFirst, CaughtNext, CaughtRun};
-    ghost use Rattle.nfa_search_base.specs.Walks.{Answer, IsInside};
+    ghost use Rattle.nfa_search_base.specs.Walks.{Answer, AnswerIsInside};
 
     /// The captures of the matches that the finder gives from here on.
     ///
@@ -46,7 +46,7 @@ impl<'h> Searcher<'h> {
     pub fn into_captures_iter<F>(self, captures: Captures, finder: F) -> TryCapturesIter<'h, F>
     where
         F: FnMut(&Input<'_>, &mut Captures) -> Result<(), SearchError>,
-        requires { CatchesAlong F.FnMut (IsInside row_span) (record { finder = finder; captures = captures })
+        requires { CatchesAlong F.FnMut (AnswerIsInside row_span) (record { finder = finder; captures = captures })
             (walk_of self).at }
         ensures can { can_step (CanCatch F.FnMut) (Catches F.FnMut) row_span result }
         ensures walk { steps_walk result ≡ walk_of self.entry }

@@ -31,7 +31,7 @@ impl<'h> Searcher<'h> {
     ghost use Rattle.std.proofs.lemmas.Iterator.{YieldsList};
     ghost use Rattle.regex_search_core.specs.Found.{Found, found_of};
     ghost use Rattle.regex_search_core.specs.Search.{Search};
-    ghost use Rattle.nfa_search_base.specs.Walks.{Answer, span_of, IsInside};
+    ghost use Rattle.nfa_search_base.specs.Walks.{Answer, span_of, AnswerIsInside};
     ghost use Rattle.nfa_search_base.specs.Finders.{Finds, AnswersAlong, Computes};
     ghost use Rattle.nfa_search_base.specs.Items.{item_by, greedy};
     ghost use Rattle.nfa_search_base.specs.Searchers.{walk_of};
@@ -48,7 +48,7 @@ impl<'h> Searcher<'h> {
     pub fn into_matches_iter<F>(self, finder: F) -> TryMatchesIter<'h, F>
     where
         F: FnMut(&Input<'_>) -> Result<Option<Match>, SearchError>,
-        requires { AnswersAlong found_of F.FnMut (IsInside span_of) finder (walk_of self).at }
+        requires { AnswersAlong found_of F.FnMut (AnswerIsInside span_of) finder (walk_of self).at }
         ensures can { can_step (IsCallableOn F.FnMut) (Finds found_of F.FnMut) span_of result }
         ensures walk { steps_walk result ≡ walk_of self.entry }
         ensures finder { result.asker ≡ finder }

@@ -50,7 +50,7 @@ impl<'h> Searcher<'h> {
     ghost use Rattle.std.specs.Option.{ForSome};
     ghost use Rattle.regex_search_core.specs.Search.{search_of};
     ghost use Rattle.nfa_search_base.specs.Asking.{SameButStart};
-    ghost use Rattle.nfa_search_base.specs.Walks.{IsInside, fresh, shifted, after, repeats, LiesIn, IsPast, ComesAfter, LeavesFewer};
+    ghost use Rattle.nfa_search_base.specs.Walks.{AnswerIsInside, fresh, shifted, after, repeats, LiesIn, IsPast, ComesAfter, LeavesFewer};
     ghost use Rattle.nfa_search_base.specs.Finders.{match_place, half_place, FindsStep, FindsStepSurely, StepsBy, FindsHalfStep, FindsHalfStepSurely, HalfStepsBy};
     ghost use Rattle.nfa_search_base.specs.Searchers.{walk_of, offered_place, OfferGives, IsDone};
     ghost use Rattle.nfa_search_base.specs.Serving.{ServesTurn, StepDone};
@@ -239,7 +239,7 @@ impl<'h> Searcher<'h> {
 
     // A step, of whatever answers searches.
     pub(crate) fn step_by<A: Answers>(&mut self, asker: &mut A) -> A::Reply
-        requires { ServesTurn A.accepts A.asks A.span (IsInside A.span) asker.old (walk_of self.old) }
+        requires { ServesTurn A.accepts A.asks A.span (AnswerIsInside A.span) asker.old (walk_of self.old) }
         ensures { StepDone A.accepts A.asks A.span asker.old (walk_of self.old) (A.shows asker.new result) asker.new
             (walk_of self.new) }
     {
@@ -258,7 +258,7 @@ impl<'h> Searcher<'h> {
     // The same step, where each search is lent a cache.
     #[inline]
     pub(crate) fn step_with<A: Searches>(&mut self, asker: &mut A, cache: &mut A::Cache) -> A::Reply
-        requires { ServesTurn A.accepts A.asks A.span (IsInside A.span)
+        requires { ServesTurn A.accepts A.asks A.span (AnswerIsInside A.span)
             (record { asker = asker.old; cache = cache.old })
             (walk_of self.old) }
         ensures { StepDone A.accepts A.asks A.span (record { asker = asker.old; cache = cache.old }) (walk_of self.old)

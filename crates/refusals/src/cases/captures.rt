@@ -2,7 +2,7 @@
 //! and then nothing. The cache serves the next search.
 ghost use Rattle.regex_search_core.specs.Search.{search_of};
 ghost use Rattle.nfa_search_base.specs.Catching.{caught_by, row_span};
-ghost use Rattle.nfa_search_base.specs.Walks.{IsInside};
+ghost use Rattle.nfa_search_base.specs.Walks.{AnswerIsInside};
 
 use super::{Seen, Wrong, engines, expect, searches};
 use nfa_engines::backtrack::{self, BoundedBacktracker, TryCapturesMatches};
@@ -172,7 +172,7 @@ fn stored(alloc: Global, seen: &mut Seen) -> Result<(), Wrong> {
 
 // Captures of the first byte of the span, where it has one.
 fn first_byte(input: &Input<'_>, captures: &mut Captures) -> Result<(), SearchError>
-    ensures { IsInside row_span (search_of input.now) (caught_by captures.new result) }
+    ensures { AnswerIsInside row_span (search_of input.now) (caught_by captures.new result) }
 {
     let start = input.start();
     for (slot, offset) in captures

@@ -5,7 +5,7 @@ use Rattle.std.specs.List.{sum_by}
 use Rattle.regex_search_core.specs.Search.{Search}
 use Rattle.thompson_nfa.specs.Automaton.{Automaton}
 use Rattle.nfa_paths.specs.Exploring.{Item}
-use Rattle.nfa_backtrack.specs.Bits.{Marks}
+use Rattle.nfa_scanning.specs.Marks.{Marks}
 use Rattle.nfa_backtrack.specs.Walk.{WritesSlot, IsFrame, Carries, stacked, frame_tries}
 use Rattle.nfa_backtrack.proofs.walk.resume.Given as goal
 

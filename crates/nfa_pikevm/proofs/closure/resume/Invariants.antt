@@ -5,7 +5,7 @@ use Rattle.std.specs.List.{sum_by}
 use Rattle.regex_search_core.specs.Search.{Search}
 use Rattle.thompson_nfa.specs.Automaton.{Automaton}
 use Rattle.nfa_paths.specs.Exploring.{Item}
-use Rattle.nfa_pikevm.specs.Rows.{Marks}
+use Rattle.nfa_scanning.specs.Marks.{Marks}
 use Rattle.nfa_pikevm.specs.States.{Front, work_onto, tries, HasSlot, Follows}
 use Rattle.nfa_pikevm.proofs.closure.resume.Given as goal
 

@@ -1,7 +1,8 @@
 -- The set gains the patterns of all matches for which it has room.
 use Rattle.std.proofs.Common.{◌∙◌, ap, sym, arith, length, refl}
 use Rattle.regex_search_core.specs.Search.{search_of}
-use Rattle.nfa_pikevm.specs.Rows.{Marks, Active}
+use Rattle.nfa_scanning.specs.Marks.{Marks}
+use Rattle.nfa_pikevm.specs.Rows.{Active}
 use Rattle.nfa_pikevm.proofs.OverlapLoopLemmas.{Keeps-start, Keeps-next, sizes-joined, joined-below, joined-items, crosses-joined, no-items, All-start, All-next, All-full, All-over, All-end}
 use Rattle.nfa_pikevm.proofs.overlap.overlap_all.Goals as goal
 

@@ -1,7 +1,8 @@
 -- The set gains the pattern of the first match, and those that were met on the way to its end.
 use Rattle.std.proofs.Common.{◌∙◌, ap, sym, arith, length, refl}
 use Rattle.regex_search_core.specs.Search.{search_of}
-use Rattle.nfa_pikevm.specs.Rows.{Marks, Active}
+use Rattle.nfa_scanning.specs.Marks.{Marks}
+use Rattle.nfa_pikevm.specs.Rows.{Active}
 use Rattle.nfa_pikevm.proofs.OverlapScanLemmas.{kept-none}
 use Rattle.nfa_pikevm.proofs.OverlapLoopLemmas.{Keeps-start, Keeps-next, sizes-joined, joined-below, joined-items, crosses-joined, no-items}
 use Rattle.nfa_pikevm.proofs.OverlapFirstLemmas.{FirstWay-capacity, FirstWay-start, FirstWay-next, FirstWay-cut, FirstWay-over, FirstWay-end}

@@ -3,7 +3,8 @@ use Rattle.std.proofs.Common.{◌≡◌, ◌∙◌, ◌+◌, ◌≤◌, length, 
 use Rattle.regex_search_core.specs.Search.{search_of}
 use Rattle.nfa_paths.proofs.ScanAnswerLemmas.{scan_answer-none}
 use Rattle.regex_search_core.specs.declared.search.MatchKind.TheVariants.{All, LeftmostFirst}
-use Rattle.nfa_pikevm.specs.Rows.{Marks, Active}
+use Rattle.nfa_scanning.specs.Marks.{Marks}
+use Rattle.nfa_pikevm.specs.Rows.{Active}
 use Rattle.nfa_pikevm.specs.Scans.{with_start}
 use Rattle.nfa_pikevm.proofs.AllLemmas.{ScansAll-cross, NoneBefore-cross, EndsAt-none}
 use Rattle.nfa_pikevm.proofs.EndLemmas.{ScansAll-begin, NoneBefore-begin, ScansAll-join, all-over, earliest-over, ends-at}

@@ -1,7 +1,8 @@
 -- A scan that is leftmost first answers the first accepting path.
 use Rattle.std.proofs.Common.{◌≡◌, ◌∙◌, ◌+◌, ◌<◌, ◌≤◌, length, arith, refl, ap, sym, inl, inr}
 use Rattle.regex_search_core.specs.Search.{search_of}
-use Rattle.nfa_pikevm.specs.Rows.{Marks, Active}
+use Rattle.nfa_scanning.specs.Marks.{Marks}
+use Rattle.nfa_pikevm.specs.Rows.{Active}
 use Rattle.nfa_pikevm.proofs.AllLemmas.{EndsAt-none}
 use Rattle.nfa_pikevm.proofs.EndLemmas.{SearchesFirst-begin, SearchesFirst-joins, SearchesFirst-some, first-over}
 use Rattle.nfa_pikevm.proofs.FrontLemmas.{Paid-next, IsPaidAt-cross, IsPaidAt-later}

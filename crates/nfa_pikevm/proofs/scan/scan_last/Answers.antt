@@ -1,7 +1,8 @@
 -- A scan of all matches answers the last one that is seen.
 use Rattle.std.proofs.Common.{◌≡◌, ◌∙◌, ◌+◌, ◌≤◌, length, arith, refl, ap, sym, inl}
 use Rattle.regex_search_core.specs.Search.{search_of}
-use Rattle.nfa_pikevm.specs.Rows.{Marks, Active}
+use Rattle.nfa_scanning.specs.Marks.{Marks}
+use Rattle.nfa_pikevm.specs.Rows.{Active}
 use Rattle.nfa_pikevm.specs.Scans.{with_start}
 use Rattle.nfa_pikevm.proofs.AllLemmas.{ScansAll-cross, HasLast-cross}
 use Rattle.nfa_pikevm.proofs.EndLemmas.{ScansAll-begin, HasLast-begin, ScansAll-join, all-over, last-over, ends-at}

@@ -1,6 +1,6 @@
 -- There are as many blocks as before or as are needed.
 use Rattle.std.proofs.Common.{ap, arith, length}
-use Rattle.nfa_backtrack.specs.Bits.{Marks}
+use Rattle.nfa_scanning.specs.Marks.{Marks}
 use Rattle.nfa_backtrack.proofs.BitLemmas.{length-bits_of}
 use Rattle.nfa_backtrack.proofs.visited.Visited.reserve.Goals as goal
 

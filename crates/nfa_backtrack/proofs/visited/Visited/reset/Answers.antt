@@ -1,6 +1,7 @@
 -- After a reset there is no block.
 use Rattle.std.proofs.Common.{ap, ◌≡◌, []}
-use Rattle.nfa_backtrack.specs.Bits.{Marks, bits_of}
+use Rattle.nfa_scanning.specs.Marks.{Marks}
+use Rattle.nfa_backtrack.specs.Bits.{bits_of}
 use Rattle.nfa_backtrack.proofs.BitLemmas.{bits_of-nil}
 use Rattle.nfa_backtrack.proofs.visited.Visited.reset.Goals as goal
 

@@ -4,14 +4,14 @@ use Rattle.regex_search_core.specs.Slots.{Captured}
 use Rattle.nfa_search_base.specs.Catching.{row_of, row_span, UpToRefusal}
 use Rattle.nfa_search_base.specs.EmptyFinder.{zero_row}
 use Rattle.nfa_search_base.specs.Items.{item_by, greedy}
-use Rattle.nfa_search_base.specs.Walks.{Walk, IsInside, fresh}
+use Rattle.nfa_search_base.specs.Walks.{Walk, AnswerIsInside, fresh}
 use Rattle.nfa_search_base.proofs.CatchingLemmas.{CatchesAlong-by, refusal_from_collect}
 use Rattle.nfa_search_base.proofs.EmptyFinderLemmas.{zero_inside}
 use Rattle.nfa_search_base.proofs.iter.callers.collected_captures.Goals as goal
 
 pub into_captures_iter-items-requires : goal.into_captures_iter-items-requires
 into_captures_iter-items-requires c =
-    CatchesAlong-by _ (IsInside row_span) (λ f (k : Captured). k.slots ≡ Some 0 ∷ Some 0 ∷ []) _ _ c.requires
+    CatchesAlong-by _ (AnswerIsInside row_span) (λ f (k : Captured). k.slots ≡ Some 0 ∷ Some 0 ∷ []) _ _ c.requires
     (λ f p q same inv. search rules) (λ f p q reply left f' same inv called. search (rules, zero_inside))
 
 pub returns : goal.returns

@@ -1,6 +1,6 @@
 -- A step whose finder never errs gives captures, nothing, or a refusal.
 use Rattle.nfa_search_base.specs.Catching.{row_span, CanCatch, Catches, GivesCaptures}
-use Rattle.nfa_search_base.specs.Walks.{IsInside, IsSurelyInside}
+use Rattle.nfa_search_base.specs.Walks.{AnswerIsInside, IsSurelyInside}
 use Rattle.nfa_search_base.specs.Stored.{steps_walk}
 use Rattle.nfa_search_base.proofs.StepLemmas.{Along-weaker}
 use Rattle.nfa_search_base.proofs.StoredLemmas.{takes-progress}
@@ -9,7 +9,7 @@ use Rattle.nfa_search_base.proofs.iter.captures_matches.CapturesIterIterator.nex
 
 pub next-requires : goal.next-requires
 next-requires g c =
-    Along-weaker (CanCatch g.F.FnMut) (Catches g.F.FnMut) row_span (IsSurelyInside row_span) (IsInside row_span)
+    Along-weaker (CanCatch g.F.FnMut) (Catches g.F.FnMut) row_span (IsSurelyInside row_span) (AnswerIsInside row_span)
     c.self.inside.tries.asker (steps_walk c.self.inside.tries).at (λ t a p. p.0)
     (rw (← c.self.view_is) at c.requires)
 

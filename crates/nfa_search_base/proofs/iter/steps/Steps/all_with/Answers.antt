@@ -4,7 +4,7 @@ use Rattle.std.proofs.lemmas.Result.{err_from_is_err_and}
 use Rattle.std.specs.Iterator.{Yields}
 use Rattle.nfa_search_base.specs.Lending.{lend}
 use Rattle.nfa_search_base.specs.Stored.{takes_steps}
-use Rattle.nfa_search_base.specs.Walks.{IsInside}
+use Rattle.nfa_search_base.specs.Walks.{AnswerIsInside}
 use Rattle.nfa_search_base.proofs.RunLemmas.{yields-more}
 use Rattle.nfa_search_base.proofs.StoredLemmas.{takes-progress}
 use Rattle.nfa_search_base.proofs.iter.steps.Steps.all_with.Goals as goal
@@ -24,7 +24,7 @@ loop-item-preserved g c =
     let item = c.in_ok-item.field-0 in
     let more = yields-more calls (map Ok c.loop-item.all.items) (lend c.args.self.now c.args.cache.now) from to
     (Ok item) c.loop-item.invariant.ran (rw c.in_ok-item.was at c.in-Some.ensures) in
-    let goes = takes-progress a.accepts a.asks a.span (λ q. a.gives q.asker) (IsInside a.span) from to
+    let goes = takes-progress a.accepts a.asks a.span (λ q. a.gives q.asker) (AnswerIsInside a.span) from to
     (Some c.in-Some.item) c.loop-item.invariant.can c.in-Some.ensures in
     record {
       ran = rw (c.in_ok-push.ensures.items, ← oked-more c.loop-item.all.items item) more;
