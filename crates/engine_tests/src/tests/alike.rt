@@ -98,6 +98,30 @@ fn piked_captures(
     Ok(sums)
 }
 
+// What `captures_all` gives: the same sums.
+fn piked_captures_all(
+    alloc: Global,
+    vm: &PikeVM,
+    threads: &mut pikevm::Cache,
+    input: &Input<'_>,
+) -> Result<[u64; 2], SearchError>
+    requires { Fits threads.old vm.now.nfa }
+    ensures { SameNumbers threads.old threads.new }
+{
+    let all = vm.captures_all(alloc, threads, *input)?;
+    Ok(sums_of_captures(&all))
+}
+
+fn sums_of_captures(all: &[Captures]) -> [u64; 2] {
+    let mut matches = SEED;
+    let mut slots = SEED;
+    for captures in all {
+        matches = fold_match(matches, captures.get_match());
+        slots = fold_slots(slots, captures.pattern(), captures.slots());
+    }
+    [matches, slots]
+}
+
 fn with_captures(sums: [u64; 2], captures: &Captures) -> [u64; 2] {
     let [matches, slots] = sums;
     [
@@ -127,8 +151,10 @@ pub fn expect_piked_alike(
     assert_eq!(rt; sum_of_captures(captures), searched, "{input:?}");
     let list = piked_list(vm, threads, input);
     assert_eq!(rt; piked_all(*alloc, vm, threads, input)?, list, "{input:?}");
+    let all = piked_captures_all(*alloc, vm, threads, input)?;
     let [matches, slots] = piked_captures(*alloc, vm, threads, input)?;
     assert_eq!(rt; matches, list, "{input:?}");
+    assert_eq!(rt; all, [matches, slots], "{input:?}");
     assert_eq!(rt; piked_steps(vm, threads, input), list, "{input:?}");
     Ok(slots)
 }
@@ -208,7 +234,9 @@ pub fn expect_backtracked_alike(
     assert_eq!(rt; backtracked_steps(engine, marks, input)?, list, "{input:?}");
     let all = engine.try_find_all(*alloc, marks, *input)?;
     assert_eq!(rt; sum_of_matches(&all), list, "{input:?}");
+    let caught = engine.try_captures_all(*alloc, marks, *input)?;
     let [matches, slots] = backtracked_captures(*alloc, engine, marks, input)?;
     assert_eq!(rt; matches, list, "{input:?}");
+    assert_eq!(rt; sums_of_captures(&caught), [matches, slots], "{input:?}");
     Ok(slots)
 }
