@@ -8,15 +8,15 @@ ghost use Rattle.thompson_nfa.specs.Simple.{always, never};
 ghost use Rattle.nfa_paths.specs.Overlaps.{IsOverlapResult};
 ghost use Rattle.nfa_paths.specs.Paths.{span_len, turn_weight, scan_limit, is_utf8_empty, IsAnswer, IsMatchAnswer, IsFoundAnswer, IsWork};
 ghost use Rattle.nfa_pikevm.specs.Engines.{AddsPikeWork, Fits, SameNumbers, kind_of, cache_for, refitted, overlap_scans};
-ghost use Rattle.nfa_pikevm.specs.Scans.{HaveRoom, SameSizes, scan_turns, Serves, Sizes, AreSized};
+ghost use Rattle.nfa_pikevm.specs.Scans.{HaveRoom, SameSizes, scan_turns, sizes_of};
 ghost use Rattle.nfa_search_base.specs.Lists.{IsInside, IsSlotInside};
 
 use crate::cache::Cache;
 use crate::config::{Builder, Config};
 use crate::overlap::overlap;
+use crate::scratch::Threads;
 use crate::search::search;
 use crate::slot::{Slot, hand_out, match_in};
-use crate::threads::Threads;
 use nfa_scanning::first_bytes::FirstBytes;
 use nfa_scanning::starts::is_utf8_empty;
 use nfa_search_base::error::SearchError;
