@@ -42,7 +42,8 @@ fn gather(
     met: &mut bool,
 ) -> bool
     ensures stops { result ≡ ((permitted && nat_lt (number_of pattern) (length patterns.old)) && not past_match) }
-    ensures dead { (permitted && nat_lt (number_of pattern) (length patterns.old)) ≡ false → patterns.new ≡ patterns.old }
+    ensures dead { (permitted && nat_lt (number_of pattern) (length patterns.old)) ≡ false
+        → patterns.new ≡ patterns.old }
     ensures put { (permitted && nat_lt (number_of pattern) (length patterns.old)) ≡ true
         → patterns.new ≡ with_pattern patterns.old (number_of pattern) }
     ensures met { met.new ≡ ((permitted && nat_lt (number_of pattern) (length patterns.old)) || met.old) }
@@ -284,7 +285,8 @@ fn overlap_from(
     ensures sizes { SameSizes threads.old threads.new }
     ensures scans { threads.new.scans ≡ threads.old.scans }
     ensures turns { IsWithinTurns nfa.now (search_of input.now) threads.old threads.new }
-    ensures gains { IsOverlapResult nfa.now (search_of input.now) kind (search_of input.now).earliest patterns.old patterns.new }
+    ensures gains { IsOverlapResult nfa.now (search_of input.now) kind (search_of input.now).earliest patterns.old
+        patterns.new }
 {
     let past_match = kind.continue_past_first_match();
     if input.get_earliest() {
@@ -306,7 +308,8 @@ pub fn overlap(
     patterns: &mut PatternSet,
 )
     requires serves { HaveRoom nfa.now 0 threads.old }
-    ensures result { IsOverlapResult nfa.now (search_of input.now) kind (search_of input.now).earliest patterns.old patterns.new }
+    ensures result { IsOverlapResult nfa.now (search_of input.now) kind (search_of input.now).earliest patterns.old
+        patterns.new }
     ensures scans { threads.new.scans ≡ threads.old.scans + overlap_scans kind patterns.old }
     ensures sizes { SameSizes threads.old threads.new }
     ensures turns { threads.new.reached.seen.turns

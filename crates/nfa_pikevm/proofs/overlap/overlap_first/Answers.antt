@@ -55,8 +55,10 @@ loop-at-preserved c =
       ];
       last = λ past. rw c.move_on.ensures.curr
           (kept-none c.args.nfa.now (search_of c.args.input.now) c.args.patterns.now crosses (omega arith));
-      sizes = c.move_on.ensures.sizes ∙ c.cross_to_set-met.ensures.sizes ∙ c.join.ensures.sizes ∙ c.loop-at.invariant.sizes;
-      width = c.move_on.ensures.width ∙ c.cross_to_set-met.ensures.width ∙ c.join.ensures.width ∙ c.loop-at.invariant.width;
+      sizes = c.move_on.ensures.sizes ∙ c.cross_to_set-met.ensures.sizes ∙ c.join.ensures.sizes
+          ∙ c.loop-at.invariant.sizes;
+      width = c.move_on.ensures.width ∙ c.cross_to_set-met.ensures.width ∙ c.join.ensures.width
+          ∙ c.loop-at.invariant.width;
       next = c.move_on.ensures.next;
       so_far = rw (c.move_on.ensures.seen, c.move_on.ensures.curr)
           (elim c.if-met.branch [

@@ -80,8 +80,10 @@ loop-at-preserved c =
     record {
       counted = c.move_on.ensures.scans ∙ c.cross.ensures.scans ∙ c.join_or_skip-at.ensures.scans
           ∙ c.loop-at.invariant.counted;
-      sizes = c.move_on.ensures.sizes ∙ c.cross.ensures.sizes ∙ c.join_or_skip-at.ensures.sizes ∙ c.loop-at.invariant.sizes;
-      width = c.move_on.ensures.width ∙ c.cross.ensures.width ∙ c.join_or_skip-at.ensures.width ∙ c.loop-at.invariant.width;
+      sizes = c.move_on.ensures.sizes ∙ c.cross.ensures.sizes ∙ c.join_or_skip-at.ensures.sizes
+          ∙ c.loop-at.invariant.sizes;
+      width = c.move_on.ensures.width ∙ c.cross.ensures.width ∙ c.join_or_skip-at.ensures.width
+          ∙ c.loop-at.invariant.width;
       next = c.move_on.ensures.next;
       items = rw kept (AreAt-cross c.args.nfa.now x to width state c.loop-at.limit c.requires.starts.leads crosses);
       low = omega arith;
