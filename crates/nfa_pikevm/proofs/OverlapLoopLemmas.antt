@@ -1,9 +1,8 @@
 -- What the loops over the positions keep.
-use Rattle.std.proofs.Common.{◌≡◌, ℕ, ◌+◌, ◌-◌, ◌*◌, ◌<◌, ◌≤◌, ◌↔◌, inl, inr, Bool, true, false, List, [], ◌∷◌, length, refl, sym, ap, subst, arith, length-append, get_or}
-use Rattle.std.specs.Prelude.{None, Some, All, cond}
-use Rattle.std.proofs.lemmas.Bool.{cases_lt, lt-ltb, le-ltb}
+use Rattle.std.proofs.Common.{◌≡◌, ℕ, ◌+◌, ◌-◌, ◌*◌, ◌≤◌, ◌↔◌, inl, inr, Bool, true, false, List, [], length, refl, sym, ap, subst, arith, get_or}
+use Rattle.std.specs.Prelude.{None, Some, cond}
 use Rattle.std.proofs.lemmas.List.{ext_get_or}
-use Rattle.std.proofs.lemmas.List.Elements.{All-nil, All-push}
+use Rattle.std.proofs.lemmas.List.Elements.{All-nil}
 use Rattle.std.proofs.Math.Nat.{mul-le-mul_right}
 use Rattle.regex_search_core.specs.PatternSets.{size_of_set}
 use Rattle.regex_search_core.specs.Search.{Search}
@@ -23,31 +22,9 @@ use Rattle.nfa_scanning.specs.Marks.{Marks}
 use Rattle.nfa_pikevm.specs.Scans.{with_start, AreStarts, AreAt, IsPaidAt, scan_turns}
 use Rattle.nfa_pikevm.specs.Overlapping.{wants, Gathers, GathersAll, GathersFirst, GoesPast, CrossesInSet}
 use Rattle.nfa_pikevm.specs.declared.scan.Starts.{Starts}
+use Rattle.nfa_pikevm.proofs.RoomLemmas.{few-joined}
 use Rattle.nfa_pikevm.proofs.OverlapSetLemmas.{wants-tells}
 use Rattle.nfa_pikevm.proofs.OverlapScanLemmas.{ScansAt, ScansAt-start, ScansAt-join, ScansAt-over, ScansAt-next, front-rests, lead-scan, whole-front, next-at, next-paid}
-
--- the states with the one that joined
-pub joined-below : (nfa : Automaton) (from : Starts) (at : ℕ) (items : List (ℕ × Slots))
-    → from.state < length nfa.states → All (λ i. i.0 < length nfa.states) items
-    → All (λ i. i.0 < length nfa.states) (with_start from 0 at items)
-joined-below nfa from at items below states =
-    elim (cases_lt at from.limit) [
-      | inl less ↦ rw (lt-ltb at from.limit less)
-          (All-push (λ (i : ℕ × Slots). i.0 < length nfa.states) items (from.state, []) states below)
-      | inr past ↦ rw (le-ltb at from.limit past) states
-    ]
-
-pub joined-few : (from : Starts) (at : ℕ) (items : List (ℕ × Slots))
-    → length (with_start from 0 at items) ≤ length items + 1
-joined-few from at items =
-    elim (cases_lt at from.limit) [
-      | inl less ↦ rw (lt-ltb at from.limit less) (omega (arith, length-append items ((from.state, []) ∷ [])))
-      | inr past ↦ rw (le-ltb at from.limit past) (omega arith)
-    ]
-
-pub no-items : (items : List (ℕ × Slots)) → length items ≡ 0 → items ≡ []
-no-items [] e = refl
-no-items (i ∷ items) e = absurd (omega (arith, e))
 
 -- the turns at a position, up to the next one
 module _ (nfa : Automaton) (x : Search) where
@@ -61,7 +38,7 @@ module _ (nfa : Automaton) (x : Search) where
   pub paid-joined : {at before turns : ℕ} (items : List (ℕ × Slots)) (from : Starts)
       → IsPaidAt nfa x at before turns (length items)
       → turns + length (with_start from 0 at items) ≤ before + (at - x.start) * (1 + turn_weight nfa) + 1
-  paid-joined {at} {before} {turns} items from p = omega (arith, p.bound, joined-few from at items)
+  paid-joined {at} {before} {turns} items from p = omega (arith, p.bound, few-joined from 0 at items)
 
   pub paid-within : {at before turns kept : ℕ} → IsPaidAt nfa x at before turns kept → at ≤ x.end + 1 → x.start ≤ x.end
       → turns ≤ before + scan_turns nfa x

@@ -6,7 +6,7 @@ use Rattle.std.proofs.lemmas.List.Elements.{All-push, All-nil}
 use Rattle.regex_search_core.specs.Search.{Search}
 use Rattle.thompson_nfa.specs.Automaton.{Automaton}
 use Rattle.nfa_paths.specs.Exploring.{Slots}
-use Rattle.nfa_pikevm.specs.Scans.{blank, with_start, AreStarts, Joins, AreAt}
+use Rattle.nfa_pikevm.specs.Scans.{blank, with_start, Joins, AreAt}
 use Rattle.nfa_pikevm.specs.declared.scan.Starts.{Starts}
 
 -- no state is there
@@ -18,18 +18,20 @@ pub none_of : {A : Type 0} (xs : List A) → length xs ≡ 0 → xs ≡ []
 none_of [] e = refl
 none_of (x ∷ xs) e = absurd (omega arith)
 
-module _ (nfa : Automaton) (x : Search) (begins : Starts) (are : AreStarts nfa x begins) (width at : ℕ)
-    (items : List (ℕ × Slots)) where
-  -- the states at a position, with the start
-  pub below-push : AreAt nfa items → All (λ i. i.0 < length nfa.states) (items ++ (begins.state, blank width) ∷ [])
-  below-push a = All-push (λ (i : ℕ × Slots). i.0 < length nfa.states) items (begins.state, blank width)
-      a.states are.state
+-- the states at a position with one that starts, each one of so many
+below-push : {states : ℕ} (width state : ℕ) (items : List (ℕ × Slots)) → state < states
+    → All (λ i. i.0 < states) items → All (λ i. i.0 < states) (items ++ (state, blank width) ∷ [])
+below-push {states} width state items below all =
+    All-push (λ (i : ℕ × Slots). i.0 < states) items (state, blank width) all below
 
-  pub below-joined : AreAt nfa items → All (λ i. i.0 < length nfa.states) (with_start begins width at items)
-  below-joined a =
+module _ (begins : Starts) (width at : ℕ) (items : List (ℕ × Slots)) where
+  -- the same where the start may still join
+  pub below-joined : {states : ℕ} → begins.state < states → All (λ i. i.0 < states) items
+      → All (λ i. i.0 < states) (with_start begins width at items)
+  below-joined below all =
       elim (cases_lt at begins.limit) [
-        | inl less ↦ rw (lt-ltb at begins.limit less) (below-push a)
-        | inr past ↦ rw (le-ltb at begins.limit past) a.states
+        | inl less ↦ rw (lt-ltb at begins.limit less) (below-push width begins.state items below all)
+        | inr past ↦ rw (le-ltb at begins.limit past) all
       ]
 
   -- they are no more than one more
@@ -55,26 +57,28 @@ module _ (nfa : Automaton) (x : Search) (begins : Starts) (are : AreStarts nfa x
         | inr past ↦ past
       ]
 
-  -- the same where starts are passed over
-  module _ (table : List Bool) (limit to : ℕ) (kept : List (ℕ × Slots))
-      (j : Joins table x begins limit width at items to kept) where
-    pub below-joins : AreAt nfa items → All (λ i. i.0 < length nfa.states) kept
-    below-joins a = elim j.last [ inl h ↦ rw h.1 (below-push a) | inr h ↦ rw h.0 a.states ]
+-- the same where starts are passed over
+module _ {table : List Bool} {x : Search} {begins : Starts} {limit width at : ℕ} {items : List (ℕ × Slots)} {to : ℕ}
+    {kept : List (ℕ × Slots)} (j : Joins table x begins limit width at items to kept) where
+  pub below-joins : {states : ℕ} → begins.state < states → All (λ i. i.0 < states) items
+      → All (λ i. i.0 < states) kept
+  below-joins below all =
+      elim j.last [ inl h ↦ rw h.1 (below-push width begins.state items below all) | inr h ↦ rw h.0 all ]
 
-    pub few-joins : length kept ≤ length items + 1
-    few-joins =
-        elim j.last [
-          | inl h ↦ rw h.1 (omega (arith, length-append items ((begins.state, blank width) ∷ [])))
-          | inr h ↦ rw h.0 (omega arith)
-        ]
+  pub few-joins : length kept ≤ length items + 1
+  few-joins =
+      elim j.last [
+        | inl h ↦ rw h.1 (omega (arith, length-append items ((begins.state, blank width) ∷ [])))
+        | inr h ↦ rw h.0 (omega arith)
+      ]
 
-    pub over-joins : kept ≡ [] → limit ≤ to
-    over-joins none =
-        elim (cases_lt at limit) [
-          | inl less ↦ let some : 0 < length kept = j.some less in
-              absurd (omega (arith, ap (λ (xs : List (ℕ × Slots)). length xs) none))
-          | inr past ↦ let le : at ≤ to = j.ahead in omega arith
-        ]
+  pub over-joins : kept ≡ [] → limit ≤ to
+  over-joins none =
+      elim (cases_lt at limit) [
+        | inl less ↦ let some : 0 < length kept = j.some less in
+            absurd (omega (arith, ap (λ (xs : List (ℕ × Slots)). length xs) none))
+        | inr past ↦ let le : at ≤ to = j.ahead in omega arith
+      ]
 
 -- where the start goes on from a position, as passing over goes up to `stop` at most
 

@@ -1,7 +1,8 @@
 -- The set gains the patterns of all matches for which it has room.
 use Rattle.std.proofs.Common.{◌∙◌, sym, arith, length, refl}
 use Rattle.regex_search_core.specs.Search.{search_of}
-use Rattle.nfa_pikevm.proofs.OverlapLoopLemmas.{joined-below, crosses-joined, no-items, All-start, All-next, All-full, All-over, All-end}
+use Rattle.nfa_pikevm.proofs.OverlapLoopLemmas.{crosses-joined, All-start, All-next, All-full, All-over, All-end}
+use Rattle.nfa_pikevm.proofs.RoomLemmas.{none_of, below-joined}
 use Rattle.nfa_pikevm.proofs.overlap.overlap_all.Goals as goal
 
 pub loop-at-init : goal.loop-at-init
@@ -25,12 +26,12 @@ pub returns-then-is_empty-clause-gains : goal.returns-then-is_empty-clause-gains
 returns-then-is_empty-clause-gains c =
     let items = rw c.loop-at.invariant.width at c.join.ensures.curr in
     All-over c.args.nfa.now (search_of c.args.input.now) c.args.patterns.now c.loop-at.invariant.so_far
-    (sym items ∙ no-items c.join.new.threads.curr.items (c.is_empty.ensures.0 c.if-is_empty.true))
+    (sym items ∙ none_of c.join.new.threads.curr.items (c.is_empty.ensures.0 c.if-is_empty.true))
 
 pub cross_to_set-requires-clause-states : goal.cross_to_set-requires-clause-states
 cross_to_set-requires-clause-states c =
     let items = rw c.loop-at.invariant.width at c.join.ensures.curr in
-    rw items (joined-below c.args.nfa.now c.args.starts.now c.loop-at.at c.loop-at.threads.curr.items
+    rw items (below-joined c.args.starts.now 0 c.loop-at.at c.loop-at.threads.curr.items
     c.requires.starts.state c.loop-at.invariant.so_far.stands.states.states)
 
 pub loop-at-preserved : goal.loop-at-preserved

@@ -4,7 +4,8 @@ use Rattle.regex_search_core.specs.Search.{search_of}
 use Rattle.nfa_paths.proofs.ScanAnswerLemmas.{EndsBefore-span}
 use Rattle.nfa_pikevm.specs.Overlapping.{wants}
 use Rattle.nfa_pikevm.proofs.OverlapScanLemmas.{ScansAt-over}
-use Rattle.nfa_pikevm.proofs.OverlapLoopLemmas.{joined-below, crosses-joined, no-items, Stands-turns, Earliest-start, Earliest-next, Earliest-found, Earliest-end}
+use Rattle.nfa_pikevm.proofs.OverlapLoopLemmas.{crosses-joined, Stands-turns, Earliest-start, Earliest-next, Earliest-found, Earliest-end}
+use Rattle.nfa_pikevm.proofs.RoomLemmas.{none_of, below-joined}
 use Rattle.nfa_pikevm.proofs.overlap.overlap_earliest.Goals as goal
 
 pub loop-at-init : goal.loop-at-init
@@ -27,12 +28,12 @@ returns-then-is_empty-clause-gains c =
     c.loop-at.invariant.so_far
     (ScansAt-over c.args.nfa.now (search_of c.args.input.now) c.args.patterns.now c.args.starts.now c.loop-at.at
     c.loop-at.threads.reached.seen c.loop-at.threads.curr.items c.loop-at.invariant.so_far.stands.scans
-    (sym items ∙ no-items c.join.new.threads.curr.items (c.is_empty.ensures.0 c.if-is_empty.true)))
+    (sym items ∙ none_of c.join.new.threads.curr.items (c.is_empty.ensures.0 c.if-is_empty.true)))
 
 pub cross_to_set-met-requires-clause-states : goal.cross_to_set-met-requires-clause-states
 cross_to_set-met-requires-clause-states c =
     let items = rw c.loop-at.invariant.width at c.join.ensures.curr in
-    rw items (joined-below c.args.nfa.now c.args.starts.now c.loop-at.at c.loop-at.threads.curr.items
+    rw items (below-joined c.args.starts.now 0 c.loop-at.at c.loop-at.threads.curr.items
     c.requires.starts.state c.loop-at.invariant.so_far.stands.states.states)
 
 pub returns-then-met-clause-turns : goal.returns-then-met-clause-turns

@@ -2,8 +2,9 @@
 use Rattle.std.proofs.Common.{◌∙◌, sym, arith, length, refl}
 use Rattle.regex_search_core.specs.Search.{search_of}
 use Rattle.nfa_pikevm.proofs.OverlapScanLemmas.{kept-none}
-use Rattle.nfa_pikevm.proofs.OverlapLoopLemmas.{joined-below, crosses-joined, no-items}
+use Rattle.nfa_pikevm.proofs.OverlapLoopLemmas.{crosses-joined}
 use Rattle.nfa_pikevm.proofs.OverlapFirstLemmas.{FirstWay-capacity, FirstWay-start, FirstWay-next, FirstWay-cut, FirstWay-over, FirstWay-end}
+use Rattle.nfa_pikevm.proofs.RoomLemmas.{none_of, below-joined}
 use Rattle.nfa_pikevm.proofs.overlap.overlap_first.Goals as goal
 use Rattle.nfa_pikevm.proofs.overlap.overlap_first.Goals.{then-met, else-met}
 
@@ -27,12 +28,12 @@ returns-then-is_empty-clause-gains c =
     let items = rw c.loop-at.invariant.width at c.join.ensures.curr in
     FirstWay-over c.args.nfa.now (search_of c.args.input.now) c.args.patterns.now c.requires.valid c.requires.empty
     c.loop-at.invariant.so_far
-    (sym items ∙ no-items c.join.new.threads.curr.items (c.is_empty.ensures.0 c.if-is_empty.true))
+    (sym items ∙ none_of c.join.new.threads.curr.items (c.is_empty.ensures.0 c.if-is_empty.true))
 
 pub cross_to_set-met-requires-clause-states : goal.cross_to_set-met-requires-clause-states
 cross_to_set-met-requires-clause-states c =
     let items = rw c.loop-at.invariant.width at c.join.ensures.curr in
-    rw items (joined-below c.args.nfa.now c.loop-at.joining c.loop-at.at c.loop-at.threads.curr.items
+    rw items (below-joined c.loop-at.joining 0 c.loop-at.at c.loop-at.threads.curr.items
     c.loop-at.invariant.state c.loop-at.invariant.so_far.states.states)
 
 pub loop-at-preserved : goal.loop-at-preserved

@@ -36,9 +36,7 @@ returns-then-is_empty-clause-answer c =
     let to = c.join_or_skip-at.result in
     let none = none_of c.join_or_skip-at.new.threads.curr.items (c.is_empty.ensures.0 c.if-is_empty.true) in
     let joins = rw c.loop-at.invariant.width at c.join_or_skip-at.ensures.joins in
-    let past : c.loop-at.limit ≤ to = over-joins c.args.nfa.now x c.args.starts.now c.requires.starts width c.loop-at.at
-    c.loop-at.threads.curr.items c.args.first.now.may_begin c.loop-at.limit to
-    c.join_or_skip-at.new.threads.curr.items joins none in
+    let past : c.loop-at.limit ≤ to = over-joins joins none in
     let next : c.loop-at.limit ≤ to + 1 = omega arith in
     let s = SearchesFirst-joins c.args.nfa.now x c.args.first.now.may_begin c.requires.first c.args.starts.now
     c.requires.starts c.loop-at.limit width c.loop-at.at to c.loop-at.invariant.low joins
@@ -51,10 +49,7 @@ returns-then-is_empty-clause-answer c =
 
 pub cross-requires-clause-states : goal.cross-requires-clause-states
 cross-requires-clause-states c =
-    below-joins c.args.nfa.now (search_of c.args.input.now) c.args.starts.now c.requires.starts
-    (length c.args.slots.now) c.loop-at.at c.loop-at.threads.curr.items c.args.first.now.may_begin c.loop-at.limit
-    c.join_or_skip-at.result c.join_or_skip-at.new.threads.curr.items
-    (rw c.loop-at.invariant.width at c.join_or_skip-at.ensures.joins) c.loop-at.invariant.items
+    below-joins c.join_or_skip-at.ensures.joins c.requires.starts.state c.loop-at.invariant.items.states
 
 pub loop-at-preserved : goal.loop-at-preserved
 loop-at-preserved c =
@@ -73,9 +68,7 @@ loop-at-preserved c =
     (SearchesFirst-joins c.args.nfa.now x c.args.first.now.may_begin c.requires.first c.args.starts.now
     c.requires.starts c.loop-at.limit width c.loop-at.at to low joins c.loop-at.invariant.searches) in
     let crosses = c.cross.ensures.crosses in
-    let few = few-joins c.args.nfa.now x c.args.starts.now c.requires.starts width c.loop-at.at
-    c.loop-at.threads.curr.items c.args.first.now.may_begin c.loop-at.limit to
-    c.join_or_skip-at.new.threads.curr.items joins in
+    let few = few-joins joins in
     let kept = c.move_on.ensures.curr in
     record {
       counted = c.move_on.ensures.scans ∙ c.cross.ensures.scans ∙ c.join_or_skip-at.ensures.scans

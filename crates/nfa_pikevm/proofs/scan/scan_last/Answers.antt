@@ -29,8 +29,8 @@ returns-then-is_empty-clause-answer c =
     let none = none_of c.join.new.threads.curr.items (c.is_empty.ensures.0 c.if-is_empty.true) in
     let items = rw c.loop-at.invariant.width at c.join.ensures.curr in
     let past : c.args.starts.now.limit ≤ c.loop-at.at =
-    over-joined c.args.nfa.now (search_of c.args.input.now) c.args.starts.now c.requires.starts
-    (length c.args.slots.now) c.loop-at.at c.loop-at.threads.curr.items (sym items ∙ none) in
+    over-joined c.args.starts.now (length c.args.slots.now) c.loop-at.at c.loop-at.threads.curr.items
+    (sym items ∙ none) in
     let s = ScansAll-join c.args.nfa.now (search_of c.args.input.now) c.args.starts.now c.loop-at.at
     (length c.args.slots.now) c.loop-at.threads.reached.seen c.join.new.threads.reached.seen c.join.ensures.seen
     c.loop-at.threads.curr.items c.join.new.threads.curr.items items c.loop-at.invariant.scans in
@@ -44,8 +44,8 @@ returns-then-is_empty-clause-answer c =
 pub cross-requires-clause-states : goal.cross-requires-clause-states
 cross-requires-clause-states c =
     rw (rw c.loop-at.invariant.width at c.join.ensures.curr)
-    (below-joined c.args.nfa.now (search_of c.args.input.now) c.args.starts.now c.requires.starts
-    (length c.args.slots.now) c.loop-at.at c.loop-at.threads.curr.items c.loop-at.invariant.items)
+    (below-joined c.args.starts.now (length c.args.slots.now) c.loop-at.at c.loop-at.threads.curr.items
+    c.requires.starts.state c.loop-at.invariant.items.states)
 
 pub loop-at-preserved : goal.loop-at-preserved
 loop-at-preserved c =
@@ -58,8 +58,7 @@ loop-at-preserved c =
     c.loop-at.threads.curr.items c.join.new.threads.curr.items items c.loop-at.invariant.scans in
     let crosses = c.cross.ensures.crosses in
     let few : length c.join.new.threads.curr.items ≤ length c.loop-at.threads.curr.items + 1 =
-    rw items (few-joined c.args.nfa.now x c.args.starts.now c.requires.starts width c.loop-at.at
-    c.loop-at.threads.curr.items) in
+    rw items (few-joined c.args.starts.now width c.loop-at.at c.loop-at.threads.curr.items) in
     let kept = c.move_on.ensures.curr in
     record {
       counted = c.move_on.ensures.scans ∙ c.cross.ensures.scans ∙ c.join.ensures.scans ∙ c.loop-at.invariant.counted;
