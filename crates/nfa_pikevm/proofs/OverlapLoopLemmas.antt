@@ -1,9 +1,8 @@
 -- What the loops over the positions keep.
-use Rattle.std.proofs.Common.{◌≡◌, ℕ, ◌+◌, ◌-◌, ◌*◌, ◌<◌, ◌≤◌, ◌↔◌, inl, inr, Bool, true, false, List, [], ◌∷◌, length, refl, sym, ap, ◌∙◌, subst, arith, length-append, get_or}
-use Rattle.std.specs.Prelude.{None, Some, All, cond}
-use Rattle.std.proofs.lemmas.Bool.{cases_lt, lt-ltb, le-ltb}
+use Rattle.std.proofs.Common.{◌≡◌, ℕ, ◌+◌, ◌-◌, ◌*◌, ◌≤◌, ◌↔◌, inl, inr, Bool, true, false, List, [], length, refl, sym, ap, subst, arith, get_or}
+use Rattle.std.specs.Prelude.{None, Some, cond}
 use Rattle.std.proofs.lemmas.List.{ext_get_or}
-use Rattle.std.proofs.lemmas.List.Elements.{All-nil, All-push}
+use Rattle.std.proofs.lemmas.List.Elements.{All-nil}
 use Rattle.std.proofs.Math.Nat.{mul-le-mul_right}
 use Rattle.regex_search_core.specs.PatternSets.{size_of_set}
 use Rattle.regex_search_core.specs.Search.{Search}
@@ -20,146 +19,12 @@ use Rattle.nfa_paths.proofs.ScanLemmas.{NoneBefore-start, NoneBefore-step, NoneB
 use Rattle.nfa_paths.proofs.KindsLemmas.{first_match-is}
 use Rattle.nfa_paths.proofs.OverlapLemmas.{wanted-shape, GainsBefore, GainsBefore-start, GainsBefore-step, GainsBefore-end, GainsBefore-full, NoneHeld, NoneHeld-start, NoneHeld-step, NoneHeld-found, NoneHeld-end, FirstAt-front, FirstAt-found, First-none, full-gains, first-gains}
 use Rattle.nfa_scanning.specs.Marks.{Marks}
-use Rattle.nfa_pikevm.specs.Rows.{Active}
-use Rattle.nfa_pikevm.specs.Scans.{with_start, HasThreads, Sizes, AreSized, AreStarts, AreAt, IsPaidAt, scan_turns}
+use Rattle.nfa_pikevm.specs.Scans.{with_start, AreStarts, AreAt, IsPaidAt, scan_turns}
 use Rattle.nfa_pikevm.specs.Overlapping.{wants, Gathers, GathersAll, GathersFirst, GoesPast, CrossesInSet}
 use Rattle.nfa_pikevm.specs.declared.scan.Starts.{Starts}
+use Rattle.nfa_pikevm.proofs.RoomLemmas.{few-joined}
 use Rattle.nfa_pikevm.proofs.OverlapSetLemmas.{wants-tells}
 use Rattle.nfa_pikevm.proofs.OverlapScanLemmas.{ScansAt, ScansAt-start, ScansAt-join, ScansAt-over, ScansAt-next, front-rests, lead-scan, whole-front, next-at, next-paid}
-
--- the room that the threads keep, and that no state is kept for the next position
-pub record Keeps (nfa : Automaton) (met0 : Marks) (frames0 : ℕ) (curr0 next0 : Active) (met : Marks) (frames : ℕ)
-    (curr next : Active) : Type 0 where
-  pub room : HasThreads nfa 0 met frames curr next
-  pub empty : next.items ≡ []
-  pub sizes : (size : Sizes) → AreSized size met0 frames0 curr0 next0 → AreSized size met frames curr next
-
-pub Keeps-start : (nfa : Automaton) (met : Marks) (frames : ℕ) (curr next : Active)
-    → HasThreads nfa 0 met frames curr next → next.items ≡ [] → Keeps nfa met frames curr next met frames curr next
-Keeps-start nfa met frames curr next room empty = record { room = room; empty = empty; sizes = λ size s. s }
-
--- the same but for the states that are kept
-record SameShape (a b : Active) : Type 0 where
-  width : b.width ≡ a.width
-  places : b.places ≡ a.places
-  cells : b.cells ≡ a.cells
-
-same-shape : (a b : Active) (items : List (ℕ × Slots)) → b ≡ record a { items = items } → SameShape a b
-same-shape a b items e = record {
-  width = ap (λ (z : Active). z.width) e;
-  places = ap (λ (z : Active). z.places) e;
-  cells = ap (λ (z : Active). z.cells) e;
-}
-
--- a start joins the states
-pub room-joined : {nfa : Automaton} {met : Marks} {frames : ℕ} {curr next : Active} (after : Active)
-    (items : List (ℕ × Slots)) (met1 : Marks) (frames1 : ℕ) (next1 : Active)
-    → HasThreads nfa 0 met frames curr next → after ≡ record curr { items = items } → met1 ≡ met → frames1 ≡ frames
-    → next1 ≡ next → HasThreads nfa 0 met1 frames1 after next1
-room-joined {nfa} {met} {frames} {curr} {next} after items met1 frames1 next1 room e m f n =
-    let s = same-shape curr after items e in
-    rw (m, f, n) (record {
-      serves = record {
-        marks = room.serves.marks;
-        frames_fit = room.serves.frames_fit;
-        curr_places = rw s.places room.serves.curr_places;
-        next_places = room.serves.next_places;
-        curr_cells = omega arith;
-        next_cells = room.serves.next_cells;
-      };
-      curr_width = s.width ∙ room.curr_width;
-      next_width = room.next_width;
-    })
-
--- the next position
-pub Keeps-next : {nfa : Automaton} {met0 : Marks} {frames0 : ℕ} {curr0 next0 : Active} (met : Marks) (frames : ℕ)
-    (curr next joined_curr crossed_curr crossed_next curr1 next1 : Active) (met1 : Marks) (frames1 : ℕ)
-    (items : List (ℕ × Slots))
-    → Keeps nfa met0 frames0 curr0 next0 met frames curr next → joined_curr ≡ record curr { items = items }
-    → crossed_curr ≡ record joined_curr { items = crossed_curr.items }
-    → crossed_next ≡ record next { items = crossed_next.items } → curr1 ≡ crossed_next
-    → next1 ≡ record crossed_curr { items = [] } → length met1.bits ≡ length met.bits → frames1 ≡ frames
-    → Keeps nfa met0 frames0 curr0 next0 met1 frames1 curr1 next1
-Keeps-next {nfa} {met0} {frames0} {curr0} {next0} met frames curr next joined_curr crossed_curr crossed_next curr1 next1
-    met1 frames1 items k j c n e f m g =
-    let sj = same-shape curr joined_curr items j in
-    let sc = same-shape joined_curr crossed_curr crossed_curr.items c in
-    let sn = same-shape next crossed_next crossed_next.items n in
-    let s1 = same-shape crossed_curr next1 [] f in
-    let width1 : curr1.width ≡ next.width = ap (λ (z : Active). z.width) e ∙ sn.width in
-    let places1 : curr1.places ≡ next.places = ap (λ (z : Active). z.places) e ∙ sn.places in
-    let cells1 : curr1.cells ≡ next.cells = ap (λ (z : Active). z.cells) e ∙ sn.cells in
-    let width2 : next1.width ≡ curr.width = s1.width ∙ sc.width ∙ sj.width in
-    let places2 : next1.places ≡ curr.places = s1.places ∙ sc.places ∙ sj.places in
-    let cells2 : next1.cells ≡ curr.cells = s1.cells ∙ sc.cells ∙ sj.cells in
-    record {
-      room = record {
-        serves = record {
-          marks = rw m k.room.serves.marks;
-          frames_fit = rw g k.room.serves.frames_fit;
-          curr_places = rw places1 k.room.serves.next_places;
-          next_places = rw places2 k.room.serves.curr_places;
-          curr_cells = omega arith;
-          next_cells = omega arith;
-        };
-        curr_width = width1 ∙ k.room.next_width;
-        next_width = width2 ∙ k.room.curr_width;
-      };
-      empty = ap (λ (z : Active). z.items) f;
-      sizes = λ size s.
-          let old = k.sizes size s in
-          record {
-            marks = m ∙ old.marks;
-            frames_are = g ∙ old.frames_are;
-            curr_places = places1 ∙ old.next_places;
-            next_places = places2 ∙ old.curr_places;
-            curr_cells = cells1 ∙ old.next_cells;
-            next_cells = cells2 ∙ old.curr_cells;
-          };
-    }
-
--- where the width is none
-pub joined-width : (from : Starts) (width at : ℕ) (items : List (ℕ × Slots)) → width ≡ 0
-    → with_start from width at items ≡ with_start from 0 at items
-joined-width from width at items none = ap (λ w. with_start from w at items) none
-
-pub sizes-joined : {size : Sizes} {met : Marks} {frames : ℕ} {curr next : Active} (after : Active)
-    (items : List (ℕ × Slots)) (met1 : Marks) (frames1 : ℕ) (next1 : Active)
-    → AreSized size met frames curr next → after ≡ record curr { items = items } → met1 ≡ met → frames1 ≡ frames
-    → next1 ≡ next → AreSized size met1 frames1 after next1
-sizes-joined {size} {met} {frames} {curr} {next} after items met1 frames1 next1 s e m f n =
-    let t = same-shape curr after items e in
-    rw (m, f, n) (record {
-      marks = s.marks;
-      frames_are = s.frames_are;
-      curr_places = t.places ∙ s.curr_places;
-      next_places = s.next_places;
-      curr_cells = t.cells ∙ s.curr_cells;
-      next_cells = s.next_cells;
-    })
-
--- the states with the one that joined
-pub joined-below : (nfa : Automaton) (from : Starts) (at : ℕ) (items : List (ℕ × Slots))
-    → from.state < length nfa.states → All (λ i. i.0 < length nfa.states) items
-    → All (λ i. i.0 < length nfa.states) (with_start from 0 at items)
-joined-below nfa from at items below states =
-    elim (cases_lt at from.limit) [
-      | inl less ↦ rw (lt-ltb at from.limit less)
-          (All-push (λ (i : ℕ × Slots). i.0 < length nfa.states) items (from.state, []) states below)
-      | inr past ↦ rw (le-ltb at from.limit past) states
-    ]
-
-pub joined-few : (from : Starts) (at : ℕ) (items : List (ℕ × Slots))
-    → length (with_start from 0 at items) ≤ length items + 1
-joined-few from at items =
-    elim (cases_lt at from.limit) [
-      | inl less ↦ rw (lt-ltb at from.limit less) (omega (arith, length-append items ((from.state, []) ∷ [])))
-      | inr past ↦ rw (le-ltb at from.limit past) (omega arith)
-    ]
-
-pub no-items : (items : List (ℕ × Slots)) → length items ≡ 0 → items ≡ []
-no-items [] e = refl
-no-items (i ∷ items) e = absurd (omega (arith, e))
 
 -- the turns at a position, up to the next one
 module _ (nfa : Automaton) (x : Search) where
@@ -173,7 +38,7 @@ module _ (nfa : Automaton) (x : Search) where
   pub paid-joined : {at before turns : ℕ} (items : List (ℕ × Slots)) (from : Starts)
       → IsPaidAt nfa x at before turns (length items)
       → turns + length (with_start from 0 at items) ≤ before + (at - x.start) * (1 + turn_weight nfa) + 1
-  paid-joined {at} {before} {turns} items from p = omega (arith, p.bound, joined-few from at items)
+  paid-joined {at} {before} {turns} items from p = omega (arith, p.bound, few-joined from 0 at items)
 
   pub paid-within : {at before turns kept : ℕ} → IsPaidAt nfa x at before turns kept → at ≤ x.end + 1 → x.start ≤ x.end
       → turns ≤ before + scan_turns nfa x
@@ -390,13 +255,6 @@ module _ (nfa : Automaton) (x : Search) (old : List Bool) where
       (wanted-shape nfa x old (wants nfa x (length old)) (wants-tells nfa x (length old))) a.none ends)
       true (empty refl))
 
--- the items with the start that joined
-pub joined-items : (from : Starts) (at : ℕ) (curr after : Active)
-    → after ≡ record curr { items = with_start from curr.width at curr.items } → curr.width ≡ 0
-    → after.items ≡ with_start from 0 at curr.items
-joined-items from at curr after e none = ap (λ (z : Active). z.items) e
-    ∙ joined-width from curr.width at curr.items none
-
 -- what the position came to, from the items before the start joined
 pub crosses-joined : {nfa : Automaton} {x : Search} {at : ℕ} {past : Bool} {m : ℕ} {met1 : Marks}
     {items1 : List (ℕ × Slots)} {set : List Bool} {hit : Bool} {after : Marks} {kept : List (ℕ × Slots)}
@@ -416,22 +274,6 @@ All-start nfa x from are met items set none = record {
   stands = Stands-start nfa x set from are met items none;
   gains = GainsBefore-start nfa x set (wants nfa x (length set)) (wants-tells nfa x (length set));
 }
-
--- the sizes of threads that were set up
-pub sizes-set_up : {size : Sizes} {met : Marks} {frames : ℕ} {curr next : Active} (curr1 next1 : Active)
-    (met1 : Marks) (frames1 : ℕ)
-    → AreSized size met frames curr next → curr1 ≡ record curr { items = []; width = 0 }
-    → next1 ≡ record next { items = []; width = 0 } → met1 ≡ met → frames1 ≡ frames
-    → AreSized size met1 frames1 curr1 next1
-sizes-set_up {size} {met} {frames} {curr} {next} curr1 next1 met1 frames1 s c n m f =
-    rw (m, f) (record {
-      marks = s.marks;
-      frames_are = s.frames_are;
-      curr_places = ap (λ (z : Active). z.places) c ∙ s.curr_places;
-      next_places = ap (λ (z : Active). z.places) n ∙ s.next_places;
-      curr_cells = ap (λ (z : Active). z.cells) c ∙ s.curr_cells;
-      next_cells = ap (λ (z : Active). z.cells) n ∙ s.next_cells;
-    })
 
 -- a set with no room gains nothing
 pub full-result : (nfa : Automaton) (x : Search) (kind : MatchKind) (earliest : Bool) (set : List Bool)

@@ -152,8 +152,9 @@ module _ (nfa : Automaton) (x : Search) where
   module _ (target : Pair → Bool) (left : ℕ) (otherwise : Hit) (marks : List Pair) (at : ℕ) (g : Hit) where
     answer-edges : (vs : List Pair) (s : Slots) (items : List (ℕ × Slots)) (work rest : List Item) (slots : Slots)
         → ((v : Pair) → In v vs → v.1 ≡ at)
-        → ((after : Slots) → ExploresTo (edges nfa x) target (capture nfa) left otherwise marks (tasks at items work) after
-        g → ExploresTo (edges nfa x) target (capture nfa) left otherwise marks rest s g)
+        → ((after : Slots) → ExploresTo (edges nfa x) target (capture nfa) left otherwise marks
+        (tasks at items work) after g
+        → ExploresTo (edges nfa x) target (capture nfa) left otherwise marks rest s g)
         → ExploresTo (edges nfa x) target (capture nfa) left otherwise marks
         (tasks at (map (λ v. (v.0, s)) vs ++ items) work) slots g
         → ExploresTo (edges nfa x) target (capture nfa) left otherwise marks (map ToExplore vs ++ rest) s g

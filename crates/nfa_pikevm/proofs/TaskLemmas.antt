@@ -161,8 +161,9 @@ module _ (edges : Pair → List Pair) (target : Pair → Bool) (capture : Pair �
   -- a search begins, where some turns were taken before
   pub Searching-begin : (Seen : Pair → Type 0) (spent : ℕ) (otherwise : Hit) (starts : List Pair)
       (slots current : Slots) → ((v : Pair) → Seen v → ⊥)
-      → Searching edges target capture (λ g total. ExploresTo edges target capture total otherwise [] (map Explore starts)
-      slots g) Seen spent [] otherwise (Load slots ∷ seeds slots starts) current
+      → Searching edges target capture
+      (λ g total. ExploresTo edges target capture total otherwise [] (map Explore starts) slots g) Seen spent []
+      otherwise (Load slots ∷ seeds slots starts) current
   unfolding ExploresTo ExploresBehind
   Searching-begin Seen spent otherwise starts slots current fresh = record {
     marks = [];

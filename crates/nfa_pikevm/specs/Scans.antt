@@ -12,10 +12,9 @@ use Rattle.nfa_paths.specs.Kinds.{Scanning}
 pub use Rattle.nfa_paths.specs.Restarts.{scan_turns}
 use Rattle.nfa_scanning.specs.FirstBytes.{IsRefused}
 use Rattle.nfa_scanning.specs.Marks.{Marks}
-use Rattle.nfa_pikevm.specs.Rows.{Active}
 use Rattle.nfa_pikevm.specs.Engines.{room_of}
 use Rattle.nfa_pikevm.specs.declared.scan.Starts.{Starts}
-use Rattle.nfa_pikevm.specs.declared.threads.Threads.{Threads}
+use Rattle.nfa_pikevm.specs.declared.scratch.Threads.{Threads}
 use Rattle.nfa_pikevm.specs.States.{tasks, unmarked, SeenAt, SearchingAt}
 
 -- a row with no slot set
@@ -26,21 +25,6 @@ blank width = replicate width None
 abbrev pub starts_from : ℕ → ℕ → ℕ → ℕ → List Item
 starts_from width start at limit = seeds (blank width) (pairs_from start at (limit - at))
 
--- There is room for all states of the NFA, and for one more that starts, with rows of this width.
-pub record Serves (nfa : Automaton) (width : ℕ) (met : Marks) (frames : ℕ) (curr next : Active) : Type 0 where
-  pub marks : length nfa.states ≤ length met.bits
-  pub frames_fit : sum_by room_of nfa.states ≤ frames
-  pub curr_places : length nfa.states < curr.places
-  pub next_places : length nfa.states < next.places
-  pub curr_cells : curr.places * width ≤ curr.cells
-  pub next_cells : next.places * width ≤ next.cells
-
--- and the rows have this width
-pub record HasThreads (nfa : Automaton) (width : ℕ) (met : Marks) (frames : ℕ) (curr next : Active) : Type 0 where
-  pub serves : Serves nfa width met frames curr next
-  pub curr_width : curr.width ≡ width
-  pub next_width : next.width ≡ width
-
 -- for how many states there are marks, for how many there is room in each of the two sets, the cells of the rows of
 -- each, and the frames
 pub record Sizes : Type 0 where
@@ -49,28 +33,34 @@ pub record Sizes : Type 0 where
   pub cells : ℕ
   pub frames : ℕ
 
--- these are the sizes
-pub record AreSized (size : Sizes) (met : Marks) (frames : ℕ) (curr next : Active) : Type 0 where
-  pub marks : length met.bits ≡ size.states
-  pub frames_are : frames ≡ size.frames
-  pub curr_places : curr.places ≡ size.places
-  pub next_places : next.places ≡ size.places
-  pub curr_cells : curr.cells ≡ size.cells
-  pub next_cells : next.cells ≡ size.cells
+-- the sizes of the threads, whose two sets are alike
+abbrev pub sizes_of : Threads → Sizes
+sizes_of t = record {
+  states = length t.reached.seen.bits;
+  places = t.curr.places;
+  cells = t.curr.cells;
+  frames = length t.frames.items;
+}
+
+-- There is room for all states of the NFA, and for one more that starts, with rows of this width.
+pub record Serves (nfa : Automaton) (width : ℕ) (size : Sizes) : Type 0 where
+  pub marks : length nfa.states ≤ size.states
+  pub places : length nfa.states < size.places
+  pub cells : size.places * width ≤ size.cells
+  pub frames_fit : sum_by room_of nfa.states ≤ size.frames
 
 -- the threads have room for a search of the NFA, with rows of this width
 abbrev pub HaveRoom : Automaton → ℕ → Threads → Type 0
-HaveRoom nfa width t = Serves nfa width t.reached.seen (length t.frames.items) t.curr t.reached.next
+HaveRoom nfa width t = Serves nfa width (sizes_of t)
 
 -- and their rows have this width
-abbrev pub HaveRows : Automaton → ℕ → Threads → Type 0
-HaveRows nfa width t = HasThreads nfa width t.reached.seen (length t.frames.items) t.curr t.reached.next
+pub record HaveRows (nfa : Automaton) (width : ℕ) (t : Threads) : Type 0 where
+  pub room : HaveRoom nfa width t
+  pub width_is : t.curr.width ≡ width
 
 -- the threads have the sizes that they had
 abbrev pub SameSizes : Threads → Threads → Type 0
-SameSizes old new =
-    (size : Sizes) → AreSized size old.reached.seen (length old.frames.items) old.curr old.reached.next
-    → AreSized size new.reached.seen (length new.frames.items) new.curr new.reached.next
+SameSizes old new = sizes_of new ≡ sizes_of old
 
 -- the scan's starts, and which of them may be passed over; and each state leads to states of the NFA
 pub record AreStarts (nfa : Automaton) (x : Search) (starts_at : Starts) : Type 0 where

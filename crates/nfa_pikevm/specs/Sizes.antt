@@ -2,10 +2,9 @@
 use Rattle.std.specs.Prelude.{◌≡◌, ◌⊎◌, ℕ, ◌+◌, ◌*◌, ◌^◌, ◌≤◌, length}
 use Rattle.regex_search_core.specs.Groups.{slot_count}
 use Rattle.thompson_nfa.specs.Automaton.{Automaton}
-use Rattle.nfa_scanning.specs.Marks.{Marks}
-use Rattle.nfa_pikevm.specs.Rows.{Active}
 use Rattle.nfa_pikevm.specs.Engines.{stack_places}
-use Rattle.nfa_pikevm.specs.Scans.{Sizes, AreSized}
+use Rattle.nfa_pikevm.specs.Scans.{Sizes, sizes_of}
+use Rattle.nfa_pikevm.specs.declared.scratch.Threads.{Threads}
 use Rattle.nfa_pikevm.specs.declared.sizes.Size.{Size}
 
 -- the sizes for so many states and slots, and such a stack: in each set a place more than states, with a row of all
@@ -18,10 +17,10 @@ sizes_for states slots frames = record {
   frames = frames;
 }
 
--- The parts of a cache are for so many states and slots, and their stack is of so many frames. `found` is the length of
--- the row that a search fills.
-pub record IsRoomFor (states slots frames : ℕ) (met : Marks) (stack : ℕ) (curr next : Active) (found : ℕ) : Type 0 where
-  pub sized : AreSized (sizes_for states slots frames) met stack curr next
+-- The threads of a cache have the sizes for its states and frames, and for so many slots. `found` is the length of the
+-- row that a search fills.
+pub record IsRoomFor (slots : ℕ) (t : Threads) (found : ℕ) : Type 0 where
+  pub sized : sizes_of t ≡ sizes_for (length t.reached.seen.bits) slots (length t.frames.items)
   pub row : found ≡ slots
 
 -- The size tells the places and the cells of a set.

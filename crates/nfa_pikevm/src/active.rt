@@ -49,7 +49,8 @@ impl Model for ActiveStates {
 #[inline(always)]
 fn put_row(rows: &mut [Slot], before: usize, row: &[Slot])
     requires { before * length row.now + length row.now ≤ length rows.old }
-    ensures { take (before * length row.now + length row.now) rows.new ≡ take (before * length row.now) rows.old ++ row.now }
+    ensures { take (before * length row.now + length row.now) rows.new
+        ≡ take (before * length row.now) rows.old ++ row.now }
 {
     let start = before * row.len();
     copy_row(&mut rows[start..start + row.len()], row);

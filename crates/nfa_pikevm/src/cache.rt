@@ -3,9 +3,9 @@ ghost use Rattle.std.specs.Prelude.{◌≡◌, ◌↔◌, IfOk, OnOk, OnErr, IsO
 ghost use Rattle.nfa_pikevm.specs.Engines.{Fits, cache_for, refitted, pike_memory_of};
 
 use crate::engine::PikeVM;
+use crate::scratch::Threads;
 use crate::sizes::{make_room, size_for, stack_places};
 use crate::slot::Slot;
-use crate::threads::Threads;
 use nfa_scanning::counter::Counter;
 use nfa_search_base::error::SearchError;
 use regex_search_core::Refused;
@@ -49,9 +49,7 @@ impl Model for Cache {
       all_turns = c.past_turns + c.threads.reached.seen.turns;
     } };
 
-    ghost invariant = { λ c. IsRoomFor (length c.threads.reached.seen.bits) c.slots (length c.threads.frames.items)
-        c.threads.reached.seen (length c.threads.frames.items) c.threads.curr c.threads.reached.next
-        (length c.found.items) };
+    ghost invariant = { λ c. IsRoomFor c.slots c.threads (length c.found.items) };
 }
 
 impl Cache {

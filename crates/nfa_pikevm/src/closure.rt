@@ -62,7 +62,8 @@ fn push(frames: &mut [FollowEpsilon], top: &mut usize, frame: FollowEpsilon)
 fn put_off(frames: &mut [FollowEpsilon], top: &mut usize, alternates: &[StateID])
     requires { top.old + length (drop 1 alternates.now) ≤ length frames.old }
     ensures top { top.new ≡ top.old + length (drop 1 alternates.now) }
-    ensures stack { take top.new frames.new ≡ take top.old frames.old ++ map (λ sid. Explore sid) (reverse (drop 1 alternates.now)) }
+    ensures stack { take top.new frames.new
+        ≡ take top.old frames.old ++ map (λ sid. Explore sid) (reverse (drop 1 alternates.now)) }
 {
     let mut left = alternates.len();
     while left > 1 {
@@ -99,7 +100,8 @@ fn keep(target: Option<StateID>, next: &mut ActiveStates, slots: &[Slot])
     requires room { length next.old.items < next.old.places }
     requires width { length slots.now ≡ next.old.width }
     ensures none { target ≡ None → next.new ≡ next.old }
-    ensures some { (sid : ℕ) → target ≡ Some sid → next.new ≡ record next.old { items = next.old.items ++ (sid, slots.now) ∷ [] } }
+    ensures some { (sid : ℕ) → target ≡ Some sid
+        → next.new ≡ record next.old { items = next.old.items ++ (sid, slots.now) ∷ [] } }
 {
     if let Some(sid) = target {
         next.push(sid, slots);
@@ -206,7 +208,8 @@ pub fn resume(frames: &[FollowEpsilon], top: &mut usize, row: &mut [Slot]) -> Op
     requires slots { All (HasSlot (length row.old)) (take top.old frames.now) }
     ensures top { top.new ≤ top.old }
     ensures tried { sum_by tries (take top.new frames.now) + tries_of result ≡ sum_by tries (take top.old frames.now) }
-    ensures state { (states : ℕ) → All (IsWithin states (length row.old)) (take top.old frames.now) → IsBelow states result }
+    ensures state { (states : ℕ) → All (IsWithin states (length row.old)) (take top.old frames.now)
+        → IsBelow states result }
     ensures over { result ≡ None → top.new ≡ 0 }
     ensures follows { (nfa : Automaton) (x : Search) (at : ℕ) (met : Marks) (front : Front) (work : List Item)
         → Follows nfa x at met front (work_onto at (take top.old frames.now) work) row.old met front

@@ -8,15 +8,15 @@ ghost use Rattle.thompson_nfa.specs.Simple.{always, never};
 ghost use Rattle.nfa_paths.specs.Overlaps.{IsOverlapResult};
 ghost use Rattle.nfa_paths.specs.Paths.{span_len, turn_weight, scan_limit, is_utf8_empty, IsAnswer, IsMatchAnswer, IsFoundAnswer, IsWork};
 ghost use Rattle.nfa_pikevm.specs.Engines.{AddsPikeWork, Fits, SameNumbers, kind_of, cache_for, refitted, overlap_scans};
-ghost use Rattle.nfa_pikevm.specs.Scans.{HaveRoom, SameSizes, scan_turns, Serves, Sizes, AreSized};
+ghost use Rattle.nfa_pikevm.specs.Scans.{HaveRoom, SameSizes, scan_turns, sizes_of};
 ghost use Rattle.nfa_search_base.specs.Lists.{IsInside, IsSlotInside};
 
 use crate::cache::Cache;
 use crate::config::{Builder, Config};
 use crate::overlap::overlap;
+use crate::scratch::Threads;
 use crate::search::search;
 use crate::slot::{Slot, hand_out, match_in};
-use crate::threads::Threads;
 use nfa_scanning::first_bytes::FirstBytes;
 use nfa_scanning::starts::is_utf8_empty;
 use nfa_search_base::error::SearchError;
@@ -177,10 +177,11 @@ impl PikeVM {
         ensures total { AddsPikeWork cache.old cache.new }
 
         // What was done for it: exactly one scan more than restarts, within stated bounds.
-        ensures work { IsWork self.now.nfa (kind_of self.now) (search_of input.now).earliest (search_of input.now) cache.new.scans
-            cache.new.turns }
+        ensures work { IsWork self.now.nfa (kind_of self.now) (search_of input.now).earliest (search_of input.now)
+            cache.new.scans cache.new.turns }
         ensures scans { cache.new.scans ≤ scan_limit self.now.nfa (search_of input.now) }
-        ensures turns { cache.new.turns ≤ cache.new.scans * ((1 + turn_weight self.now.nfa) * (span_len (search_of input.now) + 1)) }
+        ensures turns { cache.new.turns ≤ cache.new.scans * ((1 + turn_weight self.now.nfa)
+            * (span_len (search_of input.now) + 1)) }
     {
         let Cache {
             threads,
@@ -213,7 +214,8 @@ impl PikeVM {
             threads.new.scans threads.new.reached.seen.turns }
         ensures sizes { SameSizes threads.old threads.new }
         ensures scans { threads.new.scans ≤ scan_limit self.now.nfa (search_of input.now) }
-        ensures turns { threads.new.reached.seen.turns ≤ threads.new.scans * scan_turns self.now.nfa (search_of input.now) }
+        ensures turns { threads.new.reached.seen.turns
+            ≤ threads.new.scans * scan_turns self.now.nfa (search_of input.now) }
     {
         let width = slots.len().min(self.nfa.group_info().slot_len());
         let row = &mut found[..width];
@@ -242,14 +244,15 @@ impl PikeVM {
         requires serves { HaveRoom self.now.nfa (2 * length self.now.nfa.groups) threads.old }
         requires counted { threads.old.scans ≡ 0 }
         requires turned { threads.old.reached.seen.turns ≡ 0 }
-        ensures answer { IsMatchAnswer self.now.nfa (kind_of self.now) (search_of input.now).earliest (search_of input.now)
-            (option_map found_of result) }
+        ensures answer { IsMatchAnswer self.now.nfa (kind_of self.now) (search_of input.now).earliest
+            (search_of input.now) (option_map found_of result) }
         ensures pattern { IfSome result (λ m. (found_of m).pattern < length self.now.nfa.patterns) }
         ensures work { IsWork self.now.nfa (kind_of self.now) (search_of input.now).earliest (search_of input.now)
             threads.new.scans threads.new.reached.seen.turns }
         ensures sizes { SameSizes threads.old threads.new }
         ensures scans { threads.new.scans ≤ scan_limit self.now.nfa (search_of input.now) }
-        ensures turns { threads.new.reached.seen.turns ≤ threads.new.scans * scan_turns self.now.nfa (search_of input.now) }
+        ensures turns { threads.new.reached.seen.turns
+            ≤ threads.new.scans * scan_turns self.now.nfa (search_of input.now) }
     {
         let slot_len = self.nfa.group_info().implicit_slot_len();
         let slots = &mut found[..slot_len];
@@ -270,8 +273,8 @@ impl PikeVM {
     /// The caller owes a cache that fits. A search leaves its numbers as they are.
     pub fn find<'h>(&self, cache: &mut Cache, input: Input<'h>) -> Option<Match>
         requires { Fits cache.old self.now.nfa }
-        ensures answer { IsMatchAnswer self.now.nfa (kind_of self.now) (search_of input.entry).earliest (search_of input.entry)
-            (option_map found_of result) }
+        ensures answer { IsMatchAnswer self.now.nfa (kind_of self.now) (search_of input.entry).earliest
+            (search_of input.entry) (option_map found_of result) }
         ensures pattern { IfSome result (λ m. (found_of m).pattern < length self.now.nfa.patterns) }
         ensures inside { IfSome result (λ m. IsInside (search_of input.entry) (found_of m)) }
 
@@ -335,15 +338,16 @@ impl PikeVM {
         patterns: &mut PatternSet,
     )
         requires { Fits cache.old self.now.nfa }
-        ensures result { IsOverlapResult self.now.nfa (search_of input.now) (kind_of self.now) (search_of input.now).earliest
-            patterns.old patterns.new }
+        ensures result { IsOverlapResult self.now.nfa (search_of input.now) (kind_of self.now)
+            (search_of input.now).earliest patterns.old patterns.new }
 
         ensures numbers { SameNumbers cache.old cache.new }
         ensures total { AddsPikeWork cache.old cache.new }
 
         // One scan, or none where the first match alone is meant and the set holds a pattern.
         ensures scans { cache.new.scans ≡ overlap_scans (kind_of self.now) patterns.old }
-        ensures turns { cache.new.turns ≤ cache.new.scans * ((1 + turn_weight self.now.nfa) * (span_len (search_of input.now) + 1)) }
+        ensures turns { cache.new.turns ≤ cache.new.scans * ((1 + turn_weight self.now.nfa)
+            * (span_len (search_of input.now) + 1)) }
     {
         let Cache {
             threads,

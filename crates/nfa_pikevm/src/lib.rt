@@ -28,6 +28,7 @@ mod frame;
 mod overlap;
 mod room;
 mod scan;
+mod scratch;
 mod search;
 mod seen;
 mod sizes;

@@ -15,7 +15,8 @@ use crate::active::Parts;
 use crate::closure::{Here, Reached, next_match, resume};
 use crate::frame::FollowEpsilon;
 use crate::scan::{Starts, join};
-use crate::threads::{Threads, move_on, set_up};
+use crate::scratch::Threads;
+use crate::threads::{move_on, set_up};
 use nfa_scanning::starts::{start_limit, start_state};
 use nfa_scanning::transitions::byte_at;
 use regex_search_core::{Input, MatchKind, PatternID, PatternSet, StateID};
@@ -41,7 +42,8 @@ fn gather(
     met: &mut bool,
 ) -> bool
     ensures stops { result ≡ ((permitted && nat_lt (number_of pattern) (length patterns.old)) && not past_match) }
-    ensures dead { (permitted && nat_lt (number_of pattern) (length patterns.old)) ≡ false → patterns.new ≡ patterns.old }
+    ensures dead { (permitted && nat_lt (number_of pattern) (length patterns.old)) ≡ false
+        → patterns.new ≡ patterns.old }
     ensures put { (permitted && nat_lt (number_of pattern) (length patterns.old)) ≡ true
         → patterns.new ≡ with_pattern patterns.old (number_of pattern) }
     ensures met { met.new ≡ ((permitted && nat_lt (number_of pattern) (length patterns.old)) || met.old) }
@@ -136,12 +138,8 @@ fn cross_to_set(
     requires states { All (λ i. i.0 < length nfa.now.states) threads.old.curr.items }
     requires room { HaveRows nfa.now 0 threads.old }
     requires empty { threads.old.reached.next.items ≡ [] }
-    ensures room { HaveRows nfa.now 0 threads.new }
-    ensures size { length threads.new.reached.seen.bits ≡ length threads.old.reached.seen.bits }
-    ensures curr { threads.new.curr ≡ record threads.old.curr { items = threads.new.curr.items } }
-    ensures next { threads.new.reached.next
-        ≡ record threads.old.reached.next { items = threads.new.reached.next.items } }
-    ensures frames { length threads.new.frames.items ≡ length threads.old.frames.items }
+    ensures width { threads.new.curr.width ≡ threads.old.curr.width }
+    ensures sizes { SameSizes threads.old threads.new }
     ensures scans { threads.new.scans ≡ threads.old.scans }
     ensures crosses { CrossesInSet nfa.now (search_of input.now) at past_match (length patterns.old)
         threads.old.reached.seen threads.old.curr.items patterns.old result threads.new.reached.seen
@@ -180,7 +178,6 @@ fn overlap_all(
     requires room { HaveRows nfa.now 0 threads.old }
     requires curr { threads.old.curr.items ≡ [] }
     requires next { threads.old.reached.next.items ≡ [] }
-    ensures serves { HaveRoom nfa.now 0 threads.new }
     ensures sizes { SameSizes threads.old threads.new }
     ensures scans { threads.new.scans ≡ threads.old.scans }
     ensures turns { IsWithinTurns nfa.now (search_of input.now) threads.old threads.new }
@@ -215,7 +212,6 @@ fn overlap_earliest(
     requires curr { threads.old.curr.items ≡ [] }
     requires next { threads.old.reached.next.items ≡ [] }
     requires empty { past_match ≡ false → size_of_set patterns.old ≡ 0 }
-    ensures serves { HaveRoom nfa.now 0 threads.new }
     ensures sizes { SameSizes threads.old threads.new }
     ensures scans { threads.new.scans ≡ threads.old.scans }
     ensures turns { IsWithinTurns nfa.now (search_of input.now) threads.old threads.new }
@@ -250,7 +246,6 @@ fn overlap_first(
     requires curr { threads.old.curr.items ≡ [] }
     requires next { threads.old.reached.next.items ≡ [] }
     requires empty { size_of_set patterns.old ≡ 0 }
-    ensures serves { HaveRoom nfa.now 0 threads.new }
     ensures sizes { SameSizes threads.old threads.new }
     ensures scans { threads.new.scans ≡ threads.old.scans }
     ensures turns { IsWithinTurns nfa.now (search_of input.now) threads.old threads.new }
@@ -287,11 +282,11 @@ fn overlap_from(
     requires curr { threads.old.curr.items ≡ [] }
     requires next { threads.old.reached.next.items ≡ [] }
     requires empty { kind ≡ LeftmostFirst → size_of_set patterns.old ≡ 0 }
-    ensures serves { HaveRoom nfa.now 0 threads.new }
     ensures sizes { SameSizes threads.old threads.new }
     ensures scans { threads.new.scans ≡ threads.old.scans }
     ensures turns { IsWithinTurns nfa.now (search_of input.now) threads.old threads.new }
-    ensures gains { IsOverlapResult nfa.now (search_of input.now) kind (search_of input.now).earliest patterns.old patterns.new }
+    ensures gains { IsOverlapResult nfa.now (search_of input.now) kind (search_of input.now).earliest patterns.old
+        patterns.new }
 {
     let past_match = kind.continue_past_first_match();
     if input.get_earliest() {
@@ -313,9 +308,9 @@ pub fn overlap(
     patterns: &mut PatternSet,
 )
     requires serves { HaveRoom nfa.now 0 threads.old }
-    ensures result { IsOverlapResult nfa.now (search_of input.now) kind (search_of input.now).earliest patterns.old patterns.new }
+    ensures result { IsOverlapResult nfa.now (search_of input.now) kind (search_of input.now).earliest patterns.old
+        patterns.new }
     ensures scans { threads.new.scans ≡ threads.old.scans + overlap_scans kind patterns.old }
-    ensures serves { HaveRoom nfa.now 0 threads.new }
     ensures sizes { SameSizes threads.old threads.new }
     ensures turns { threads.new.reached.seen.turns
         ≤ threads.old.reached.seen.turns + overlap_scans kind patterns.old * scan_turns nfa.now (search_of input.now) }

@@ -9,8 +9,9 @@ ghost use Rattle.nfa_scanning.specs.FirstBytes.{IsFirstBytes, IsRefused};
 ghost use Rattle.nfa_pikevm.specs.Scans.{blank, HaveRoom, HaveRows, SameSizes, AreStarts, Joins, with_start};
 ghost use Rattle.nfa_pikevm.specs.Scans.{half_found, IsWithinTurns};
 
+use crate::scratch::Threads;
 use crate::slot::{Slot, unset_row};
-use crate::threads::{Threads, cross, move_on, set_up};
+use crate::threads::{cross, move_on, set_up};
 use nfa_scanning::first_bytes::FirstBytes;
 use nfa_scanning::starts::{next_start, skip_limit, start_limit, start_state};
 use regex_search_core::{HalfMatch, Input, MatchKind, PatternID, StateID};
@@ -29,11 +30,11 @@ pub struct Starts {
 #[inline(always)]
 pub fn join(starts: &Starts, at: usize, threads: &mut Threads)
     requires room { length threads.old.curr.items < threads.old.curr.places }
-    ensures curr { threads.new.curr ≡ record threads.old.curr
-        { items = with_start starts.now threads.old.curr.width at threads.old.curr.items } }
-    ensures next { threads.new.reached.next ≡ threads.old.reached.next }
+    ensures curr { threads.new.curr.items ≡ with_start starts.now threads.old.curr.width at threads.old.curr.items }
+    ensures next { threads.new.reached.next.items ≡ threads.old.reached.next.items }
+    ensures width { threads.new.curr.width ≡ threads.old.curr.width }
+    ensures sizes { SameSizes threads.old threads.new }
     ensures seen { threads.new.reached.seen ≡ threads.old.reached.seen }
-    ensures frames { threads.new.frames.items ≡ threads.old.frames.items }
     ensures scans { threads.new.scans ≡ threads.old.scans }
 {
     if at < starts.limit {
@@ -73,10 +74,10 @@ fn join_or_skip(
     requires place { at ≤ (search_of input.now).end }
     requires stop { starts.now.stop ≤ (search_of input.now).end }
     requires order { at < limit → starts.now.stop < limit }
-    ensures curr { threads.new.curr ≡ record threads.old.curr { items = threads.new.curr.items } }
-    ensures next { threads.new.reached.next ≡ threads.old.reached.next }
+    ensures next { threads.new.reached.next.items ≡ threads.old.reached.next.items }
+    ensures width { threads.new.curr.width ≡ threads.old.curr.width }
+    ensures sizes { SameSizes threads.old threads.new }
     ensures seen { threads.new.reached.seen ≡ threads.old.reached.seen }
-    ensures frames { threads.new.frames.items ≡ threads.old.frames.items }
     ensures scans { threads.new.scans ≡ threads.old.scans }
     ensures joins { Joins first.now.may_begin (search_of input.now) starts.now limit threads.old.curr.width at
         threads.old.curr.items result threads.new.curr.items }
@@ -119,7 +120,6 @@ fn scan_first(
     requires curr { threads.old.curr.items ≡ [] }
     requires next { threads.old.reached.next.items ≡ [] }
     requires unset { slots.old ≡ blank (length slots.old) }
-    ensures serves { HaveRoom nfa.now (length slots.old) threads.new }
     ensures sizes { SameSizes threads.old threads.new }
     ensures scans { threads.new.scans ≡ threads.old.scans }
     ensures turns { IsWithinTurns nfa.now (search_of input.now) threads.old threads.new }
@@ -160,7 +160,6 @@ fn scan_last(
     requires curr { threads.old.curr.items ≡ [] }
     requires next { threads.old.reached.next.items ≡ [] }
     requires unset { slots.old ≡ blank (length slots.old) }
-    ensures serves { HaveRoom nfa.now (length slots.old) threads.new }
     ensures sizes { SameSizes threads.old threads.new }
     ensures scans { threads.new.scans ≡ threads.old.scans }
     ensures turns { IsWithinTurns nfa.now (search_of input.now) threads.old threads.new }
@@ -195,7 +194,6 @@ fn scan_earliest(
     requires curr { threads.old.curr.items ≡ [] }
     requires next { threads.old.reached.next.items ≡ [] }
     requires unset { slots.old ≡ blank (length slots.old) }
-    ensures serves { HaveRoom nfa.now (length slots.old) threads.new }
     ensures sizes { SameSizes threads.old threads.new }
     ensures scans { threads.new.scans ≡ threads.old.scans }
     ensures turns { IsWithinTurns nfa.now (search_of input.now) threads.old threads.new }
@@ -230,7 +228,6 @@ pub fn scan(
     requires first { IsFirstBytes nfa.now first.now.may_begin }
     requires serves { HaveRoom nfa.now (length slots.old) threads.old }
     ensures scans { threads.new.scans ≡ threads.old.scans + 1 }
-    ensures serves { HaveRoom nfa.now (length slots.old) threads.new }
     ensures sizes { SameSizes threads.old threads.new }
     ensures turns { IsWithinTurns nfa.now (search_of input.now) threads.old threads.new }
     ensures answer { ScanGives nfa.now kind (search_of input.now).earliest (search_of input.now) result slots.new

@@ -7,8 +7,8 @@ ghost use Rattle.nfa_scanning.specs.FirstBytes.{IsFirstBytes};
 ghost use Rattle.nfa_pikevm.specs.Scans.{HaveRoom, SameSizes};
 
 use crate::scan::scan;
+use crate::scratch::Threads;
 use crate::slot::{Slot, unset_row};
-use crate::threads::Threads;
 use nfa_scanning::first_bytes::FirstBytes;
 use nfa_scanning::starts::may_end_at;
 use regex_search_core::{HalfMatch, Input, MatchKind};

@@ -87,7 +87,8 @@ impl Seen {
         ensures turns { self.new.turns ≡ self.old.turns + 1 }
         ensures fresh { result ≡ true → (slice_index_or self.old.bits state true ≡ false)
             × (self.new.bits ≡ slice_set self.old.bits state true) }
-        ensures seen { result ≡ false → (slice_index_or self.old.bits state false ≡ true) × (self.new.bits ≡ self.old.bits) }
+        ensures seen { result ≡ false → (slice_index_or self.old.bits state false ≡ true)
+            × (self.new.bits ≡ self.old.bits) }
     {
         self.turns.tick();
         if self.stamps[state] == self.newest {

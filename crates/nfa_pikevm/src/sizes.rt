@@ -3,12 +3,13 @@ ghost use Rattle.std.specs.Prelude.{◌≡◌, ◌^◌, ◌≤◌, IfSome, IfNon
 ghost use Rattle.std.specs.List.{sum_by};
 ghost use Rattle.thompson_nfa.specs.Automaton.{node_of};
 ghost use Rattle.nfa_pikevm.specs.Engines.{room_of, stack_places};
-ghost use Rattle.nfa_pikevm.specs.Sizes.{IsRoomFor, IsSize, IsSizeOf, IsTooLarge};
+ghost use Rattle.nfa_pikevm.specs.Scans.{sizes_of};
+ghost use Rattle.nfa_pikevm.specs.Sizes.{sizes_for, IsSize, IsSizeOf, IsTooLarge};
 
 use crate::frame::FollowEpsilon;
 use crate::room::{refill, reserve};
+use crate::scratch::Threads;
 use crate::slot::Slot;
-use crate::threads::Threads;
 use regex_search_core::{Refused, StateID};
 use thompson_nfa::{NFA, State};
 
@@ -81,8 +82,9 @@ pub fn make_room(
     filler: StateID,
 ) -> Result<(), Refused>
     requires { IsSize size.now }
-    ensures room { OnOk result (IsRoomFor size.now.states size.now.slots size.now.frames threads.new.reached.seen
-        (length threads.new.frames.items) threads.new.curr threads.new.reached.next (length found.new.items)) }
+    ensures sizes { OnOk result (sizes_of threads.new
+        ≡ sizes_for size.now.states size.now.slots size.now.frames) }
+    ensures row { OnOk result (length found.new.items ≡ size.now.slots) }
     ensures turns { threads.new.reached.seen.turns ≡ threads.old.reached.seen.turns }
     ensures scans { threads.new.scans ≡ threads.old.scans }
     ensures seen { OnErr result (threads.new.reached.seen ≡ threads.old.reached.seen) }

@@ -3,39 +3,26 @@ ghost use Rattle.std.specs.Prelude.{◌≡◌, ◌*◌, ◌<◌, ◌≤◌, [], 
 ghost use Rattle.regex_search_core.specs.Search.{search_of};
 ghost use Rattle.nfa_pikevm.specs.Rows.{items_of};
 ghost use Rattle.nfa_pikevm.specs.States.{HasRoom, IsHere, KeepsRoom, Crosses, CrossesHere};
-ghost use Rattle.nfa_pikevm.specs.Scans.{HaveRows};
+ghost use Rattle.nfa_pikevm.specs.Scans.{HaveRows, SameSizes};
 
-use crate::active::{ActiveStates, Parts};
+use crate::active::Parts;
 use crate::closure::{Here, Reached, follow};
 use crate::frame::FollowEpsilon;
-use crate::seen::Seen;
+use crate::scratch::Threads;
 use crate::slot::Slot;
-use nfa_scanning::counter::Counter;
 use nfa_scanning::transitions::byte_at;
-use regex_search_core::{Input, PatternID, Refused, StateID};
-use std::alloc::Global;
+use regex_search_core::{Input, PatternID, StateID};
 use std::mem;
 use thompson_nfa::NFA;
 
-/// What a scan writes: the frames of a closure, the states at its position, what is reached from there, and the count
-/// of the scans.
-#[derive(Debug, Drop)]
-pub struct Threads {
-    pub frames: Vec<FollowEpsilon>,
-    pub curr: ActiveStates,
-    pub reached: Reached,
-    /// The count of the scans.
-    pub scans: Counter,
-}
-
 /// No state is kept, and rows have `width` slots from here on.
 pub fn set_up(threads: &mut Threads, width: usize)
-    requires curr { threads.old.curr.places * width ≤ threads.old.curr.cells }
-    requires next { threads.old.reached.next.places * width ≤ threads.old.reached.next.cells }
-    ensures curr { threads.new.curr ≡ record threads.old.curr { items = []; width = width } }
-    ensures next { threads.new.reached.next ≡ record threads.old.reached.next { items = []; width = width } }
+    requires { threads.old.curr.places * width ≤ threads.old.curr.cells }
+    ensures curr { threads.new.curr.items ≡ [] }
+    ensures next { threads.new.reached.next.items ≡ [] }
+    ensures width { threads.new.curr.width ≡ width }
+    ensures sizes { SameSizes threads.old threads.new }
     ensures seen { threads.new.reached.seen ≡ threads.old.reached.seen }
-    ensures frames { threads.new.frames.items ≡ threads.old.frames.items }
     ensures scans { threads.new.scans ≡ threads.old.scans }
 {
     threads.curr.set_up(width);
@@ -45,10 +32,11 @@ pub fn set_up(threads: &mut Threads, width: usize)
 /// The states at the next position become those at this one.
 #[inline(always)]
 pub fn move_on(threads: &mut Threads)
-    ensures curr { threads.new.curr ≡ threads.old.reached.next }
-    ensures next { threads.new.reached.next ≡ record threads.old.curr { items = [] } }
+    ensures curr { threads.new.curr.items ≡ threads.old.reached.next.items }
+    ensures next { threads.new.reached.next.items ≡ [] }
+    ensures width { threads.new.curr.width ≡ threads.old.curr.width }
+    ensures sizes { SameSizes threads.old threads.new }
     ensures seen { threads.new.reached.seen ≡ threads.old.reached.seen }
-    ensures frames { threads.new.frames.items ≡ threads.old.frames.items }
     ensures scans { threads.new.scans ≡ threads.old.scans }
 {
     let Threads { curr, reached, .. } = threads;
@@ -110,13 +98,9 @@ pub fn cross(
     requires states { All (λ i. i.0 < length nfa.now.states) threads.old.curr.items }
     requires room { HaveRows nfa.now (length slots.old) threads.old }
     requires empty { threads.old.reached.next.items ≡ [] }
-    ensures room { HaveRows nfa.now (length slots.old) threads.new }
-    ensures size { length threads.new.reached.seen.bits ≡ length threads.old.reached.seen.bits }
+    ensures width { threads.new.curr.width ≡ threads.old.curr.width }
+    ensures sizes { SameSizes threads.old threads.new }
     ensures grows { threads.old.reached.seen.turns ≤ threads.new.reached.seen.turns }
-    ensures curr { threads.new.curr ≡ record threads.old.curr { items = threads.new.curr.items } }
-    ensures next { threads.new.reached.next
-        ≡ record threads.old.reached.next { items = threads.new.reached.next.items } }
-    ensures frames { length threads.new.frames.items ≡ length threads.old.frames.items }
     ensures scans { threads.new.scans ≡ threads.old.scans }
     ensures crosses { Crosses nfa.now (search_of input.now) at past_match threads.old.reached.seen
         threads.old.curr.items slots.old result threads.new.reached.seen threads.new.reached.next.items slots.new }
@@ -154,46 +138,5 @@ pub fn cross(
             cross_states(&here, kept, rows, frames, reached, slots)
         }
         None => cross_states(&end, kept, rows, frames, reached, slots),
-    }
-}
-
-impl Threads {
-    /// Room for no state.
-    pub fn new(alloc: Global) -> Result<Threads, Refused>
-        ensures seen { IfOk result (λ made. made.reached.seen ≡ record { bits = []; turns = 0 }) }
-        ensures curr { IfOk result (λ made. made.curr ≡ record { items = []; width = 0; places = 0; cells = 0 }) }
-        ensures next { IfOk result (λ made.
-            made.reached.next ≡ record { items = []; width = 0; places = 0; cells = 0 }) }
-        ensures frames { IfOk result (λ made. made.frames.items ≡ []) }
-        ensures scans { IfOk result (λ made. made.scans ≡ 0) }
-    {
-        Ok(Threads {
-            frames: Vec::new(alloc),
-            curr: ActiveStates::new(alloc)?,
-            reached: Reached {
-                seen: Seen::new(alloc),
-                next: ActiveStates::new(alloc)?,
-            },
-            scans: Counter::new(),
-        })
-    }
-
-    /// The same states, marks and frames.
-    pub fn copied(&self) -> Result<Threads, Refused>
-        ensures seen { IfOk result (λ copy. copy.reached.seen ≡ self.now.reached.seen) }
-        ensures curr { IfOk result (λ copy. copy.curr ≡ self.now.curr) }
-        ensures next { IfOk result (λ copy. copy.reached.next ≡ self.now.reached.next) }
-        ensures frames { IfOk result (λ copy. length copy.frames.items ≡ length self.now.frames.items) }
-        ensures scans { IfOk result (λ copy. copy.scans ≡ self.now.scans) }
-    {
-        Ok(Threads {
-            frames: self.frames.clone()?,
-            curr: self.curr.copied()?,
-            reached: Reached {
-                seen: self.reached.seen.copied()?,
-                next: self.reached.next.copied()?,
-            },
-            scans: self.scans.copy(),
-        })
     }
 }

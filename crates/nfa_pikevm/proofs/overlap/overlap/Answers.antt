@@ -1,9 +1,9 @@
--- A set with no room gains nothing, and the sizes of the threads stay.
-use Rattle.std.proofs.Common.{◌≡◌, ap, length, rules}
+-- A set with no room gains nothing.
+use Rattle.std.proofs.Common.{◌≡◌, rules}
 use Rattle.regex_search_core.specs.PatternSets.{size_of_set}
 use Rattle.regex_search_core.specs.Search.{search_of}
 use Rattle.regex_search_core.specs.declared.search.MatchKind.TheVariants.{LeftmostFirst}
-use Rattle.nfa_pikevm.proofs.OverlapLoopLemmas.{sizes-set_up, full-result}
+use Rattle.nfa_pikevm.proofs.OverlapLoopLemmas.{full-result}
 use Rattle.nfa_pikevm.proofs.overlap.overlap.Goals as goal
 
 pub returns-then-is_full-clause-result : goal.returns-then-is_full-clause-result
@@ -11,9 +11,3 @@ returns-then-is_full-clause-result c =
     let empty : c.args.kind ≡ LeftmostFirst → size_of_set c.args.patterns.now ≡ 0 = search rules in
     full-result c.args.nfa.now (search_of c.args.input.now) c.args.kind _ c.args.patterns.now
     (c.is_full.ensures.0 c.if-is_full.true) empty
-
-pub returns-clause-sizes : goal.returns-clause-sizes
-returns-clause-sizes c = λ size s.
-    c.overlap_from.ensures.sizes size
-    (sizes-set_up _ _ _ _ s c.set_up.ensures.curr c.set_up.ensures.next c.set_up.ensures.seen
-    (ap (λ l. length l) c.set_up.ensures.frames))

@@ -1,11 +1,10 @@
 -- The set gains the pattern of the first match, and those that were met on the way to its end.
-use Rattle.std.proofs.Common.{◌∙◌, ap, sym, arith, length, refl}
+use Rattle.std.proofs.Common.{◌∙◌, sym, arith, length, refl}
 use Rattle.regex_search_core.specs.Search.{search_of}
-use Rattle.nfa_scanning.specs.Marks.{Marks}
-use Rattle.nfa_pikevm.specs.Rows.{Active}
 use Rattle.nfa_pikevm.proofs.OverlapScanLemmas.{kept-none}
-use Rattle.nfa_pikevm.proofs.OverlapLoopLemmas.{Keeps-start, Keeps-next, sizes-joined, joined-below, joined-items, crosses-joined, no-items}
+use Rattle.nfa_pikevm.proofs.OverlapLoopLemmas.{crosses-joined}
 use Rattle.nfa_pikevm.proofs.OverlapFirstLemmas.{FirstWay-capacity, FirstWay-start, FirstWay-next, FirstWay-cut, FirstWay-over, FirstWay-end}
+use Rattle.nfa_pikevm.proofs.RoomLemmas.{none_of, below-joined}
 use Rattle.nfa_pikevm.proofs.overlap.overlap_first.Goals as goal
 use Rattle.nfa_pikevm.proofs.overlap.overlap_first.Goals.{then-met, else-met}
 
@@ -16,36 +15,30 @@ loop-at-init c = record {
   state = c.requires.starts.state;
   limit = c.requires.starts.high;
   last = λ past. c.requires.curr;
-  keeps = Keeps-start _ _ _ _ _ c.requires.room c.requires.next;
+  sizes = refl;
+  width = c.requires.room.width_is;
+  next = c.requires.next;
   so_far = rw c.start-at.ensures
       (FirstWay-start c.args.nfa.now (search_of c.args.input.now) c.args.patterns.now c.args.starts.now
       c.requires.starts c.args.threads.now.reached.seen c.args.threads.now.curr.items c.requires.curr);
 }
 
-pub returns-then-is_empty-clause-sizes : goal.returns-then-is_empty-clause-sizes
-returns-then-is_empty-clause-sizes c = λ size s.
-    sizes-joined _ _ _ _ _ (c.loop-at.invariant.keeps.sizes size s) c.join.ensures.curr c.join.ensures.seen
-    (ap (λ l. length l) c.join.ensures.frames) c.join.ensures.next
-
 pub returns-then-is_empty-clause-gains : goal.returns-then-is_empty-clause-gains
 returns-then-is_empty-clause-gains c =
-    let items = joined-items c.loop-at.joining c.loop-at.at c.loop-at.threads.curr c.join.new.threads.curr
-    c.join.ensures.curr c.loop-at.invariant.keeps.room.curr_width in
+    let items = rw c.loop-at.invariant.width at c.join.ensures.curr in
     FirstWay-over c.args.nfa.now (search_of c.args.input.now) c.args.patterns.now c.requires.valid c.requires.empty
     c.loop-at.invariant.so_far
-    (sym items ∙ no-items c.join.new.threads.curr.items (c.is_empty.ensures.0 c.if-is_empty.true))
+    (sym items ∙ none_of c.join.new.threads.curr.items (c.is_empty.ensures.0 c.if-is_empty.true))
 
 pub cross_to_set-met-requires-clause-states : goal.cross_to_set-met-requires-clause-states
 cross_to_set-met-requires-clause-states c =
-    let items = joined-items c.loop-at.joining c.loop-at.at c.loop-at.threads.curr c.join.new.threads.curr
-    c.join.ensures.curr c.loop-at.invariant.keeps.room.curr_width in
-    rw items (joined-below c.args.nfa.now c.loop-at.joining c.loop-at.at c.loop-at.threads.curr.items
+    let items = rw c.loop-at.invariant.width at c.join.ensures.curr in
+    rw items (below-joined c.loop-at.joining 0 c.loop-at.at c.loop-at.threads.curr.items
     c.loop-at.invariant.state c.loop-at.invariant.so_far.states.states)
 
 pub loop-at-preserved : goal.loop-at-preserved
 loop-at-preserved c =
-    let items = joined-items c.loop-at.joining c.loop-at.at c.loop-at.threads.curr c.join.new.threads.curr
-    c.join.ensures.curr c.loop-at.invariant.keeps.room.curr_width in
+    let items = rw c.loop-at.invariant.width at c.join.ensures.curr in
     let crosses = crosses-joined (length c.args.patterns.now) c.loop-at.threads.reached.seen _
     (FirstWay-capacity c.args.nfa.now (search_of c.args.input.now) c.args.patterns.now c.loop-at.invariant.so_far)
     c.join.ensures.seen items c.cross_to_set-met.ensures.crosses in
@@ -63,17 +56,11 @@ loop-at-preserved c =
       ];
       last = λ past. rw c.move_on.ensures.curr
           (kept-none c.args.nfa.now (search_of c.args.input.now) c.args.patterns.now crosses (omega arith));
-      keeps = Keeps-next c.loop-at.threads.reached.seen _ c.loop-at.threads.curr c.loop-at.threads.reached.next
-          c.join.new.threads.curr
-          c.cross_to_set-met.new.threads.curr c.cross_to_set-met.new.threads.reached.next _ _ _ _ _
-          c.loop-at.invariant.keeps c.join.ensures.curr c.cross_to_set-met.ensures.curr
-          (c.cross_to_set-met.ensures.next ∙ ap (λ (n : Active).
-          record n { items = c.cross_to_set-met.new.threads.reached.next.items }) c.join.ensures.next)
-          c.move_on.ensures.curr c.move_on.ensures.next
-          (ap (λ (m : Marks). length m.bits) c.move_on.ensures.seen ∙ c.cross_to_set-met.ensures.size
-          ∙ ap (λ (m : Marks). length m.bits) c.join.ensures.seen)
-          (ap (λ l. length l) c.move_on.ensures.frames ∙ c.cross_to_set-met.ensures.frames
-          ∙ ap (λ l. length l) c.join.ensures.frames);
+      sizes = c.move_on.ensures.sizes ∙ c.cross_to_set-met.ensures.sizes ∙ c.join.ensures.sizes
+          ∙ c.loop-at.invariant.sizes;
+      width = c.move_on.ensures.width ∙ c.cross_to_set-met.ensures.width ∙ c.join.ensures.width
+          ∙ c.loop-at.invariant.width;
+      next = c.move_on.ensures.next;
       so_far = rw (c.move_on.ensures.seen, c.move_on.ensures.curr)
           (elim c.if-met.branch [
             | then-met w ↦

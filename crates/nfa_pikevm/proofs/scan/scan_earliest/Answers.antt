@@ -1,15 +1,12 @@
 -- A scan that ends at the first match that is seen answers the path with the least end.
-use Rattle.std.proofs.Common.{◌≡◌, ◌∙◌, ◌+◌, ◌≤◌, length, arith, refl, ap, sym, inr, true, cond}
+use Rattle.std.proofs.Common.{◌≡◌, ◌∙◌, ◌+◌, ◌≤◌, length, arith, refl, sym, inr, true, cond}
 use Rattle.regex_search_core.specs.Search.{search_of}
 use Rattle.nfa_paths.proofs.ScanAnswerLemmas.{scan_answer-none}
 use Rattle.regex_search_core.specs.declared.search.MatchKind.TheVariants.{All, LeftmostFirst}
-use Rattle.nfa_scanning.specs.Marks.{Marks}
-use Rattle.nfa_pikevm.specs.Rows.{Active}
-use Rattle.nfa_pikevm.specs.Scans.{with_start}
 use Rattle.nfa_pikevm.proofs.AllLemmas.{ScansAll-cross, NoneBefore-cross, EndsAt-none}
 use Rattle.nfa_pikevm.proofs.EndLemmas.{ScansAll-begin, NoneBefore-begin, ScansAll-join, all-over, earliest-over, ends-at}
 use Rattle.nfa_pikevm.proofs.FrontLemmas.{Paid-next, IsPaidAt-cross, IsPaidAt-end}
-use Rattle.nfa_pikevm.proofs.RoomLemmas.{AreAt-none, none_of, below-joined, few-joined, over-joined, same-items, same-all, joined-items, AreSized-kept, AreSized-swap, HasThreads-swap}
+use Rattle.nfa_pikevm.proofs.RoomLemmas.{AreAt-none, none_of, below-joined, few-joined, over-joined}
 use Rattle.nfa_pikevm.proofs.ScanLemmas.{AreAt-cross}
 use Rattle.nfa_pikevm.proofs.scan.scan_earliest.Goals as goal
 
@@ -18,8 +15,8 @@ loop-at-init c =
     let start : c.start-at.result ≡ (search_of c.args.input.now).start = c.start-at.ensures in
     record {
       counted = refl;
-      room = c.requires.room;
-      sizes = λ size h. h;
+      sizes = refl;
+      width = c.requires.room.width_is;
       next = c.requires.next;
       items = rw c.requires.curr (AreAt-none c.args.nfa.now);
       paid = rw (start, c.requires.curr) (record { bound = omega arith });
@@ -29,25 +26,13 @@ loop-at-init c =
       same = refl;
     }
 
-pub returns-then-is_empty-clause-sizes : goal.returns-then-is_empty-clause-sizes
-returns-then-is_empty-clause-sizes c = λ size h.
-    AreSized-kept size c.loop-at.threads.reached.seen c.join.new.threads.reached.seen _ _ c.loop-at.threads.curr
-    c.loop-at.threads.reached.next
-    c.join.new.threads.curr c.join.new.threads.reached.next
-    (ap (λ (m : Marks). length m.bits) c.join.ensures.seen) (ap length c.join.ensures.frames)
-    (same-items c.loop-at.threads.curr c.join.new.threads.curr
-    (with_start c.args.starts.now c.loop-at.threads.curr.width c.loop-at.at c.loop-at.threads.curr.items)
-    c.join.ensures.curr) (same-all c.loop-at.threads.reached.next c.join.new.threads.reached.next c.join.ensures.next)
-    (c.loop-at.invariant.sizes size h)
-
 pub returns-then-is_empty-clause-answer : goal.returns-then-is_empty-clause-answer
 returns-then-is_empty-clause-answer c =
     let none = none_of c.join.new.threads.curr.items (c.is_empty.ensures.0 c.if-is_empty.true) in
-    let items = joined-items c.args.starts.now c.loop-at.at (length c.args.slots.now) c.loop-at.threads.curr
-    c.join.new.threads.curr c.join.ensures.curr c.loop-at.invariant.room.curr_width in
+    let items = rw c.loop-at.invariant.width at c.join.ensures.curr in
     let past : c.args.starts.now.limit ≤ c.loop-at.at =
-    over-joined c.args.nfa.now (search_of c.args.input.now) c.args.starts.now c.requires.starts
-    (length c.args.slots.now) c.loop-at.at c.loop-at.threads.curr.items (sym items ∙ none) in
+    over-joined c.args.starts.now (length c.args.slots.now) c.loop-at.at c.loop-at.threads.curr.items
+    (sym items ∙ none) in
     let s = ScansAll-join c.args.nfa.now (search_of c.args.input.now) c.args.starts.now c.loop-at.at
     (length c.args.slots.now) c.loop-at.threads.reached.seen c.join.new.threads.reached.seen c.join.ensures.seen
     c.loop-at.threads.curr.items c.join.new.threads.curr.items items c.loop-at.invariant.scans in (
@@ -61,40 +46,20 @@ returns-then-is_empty-clause-answer c =
 
 pub cross-requires-clause-states : goal.cross-requires-clause-states
 cross-requires-clause-states c =
-    rw (joined-items c.args.starts.now c.loop-at.at (length c.args.slots.now) c.loop-at.threads.curr
-    c.join.new.threads.curr c.join.ensures.curr c.loop-at.invariant.room.curr_width)
-    (below-joined c.args.nfa.now (search_of c.args.input.now) c.args.starts.now c.requires.starts
-    (length c.args.slots.now) c.loop-at.at c.loop-at.threads.curr.items c.loop-at.invariant.items)
-
-pub returns-then-is_some-clause-sizes : goal.returns-then-is_some-clause-sizes
-returns-then-is_some-clause-sizes c = λ size h.
-    AreSized-swap size c.cross.new.threads.reached.seen c.move_on.new.threads.reached.seen _ _ c.cross.new.threads.curr
-    c.cross.new.threads.reached.next c.move_on.new.threads.curr c.move_on.new.threads.reached.next
-    c.move_on.ensures.seen (ap length c.move_on.ensures.frames) c.move_on.ensures.curr c.move_on.ensures.next
-    (AreSized-kept size c.join.new.threads.reached.seen c.cross.new.threads.reached.seen _ _ c.join.new.threads.curr
-    c.join.new.threads.reached.next c.cross.new.threads.curr c.cross.new.threads.reached.next
-    c.cross.ensures.size c.cross.ensures.frames c.cross.ensures.curr c.cross.ensures.next
-    (AreSized-kept size c.loop-at.threads.reached.seen c.join.new.threads.reached.seen _ _ c.loop-at.threads.curr
-    c.loop-at.threads.reached.next
-    c.join.new.threads.curr c.join.new.threads.reached.next
-    (ap (λ (m : Marks). length m.bits) c.join.ensures.seen) (ap length c.join.ensures.frames)
-    (same-items c.loop-at.threads.curr c.join.new.threads.curr
-    (with_start c.args.starts.now c.loop-at.threads.curr.width c.loop-at.at c.loop-at.threads.curr.items)
-    c.join.ensures.curr) (same-all c.loop-at.threads.reached.next c.join.new.threads.reached.next c.join.ensures.next)
-    (c.loop-at.invariant.sizes size h)))
+    rw (rw c.loop-at.invariant.width at c.join.ensures.curr)
+    (below-joined c.args.starts.now (length c.args.slots.now) c.loop-at.at c.loop-at.threads.curr.items
+    c.requires.starts.state c.loop-at.invariant.items.states)
 
 pub returns-then-is_some-clause-turns : goal.returns-then-is_some-clause-turns
 returns-then-is_some-clause-turns c =
     let x = search_of c.args.input.now in
     let width = length c.args.slots.now in
     let low : x.start ≤ c.loop-at.at = omega (arith, c.start-at.ensures, c.loop-at.auto.at) in
-    let items = joined-items c.args.starts.now c.loop-at.at width c.loop-at.threads.curr c.join.new.threads.curr
-    c.join.ensures.curr c.loop-at.invariant.room.curr_width in
+    let items = rw c.loop-at.invariant.width at c.join.ensures.curr in
     let crosses = c.cross.ensures.crosses in
     let few : length c.join.new.threads.curr.items ≤ length c.loop-at.threads.curr.items + 1 =
-    rw items (few-joined c.args.nfa.now x c.args.starts.now c.requires.starts width c.loop-at.at
-    c.loop-at.threads.curr.items) in
-    let kept = ap (λ (a : Active). a.items) c.move_on.ensures.curr in
+    rw items (few-joined c.args.starts.now width c.loop-at.at c.loop-at.threads.curr.items) in
+    let kept = c.move_on.ensures.curr in
     let e : c.end-at-end.result ≡ x.end = c.end-at-end.ensures.value in
     let within : c.loop-at.at + 1 ≤ x.end + 1 = omega (arith, c.loop-at-test.true) in
     IsPaidAt-end c.args.nfa.now x (c.loop-at.at + 1) c.args.threads.now.reached.seen.turns
@@ -115,8 +80,7 @@ pub returns-then-is_some-clause-answer : goal.returns-then-is_some-clause-answer
 returns-then-is_some-clause-answer c =
     let x = search_of c.args.input.now in
     let width = length c.args.slots.now in
-    let items = joined-items c.args.starts.now c.loop-at.at width c.loop-at.threads.curr c.join.new.threads.curr
-    c.join.ensures.curr c.loop-at.invariant.room.curr_width in
+    let items = rw c.loop-at.invariant.width at c.join.ensures.curr in
     let s = ScansAll-join c.args.nfa.now x c.args.starts.now c.loop-at.at width c.loop-at.threads.reached.seen
     c.join.new.threads.reached.seen c.join.ensures.seen
     c.loop-at.threads.curr.items c.join.new.threads.curr.items items c.loop-at.invariant.scans in
@@ -131,46 +95,23 @@ loop-at-preserved c =
     let x = search_of c.args.input.now in
     let width = length c.args.slots.now in
     let low : x.start ≤ c.loop-at.at = omega (arith, c.start-at.ensures, c.loop-at.auto.at) in
-    let items = joined-items c.args.starts.now c.loop-at.at width c.loop-at.threads.curr c.join.new.threads.curr
-    c.join.ensures.curr c.loop-at.invariant.room.curr_width in
+    let items = rw c.loop-at.invariant.width at c.join.ensures.curr in
     let s = ScansAll-join c.args.nfa.now x c.args.starts.now c.loop-at.at width c.loop-at.threads.reached.seen
     c.join.new.threads.reached.seen c.join.ensures.seen
     c.loop-at.threads.curr.items c.join.new.threads.curr.items items c.loop-at.invariant.scans in
     let crosses = c.cross.ensures.crosses in
     let few : length c.join.new.threads.curr.items ≤ length c.loop-at.threads.curr.items + 1 =
-    rw items (few-joined c.args.nfa.now x c.args.starts.now c.requires.starts width c.loop-at.at
-    c.loop-at.threads.curr.items) in
-    let kept = ap (λ (a : Active). a.items) c.move_on.ensures.curr in
+    rw items (few-joined c.args.starts.now width c.loop-at.at c.loop-at.threads.curr.items) in
+    let kept = c.move_on.ensures.curr in
     let no_hit = EndsAt-none c.loop-at.at c.cross.result c.half_at-hit.result c.half_at-hit.ensures
     (sym c.is_some.ensures ∙ c.if-is_some.false) in
     let hit = rw no_hit at crosses.is_hit in
     let written = hit.1 in
     record {
       counted = c.move_on.ensures.scans ∙ c.cross.ensures.scans ∙ c.join.ensures.scans ∙ c.loop-at.invariant.counted;
-      room = HasThreads-swap c.args.nfa.now width c.cross.new.threads.reached.seen c.move_on.new.threads.reached.seen _
-          _
-          c.cross.new.threads.curr c.cross.new.threads.reached.next c.move_on.new.threads.curr
-          c.move_on.new.threads.reached.next
-          c.move_on.ensures.seen (ap length c.move_on.ensures.frames) c.move_on.ensures.curr c.move_on.ensures.next
-          (rw c.loop-at.auto.slots at c.cross.ensures.room);
-      sizes = λ size h.
-          AreSized-swap size c.cross.new.threads.reached.seen c.move_on.new.threads.reached.seen _ _
-          c.cross.new.threads.curr
-          c.cross.new.threads.reached.next c.move_on.new.threads.curr c.move_on.new.threads.reached.next
-          c.move_on.ensures.seen (ap length c.move_on.ensures.frames) c.move_on.ensures.curr c.move_on.ensures.next
-          (AreSized-kept size c.join.new.threads.reached.seen c.cross.new.threads.reached.seen _ _
-          c.join.new.threads.curr
-          c.join.new.threads.reached.next c.cross.new.threads.curr c.cross.new.threads.reached.next
-          c.cross.ensures.size c.cross.ensures.frames c.cross.ensures.curr c.cross.ensures.next
-          (AreSized-kept size c.loop-at.threads.reached.seen c.join.new.threads.reached.seen _ _ c.loop-at.threads.curr
-          c.loop-at.threads.reached.next c.join.new.threads.curr c.join.new.threads.reached.next
-          (ap (λ (m : Marks). length m.bits) c.join.ensures.seen) (ap length c.join.ensures.frames)
-          (same-items c.loop-at.threads.curr c.join.new.threads.curr
-          (with_start c.args.starts.now c.loop-at.threads.curr.width c.loop-at.at c.loop-at.threads.curr.items)
-          c.join.ensures.curr) (same-all c.loop-at.threads.reached.next c.join.new.threads.reached.next
-          c.join.ensures.next)
-          (c.loop-at.invariant.sizes size h)));
-      next = ap (λ (a : Active). a.items) c.move_on.ensures.next;
+      sizes = c.move_on.ensures.sizes ∙ c.cross.ensures.sizes ∙ c.join.ensures.sizes ∙ c.loop-at.invariant.sizes;
+      width = c.move_on.ensures.width ∙ c.cross.ensures.width ∙ c.join.ensures.width ∙ c.loop-at.invariant.width;
+      next = c.move_on.ensures.next;
       items = rw kept (AreAt-cross c.args.nfa.now x c.loop-at.at width c.args.starts.now.state c.args.starts.now.limit
           c.requires.starts.leads crosses);
       paid = rw (c.move_on.ensures.seen, kept)

@@ -3,16 +3,13 @@ use Rattle.std.proofs.Common.{◌≡◌, [], length}
 use Rattle.regex_search_core.specs.Search.{search_of}
 use Rattle.nfa_paths.specs.Kinds.{NoneBefore}
 use Rattle.nfa_paths.specs.Paths.{edges, is_match, starts}
-use Rattle.nfa_pikevm.specs.Scans.{HasThreads, Sizes, AreSized, AreAt, IsPaidAt, ScansAll}
+use Rattle.nfa_pikevm.specs.Scans.{SameSizes, AreAt, IsPaidAt, ScansAll}
 use Rattle.nfa_pikevm.proofs.scan.scan_earliest.Given as goal
 
 abbrev pub invariant-loop-at : goal.invariant-loop-at
 invariant-loop-at l = record {
-  room : HasThreads l.nfa (length l.fn.slots) l.threads.reached.seen (length l.threads.frames.items) l.threads.curr
-      l.threads.reached.next;
-  sizes : (size : Sizes) → AreSized size l.fn.threads.reached.seen (length l.fn.threads.frames.items) l.fn.threads.curr
-      l.fn.threads.reached.next
-      → AreSized size l.threads.reached.seen (length l.threads.frames.items) l.threads.curr l.threads.reached.next;
+  sizes : SameSizes l.fn.threads l.threads;
+  width : l.threads.curr.width ≡ length l.fn.slots;
   next : l.threads.reached.next.items ≡ [];
   items : AreAt l.nfa l.threads.curr.items;
   paid : IsPaidAt l.nfa (search_of l.input) l.at l.fn.threads.reached.seen.turns l.threads.reached.seen.turns

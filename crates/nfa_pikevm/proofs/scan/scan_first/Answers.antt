@@ -1,12 +1,10 @@
 -- A scan that is leftmost first answers the first accepting path.
-use Rattle.std.proofs.Common.{◌≡◌, ◌∙◌, ◌+◌, ◌<◌, ◌≤◌, length, arith, refl, ap, sym, inl, inr}
+use Rattle.std.proofs.Common.{◌≡◌, ◌∙◌, ◌+◌, ◌<◌, ◌≤◌, length, arith, refl, sym, inl, inr}
 use Rattle.regex_search_core.specs.Search.{search_of}
-use Rattle.nfa_scanning.specs.Marks.{Marks}
-use Rattle.nfa_pikevm.specs.Rows.{Active}
 use Rattle.nfa_pikevm.proofs.AllLemmas.{EndsAt-none}
 use Rattle.nfa_pikevm.proofs.EndLemmas.{SearchesFirst-begin, SearchesFirst-joins, SearchesFirst-some, first-over}
 use Rattle.nfa_pikevm.proofs.FrontLemmas.{Paid-next, IsPaidAt-cross, IsPaidAt-later}
-use Rattle.nfa_pikevm.proofs.RoomLemmas.{AreAt-none, none_of, below-joins, few-joins, over-joins, same-all, AreSized-kept, AreSized-swap, HasThreads-swap}
+use Rattle.nfa_pikevm.proofs.RoomLemmas.{AreAt-none, none_of, below-joins, few-joins, over-joins}
 use Rattle.nfa_pikevm.proofs.ScanLemmas.{AreAt-cross, over-cross, SearchesFirst-miss}
 use Rattle.nfa_pikevm.proofs.scan.scan_first.Goals as goal
 use Rattle.nfa_pikevm.proofs.scan.scan_first.Goals.{then-is_some, else-is_some}
@@ -17,8 +15,8 @@ loop-at-init c =
     let span : (search_of c.args.input.now).start ≤ (search_of c.args.input.now).end = c.requires.span in
     record {
       counted = refl;
-      room = c.requires.room;
-      sizes = λ size h. h;
+      sizes = refl;
+      width = c.requires.room.width_is;
       next = c.requires.next;
       items = rw c.requires.curr (AreAt-none c.args.nfa.now);
       low = omega arith;
@@ -31,26 +29,14 @@ loop-at-init c =
           c.args.slots.now c.args.threads.now.reached.seen c.requires.unset);
     }
 
-pub returns-then-is_empty-clause-sizes : goal.returns-then-is_empty-clause-sizes
-returns-then-is_empty-clause-sizes c = λ size h.
-    AreSized-kept size c.loop-at.threads.reached.seen c.join_or_skip-at.new.threads.reached.seen _ _
-    c.loop-at.threads.curr
-    c.loop-at.threads.reached.next c.join_or_skip-at.new.threads.curr c.join_or_skip-at.new.threads.reached.next
-    (ap (λ (m : Marks). length m.bits) c.join_or_skip-at.ensures.seen) (ap length c.join_or_skip-at.ensures.frames)
-    c.join_or_skip-at.ensures.curr
-    (same-all c.loop-at.threads.reached.next c.join_or_skip-at.new.threads.reached.next c.join_or_skip-at.ensures.next)
-    (c.loop-at.invariant.sizes size h)
-
 pub returns-then-is_empty-clause-answer : goal.returns-then-is_empty-clause-answer
 returns-then-is_empty-clause-answer c =
     let x = search_of c.args.input.now in
     let width = length c.args.slots.now in
     let to = c.join_or_skip-at.result in
     let none = none_of c.join_or_skip-at.new.threads.curr.items (c.is_empty.ensures.0 c.if-is_empty.true) in
-    let joins = rw c.loop-at.invariant.room.curr_width at c.join_or_skip-at.ensures.joins in
-    let past : c.loop-at.limit ≤ to = over-joins c.args.nfa.now x c.args.starts.now c.requires.starts width c.loop-at.at
-    c.loop-at.threads.curr.items c.args.first.now.may_begin c.loop-at.limit to
-    c.join_or_skip-at.new.threads.curr.items joins none in
+    let joins = rw c.loop-at.invariant.width at c.join_or_skip-at.ensures.joins in
+    let past : c.loop-at.limit ≤ to = over-joins joins none in
     let next : c.loop-at.limit ≤ to + 1 = omega arith in
     let s = SearchesFirst-joins c.args.nfa.now x c.args.first.now.may_begin c.requires.first c.args.starts.now
     c.requires.starts c.loop-at.limit width c.loop-at.at to c.loop-at.invariant.low joins
@@ -63,10 +49,7 @@ returns-then-is_empty-clause-answer c =
 
 pub cross-requires-clause-states : goal.cross-requires-clause-states
 cross-requires-clause-states c =
-    below-joins c.args.nfa.now (search_of c.args.input.now) c.args.starts.now c.requires.starts
-    (length c.args.slots.now) c.loop-at.at c.loop-at.threads.curr.items c.args.first.now.may_begin c.loop-at.limit
-    c.join_or_skip-at.result c.join_or_skip-at.new.threads.curr.items
-    (rw c.loop-at.invariant.room.curr_width at c.join_or_skip-at.ensures.joins) c.loop-at.invariant.items
+    below-joins c.join_or_skip-at.ensures.joins c.requires.starts.state c.loop-at.invariant.items.states
 
 pub loop-at-preserved : goal.loop-at-preserved
 loop-at-preserved c =
@@ -77,7 +60,7 @@ loop-at-preserved c =
     let e : c.end.result ≡ x.end = c.end.ensures.value in
     let before : c.loop-at.at ≤ x.end = omega (arith, c.loop-at-test.true) in
     let low : x.start ≤ c.loop-at.at = c.loop-at.invariant.low in
-    let joins = rw c.loop-at.invariant.room.curr_width at c.join_or_skip-at.ensures.joins in
+    let joins = rw c.loop-at.invariant.width at c.join_or_skip-at.ensures.joins in
     let ahead : c.loop-at.at ≤ to = joins.ahead in
     let ends : to ≤ x.end = joins.within before in
     let from : x.start ≤ to = omega arith in
@@ -85,37 +68,16 @@ loop-at-preserved c =
     (SearchesFirst-joins c.args.nfa.now x c.args.first.now.may_begin c.requires.first c.args.starts.now
     c.requires.starts c.loop-at.limit width c.loop-at.at to low joins c.loop-at.invariant.searches) in
     let crosses = c.cross.ensures.crosses in
-    let few = few-joins c.args.nfa.now x c.args.starts.now c.requires.starts width c.loop-at.at
-    c.loop-at.threads.curr.items c.args.first.now.may_begin c.loop-at.limit to
-    c.join_or_skip-at.new.threads.curr.items joins in
-    let kept = ap (λ (a : Active). a.items) c.move_on.ensures.curr in
+    let few = few-joins joins in
+    let kept = c.move_on.ensures.curr in
     record {
       counted = c.move_on.ensures.scans ∙ c.cross.ensures.scans ∙ c.join_or_skip-at.ensures.scans
           ∙ c.loop-at.invariant.counted;
-      room = HasThreads-swap c.args.nfa.now width c.cross.new.threads.reached.seen c.move_on.new.threads.reached.seen _
-          _
-          c.cross.new.threads.curr c.cross.new.threads.reached.next c.move_on.new.threads.curr
-          c.move_on.new.threads.reached.next
-          c.move_on.ensures.seen (ap length c.move_on.ensures.frames) c.move_on.ensures.curr c.move_on.ensures.next
-          (rw c.loop-at.auto.slots at c.cross.ensures.room);
-      sizes = λ size h.
-          AreSized-swap size c.cross.new.threads.reached.seen c.move_on.new.threads.reached.seen _ _
-          c.cross.new.threads.curr
-          c.cross.new.threads.reached.next c.move_on.new.threads.curr c.move_on.new.threads.reached.next
-          c.move_on.ensures.seen (ap length c.move_on.ensures.frames) c.move_on.ensures.curr c.move_on.ensures.next
-          (AreSized-kept size c.join_or_skip-at.new.threads.reached.seen c.cross.new.threads.reached.seen _ _
-          c.join_or_skip-at.new.threads.curr c.join_or_skip-at.new.threads.reached.next c.cross.new.threads.curr
-          c.cross.new.threads.reached.next
-          c.cross.ensures.size c.cross.ensures.frames c.cross.ensures.curr c.cross.ensures.next
-          (AreSized-kept size c.loop-at.threads.reached.seen c.join_or_skip-at.new.threads.reached.seen _ _
-          c.loop-at.threads.curr
-          c.loop-at.threads.reached.next c.join_or_skip-at.new.threads.curr c.join_or_skip-at.new.threads.reached.next
-          (ap (λ (m : Marks). length m.bits) c.join_or_skip-at.ensures.seen)
-          (ap length c.join_or_skip-at.ensures.frames) c.join_or_skip-at.ensures.curr
-          (same-all c.loop-at.threads.reached.next c.join_or_skip-at.new.threads.reached.next
-          c.join_or_skip-at.ensures.next)
-          (c.loop-at.invariant.sizes size h)));
-      next = ap (λ (a : Active). a.items) c.move_on.ensures.next;
+      sizes = c.move_on.ensures.sizes ∙ c.cross.ensures.sizes ∙ c.join_or_skip-at.ensures.sizes
+          ∙ c.loop-at.invariant.sizes;
+      width = c.move_on.ensures.width ∙ c.cross.ensures.width ∙ c.join_or_skip-at.ensures.width
+          ∙ c.loop-at.invariant.width;
+      next = c.move_on.ensures.next;
       items = rw kept (AreAt-cross c.args.nfa.now x to width state c.loop-at.limit c.requires.starts.leads crosses);
       low = omega arith;
       high = omega arith;

@@ -31,9 +31,6 @@ returns-in_err-half-clause-turns c =
     (turns-after c.args.nfa.now c.args.kind x.earliest x (search_of c.loop-half.search) _ _
     c.loop-half.invariant.restarts _ c.scan.ensures.turns)
 
-pub returns-in_err-half-clause-sizes : goal.returns-in_err-half-clause-sizes
-returns-in_err-half-clause-sizes c = λ size are. c.scan.ensures.sizes size (c.loop-half.invariant.sizes size are)
-
 pub returns-in_err-half-clause-answer : goal.returns-in_err-half-clause-answer
 returns-in_err-half-clause-answer c =
     let x = search_of c.args.input.now in
@@ -58,10 +55,6 @@ returns-then-may_end_at-clause-turns c =
     (turns-after c.args.nfa.now c.args.kind x.earliest x (search_of c.loop-half.search) _ _
     c.loop-half.invariant.restarts _ c.scan.ensures.turns)
 
-pub returns-then-may_end_at-clause-sizes : goal.returns-then-may_end_at-clause-sizes
-returns-then-may_end_at-clause-sizes c =
-    λ size are. c.scan.ensures.sizes size (c.loop-half.invariant.sizes size are)
-
 pub returns-then-may_end_at-clause-answer : goal.returns-then-may_end_at-clause-answer
 returns-then-may_end_at-clause-answer c =
     let x = search_of c.args.input.now in
@@ -85,10 +78,6 @@ returns-then-is_anchored-clause-turns c =
     rw c.scan.ensures.scans
     (turns-after c.args.nfa.now c.args.kind x.earliest x (search_of c.loop-half.search) _ _
     c.loop-half.invariant.restarts _ c.scan.ensures.turns)
-
-pub returns-then-is_anchored-clause-sizes : goal.returns-then-is_anchored-clause-sizes
-returns-then-is_anchored-clause-sizes c =
-    λ size are. c.scan.ensures.sizes size (c.loop-half.invariant.sizes size are)
 
 pub returns-then-is_anchored-clause-answer : goal.returns-then-is_anchored-clause-answer
 returns-then-is_anchored-clause-answer c =
@@ -120,8 +109,7 @@ loop-half-init c =
       restarts = rw c.requires.counted
           (restarts-begin c.args.nfa.now c.args.kind x.earliest x _ c.requires.turned);
       asks = refl;
-      serves = c.requires.serves;
-      sizes = λ size are. are;
+      sizes = refl;
     }
 
 pub loop-half-preserved : goal.loop-half-preserved
@@ -138,6 +126,5 @@ loop-half-preserved c =
           c.loop-half.invariant.restarts c.in_ok-half.half _ _ _ _ _ finds mode free off c.scan.ensures.turns
           (ap (λ n. n + 1) c.start-start.ensures) c.set_start.ensures);
       asks = ap (λ (z : Search). z.earliest) c.set_start.ensures ∙ c.loop-half.invariant.asks;
-      serves = rw c.scan.auto.slots c.scan.ensures.serves;
-      sizes = λ size are. c.scan.ensures.sizes size (c.loop-half.invariant.sizes size are);
+      sizes = c.scan.ensures.sizes ∙ c.loop-half.invariant.sizes;
     }

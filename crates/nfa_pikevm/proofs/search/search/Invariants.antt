@@ -1,8 +1,8 @@
 -- What holds at each scan of a search.
-use Rattle.std.proofs.Common.{◌≡◌, ◌+◌, ◌-◌, length}
+use Rattle.std.proofs.Common.{◌≡◌, ◌+◌, ◌-◌}
 use Rattle.regex_search_core.specs.Search.{search_of}
 use Rattle.nfa_paths.specs.Restarts.{Restarts}
-use Rattle.nfa_pikevm.specs.Scans.{Serves, Sizes, AreSized}
+use Rattle.nfa_pikevm.specs.Scans.{SameSizes}
 use Rattle.nfa_pikevm.proofs.search.search.Given as goal
 
 abbrev pub invariant-loop-half : goal.invariant-loop-half
@@ -10,11 +10,7 @@ invariant-loop-half l = record {
   restarts : Restarts l.nfa l.kind (search_of l.input).earliest (search_of l.input) (search_of l.search)
       l.threads.scans l.threads.reached.seen.turns;
   asks : (search_of l.search).earliest ≡ (search_of l.input).earliest;
-  serves : Serves l.nfa (length l.slots) l.threads.reached.seen (length l.threads.frames.items) l.threads.curr
-      l.threads.reached.next;
-  sizes : (size : Sizes) → AreSized size l.fn.threads.reached.seen (length l.fn.threads.frames.items) l.fn.threads.curr
-      l.fn.threads.reached.next
-      → AreSized size l.threads.reached.seen (length l.threads.frames.items) l.threads.curr l.threads.reached.next;
+  sizes : SameSizes l.fn.threads l.threads;
 }
 
 -- the positions that are left to start at
