@@ -6,7 +6,7 @@ use Rattle.regex_search_core.specs.Search.{Search}
 use Rattle.thompson_nfa.specs.Automaton.{Automaton}
 use Rattle.nfa_paths.specs.Graphs.{Pair}
 use Rattle.nfa_paths.specs.FirstPaths.{IsFirst}
-use Rattle.nfa_paths.specs.Paths.{start_state, starts, pairs_from, edges, is_match, capture}
+use Rattle.nfa_paths.specs.Paths.{start_state, starts, pairs_from, edges, is_match, space}
 use Rattle.nfa_paths.specs.Exploring.{Item, Slots, ExploresTo}
 use Rattle.nfa_paths.specs.Exploring.Item.{Explore}
 use Rattle.nfa_paths.proofs.AnswerLemmas.{pairs_from-step, pairs_from-end}
@@ -27,8 +27,7 @@ module _ (nfa : Automaton) (x : Search) where
         let same : more ≡ left = omega arith in
         inr (
           dead pairs,
-          subst (λ n. ExploresTo (edges nfa x) (is_match nfa) (capture nfa) n None pairs w s g) (sym same)
-              (h pairs agrees),
+          subst (λ n. ExploresTo (space nfa x) (is_match nfa) n None pairs w s g) (sym same) (h pairs agrees),
         );
   }
 

@@ -13,7 +13,7 @@ use Rattle.regex_search_core.specs.Search.{Search}
 use Rattle.thompson_nfa.specs.Automaton.{Automaton, Node}
 use Rattle.thompson_nfa.specs.Automaton.Node.{Capture, Fail, Match}
 use Rattle.nfa_paths.specs.Graphs.{Pair, In}
-use Rattle.nfa_paths.specs.Paths.{span_len, degree, node_at, pattern_of, slot_of, edges, edges_of, is_match, capture}
+use Rattle.nfa_paths.specs.Paths.{span_len, degree, node_at, pattern_of, slot_of, edges_of, is_match, space}
 use Rattle.nfa_paths.specs.Paths.{turn_weight}
 use Rattle.nfa_paths.specs.Exploring.{Item, Slots, Hit, ExploresTo}
 use Rattle.nfa_paths.specs.Exploring.Item.{Explore, Restore}
@@ -128,7 +128,7 @@ module _ (nfa : Automaton) (x : Search) where
       back = λ left more g e a pairs agrees.
           let one : more ≡ suc left = omega arith in
           rw one
-          (Answer-marked (edges nfa x) (is_match nfa) (capture nfa) left None pairs (s, at) rest slots g
+          (Answer-marked (space nfa x) (is_match nfa) left None pairs (s, at) rest slots g
           ((agrees (s, at)).1 (record { state = state; from = from; set = seen })) (rw same at a pairs agrees));
     }
 
@@ -153,8 +153,8 @@ module _ (nfa : Automaton) (x : Search) where
       -- a turn that marks the pair
       Carries-taken : (work : List Item) (written : Slots)
           → ((left : ℕ) (pairs : List Pair) (g : Hit) → ¬ (In (s, at) pairs)
-          → ExploresTo (edges nfa x) (is_match nfa) (capture nfa) left None ((s, at) ∷ pairs) work written g
-          → ExploresTo (edges nfa x) (is_match nfa) (capture nfa) (suc left) None pairs (Explore (s, at) ∷ rest) slots g)
+          → ExploresTo (space nfa x) (is_match nfa) left None ((s, at) ∷ pairs) work written g
+          → ExploresTo (space nfa x) (is_match nfa) (suc left) None pairs (Explore (s, at) ∷ rest) slots g)
           → Carries nfa x marks (Explore (s, at) ∷ rest) slots after work written
       unfolding WalkAnswer
       Carries-taken work written step = record {
@@ -174,7 +174,7 @@ module _ (nfa : Automaton) (x : Search) where
             let one : left ≡ suc 0 = omega arith in
             let node = node_at-get s (Match pattern) is in
             rw one
-            (Answer-target (edges nfa x) (is_match nfa) (capture nfa) 0 None pairs (s, at) rest slots _
+            (Answer-target (space nfa x) (is_match nfa) 0 None pairs (s, at) rest slots _
             (free pairs agrees) (rw node refl) (rw node refl));
       }
 
@@ -186,7 +186,7 @@ module _ (nfa : Automaton) (x : Search) where
       Carries-plain node is plain writes es leads =
           let n = node_at-get s node is in
           Carries-taken (map Explore es ++ rest) slots
-          (λ left pairs g f. Answer-plain (edges nfa x) (is_match nfa) (capture nfa) left None pairs (s, at) rest slots
+          (λ left pairs g f. Answer-plain (space nfa x) (is_match nfa) left None pairs (s, at) rest slots
           g f (rw (n, plain) refl) es (rw n leads) (rw (n, writes) refl))
 
       -- a Capture writes its slot, which is restored below its edge
@@ -197,7 +197,7 @@ module _ (nfa : Automaton) (x : Search) where
       Carries-write next slot is =
           let n = node_at-get s (Capture next slot) is in
           Carries-taken (Explore (next, at) ∷ Restore slot (get_or slots slot None) ∷ rest) (set slots slot (Some at))
-          (λ left pairs g f. Answer-write (edges nfa x) (is_match nfa) (capture nfa) left None pairs (s, at) rest slots
+          (λ left pairs g f. Answer-write (space nfa x) (is_match nfa) left None pairs (s, at) rest slots
           g f (rw n refl) ((next, at) ∷ []) (rw n refl) slot (rw n refl))
 
       -- a Capture of a slot that is not tracked
@@ -207,7 +207,7 @@ module _ (nfa : Automaton) (x : Search) where
       Carries-unkept next slot is past =
           let n = node_at-get s (Capture next slot) is in
           Carries-taken (Explore (next, at) ∷ rest) slots
-          (λ left pairs g f. Answer-unkept (edges nfa x) (is_match nfa) (capture nfa) left None pairs (s, at) rest slots
+          (λ left pairs g f. Answer-unkept (space nfa x) (is_match nfa) left None pairs (s, at) rest slots
           g f (rw n refl) ((next, at) ∷ []) (rw n refl) slot (rw n refl) past)
 
   -- steps one after another
@@ -241,8 +241,7 @@ module _ (nfa : Automaton) (x : Search) where
     grows = omega arith;
     back = λ left more g e h pairs agrees.
         let same : more ≡ left = omega arith in
-        rw same ((Answer-restore (edges nfa x) (is_match nfa) (capture nfa) left None pairs k old w s g).0
-        (h pairs agrees));
+        rw same ((Answer-restore (space nfa x) (is_match nfa) left None pairs k old w s g).0 (h pairs agrees));
   }
 
   -- nothing is left
@@ -250,7 +249,7 @@ module _ (nfa : Automaton) (x : Search) where
   unfolding WalkAnswer
   Ends-none m s = record {
     grows = omega arith;
-    answer = λ left e pairs agrees. Answer-none (edges nfa x) (is_match nfa) (capture nfa) left None pairs s;
+    answer = λ left e pairs agrees. Answer-none (space nfa x) (is_match nfa) left None pairs s;
   }
 
   -- steps before the end

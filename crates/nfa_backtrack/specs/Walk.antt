@@ -10,7 +10,7 @@ use Rattle.regex_search_core.specs.declared.search.HalfMatch.{HalfMatch}
 use Rattle.regex_search_core.specs.declared.search.MatchKind.TheVariants.{LeftmostFirst}
 use Rattle.thompson_nfa.specs.Automaton.{Automaton}
 use Rattle.nfa_paths.specs.Graphs.{Pair, In}
-use Rattle.nfa_paths.specs.Paths.{span_len, degree, node_at, pattern_of, edges, is_match, capture, IsScanAnswer}
+use Rattle.nfa_paths.specs.Paths.{span_len, degree, node_at, pattern_of, is_match, IsScanAnswer, space}
 use Rattle.nfa_paths.specs.Restarts.{GivesPath}
 use Rattle.nfa_paths.specs.Exploring.{Slots, Hit, Item, ExploresTo}
 use Rattle.nfa_paths.specs.Exploring.Item.{Explore as ToExplore, Restore as ToRestore}
@@ -134,8 +134,7 @@ module _ (nfa : Automaton) (x : Search) where
   -- what the search answers from here on, with `left` turns left
   unfoldable pub WalkAnswer : ℕ → List Bool → List Item → Slots → Hit → Type 0
   WalkAnswer left bits work slots g =
-      (seen : List Pair) → Agrees bits seen
-      → ExploresTo (edges nfa x) (is_match nfa) (capture nfa) left None seen work slots g
+      (seen : List Pair) → Agrees bits seen → ExploresTo (space nfa x) (is_match nfa) left None seen work slots g
 
   -- the turn at v marked it
   pub record Taken (v : Pair) (marks marked : Marks) : Type 0 where

@@ -17,7 +17,7 @@ use Rattle.nfa_paths.specs.Graphs.{Pair, In, ComesBefore, PathTo}
 use Rattle.nfa_paths.specs.FirstPaths.{Increasing}
 use Rattle.nfa_paths.specs.Exploring.{Slots, write, apply, ExploresTo}
 use Rattle.nfa_paths.specs.Exploring.Item.{Explore}
-use Rattle.nfa_paths.specs.Paths.{pattern_of, slot_of, pairs_from, raised, span_len, node_at, is_match, IsMatch, capture, is_utf8_empty, start_state, edges_of, edges, start_count, starts, IsScanAnswer, last_of, slot_among, slot_row, EndsOnBoundary, IsWhole, SplitsCharacter, IsKeptAnswer, IsRestartedAnswer, IsSearchAnswer, IsWithinScans, scan_limit}
+use Rattle.nfa_paths.specs.Paths.{space, pattern_of, slot_of, pairs_from, raised, span_len, node_at, is_match, IsMatch, capture, is_utf8_empty, start_state, edges_of, edges, start_count, starts, IsScanAnswer, last_of, slot_among, slot_row, EndsOnBoundary, IsWhole, SplitsCharacter, IsKeptAnswer, IsRestartedAnswer, IsSearchAnswer, IsWithinScans, scan_limit}
 use Rattle.nfa_paths.proofs.PathLemmas.{IsLeast-from_first}
 use Rattle.nfa_paths.proofs.SearchLemmas.{Answer-starts, found-Some}
 use Rattle.nfa_paths.proofs.PathToLemmas.{EndsWith-last, PathTo-along, found-end, ComesBefore-asymmetric, PathTo-order, IsLeast-none, IsLeast-first, IsFirstPath-unique, IsEarliestPath-unique, IsLastPath-unique, IsEarliestLastPath-unique}
@@ -227,11 +227,11 @@ module _ (nfa : Automaton) where
   module _ (x : Search) where
     -- a search that finds nothing: there is no accepting path
     pub scan_none : (total : ℕ) (slots : Slots)
-        → ExploresTo (edges nfa x) (is_match nfa) (capture nfa) total None [] (map Explore (starts nfa x)) slots None
+        → ExploresTo (space nfa x) (is_match nfa) total None [] (map Explore (starts nfa x)) slots None
         → IsScanAnswer nfa x LeftmostFirst false None
     scan_none total slots answer =
-        elim (Answer-starts (edges nfa x) (is_match nfa) (capture nfa) total (starts nfa x) slots None answer) [
-          | inl k ↦ absurd (found-Some (edges nfa x) (is_match nfa) (capture nfa) slots k.1.2.path k.2)
+        elim (Answer-starts (space nfa x) (is_match nfa) total (starts nfa x) slots None answer) [
+          | inl k ↦ absurd (found-Some (space nfa x) (is_match nfa) slots k.1.2.path k.2)
           | inr k ↦
               IsLeast-none (edges nfa x) (starts nfa x) (is_match nfa) (IsMatch-edges nfa x)
               (IsLeast-from_first (edges nfa x) (is_match nfa) (starts nfa x) (starts-increase nfa x) None k.0)
@@ -247,11 +247,11 @@ module _ (nfa : Automaton) where
 
     -- what a search finds is the first accepting path's
     pub scan_some : (count total : ℕ) (v : Pair) (row : Slots)
-        → ExploresTo (edges nfa x) (is_match nfa) (capture nfa) total None [] (map Explore (starts nfa x))
+        → ExploresTo (space nfa x) (is_match nfa) total None [] (map Explore (starts nfa x))
         (replicate count None) (Some (v, row))
         → FindsPath count total v row
     scan_some count total v row answer =
-        elim (Answer-starts (edges nfa x) (is_match nfa) (capture nfa) total (starts nfa x) (replicate count None)
+        elim (Answer-starts (space nfa x) (is_match nfa) total (starts nfa x) (replicate count None)
         (Some (v, row)) answer) [
           | inl k ↦
               let first = IsLeast-first (edges nfa x) (starts nfa x) (is_match nfa) (IsMatch-edges nfa x) k.0

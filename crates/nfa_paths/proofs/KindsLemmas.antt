@@ -3,7 +3,7 @@ use Rattle.std.proofs.Common.{◌≡◌, ℕ, suc, ◌≤◌, ◌<◌, ◌⊎◌
 use Rattle.std.specs.Prelude.{Option, None, Some}
 use Rattle.std.proofs.Math.Decide.{ℕ_discrete}
 use Rattle.std.proofs.lemmas.Bool.{cases_Bool}
-use Rattle.nfa_paths.specs.Graphs.{Pair, In, NoRepeats, ComesBefore, PathTo, NoPath, IsFirstTo, WantedAt, IsLastOfFirsts}
+use Rattle.nfa_paths.specs.Graphs.{Pair, Space, In, NoRepeats, ComesBefore, PathTo, NoPath, IsFirstTo, WantedAt, IsLastOfFirsts}
 use Rattle.nfa_paths.specs.FirstPaths.{Path, IsFirst}
 use Rattle.nfa_paths.specs.FirstPaths.Path.{stop, go}
 use Rattle.nfa_paths.specs.Exploring.{Slots, Hit, Item, apply, found, ExploresTo, ExploresBehind}
@@ -15,37 +15,36 @@ use Rattle.nfa_paths.proofs.PathToLemmas.{found-end, IsFirstTo-along, IsFirstTo-
 
 -- the answer of a front
 
-module _ (edges : Pair → List Pair) (target : Pair → Bool) (capture : Pair → Option ℕ) where
+module _ (space : Space) (target : Pair → Bool) where
   -- a path holds a target
-  Path-target : {v : Pair} {p : List Pair} → Path edges target v p → (x : Pair) × In x p × (target x ≡ true)
+  Path-target : {v : Pair} {p : List Pair} → Path space.edges target v p → (x : Pair) × In x p × (target x ≡ true)
   Path-target (stop {v = v} t) = (v, inl refl, t)
   Path-target (go t e n h) = let r = Path-target h in (r.0, inr r.1, r.2)
 
-  module _ (e : ℕ) (onward : (x y : Pair) → In y (edges x) → x.1 ≤ y.1) (at : (x : Pair) → target x ≡ true
+  module _ (e : ℕ) (onward : (x y : Pair) → In y (space.edges x) → x.1 ≤ y.1) (at : (x : Pair) → target x ≡ true
       → x.1 ≡ e) where
     -- from a later position no target is reached
-    Path-later : {v : Pair} {p : List Pair} → Path edges target v p → e < v.1 → ⊥
+    Path-later : {v : Pair} {p : List Pair} → Path space.edges target v p → e < v.1 → ⊥
     Path-later (stop {v = v} t) l = let k : v.1 ≡ e = at v t in omega arith
     Path-later (go {v = v} {w = w} t i n h) l = let k : v.1 ≤ w.1 = onward v w i in Path-later h (omega arith)
 
     -- a pair at a later position has no path
-    IsFirst-later : (marks : List Pair) (v : Pair) → e < v.1 → IsFirst edges target marks v None
+    IsFirst-later : (marks : List Pair) (v : Pair) → e < v.1 → IsFirst space.edges target marks v None
     IsFirst-later marks v l p a = Path-later a.path l
 
     -- a pair that rises and is no target
-    pub IsFirst-rises : (marks : List Pair) (v : Pair) → ((w : Pair) → In w (edges v) → e < w.1) → (target v ≡ true → ⊥)
-        → IsFirst edges target marks v None
+    pub IsFirst-rises : (marks : List Pair) (v : Pair) → ((w : Pair) → In w (space.edges v) → e < w.1)
+        → (target v ≡ true → ⊥) → IsFirst space.edges target marks v None
     IsFirst-rises marks v rises plain p a = none a.path rises plain
       where
-        none : {v : Pair} {p : List Pair} → Path edges target v p → ((w : Pair) → In w (edges v) → e < w.1)
+        none : {v : Pair} {p : List Pair} → Path space.edges target v p → ((w : Pair) → In w (space.edges v) → e < w.1)
             → (target v ≡ true → ⊥) → ⊥
         none (stop t) r f = f t
         none (go {w = w} t i n h) r f = Path-later h (r w i)
 
     -- work at later positions alone finds nothing
     Answer-later : (left : ℕ) (marks : List Pair) (work : List Item) (slots : Slots)
-        → ((k : Pair) → In (Explore k) work → e < k.1)
-        → ExploresTo edges target capture left None marks work slots None
+        → ((k : Pair) → In (Explore k) work → e < k.1) → ExploresTo space target left None marks work slots None
     unfolding ExploresTo
     Answer-later left marks [] slots l = refl
     Answer-later left marks (Explore v ∷ rest) slots l =
@@ -57,9 +56,9 @@ module _ (edges : Pair → List Pair) (target : Pair → Bool) (capture : Pair �
         (later : (k : Pair) → In (Explore k) waiting → e < k.1) where
       -- a front with no target
       AnswerBehind-none : (front : List (Pair × Slots))
-          → ((a : Pair × Slots) → In a front → (w : Pair) → In w (edges a.0) → e < w.1)
+          → ((a : Pair × Slots) → In a front → (w : Pair) → In w (space.edges a.0) → e < w.1)
           → ((a : Pair × Slots) → In a front → target a.0 ≡ true → ⊥)
-          → ExploresBehind edges target capture left front None marks waiting slots None
+          → ExploresBehind space target left front None marks waiting slots None
       unfolding ExploresBehind
       AnswerBehind-none [] rises plain = Answer-later left marks waiting slots later
       AnswerBehind-none (a ∷ front) rises plain =
@@ -70,14 +69,14 @@ module _ (edges : Pair → List Pair) (target : Pair → Bool) (capture : Pair �
 
       -- the first target of a front
       AnswerBehind-first : (before : List (Pair × Slots)) (a : Pair × Slots) (after : List (Pair × Slots))
-          → ((b : Pair × Slots) → In b before → (w : Pair) → In w (edges b.0) → e < w.1)
+          → ((b : Pair × Slots) → In b before → (w : Pair) → In w (space.edges b.0) → e < w.1)
           → ((b : Pair × Slots) → In b before → target b.0 ≡ true → ⊥) → target a.0 ≡ true
-          → ExploresBehind edges target capture left (before ++ a ∷ after) None marks waiting slots
-          (found capture (a.0 ∷ []) a.1)
+          → ExploresBehind space target left (before ++ a ∷ after) None marks waiting slots
+          (found space.capture (a.0 ∷ []) a.1)
       unfolding ExploresBehind
       AnswerBehind-first [] a after rises plain t =
           let short : length (a.0 ∷ []) ≤ suc left = omega arith in
-          inl (a.0 ∷ [], IsFirst-target edges target [] a.0 (λ n. n) t, refl, short)
+          inl (a.0 ∷ [], IsFirst-target space.edges target [] a.0 (λ n. n) t, refl, short)
       AnswerBehind-first (b ∷ before) a after rises plain t =
           inr (
             IsFirst-rises [] b.0 (rises b (inl refl)) (plain b (inl refl)),
@@ -172,10 +171,9 @@ unfolding test
 true-test (inl a) h = refl
 true-test (inr n) h = absurd (n h)
 
-module _ (edges : Pair → List Pair) (capture : Pair → Option ℕ) (starts : List Pair) (resting is_match : Pair → Bool)
-    (slots : Slots) (turns : ℕ) where
-  module _ (shape : Scanned edges capture starts resting is_match) {front : List (Pair × Slots)} {e : ℕ}
-      (f : IsFront edges capture starts resting is_match slots turns front e)
+module _ (space : Space) (resting is_match : Pair → Bool) (slots : Slots) (turns : ℕ) where
+  module _ (shape : Scanned space resting is_match) {front : List (Pair × Slots)} {e : ℕ}
+      (f : IsFront space resting is_match slots turns front e)
       (P : Pair → Type 0) (d : Tested P) (matches : (x : Pair) → P x → (is_match x ≡ true) × (x.1 ≡ e)) where
     -- the set as a test
     target : Pair → Bool
@@ -196,7 +194,7 @@ module _ (edges : Pair → List Pair) (capture : Pair → Option ℕ) (starts : 
     at_matches x t = matches x (is_target x t)
 
     -- targets lead nowhere
-    stops : (x : Pair) → target x ≡ true → edges x ≡ []
+    stops : (x : Pair) → target x ≡ true → space.edges x ≡ []
     stops x t = shape.leads_nowhere x (at_matches x t).0
 
     -- targets lie at e
@@ -204,48 +202,50 @@ module _ (edges : Pair → List Pair) (capture : Pair → Option ℕ) (starts : 
     at_end x t = (at_matches x t).1
 
     -- the edges of the front's pairs lead behind e
-    rising : (a : Pair × Slots) → In a front → (w : Pair) → In w (edges a.0) → e < w.1
+    rising : (a : Pair × Slots) → In a front → (w : Pair) → In w (space.edges a.0) → e < w.1
     rising a i w j = let r = f.rest a i in rw (← r.1) (shape.rises a.0 w r.0 j)
 
     -- the front has no pair of the set: no path leads to one
-    pub IsFront-none : ((a : Pair × Slots) → In a front → P a.0 → ⊥) → NoPath edges starts P
+    pub IsFront-none : ((a : Pair × Slots) → In a front → P a.0 → ⊥) → NoPath space.edges space.starts P
     IsFront-none plain m p w t =
         let leads = f.leads target at_matches in
-        let answer = leads.1 None (AnswerBehind-none edges target capture e shape.onward at_end 0 leads.0 f.waiting
+        let answer = leads.1 None (AnswerBehind-none space target e shape.onward at_end 0 leads.0 f.waiting
         f.current f.later front rising
         (λ a i u. plain a i (is_target a.0 u))) in
-        elim (Answer-starts edges target capture turns starts slots None answer) [
-          | inl k ↦ absurd (found-Some edges target capture slots k.1.2.path k.2)
-          | inr k ↦ IsLeast-none edges starts target stops
-              (IsLeast-from_first edges target starts shape.increasing None k.0) m p w (target_is m t)
+        elim (Answer-starts space target turns space.starts slots None answer) [
+          | inl k ↦ absurd (found-Some space target slots k.1.2.path k.2)
+          | inr k ↦ IsLeast-none space.edges space.starts target stops
+              (IsLeast-from_first space.edges target space.starts shape.increasing None k.0) m p w (target_is m t)
         ]
 
     -- the first pair of the set in the front is the end of the first path to a pair of the set
     pub IsFront-first : (before : List (Pair × Slots)) (a : Pair × Slots) (after : List (Pair × Slots))
         → front ≡ before ++ a ∷ after
         → ((b : Pair × Slots) → In b before → P b.0 → ⊥) → P a.0
-        → (p : List Pair) × (first : IsFirstTo edges starts P p) × (first.end ≡ a.0) × (found capture p slots ≡ Some a)
+        → (p : List Pair) × (first : IsFirstTo space.edges space.starts P p) × (first.end ≡ a.0)
+        × (found space.capture p slots ≡ Some a)
         × (length p ≤ turns)
     IsFront-first before a after split plain t =
         let leads = f.leads target at_matches in
         let in_front : (b : Pair × Slots) → In b before
         → In b front = λ b i. rw split (In-append_left b before (a ∷ after) i) in
-        let behind = AnswerBehind-first edges target capture e shape.onward at_end 0 leads.0 f.waiting f.current
+        let behind = AnswerBehind-first space target e shape.onward at_end 0 leads.0 f.waiting f.current
         f.later before a after
         (λ b i. rising b (in_front b i)) (λ b i u. plain b i (is_target b.0 u)) (target_is a.0 t) in
-        let answer = leads.1 (found capture (a.0 ∷ []) a.1)
-        (subst (λ x. ExploresBehind edges target capture 0 x None leads.0 f.waiting f.current
-        (found capture (a.0 ∷ []) a.1)) (sym split) behind) in
-        let wrote : found capture (a.0 ∷ []) a.1 ≡ Some a = rw (shape.writes_nothing a.0 (matches a.0 t).0) refl in
-        elim (Answer-starts edges target capture turns starts slots (found capture (a.0 ∷ []) a.1) answer) [
+        let answer = leads.1 (found space.capture (a.0 ∷ []) a.1)
+        (subst (λ x. ExploresBehind space target 0 x None leads.0 f.waiting f.current
+        (found space.capture (a.0 ∷ []) a.1)) (sym split) behind) in
+        let wrote : found space.capture (a.0 ∷ []) a.1 ≡ Some a =
+        rw (shape.writes_nothing a.0 (matches a.0 t).0) refl in
+        elim (Answer-starts space target turns space.starts slots (found space.capture (a.0 ∷ []) a.1) answer) [
           | inl k ↦
-              let first = IsFirstTo-along edges starts (λ x. target x ≡ true) P is_target target_is
-              (IsLeast-first edges starts target stops k.0
-              (IsLeast-from_first edges target starts shape.increasing (Some k.0) k.1)) in
-              let same_found : found capture k.0 slots ≡ Some a = sym k.2 ∙ wrote in
-              let end = found-end capture first.end k.0 slots first.path.ends in
-              let same_end : first.end ≡ a.0 = let both : Some (first.end, apply capture k.0 slots) ≡ Some a = sym end
-              ∙ same_found in cc in
+              let first = IsFirstTo-along space.edges space.starts (λ x. target x ≡ true) P is_target target_is
+              (IsLeast-first space.edges space.starts target stops k.0
+              (IsLeast-from_first space.edges target space.starts shape.increasing (Some k.0) k.1)) in
+              let same_found : found space.capture k.0 slots ≡ Some a = sym k.2 ∙ wrote in
+              let end = found-end space.capture first.end k.0 slots first.path.ends in
+              let both : Some (first.end, apply space.capture k.0 slots) ≡ Some a = sym end ∙ same_found in
+              let same_end : first.end ≡ a.0 = cc in
               (k.0, first, same_end, same_found, k.3)
           | inr k ↦ let never : Some a ≡ None = sym wrote ∙ k.1 in cc
         ]
@@ -361,10 +361,9 @@ module _ (is_match : Pair → Bool) where
 
 -- what one front says of the paths that end at its position
 
-module _ (edges : Pair → List Pair) (capture : Pair → Option ℕ) (starts : List Pair) (resting is_match : Pair → Bool)
-    (slots : Slots) (turns : ℕ)
-    (shape : Scanned edges capture starts resting is_match) {front : List (Pair × Slots)} {e : ℕ}
-    (f : IsFront edges capture starts resting is_match slots turns front e) where
+module _ (space : Space) (resting is_match : Pair → Bool) (slots : Slots) (turns : ℕ)
+    (shape : Scanned space resting is_match) {front : List (Pair × Slots)} {e : ℕ}
+    (f : IsFront space resting is_match slots turns front e) where
   -- the match pairs at e can be told
   here : Tested (WantedAt (Passes is_match) e)
   here x =
@@ -378,16 +377,17 @@ module _ (edges : Pair → List Pair) (capture : Pair → Option ℕ) (starts : 
   here_matches x h = (h.wanted, h.at)
 
   -- no match pair in the front: no path ends at e
-  pub IsFront-no_match : NoMatch is_match front → NoPath edges starts (WantedAt (Passes is_match) e)
-  IsFront-no_match none = IsFront-none edges capture starts resting is_match slots turns shape f
+  pub IsFront-no_match : NoMatch is_match front → NoPath space.edges space.starts (WantedAt (Passes is_match) e)
+  IsFront-no_match none = IsFront-none space resting is_match slots turns shape f
       (WantedAt (Passes is_match) e) here here_matches (λ a i h. none a i h.wanted)
 
   -- its first match pair is the end of the first path that ends at e
   pub IsFront-first_match : (a : Pair × Slots) → FirstMatch is_match front a
-      → (p : List Pair) × (first : IsFirstTo edges starts (WantedAt (Passes is_match) e) p) × (first.end ≡ a.0)
-      × (found capture p slots ≡ Some a) × (length p ≤ turns)
+      → (p : List Pair) × (first : IsFirstTo space.edges space.starts (WantedAt (Passes is_match) e) p)
+      × (first.end ≡ a.0)
+      × (found space.capture p slots ≡ Some a) × (length p ≤ turns)
   IsFront-first_match a m =
-      IsFront-first edges capture starts resting is_match slots turns shape f (WantedAt (Passes is_match) e) here
+      IsFront-first space resting is_match slots turns shape f (WantedAt (Passes is_match) e) here
       here_matches m.before a m.after m.split
       (λ b i h. m.plain b i h.wanted) (record {
         wanted = m.matches;
@@ -417,18 +417,18 @@ module _ (edges : Pair → List Pair) (capture : Pair → Option ℕ) (starts : 
 
   -- the match pairs of the front are those to which a path leads
   pub IsFront-pairs : (m : Pair) → WantedAt (Passes is_match) e m
-      → ((p : List Pair) × PathTo edges starts m p) ↔ ((a : Pair × Slots) × In a front × (a.0 ≡ m))
+      → ((p : List Pair) × PathTo space.edges space.starts m p) ↔ ((a : Pair × Slots) × In a front × (a.0 ≡ m))
   IsFront-pairs m h = (
     λ w.
         elim (find m front) [
           | inl r ↦ (r.item, rw r.split (In-append_right r.item r.before (r.item ∷ r.after) (inl refl)), r.is)
-          | inr none ↦ absurd (IsFront-none edges capture starts resting is_match slots turns shape f (λ x. x ≡ m)
+          | inr none ↦ absurd (IsFront-none space resting is_match slots turns shape f (λ x. x ≡ m)
               (one m) (here_at m h) none m w.0 w.1 refl)
         ],
     λ i.
         elim (find m front) [
           | inl r ↦
-              let first = IsFront-first edges capture starts resting is_match slots turns shape f (λ x. x ≡ m) (one m)
+              let first = IsFront-first space resting is_match slots turns shape f (λ x. x ≡ m) (one m)
               (here_at m h) r.before r.item r.after r.split r.plain r.is in
               (first.0, rw first.1.wanted at first.1.path)
           | inr none ↦ absurd (none i.0 i.1 i.2)
@@ -440,15 +440,14 @@ module _ (edges : Pair → List Pair) (capture : Pair → Option ℕ) (starts : 
       → front ≡ before ++ b ∷ after
       → (m n : Pair) → WantedAt (Passes is_match) e m → WantedAt (Passes is_match) e n → b.0 ≡ m
       → ((c : Pair × Slots) → In c before → c.0 ≡ m → ⊥) → ((c : Pair × Slots) → In c before → c.0 ≡ n → ⊥)
-      → (p : List Pair) → IsFirstTo edges starts (λ x. x ≡ m) p → (q : List Pair) → PathTo edges starts n q
-      → (q ≡ p) ⊎ ComesBefore edges p q
+      → (p : List Pair) → IsFirstTo space.edges space.starts (λ x. x ≡ m) p → (q : List Pair)
+      → PathTo space.edges space.starts n q → (q ≡ p) ⊎ ComesBefore space.edges p q
   IsFront-order before b after split m n h k eq not_m not_n p first q w =
-      let found_first = IsFront-first edges capture starts resting is_match slots turns shape f
-      (λ x. (x ≡ m) ⊎ (x ≡ n)) (two m n)
+      let found_first = IsFront-first space resting is_match slots turns shape f (λ x. (x ≡ m) ⊎ (x ≡ n)) (two m n)
       (λ x s. elim s [ inl y ↦ here_at m h x y | inr y ↦ here_at n k x y ]) before b after split
       (λ c i s. elim s [ inl y ↦ not_m c i y | inr y ↦ not_n c i y ]) (inl eq) in
       let both = found_first.1 in
-      let to_m : IsFirstTo edges starts (λ x. x ≡ m) found_first.0 =
+      let to_m : IsFirstTo space.edges space.starts (λ x. x ≡ m) found_first.0 =
       record {
         end = both.end;
         path = both.path;
@@ -456,19 +455,20 @@ module _ (edges : Pair → List Pair) (capture : Pair → Option ℕ) (starts : 
         first =
             λ d r v t. both.first d r v (inl t);
       } in
-      let same_path : found_first.0 ≡ p = IsFirstTo-unique edges starts (λ x. x ≡ m) found_first.0 p to_m first in
-      subst (λ x. (q ≡ x) ⊎ ComesBefore edges x q) same_path (both.first n q w (inr refl))
+      let same_path : found_first.0 ≡ p =
+      IsFirstTo-unique space.edges space.starts (λ x. x ≡ m) found_first.0 p to_m first in
+      subst (λ x. (q ≡ x) ⊎ ComesBefore space.edges x q) same_path (both.first n q w (inr refl))
 
   -- the first path to any match pair at e is p or comes before it, where p is that to the last match pair of the front
   first_before : (a : Pair × Slots) (l : LastMatch is_match front a)
       → ((b : Pair × Slots) → In b l.before → b.0 ≡ a.0 → ⊥)
-      → (p : List Pair) → IsFirstTo edges starts (λ x. x ≡ a.0) p
-      → (m : Pair) (q : List Pair) → WantedAt (Passes is_match) e m → IsFirstTo edges starts (λ x. x ≡ m) q
-      → (q ≡ p) ⊎ ComesBefore edges q p
+      → (p : List Pair) → IsFirstTo space.edges space.starts (λ x. x ≡ a.0) p
+      → (m : Pair) (q : List Pair) → WantedAt (Passes is_match) e m → IsFirstTo space.edges space.starts (λ x. x ≡ m) q
+      → (q ≡ p) ⊎ ComesBefore space.edges q p
   first_before a l before_a p first m q h k =
       elim (same m a.0) [
-        | inl eq ↦ inl (IsFirstTo-unique edges starts (λ x. x ≡ a.0) q p
-            (subst (λ y. IsFirstTo edges starts (λ x. x ≡ y) q) eq k) first)
+        | inl eq ↦ inl (IsFirstTo-unique space.edges space.starts (λ x. x ≡ a.0) q p
+            (subst (λ y. IsFirstTo space.edges space.starts (λ x. x ≡ y) q) eq k) first)
         | inr other ↦
             elim (find m l.before) [
               | inl r ↦
@@ -497,14 +497,14 @@ module _ (edges : Pair → List Pair) (capture : Pair → Option ℕ) (starts : 
 
   -- its last match pair is the end of the last of the first paths to the match pairs at e
   pub IsFront-last_match : (a : Pair × Slots) → LastMatch is_match front a
-      → (p : List Pair) × (last : IsLastOfFirsts edges starts (Passes is_match) e p) × (last.end ≡ a.0)
-      × (found capture p slots ≡ Some a) × (length p ≤ turns)
+      → (p : List Pair) × (last : IsLastOfFirsts space.edges space.starts (Passes is_match) e p) × (last.end ≡ a.0)
+      × (found space.capture p slots ≡ Some a) × (length p ≤ turns)
   IsFront-last_match a l =
       let in_front : In a front = rw l.split (In-append_right a l.before (a ∷ l.after) (inl refl)) in
       let wanted = item_here a in_front l.matches in
       let before_a : (b : Pair × Slots) → In b l.before → b.0 ≡ a.0
       → ⊥ = apart l.before a l.after (subst (λ x. NoRepeats (map (λ (c : Pair × Slots). c.0) x)) l.split f.once) in
-      let first = IsFront-first edges capture starts resting is_match slots turns shape f (λ x. x ≡ a.0) (one a.0)
+      let first = IsFront-first space resting is_match slots turns shape f (λ x. x ≡ a.0) (one a.0)
       (here_at a.0 wanted) l.before a l.after l.split before_a refl in (
         first.0,
         record {

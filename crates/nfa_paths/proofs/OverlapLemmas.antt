@@ -10,11 +10,11 @@ use Rattle.regex_search_core.specs.Search.{Search}
 use Rattle.regex_search_core.specs.declared.search.MatchKind.TheVariants.{All, LeftmostFirst}
 use Rattle.thompson_nfa.specs.Automaton.{Automaton, Node}
 use Rattle.thompson_nfa.specs.Automaton.Node.{ByteRange, Sparse, Dense, Look, Union, BinaryUnion, Capture, Fail, Match}
-use Rattle.nfa_paths.specs.Graphs.{Pair, In, PathTo, NoPath, IsFirstPath, IsFirstTo, IsLeastEnd, WantedAt}
+use Rattle.nfa_paths.specs.Graphs.{Pair, Space, In, PathTo, NoPath, IsFirstPath, IsFirstTo, IsLeastEnd, WantedAt}
 use Rattle.nfa_paths.specs.Exploring.{Slots, Hit, Item, found, apply, round, ExploresTo, ExploresBehind}
 use Rattle.nfa_paths.specs.Exploring.Item.{Explore, Restore, Load}
 use Rattle.nfa_paths.specs.Kinds.{Passes, WantedBefore, IsReached, NoneBefore, ReachedBefore, EndsBefore, HoldsMatch, found_along, first_match, before_match, MatchesFrom, Scanned, IsFront, Scanning, rests, is_resting}
-use Rattle.nfa_paths.specs.Paths.{node_at, slot_of, capture, edges, starts}
+use Rattle.nfa_paths.specs.Paths.{space, node_at, slot_of, capture, edges, starts}
 use Rattle.nfa_paths.specs.Overlaps.{HoldsPattern, pattern_at, IsPermitted, IsHeld, IsPatternOf, IsMeantPath, HoldsPath, GainsAll, IsOverlapResult}
 use Rattle.nfa_paths.proofs.PathLemmas.{same, IsFirst-target, IsLeast-from_first}
 use Rattle.nfa_paths.proofs.SearchLemmas.{Answer-starts, AnswerBehind-round}
@@ -156,23 +156,24 @@ heads (Load old ∷ rest) = heads rest
 
 -- Slots do not matter to whether something is found.
 
-module _ (edges : Pair → List Pair) (target : Pair → Bool) (capture : Pair → Option ℕ) where
+module _ (space : Space) (target : Pair → Bool) where
   -- what is found along a list with one kind of slots is found with another
-  found-other : (p : List Pair) (slots other : Slots) → found capture p slots ≡ None → found capture p other ≡ None
+  found-other : (p : List Pair) (slots other : Slots) → found space.capture p slots ≡ None
+      → found space.capture p other ≡ None
   found-other p slots other e = of (last_or None p) e
     where
-      of : (o : Option Pair) → option_map {U = Pair × Slots} (λ v. (v, apply capture p slots)) o ≡ None
-          → option_map {U = Pair × Slots} (λ v. (v, apply capture p other)) o ≡ None
+      of : (o : Option Pair) → option_map {U = Pair × Slots} (λ v. (v, apply space.capture p slots)) o ≡ None
+          → option_map {U = Pair × Slots} (λ v. (v, apply space.capture p other)) o ≡ None
       of None e = refl
       of (Some v) e = cc
 
   pub heads-Answer : (left : ℕ) (marks : List Pair) (work : List Item) (slots other : Slots) (h : Hit)
-      → ExploresTo edges target capture left None marks (map Explore (heads work)) other h
-      → (g : Hit) × ExploresTo edges target capture left None marks work slots g × (g ≡ None → h ≡ None)
+      → ExploresTo space target left None marks (map Explore (heads work)) other h
+      → (g : Hit) × ExploresTo space target left None marks work slots g × (g ≡ None → h ≡ None)
   unfolding heads ExploresTo
   heads-Answer left marks [] slots other h a = (None, refl, λ e. a)
   heads-Answer left marks (Explore v ∷ rest) slots other h (inl k) =
-      (found capture k.0 slots, inl (k.0, k.1, refl, k.3), λ e. k.2 ∙ found-other k.0 slots other e)
+      (found space.capture k.0 slots, inl (k.0, k.1, refl, k.3), λ e. k.2 ∙ found-other k.0 slots other e)
   heads-Answer left marks (Explore v ∷ rest) slots other h (inr k) =
       let r = heads-Answer left marks rest slots other h k.1 in (r.0, inr (k.0, r.1), r.2)
   heads-Answer left marks (Restore k old ∷ rest) slots other h a =
@@ -182,8 +183,8 @@ module _ (edges : Pair → List Pair) (target : Pair → Bool) (capture : Pair �
   -- what is behind a part of a front is dropped: nothing is found, or what was found is found with it
   pub AnswerBehind-drop : (left : ℕ) (before after : List (Pair × Slots)) (m n : List Pair) (old : Slots)
       (work : List Item) (slots current : Slots) (g : Hit)
-      → ExploresBehind edges target capture left before None m (Load old ∷ []) slots g
-      → (g ≡ None) ⊎ ExploresBehind edges target capture left (before ++ after) None n work current g
+      → ExploresBehind space target left before None m (Load old ∷ []) slots g
+      → (g ≡ None) ⊎ ExploresBehind space target left (before ++ after) None n work current g
   unfolding ExploresTo ExploresBehind
   AnswerBehind-drop left [] after m n old work slots current g h = inl h
   AnswerBehind-drop left (b ∷ before) after m n old work slots current g (inl h) = inr (inl h)
@@ -197,7 +198,7 @@ module _ (edges : Pair → List Pair) (target : Pair → Bool) (capture : Pair �
 module _ (nfa : Automaton) (x : Search) (old : List Bool) (wants : Pair → Bool)
     (tells : (v : Pair) → (wants v ≡ true) ↔ IsHeld nfa x (length old) v) where
   -- what the search goes over
-  pub wanted-shape : Scanned (edges nfa x) (capture nfa) (starts nfa x) (is_resting nfa) wants
+  pub wanted-shape : Scanned (space nfa x) (is_resting nfa) wants
   wanted-shape = Scanned-matches nfa x wants (λ v w. ((tells v).0 w).permitted.matches)
 
   -- a match that counts, by the test
@@ -215,7 +216,7 @@ module _ (nfa : Automaton) (x : Search) (old : List Bool) (wants : Pair → Bool
   counts {k} less v may is = (tells v).1 (record { permitted = may; pattern = k; pattern_is = is; below = less })
 
   -- a pattern that is reached before e is one of an accepting path with a permitted end
-  reached-sound : {e k : ℕ} → ReachedBefore (edges nfa x) (starts nfa x) wants (pattern_at nfa) e k
+  reached-sound : {e k : ℕ} → ReachedBefore (space nfa x) wants (pattern_at nfa) e k
       → IsPatternOf nfa x (IsPermitted nfa x) k
   reached-sound = IsReached-along (λ v w. ((tells v).0 w.wanted).permitted)
 
@@ -224,7 +225,7 @@ module _ (nfa : Automaton) (x : Search) (old : List Bool) (wants : Pair → Bool
     pub capacity : length new ≡ length old
     pub gained : (k : ℕ) → HoldsPattern new k
         ↔ (HoldsPattern old k ⊎ ((k < length old)
-        × ReachedBefore (edges nfa x) (starts nfa x) wants (pattern_at nfa) e k))
+        × ReachedBefore (space nfa x) wants (pattern_at nfa) e k))
 
   pub GainsBefore-start : GainsBefore x.start old
   GainsBefore-start = record {
@@ -233,19 +234,19 @@ module _ (nfa : Automaton) (x : Search) (old : List Bool) (wants : Pair → Bool
       λ h. inl h,
       λ s. elim s [
         | inl h ↦ h
-        | inr h ↦ absurd (ReachedBefore-start (edges nfa x) (capture nfa) (starts nfa x) (is_resting nfa) wants []
+        | inr h ↦ absurd (ReachedBefore-start (space nfa x) (is_resting nfa) wants []
             wanted-shape (pattern_at nfa) k x.start (starts-from nfa x) h.1)
       ],
     );
   }
 
   module _ {slots : Slots} {turns e : ℕ} {front : List (Pair × Slots)}
-      (f : IsFront (edges nfa x) (capture nfa) (starts nfa x) (is_resting nfa) wants slots turns front e) where
+      (f : IsFront (space nfa x) (is_resting nfa) wants slots turns front e) where
     -- what is reached before the next position
-    reached-step : (k : ℕ) → ReachedBefore (edges nfa x) (starts nfa x) wants (pattern_at nfa) (e + 1) k
-        ↔ (ReachedBefore (edges nfa x) (starts nfa x) wants (pattern_at nfa) e k
+    reached-step : (k : ℕ) → ReachedBefore (space nfa x) wants (pattern_at nfa) (e + 1) k
+        ↔ (ReachedBefore (space nfa x) wants (pattern_at nfa) e k
         ⊎ HoldsMatch wants (pattern_at nfa) k front)
-    reached-step k = ReachedBefore-step (edges nfa x) (capture nfa) (starts nfa x) (is_resting nfa) wants slots
+    reached-step k = ReachedBefore-step (space nfa x) (is_resting nfa) wants slots
         wanted-shape (pattern_at nfa) k f
 
     pub GainsBefore-step : {mid new : List Bool} → GainsBefore e mid → length new ≡ length mid
@@ -273,7 +274,7 @@ module _ (nfa : Automaton) (x : Search) (old : List Bool) (wants : Pair → Bool
     }
 
   -- where every path has ended it gained all
-  pub GainsBefore-end : {e : ℕ} {new : List Bool} → GainsBefore e new → EndsBefore (edges nfa x) (starts nfa x) wants e
+  pub GainsBefore-end : {e : ℕ} {new : List Bool} → GainsBefore e new → EndsBefore (space nfa x) wants e
       → IsOverlapResult nfa x All false old new
   GainsBefore-end {e} {new} g ends = record {
     capacity = g.capacity;
@@ -289,8 +290,7 @@ module _ (nfa : Automaton) (x : Search) (old : List Bool) (wants : Pair → Bool
                   (g.gained k).1
                   (inr (
                     w.0,
-                    (ReachedBefore-end (edges nfa x) (capture nfa) (starts nfa x) (is_resting nfa) wants [] wanted-shape
-                        (pattern_at nfa) k ends).1
+                    (ReachedBefore-end (space nfa x) (is_resting nfa) wants [] wanted-shape (pattern_at nfa) k ends).1
                         (record {
                           end = w.1.end;
                           along = w.1.along;
@@ -322,16 +322,16 @@ module _ (nfa : Automaton) (x : Search) (old : List Bool) (wants : Pair → Bool
 
   -- no pattern below the capacity is reached before e
   pub record NoneHeld (e : ℕ) : Type 0 where
-    pub none : (k : ℕ) → k < length old → ReachedBefore (edges nfa x) (starts nfa x) wants (pattern_at nfa) e k → ⊥
+    pub none : (k : ℕ) → k < length old → ReachedBefore (space nfa x) wants (pattern_at nfa) e k → ⊥
 
   pub NoneHeld-start : NoneHeld x.start
   NoneHeld-start = record {
-    none = λ k less r. ReachedBefore-start (edges nfa x) (capture nfa) (starts nfa x) (is_resting nfa) wants []
+    none = λ k less r. ReachedBefore-start (space nfa x) (is_resting nfa) wants []
         wanted-shape (pattern_at nfa) k x.start (starts-from nfa x) r;
   }
 
   module _ {slots : Slots} {turns e : ℕ} {front : List (Pair × Slots)}
-      (f : IsFront (edges nfa x) (capture nfa) (starts nfa x) (is_resting nfa) wants slots turns front e) where
+      (f : IsFront (space nfa x) (is_resting nfa) wants slots turns front e) where
     pub NoneHeld-step : NoneHeld e → ((k : ℕ) → k < length old → HoldsMatch wants (pattern_at nfa) k front → ⊥)
         → NoneHeld (e + 1)
     NoneHeld-step none plain = record {
@@ -345,7 +345,7 @@ module _ (nfa : Automaton) (x : Search) (old : List Bool) (wants : Pair → Bool
     reached-here : (k : ℕ) → k < length old → IsPatternOf nfa x (WantedAt (IsPermitted nfa x) e) k
         ↔ HoldsMatch wants (pattern_at nfa) k front
     reached-here k less =
-        let at = IsReached-at (edges nfa x) (capture nfa) (starts nfa x) (is_resting nfa) wants slots wanted-shape
+        let at = IsReached-at (space nfa x) (is_resting nfa) wants slots wanted-shape
         (pattern_at nfa) k f in (
           λ r. at.0 (record {
             end = r.end;
@@ -422,8 +422,7 @@ module _ (nfa : Automaton) (x : Search) (old : List Bool) (wants : Pair → Bool
     }
 
   -- where every path has ended nothing is gained
-  pub NoneHeld-end : {e : ℕ} → NoneHeld e → EndsBefore (edges nfa x) (starts nfa x) wants e
-      → IsOverlapResult nfa x All true old old
+  pub NoneHeld-end : {e : ℕ} → NoneHeld e → EndsBefore (space nfa x) wants e → IsOverlapResult nfa x All true old old
   NoneHeld-end {e} none ends = record {
     capacity = refl;
     keeps = λ k h. h;
@@ -539,8 +538,7 @@ module _ (nfa : Automaton) (x : Search) (old : List Bool) (wants : Pair → Bool
       (front : List (Pair × Slots)) (a : Pair × Slots)
       → ((b : Pair × Slots) → In b front → (is_resting nfa b.0 ≡ true) × (b.0.1 ≡ e))
       → first_match target front ≡ Some a
-      → ExploresBehind (edges nfa x) target (capture nfa) left front None marks work slots
-      (found (capture nfa) (a.0 ∷ []) a.1)
+      → ExploresBehind (space nfa x) target left front None marks work slots (found (capture nfa) (a.0 ∷ []) a.1)
   unfolding ExploresBehind
   front-answers target e at left marks work slots [] a rests is = cc
   front-answers target e at left marks work slots (b ∷ front) a rests is =
@@ -554,7 +552,7 @@ module _ (nfa : Automaton) (x : Search) (old : List Bool) (wants : Pair → Bool
             let later : first_match target front ≡ Some a = rw no_b at is in
             let r = rests b (inl refl) in
             inr (
-              IsFirst-rises (edges nfa x) target (capture nfa) e (edges-onward nfa x) at [] b.0
+              IsFirst-rises (space nfa x) target e (edges-onward nfa x) at [] b.0
                   (λ w i. rw (← r.1) (edges-rise nfa x b.0 w r.0 i))
                   (λ t. is_plain wants (target b.0) no_b t),
               front-answers target e at left marks work slots front a (λ c i. rests c (inr i)) later,
@@ -568,10 +566,10 @@ module _ (nfa : Automaton) (x : Search) (old : List Bool) (wants : Pair → Bool
 
   answer-reaches : (target : Pair → Bool) → ((v : Pair) → target v ≡ true → wants v ≡ true)
       → (turns : ℕ) (slots : Slots) (g : Hit)
-      → ExploresTo (edges nfa x) target (capture nfa) turns None [] (map Explore (starts nfa x)) slots g
+      → ExploresTo (space nfa x) target turns None [] (map Explore (starts nfa x)) slots g
       → (g ≡ None) ⊎ ((r : Reaches target) × (g ≡ found (capture nfa) r.path slots))
   answer-reaches target sub turns slots g answer =
-      elim (Answer-starts (edges nfa x) target (capture nfa) turns (starts nfa x) slots g answer) [
+      elim (Answer-starts (space nfa x) target turns (starts nfa x) slots g answer) [
         | inl k ↦
             inr (
               record {
@@ -613,8 +611,7 @@ module _ (nfa : Automaton) (x : Search) (old : List Bool) (wants : Pair → Bool
 
   -- the first wanted pair of a front is, also where what is behind it was not followed
   pub FirstAt-front : {slots : Slots} {e : ℕ} {Seen : Pair → Type 0} {spent : ℕ} {front : List (Pair × Slots)}
-      {work : List Item} {current : Slots}
-      → Scanning (edges nfa x) (capture nfa) (starts nfa x) wants slots e Seen spent front work current
+      {work : List Item} {current : Slots} → Scanning (space nfa x) wants slots e Seen spent front work current
       → ((b : Pair × Slots) → In b front → (is_resting nfa b.0 ≡ true) × (b.0.1 ≡ e)) → (a : Pair × Slots)
       → first_match wants front ≡ Some a
       → FirstAt e a
@@ -662,8 +659,7 @@ module _ (nfa : Automaton) (x : Search) (old : List Bool) (wants : Pair → Bool
       In-middle (b ∷ before) a later = inr (In-middle before a later)
 
   -- the first front with a wanted pair: its first has the pattern of the earliest path
-  pub FirstAt-found : {e k : ℕ} {a : Pair × Slots} {new : List Bool}
-      → NoneBefore (edges nfa x) (starts nfa x) wants e → FirstAt e a
+  pub FirstAt-found : {e k : ℕ} {a : Pair × Slots} {new : List Bool} → NoneBefore (space nfa x) wants e → FirstAt e a
       → pattern_at nfa a.0 ≡ Some k → size_of_set old ≡ 0 → new ≡ with_pattern old k
       → IsOverlapResult nfa x LeftmostFirst true old new
   FirstAt-found {e} {k} {a} {new} none f pattern_is empty put =
@@ -730,8 +726,7 @@ module _ (nfa : Automaton) (x : Search) (old : List Bool) (wants : Pair → Bool
   -- stays where work is dropped.
   pub record Sound (e : ℕ) (pairs : List Pair) : Type 0 where
     pub reaches : (target : Pair → Bool) → MatchesFrom wants e target → (left : ℕ) (slots : Slots) (g : Hit)
-        → ExploresTo (edges nfa x) target (capture nfa) left None [] (map Explore pairs) slots g
-        → (g ≡ None) ⊎ Reaches target
+        → ExploresTo (space nfa x) target left None [] (map Explore pairs) slots g → (g ≡ None) ⊎ Reaches target
 
   pub Sound-start : (e : ℕ) → Sound e (starts nfa x)
   Sound-start e = record {
@@ -744,8 +739,8 @@ module _ (nfa : Automaton) (x : Search) (old : List Bool) (wants : Pair → Bool
       (written : Slots) : Type 0 where
     pub leads : (target : Pair → Bool) → ((v : Pair) → target v ≡ true → wants v ≡ true)
         → (marks : List Pair) × ((v : Pair) → In v marks → v.1 ≤ e)
-        × ((left : ℕ) (g : Hit) → ExploresBehind (edges nfa x) target (capture nfa) left front None marks work written g
-        → (total : ℕ) × ExploresTo (edges nfa x) target (capture nfa) total None [] (map Explore pairs) [] g)
+        × ((left : ℕ) (g : Hit) → ExploresBehind (space nfa x) target left front None marks work written g
+        → (total : ℕ) × ExploresTo (space nfa x) target total None [] (map Explore pairs) [] g)
 
   -- a state that rests writes nothing
   pub resting-capture : (v : Pair) → is_resting nfa v ≡ true → capture nfa v ≡ None
@@ -805,15 +800,15 @@ module _ (nfa : Automaton) (x : Search) (old : List Bool) (wants : Pair → Bool
         (among : (b : Pair × Slots) → In b kept → In b front)
         (comes : (k : Pair) → In (Explore k) waiting → e < k.1)
         (drops : (target : Pair → Bool) (marks : List Pair) (left : ℕ) (g : Hit)
-        → ExploresBehind (edges nfa x) target (capture nfa) left kept None marks (Load loaded ∷ waiting) written g
-        → (g ≡ None) ⊎ ExploresBehind (edges nfa x) target (capture nfa) left front None marks work written g) where
+        → ExploresBehind (space nfa x) target left kept None marks (Load loaded ∷ waiting) written g
+        → (g ≡ None) ⊎ ExploresBehind (space nfa x) target left front None marks work written g) where
       Sound-next : Sound (e + 1) (heads (round (edges nfa x) kept (Load loaded ∷ waiting)))
       Sound-next = record {
         reaches = λ target at left slots g a.
-            let other = heads-Answer (edges nfa x) target (capture nfa) left []
+            let other = heads-Answer (space nfa x) target left []
             (round (edges nfa x) kept (Load loaded ∷ waiting)) [] slots g a in
             let lead = s.leads target (λ v t. (at v t).0) in
-            let behind = AnswerBehind-round (edges nfa x) target (capture nfa) (λ v. e < v.1)
+            let behind = AnswerBehind-round (space nfa x) target (λ v. e < v.1)
             (λ v y ahead i. let k : v.1 ≤ y.1 = edges-onward nfa x v y i in let l : e < v.1 = ahead in omega arith)
             left kept None lead.0 waiting written loaded [] other.0
             (λ b i.
@@ -859,7 +854,7 @@ module _ (nfa : Automaton) (x : Search) (old : List Bool) (wants : Pair → Bool
       (λ b i. rw cut.1 (In-append_left b (before_match wants front) cut.0 i))
       (λ k i. absurd i)
       (λ target marks left g h.
-      rw cut.1 (AnswerBehind-drop (edges nfa x) target (capture nfa) left (before_match wants front) cut.0 marks marks
+      rw cut.1 (AnswerBehind-drop (space nfa x) target left (before_match wants front) cut.0 marks marks
       loaded work written written g h))
     where
       before_match-split : (front : List (Pair × Slots)) → (after : List (Pair × Slots))
@@ -958,10 +953,10 @@ module _ (nfa : Automaton) (x : Search) (old : List Bool) (wants : Pair → Bool
 
   -- what the search comes to in the end
   pub UpTo-end : (e turns : ℕ) (slots : Slots) (g : Hit) (new : List Bool) → size_of_set old ≡ 0 → UpTo e g new
-      → ExploresTo (edges nfa x) wants (capture nfa) turns None [] (map Explore (starts nfa x)) slots g
+      → ExploresTo (space nfa x) wants turns None [] (map Explore (starts nfa x)) slots g
       → IsOverlapResult nfa x LeftmostFirst false old new
   UpTo-end e turns slots g new empty so_far answer =
-      let h = IsFirstPath-found (edges nfa x) (capture nfa) (starts nfa x) (is_resting nfa) wants slots wanted-shape
+      let h = IsFirstPath-found (space nfa x) (is_resting nfa) wants slots wanted-shape
       turns g answer in
       of g so_far h.path h.meant h.leads
     where

@@ -13,7 +13,7 @@ use Rattle.nfa_paths.specs.Graphs.{Pair, In, NoPath}
 use Rattle.nfa_paths.specs.Exploring.{Slots, Hit, apply, ExploresTo, seeds}
 use Rattle.nfa_paths.specs.Exploring.Item.{Explore, Load}
 use Rattle.nfa_paths.specs.Kinds.{IsFoundBy, found_along, NoneBefore, LastBefore, EndsBefore, first_match, last_match, Scanned, IsFront, rests, is_resting}
-use Rattle.nfa_paths.specs.Paths.{target_on, pairs_from, node_at, is_match, IsMatch, capture, start_state, byte_at, edges_of, edges, start_count, starts, IsScanAnswer, last_of, slot_row}
+use Rattle.nfa_paths.specs.Paths.{space, target_on, pairs_from, node_at, is_match, IsMatch, capture, start_state, byte_at, edges_of, edges, start_count, starts, IsScanAnswer, last_of, slot_row}
 use Rattle.nfa_paths.proofs.PathToLemmas.{EndsWith-last, found-end}
 use Rattle.nfa_paths.proofs.AnswerLemmas.{pairs_from-ahead, starts-increase, starts-none, IsMatch-edges, IsMatch-capture, apply-slot_row, scan_answer-leads, never_none, same_parts}
 use Rattle.nfa_paths.proofs.ScanLemmas.{EndsBefore-within, IsEarliestPath-found, IsEarliestLastPath-found, LastBefore-end, IsFirstPath-found}
@@ -97,7 +97,7 @@ module _ (nfa : Automaton) (x : Search) where
 
   -- a set of matches, all or some, as what a scan is for
   pub Scanned-matches : (wanted : Pair → Bool) → ((v : Pair) → wanted v ≡ true → is_match nfa v ≡ true)
-      → Scanned (edges nfa x) (capture nfa) (starts nfa x) (is_resting nfa) wanted
+      → Scanned (space nfa x) (is_resting nfa) wanted
   Scanned-matches wanted some = record {
     onward = edges-onward;
     rises = edges-rise;
@@ -145,7 +145,7 @@ module _ (nfa : Automaton) (x : Search) where
           omega arith
 
   -- every path ends within the span
-  pub EndsBefore-span : (wanted : Pair → Bool) → EndsBefore (edges nfa x) (starts nfa x) wanted (x.end + 1)
+  pub EndsBefore-span : (wanted : Pair → Bool) → EndsBefore (space nfa x) wanted (x.end + 1)
   EndsBefore-span wanted = EndsBefore-within (edges nfa x) (starts nfa x) wanted x.end edges-within starts-within
 
 -- the starts that wait
@@ -233,9 +233,8 @@ module _ (nfa : Automaton) (x : Search) (kind : MatchKind) (earliest : Bool) whe
 
 module _ (nfa : Automaton) (x : Search) where
   -- where no path to a match is left to end, no kind of scan has an answer
-  pub scan_answer-none : (kind : MatchKind) (earliest : Bool) {e : ℕ}
-      → NoneBefore (edges nfa x) (starts nfa x) (is_match nfa) e
-      → EndsBefore (edges nfa x) (starts nfa x) (is_match nfa) e → IsScanAnswer nfa x kind earliest None
+  pub scan_answer-none : (kind : MatchKind) (earliest : Bool) {e : ℕ} → NoneBefore (space nfa x) (is_match nfa) e
+      → EndsBefore (space nfa x) (is_match nfa) e → IsScanAnswer nfa x kind earliest None
   scan_answer-none kind earliest {e} none ends =
       of kind earliest (λ m p w t. none m p w (record { wanted = t; before = ends m p w t }))
     where
@@ -249,37 +248,33 @@ module _ (nfa : Automaton) (x : Search) where
 module _ (nfa : Automaton) (x : Search) (slots : Slots) where
   -- the search for any match finds the first path
   pub scan_first-found : (turns : ℕ) (g : Hit)
-      → ExploresTo (edges nfa x) (is_match nfa) (capture nfa) turns None [] (map Explore (starts nfa x)) slots g
+      → ExploresTo (space nfa x) (is_match nfa) turns None [] (map Explore (starts nfa x)) slots g
       → IsFoundBy (capture nfa) slots (IsScanAnswer nfa x LeftmostFirst false) turns g
   scan_first-found turns g answer =
-      IsFirstPath-found (edges nfa x) (capture nfa) (starts nfa x) (is_resting nfa) (is_match nfa) slots
+      IsFirstPath-found (space nfa x) (is_resting nfa) (is_match nfa) slots
       (Scanned-matches nfa x (is_match nfa) (λ v m. m)) turns g answer
 
   -- the first front with a match has the earliest path
-  pub scan_earliest-found : {turns e : ℕ} {front : List (Pair × Slots)}
-      → NoneBefore (edges nfa x) (starts nfa x) (is_match nfa) e
-      → IsFront (edges nfa x) (capture nfa) (starts nfa x) (is_resting nfa) (is_match nfa) slots turns front e
+  pub scan_earliest-found : {turns e : ℕ} {front : List (Pair × Slots)} → NoneBefore (space nfa x) (is_match nfa) e
+      → IsFront (space nfa x) (is_resting nfa) (is_match nfa) slots turns front e
       → (a : Pair × Slots) → first_match (is_match nfa) front ≡ Some a
       → IsFoundBy (capture nfa) slots (IsScanAnswer nfa x LeftmostFirst true) turns (Some a)
   scan_earliest-found none f a is =
-      IsEarliestPath-found (edges nfa x) (capture nfa) (starts nfa x) (is_resting nfa) (is_match nfa) slots
+      IsEarliestPath-found (space nfa x) (is_resting nfa) (is_match nfa) slots
       (Scanned-matches nfa x (is_match nfa) (λ v m. m)) none f a is
 
   -- and the earliest last path
-  pub scan_earliest_last-found : {turns e : ℕ} {front : List (Pair × Slots)}
-      → NoneBefore (edges nfa x) (starts nfa x) (is_match nfa) e
-      → IsFront (edges nfa x) (capture nfa) (starts nfa x) (is_resting nfa) (is_match nfa) slots turns front e
+  pub scan_earliest_last-found : {turns e : ℕ} {front : List (Pair × Slots)} → NoneBefore (space nfa x) (is_match nfa) e
+      → IsFront (space nfa x) (is_resting nfa) (is_match nfa) slots turns front e
       → (a : Pair × Slots) → last_match (is_match nfa) None front ≡ Some a
       → IsFoundBy (capture nfa) slots (IsScanAnswer nfa x All true) turns (Some a)
   scan_earliest_last-found none f a is =
-      IsEarliestLastPath-found (edges nfa x) (capture nfa) (starts nfa x) (is_resting nfa) (is_match nfa) slots
+      IsEarliestLastPath-found (space nfa x) (is_resting nfa) (is_match nfa) slots
       (Scanned-matches nfa x (is_match nfa) (λ v m. m)) none f a is
 
   -- once every path has ended, what was found last is the last path's
-  pub scan_last-found : {turns e : ℕ} {g : Hit}
-      → LastBefore (edges nfa x) (capture nfa) (starts nfa x) (is_match nfa) slots e turns g
-      → EndsBefore (edges nfa x) (starts nfa x) (is_match nfa) e
-      → IsFoundBy (capture nfa) slots (IsScanAnswer nfa x All false) turns g
+  pub scan_last-found : {turns e : ℕ} {g : Hit} → LastBefore (space nfa x) (is_match nfa) slots e turns g
+      → EndsBefore (space nfa x) (is_match nfa) e → IsFoundBy (capture nfa) slots (IsScanAnswer nfa x All false) turns g
   scan_last-found so_far ends =
-      LastBefore-end (edges nfa x) (capture nfa) (starts nfa x) (is_resting nfa) (is_match nfa) slots
+      LastBefore-end (space nfa x) (is_resting nfa) (is_match nfa) slots
       (Scanned-matches nfa x (is_match nfa) (λ v m. m)) so_far ends

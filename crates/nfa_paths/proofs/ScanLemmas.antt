@@ -3,7 +3,7 @@ use Rattle.std.proofs.Common.{◌≡◌, ℕ, ◌+◌, ◌≤◌, ◌<◌, ◌�
 use Rattle.std.specs.Prelude.{Option, None, Some}
 use Rattle.std.specs.Option.{option_map_or}
 use Rattle.std.proofs.lemmas.Bool.{cases_lt, cases_Bool}
-use Rattle.nfa_paths.specs.Graphs.{Pair, In, HeadIs, Linked, EndsWith, PathTo, NoPath, IsFirstTo, IsEnd, IsLeastEnd, IsGreatestEnd, WantedAt, IsLastOfFirsts, IsFirstPath, IsEarliestPath, IsLastPath, IsEarliestLastPath}
+use Rattle.nfa_paths.specs.Graphs.{Pair, Space, In, HeadIs, Linked, EndsWith, PathTo, NoPath, IsFirstTo, IsEnd, IsLeastEnd, IsGreatestEnd, WantedAt, IsLastOfFirsts, IsFirstPath, IsEarliestPath, IsLastPath, IsEarliestLastPath}
 use Rattle.nfa_paths.specs.Exploring.{Slots, Hit, ExploresTo}
 use Rattle.nfa_paths.specs.Exploring.Item.{Explore}
 use Rattle.nfa_paths.specs.Kinds.{Passes, WantedBefore, IsLastAt, IsFoundBy, IsReached, NoneBefore, LastBefore, ReachedBefore, EndsBefore, first_match, last_match, NoMatch, HoldsMatch, Scanned, IsFront, IsOver}
@@ -87,53 +87,52 @@ module _ (edges : Pair → List Pair) (starts : List Pair) (is_match : Pair → 
   -- and so every path ends there
   pub EndsBefore-within : (n : ℕ) → ((x y : Pair) → In y (edges x) → x.1 ≤ n → y.1 ≤ n)
       → ((s : Pair) → In s starts → s.1 ≤ n)
-      → EndsBefore edges starts is_match (n + 1)
+      → (m : Pair) (p : List Pair) → PathTo edges starts m p → is_match m ≡ true → m.1 < n + 1
   EndsBefore-within n stays begins m p w t =
       let k : m.1 ≤ n = path_within n stays w.start m p w.head w.linked w.ends (begins w.start w.among) in
       omega arith
 
-module _ (edges : Pair → List Pair) (capture : Pair → Option ℕ) (starts : List Pair) (resting is_match : Pair → Bool)
-    (slots : Slots)
-    (shape : Scanned edges capture starts resting is_match) where
+module _ (space : Space) (resting is_match : Pair → Bool) (slots : Slots) (shape : Scanned space resting is_match) where
   -- the first match pair of a front is what the first path that ends there finds
   pub first_match-found : {turns e : ℕ} {front : List (Pair × Slots)}
-      → IsFront edges capture starts resting is_match slots turns front e
-      → IsFoundBy capture slots (IsFirstPath edges starts (WantedAt (Passes is_match) e)) turns
+      → IsFront space resting is_match slots turns front e
+      → IsFoundBy space.capture slots (IsFirstPath space.edges space.starts (WantedAt (Passes is_match) e)) turns
       (first_match is_match front)
   first_match-found {turns} {e} {front} f =
       elim (first_match-is is_match front) [
         | inl lacks ↦ record {
           path = None;
           meant =
-              IsFront-no_match edges capture starts resting is_match slots turns shape f lacks.1;
+              IsFront-no_match space resting is_match slots turns shape f lacks.1;
           leads = sym lacks.0;
           short = omega arith;
         }
         | inr has ↦
-            let h = IsFront-first_match edges capture starts resting is_match slots turns shape f has.0 has.2 in
+            let h = IsFront-first_match space resting is_match slots turns shape f has.0 has.2 in
             record { path = Some h.0; meant = h.1; leads = h.3 ∙ sym has.1; short = h.4 }
       ]
 
   -- the last match pair of a front is what the last of the first paths that end there finds
   pub last_match-found : {turns e : ℕ} {front : List (Pair × Slots)}
-      → IsFront edges capture starts resting is_match slots turns front e
-      → IsFoundBy capture slots (IsLastAt edges starts (Passes is_match) e) turns (last_match is_match None front)
+      → IsFront space resting is_match slots turns front e
+      → IsFoundBy space.capture slots (IsLastAt space.edges space.starts (Passes is_match) e) turns
+      (last_match is_match None front)
   last_match-found {turns} {e} {front} f =
       elim (last_match-is is_match None front) [
         | inl lacks ↦ record {
           path = None;
           meant =
-              IsFront-no_match edges capture starts resting is_match slots turns shape f lacks.1;
+              IsFront-no_match space resting is_match slots turns shape f lacks.1;
           leads = sym lacks.0;
           short = omega arith;
         }
         | inr has ↦
-            let h = IsFront-last_match edges capture starts resting is_match slots turns shape f has.0 has.2 in
+            let h = IsFront-last_match space resting is_match slots turns shape f has.0 has.2 in
             record { path = Some h.0; meant = h.1; leads = h.3 ∙ sym has.1; short = h.4 }
       ]
 
   -- positions do not fall along a path
-  path_onward : (s m : Pair) (p : List Pair) → HeadIs s p → Linked edges p → EndsWith m p → s.1 ≤ m.1
+  path_onward : (s m : Pair) (p : List Pair) → HeadIs s p → Linked space.edges p → EndsWith m p → s.1 ≤ m.1
   path_onward s m [] h l d = absurd h
   path_onward s m (x ∷ []) h l d = let k : s.1 ≡ m.1 = ap (λ z. z.1) (sym h ∙ d) in omega arith
   path_onward s m (x ∷ (y ∷ p)) h l d =
@@ -143,7 +142,7 @@ module _ (edges : Pair → List Pair) (capture : Pair → Option ℕ) (starts : 
       omega arith
 
   -- no path ends before the first start
-  pub NoneBefore-start : (e : ℕ) → ((s : Pair) → In s starts → e ≤ s.1) → NoneBefore edges starts is_match e
+  pub NoneBefore-start : (e : ℕ) → ((s : Pair) → In s space.starts → e ≤ s.1) → NoneBefore space is_match e
   NoneBefore-start e from m p w h =
       let k : w.start.1 ≤ m.1 = path_onward w.start m p w.head w.linked w.ends in
       let i : e ≤ w.start.1 = from w.start w.among in
@@ -151,27 +150,25 @@ module _ (edges : Pair → List Pair) (capture : Pair → Option ℕ) (starts : 
       omega arith
 
   -- no path ends before e, and none at e
-  pub NoneBefore-step : {turns e : ℕ} {front : List (Pair × Slots)} → NoneBefore edges starts is_match e
-      → IsFront edges capture starts resting is_match slots turns front e → NoMatch is_match front
-      → NoneBefore edges starts is_match (e + 1)
+  pub NoneBefore-step : {turns e : ℕ} {front : List (Pair × Slots)} → NoneBefore space is_match e
+      → IsFront space resting is_match slots turns front e → NoMatch is_match front → NoneBefore space is_match (e + 1)
   NoneBefore-step {turns} {e} none f plain m p w h =
       elim (cases_lt m.1 e) [
         | inl less ↦ none m p w (record { wanted = h.wanted; before = less })
         | inr more ↦
             let j : m.1 < e + 1 = h.before in
-            IsFront-no_match edges capture starts resting is_match slots turns shape f plain m p w
+            IsFront-no_match space resting is_match slots turns shape f plain m p w
             (record { wanted = h.wanted; at = omega arith })
       ]
 
   -- no path ends at all
-  pub NoneBefore-end : {e : ℕ} → NoneBefore edges starts is_match e
-      → EndsBefore edges starts is_match e → NoPath edges starts (Passes is_match)
+  pub NoneBefore-end : {e : ℕ} → NoneBefore space is_match e
+      → EndsBefore space is_match e → NoPath space.edges space.starts (Passes is_match)
   NoneBefore-end none ends m p w t = none m p w (record { wanted = t; before = ends m p w t })
 
   -- where no path ends before e and one ends there, e is the least end
-  least_end : {e : ℕ} → NoneBefore edges starts is_match e → (m : Pair) (p : List Pair) → PathTo edges starts m p
-      → WantedAt (Passes is_match) e m
-      → IsLeastEnd edges starts (Passes is_match) e
+  least_end : {e : ℕ} → NoneBefore space is_match e → (m : Pair) (p : List Pair) → PathTo space.edges space.starts m p
+      → WantedAt (Passes is_match) e m → IsLeastEnd space.edges space.starts (Passes is_match) e
   least_end {e} none m p w h = record {
     is_end = record { end = m; along = p; path = w; wanted = h.wanted; at = h.at };
     least = λ n q v t. elim (cases_lt n.1 e) [
@@ -181,15 +178,14 @@ module _ (edges : Pair → List Pair) (capture : Pair → Option ℕ) (starts : 
   }
 
   -- the first front with a match pair: its first is the earliest
-  pub IsEarliestPath-found : {turns e : ℕ} {front : List (Pair × Slots)} → NoneBefore edges starts is_match e
-      → IsFront edges capture starts resting is_match slots turns front e → (a : Pair × Slots)
-      → first_match is_match front ≡ Some a
-      → IsFoundBy capture slots (IsEarliestPath edges starts (Passes is_match)) turns (Some a)
+  pub IsEarliestPath-found : {turns e : ℕ} {front : List (Pair × Slots)} → NoneBefore space is_match e
+      → IsFront space resting is_match slots turns front e → (a : Pair × Slots) → first_match is_match front ≡ Some a
+      → IsFoundBy space.capture slots (IsEarliestPath space.edges space.starts (Passes is_match)) turns (Some a)
   IsEarliestPath-found {turns} {e} {front} none f a found_it =
       elim (first_match-is is_match front) [
         | inl lacks ↦ let never : Some a ≡ None = sym found_it ∙ lacks.0 in cc
         | inr has ↦
-            let h = IsFront-first_match edges capture starts resting is_match slots turns shape f has.0 has.2 in
+            let h = IsFront-first_match space resting is_match slots turns shape f has.0 has.2 in
             record {
               path = Some h.0;
               meant = (e, least_end none h.1.end h.0 h.1.path h.1.wanted, h.1);
@@ -199,20 +195,20 @@ module _ (edges : Pair → List Pair) (capture : Pair → Option ℕ) (starts : 
       ]
 
   -- and its last is the last of the first paths
-  pub IsEarliestLastPath-found : {turns e : ℕ} {front : List (Pair × Slots)} → NoneBefore edges starts is_match e
-      → IsFront edges capture starts resting is_match slots turns front e → (a : Pair × Slots)
+  pub IsEarliestLastPath-found : {turns e : ℕ} {front : List (Pair × Slots)} → NoneBefore space is_match e
+      → IsFront space resting is_match slots turns front e → (a : Pair × Slots)
       → last_match is_match None front ≡ Some a
-      → IsFoundBy capture slots (IsEarliestLastPath edges starts (Passes is_match)) turns (Some a)
+      → IsFoundBy space.capture slots (IsEarliestLastPath space.edges space.starts (Passes is_match)) turns (Some a)
   IsEarliestLastPath-found {turns} {e} {front} none f a found_it =
       elim (last_match-is is_match None front) [
         | inl lacks ↦ let never : Some a ≡ None = sym found_it ∙ lacks.0 in cc
         | inr has ↦
-            let h = IsFront-last_match edges capture starts resting is_match slots turns shape f has.0 has.2 in
+            let h = IsFront-last_match space resting is_match slots turns shape f has.0 has.2 in
             record {
               path = Some h.0;
               meant = (
                 e,
-                least_end none h.1.end h.0 (PathTo-along edges starts h.1.first.wanted h.1.first.path)
+                least_end none h.1.end h.0 (PathTo-along space.edges space.starts h.1.first.wanted h.1.first.path)
                     h.1.wanted,
                 h.1,
               );
@@ -222,29 +218,28 @@ module _ (edges : Pair → List Pair) (capture : Pair → Option ℕ) (starts : 
       ]
 
   -- before the first start nothing was found
-  pub LastBefore-start : (e : ℕ) → ((s : Pair) → In s starts → e ≤ s.1)
-      → LastBefore edges capture starts is_match slots e 0 None
+  pub LastBefore-start : (e : ℕ) → ((s : Pair) → In s space.starts → e ≤ s.1) → LastBefore space is_match slots e 0 None
   LastBefore-start e from = record { path = None; meant = NoneBefore-start e from; leads = refl; short = omega arith }
 
   -- with one more front: its last match pair, or what was found before
   pub LastBefore-step : {before turns e : ℕ} {front : List (Pair × Slots)} {g : Hit} → before ≤ turns
-      → LastBefore edges capture starts is_match slots e before g
-      → IsFront edges capture starts resting is_match slots turns front e
-      → LastBefore edges capture starts is_match slots (e + 1) turns (last_match is_match g front)
+      → LastBefore space is_match slots e before g → IsFront space resting is_match slots turns front e
+      → LastBefore space is_match slots (e + 1) turns (last_match is_match g front)
   LastBefore-step {before} {turns} {e} {front} {g} le so_far f =
       elim (last_match-is is_match g front) [
         | inl lacks ↦ record {
           path = so_far.path;
-          meant = IsLastPath-agree edges starts (WantedBefore (Passes is_match) e)
+          meant = IsLastPath-agree space.edges space.starts (WantedBefore (Passes is_match) e)
               (WantedBefore (Passes is_match) (e + 1)) wider
-              (narrower (IsFront-no_match edges capture starts resting is_match slots turns shape f lacks.1))
+              (narrower (IsFront-no_match space resting is_match slots turns shape f lacks.1))
               so_far.path so_far.meant;
           leads = so_far.leads ∙ sym lacks.0;
           short = let k : option_map_or length so_far.path 0 ≤ turns = omega (arith, so_far.short) in k;
         }
         | inr has ↦
-            let h = IsFront-last_match edges capture starts resting is_match slots turns shape f has.0 has.2 in
-            let w : PathTo edges starts h.1.end h.0 = PathTo-along edges starts h.1.first.wanted h.1.first.path in
+            let h = IsFront-last_match space resting is_match slots turns shape f has.0 has.2 in
+            let w : PathTo space.edges space.starts h.1.end h.0 =
+            PathTo-along space.edges space.starts h.1.first.wanted h.1.first.path in
             record {
               path = Some h.0;
               meant = (e, greatest h.1.end h.0 w h.1.wanted, last h.1);
@@ -253,12 +248,12 @@ module _ (edges : Pair → List Pair) (capture : Pair → Option ℕ) (starts : 
             }
       ]
     where
-      wider : (m : Pair) (p : List Pair) → PathTo edges starts m p → WantedBefore (Passes is_match) e m
+      wider : (m : Pair) (p : List Pair) → PathTo space.edges space.starts m p → WantedBefore (Passes is_match) e m
           → WantedBefore (Passes is_match) (e + 1) m
       wider m p w h = let k : m.1 < e = h.before in record { wanted = h.wanted; before = omega arith }
 
-      narrower : NoPath edges starts (WantedAt (Passes is_match) e)
-          → (m : Pair) (p : List Pair) → PathTo edges starts m p → WantedBefore (Passes is_match) (e + 1) m
+      narrower : NoPath space.edges space.starts (WantedAt (Passes is_match) e)
+          → (m : Pair) (p : List Pair) → PathTo space.edges space.starts m p → WantedBefore (Passes is_match) (e + 1) m
           → WantedBefore (Passes is_match) e m
       narrower none m p w h =
           let k : m.1 < e + 1 = h.before in
@@ -270,15 +265,15 @@ module _ (edges : Pair → List Pair) (capture : Pair → Option ℕ) (starts : 
       here : (m : Pair) → WantedAt (Passes is_match) e m → WantedBefore (Passes is_match) (e + 1) m
       here m h = let k : m.1 ≡ e = h.at in record { wanted = h.wanted; before = omega arith }
 
-      greatest : (m : Pair) (p : List Pair) → PathTo edges starts m p → WantedAt (Passes is_match) e m
-          → IsGreatestEnd edges starts (WantedBefore (Passes is_match) (e + 1)) e
+      greatest : (m : Pair) (p : List Pair) → PathTo space.edges space.starts m p → WantedAt (Passes is_match) e m
+          → IsGreatestEnd space.edges space.starts (WantedBefore (Passes is_match) (e + 1)) e
       greatest m p w h = record {
         is_end = record { end = m; along = p; path = w; wanted = here m h; at = h.at };
         greatest = λ n q v t. let k : n.1 < e + 1 = t.before in omega arith;
       }
 
-      last : {p : List Pair} → IsLastOfFirsts edges starts (Passes is_match) e p
-          → IsLastOfFirsts edges starts (WantedBefore (Passes is_match) (e + 1)) e p
+      last : {p : List Pair} → IsLastOfFirsts space.edges space.starts (Passes is_match) e p
+          → IsLastOfFirsts space.edges space.starts (WantedBefore (Passes is_match) (e + 1)) e p
       last h = record {
         end = h.end;
         wanted = record { wanted = here h.end h.wanted; at = h.wanted.at };
@@ -287,34 +282,33 @@ module _ (edges : Pair → List Pair) (capture : Pair → Option ℕ) (starts : 
       }
 
   -- where every path has ended: the last path of all
-  pub LastBefore-end : {turns e : ℕ} {g : Hit} → LastBefore edges capture starts is_match slots e turns g
-      → EndsBefore edges starts is_match e
-      → IsFoundBy capture slots (IsLastPath edges starts (Passes is_match)) turns g
+  pub LastBefore-end : {turns e : ℕ} {g : Hit} → LastBefore space is_match slots e turns g → EndsBefore space is_match e
+      → IsFoundBy space.capture slots (IsLastPath space.edges space.starts (Passes is_match)) turns g
   LastBefore-end {e = e} so_far ends = record {
     path = so_far.path;
-    meant = IsLastPath-agree edges starts (WantedBefore (Passes is_match) e) (Passes is_match) (λ m p w h. h.wanted)
-        (λ m p w t. record { wanted = t; before = ends m p w t }) so_far.path so_far.meant;
+    meant = IsLastPath-agree space.edges space.starts (WantedBefore (Passes is_match) e) (Passes is_match)
+        (λ m p w h. h.wanted) (λ m p w t. record { wanted = t; before = ends m p w t }) so_far.path so_far.meant;
     leads = so_far.leads;
     short = so_far.short;
   }
 
   -- the whole search for any match pair finds the first path
   pub IsFirstPath-found : (turns : ℕ) (g : Hit)
-      → ExploresTo edges is_match capture turns None [] (map Explore starts) slots g
-      → IsFoundBy capture slots (IsFirstPath edges starts (Passes is_match)) turns g
+      → ExploresTo space is_match turns None [] (map Explore space.starts) slots g
+      → IsFoundBy space.capture slots (IsFirstPath space.edges space.starts (Passes is_match)) turns g
   IsFirstPath-found turns g answer =
-      elim (Answer-starts edges is_match capture turns starts slots g answer) [
+      elim (Answer-starts space is_match turns space.starts slots g answer) [
         | inl k ↦ record {
           path = Some k.0;
-          meant = IsLeast-first edges starts is_match shape.leads_nowhere
-              k.0 (IsLeast-from_first edges is_match starts shape.increasing (Some k.0) k.1);
+          meant = IsLeast-first space.edges space.starts is_match shape.leads_nowhere
+              k.0 (IsLeast-from_first space.edges is_match space.starts shape.increasing (Some k.0) k.1);
           leads = sym k.2;
           short = k.3;
         }
         | inr k ↦ record {
           path = None;
-          meant = IsLeast-none edges starts is_match shape.leads_nowhere
-              (IsLeast-from_first edges is_match starts shape.increasing None k.0);
+          meant = IsLeast-none space.edges space.starts is_match shape.leads_nowhere
+              (IsLeast-from_first space.edges is_match space.starts shape.increasing None k.0);
           leads = sym k.1;
           short = omega arith;
         }
@@ -348,19 +342,18 @@ module _ (edges : Pair → List Pair) (capture : Pair → Option ℕ) (starts : 
     is_later x = true-test (later x)
 
     -- the search for the set finds none, so there is no path to it
-    NoPath-over : {turns : ℕ} → IsOver edges capture starts is_match slots turns e
-        → NoPath edges starts (λ x. (is_match x ≡ true) × (e ≤ x.1))
+    NoPath-over : {turns : ℕ} → IsOver space is_match slots turns e
+        → NoPath space.edges space.starts (λ x. (is_match x ≡ true) × (e ≤ x.1))
     NoPath-over {turns} over m p w h =
-        elim (Answer-starts edges later_target capture turns starts slots None (over.none later_target later_is)) [
-          | inl k ↦ absurd (found-Some edges later_target capture slots k.1.2.path k.2)
+        elim (Answer-starts space later_target turns space.starts slots None (over.none later_target later_is)) [
+          | inl k ↦ absurd (found-Some space later_target slots k.1.2.path k.2)
           | inr k ↦
-              IsLeast-none edges starts later_target (λ x u. shape.leads_nowhere x (later_is x u).0)
-              (IsLeast-from_first edges later_target starts shape.increasing None k.0) m p w (is_later m h)
+              IsLeast-none space.edges space.starts later_target (λ x u. shape.leads_nowhere x (later_is x u).0)
+              (IsLeast-from_first space.edges later_target space.starts shape.increasing None k.0) m p w (is_later m h)
         ]
 
     -- where nothing is left to explore, every path has ended
-    pub EndsBefore-over : {turns : ℕ} → IsOver edges capture starts is_match slots turns e
-        → EndsBefore edges starts is_match e
+    pub EndsBefore-over : {turns : ℕ} → IsOver space is_match slots turns e → EndsBefore space is_match e
     EndsBefore-over over m p w t =
         elim (cases_lt m.1 e) [
           | inl less ↦ less
@@ -370,18 +363,16 @@ module _ (edges : Pair → List Pair) (capture : Pair → Option ℕ) (starts : 
   -- the patterns that are reached
   module _ (pattern : Pair → Option ℕ) (k : ℕ) where
     -- at one position: those of the match pairs of its front
-    pub IsReached-at : {turns e : ℕ} {front : List (Pair × Slots)}
-        → IsFront edges capture starts resting is_match slots turns front e
-        → IsReached edges starts (WantedAt (Passes is_match) e) pattern k ↔ HoldsMatch is_match pattern k front
+    pub IsReached-at : {turns e : ℕ} {front : List (Pair × Slots)} → IsFront space resting is_match slots turns front e
+        → IsReached space.edges space.starts (WantedAt (Passes is_match) e) pattern k
+        ↔ HoldsMatch is_match pattern k front
     IsReached-at {turns} f = (
       λ r.
-          let a = (IsFront-pairs edges capture starts resting is_match slots turns shape f r.end r.wanted).0
-          (r.along, r.path) in
+          let a = (IsFront-pairs space resting is_match slots turns shape f r.end r.wanted).0 (r.along, r.path) in
           record { item = a.0; among = a.1; matches = rw a.2 r.wanted.wanted; pattern_is = rw a.2 r.pattern_is },
       λ a.
           let h = wanted_at a.item.0 a.matches (f.rest a.item a.among).1 in
-          let w = (IsFront-pairs edges capture starts resting is_match slots turns shape f a.item.0 h).1
-          (a.item, a.among, refl) in
+          let w = (IsFront-pairs space resting is_match slots turns shape f a.item.0 h).1 (a.item, a.among, refl) in
           record { end = a.item.0; along = w.0; path = w.1; wanted = h; pattern_is = a.pattern_is },
     )
       where
@@ -389,15 +380,15 @@ module _ (edges : Pair → List Pair) (capture : Pair → Option ℕ) (starts : 
         wanted_at m t at = record { wanted = t; at = at }
 
     -- before the first start none
-    pub ReachedBefore-start : (e : ℕ) → ((s : Pair) → In s starts → e ≤ s.1)
-        → ReachedBefore edges starts is_match pattern e k → ⊥
+    pub ReachedBefore-start : (e : ℕ) → ((s : Pair) → In s space.starts → e ≤ s.1)
+        → ReachedBefore space is_match pattern e k → ⊥
     ReachedBefore-start e from r = NoneBefore-start e from r.end r.along r.path r.wanted
 
     -- before the next position: what was reached before, and the match pairs of the front
     pub ReachedBefore-step : {turns e : ℕ} {front : List (Pair × Slots)}
-        → IsFront edges capture starts resting is_match slots turns front e
-        → ReachedBefore edges starts is_match pattern (e + 1) k
-        ↔ (ReachedBefore edges starts is_match pattern e k ⊎ HoldsMatch is_match pattern k front)
+        → IsFront space resting is_match slots turns front e
+        → ReachedBefore space is_match pattern (e + 1) k
+        ↔ (ReachedBefore space is_match pattern e k ⊎ HoldsMatch is_match pattern k front)
     ReachedBefore-step {e = e} f = (
       λ r.
           elim (cases_lt r.end.1 e) [
@@ -448,8 +439,8 @@ module _ (edges : Pair → List Pair) (capture : Pair → Option ℕ) (starts : 
     )
 
     -- where every path has ended: all that are reached
-    pub ReachedBefore-end : {e : ℕ} → EndsBefore edges starts is_match e
-        → ReachedBefore edges starts is_match pattern e k ↔ IsReached edges starts (Passes is_match) pattern k
+    pub ReachedBefore-end : {e : ℕ} → EndsBefore space is_match e
+        → ReachedBefore space is_match pattern e k ↔ IsReached space.edges space.starts (Passes is_match) pattern k
     ReachedBefore-end ends = (
       λ r. record { end = r.end; along = r.along; path = r.path; wanted = r.wanted.wanted; pattern_is = r.pattern_is },
       λ r. record {

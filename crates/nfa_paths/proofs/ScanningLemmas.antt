@@ -3,7 +3,7 @@ use Rattle.std.proofs.Common.{◌≡◌, ℕ, suc, ◌+◌, ◌≤◌, ◌<◌, 
 use Rattle.std.specs.Prelude.{Option, None, Some, cond}
 use Rattle.std.specs.Option.{option_or}
 use Rattle.std.proofs.lemmas.Bool.{cases_Bool}
-use Rattle.nfa_paths.specs.Graphs.{Pair, In, NoRepeats}
+use Rattle.nfa_paths.specs.Graphs.{Pair, Space, In, NoRepeats}
 use Rattle.nfa_paths.specs.Exploring.{Slots, Hit, Item, round, seeds, found, Searching, ExploresTo, ExploresBehind}
 use Rattle.nfa_paths.specs.Exploring.Item.{Explore, Restore, Load}
 use Rattle.nfa_paths.specs.Kinds.{MatchesFrom, NoMatch, first_match, before_match, behind_match, IsFront, IsOver, Scanning}
@@ -17,47 +17,44 @@ not_true : (b c : Bool) → (b ≡ true → c ≡ true) → c ≡ false → b �
 not_true true c h f = sym (h refl) ∙ f
 not_true false c h f = refl
 
-module _ (edges : Pair → List Pair) (capture : Pair → Option ℕ) (starts : List Pair) (is_match : Pair → Bool)
-    (slots : Slots) where
+module _ (space : Space) (is_match : Pair → Bool) (slots : Slots) where
   -- nothing is seen yet
   pub Scanning-start : (e : ℕ) (Seen : Pair → Type 0) → ((x : Pair) → Seen x → ⊥)
-      → Scanning edges capture starts is_match slots e Seen 0 [] (map Explore starts) slots
+      → Scanning space is_match slots e Seen 0 [] (map Explore space.starts) slots
   Scanning-start e Seen fresh = record {
     searching =
-        λ target at. Searching-start edges target capture Seen None (map Explore starts) slots fresh;
+        λ target at. Searching-start space target Seen None (map Explore space.starts) slots fresh;
   }
 
   -- nothing is seen yet, and each start has its slots loaded
   pub Scanning-seeds : (e : ℕ) (Seen : Pair → Type 0) (current : Slots) → ((x : Pair) → Seen x → ⊥)
-      → Scanning edges capture starts is_match slots e Seen 0 [] (Load slots ∷ seeds slots starts) current
+      → Scanning space is_match slots e Seen 0 [] (Load slots ∷ seeds slots space.starts) current
   Scanning-seeds e Seen current fresh = record
-      { searching = λ target at. Searching-seeds edges target capture Seen None starts slots current fresh }
+      { searching = λ target at. Searching-seeds space target Seen None space.starts slots current fresh }
 
   module _ {e : ℕ} {Seen : Pair → Type 0} {spent : ℕ} {front : List (Pair × Slots)} {rest : List Item}
       {current : Slots} where
     -- a slot is restored
     pub Scanning-restore : {k : ℕ} {old : Option ℕ}
-        → Scanning edges capture starts is_match slots e Seen spent front (Restore k old ∷ rest) current
-        → Scanning edges capture starts is_match slots e Seen spent front rest (set current k old)
+        → Scanning space is_match slots e Seen spent front (Restore k old ∷ rest) current
+        → Scanning space is_match slots e Seen spent front rest (set current k old)
     Scanning-restore s = record {
       searching =
-          λ target at. Searching-restore edges target capture (s.searching target at);
+          λ target at. Searching-restore space target (s.searching target at);
     }
 
     -- slots are loaded
-    pub Scanning-load : {old : Slots} → Scanning edges capture starts is_match slots e Seen spent front
-        (Load old ∷ rest) current
-        → Scanning edges capture starts is_match slots e Seen spent front rest old
-    Scanning-load s = record { searching = λ target at. Searching-load edges target capture (s.searching target at) }
+    pub Scanning-load : {old : Slots} → Scanning space is_match slots e Seen spent front (Load old ∷ rest) current
+        → Scanning space is_match slots e Seen spent front rest old
+    Scanning-load s = record { searching = λ target at. Searching-load space target (s.searching target at) }
 
-    module _ {v : Pair} (s : Scanning edges capture starts is_match slots e Seen spent front (Explore v ∷ rest) current)
+    module _ {v : Pair} (s : Scanning space is_match slots e Seen spent front (Explore v ∷ rest) current)
       where
         -- a turn that finds its pair marked
-        pub Scanning-marked : Seen v
-            → Scanning edges capture starts is_match slots e Seen (spent + 1) front rest current
+        pub Scanning-marked : Seen v → Scanning space is_match slots e Seen (spent + 1) front rest current
         Scanning-marked seen = record {
           searching =
-              λ target at. Searching-marked edges target capture (s.searching target at) seen;
+              λ target at. Searching-marked space target (s.searching target at) seen;
         }
 
         module _ {After : Pair → Type 0} (fresh : ¬ (Seen v)) (adds : (x : Pair) → After x ↔ ((x ≡ v) ⊎ Seen x)) where
@@ -66,51 +63,52 @@ module _ (edges : Pair → List Pair) (capture : Pair → Option ℕ) (starts : 
           plain_target plain target at = not_true (target v) (is_match v) (λ t. (at v t).0) plain
 
           -- a pair that writes nothing gives way to its edges
-          pub Scanning-plain : is_match v ≡ false → (es : List Pair) → edges v ≡ es → capture v ≡ None
-              → Scanning edges capture starts is_match slots e After (spent + 1) front (map Explore es ++ rest) current
+          pub Scanning-plain : is_match v ≡ false → (es : List Pair) → space.edges v ≡ es → space.capture v ≡ None
+              → Scanning space is_match slots e After (spent + 1) front (map Explore es ++ rest) current
           Scanning-plain plain es leads c =
               record {
-                searching = λ target at. Searching-plain edges target capture (s.searching target at) fresh adds
+                searching = λ target at. Searching-plain space target (s.searching target at) fresh adds
                     (plain_target plain target at) es leads c;
               }
 
           -- a pair that writes to a slot, which is restored below its edges
-          pub Scanning-write : is_match v ≡ false → (es : List Pair) → edges v ≡ es → (k : ℕ) → capture v ≡ Some k
-              → Scanning edges capture starts is_match slots e After (spent + 1) front
+          pub Scanning-write : is_match v ≡ false → (es : List Pair) → space.edges v ≡ es → (k : ℕ)
+              → space.capture v ≡ Some k
+              → Scanning space is_match slots e After (spent + 1) front
               (map Explore es ++ Restore k (get_or current k None) ∷ rest) (set current k (Some v.1))
           Scanning-write plain es leads k c =
               record {
-                searching = λ target at. Searching-write edges target capture (s.searching target at) fresh adds
+                searching = λ target at. Searching-write space target (s.searching target at) fresh adds
                     (plain_target plain target at) es leads k c;
               }
 
           -- a pair that writes to a slot that is not kept
-          pub Scanning-unkept : is_match v ≡ false → (es : List Pair) → edges v ≡ es → (k : ℕ) → capture v ≡ Some k
-              → length current ≤ k
-              → Scanning edges capture starts is_match slots e After (spent + 1) front (map Explore es ++ rest) current
+          pub Scanning-unkept : is_match v ≡ false → (es : List Pair) → space.edges v ≡ es → (k : ℕ)
+              → space.capture v ≡ Some k → length current ≤ k
+              → Scanning space is_match slots e After (spent + 1) front (map Explore es ++ rest) current
           Scanning-unkept plain es leads k c past =
               record {
-                searching = λ target at. Searching-unkept edges target capture (s.searching target at) fresh adds
+                searching = λ target at. Searching-unkept space target (s.searching target at) fresh adds
                     (plain_target plain target at) es leads k c past;
               }
 
           -- a pair with no edge is dropped
-          pub Scanning-end : is_match v ≡ false → edges v ≡ []
-              → Scanning edges capture starts is_match slots e After (spent + 1) front rest current
+          pub Scanning-end : is_match v ≡ false → space.edges v ≡ []
+              → Scanning space is_match slots e After (spent + 1) front rest current
           Scanning-end plain leads =
               record {
-                searching = λ target at. Searching-end edges target capture (s.searching target at) fresh adds
+                searching = λ target at. Searching-end space target (s.searching target at) fresh adds
                     (plain_target plain target at) leads;
               }
 
           -- a pair at e whose edges all rise is put aside, a match pair too
-          pub Scanning-keep : ((x y : Pair) → In y (edges x) → x.1 ≤ y.1) → ((w : Pair) → In w (edges v) → e < w.1)
-              → ((x : Pair) → Seen x → x.1 ≤ e)
-              → Scanning edges capture starts is_match slots e After (spent + 1) (front ++ (v, current) ∷ []) rest
+          pub Scanning-keep : ((x y : Pair) → In y (space.edges x) → x.1 ≤ y.1)
+              → ((w : Pair) → In w (space.edges v) → e < w.1) → ((x : Pair) → Seen x → x.1 ≤ e)
+              → Scanning space is_match slots e After (spent + 1) (front ++ (v, current) ∷ []) rest
               current
           Scanning-keep onward leaves past = record {
             searching = λ target at.
-                Searching-keep edges target capture (s.searching target at) fresh adds (λ x. e < x.1)
+                Searching-keep space target (s.searching target at) fresh adds (λ x. e < x.1)
                 (λ x y a i. let k : x.1 ≤ y.1 = onward x y i in let l : e < x.1 = a in omega arith) leaves
                 (λ x h a. let k : x.1 ≤ e = past x h in let l : e < x.1 = a in omega arith);
           }
@@ -118,18 +116,18 @@ module _ (edges : Pair → List Pair) (capture : Pair → Option ℕ) (starts : 
   -- the next position
   pub Scanning-round : {e : ℕ} {Seen After : Pair → Type 0} {spent : ℕ} {front : List (Pair × Slots)}
       {waiting : List Item} {current old : Slots}
-      → Scanning edges capture starts is_match slots e Seen spent front (Load old ∷ waiting) current
-      → ((x y : Pair) → In y (edges x) → x.1 ≤ y.1)
-      → ((a : Pair × Slots) → In a front → (capture a.0 ≡ None) × (a.0.1 ≡ e)
-      × ((w : Pair) → In w (edges a.0) → e < w.1))
+      → Scanning space is_match slots e Seen spent front (Load old ∷ waiting) current
+      → ((x y : Pair) → In y (space.edges x) → x.1 ≤ y.1)
+      → ((a : Pair × Slots) → In a front → (space.capture a.0 ≡ None) × (a.0.1 ≡ e)
+      × ((w : Pair) → In w (space.edges a.0) → e < w.1))
       → ((k : Pair) → In (Explore k) waiting → e < k.1) → ((x : Pair) → Seen x → x.1 ≤ e) → ((x : Pair) → After x → ⊥)
-      → (after : Slots) → Scanning edges capture starts is_match slots (e + 1) After spent []
-      (round edges front (Load old ∷ waiting)) after
+      → (after : Slots) → Scanning space is_match slots (e + 1) After spent []
+      (round space.edges front (Load old ∷ waiting)) after
   Scanning-round {e} s onward rests comes past fresh after = record {
     searching = λ target at.
         let sooner : (x : Pair) → target x ≡ true → (is_match x ≡ true) × (e ≤ x.1) =
         λ x t. let k : e + 1 ≤ x.1 = (at x t).1 in ((at x t).0, omega arith) in
-        Searching-round edges target capture (s.searching target sooner) (λ x. e < x.1)
+        Searching-round space target (s.searching target sooner) (λ x. e < x.1)
         (λ x y a i. let k : x.1 ≤ y.1 = onward x y i in let l : e < x.1 = a in omega arith)
         (λ a i.
         let r = rests a i in (
@@ -143,11 +141,9 @@ module _ (edges : Pair → List Pair) (capture : Pair → Option ℕ) (starts : 
 
   -- the scan has no more to explore at e: its front is complete
   pub Scanning-front : {resting : Pair → Bool} {e : ℕ} {Seen : Pair → Type 0} {spent : ℕ} {front : List (Pair × Slots)}
-      {waiting : List Item} {current : Slots}
-      → Scanning edges capture starts is_match slots e Seen spent front waiting current
+      {waiting : List Item} {current : Slots} → Scanning space is_match slots e Seen spent front waiting current
       → ((a : Pair × Slots) → In a front → (resting a.0 ≡ true) × (a.0.1 ≡ e)) → NoRepeats (map (λ a. a.0) front)
-      → ((k : Pair) → In (Explore k) waiting → e < k.1)
-      → IsFront edges capture starts resting is_match slots spent front e
+      → ((k : Pair) → In (Explore k) waiting → e < k.1) → IsFront space resting is_match slots spent front e
   Scanning-front {e = e} {spent = spent} {waiting = waiting} {current} s rest once later = record {
     waiting = waiting;
     current = current;
@@ -161,9 +157,8 @@ module _ (edges : Pair → List Pair) (capture : Pair → Option ℕ) (starts : 
 
   -- nothing was put aside and nothing waits
   pub Scanning-over : {e : ℕ} {Seen : Pair → Type 0} {spent : ℕ} {current : Slots}
-      → Scanning edges capture starts is_match slots e Seen spent [] [] current
-      → IsOver edges capture starts is_match slots spent e
-  Scanning-over s = record { none = λ target at. Searching-done edges target capture (s.searching target at) }
+      → Scanning space is_match slots e Seen spent [] [] current → IsOver space is_match slots spent e
+  Scanning-over s = record { none = λ target at. Searching-done space target (s.searching target at) }
 
 -- no pair is put aside twice
 pub once-keep : (front : List (Pair × Slots)) (v : Pair) (slots : Slots) → NoRepeats (map (λ a. a.0) front)
@@ -183,17 +178,17 @@ once-keep (b ∷ front) v slots n other = (
     ]
 
 -- The search for any match pair, whose answer is the first path: a match pair in the front drops what stands behind it.
-module _ (edges : Pair → List Pair) (target : Pair → Bool) (capture : Pair → Option ℕ) where
+module _ (space : Space) (target : Pair → Bool) where
   -- a target that was put aside answers, if nothing before it does
   AnswerBehind-cut : (left : ℕ) (before : List (Pair × Slots)) (a : Pair × Slots) (after : List (Pair × Slots))
       (otherwise : Hit) (m n : List Pair)
       (work : List Item) (current slots : Slots) (g : Hit) → target a.0 ≡ true
-      → ExploresBehind edges target capture left before (found capture (a.0 ∷ []) a.1) m [] current g
-      → ExploresBehind edges target capture left (before ++ a ∷ after) otherwise n work slots g
+      → ExploresBehind space target left before (found space.capture (a.0 ∷ []) a.1) m [] current g
+      → ExploresBehind space target left (before ++ a ∷ after) otherwise n work slots g
   unfolding ExploresTo ExploresBehind
   AnswerBehind-cut left [] a after otherwise m n work current slots g t h =
       let short : length (a.0 ∷ []) ≤ suc left = omega arith in
-      inl (a.0 ∷ [], IsFirst-target edges target [] a.0 (λ i. i) t, h, short)
+      inl (a.0 ∷ [], IsFirst-target space.edges target [] a.0 (λ i. i) t, h, short)
   AnswerBehind-cut left (b ∷ before) a after otherwise m n work current slots g t (inl h) = inl h
   AnswerBehind-cut left (b ∷ before) a after otherwise m n work current slots g t (inr h) =
       inr (h.0, AnswerBehind-cut left before a after otherwise m n work current slots g t h.1)
@@ -202,29 +197,27 @@ module _ (edges : Pair → List Pair) (target : Pair → Bool) (capture : Pair �
   pub Searching-cut : {goal : Hit → ℕ → Type 0} {Seen : Pair → Type 0} {spent : ℕ} {otherwise : Hit}
       {work : List Item} {slots : Slots}
       (before : List (Pair × Slots)) (a : Pair × Slots) (after : List (Pair × Slots))
-      → Searching edges target capture goal Seen spent (before ++ a ∷ after) otherwise work slots → target a.0 ≡ true
-      → capture a.0 ≡ None
-      → Searching edges target capture goal Seen spent before (Some a) [] slots
+      → Searching space target goal Seen spent (before ++ a ∷ after) otherwise work slots → target a.0 ≡ true
+      → space.capture a.0 ≡ None → Searching space target goal Seen spent before (Some a) [] slots
   Searching-cut {otherwise = otherwise} {work} {slots} before a after s t c = record {
     marks = s.marks;
     agrees = s.agrees;
     leads = λ g left total e h.
         s.leads g left total e
         (AnswerBehind-cut left before a after otherwise s.marks s.marks work slots slots g t
-        (let wrote : found capture (a.0 ∷ []) a.1 ≡ Some a = rw c refl in rw wrote h));
+        (let wrote : found space.capture (a.0 ∷ []) a.1 ≡ Some a = rw c refl in rw wrote h));
   }
 
   -- no work is left but to load
   pub Searching-wait : {goal : Hit → ℕ → Type 0} {Seen : Pair → Type 0} {spent : ℕ} {front : List (Pair × Slots)}
-      {otherwise : Hit} {slots : Slots} (old : Slots)
-      → Searching edges target capture goal Seen spent front otherwise [] slots
-      → Searching edges target capture goal Seen spent front otherwise (Load old ∷ []) slots
+      {otherwise : Hit} {slots : Slots} (old : Slots) → Searching space target goal Seen spent front otherwise [] slots
+      → Searching space target goal Seen spent front otherwise (Load old ∷ []) slots
   unfolding ExploresTo
   Searching-wait {front = front} {otherwise} {slots} old s = record {
     marks = s.marks;
     agrees = s.agrees;
     leads = λ g left total e h. s.leads g left total e
-        (AnswerBehind-along edges target capture front left left (omega arith) otherwise otherwise s.marks s.marks
+        (AnswerBehind-along space target front left left (omega arith) otherwise otherwise s.marks s.marks
         (Load old ∷ []) [] slots slots g (λ k. k) h);
   }
 
@@ -286,25 +279,25 @@ module _ (edges : Pair → List Pair) (target : Pair → Bool) (capture : Pair �
   -- and that pair becomes the answer otherwise.
   pub Searching-cut_round : {goal : Hit → ℕ → Type 0} {e : ℕ} {Seen After : Pair → Type 0} {spent : ℕ}
       {front : List (Pair × Slots)} {otherwise : Hit} {waiting : List Item} {slots old : Slots}
-      → Searching edges target capture goal Seen spent front otherwise (Load old ∷ waiting) slots
-      → ((x y : Pair) → In y (edges x) → x.1 ≤ y.1)
-      → ((a : Pair × Slots) → In a front → (capture a.0 ≡ None) × (a.0.1 ≡ e)
-      × ((w : Pair) → In w (edges a.0) → e < w.1))
+      → Searching space target goal Seen spent front otherwise (Load old ∷ waiting) slots
+      → ((x y : Pair) → In y (space.edges x) → x.1 ≤ y.1)
+      → ((a : Pair × Slots) → In a front → (space.capture a.0 ≡ None) × (a.0.1 ≡ e)
+      × ((w : Pair) → In w (space.edges a.0) → e < w.1))
       → ((k : Pair) → In (Explore k) waiting → e < k.1) → ((x : Pair) → Seen x → x.1 ≤ e) → ((x : Pair) → After x → ⊥)
       → (after : Slots)
-      → Searching edges target capture goal After spent [] (option_or (first_match target front) otherwise)
-      (round edges (before_match target front) (Load old ∷ behind_match (first_match target front) waiting)) after
+      → Searching space target goal After spent [] (option_or (first_match target front) otherwise)
+      (round space.edges (before_match target front) (Load old ∷ behind_match (first_match target front) waiting)) after
   Searching-cut_round {goal} {e} {Seen} {After} {spent} {front} {otherwise} {waiting} {slots} {old} s onward rests comes
       past fresh after =
       elim (front_cases front) [
         | inl n ↦
-            let go_on : Searching edges target capture goal Seen spent (before_match target front) otherwise
+            let go_on : Searching space target goal Seen spent (before_match target front) otherwise
             (Load old ∷ waiting) slots = rw n.1 s in
             rw n.0 (next otherwise waiting go_on comes)
         | inr h ↦
-            let split : Searching edges target capture goal Seen spent (before_match target front ++ h.0 ∷ h.1.after)
+            let split : Searching space target goal Seen spent (before_match target front ++ h.0 ∷ h.1.after)
             otherwise (Load old ∷ waiting) slots =
-            subst (λ f. Searching edges target capture goal Seen spent f otherwise (Load old ∷ waiting) slots) h.1.split
+            subst (λ f. Searching space target goal Seen spent f otherwise (Load old ∷ waiting) slots) h.1.split
             s in
             let here : In h.0 front = rw h.1.split (In-middle (before_match target front) h.0 h.1.after) in
             let cut = Searching-cut (before_match target front) h.0 h.1.after split h.1.matches (rests h.0 here).0 in
@@ -317,12 +310,12 @@ module _ (edges : Pair → List Pair) (target : Pair → Bool) (capture : Pair �
       In-middle (b ∷ before) a later = inr (In-middle before a later)
 
       next : (other : Hit) (waits : List Item)
-          → Searching edges target capture goal Seen spent (before_match target front) other (Load old ∷ waits) slots
+          → Searching space target goal Seen spent (before_match target front) other (Load old ∷ waits) slots
           → ((k : Pair) → In (Explore k) waits → e < k.1)
-          → Searching edges target capture goal After spent [] other
-          (round edges (before_match target front) (Load old ∷ waits)) after
+          → Searching space target goal After spent [] other
+          (round space.edges (before_match target front) (Load old ∷ waits)) after
       next other waits t waiting_later =
-          Searching-round edges target capture t (λ x. e < x.1)
+          Searching-round space target t (λ x. e < x.1)
           (λ x y a i. let k : x.1 ≤ y.1 = onward x y i in let l : e < x.1 = a in omega arith)
           (λ a i.
           let r = rests a (before_match-among front a i) in (

@@ -4,7 +4,7 @@ use Rattle.std.proofs.lemmas.List.{set-get_or, set_past}
 use Rattle.std.specs.Prelude.{Option, None, Some}
 use Rattle.std.specs.Option.{option_map}
 use Rattle.std.specs.List.{last_or}
-use Rattle.nfa_paths.specs.Graphs.{Pair, In}
+use Rattle.nfa_paths.specs.Graphs.{Pair, Space, In}
 use Rattle.nfa_paths.specs.FirstPaths.{Path, IsFirst, FirstAmong, IsFirstOfAll}
 use Rattle.nfa_paths.specs.FirstPaths.Path.{stop, go}
 use Rattle.nfa_paths.specs.Exploring.{Slots, Hit, Item, write, apply, found, ExploresTo, ExploresBehind, round, seeds}
@@ -16,35 +16,35 @@ last_or-Some : {A B : Type 0} (f : A → B) (x : A) (xs : List A) → None ≡ o
 last_or-Some f x [] e = cc
 last_or-Some f x (y ∷ ys) e = last_or-Some f y ys e
 
-module _ (edges : Pair → List Pair) (target : Pair → Bool) (capture : Pair → Option ℕ) where
+module _ (space : Space) (target : Pair → Bool) where
   -- with nothing to do
   pub Answer-none : (left : ℕ) (otherwise : Hit) (marks : List Pair) (slots : Slots)
-      → ExploresTo edges target capture left otherwise marks [] slots otherwise
+      → ExploresTo space target left otherwise marks [] slots otherwise
   unfolding ExploresTo
   Answer-none left otherwise marks slots = refl
 
   -- a slot is restored
   pub Answer-restore : (left : ℕ) (otherwise : Hit) (marks : List Pair) (k : ℕ) (old : Option ℕ) (rest : List Item)
       (slots : Slots) (g : Hit)
-      → ExploresTo edges target capture left otherwise marks rest (set slots k old) g
-      ↔ ExploresTo edges target capture left otherwise marks (Restore k old ∷ rest) slots g
+      → ExploresTo space target left otherwise marks rest (set slots k old) g
+      ↔ ExploresTo space target left otherwise marks (Restore k old ∷ rest) slots g
   unfolding ExploresTo
   Answer-restore left otherwise marks k old rest slots g = (λ h. h, λ h. h)
 
   -- slots are loaded
   pub Answer-load : (left : ℕ) (otherwise : Hit) (marks : List Pair) (old : Slots) (rest : List Item)
       (slots : Slots) (g : Hit)
-      → ExploresTo edges target capture left otherwise marks rest old g
-      ↔ ExploresTo edges target capture left otherwise marks (Load old ∷ rest) slots g
+      → ExploresTo space target left otherwise marks rest old g
+      ↔ ExploresTo space target left otherwise marks (Load old ∷ rest) slots g
   unfolding ExploresTo
   Answer-load left otherwise marks old rest slots g = (λ h. h, λ h. h)
 
   -- what the pairs at the head of the work come to
   pub Answer-among : (left : ℕ) (otherwise : Hit) (marks es : List Pair) (rest : List Item)
-      (slots : Slots) (g : Hit)
-      → ExploresTo edges target capture left otherwise marks (map Explore es ++ rest) slots g
-      → ((p : List Pair) × FirstAmong edges target marks es (Some p) × (g ≡ found capture p slots) × (length p ≤ left))
-      ⊎ (FirstAmong edges target marks es None × ExploresTo edges target capture left otherwise marks rest slots g)
+      (slots : Slots) (g : Hit) → ExploresTo space target left otherwise marks (map Explore es ++ rest) slots g
+      → ((p : List Pair) × FirstAmong space.edges target marks es (Some p) × (g ≡ found space.capture p slots)
+      × (length p ≤ left))
+      ⊎ (FirstAmong space.edges target marks es None × ExploresTo space target left otherwise marks rest slots g)
   unfolding ExploresTo
   Answer-among left otherwise marks [] rest slots g h = inr (refl, h)
   Answer-among left otherwise marks (e ∷ es) rest slots g (inl h) = inl (h.0, inl (h.0, h.1, refl), h.2, h.3)
@@ -55,10 +55,9 @@ module _ (edges : Pair → List Pair) (target : Pair → Bool) (capture : Pair �
   -- marks that agree at what is to be explored, and no fewer turns
   Answer-along : (left more : ℕ) → left ≤ more
       → (otherwise : Hit) (m n : List Pair) (work : List Item) (slots : Slots) (g : Hit)
-      → ((k : Pair) → In (Explore k) work → (r : Option (List Pair)) → IsFirst edges target m k r
-      → IsFirst edges target n k r)
-      → ExploresTo edges target capture left otherwise m work slots g
-      → ExploresTo edges target capture more otherwise n work slots g
+      → ((k : Pair) → In (Explore k) work → (r : Option (List Pair)) → IsFirst space.edges target m k r
+      → IsFirst space.edges target n k r) → ExploresTo space target left otherwise m work slots g
+      → ExploresTo space target more otherwise n work slots g
   unfolding ExploresTo
   Answer-along left more le otherwise m n [] slots g f h = h
   Answer-along left more le otherwise m n (Explore k ∷ rest) slots g f (inl h) =
@@ -74,123 +73,119 @@ module _ (edges : Pair → List Pair) (target : Pair → Bool) (capture : Pair �
   -- more turns may be left
   pub Answer-more : (left more : ℕ) → left ≤ more
       → (otherwise : Hit) (marks : List Pair) (work : List Item) (slots : Slots) (g : Hit)
-      → ExploresTo edges target capture left otherwise marks work slots g
-      → ExploresTo edges target capture more otherwise marks work slots g
+      → ExploresTo space target left otherwise marks work slots g
+      → ExploresTo space target more otherwise marks work slots g
   Answer-more left more le otherwise marks work slots g =
       Answer-along left more le otherwise marks marks work slots g (λ k i r h. h)
 
   -- marking a pair that leads to no target loses nothing, and takes a turn
-  pub Answer-mark : (left : ℕ) (otherwise : Hit) (marks : List Pair) (v : Pair) → IsFirst edges target marks v None
-      → (work : List Item) (slots : Slots) (g : Hit)
-      → ExploresTo edges target capture left otherwise (v ∷ marks) work slots g
-      → ExploresTo edges target capture (suc left) otherwise marks work slots g
+  pub Answer-mark : (left : ℕ) (otherwise : Hit) (marks : List Pair) (v : Pair)
+      → IsFirst space.edges target marks v None → (work : List Item) (slots : Slots) (g : Hit)
+      → ExploresTo space target left otherwise (v ∷ marks) work slots g
+      → ExploresTo space target (suc left) otherwise marks work slots g
   Answer-mark left otherwise marks v none work slots g =
       Answer-along left (suc left) (omega arith) otherwise (v ∷ marks) marks work slots g
-      (λ k i r. (IsFirst-mark edges target marks v none k r).0)
+      (λ k i r. (IsFirst-mark space.edges target marks v none k r).0)
 
   -- only which pairs are marked matters
   pub Answer-same : (left : ℕ) (otherwise : Hit) (m n : List Pair) → ((x : Pair) → In x m ↔ In x n)
-      → (work : List Item) (slots : Slots) (g : Hit)
-      → ExploresTo edges target capture left otherwise m work slots g
-      → ExploresTo edges target capture left otherwise n work slots g
+      → (work : List Item) (slots : Slots) (g : Hit) → ExploresTo space target left otherwise m work slots g
+      → ExploresTo space target left otherwise n work slots g
   Answer-same left otherwise m n agree work slots g =
       Answer-along left left (omega arith) otherwise m n work slots g
-      (λ k i. IsFirst-ahead edges target (λ x. Unit {0}) (λ x y a e. tt) m n (λ x a. (agree x).0)
+      (λ k i. IsFirst-ahead space.edges target (λ x. Unit {0}) (λ x y a e. tt) m n (λ x a. (agree x).0)
       (λ x a. (agree x).1) k tt)
 
   -- the first pair of a path writes first
-  found-cons : (v : Pair) {w : Pair} {p : List Pair} (slots : Slots) → Path edges target w p
-      → found capture (v ∷ p) slots ≡ found capture p (write (capture v) v.1 slots)
+  found-cons : (v : Pair) {w : Pair} {p : List Pair} (slots : Slots) → Path space.edges target w p
+      → found space.capture (v ∷ p) slots ≡ found space.capture p (write (space.capture v) v.1 slots)
   found-cons v slots (stop t) = refl
   found-cons v slots (go t e n h) = refl
 
   module _ (left : ℕ) (otherwise : Hit) (marks : List Pair) (v : Pair) (rest : List Item) (slots : Slots)
       (g : Hit) where
     -- a marked pair is dropped
-    pub Answer-marked : In v marks
-        → ExploresTo edges target capture left otherwise marks rest slots g
-        → ExploresTo edges target capture (suc left) otherwise marks (Explore v ∷ rest) slots g
+    pub Answer-marked : In v marks → ExploresTo space target left otherwise marks rest slots g
+        → ExploresTo space target (suc left) otherwise marks (Explore v ∷ rest) slots g
     unfolding ExploresTo
     Answer-marked m h = inr (
-      IsFirst-marked edges target marks v m,
+      IsFirst-marked space.edges target marks v m,
       Answer-more left (suc left) (omega arith) otherwise marks rest slots g h,
     )
 
     -- a pair from which nothing can be reached is dropped, with no turn
-    pub Answer-dead : target v ≡ false → edges v ≡ []
-        → ExploresTo edges target capture left otherwise marks rest slots g
-        → ExploresTo edges target capture left otherwise marks (Explore v ∷ rest) slots g
+    pub Answer-dead : target v ≡ false → space.edges v ≡ [] → ExploresTo space target left otherwise marks rest slots g
+        → ExploresTo space target left otherwise marks (Explore v ∷ rest) slots g
     unfolding ExploresTo
-    Answer-dead plain leads h = inr (IsFirst-dead edges target marks v plain leads, h)
+    Answer-dead plain leads h = inr (IsFirst-dead space.edges target marks v plain leads, h)
 
     -- a target ends the search
-    pub Answer-target : ¬ (In v marks) → target v ≡ true → g ≡ Some (v, write (capture v) v.1 slots)
-        → ExploresTo edges target capture (suc left) otherwise marks (Explore v ∷ rest) slots g
+    pub Answer-target : ¬ (In v marks) → target v ≡ true → g ≡ Some (v, write (space.capture v) v.1 slots)
+        → ExploresTo space target (suc left) otherwise marks (Explore v ∷ rest) slots g
     unfolding ExploresTo
     Answer-target free t e = let short : length (v ∷ []) ≤ suc left = omega arith in
-        inl (v ∷ [], IsFirst-target edges target marks v free t, e, short)
+        inl (v ∷ [], IsFirst-target space.edges target marks v free t, e, short)
 
-    module _ (free : ¬ (In v marks)) (plain : target v ≡ false) (es : List Pair) (leads : edges v ≡ es) where
+    module _ (free : ¬ (In v marks)) (plain : target v ≡ false) (es : List Pair) (leads : space.edges v ≡ es) where
       -- a pair gives way to its edges, and to `next` below them, which leads back to `rest`
-      pub Answer-step : (next : List Item) (after : Slots) → write (capture v) v.1 slots ≡ after
-          → (ExploresTo edges target capture left otherwise (v ∷ marks) next after g
-          → ExploresTo edges target capture left otherwise (v ∷ marks) rest slots g)
-          → ExploresTo edges target capture left otherwise (v ∷ marks) (map Explore es ++ next) after g
-          → ExploresTo edges target capture (suc left) otherwise marks (Explore v ∷ rest) slots g
+      pub Answer-step : (next : List Item) (after : Slots) → write (space.capture v) v.1 slots ≡ after
+          → (ExploresTo space target left otherwise (v ∷ marks) next after g
+          → ExploresTo space target left otherwise (v ∷ marks) rest slots g)
+          → ExploresTo space target left otherwise (v ∷ marks) (map Explore es ++ next) after g
+          → ExploresTo space target (suc left) otherwise marks (Explore v ∷ rest) slots g
       unfolding ExploresTo
       Answer-step next after wrote back h =
           elim (Answer-among left otherwise (v ∷ marks) es next after g h) [
             | inl k ↦
-                let some = IsFirstOfAll-from_among edges target (v ∷ marks) es (Some k.0) k.1 in
+                let some = IsFirstOfAll-from_among space.edges target (v ∷ marks) es (Some k.0) k.1 in
                 let short : length (v ∷ k.0) ≤ suc left = omega (arith, k.3) in
                 inl (
                   v ∷ k.0,
-                  IsFirst-step edges target marks v free plain (Some k.0) (rw leads k.1),
+                  IsFirst-step space.edges target marks v free plain (Some k.0) (rw leads k.1),
                   k.2
                       ∙ sym (rw wrote at (found-cons v slots some.2.path)),
                   short,
                 )
             | inr k ↦
-                let none = IsFirst-step edges target marks v free plain None (rw leads k.0) in
+                let none = IsFirst-step space.edges target marks v free plain None (rw leads k.0) in
                 inr (none, Answer-mark left otherwise marks v none rest slots g (back k.1))
           ]
 
       -- a pair that writes nothing
-      pub Answer-plain : capture v ≡ None
-          → ExploresTo edges target capture left otherwise (v ∷ marks) (map Explore es ++ rest) slots g
-          → ExploresTo edges target capture (suc left) otherwise marks (Explore v ∷ rest) slots g
+      pub Answer-plain : space.capture v ≡ None
+          → ExploresTo space target left otherwise (v ∷ marks) (map Explore es ++ rest) slots g
+          → ExploresTo space target (suc left) otherwise marks (Explore v ∷ rest) slots g
       Answer-plain e = Answer-step rest slots (rw e refl) (λ a. a)
 
       -- a pair that writes to a slot, which is restored below its edges
-      pub Answer-write : (k : ℕ) → capture v ≡ Some k
-          → ExploresTo edges target capture left otherwise (v ∷ marks)
+      pub Answer-write : (k : ℕ) → space.capture v ≡ Some k
+          → ExploresTo space target left otherwise (v ∷ marks)
           (map Explore es ++ Restore k (get_or slots k None) ∷ rest) (set slots k (Some v.1)) g
-          → ExploresTo edges target capture (suc left) otherwise marks (Explore v ∷ rest) slots g
+          → ExploresTo space target (suc left) otherwise marks (Explore v ∷ rest) slots g
       unfolding ExploresTo
       Answer-write k e =
           Answer-step (Restore k (get_or slots k None) ∷ rest) (set slots k (Some v.1)) (rw e refl)
           (λ a. rw (set-set, set-get_or) at a)
 
       -- a pair that writes to a slot that is not kept
-      pub Answer-unkept : (k : ℕ) → capture v ≡ Some k → length slots ≤ k
-          → ExploresTo edges target capture left otherwise (v ∷ marks) (map Explore es ++ rest) slots g
-          → ExploresTo edges target capture (suc left) otherwise marks (Explore v ∷ rest) slots g
+      pub Answer-unkept : (k : ℕ) → space.capture v ≡ Some k → length slots ≤ k
+          → ExploresTo space target left otherwise (v ∷ marks) (map Explore es ++ rest) slots g
+          → ExploresTo space target (suc left) otherwise marks (Explore v ∷ rest) slots g
       Answer-unkept k e past = Answer-step rest slots (rw e (set_past slots k _ past)) (λ a. a)
 
     -- a pair with no edge is dropped, whatever it writes
-    pub Answer-end : ¬ (In v marks) → target v ≡ false → edges v ≡ []
-        → ExploresTo edges target capture left otherwise (v ∷ marks) rest slots g
-        → ExploresTo edges target capture (suc left) otherwise marks (Explore v ∷ rest) slots g
+    pub Answer-end : ¬ (In v marks) → target v ≡ false → space.edges v ≡ []
+        → ExploresTo space target left otherwise (v ∷ marks) rest slots g
+        → ExploresTo space target (suc left) otherwise marks (Explore v ∷ rest) slots g
     unfolding ExploresTo
     Answer-end free plain leads h =
-        let none = IsFirst-dead edges target marks v plain leads in
+        let none = IsFirst-dead space.edges target marks v plain leads in
         inr (none, Answer-mark left otherwise marks v none rest slots g h)
 
   -- there is one answer, however many turns are left
   pub Answer-unique : (left more : ℕ) (otherwise : Hit) (marks : List Pair) (work : List Item)
-      (slots : Slots) (g h : Hit)
-      → ExploresTo edges target capture left otherwise marks work slots g
-      → ExploresTo edges target capture more otherwise marks work slots h → g ≡ h
+      (slots : Slots) (g h : Hit) → ExploresTo space target left otherwise marks work slots g
+      → ExploresTo space target more otherwise marks work slots h → g ≡ h
   unfolding ExploresTo
   Answer-unique left more otherwise marks [] slots g h a b = a ∙ sym b
   Answer-unique left more otherwise marks (Restore k old ∷ rest) slots g h a b =
@@ -198,7 +193,7 @@ module _ (edges : Pair → List Pair) (target : Pair → Bool) (capture : Pair �
   Answer-unique left more otherwise marks (Load old ∷ rest) slots g h a b =
       Answer-unique left more otherwise marks rest old g h a b
   Answer-unique left more otherwise marks (Explore v ∷ rest) slots g h (inl a) (inl b) =
-      let e : a.0 ≡ b.0 = let s = IsFirst-unique edges target marks v (Some a.0) (Some b.0) a.1 b.1 in cc in
+      let e : a.0 ≡ b.0 = let s = IsFirst-unique space.edges target marks v (Some a.0) (Some b.0) a.1 b.1 in cc in
       a.2 ∙ rw e (sym b.2)
   Answer-unique left more otherwise marks (Explore v ∷ rest) slots g h (inl a) (inr b) = absurd (b.0 a.0 a.1.0)
   Answer-unique left more otherwise marks (Explore v ∷ rest) slots g h (inr a) (inl b) = absurd (a.0 b.0 b.1.0)
@@ -206,35 +201,38 @@ module _ (edges : Pair → List Pair) (target : Pair → Bool) (capture : Pair �
       Answer-unique left more otherwise marks rest slots g h a.1 b.1
 
   -- a path finds something
-  pub found-Some : {v : Pair} {p : List Pair} (slots : Slots) → Path edges target v p → None ≡ found capture p slots → ⊥
+  pub found-Some : {v : Pair} {p : List Pair} (slots : Slots) → Path space.edges target v p
+      → None ≡ found space.capture p slots → ⊥
   found-Some slots (stop t) e = cc
-  found-Some slots (go {v = v} {p = p} t i n h) e = last_or-Some (λ (x : Pair). (x, apply capture (v ∷ p) slots)) v p e
+  found-Some slots (go {v = v} {p = p} t i n h) e =
+      last_or-Some (λ (x : Pair). (x, apply space.capture (v ∷ p) slots)) v p e
 
   -- what the answer says where one pair is all the work
   pub Answer-first : (left : ℕ) (marks : List Pair) (v : Pair) (slots : Slots) (g : Hit)
-      → ExploresTo edges target capture left None marks (Explore v ∷ []) slots g
-      → ((p : List Pair) × IsFirst edges target marks v (Some p) × (g ≡ found capture p slots) × (length p ≤ left))
-      ⊎ (IsFirst edges target marks v None × (g ≡ None))
+      → ExploresTo space target left None marks (Explore v ∷ []) slots g
+      → ((p : List Pair) × IsFirst space.edges target marks v (Some p) × (g ≡ found space.capture p slots)
+      × (length p ≤ left))
+      ⊎ (IsFirst space.edges target marks v None × (g ≡ None))
   unfolding ExploresTo
   Answer-first left marks v slots g h = h
 
   -- several starts, one after another, with the marks kept
   pub Answer-starts : (left : ℕ) (starts : List Pair) (slots : Slots) (g : Hit)
-      → ExploresTo edges target capture left None [] (map Explore starts) slots g
-      → ((p : List Pair) × IsFirstOfAll edges target [] starts (Some p) × (g ≡ found capture p slots)
+      → ExploresTo space target left None [] (map Explore starts) slots g
+      → ((p : List Pair) × IsFirstOfAll space.edges target [] starts (Some p) × (g ≡ found space.capture p slots)
       × (length p ≤ left))
-      ⊎ (IsFirstOfAll edges target [] starts None × (g ≡ None))
+      ⊎ (IsFirstOfAll space.edges target [] starts None × (g ≡ None))
   unfolding ExploresTo
   Answer-starts left starts slots g h =
       elim (Answer-among left None [] starts [] slots g (rw append-nil h)) [
-        | inl k ↦ inl (k.0, IsFirstOfAll-from_among edges target [] starts (Some k.0) k.1, k.2, k.3)
-        | inr k ↦ inr (IsFirstOfAll-from_among edges target [] starts None k.0, k.1)
+        | inl k ↦ inl (k.0, IsFirstOfAll-from_among space.edges target [] starts (Some k.0) k.1, k.2, k.3)
+        | inr k ↦ inr (IsFirstOfAll-from_among space.edges target [] starts None k.0, k.1)
       ]
 
   -- the starts with their slots loaded anew are the starts
   pub Answer-seeds : (left : ℕ) (otherwise : Hit) (marks starts : List Pair) (slots : Slots) (g : Hit)
-      → ExploresTo edges target capture left otherwise marks (seeds slots starts) slots g
-      → ExploresTo edges target capture left otherwise marks (map Explore starts) slots g
+      → ExploresTo space target left otherwise marks (seeds slots starts) slots g
+      → ExploresTo space target left otherwise marks (map Explore starts) slots g
   unfolding ExploresTo seeds
   Answer-seeds left otherwise marks [] slots g h = h
   Answer-seeds left otherwise marks (s ∷ starts) slots g (inl h) = inl h
@@ -244,9 +242,9 @@ module _ (edges : Pair → List Pair) (target : Pair → Bool) (capture : Pair �
   -- behind what was put aside, each step goes on as before
   pub AnswerBehind-along : (front : List (Pair × Slots)) (left more : ℕ) → left ≤ more
       → (o u : Hit) (m n : List Pair) (work later : List Item) (slots after : Slots) (g : Hit)
-      → (ExploresTo edges target capture left o m work slots g → ExploresTo edges target capture more u n later after g)
-      → ExploresBehind edges target capture left front o m work slots g
-      → ExploresBehind edges target capture more front u n later after g
+      → (ExploresTo space target left o m work slots g → ExploresTo space target more u n later after g)
+      → ExploresBehind space target left front o m work slots g
+      → ExploresBehind space target more front u n later after g
   unfolding ExploresBehind
   AnswerBehind-along [] left more le o u m n work later slots after g f h = f h
   AnswerBehind-along (a ∷ front) left more le o u m n work later slots after g f (inl h) =
@@ -258,25 +256,25 @@ module _ (edges : Pair → List Pair) (target : Pair → Bool) (capture : Pair �
   pub AnswerBehind-target : (left : ℕ) (front : List (Pair × Slots)) (otherwise : Hit) (marks : List Pair) (v : Pair)
       (rest : List Item) (slots : Slots) (g : Hit)
       → ¬ (In v marks) → target v ≡ true
-      → ExploresBehind edges target capture left front (Some (v, write (capture v) v.1 slots)) marks [] slots g
-      → ExploresBehind edges target capture (suc left) front otherwise marks (Explore v ∷ rest) slots g
+      → ExploresBehind space target left front (Some (v, write (space.capture v) v.1 slots)) marks [] slots g
+      → ExploresBehind space target (suc left) front otherwise marks (Explore v ∷ rest) slots g
   unfolding ExploresTo
   AnswerBehind-target left front otherwise marks v rest slots g free t =
       AnswerBehind-along front left (suc left) (omega arith) _ otherwise marks marks [] (Explore v ∷ rest) slots slots g
       (Answer-target left otherwise marks v rest slots g free t)
 
-  module _ (ahead : Pair → Type 0) (closed : (x y : Pair) → ahead x → In y (edges x) → ahead y) where
+  module _ (ahead : Pair → Type 0) (closed : (x y : Pair) → ahead x → In y (space.edges x) → ahead y) where
     -- a resting pair is put aside: its edges lead to pairs ahead of all that is marked
     pub AnswerBehind-keep : (left : ℕ) (front : List (Pair × Slots)) (otherwise : Hit) (marks : List Pair) (v : Pair)
         (rest : List Item) (slots : Slots) (g : Hit)
-        → ¬ (In v marks) → ((w : Pair) → In w (edges v) → ahead w) → ((x : Pair) → In x marks → ahead x → ⊥)
-        → ExploresBehind edges target capture left (front ++ (v, slots) ∷ []) otherwise (v ∷ marks) rest slots g
-        → ExploresBehind edges target capture (suc left) front otherwise marks (Explore v ∷ rest) slots g
+        → ¬ (In v marks) → ((w : Pair) → In w (space.edges v) → ahead w) → ((x : Pair) → In x marks → ahead x → ⊥)
+        → ExploresBehind space target left (front ++ (v, slots) ∷ []) otherwise (v ∷ marks) rest slots g
+        → ExploresBehind space target (suc left) front otherwise marks (Explore v ∷ rest) slots g
     unfolding ExploresTo ExploresBehind
     AnswerBehind-keep left [] otherwise marks v rest slots g free leaves past (inl h) =
-        inl (h.0, (IsFirst-resting edges target ahead closed marks v free leaves past (Some h.0)).0 h.1, h.2, h.3)
+        inl (h.0, (IsFirst-resting space.edges target ahead closed marks v free leaves past (Some h.0)).0 h.1, h.2, h.3)
     AnswerBehind-keep left [] otherwise marks v rest slots g free leaves past (inr h) =
-        let none = (IsFirst-resting edges target ahead closed marks v free leaves past None).0 h.0 in
+        let none = (IsFirst-resting space.edges target ahead closed marks v free leaves past None).0 h.0 in
         inr (none, Answer-mark left otherwise marks v none rest slots g h.1)
     AnswerBehind-keep left (a ∷ front) otherwise marks v rest slots g free leaves past (inl h) =
         let short : length h.0 ≤ suc (suc left) = omega (arith, h.3) in inl (h.0, h.1, h.2, short)
@@ -286,21 +284,21 @@ module _ (edges : Pair → List Pair) (target : Pair → Bool) (capture : Pair �
     -- marks that are not ahead do not matter to work that is
     pub Answer-ahead : (left : ℕ) (otherwise : Hit) (marks : List Pair) (work : List Item) (slots : Slots) (g : Hit)
         → ((k : Pair) → In (Explore k) work → ahead k) → ((x : Pair) → In x marks → ahead x → ⊥)
-        → ExploresTo edges target capture left otherwise [] work slots g
-        → ExploresTo edges target capture left otherwise marks work slots g
+        → ExploresTo space target left otherwise [] work slots g
+        → ExploresTo space target left otherwise marks work slots g
     Answer-ahead left otherwise marks work slots g comes past =
         Answer-along left left (omega arith) otherwise [] marks work slots g
-        (λ k i. IsFirst-ahead edges target ahead closed [] marks (λ x b m. absurd m)
+        (λ k i. IsFirst-ahead space.edges target ahead closed [] marks (λ x b m. absurd m)
         (λ x b m. past x m b) k (comes k i))
 
     -- a pair that is not ahead, marked, does not matter to pairs that are
     FirstAmong-ahead : (v : Pair) → (ahead v → ⊥) → (es : List Pair) → ((w : Pair) → In w es → ahead w)
-        → (r : Option (List Pair))
-        → FirstAmong edges target [] es r → FirstAmong edges target (v ∷ []) es r
+        → (r : Option (List Pair)) → FirstAmong space.edges target [] es r → FirstAmong space.edges target (v ∷ []) es r
     FirstAmong-ahead v behind [] leaves r h = h
     FirstAmong-ahead v behind (e ∷ es) leaves r h =
-        let moved : (s : Option (List Pair)) → IsFirst edges target [] e s → IsFirst edges target (v ∷ []) e s =
-        IsFirst-ahead edges target ahead closed [] (v ∷ []) (λ x b m. absurd m)
+        let moved : (s : Option (List Pair)) → IsFirst space.edges target [] e s
+        → IsFirst space.edges target (v ∷ []) e s =
+        IsFirst-ahead space.edges target ahead closed [] (v ∷ []) (λ x b m. absurd m)
         (λ x b m. elim m [ inl here ↦ absurd (behind (rw here at b)) | inr never ↦ never ]) e (leaves e (inl refl)) in
         elim h [
           | inl k ↦ inl (k.0, moved (Some k.0) k.1, k.2)
@@ -310,22 +308,23 @@ module _ (edges : Pair → List Pair) (target : Pair → Bool) (capture : Pair �
     -- the next position: what was put aside is taken up in turn, with no marks
     pub AnswerBehind-round : (left : ℕ) (front : List (Pair × Slots)) (otherwise : Hit) (marks : List Pair)
         (waiting : List Item) (slots old after : Slots) (g : Hit)
-        → ((a : Pair × Slots) → In a front → (target a.0 ≡ false) × (capture a.0 ≡ None) × (ahead a.0 → ⊥)
-        × ((w : Pair) → In w (edges a.0) → ahead w))
+        → ((a : Pair × Slots) → In a front → (target a.0 ≡ false) × (space.capture a.0 ≡ None) × (ahead a.0 → ⊥)
+        × ((w : Pair) → In w (space.edges a.0) → ahead w))
         → ((k : Pair) → In (Explore k) waiting → ahead k) → ((x : Pair) → In x marks → ahead x → ⊥)
-        → ExploresTo edges target capture left otherwise [] (round edges front (Load old ∷ waiting)) after g
-        → ExploresBehind edges target capture left front otherwise marks (Load old ∷ waiting) slots g
+        → ExploresTo space target left otherwise [] (round space.edges front (Load old ∷ waiting)) after g
+        → ExploresBehind space target left front otherwise marks (Load old ∷ waiting) slots g
     unfolding ExploresTo ExploresBehind round
     AnswerBehind-round left [] otherwise marks waiting slots old after g rests comes past h =
         Answer-ahead left otherwise marks waiting old g comes past h
     AnswerBehind-round left (a ∷ front) otherwise marks waiting slots old after g rests comes past h =
         let at = rests a (inl refl) in
-        let first : (r : Option (List Pair)) → FirstAmong edges target [] (edges a.0) r
-        → IsFirst edges target [] a.0 (option_map (λ p. a.0 ∷ p) r) =
-        λ r f. IsFirst-step edges target [] a.0 (λ m. m) at.0 r (FirstAmong-ahead a.0 at.2 (edges a.0) at.3 r f) in
-        elim (Answer-among left otherwise [] (edges a.0) (round edges front (Load old ∷ waiting)) a.1 g h) [
+        let first : (r : Option (List Pair)) → FirstAmong space.edges target [] (space.edges a.0) r
+        → IsFirst space.edges target [] a.0 (option_map (λ p. a.0 ∷ p) r) =
+        λ r f. IsFirst-step space.edges target [] a.0 (λ m. m) at.0 r
+        (FirstAmong-ahead a.0 at.2 (space.edges a.0) at.3 r f) in
+        elim (Answer-among left otherwise [] (space.edges a.0) (round space.edges front (Load old ∷ waiting)) a.1 g h) [
           | inl k ↦
-              let some = IsFirstOfAll-from_among edges target [] (edges a.0) (Some k.0) k.1 in
+              let some = IsFirstOfAll-from_among space.edges target [] (space.edges a.0) (Some k.0) k.1 in
               let short : length (a.0 ∷ k.0) ≤ suc left = omega (arith, k.3) in
               inl (a.0 ∷ k.0, first (Some k.0) k.1, k.2 ∙ sym (rw at.1 at (found-cons a.0 a.1 some.2.path)), short)
           | inr k ↦

@@ -1,42 +1,41 @@
 -- The steps of the search, forwards, as a loop takes them.
 use Rattle.std.proofs.Common.{◌≡◌, ℕ, suc, ◌+◌, ◌≤◌, arith, ◌⊎◌, ◌↔◌, inl, inr, Bool, true, false, List, [], ◌∷◌, ◌++◌, map, length, get_or, set, refl}
 use Rattle.std.specs.Prelude.{Option, None, Some}
-use Rattle.nfa_paths.specs.Graphs.{Pair, In}
+use Rattle.nfa_paths.specs.Graphs.{Pair, Space, In}
 use Rattle.nfa_paths.specs.Exploring.{Slots, Hit, Item, write, ExploresTo, ExploresBehind, round, seeds, Searching}
 use Rattle.nfa_paths.specs.Exploring.Item.{Explore, Restore, Load}
 use Rattle.nfa_paths.proofs.SearchLemmas.{Answer-more, Answer-seeds, Answer-restore, Answer-load, Answer-marked, Answer-target, Answer-plain, Answer-write, Answer-unkept, Answer-end, AnswerBehind-along, AnswerBehind-keep, AnswerBehind-round}
 
-module _ (edges : Pair → List Pair) (target : Pair → Bool) (capture : Pair → Option ℕ) where
+module _ (space : Space) (target : Pair → Bool) where
   -- nothing is seen yet
   pub Searching-start : (Seen : Pair → Type 0) (otherwise : Hit) (work : List Item) (slots : Slots)
       → ((x : Pair) → Seen x → ⊥)
-      → Searching edges target capture (λ g total. ExploresTo edges target capture total otherwise [] work slots g) Seen 0
+      → Searching space target (λ g total. ExploresTo space target total otherwise [] work slots g) Seen 0
       [] otherwise work slots
   unfolding ExploresBehind
   Searching-start Seen otherwise work slots fresh = record {
     marks = [];
     agrees = λ x. (λ i. absurd i, λ s. absurd (fresh x s));
-    leads = λ g left total e. Answer-more edges target capture left total (omega arith) otherwise [] work slots g;
+    leads = λ g left total e. Answer-more space target left total (omega arith) otherwise [] work slots g;
   }
 
   -- nothing is seen yet, and each start has its slots loaded
   pub Searching-seeds : (Seen : Pair → Type 0) (otherwise : Hit) (starts : List Pair) (slots current : Slots)
       → ((x : Pair) → Seen x → ⊥)
-      → Searching edges target capture (λ g total. ExploresTo edges target capture total otherwise [] (map Explore starts)
+      → Searching space target (λ g total. ExploresTo space target total otherwise [] (map Explore starts)
       slots g) Seen 0 [] otherwise (Load slots ∷ seeds slots starts) current
   unfolding ExploresTo ExploresBehind
   Searching-seeds Seen otherwise starts slots current fresh = record {
     marks = [];
     agrees = λ x. (λ i. absurd i, λ s. absurd (fresh x s));
     leads = λ g left total e h.
-        Answer-more edges target capture left total (omega arith) otherwise [] (map Explore starts) slots g
-        (Answer-seeds edges target capture left otherwise [] starts slots g h);
+        Answer-more space target left total (omega arith) otherwise [] (map Explore starts) slots g
+        (Answer-seeds space target left otherwise [] starts slots g h);
   }
 
   -- nothing is left to do, and nothing was put aside
   pub Searching-done : {goal : Hit → ℕ → Type 0} {Seen : Pair → Type 0} {spent : ℕ} {otherwise : Hit}
-      {slots : Slots}
-      → Searching edges target capture goal Seen spent [] otherwise [] slots → goal otherwise spent
+      {slots : Slots} → Searching space target goal Seen spent [] otherwise [] slots → goal otherwise spent
   unfolding ExploresTo ExploresBehind
   Searching-done {spent = spent} s = s.leads _ 0 spent (omega arith) refl
 
@@ -45,55 +44,53 @@ module _ (edges : Pair → List Pair) (target : Pair → Bool) (capture : Pair �
     module _ {rest : List Item} {slots : Slots} where
       -- a slot is restored
       pub Searching-restore : {k : ℕ} {old : Option ℕ}
-          → Searching edges target capture goal Seen spent front otherwise (Restore k old ∷ rest) slots
-          → Searching edges target capture goal Seen spent front otherwise rest (set slots k old)
+          → Searching space target goal Seen spent front otherwise (Restore k old ∷ rest) slots
+          → Searching space target goal Seen spent front otherwise rest (set slots k old)
       Searching-restore {k} {old} s = record {
         marks = s.marks;
         agrees = s.agrees;
         leads = λ g left total e h.
             s.leads g left total e
-            (AnswerBehind-along edges target capture front left left (omega arith) otherwise otherwise s.marks s.marks
+            (AnswerBehind-along space target front left left (omega arith) otherwise otherwise s.marks s.marks
             rest (Restore k old ∷ rest) (set slots k old) slots g
-            (Answer-restore edges target capture left otherwise s.marks k old rest slots g).0 h);
+            (Answer-restore space target left otherwise s.marks k old rest slots g).0 h);
       }
 
       -- slots are loaded
-      pub Searching-load : {old : Slots} → Searching edges target capture goal Seen spent front otherwise
+      pub Searching-load : {old : Slots} → Searching space target goal Seen spent front otherwise
           (Load old ∷ rest) slots
-          → Searching edges target capture goal Seen spent front otherwise rest old
+          → Searching space target goal Seen spent front otherwise rest old
       Searching-load {old} s = record {
         marks = s.marks;
         agrees = s.agrees;
         leads = λ g left total e h.
             s.leads g left total e
-            (AnswerBehind-along edges target capture front left left (omega arith) otherwise otherwise s.marks s.marks
-            rest (Load old ∷ rest) old slots g
-            (Answer-load edges target capture left otherwise s.marks old rest slots g).0 h);
+            (AnswerBehind-along space target front left left (omega arith) otherwise otherwise s.marks s.marks
+            rest (Load old ∷ rest) old slots g (Answer-load space target left otherwise s.marks old rest slots g).0 h);
       }
 
   module _ {goal : Hit → ℕ → Type 0} {Seen : Pair → Type 0} {spent : ℕ} {front : List (Pair × Slots)}
       {otherwise : Hit} {v : Pair} {rest : List Item} {slots : Slots}
-      (s : Searching edges target capture goal Seen spent front otherwise (Explore v ∷ rest) slots) where
+      (s : Searching space target goal Seen spent front otherwise (Explore v ∷ rest) slots) where
     -- a turn that finds its pair marked
-    pub Searching-marked : Seen v → Searching edges target capture goal Seen (spent + 1) front otherwise rest slots
+    pub Searching-marked : Seen v → Searching space target goal Seen (spent + 1) front otherwise rest slots
     Searching-marked seen = record {
       marks = s.marks;
       agrees = s.agrees;
       leads = λ g left total e h.
           s.leads g (suc left) total (omega arith)
-          (AnswerBehind-along edges target capture front left (suc left) (omega arith) otherwise otherwise s.marks
+          (AnswerBehind-along space target front left (suc left) (omega arith) otherwise otherwise s.marks
           s.marks rest (Explore v ∷ rest) slots slots g
-          (Answer-marked edges target capture left otherwise s.marks v rest slots g ((s.agrees v).1 seen)) h);
+          (Answer-marked space target left otherwise s.marks v rest slots g ((s.agrees v).1 seen)) h);
     }
 
     -- with nothing put aside
     pub Searching-found : ¬ (Seen v) → target v ≡ true → front ≡ []
-        → goal (Some (v, write (capture v) v.1 slots)) (spent + 1)
+        → goal (Some (v, write (space.capture v) v.1 slots)) (spent + 1)
     unfolding ExploresBehind
     Searching-found fresh t e =
         s.leads _ 1 (spent + 1) refl
-        (rw e (Answer-target edges target capture 0 otherwise s.marks v rest slots _
-        (λ i. fresh ((s.agrees v).0 i)) t refl))
+        (rw e (Answer-target space target 0 otherwise s.marks v rest slots _ (λ i. fresh ((s.agrees v).0 i)) t refl))
 
     module _ {After : Pair → Type 0} (fresh : ¬ (Seen v)) (adds : (x : Pair) → After x ↔ ((x ≡ v) ⊎ Seen x)) where
       -- the pair is unmarked
@@ -109,89 +106,90 @@ module _ (edges : Pair → List Pair) (target : Pair → Bool) (capture : Pair �
 
       -- v is marked and gives way to `next`
       Searching-next : (next : List Item) (after : Slots)
-          → ((left : ℕ) (g : Hit) → ExploresTo edges target capture left otherwise (v ∷ s.marks) next after g
-          → ExploresTo edges target capture (suc left) otherwise s.marks (Explore v ∷ rest) slots g)
-          → Searching edges target capture goal After (spent + 1) front otherwise next after
+          → ((left : ℕ) (g : Hit) → ExploresTo space target left otherwise (v ∷ s.marks) next after g
+          → ExploresTo space target (suc left) otherwise s.marks (Explore v ∷ rest) slots g)
+          → Searching space target goal After (spent + 1) front otherwise next after
       Searching-next next after back = record {
         marks = v ∷ s.marks;
         agrees = grows;
         leads = λ g left total e h.
             s.leads g (suc left) total (omega arith)
-            (AnswerBehind-along edges target capture front left (suc left) (omega arith) otherwise otherwise
+            (AnswerBehind-along space target front left (suc left) (omega arith) otherwise otherwise
             (v ∷ s.marks) s.marks next (Explore v ∷ rest) after slots g
             (back left g) h);
       }
 
       -- a pair that writes nothing gives way to its edges
-      pub Searching-plain : target v ≡ false → (es : List Pair) → edges v ≡ es → capture v ≡ None
-          → Searching edges target capture goal After (spent + 1) front otherwise (map Explore es ++ rest) slots
+      pub Searching-plain : target v ≡ false → (es : List Pair) → space.edges v ≡ es → space.capture v ≡ None
+          → Searching space target goal After (spent + 1) front otherwise (map Explore es ++ rest) slots
       Searching-plain plain es leads e =
           Searching-next (map Explore es ++ rest) slots
-          (λ left g. Answer-plain edges target capture left otherwise s.marks v rest slots g free plain es leads e)
+          (λ left g. Answer-plain space target left otherwise s.marks v rest slots g free plain es leads e)
 
       -- a pair that writes to a slot, which is restored below its edges
-      pub Searching-write : target v ≡ false → (es : List Pair) → edges v ≡ es → (k : ℕ) → capture v ≡ Some k
-          → Searching edges target capture goal After (spent + 1) front otherwise
+      pub Searching-write : target v ≡ false → (es : List Pair) → space.edges v ≡ es → (k : ℕ)
+          → space.capture v ≡ Some k
+          → Searching space target goal After (spent + 1) front otherwise
           (map Explore es ++ Restore k (get_or slots k None) ∷ rest) (set slots k (Some v.1))
       Searching-write plain es leads k e =
           Searching-next (map Explore es ++ Restore k (get_or slots k None) ∷ rest) (set slots k (Some v.1))
-          (λ left g. Answer-write edges target capture left otherwise s.marks v rest slots g free plain es leads k e)
+          (λ left g. Answer-write space target left otherwise s.marks v rest slots g free plain es leads k e)
 
       -- a pair that writes to a slot that is not kept
-      pub Searching-unkept : target v ≡ false → (es : List Pair) → edges v ≡ es → (k : ℕ) → capture v ≡ Some k
-          → length slots ≤ k
-          → Searching edges target capture goal After (spent + 1) front otherwise (map Explore es ++ rest) slots
+      pub Searching-unkept : target v ≡ false → (es : List Pair) → space.edges v ≡ es → (k : ℕ)
+          → space.capture v ≡ Some k → length slots ≤ k
+          → Searching space target goal After (spent + 1) front otherwise (map Explore es ++ rest) slots
       Searching-unkept plain es leads k e past =
           Searching-next (map Explore es ++ rest) slots
-          (λ left g. Answer-unkept edges target capture left otherwise s.marks v rest slots g free plain es
+          (λ left g. Answer-unkept space target left otherwise s.marks v rest slots g free plain es
           leads k e past)
 
       -- a pair with no edge is dropped
-      pub Searching-end : target v ≡ false → edges v ≡ []
-          → Searching edges target capture goal After (spent + 1) front otherwise rest slots
+      pub Searching-end : target v ≡ false → space.edges v ≡ []
+          → Searching space target goal After (spent + 1) front otherwise rest slots
       Searching-end plain leads =
-          Searching-next rest slots (λ left g. Answer-end edges target capture left otherwise s.marks v rest slots g
+          Searching-next rest slots (λ left g. Answer-end space target left otherwise s.marks v rest slots g
           free plain leads)
 
       -- a target, where pairs were put aside
       pub Searching-target : target v ≡ true
-          → Searching edges target capture goal After (spent + 1) front (Some (v, write (capture v) v.1 slots)) [] slots
+          → Searching space target goal After (spent + 1) front (Some (v, write (space.capture v) v.1 slots)) [] slots
       unfolding ExploresTo
       Searching-target t = record {
         marks = v ∷ s.marks;
         agrees = grows;
         leads = λ g left total e h.
             s.leads g (suc left) total (omega arith)
-            (AnswerBehind-along edges target capture front left (suc left) (omega arith)
-            (Some (v, write (capture v) v.1 slots)) otherwise (v ∷ s.marks) s.marks []
+            (AnswerBehind-along space target front left (suc left) (omega arith)
+            (Some (v, write (space.capture v) v.1 slots)) otherwise (v ∷ s.marks) s.marks []
             (Explore v ∷ rest) slots slots g
-            (Answer-target edges target capture left otherwise s.marks v rest slots g free t) h);
+            (Answer-target space target left otherwise s.marks v rest slots g free t) h);
       }
 
       -- a pair whose edges lead ahead of all that is seen is put aside
-      pub Searching-keep : (ahead : Pair → Type 0) → ((x y : Pair) → ahead x → In y (edges x) → ahead y)
-          → ((w : Pair) → In w (edges v) → ahead w) → ((x : Pair) → Seen x → ahead x → ⊥)
-          → Searching edges target capture goal After (spent + 1) (front ++ (v, slots) ∷ []) otherwise rest slots
+      pub Searching-keep : (ahead : Pair → Type 0) → ((x y : Pair) → ahead x → In y (space.edges x) → ahead y)
+          → ((w : Pair) → In w (space.edges v) → ahead w) → ((x : Pair) → Seen x → ahead x → ⊥)
+          → Searching space target goal After (spent + 1) (front ++ (v, slots) ∷ []) otherwise rest slots
       Searching-keep ahead closed leaves past = record {
         marks = v ∷ s.marks;
         agrees = grows;
         leads = λ g left total e h.
             s.leads g (suc left) total (omega arith)
-            (AnswerBehind-keep edges target capture ahead closed left front otherwise s.marks v rest slots g free leaves
+            (AnswerBehind-keep space target ahead closed left front otherwise s.marks v rest slots g free leaves
             (λ x i. past x ((s.agrees x).0 i)) h);
       }
 
   -- the next position
   pub Searching-round : {goal : Hit → ℕ → Type 0} {Seen After : Pair → Type 0} {spent : ℕ}
       {front : List (Pair × Slots)} {otherwise : Hit} {waiting : List Item} {slots old : Slots}
-      → Searching edges target capture goal Seen spent front otherwise (Load old ∷ waiting) slots
-      → (ahead : Pair → Type 0) → ((x y : Pair) → ahead x → In y (edges x) → ahead y)
-      → ((a : Pair × Slots) → In a front → (target a.0 ≡ false) × (capture a.0 ≡ None) × (ahead a.0 → ⊥)
-      × ((w : Pair) → In w (edges a.0) → ahead w))
+      → Searching space target goal Seen spent front otherwise (Load old ∷ waiting) slots
+      → (ahead : Pair → Type 0) → ((x y : Pair) → ahead x → In y (space.edges x) → ahead y)
+      → ((a : Pair × Slots) → In a front → (target a.0 ≡ false) × (space.capture a.0 ≡ None) × (ahead a.0 → ⊥)
+      × ((w : Pair) → In w (space.edges a.0) → ahead w))
       → ((k : Pair) → In (Explore k) waiting → ahead k) → ((x : Pair) → Seen x → ahead x → ⊥)
       → ((x : Pair) → After x → ⊥)
-      → (after : Slots) → Searching edges target capture goal After spent [] otherwise
-      (round edges front (Load old ∷ waiting)) after
+      → (after : Slots) → Searching space target goal After spent [] otherwise
+      (round space.edges front (Load old ∷ waiting)) after
   unfolding ExploresBehind
   Searching-round {front = front} {otherwise} {waiting} {slots} {old} s ahead closed rests comes past fresh after =
       record {
@@ -199,7 +197,7 @@ module _ (edges : Pair → List Pair) (target : Pair → Bool) (capture : Pair �
         agrees = λ x. (λ i. absurd i, λ a. absurd (fresh x a));
         leads = λ g left total e h.
             s.leads g left total e
-            (AnswerBehind-round edges target capture ahead closed left front otherwise s.marks waiting slots old
+            (AnswerBehind-round space target ahead closed left front otherwise s.marks waiting slots old
             after g rests comes
             (λ x i. past x ((s.agrees x).0 i)) h);
       }

@@ -2,7 +2,7 @@
 use Rattle.std.specs.Prelude.{◌≡◌, ℕ, suc, ◌+◌, ◌≤◌, ◌⊎◌, ◌↔◌, Bool, List, [], ◌∷◌, Option, None, Some, slice_set, map, ◌++◌, length}
 use Rattle.std.specs.List.{last_or}
 use Rattle.std.specs.Option.{option_map}
-use Rattle.nfa_paths.specs.Graphs.{Pair, In}
+use Rattle.nfa_paths.specs.Graphs.{Pair, In, Space}
 use Rattle.nfa_paths.specs.FirstPaths.{IsFirst}
 
 -- slots, each with a position or none
@@ -44,14 +44,15 @@ unfoldable pub seeds : Slots → List Pair → List Item
 seeds slots [] = []
 seeds slots (s ∷ starts) = Explore s ∷ Load slots ∷ seeds slots starts
 
-module _ (edges : Pair → List Pair) (target : Pair → Bool) (capture : Pair → Option ℕ) where
+module _ (space : Space) (target : Pair → Bool) where
   -- The first explored pair from which a path is left has the answer. If there is none, it is `otherwise`.
   -- A turn tries to mark one pair, and `left` turns are left: as many as the pairs of the answer's path, or more.
   unfoldable pub ExploresTo : ℕ → Hit → List Pair → List Item → Slots → Hit → Type 0
   ExploresTo left otherwise marks [] slots g = g ≡ otherwise
   ExploresTo left otherwise marks (Explore v ∷ rest) slots g =
-      ((p : List Pair) × IsFirst edges target marks v (Some p) × (g ≡ found capture p slots) × (length p ≤ left))
-      ⊎ (IsFirst edges target marks v None × ExploresTo left otherwise marks rest slots g)
+      ((p : List Pair) × IsFirst space.edges target marks v (Some p) × (g ≡ found space.capture p slots)
+      × (length p ≤ left))
+      ⊎ (IsFirst space.edges target marks v None × ExploresTo left otherwise marks rest slots g)
   ExploresTo left otherwise marks (Restore k old ∷ rest) slots g =
       ExploresTo left otherwise marks rest (slice_set slots k old) g
   ExploresTo left otherwise marks (Load old ∷ rest) slots g = ExploresTo left otherwise marks rest old g
@@ -60,8 +61,9 @@ module _ (edges : Pair → List Pair) (target : Pair → Bool) (capture : Pair �
   unfoldable pub ExploresBehind : ℕ → List (Pair × Slots) → Hit → List Pair → List Item → Slots → Hit → Type 0
   ExploresBehind left [] otherwise marks work slots g = ExploresTo left otherwise marks work slots g
   ExploresBehind left (a ∷ front) otherwise marks work slots g =
-      ((p : List Pair) × IsFirst edges target [] a.0 (Some p) × (g ≡ found capture p a.1) × (length p ≤ suc left))
-      ⊎ (IsFirst edges target [] a.0 None × ExploresBehind left front otherwise marks work slots g)
+      ((p : List Pair) × IsFirst space.edges target [] a.0 (Some p) × (g ≡ found space.capture p a.1)
+      × (length p ≤ suc left))
+      ⊎ (IsFirst space.edges target [] a.0 None × ExploresBehind left front otherwise marks work slots g)
 
   -- A search under way, in the form that a loop keeps: some list holds just the pairs that are `Seen`, and whatever is
   -- the answer from here on meets `goal`, with the number of turns when the search ends. `spent` turns were taken.

@@ -42,6 +42,12 @@ pub record WantedAt (Wanted : Pair → Type 0) (e : ℕ) (m : Pair) : Type 0 whe
   pub wanted : Wanted m
   pub at : m.1 ≡ e
 
+-- what a search explores: where each pair leads, the slot that it writes, and where the paths start
+pub record Space : Type 0 where
+  pub edges : Pair → List Pair
+  pub capture : Pair → Option ℕ
+  pub starts : List Pair
+
 module _ (edges : Pair → List Pair) where
   -- Of two lists that follow v: where they first differ, the first has the earlier edge.
   abbrev pub BeforeAfter : Pair → List Pair → List Pair → Type 0

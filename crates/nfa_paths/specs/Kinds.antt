@@ -3,7 +3,7 @@ use Rattle.std.specs.Prelude.{◌≡◌, ℕ, ◌≤◌, ◌<◌, Bool, true, fa
 use Rattle.std.specs.Option.{option_map_or}
 use Rattle.thompson_nfa.specs.Automaton.{Automaton, Node}
 use Rattle.thompson_nfa.specs.Automaton.Node.{ByteRange, Sparse, Dense, Look, Union, BinaryUnion, Capture, Fail, Match}
-use Rattle.nfa_paths.specs.Graphs.{Pair, In, NoRepeats, WantedAt, PathTo, NoPath, IsLastOfFirsts, IsLastPath}
+use Rattle.nfa_paths.specs.Graphs.{Pair, In, Space, NoRepeats, WantedAt, PathTo, NoPath, IsLastOfFirsts, IsLastPath}
 use Rattle.nfa_paths.specs.FirstPaths.{Increasing}
 use Rattle.nfa_paths.specs.Exploring.{Slots, Hit, Item, found, ExploresTo, ExploresBehind, Searching}
 use Rattle.nfa_paths.specs.Exploring.Item.{Explore}
@@ -46,22 +46,23 @@ pub record IsReached (edges : Pair → List Pair) (starts : List Pair) (Wanted :
   pub pattern_is : pattern end ≡ Some k
 
 -- no path to a match pair ends before e
-abbrev pub NoneBefore : (Pair → List Pair) → List Pair → (Pair → Bool) → ℕ → Type 0
-NoneBefore edges starts is_match e = NoPath edges starts (WantedBefore (Passes is_match) e)
+abbrev pub NoneBefore : Space → (Pair → Bool) → ℕ → Type 0
+NoneBefore space is_match e = NoPath space.edges space.starts (WantedBefore (Passes is_match) e)
 
 -- g is what the last of the first paths that end before e finds: of those with the greatest end
-abbrev pub LastBefore : (Pair → List Pair) → (Pair → Option ℕ) → List Pair → (Pair → Bool) → Slots → ℕ → ℕ
-    → Hit → Type 0
-LastBefore edges capture starts is_match slots e turns g =
-    IsFoundBy capture slots (IsLastPath edges starts (WantedBefore (Passes is_match) e)) turns g
+abbrev pub LastBefore : Space → (Pair → Bool) → Slots → ℕ → ℕ → Hit → Type 0
+LastBefore space is_match slots e turns g =
+    IsFoundBy space.capture slots (IsLastPath space.edges space.starts (WantedBefore (Passes is_match) e)) turns g
 
 -- a path to a match pair of pattern k ends before e
-abbrev pub ReachedBefore : (Pair → List Pair) → List Pair → (Pair → Bool) → (Pair → Option ℕ) → ℕ → ℕ → Type 0
-ReachedBefore edges starts is_match pattern e k = IsReached edges starts (WantedBefore (Passes is_match) e) pattern k
+abbrev pub ReachedBefore : Space → (Pair → Bool) → (Pair → Option ℕ) → ℕ → ℕ → Type 0
+ReachedBefore space is_match pattern e k =
+    IsReached space.edges space.starts (WantedBefore (Passes is_match) e) pattern k
 
 -- every path to a match pair ends before e
-abbrev pub EndsBefore : (Pair → List Pair) → List Pair → (Pair → Bool) → ℕ → Type 0
-EndsBefore edges starts is_match e = (m : Pair) (p : List Pair) → PathTo edges starts m p → is_match m ≡ true → m.1 < e
+abbrev pub EndsBefore : Space → (Pair → Bool) → ℕ → Type 0
+EndsBefore space is_match e =
+    (m : Pair) (p : List Pair) → PathTo space.edges space.starts m p → is_match m ≡ true → m.1 < e
 
 -- the first match pair of a front, with its slots
 abbrev pub first_match : (Pair → Bool) → List (Pair × Slots) → Hit
@@ -97,13 +98,12 @@ pub record HoldsMatch (is_match : Pair → Bool) (pattern : Pair → Option ℕ)
 
 -- What a scan goes over: positions never fall along an edge and rise at a resting pair, a match pair leads nowhere and
 -- writes nothing, and the starts rise.
-pub record Scanned (edges : Pair → List Pair) (capture : Pair → Option ℕ) (starts : List Pair)
-    (resting is_match : Pair → Bool) : Type 0 where
-  pub onward : (x y : Pair) → In y (edges x) → x.1 ≤ y.1
-  pub rises : (x y : Pair) → resting x ≡ true → In y (edges x) → x.1 < y.1
-  pub leads_nowhere : (x : Pair) → is_match x ≡ true → edges x ≡ []
-  pub writes_nothing : (x : Pair) → is_match x ≡ true → capture x ≡ None
-  pub increasing : Increasing starts
+pub record Scanned (space : Space) (resting is_match : Pair → Bool) : Type 0 where
+  pub onward : (x y : Pair) → In y (space.edges x) → x.1 ≤ y.1
+  pub rises : (x y : Pair) → resting x ≡ true → In y (space.edges x) → x.1 < y.1
+  pub leads_nowhere : (x : Pair) → is_match x ≡ true → space.edges x ≡ []
+  pub writes_nothing : (x : Pair) → is_match x ≡ true → space.capture x ≡ None
+  pub increasing : Increasing space.starts
 
 -- a set of match pairs at position e
 abbrev pub MatchesAt : (Pair → Bool) → ℕ → (Pair → Bool) → Type 0
@@ -115,9 +115,8 @@ MatchesFrom is_match e target = (x : Pair) → target x ≡ true → (is_match x
 
 -- `front` holds the resting pairs that are reached at e, as the search finds them in `turns` turns, whichever match
 -- pairs at e it is for
-pub record IsFront (edges : Pair → List Pair) (capture : Pair → Option ℕ) (starts : List Pair)
-    (resting is_match : Pair → Bool) (slots : Slots)
-    (turns : ℕ) (front : List (Pair × Slots)) (e : ℕ) : Type 0 where
+pub record IsFront (space : Space) (resting is_match : Pair → Bool) (slots : Slots) (turns : ℕ)
+    (front : List (Pair × Slots)) (e : ℕ) : Type 0 where
   pub waiting : List Item
   pub current : Slots
   pub rest : (a : Pair × Slots) → In a front → (resting a.0 ≡ true) × (a.0.1 ≡ e)
@@ -125,26 +124,21 @@ pub record IsFront (edges : Pair → List Pair) (capture : Pair → Option ℕ) 
   pub later : (k : Pair) → In (Explore k) waiting → e < k.1
   pub leads : (target : Pair → Bool) → MatchesAt is_match e target
       → (marks : List Pair)
-      × ((g : Hit) → ExploresBehind edges target capture 0 front None marks waiting current g
-      → ExploresTo edges target capture turns None [] (map Explore starts) slots g)
+      × ((g : Hit) → ExploresBehind space target 0 front None marks waiting current g
+      → ExploresTo space target turns None [] (map Explore space.starts) slots g)
 
 -- nothing is left to explore at position e or behind it: whichever match pairs there the search is for, it finds none
-pub record IsOver (edges : Pair → List Pair) (capture : Pair → Option ℕ) (starts : List Pair) (is_match : Pair → Bool)
-    (slots : Slots)
-    (turns e : ℕ) : Type 0 where
+pub record IsOver (space : Space) (is_match : Pair → Bool) (slots : Slots) (turns e : ℕ) : Type 0 where
   pub none : (target : Pair → Bool) → MatchesFrom is_match e target
-      → ExploresTo edges target capture turns None [] (map Explore starts) slots None
+      → ExploresTo space target turns None [] (map Explore space.starts) slots None
 
 -- A scan at position e, in the form that a loop keeps: the searches for every set of match pairs at e or behind it, all
--- in one state,
--- after `spent` turns.
-pub record Scanning (edges : Pair → List Pair) (capture : Pair → Option ℕ) (starts : List Pair) (is_match : Pair → Bool)
-    (slots : Slots)
-    (e : ℕ) (Seen : Pair → Type 0) (spent : ℕ) (front : List (Pair × Slots)) (work : List Item)
-    (current : Slots) : Type 0 where
+-- in one state, after `spent` turns.
+pub record Scanning (space : Space) (is_match : Pair → Bool) (slots : Slots) (e : ℕ) (Seen : Pair → Type 0) (spent : ℕ)
+    (front : List (Pair × Slots)) (work : List Item) (current : Slots) : Type 0 where
   pub searching : (target : Pair → Bool) → MatchesFrom is_match e target
-      → Searching edges target capture (λ g total. ExploresTo edges target capture total None [] (map Explore starts) slots
-      g) Seen spent front None work current
+      → Searching space target (λ g total. ExploresTo space target total None [] (map Explore space.starts) slots g)
+      Seen spent front None work current
 
 -- a state whose edges lead to the next position or nowhere, and that writes nothing: a byte state, a Fail or a Match
 abbrev pub rests : Node → Bool

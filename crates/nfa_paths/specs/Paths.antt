@@ -17,7 +17,7 @@ use Rattle.thompson_nfa.specs.Automaton.{Automaton, Node}
 use Rattle.thompson_nfa.specs.Automaton.Node.{ByteRange, Sparse, Dense, Look, Union, BinaryUnion, Capture, Fail, Match}
 use Rattle.thompson_nfa.specs.Looks.{look_holds}
 pub use Rattle.thompson_nfa.specs.Built.{pattern_of, slot_of}
-use Rattle.nfa_paths.specs.Graphs.{Pair, IsFirstPath, IsEarliestPath, IsLastPath, IsEarliestLastPath}
+use Rattle.nfa_paths.specs.Graphs.{Pair, Space, IsFirstPath, IsEarliestPath, IsLastPath, IsEarliestLastPath}
 
 -- the transition holds the byte
 abbrev pub holds_byte : Transition → ℕ → Bool
@@ -125,6 +125,10 @@ module _ (nfa : Automaton) where
     -- the pairs that a path may start with, in order
     abbrev pub starts : List Pair
     starts = option_map_or (λ state. pairs_from state x.start start_count) (start_state x.anchored) []
+
+    -- all that a scan explores
+    abbrev pub space : Space
+    space = record { edges = edges; capture = capture; starts = starts }
 
     -- What a scan answers: the accepting path that is meant by the kind and by `earliest`, or none where there is no
     -- accepting path. A path is accepting if its last state is a Match.

@@ -13,7 +13,7 @@ use Rattle.nfa_paths.specs.Graphs.{Pair, In}
 use Rattle.nfa_paths.specs.Exploring.{Item, Slots, Hit, round}
 use Rattle.nfa_paths.specs.Exploring.Item.{Explore, Load}
 use Rattle.nfa_paths.specs.Kinds.{is_resting, NoMatch, IsFoundBy, NoneBefore, LastBefore, last_match, IsFront, Scanning}
-use Rattle.nfa_paths.specs.Paths.{node_at, pattern_of, edges, is_match, capture, starts, IsScanAnswer}
+use Rattle.nfa_paths.specs.Paths.{node_at, pattern_of, edges, is_match, capture, starts, IsScanAnswer, space}
 use Rattle.nfa_paths.proofs.KindsLemmas.{first_match-is, last_match-is}
 use Rattle.nfa_paths.proofs.ScanAnswerLemmas.{edges-onward, seeds-later, Scanned-matches, scan_earliest_last-found}
 use Rattle.nfa_paths.proofs.ScanLemmas.{NoneBefore-step, LastBefore-step}
@@ -55,19 +55,18 @@ pub record HasLast (nfa : Automaton) (x : Search) (at width : ℕ) (found : Opti
     (turns : ℕ) : Type 0 where
   pub so_far : Hit
   pub is_so_far : IsSoFar nfa x found slots so_far
-  pub last : LastBefore (edges nfa x) (capture nfa) (starts nfa x) (is_match nfa) (blank width) at turns so_far
+  pub last : LastBefore (space nfa x) (is_match nfa) (blank width) at turns so_far
 
 module _ (nfa : Automaton) (x : Search) (at width state limit : ℕ) where
   module _ {past : Bool} {met : Marks} {items : List (ℕ × Slots)} {slots : Slots} {hit : Option PatternID}
       {after : Marks} {kept : List (ℕ × Slots)} {written : Slots}
       (c : Crosses nfa x at past met items slots hit after kept written)
-      (s : Scanning (edges nfa x) (capture nfa) (starts nfa x) (is_match nfa) (blank width) at
-      (SeenAt at (unmarked met).bits) met.turns []
+      (s : Scanning (space nfa x) (is_match nfa) (blank width) at (SeenAt at (unmarked met).bits) met.turns []
       (tasks at items (Load (blank width) ∷ starts_from width state (at + 1) limit)) (blank width)) where
     -- what was met and put aside, wherever the position ended
     all-left : (work : List Item) → (c.leads (blank width) (blank width) (starts_from width state (at + 1) limit)).left
         ≡ work
-        → Scanning (edges nfa x) (capture nfa) (starts nfa x) (is_match nfa) (blank width) at (SeenAt at after.bits)
+        → Scanning (space nfa x) (is_match nfa) (blank width) at (SeenAt at after.bits)
         after.turns c.front
         work (c.leads (blank width) (blank width) (starts_from width state (at + 1) limit)).written
     all-left work is =
@@ -79,7 +78,7 @@ module _ (nfa : Automaton) (x : Search) (at width state limit : ℕ) where
 
     -- where it went on to the end of its work
     all-whole : GoesOn past hit
-        → Scanning (edges nfa x) (capture nfa) (starts nfa x) (is_match nfa) (blank width) at (SeenAt at after.bits)
+        → Scanning (space nfa x) (is_match nfa) (blank width) at (SeenAt at after.bits)
         after.turns c.front
         (Load (blank width) ∷ starts_from width state (at + 1) limit)
         (c.leads (blank width) (blank width) (starts_from width state (at + 1) limit)).written
@@ -88,10 +87,10 @@ module _ (nfa : Automaton) (x : Search) (at width state limit : ℕ) where
         ((c.leads (blank width) (blank width) (starts_from width state (at + 1) limit)).whole goes_on)
 
     -- its front is complete
-    all-front : GoesOn past hit → IsFront (edges nfa x) (capture nfa) (starts nfa x) (is_resting nfa) (is_match nfa)
+    all-front : GoesOn past hit → IsFront (space nfa x) (is_resting nfa) (is_match nfa)
         (blank width) after.turns c.front at
     all-front goes_on =
-        Scanning-front (edges nfa x) (capture nfa) (starts nfa x) (is_match nfa) (blank width) (all-whole goes_on)
+        Scanning-front (space nfa x) (is_match nfa) (blank width) (all-whole goes_on)
         (Formed-resting nfa x at after.bits c.front c.formed) c.formed.once
         (λ k i. later k i)
       where
@@ -107,7 +106,7 @@ module _ (nfa : Automaton) (x : Search) (at width state limit : ℕ) where
     -- the next position
     pub ScansAll-cross : GoesOn past hit → ScansAll nfa x (at + 1) width state limit after kept
     ScansAll-cross goes_on =
-        let next = Scanning-round (edges nfa x) (capture nfa) (starts nfa x) (is_match nfa) (blank width)
+        let next = Scanning-round (space nfa x) (is_match nfa) (blank width)
         {After = SeenAt (at + 1) (replicate (length after.bits) false)} (all-whole goes_on) (edges-onward nfa x)
         (Formed-rests nfa x at after.bits c.front c.formed) (seeds-later (blank width) state at (limit - (at + 1)))
         (λ v seen. let h : v.1 ≡ at = seen.here in omega arith) (SeenAt-none (at + 1) (length after.bits))
@@ -115,22 +114,21 @@ module _ (nfa : Automaton) (x : Search) (at width state limit : ℕ) where
         record {
           scanning = record {
             searching = λ target m.
-                Searching-for (edges nfa x) target (capture nfa) (next.searching target m)
-                (subst (λ (ks : List (ℕ × Slots)). AnswersFor (edges nfa x) target (capture nfa)
+                Searching-for (space nfa x) target (next.searching target m)
+                (subst (λ (ks : List (ℕ × Slots)). AnswersFor (space nfa x) target
                 (round (edges nfa x) c.front (Load (blank width) ∷ starts_from width state (at + 1) limit))
                 (tasks (at + 1) ks (Load (blank width) ∷ starts_from width state (at + 1) limit))) (sym c.added)
-                (AnswersFor-round (edges nfa x) target (capture nfa) at c.front (blank width)
-                (starts_from width state (at + 1) limit)
+                (AnswersFor-round (space nfa x) target at c.front (blank width) (starts_from width state (at + 1) limit)
                 (Formed-next nfa x at after.bits c.front c.formed)))
                 (blank width);
           };
         }
 
     -- no path ended before the position, and none ends at it
-    pub NoneBefore-cross : hit ≡ None → NoneBefore (edges nfa x) (starts nfa x) (is_match nfa) at
-        → NoneBefore (edges nfa x) (starts nfa x) (is_match nfa) (at + 1)
+    pub NoneBefore-cross : hit ≡ None → NoneBefore (space nfa x) (is_match nfa) at
+        → NoneBefore (space nfa x) (is_match nfa) (at + 1)
     NoneBefore-cross none before =
-        NoneBefore-step (edges nfa x) (capture nfa) (starts nfa x) (is_resting nfa) (is_match nfa) (blank width)
+        NoneBefore-step (space nfa x) (is_resting nfa) (is_match nfa) (blank width)
         (Scanned-matches nfa x (is_match nfa) (λ v t. t)) before
         (all-front (inr none)) (no_match past (rw none at c.is_hit).0)
       where
@@ -153,11 +151,9 @@ module _ (nfa : Automaton) (x : Search) (at width state limit : ℕ) where
   pub earliest-first : {met : Marks} {items : List (ℕ × Slots)} {slots : Slots} {hit : Option PatternID} {after : Marks}
       {kept : List (ℕ × Slots)} {written : Slots}
       → (c : Crosses nfa x at false met items slots hit after kept written)
-      → Scanning (edges nfa x) (capture nfa) (starts nfa x) (is_match nfa) (blank width) at
-      (SeenAt at (unmarked met).bits) met.turns []
+      → Scanning (space nfa x) (is_match nfa) (blank width) at (SeenAt at (unmarked met).bits) met.turns []
       (tasks at items (Load (blank width) ∷ starts_from width state (at + 1) limit)) (blank width)
-      → NoneBefore (edges nfa x) (starts nfa x) (is_match nfa) at → (a : Pair × Slots)
-      → meant false (is_match nfa) c.front ≡ Some a
+      → NoneBefore (space nfa x) (is_match nfa) at → (a : Pair × Slots) → meant false (is_match nfa) c.front ≡ Some a
       → IsFoundBy (capture nfa) (blank width) (IsScanAnswer nfa x LeftmostFirst true) after.turns (Some a)
   earliest-first {after = after} c s none a first =
       scan_earliest-cut nfa x at none (all-left c s
@@ -168,11 +164,9 @@ module _ (nfa : Automaton) (x : Search) (at width state limit : ℕ) where
   pub earliest-last : {met : Marks} {items : List (ℕ × Slots)} {slots : Slots} {hit : Option PatternID} {after : Marks}
       {kept : List (ℕ × Slots)} {written : Slots}
       → (c : Crosses nfa x at true met items slots hit after kept written)
-      → Scanning (edges nfa x) (capture nfa) (starts nfa x) (is_match nfa) (blank width) at
-      (SeenAt at (unmarked met).bits) met.turns []
+      → Scanning (space nfa x) (is_match nfa) (blank width) at (SeenAt at (unmarked met).bits) met.turns []
       (tasks at items (Load (blank width) ∷ starts_from width state (at + 1) limit)) (blank width)
-      → NoneBefore (edges nfa x) (starts nfa x) (is_match nfa) at → (a : Pair × Slots)
-      → meant true (is_match nfa) c.front ≡ Some a
+      → NoneBefore (space nfa x) (is_match nfa) at → (a : Pair × Slots) → meant true (is_match nfa) c.front ≡ Some a
       → IsFoundBy (capture nfa) (blank width) (IsScanAnswer nfa x AllMatches true) after.turns (Some a)
   earliest-last c s none a last = scan_earliest_last-found nfa x (blank width) none (all-front c s (inl refl)) a last
 
@@ -203,8 +197,7 @@ module _ (nfa : Automaton) (x : Search) (at width state limit : ℕ) where
   pub HasLast-cross : {met : Marks} {items : List (ℕ × Slots)} {slots : Slots} {hit : Option PatternID} {after : Marks}
       {kept : List (ℕ × Slots)} {written : Slots} {found : Option HalfMatch}
       → (c : Crosses nfa x at true met items slots hit after kept written)
-      → Scanning (edges nfa x) (capture nfa) (starts nfa x) (is_match nfa) (blank width) at
-      (SeenAt at (unmarked met).bits) met.turns []
+      → Scanning (space nfa x) (is_match nfa) (blank width) at (SeenAt at (unmarked met).bits) met.turns []
       (tasks at items (Load (blank width) ∷ starts_from width state (at + 1) limit)) (blank width)
       → met.turns ≤ after.turns → (half : Option HalfMatch) → EndsAt at hit half
       → HasLast nfa x at width found slots met.turns
@@ -214,7 +207,7 @@ module _ (nfa : Automaton) (x : Search) (at width state limit : ℕ) where
         so_far = last_match (is_match nfa) h.so_far c.front;
         is_so_far = subst (λ (g : Hit). IsSoFar nfa x (option_or half found) written g)
             (sym (last_match-or (is_match nfa) h.so_far c.front)) (of hit refl half is);
-        last = LastBefore-step (edges nfa x) (capture nfa) (starts nfa x) (is_resting nfa) (is_match nfa) (blank width)
+        last = LastBefore-step (space nfa x) (is_resting nfa) (is_match nfa) (blank width)
             (Scanned-matches nfa x (is_match nfa) (λ v t. t)) grows h.last (all-front c s (inl refl));
       }
     where

@@ -11,7 +11,7 @@ use Rattle.regex_search_core.specs.Search.{Search}
 use Rattle.regex_search_core.specs.declared.primitives.PatternID.{PatternID}
 use Rattle.thompson_nfa.specs.Automaton.{Automaton}
 use Rattle.nfa_paths.specs.Graphs.{Pair}
-use Rattle.nfa_paths.specs.Paths.{degree, edges, is_match, capture}
+use Rattle.nfa_paths.specs.Paths.{degree, edges, is_match, space}
 use Rattle.nfa_paths.specs.Exploring.{Item, Slots, Hit}
 use Rattle.nfa_paths.specs.Exploring.Item.{Explore, Load}
 use Rattle.nfa_paths.specs.Kinds.{first_match, before_match, last_match}
@@ -233,7 +233,7 @@ module _ (nfa : Automaton) (x : Search) (at : ℕ) where
       → Follows nfa x at m f (Load old ∷ rest) slots m f rest old
   Follows-load m f rest slots old = record {
     leads =
-        λ target ok starts entry otherwise h. Searching-load (edges nfa x) target (capture nfa) h;
+        λ target ok starts entry otherwise h. Searching-load (space nfa x) target h;
   }
 
   -- what is loaded does not depend on the slots before
@@ -245,10 +245,10 @@ module _ (nfa : Automaton) (x : Search) (at : ℕ) where
       agrees = h.agrees;
       leads = λ g left total e k.
           h.leads g left total e
-          (AnswerBehind-along (edges nfa x) target (capture nfa) f left left (omega arith) otherwise otherwise h.marks
+          (AnswerBehind-along (space nfa x) target f left left (omega arith) otherwise otherwise h.marks
           h.marks (Load old ∷ rest) (Load old ∷ rest) after slots g
-          (λ a. (Answer-load (edges nfa x) target (capture nfa) left otherwise h.marks old rest slots g).0
-          ((Answer-load (edges nfa x) target (capture nfa) left otherwise h.marks old rest after g).1 a)) k);
+          (λ a. (Answer-load (space nfa x) target left otherwise h.marks old rest slots g).0
+          ((Answer-load (space nfa x) target left otherwise h.marks old rest after g).1 a)) k);
     };
   }
 

@@ -12,7 +12,7 @@ use Rattle.nfa_paths.specs.FirstPaths.{Path, IsFirst}
 use Rattle.nfa_paths.specs.FirstPaths.Path.{stop, go}
 use Rattle.nfa_paths.specs.Exploring.{Item, Slots, ExploresBehind, found}
 use Rattle.nfa_paths.specs.Kinds.{Passes, IsFoundBy, found_along, NoneBefore, first_match, is_resting, Scanning}
-use Rattle.nfa_paths.specs.Paths.{edges, is_match, capture, starts, IsScanAnswer}
+use Rattle.nfa_paths.specs.Paths.{edges, is_match, capture, starts, IsScanAnswer, space}
 use Rattle.nfa_paths.proofs.AnswerLemmas.{IsMatch-capture, never_none}
 use Rattle.nfa_paths.proofs.KindsLemmas.{is_plain, test, test-true, true-test}
 use Rattle.nfa_paths.proofs.PathLemmas.{IsFirst-target}
@@ -62,8 +62,7 @@ module _ (nfa : Automaton) (x : Search) (e : ℕ) where
   AnswerBehind-match : (front : Front) → ((b : Pair × Slots) → In b front → (is_resting nfa b.0 ≡ true) × (b.0.1 ≡ e))
       → (a : Pair × Slots) → first_match (is_match nfa) front ≡ Some a
       → (left : ℕ) (marks : List Pair) (work : List Item) (slots : Slots)
-      → ExploresBehind (edges nfa x) wanted (capture nfa) left front None marks work slots
-      (found (capture nfa) (a.0 ∷ []) a.1)
+      → ExploresBehind (space nfa x) wanted left front None marks work slots (found (capture nfa) (a.0 ∷ []) a.1)
   unfolding ExploresBehind
   AnswerBehind-match [] rest a first left marks work slots = cc
   AnswerBehind-match (b ∷ front) rest a first left marks work slots =
@@ -99,7 +98,7 @@ module _ (nfa : Automaton) (x : Search) (e : ℕ) where
       ]
 
   -- the first path to a match at e, where none ends before
-  earliest-path : (p : List Pair) → NoneBefore (edges nfa x) (starts nfa x) (is_match nfa) e
+  earliest-path : (p : List Pair) → NoneBefore (space nfa x) (is_match nfa) e
       → IsFirstTo (edges nfa x) (starts nfa x) (Passes wanted) p
       → IsScanAnswer nfa x LeftmostFirst true (Some p)
   earliest-path p none h =
@@ -114,9 +113,8 @@ module _ (nfa : Automaton) (x : Search) (e : ℕ) where
       )
 
   pub scan_earliest-cut : {slots : Slots} {Seen : Pair → Type 0} {spent : ℕ} {front : Front} {work : List Item}
-      {current : Slots}
-      → NoneBefore (edges nfa x) (starts nfa x) (is_match nfa) e
-      → Scanning (edges nfa x) (capture nfa) (starts nfa x) (is_match nfa) slots e Seen spent front work current
+      {current : Slots} → NoneBefore (space nfa x) (is_match nfa) e
+      → Scanning (space nfa x) (is_match nfa) slots e Seen spent front work current
       → ((b : Pair × Slots) → In b front → (is_resting nfa b.0 ≡ true) × (b.0.1 ≡ e)) → (a : Pair × Slots)
       → first_match (is_match nfa) front ≡ Some a
       → IsFoundBy (capture nfa) slots (IsScanAnswer nfa x LeftmostFirst true) spent (Some a)
@@ -127,7 +125,7 @@ module _ (nfa : Automaton) (x : Search) (e : ℕ) where
       (AnswerBehind-match front rest a first 0 search.marks work current) in
       let wrote : found (capture nfa) (a.0 ∷ []) a.1 ≡ Some a =
       rw (IsMatch-capture nfa a.0 (first_match-is_match front a first)) refl in
-      let h = IsFirstPath-found (edges nfa x) (capture nfa) (starts nfa x) (is_resting nfa) wanted slots
+      let h = IsFirstPath-found (space nfa x) (is_resting nfa) wanted slots
       (Scanned-matches nfa x wanted (λ v t. (wanted-is v t).wanted)) spent
       (found (capture nfa) (a.0 ∷ []) a.1) answer in
       of h.path h.meant (h.leads ∙ wrote) h.short

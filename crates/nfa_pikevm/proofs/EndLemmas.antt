@@ -15,7 +15,7 @@ use Rattle.nfa_paths.specs.Exploring.{Item, Slots, Hit, seeds}
 use Rattle.nfa_paths.specs.Exploring.Item.{Load}
 use Rattle.nfa_paths.specs.Kinds.{is_resting, IsFoundBy, NoneBefore, EndsBefore, Scanning}
 use Rattle.nfa_paths.specs.Restarts.{ScanGives}
-use Rattle.nfa_paths.specs.Paths.{edges, is_match, capture, starts, IsScanAnswer}
+use Rattle.nfa_paths.specs.Paths.{edges, is_match, capture, starts, IsScanAnswer, space}
 use Rattle.nfa_paths.proofs.SearchingLemmas.{Searching-load, Searching-done}
 use Rattle.nfa_paths.proofs.ScanAnswerLemmas.{Scanned-matches, starts-from, EndsBefore-span, IsFoundBy-none, IsFoundBy-some, scan_first-found, scan_last-found}
 use Rattle.nfa_paths.proofs.ScanLemmas.{IsFoundBy-more, NoneBefore-start, LastBefore-start, EndsBefore-over}
@@ -41,37 +41,39 @@ module _ (nfa : Automaton) (x : Search) where
   -- the beginning
 
   module _ (begins : Starts) (are : AreStarts nfa x begins) (slots : Slots) (met : Marks) where
-    begin : (target : Pair → Bool) → SearchingAt nfa x x.start target (starts nfa x) (blank (length slots)) None
-        (unmarked met) []
+    -- the search for a set of match pairs begins
+    pub SearchingAt-begin : (target : Pair → Bool)
+        → SearchingAt nfa x x.start target (starts nfa x) (blank (length slots)) None (unmarked met) []
         (tasks x.start [] (Load (blank (length slots)) ∷ starts_from (length slots) begins.state x.start begins.limit))
         (blank (length slots))
-    begin target =
+    SearchingAt-begin target =
         subst (λ (ps : List Pair). SearchingAt nfa x x.start target (starts nfa x) (blank (length slots)) None
         (unmarked met) [] (Load (blank (length slots)) ∷ seeds (blank (length slots)) ps) (blank (length slots)))
         are.all
-        (Searching-begin (edges nfa x) target (capture nfa) (SeenAt x.start (unmarked met).bits) met.turns None
+        (Searching-begin (space nfa x) target (SeenAt x.start (unmarked met).bits) met.turns None
         (starts nfa x) (blank (length slots)) (blank (length slots)) (SeenAt-none x.start (length met.bits)))
 
     pub SearchesFirst-begin : slots ≡ blank (length slots)
         → SearchesFirst nfa x x.start (length slots) begins.state begins.limit None slots met []
-    SearchesFirst-begin unset = record { so_far = None; is_so_far = (refl, unset); searching = begin (is_match nfa) }
+    SearchesFirst-begin unset =
+        record { so_far = None; is_so_far = (refl, unset); searching = SearchingAt-begin (is_match nfa) }
 
     pub ScansAll-begin : ScansAll nfa x x.start (length slots) begins.state begins.limit met []
-    ScansAll-begin = record { scanning = record { searching = λ target m. begin target } }
+    ScansAll-begin = record { scanning = record { searching = λ target m. SearchingAt-begin target } }
 
     pub HasLast-begin : slots ≡ blank (length slots) → HasLast nfa x x.start (length slots) None slots met.turns
     HasLast-begin unset = record {
       so_far = None;
       is_so_far = (refl, unset);
       last = let few : 0 ≤ met.turns = omega arith in
-          IsFoundBy-more few (LastBefore-start (edges nfa x) (capture nfa) (starts nfa x) (is_resting nfa)
+          IsFoundBy-more few (LastBefore-start (space nfa x) (is_resting nfa)
           (is_match nfa) (blank (length slots)) (Scanned-matches nfa x (is_match nfa) (λ v t. t)) x.start
           (starts-from nfa x));
     }
 
-  pub NoneBefore-begin : NoneBefore (edges nfa x) (starts nfa x) (is_match nfa) x.start
+  pub NoneBefore-begin : NoneBefore (space nfa x) (is_match nfa) x.start
   NoneBefore-begin =
-      NoneBefore-start (edges nfa x) (capture nfa) (starts nfa x) (is_resting nfa) (is_match nfa) []
+      NoneBefore-start (space nfa x) (is_resting nfa) (is_match nfa) []
       (Scanned-matches nfa x (is_match nfa) (λ v t. t)) x.start (starts-from nfa x)
 
   -- the starts join
@@ -79,20 +81,18 @@ module _ (nfa : Automaton) (x : Search) where
   -- all sets of matches at once
   pub ScansAll-joined : (begins : Starts) (at width : ℕ) {met : Marks} {items : List (ℕ × Slots)}
       → ScansAll nfa x at width begins.state begins.limit met items
-      → Scanning (edges nfa x) (capture nfa) (starts nfa x) (is_match nfa) (blank width) at
-      (SeenAt at (unmarked met).bits) met.turns []
+      → Scanning (space nfa x) (is_match nfa) (blank width) at (SeenAt at (unmarked met).bits) met.turns []
       (tasks at (with_start begins width at items)
       (Load (blank width) ∷ starts_from width begins.state (at + 1) begins.limit)) (blank width)
   ScansAll-joined begins at width {met} {items} s =
-      subst (λ (w : List Item). Scanning (edges nfa x) (capture nfa) (starts nfa x) (is_match nfa) (blank width) at
+      subst (λ (w : List Item). Scanning (space nfa x) (is_match nfa) (blank width) at
       (SeenAt at (unmarked met).bits) met.turns [] w (blank width)) (tasks-joined begins width at items) s.scanning
 
   -- the same by what the join gives
   pub ScansAll-join : (begins : Starts) (at width : ℕ) (met now : Marks) → now ≡ met → (items kept : List (ℕ × Slots))
       → kept ≡ with_start begins width at items
       → ScansAll nfa x at width begins.state begins.limit met items
-      → Scanning (edges nfa x) (capture nfa) (starts nfa x) (is_match nfa) (blank width) at
-      (SeenAt at (unmarked now).bits) now.turns []
+      → Scanning (space nfa x) (is_match nfa) (blank width) at (SeenAt at (unmarked now).bits) now.turns []
       (tasks at kept (Load (blank width) ∷ starts_from width begins.state (at + 1) begins.limit)) (blank width)
   ScansAll-join begins at width met now same items kept e s = rw (same, e) (ScansAll-joined begins at width s)
 
@@ -109,40 +109,38 @@ module _ (nfa : Automaton) (x : Search) where
     -- the starts up to a position were passed over, or none was
     skip-work : (at to : ℕ) (items kept : List (ℕ × Slots)) → x.start ≤ at
         → Joins table x begins limit width at items to kept
-        → AnswersFor (edges nfa x) (is_match nfa) (capture nfa)
+        → AnswersFor (space nfa x) (is_match nfa)
         (tasks at items (Load (blank width) ∷ starts_from width begins.state at limit))
         (tasks to items (Load (blank width) ∷ starts_from width begins.state to limit))
     skip-work at to [] kept low j =
         let le : at ≤ to = j.ahead in
-        AnswersFor-skip (edges nfa x) (is_match nfa) (capture nfa) width begins.state limit (to - at) at
+        AnswersFor-skip (space nfa x) (is_match nfa) width begins.state limit (to - at) at
         to (omega arith)
         (λ k h l. passed k (omega arith) (j.passed k h l))
     skip-work at to (i ∷ items) kept low j =
         let some : 0 < length (i ∷ items) = omega arith in
         let same : to ≡ at = j.stays some in
-        subst (λ (n : ℕ). AnswersFor (edges nfa x) (is_match nfa) (capture nfa)
+        subst (λ (n : ℕ). AnswersFor (space nfa x) (is_match nfa)
         (tasks at (i ∷ items) (Load (blank width) ∷ starts_from width begins.state at limit))
         (tasks n (i ∷ items) (Load (blank width) ∷ starts_from width begins.state n limit))) (sym same)
-        (AnswersFor-tasks (edges nfa x) (is_match nfa) (capture nfa) at (i ∷ items)
-        (AnswersFor-same (edges nfa x) (is_match nfa) (capture nfa) (blank width)
-        (starts_from width begins.state at limit)))
+        (AnswersFor-tasks (space nfa x) (is_match nfa) at (i ∷ items)
+        (AnswersFor-same (space nfa x) (is_match nfa) (blank width) (starts_from width begins.state at limit)))
 
     -- the start joins at the position, or is passed over, or none is left
     join-work : (at to : ℕ) (items kept : List (ℕ × Slots)) → x.start ≤ at
         → Joins table x begins limit width at items to kept
-        → AnswersFor (edges nfa x) (is_match nfa) (capture nfa)
+        → AnswersFor (space nfa x) (is_match nfa)
         (tasks to items (Load (blank width) ∷ starts_from width begins.state to limit))
         (tasks to kept (Load (blank width) ∷ starts_from width begins.state (to + 1) limit))
     join-work at to items kept low j =
         let le : at ≤ to = j.ahead in
-        let same = AnswersFor-tasks (edges nfa x) (is_match nfa) (capture nfa) to items
-        (AnswersFor-same (edges nfa x) (is_match nfa) (capture nfa) (blank width)
-        (starts_from width begins.state to limit)) in
+        let same = AnswersFor-tasks (space nfa x) (is_match nfa) to items
+        (AnswersFor-same (space nfa x) (is_match nfa) (blank width) (starts_from width begins.state to limit)) in
         let to_work : (w : List Item) → tasks to items (Load (blank width) ∷ starts_from width begins.state to limit)
         ≡ w
-        → AnswersFor (edges nfa x) (is_match nfa) (capture nfa)
+        → AnswersFor (space nfa x) (is_match nfa)
         (tasks to items (Load (blank width) ∷ starts_from width begins.state to limit)) w =
-        λ w e. subst (λ (v : List Item). AnswersFor (edges nfa x) (is_match nfa) (capture nfa)
+        λ w e. subst (λ (v : List Item). AnswersFor (space nfa x) (is_match nfa)
         (tasks to items (Load (blank width) ∷ starts_from width begins.state to limit)) v) e same in
         elim j.last [
           | inl h ↦ rw h.1 (to_work (tasks to (items ++ (begins.state, blank width) ∷ [])
@@ -154,8 +152,8 @@ module _ (nfa : Automaton) (x : Search) where
                     (Load (blank width) ∷ starts_from width begins.state (to + 1) limit))
                     (tasks-alone width begins.state to limit items over))
                 | inr pass ↦
-                    rw h.0 (AnswersFor-tasks (edges nfa x) (is_match nfa) (capture nfa) to items
-                    (AnswersFor-pass (edges nfa x) (is_match nfa) (capture nfa) width begins.state limit to
+                    rw h.0 (AnswersFor-tasks (space nfa x) (is_match nfa) to items
+                    (AnswersFor-pass (space nfa x) (is_match nfa) width begins.state limit to
                     (passed to (omega arith) pass)))
               ]
         ]
@@ -168,9 +166,9 @@ module _ (nfa : Automaton) (x : Search) where
         → SearchingAt nfa x to (is_match nfa) (starts nfa x) (blank width) s.so_far (unmarked met) []
         (tasks to kept (Load (blank width) ∷ starts_from width begins.state (to + 1) limit)) (blank width)
     SearchesFirst-joins at to {items} {kept} {met = met} low j s =
-        Searching-seen (edges nfa x) (is_match nfa) (capture nfa)
-        (Searching-for (edges nfa x) (is_match nfa) (capture nfa) s.searching
-        (AnswersFor-then (edges nfa x) (is_match nfa) (capture nfa) (skip-work at to items kept low j)
+        Searching-seen (space nfa x) (is_match nfa)
+        (Searching-for (space nfa x) (is_match nfa) s.searching
+        (AnswersFor-then (space nfa x) (is_match nfa) (skip-work at to items kept low j)
         (join-work at to items kept low j)) (blank width))
         (SeenAt to (unmarked met).bits)
         (λ v. (
@@ -212,40 +210,37 @@ module _ (nfa : Automaton) (x : Search) where
   first-over at next width state limit found slots met so_far items is past none s size =
       let alone : SearchingAt nfa x at (is_match nfa) (starts nfa x) (blank width) so_far (unmarked met) []
       (Load (blank width) ∷ []) (blank width) = rw (none, starts_from-end width state past) at s in
-      let answer = Searching-done (edges nfa x) (is_match nfa) (capture nfa)
-      (Searching-load (edges nfa x) (is_match nfa) (capture nfa) alone) in
+      let answer = Searching-done (space nfa x) (is_match nfa) (Searching-load (space nfa x) (is_match nfa) alone) in
       Scans-so_far LeftmostFirst false width met.turns found slots so_far is
       (scan_first-found nfa x (blank width) met.turns so_far answer) size
 
   -- nothing is left to explore: every path has ended
   pub all-over : (at next width state limit : ℕ) (met : Marks) (items : List (ℕ × Slots)) → limit ≤ next → items ≡ []
-      → Scanning (edges nfa x) (capture nfa) (starts nfa x) (is_match nfa) (blank width) at
-      (SeenAt at (unmarked met).bits) met.turns []
+      → Scanning (space nfa x) (is_match nfa) (blank width) at (SeenAt at (unmarked met).bits) met.turns []
       (tasks at items (Load (blank width) ∷ starts_from width state next limit)) (blank width)
-      → EndsBefore (edges nfa x) (starts nfa x) (is_match nfa) at
+      → EndsBefore (space nfa x) (is_match nfa) at
   all-over at next width state limit met items past none s =
-      let alone : Scanning (edges nfa x) (capture nfa) (starts nfa x) (is_match nfa) (blank width) at
+      let alone : Scanning (space nfa x) (is_match nfa) (blank width) at
       (SeenAt at (unmarked met).bits) met.turns [] (Load (blank width) ∷ []) (blank width) =
       rw (none, starts_from-end width state past) at s in
-      EndsBefore-over (edges nfa x) (capture nfa) (starts nfa x) (is_resting nfa) (is_match nfa) (blank width)
+      EndsBefore-over (space nfa x) (is_resting nfa) (is_match nfa) (blank width)
       (Scanned-matches nfa x (is_match nfa) (λ v t. t)) at
-      (Scanning-over (edges nfa x) (capture nfa) (starts nfa x) (is_match nfa) (blank width)
-      (Scanning-load (edges nfa x) (capture nfa) (starts nfa x) (is_match nfa) (blank width) alone))
+      (Scanning-over (space nfa x) (is_match nfa) (blank width)
+      (Scanning-load (space nfa x) (is_match nfa) (blank width) alone))
 
   -- what was found last
   pub last-over : (at width : ℕ) (found : Option HalfMatch) (slots : Slots) (turns : ℕ)
-      → HasLast nfa x at width found slots turns
-      → EndsBefore (edges nfa x) (starts nfa x) (is_match nfa) at → width ≡ length slots
+      → HasLast nfa x at width found slots turns → EndsBefore (space nfa x) (is_match nfa) at → width ≡ length slots
       → ScanGives nfa AllMatches false x found slots turns
   last-over at width found slots turns h ends size =
       Scans-so_far AllMatches false width turns found slots h.so_far h.is_so_far
       (scan_last-found nfa x (blank width) h.last ends) size
 
   -- every path ends within the span
-  pub ends-span : EndsBefore (edges nfa x) (starts nfa x) (is_match nfa) (x.end + 1)
+  pub ends-span : EndsBefore (space nfa x) (is_match nfa) (x.end + 1)
   ends-span = EndsBefore-span nfa x (is_match nfa)
 
-  pub ends-at : (at : ℕ) → at ≡ x.end + 1 → EndsBefore (edges nfa x) (starts nfa x) (is_match nfa) at
+  pub ends-at : (at : ℕ) → at ≡ x.end + 1 → EndsBefore (space nfa x) (is_match nfa) at
   ends-at at e = rw e ends-span
 
   -- a position with a match, of the search for the first path
@@ -267,10 +262,9 @@ module _ (nfa : Automaton) (x : Search) where
   pub earliest-over : (at width state limit : ℕ) (past : Bool) {met : Marks} {items : List (ℕ × Slots)} {slots : Slots}
       {hit : Option PatternID} {after : Marks} {kept : List (ℕ × Slots)} {written : Slots}
       → Crosses nfa x at past met items slots hit after kept written
-      → Scanning (edges nfa x) (capture nfa) (starts nfa x) (is_match nfa) (blank width) at
-      (SeenAt at (unmarked met).bits) met.turns []
+      → Scanning (space nfa x) (is_match nfa) (blank width) at (SeenAt at (unmarked met).bits) met.turns []
       (tasks at items (Load (blank width) ∷ starts_from width state (at + 1) limit)) (blank width)
-      → NoneBefore (edges nfa x) (starts nfa x) (is_match nfa) at → (half : Option HalfMatch) → EndsAt at hit half
+      → NoneBefore (space nfa x) (is_match nfa) at → (half : Option HalfMatch) → EndsAt at hit half
       → is_some half ≡ true → width ≡ length written
       → ScanGives nfa (cond past AllMatches LeftmostFirst) true x half written after.turns
   earliest-over at width state limit true {hit = None} c s none half is some size = let k =

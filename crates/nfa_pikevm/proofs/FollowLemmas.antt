@@ -5,8 +5,8 @@ use Rattle.std.proofs.Math.Decide.{ℕ_discrete}
 use Rattle.std.proofs.lemmas.List.{get_or_default}
 use Rattle.regex_search_core.specs.Search.{Search}
 use Rattle.thompson_nfa.specs.Automaton.{Automaton}
-use Rattle.nfa_paths.specs.Graphs.{Pair, In}
-use Rattle.nfa_paths.specs.Paths.{edges, is_match, capture}
+use Rattle.nfa_paths.specs.Graphs.{Pair, In, Space}
+use Rattle.nfa_paths.specs.Paths.{edges, is_match, capture, space}
 use Rattle.nfa_paths.specs.Exploring.{Item, Slots, Hit, ExploresTo, Searching}
 use Rattle.nfa_paths.specs.Exploring.Item.{Explore, Restore, Load}
 use Rattle.nfa_paths.proofs.SearchLemmas.{AnswerBehind-along}
@@ -51,19 +51,18 @@ SeenAt-clear at s bits inside clear m =
     absurd (cc (m.set, e))
 
 -- Behind a pair a slot need not be restored where slots are loaded next.
-Searching-unrestored : (edges : Pair → List Pair) (target : Pair → Bool) (capture : Pair → Option ℕ)
+Searching-unrestored : (space : Space) (target : Pair → Bool)
     {goal : Hit → ℕ → Type 0} {Seen : Pair → Type 0} {spent : ℕ} {front : Front} {otherwise : Hit} {v : Pair}
     {k : ℕ} {back : Option ℕ} {old : Slots} {rest : List Item} {slots : Slots}
-    → Searching edges target capture goal Seen spent front otherwise
-    (Explore v ∷ Restore k back ∷ Load old ∷ rest) slots
-    → Searching edges target capture goal Seen spent front otherwise (Explore v ∷ Load old ∷ rest) slots
+    → Searching space target goal Seen spent front otherwise (Explore v ∷ Restore k back ∷ Load old ∷ rest) slots
+    → Searching space target goal Seen spent front otherwise (Explore v ∷ Load old ∷ rest) slots
 unfolding ExploresTo
-Searching-unrestored edges target capture {front = front} {otherwise} {v} {k} {back} {old} {rest} {slots} s = record {
+Searching-unrestored space target {front = front} {otherwise} {v} {k} {back} {old} {rest} {slots} s = record {
   marks = s.marks;
   agrees = s.agrees;
   leads = λ g left total e h.
       s.leads g left total e
-      (AnswerBehind-along edges target capture front left left (omega arith) otherwise otherwise s.marks s.marks
+      (AnswerBehind-along space target front left left (omega arith) otherwise otherwise s.marks s.marks
       (Explore v ∷ Load old ∷ rest) (Explore v ∷ Restore k back ∷ Load old ∷ rest) slots slots g (λ a. a) h);
 }
 
@@ -86,13 +85,12 @@ module _ (nfa : Automaton) (x : Search) (at : ℕ) where
         → Follows nfa x at m i (Restore k old ∷ rest) slots m i rest (set slots k old)
     Follows-restore k old = record {
       leads = λ target ok starts entry otherwise h.
-          Searching-restore (edges nfa x) target (capture nfa) h;
+          Searching-restore (space nfa x) target h;
     }
 
     pub Follows-load : (old : Slots) → Follows nfa x at m i (Load old ∷ rest) slots m i rest old
     Follows-load old = record {
-      leads = λ target ok starts entry otherwise h. Searching-load (edges nfa x) target
-          (capture nfa) h;
+      leads = λ target ok starts entry otherwise h. Searching-load (space nfa x) target h;
     }
 
     pub Follows-unrestored : (v : Pair) (k : ℕ) (back : Option ℕ) (old : Slots)
@@ -100,7 +98,7 @@ module _ (nfa : Automaton) (x : Search) (at : ℕ) where
         (Explore v ∷ Load old ∷ rest) slots
     Follows-unrestored v k back old = record {
       leads =
-          λ target ok starts entry otherwise h. Searching-unrestored (edges nfa x) target (capture nfa) h;
+          λ target ok starts entry otherwise h. Searching-unrestored (space nfa x) target h;
     }
 
     module _ (s : ℕ) (n : Marks) (counted : n.turns ≡ m.turns + 1) where
@@ -109,8 +107,7 @@ module _ (nfa : Automaton) (x : Search) (at : ℕ) where
           → Follows nfa x at m i (Explore (s, at) ∷ rest) slots n i rest slots
       Follows-marked seen same = record {
         leads = λ target ok starts entry otherwise h.
-            rw (counted, same) (Searching-marked (edges nfa x) target (capture nfa) h
-            (record { here = refl; set = seen }));
+            rw (counted, same) (Searching-marked (space nfa x) target h (record { here = refl; set = seen }));
       }
 
       -- a turn that marks its state
@@ -122,7 +119,7 @@ module _ (nfa : Automaton) (x : Search) (at : ℕ) where
         Follows-plain plain es leads writes = record {
           leads = λ target ok starts entry otherwise h.
               rw (counted, marked)
-              (Searching-plain (edges nfa x) target (capture nfa) h (SeenAt-clear at s m.bits inside clear)
+              (Searching-plain (space nfa x) target h (SeenAt-clear at s m.bits inside clear)
               (SeenAt-set at s m.bits inside) (plain-target nfa target (s, at) ok plain) es leads writes);
         }
 
@@ -133,7 +130,7 @@ module _ (nfa : Automaton) (x : Search) (at : ℕ) where
         Follows-write plain es leads k writes = record {
           leads = λ target ok starts entry otherwise h.
               rw (counted, marked)
-              (Searching-write (edges nfa x) target (capture nfa) h (SeenAt-clear at s m.bits inside clear)
+              (Searching-write (space nfa x) target h (SeenAt-clear at s m.bits inside clear)
               (SeenAt-set at s m.bits inside) (plain-target nfa target (s, at) ok plain) es leads k writes);
         }
 
@@ -143,7 +140,7 @@ module _ (nfa : Automaton) (x : Search) (at : ℕ) where
         Follows-unkept plain es leads k writes past = record {
           leads = λ target ok starts entry otherwise h.
               rw (counted, marked)
-              (Searching-unkept (edges nfa x) target (capture nfa) h (SeenAt-clear at s m.bits inside clear)
+              (Searching-unkept (space nfa x) target h (SeenAt-clear at s m.bits inside clear)
               (SeenAt-set at s m.bits inside) (plain-target nfa target (s, at) ok plain) es leads k writes past);
         }
 
@@ -154,7 +151,7 @@ module _ (nfa : Automaton) (x : Search) (at : ℕ) where
         Follows-keep onward leaves = record {
           leads = λ target ok starts entry otherwise h.
               rw (counted, marked)
-              (Searching-keep (edges nfa x) target (capture nfa) h (SeenAt-clear at s m.bits inside clear)
+              (Searching-keep (space nfa x) target h (SeenAt-clear at s m.bits inside clear)
               (SeenAt-set at s m.bits inside) (λ v. at < v.1)
               (λ v y a j. let k : v.1 ≤ y.1 = onward v y j in let l : at < v.1 = a in omega arith) leaves
               (λ v seen a. let k : v.1 ≡ at = seen.here in let l : at < v.1 = a in omega arith));

@@ -8,7 +8,7 @@ use Rattle.regex_search_core.specs.Search.{Search}
 use Rattle.regex_search_core.specs.declared.search.MatchKind.TheVariants.{LeftmostFirst}
 use Rattle.thompson_nfa.specs.Automaton.{Automaton, IsAutomaton}
 use Rattle.nfa_paths.specs.Graphs.{Pair, In}
-use Rattle.nfa_paths.specs.Paths.{edges, capture, starts, pairs_from}
+use Rattle.nfa_paths.specs.Paths.{edges, starts, pairs_from, space}
 use Rattle.nfa_paths.specs.Exploring.{Slots, Hit, Item, round, seeds}
 use Rattle.nfa_paths.specs.Exploring.Item.{Explore as ToExplore, Load as ToLoad}
 use Rattle.nfa_paths.specs.Kinds.{first_match, before_match}
@@ -25,8 +25,10 @@ use Rattle.nfa_pikevm.specs.Scans.{starts_from, with_start, AreStarts, AreAt, Is
 use Rattle.nfa_pikevm.specs.States.{Front, moves, tasks, unmarked, SearchingAt, Leads}
 use Rattle.nfa_pikevm.specs.Overlapping.{wants, Gathers, GathersFirst, GoesPast, CrossesInSet}
 use Rattle.nfa_pikevm.specs.declared.scan.Starts.{Starts}
+use Rattle.nfa_pikevm.proofs.FrontLemmas.{SeenAt-none}
+use Rattle.nfa_pikevm.proofs.EndLemmas.{SearchingAt-begin}
 use Rattle.nfa_pikevm.proofs.OverlapSetLemmas.{wants-tells, wants-match}
-use Rattle.nfa_pikevm.proofs.OverlapScanLemmas.{unseen, joined-work, round-tasks, fresh-search, front-rests, front-edges, front-leaves, next-at, next-paid}
+use Rattle.nfa_pikevm.proofs.OverlapScanLemmas.{joined-work, round-tasks, fresh-search, front-rests, front-edges, front-leaves, next-at, next-paid}
 use Rattle.nfa_pikevm.proofs.OverlapLoopLemmas.{paid-start, paid-joined}
 
 -- the pairs of the states at a position, and of the starts that wait
@@ -126,8 +128,7 @@ module _ (nfa : Automaton) (x : Search) (old : List Bool) where
         states = record { states = All-nil _; few = omega arith };
         paid = paid-start nfa x met.turns [] refl;
         so_far = None;
-        searching = rw are.all (fresh-search nfa x (wants nfa x (length old)) x.start met
-            (pairs_from from.state x.start (from.limit - x.start)));
+        searching = SearchingAt-begin nfa x from are [] met (wants nfa x (length old));
         sound = rw (← are.all) (Sound-start nfa x old (wants nfa x (length old))
             (wants-tells nfa x (length old)) x.start);
         holds = refl;
@@ -151,8 +152,8 @@ module _ (nfa : Automaton) (x : Search) (old : List Bool) where
       (work ∙ ap (λ ps. ToLoad [] ∷ seeds [] ps) (pairs_from-end from.state past)) w.searching in
       UpTo-end nfa x old (wants nfa x (length old)) (wants-tells nfa x (length old)) at met.turns [] w.so_far
       new empty w.holds
-      (Searching-done (edges nfa x) (wants nfa x (length old)) (capture nfa)
-      (Searching-load (edges nfa x) (wants nfa x (length old)) (capture nfa) left))
+      (Searching-done (space nfa x) (wants nfa x (length old))
+      (Searching-load (space nfa x) (wants nfa x (length old)) left))
     where
       over : with_start from 0 at items ≡ [] → from.limit ≤ at + 1
       over e =
@@ -244,7 +245,7 @@ module _ (nfa : Automaton) (x : Search) (old : List Bool) where
               let searched = subst (λ z. Searched nfa x old (wants nfa x (length old)) (wants-tells nfa x (length old))
               at (pairs_at at items (pairs_from from.state at (from.limit - at))) c.front z l.written) whole
               (front-searched l) in
-              let next = Searching-round (edges nfa x) (wants nfa x (length old)) (capture nfa) search (λ v. at < v.1)
+              let next = Searching-round (space nfa x) (wants nfa x (length old)) search (λ v. at < v.1)
               (λ v y a i. let k : v.1 ≤ y.1 = edges-onward nfa x v y i in let m : at < v.1 = a in omega arith)
               (λ a i.
               let r = front-leaves nfa x old c a i in (
@@ -255,7 +256,7 @@ module _ (nfa : Automaton) (x : Search) (old : List Bool) where
               ))
               (λ k i. seeds-later [] from.state at (from.limit - (at + 1)) k i)
               (λ v h a. let k : v.1 ≡ at = h.here in let m : at < v.1 = a in omega arith)
-              (unseen (at + 1) after) [] in
+              (SeenAt-none (at + 1) (length after.bits)) [] in
               record {
                 states = next-at nfa x old c good;
                 paid = next-paid nfa x old c refl low (paid-joined nfa x items from w.paid);
@@ -327,10 +328,10 @@ module _ (nfa : Automaton) (x : Search) (old : List Bool) where
               let split = subst (λ f. SearchingAt nfa x at (wants nfa x (length old)) (starts nfa x) [] w.so_far after f
               l.left l.written) parts.1 (front-search l) in
               let among : In has.0 c.front = rw has.2.split (in-middle has.2.before has.0 has.2.after) in
-              let cut = Searching-cut (edges nfa x) (wants nfa x (length old)) (capture nfa) before_it has.0 parts.0
+              let cut = Searching-cut (space nfa x) (wants nfa x (length old)) before_it has.0 parts.0
               split parts.2 (front-leaves nfa x old c has.0 among).0 in
-              let next = Searching-round (edges nfa x) (wants nfa x (length old)) (capture nfa)
-              (Searching-wait (edges nfa x) (wants nfa x (length old)) (capture nfa) [] cut) (λ v. at < v.1)
+              let next = Searching-round (space nfa x) (wants nfa x (length old))
+              (Searching-wait (space nfa x) (wants nfa x (length old)) [] cut) (λ v. at < v.1)
               (λ v y a i. let k : v.1 ≤ y.1 = edges-onward nfa x v y i in let m : at < v.1 = a in omega arith)
               (λ a i.
               let j = in-before c.front a i in
@@ -341,7 +342,7 @@ module _ (nfa : Automaton) (x : Search) (old : List Bool) where
                 r.2,
               ))
               (λ k i. absurd i) (λ v h a. let k : v.1 ≡ at = h.here in let m : at < v.1 = a in omega arith)
-              (unseen (at + 1) after) [] in
+              (SeenAt-none (at + 1) (length after.bits)) [] in
               let moved : kept ≡ moves (edges nfa x) (before_match (wants nfa x (length old)) c.front) = c.added
               ∙ sym (c.cut refl) in
               let none : pairs_from from.state (at + 1) (0 - (at + 1)) ≡ [] = pairs_from-end from.state (omega arith) in

@@ -10,7 +10,7 @@ use Rattle.regex_search_core.specs.declared.search.MatchKind.{MatchKind}
 use Rattle.regex_search_core.specs.declared.search.MatchKind.TheVariants.{All as AllMatches, LeftmostFirst}
 use Rattle.thompson_nfa.specs.Automaton.{Automaton, IsAutomaton}
 use Rattle.nfa_paths.specs.Graphs.{Pair}
-use Rattle.nfa_paths.specs.Paths.{edges, capture, starts, span_len, turn_weight}
+use Rattle.nfa_paths.specs.Paths.{span_len, turn_weight, space}
 use Rattle.nfa_paths.specs.Exploring.{Slots}
 use Rattle.nfa_paths.specs.Kinds.{is_resting, NoneBefore, EndsBefore, IsFront}
 use Rattle.nfa_paths.specs.Overlaps.{HoldsPattern, IsOverlapResult}
@@ -101,7 +101,7 @@ module _ (nfa : Automaton) (x : Search) (old : List Bool) where
       {set : List Bool} {hit : Bool} {after : Marks} {kept : List (ℕ × Slots)} {new : List Bool}
       → Stands from at before met items → (c : CrossesInSet nfa x at past (length old) met (with_start from 0 at items)
       set hit after kept new) → GoesPast past hit
-      → IsFront (edges nfa x) (capture nfa) (starts nfa x) (is_resting nfa) (wants nfa x (length old)) []
+      → IsFront (space nfa x) (is_resting nfa) (wants nfa x (length old)) []
       after.turns c.front at
   stands-front {from} {at} {before} {past} {met} {items} s c goes =
       whole-front nfa x old c from.state from.limit (ScansAt-join nfa x old from at met items s.scans) goes
@@ -148,7 +148,7 @@ module _ (nfa : Automaton) (x : Search) (old : List Bool) where
   -- no match was met yet: with `past` none of a pattern below the capacity
   abbrev pub NoneMet : Bool → ℕ → Type 0
   NoneMet true at = NoneHeld nfa x old (wants nfa x (length old)) (wants-tells nfa x (length old)) at
-  NoneMet false at = NoneBefore (edges nfa x) (starts nfa x) (wants nfa x (length old)) at
+  NoneMet false at = NoneBefore (space nfa x) (wants nfa x (length old)) at
 
   pub record EarliestAt (past : Bool) (from : Starts) (at before : ℕ) (met : Marks) (items : List (ℕ × Slots))
       (new : List Bool) : Type 0 where
@@ -164,13 +164,13 @@ module _ (nfa : Automaton) (x : Search) (old : List Bool) where
     where
       of : (past : Bool) → NoneMet past x.start
       of true = NoneHeld-start nfa x old (wants nfa x (length old)) (wants-tells nfa x (length old))
-      of false = NoneBefore-start (edges nfa x) (capture nfa) (starts nfa x) (is_resting nfa) (wants nfa x (length old))
+      of false = NoneBefore-start (space nfa x) (is_resting nfa) (wants nfa x (length old))
           [] (wanted-shape nfa x old (wants nfa x (length old)) (wants-tells nfa x (length old))) x.start
           (starts-from nfa x)
 
   -- what was not met at a position
   unmet : (past : Bool) {at : ℕ} {front : List (Pair × Slots)} {turns : ℕ} (new : List Bool) → NoneMet past at
-      → IsFront (edges nfa x) (capture nfa) (starts nfa x) (is_resting nfa) (wants nfa x (length old)) [] turns front at
+      → IsFront (space nfa x) (is_resting nfa) (wants nfa x (length old)) [] turns front at
       → Gathers nfa past (wants nfa x (length old)) front old false new
       → (new ≡ old) × NoneMet past (at + 1)
   unmet true new none f g = (
@@ -189,7 +189,7 @@ module _ (nfa : Automaton) (x : Search) (old : List Bool) where
         | inl lacks ↦
             let still : GathersFirst nfa None old false new = rw lacks.0 at g in (
               still.1,
-              NoneBefore-step (edges nfa x) (capture nfa) (starts nfa x) (is_resting nfa) (wants nfa x (length old)) []
+              NoneBefore-step (space nfa x) (is_resting nfa) (wants nfa x (length old)) []
                   (wanted-shape nfa x old (wants nfa x (length old)) (wants-tells nfa x (length old))) none f lacks.1,
             )
         | inr has ↦ let met : GathersFirst nfa (Some has.0) old false new = rw has.1 at g in
@@ -244,14 +244,14 @@ module _ (nfa : Automaton) (x : Search) (old : List Bool) where
   pub Earliest-end : (past : Bool) {from : Starts} {at before : ℕ} {met : Marks} {items : List (ℕ × Slots)}
       {new : List Bool}
       → (past ≡ false → size_of_set old ≡ 0) → EarliestAt past from at before met items new
-      → EndsBefore (edges nfa x) (starts nfa x) (wants nfa x (length old)) at
+      → EndsBefore (space nfa x) (wants nfa x (length old)) at
       → IsOverlapResult nfa x (cond past AllMatches LeftmostFirst) true old new
   Earliest-end true empty a ends = rw a.still
       (NoneHeld-end nfa x old (wants nfa x (length old)) (wants-tells nfa x (length old)) a.none ends)
   Earliest-end false empty a ends =
       rw a.still
       (First-none nfa x old (wants nfa x (length old)) (wants-tells nfa x (length old))
-      (NoneBefore-end (edges nfa x) (capture nfa) (starts nfa x) (is_resting nfa) (wants nfa x (length old)) []
+      (NoneBefore-end (space nfa x) (is_resting nfa) (wants nfa x (length old)) []
       (wanted-shape nfa x old (wants nfa x (length old)) (wants-tells nfa x (length old))) a.none ends)
       true (empty refl))
 

@@ -9,7 +9,7 @@ use Rattle.regex_search_core.specs.Search.{Search}
 use Rattle.thompson_nfa.specs.Automaton.{Automaton, Node, LeadsBelow, IsAutomaton}
 use Rattle.thompson_nfa.specs.Automaton.Node.{ByteRange, Sparse, Dense, Look, Union, BinaryUnion, Capture, Fail, Match}
 use Rattle.nfa_paths.specs.Graphs.{Pair, In}
-use Rattle.nfa_paths.specs.Paths.{node_at, degree, edges, edges_of, byte_at, target_on, capture, starts, pairs_from, turn_weight}
+use Rattle.nfa_paths.specs.Paths.{node_at, degree, edges, edges_of, byte_at, target_on, capture, starts, pairs_from, turn_weight, space}
 use Rattle.nfa_paths.specs.Exploring.{Slots, Hit, Item, ExploresTo, ExploresBehind, Searching, round, seeds}
 use Rattle.nfa_paths.specs.Exploring.Item.{Explore as ToExplore, Load as ToLoad}
 use Rattle.nfa_paths.specs.Kinds.{rests, is_resting, Scanning, IsFront, EndsBefore}
@@ -27,6 +27,9 @@ use Rattle.nfa_pikevm.specs.Scans.{starts_from, with_start, AreStarts, AreAt, Is
 use Rattle.nfa_pikevm.specs.States.{Front, moves, tasks, unmarked, SeenAt, Formed, Leads, one_of}
 use Rattle.nfa_pikevm.specs.Overlapping.{wants, GoesPast, CrossesInSet}
 use Rattle.nfa_pikevm.specs.declared.scan.Starts.{Starts}
+use Rattle.nfa_pikevm.proofs.FrontLemmas.{SeenAt-none}
+use Rattle.nfa_pikevm.proofs.TaskLemmas.{Searching-begin}
+use Rattle.nfa_pikevm.proofs.EndLemmas.{SearchingAt-begin}
 use Rattle.nfa_pikevm.proofs.OverlapSetLemmas.{wants-tells, wants-match}
 
 -- lists
@@ -81,17 +84,6 @@ sum-ones (node ∷ nodes) = omega (
   sum_by-cons one_of node nodes,
   sum-ones nodes,
 )
-
--- no state is marked
-get-clear : (n k : ℕ) → get_or (replicate n false) k false ≡ false
-get-clear n k =
-    elim (cases_lt k n) [
-      | inl less ↦ get_or-replicate n k false false less
-      | inr past ↦ get_or_past (replicate n false) k false (rw length-replicate past)
-    ]
-
-pub unseen : (at : ℕ) (met : Marks) (v : Pair) → SeenAt at (unmarked met).bits v → ⊥
-unseen at met v h = let never : true ≡ false = sym h.set ∙ get-clear (length met.bits) v.0 in cc
 
 -- the work of a position
 pub tasks-append : (at : ℕ) (xs ys : List (ℕ × Slots)) (work : List Item)
@@ -152,12 +144,10 @@ module _ (nfa : Automaton) (x : Search) where
   module _ (target : Pair → Bool) (left : ℕ) (otherwise : Hit) (marks : List Pair) (at : ℕ) (g : Hit) where
     answer-edges : (vs : List Pair) (s : Slots) (items : List (ℕ × Slots)) (work rest : List Item) (slots : Slots)
         → ((v : Pair) → In v vs → v.1 ≡ at)
-        → ((after : Slots) → ExploresTo (edges nfa x) target (capture nfa) left otherwise marks
-        (tasks at items work) after g
-        → ExploresTo (edges nfa x) target (capture nfa) left otherwise marks rest s g)
-        → ExploresTo (edges nfa x) target (capture nfa) left otherwise marks
-        (tasks at (map (λ v. (v.0, s)) vs ++ items) work) slots g
-        → ExploresTo (edges nfa x) target (capture nfa) left otherwise marks (map ToExplore vs ++ rest) s g
+        → ((after : Slots) → ExploresTo (space nfa x) target left otherwise marks (tasks at items work) after
+        g → ExploresTo (space nfa x) target left otherwise marks rest s g)
+        → ExploresTo (space nfa x) target left otherwise marks (tasks at (map (λ v. (v.0, s)) vs ++ items) work) slots g
+        → ExploresTo (space nfa x) target left otherwise marks (map ToExplore vs ++ rest) s g
     unfolding ExploresTo
     answer-edges [] s items work rest slots here next a = next slots a
     answer-edges (v ∷ vs) s items work rest slots here next a =
@@ -171,9 +161,9 @@ module _ (nfa : Automaton) (x : Search) where
 
     pub answer-tasks : (front : Front) (old : Slots) (waiting : List Item) (slots current : Slots)
         → ((a : Pair × Slots) → In a front → (v : Pair) → In v (edges nfa x a.0) → v.1 ≡ at)
-        → ExploresTo (edges nfa x) target (capture nfa) left otherwise marks
+        → ExploresTo (space nfa x) target left otherwise marks
         (tasks at (moves (edges nfa x) front) (ToLoad old ∷ waiting)) slots g
-        → ExploresTo (edges nfa x) target (capture nfa) left otherwise marks
+        → ExploresTo (space nfa x) target left otherwise marks
         (round (edges nfa x) front (ToLoad old ∷ waiting)) current g
     unfolding ExploresTo round
     answer-tasks [] old waiting slots current here a = a
@@ -186,9 +176,9 @@ module _ (nfa : Automaton) (x : Search) where
   pub round-tasks : (target : Pair → Bool) {goal : Hit → ℕ → Type 0} {Seen : Pair → Type 0} {spent : ℕ}
       {otherwise : Hit} (at : ℕ) (front : Front) (old : Slots) (waiting : List Item)
       (current slots : Slots) → ((a : Pair × Slots) → In a front → (v : Pair) → In v (edges nfa x a.0) → v.1 ≡ at)
-      → Searching (edges nfa x) target (capture nfa) goal Seen spent [] otherwise
+      → Searching (space nfa x) target goal Seen spent [] otherwise
       (round (edges nfa x) front (ToLoad old ∷ waiting)) current
-      → Searching (edges nfa x) target (capture nfa) goal Seen spent [] otherwise
+      → Searching (space nfa x) target goal Seen spent [] otherwise
       (tasks at (moves (edges nfa x) front) (ToLoad old ∷ waiting)) slots
   unfolding ExploresBehind
   round-tasks target {otherwise = otherwise} at front old waiting current slots here h = record {
@@ -200,63 +190,55 @@ module _ (nfa : Automaton) (x : Search) where
 
   -- a search from some starts, after as many turns as were taken before it
   pub fresh-search : (target : Pair → Bool) (at : ℕ) (met : Marks) (from : List Pair)
-      → Searching (edges nfa x) target (capture nfa)
-      (λ g total. ExploresTo (edges nfa x) target (capture nfa) total None [] (map ToExplore from) [] g)
+      → Searching (space nfa x) target
+      (λ g total. ExploresTo (space nfa x) target total None [] (map ToExplore from) [] g)
       (SeenAt at (unmarked met).bits) met.turns [] None
       (ToLoad [] ∷ seeds [] from) []
-  unfolding ExploresTo ExploresBehind
-  fresh-search target at met from = record {
-    marks = [];
-    agrees = λ v. (λ i. absurd i, λ s. absurd (unseen at met v s));
-    leads = λ g left total e h.
-        Answer-more (edges nfa x) target (capture nfa) left total (omega arith) None [] (map ToExplore from) [] g
-        (Answer-seeds (edges nfa x) target (capture nfa) left None [] from [] g h);
-  }
+  fresh-search target at met from =
+      Searching-begin (space nfa x) target (SeenAt at (unmarked met).bits) met.turns None from [] []
+      (SeenAt-none at (length met.bits))
 
   -- with a set that was `old` when the scan began
   module _ (old : List Bool) where
     -- the scan for each wanted pair, at a position where it has followed no state yet
     pub record ScansAt (at state limit : ℕ) (met : Marks) (items : List (ℕ × Slots)) : Type 0 where
-      pub scanning : Scanning (edges nfa x) (capture nfa) (starts nfa x) (wants nfa x (length old)) [] at
+      pub scanning : Scanning (space nfa x) (wants nfa x (length old)) [] at
           (SeenAt at (unmarked met).bits) met.turns []
           (tasks at items (ToLoad [] ∷ starts_from 0 state at limit)) []
 
     pub ScansAt-start : (from : Starts) → AreStarts nfa x from → (met : Marks) (items : List (ℕ × Slots)) → items ≡ []
         → ScansAt x.start from.state from.limit met items
     ScansAt-start from are met items none = record {
-      scanning = rw (none, are.all) (record {
-        searching = λ target ok. fresh-search target x.start met (pairs_from from.state x.start (from.limit - x.start));
-      });
+      scanning = rw none (record { searching = λ target ok. SearchingAt-begin nfa x from are [] met target });
     }
 
     -- with the start that joined
     pub ScansAt-join : (from : Starts) (at : ℕ) (met : Marks) (items : List (ℕ × Slots))
         → ScansAt at from.state from.limit met items
-        → Scanning (edges nfa x) (capture nfa) (starts nfa x) (wants nfa x (length old)) [] at
-        (SeenAt at (unmarked met).bits) met.turns []
+        → Scanning (space nfa x) (wants nfa x (length old)) [] at (SeenAt at (unmarked met).bits) met.turns []
         (tasks at (with_start from 0 at items) (ToLoad [] ∷ starts_from 0 from.state (at + 1) from.limit)) []
     ScansAt-join from at met items s =
-        subst (λ w. Scanning (edges nfa x) (capture nfa) (starts nfa x) (wants nfa x (length old)) [] at
+        subst (λ w. Scanning (space nfa x) (wants nfa x (length old)) [] at
         (SeenAt at (unmarked met).bits) met.turns [] w []) (sym (joined-work from at items)) s.scanning
 
     -- no state and no start is left: every path has ended
     pub ScansAt-over : (from : Starts) (at : ℕ) (met : Marks) (items : List (ℕ × Slots))
         → ScansAt at from.state from.limit met items → with_start from 0 at items ≡ []
-        → EndsBefore (edges nfa x) (starts nfa x) (wants nfa x (length old)) at
+        → EndsBefore (space nfa x) (wants nfa x (length old)) at
     unfolding seeds
     ScansAt-over from at met items s none =
         let two : (items ≡ []) × (from.limit ≤ at) = parts none in
         let work : tasks at items (ToLoad [] ∷ starts_from 0 from.state at from.limit) ≡ ToLoad [] ∷ [] =
         ap (λ i. tasks at i (ToLoad [] ∷ starts_from 0 from.state at from.limit)) two.0
         ∙ ap (λ ps. ToLoad [] ∷ seeds [] ps) (pairs_from-end from.state two.1) in
-        let left : Scanning (edges nfa x) (capture nfa) (starts nfa x) (wants nfa x (length old)) [] at
+        let left : Scanning (space nfa x) (wants nfa x (length old)) [] at
         (SeenAt at (unmarked met).bits) met.turns [] (ToLoad [] ∷ []) [] =
-        subst (λ w. Scanning (edges nfa x) (capture nfa) (starts nfa x) (wants nfa x (length old)) [] at
+        subst (λ w. Scanning (space nfa x) (wants nfa x (length old)) [] at
         (SeenAt at (unmarked met).bits) met.turns [] w []) work s.scanning in
-        EndsBefore-over (edges nfa x) (capture nfa) (starts nfa x) (is_resting nfa) (wants nfa x (length old)) []
+        EndsBefore-over (space nfa x) (is_resting nfa) (wants nfa x (length old)) []
         (wanted-shape nfa x old (wants nfa x (length old)) (wants-tells nfa x (length old))) at
-        (Scanning-over (edges nfa x) (capture nfa) (starts nfa x) (wants nfa x (length old)) []
-        (Scanning-load (edges nfa x) (capture nfa) (starts nfa x) (wants nfa x (length old)) [] left))
+        (Scanning-over (space nfa x) (wants nfa x (length old)) []
+        (Scanning-load (space nfa x) (wants nfa x (length old)) [] left))
       where
         parts : with_start from 0 at items ≡ [] → (items ≡ []) × (from.limit ≤ at)
         parts e =
@@ -354,14 +336,14 @@ module _ (nfa : Automaton) (x : Search) where
             rw steps (omega (arith, c.paid.tried));
       }
 
-      module _ (state limit : ℕ) (s : Scanning (edges nfa x) (capture nfa) (starts nfa x) (wants nfa x (length old)) []
+      module _ (state limit : ℕ) (s : Scanning (space nfa x) (wants nfa x (length old)) []
           at (SeenAt at (unmarked met).bits) met.turns []
           (tasks at items (ToLoad [] ∷ starts_from 0 state (at + 1) limit)) []) where
         -- the front is that of the scan, up to where it was followed
         pub lead-scan : (l : Leads nfa x at (unmarked met) []
             (tasks at items (ToLoad [] ∷ starts_from 0 state (at + 1) limit)) [] (GoesPast past hit) after c.front
             (ToLoad [] ∷ starts_from 0 state (at + 1) limit))
-            × Scanning (edges nfa x) (capture nfa) (starts nfa x) (wants nfa x (length old)) [] at
+            × Scanning (space nfa x) (wants nfa x (length old)) [] at
             (SeenAt at after.bits) after.turns c.front l.left l.written
         lead-scan =
             let l = c.leads [] (starts_from 0 state (at + 1) limit) in (
@@ -378,19 +360,18 @@ module _ (nfa : Automaton) (x : Search) where
         -- where all of it was followed
         module _ (goes : GoesPast past hit) where
           whole-scan : (written : Slots)
-              × Scanning (edges nfa x) (capture nfa) (starts nfa x) (wants nfa x (length old)) [] at
+              × Scanning (space nfa x) (wants nfa x (length old)) [] at
               (SeenAt at after.bits) after.turns c.front (ToLoad [] ∷ starts_from 0 state (at + 1) limit) written
           whole-scan =
               let l = lead-scan in (
                 l.0.written,
-                subst (λ w. Scanning (edges nfa x) (capture nfa) (starts nfa x) (wants nfa x (length old)) [] at
+                subst (λ w. Scanning (space nfa x) (wants nfa x (length old)) [] at
                     (SeenAt at after.bits) after.turns c.front w l.0.written) (l.0.whole goes) l.1,
               )
 
-          pub whole-front : IsFront (edges nfa x) (capture nfa) (starts nfa x) (is_resting nfa)
-              (wants nfa x (length old)) [] after.turns c.front at
+          pub whole-front : IsFront (space nfa x) (is_resting nfa) (wants nfa x (length old)) [] after.turns c.front at
           whole-front =
-              Scanning-front (edges nfa x) (capture nfa) (starts nfa x) (wants nfa x (length old)) [] whole-scan.1
+              Scanning-front (space nfa x) (wants nfa x (length old)) [] whole-scan.1
               front-rests c.formed.once
               (λ k i. elim i [ inl never ↦ absurd (no_load k never) | inr j ↦ waits-later k j ])
             where
@@ -400,9 +381,9 @@ module _ (nfa : Automaton) (x : Search) where
           pub ScansAt-next : ScansAt (at + 1) state limit after kept
           ScansAt-next = record {
             scanning =
-                let next = Scanning-round (edges nfa x) (capture nfa) (starts nfa x) (wants nfa x (length old)) []
+                let next = Scanning-round (space nfa x) (wants nfa x (length old)) []
                 whole-scan.1 (edges-onward nfa x) front-leaves waits-later
-                (λ v h. let e : v.1 ≡ at = h.here in omega arith) (unseen (at + 1) after) [] in
+                (λ v h. let e : v.1 ≡ at = h.here in omega arith) (SeenAt-none (at + 1) (length after.bits)) [] in
                 rw c.added (record {
                   searching = λ target ok. round-tasks target (at + 1) c.front [] (starts_from 0 state (at + 1) limit)
                       [] [] front-edges (next.searching target ok);

@@ -9,7 +9,7 @@ use Rattle.regex_search_core.specs.Patterns.{number_of}
 use Rattle.regex_search_core.specs.declared.primitives.PatternID.{PatternID}
 use Rattle.thompson_nfa.specs.Automaton.{Automaton}
 use Rattle.nfa_paths.specs.Graphs.{Pair, In}
-use Rattle.nfa_paths.specs.Paths.{node_at, pattern_of, edges, is_match, capture}
+use Rattle.nfa_paths.specs.Paths.{node_at, pattern_of, edges, is_match, space}
 use Rattle.nfa_paths.specs.Exploring.{Slots, Item}
 use Rattle.nfa_paths.specs.Exploring.Item.{Explore as ToExplore, Load as ToLoad}
 use Rattle.nfa_paths.specs.Kinds.{NoMatch, before_match}
@@ -52,7 +52,7 @@ module _ (nfa : Automaton) (x : Search) (at : ℕ) where
       → Follows nfa x at m f (ToLoad old ∷ w) s m f w old
   follows-load m f w s old = record {
     leads =
-        λ target ok starts entry otherwise h. Searching-load (edges nfa x) target (capture nfa) h;
+        λ target ok starts entry otherwise h. Searching-load (space nfa x) target h;
   }
 
   -- what is loaded does not depend on the slots before
@@ -64,10 +64,10 @@ module _ (nfa : Automaton) (x : Search) (at : ℕ) where
       agrees = h.agrees;
       leads = λ g left total e k.
           h.leads g left total e
-          (AnswerBehind-along (edges nfa x) target (capture nfa) f left left (omega arith) otherwise otherwise h.marks
+          (AnswerBehind-along (space nfa x) target f left left (omega arith) otherwise otherwise h.marks
           h.marks (ToLoad old ∷ w) (ToLoad old ∷ w) t s g
-          (λ a. (Answer-load (edges nfa x) target (capture nfa) left otherwise h.marks old w s g).0
-          ((Answer-load (edges nfa x) target (capture nfa) left otherwise h.marks old w t g).1 a)) k);
+          (λ a. (Answer-load (space nfa x) target left otherwise h.marks old w s g).0
+          ((Answer-load (space nfa x) target left otherwise h.marks old w t g).1 a)) k);
     };
   }
 

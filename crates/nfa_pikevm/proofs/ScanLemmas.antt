@@ -11,7 +11,7 @@ use Rattle.nfa_paths.specs.Graphs.{Pair, In}
 use Rattle.nfa_paths.specs.Exploring.{Item, Slots, Hit, round}
 use Rattle.nfa_paths.specs.Exploring.Item.{Explore, Load}
 use Rattle.nfa_paths.specs.Kinds.{first_match, before_match}
-use Rattle.nfa_paths.specs.Paths.{edges, is_match, capture, starts}
+use Rattle.nfa_paths.specs.Paths.{edges, is_match, starts, space}
 use Rattle.nfa_paths.proofs.AnswerLemmas.{IsMatch-capture}
 use Rattle.nfa_paths.proofs.ScanAnswerLemmas.{edges-onward, seeds-later}
 use Rattle.nfa_paths.proofs.ScanningLemmas.{Searching-cut, Searching-wait, Searching-cut_round}
@@ -52,16 +52,15 @@ module _ (nfa : Automaton) (x : Search) (at width state limit : ℕ) where
       (s : SearchingAt nfa x at (is_match nfa) (starts nfa x) (blank width) so_far (unmarked met) []
       (tasks at items (Load (blank width) ∷ starts_from width state (at + 1) limit)) (blank width)) where
     -- the next position's work is that of what is kept
-    kept-work : (waiting : List Item) → AnswersFor (edges nfa x) (is_match nfa) (capture nfa)
+    kept-work : (waiting : List Item) → AnswersFor (space nfa x) (is_match nfa)
         (round (edges nfa x) (before_match (is_match nfa) c.front) (Load (blank width) ∷ waiting))
         (tasks (at + 1) kept (Load (blank width) ∷ waiting))
     kept-work waiting =
         let same : moves (edges nfa x) (before_match (is_match nfa) c.front) ≡ kept = c.cut refl ∙ sym c.added in
-        subst (λ (ks : List (ℕ × Slots)). AnswersFor (edges nfa x) (is_match nfa) (capture nfa)
+        subst (λ (ks : List (ℕ × Slots)). AnswersFor (space nfa x) (is_match nfa)
         (round (edges nfa x) (before_match (is_match nfa) c.front) (Load (blank width) ∷ waiting))
         (tasks (at + 1) ks (Load (blank width) ∷ waiting))) same
-        (AnswersFor-round (edges nfa x) (is_match nfa) (capture nfa) at (before_match (is_match nfa) c.front)
-        (blank width) waiting
+        (AnswersFor-round (space nfa x) (is_match nfa) at (before_match (is_match nfa) c.front) (blank width) waiting
         (λ a i. Formed-next nfa x at after.bits c.front c.formed a (before_match-among (is_match nfa) c.front a i)))
 
     -- no match at the position
@@ -72,12 +71,12 @@ module _ (nfa : Automaton) (x : Search) (at width state limit : ℕ) where
         let l = c.leads (blank width) (blank width) (starts_from width state (at + 1) limit) in
         let left = l.follows.leads (is_match nfa) (λ v t. t) (starts nfa x) (blank width) so_far s in
         let whole = rw (l.whole goes_on) at left in
-        let next = Searching-cut_round (edges nfa x) (is_match nfa) (capture nfa) {e = at}
+        let next = Searching-cut_round (space nfa x) (is_match nfa) {e = at}
         {After = SeenAt (at + 1) (replicate (length after.bits) false)} whole (edges-onward nfa x)
         (Formed-rests nfa x at after.bits c.front c.formed) waits-later
         (λ v seen. let h : v.1 ≡ at = seen.here in omega arith) (SeenAt-none (at + 1) (length after.bits))
         (blank width) in
-        Searching-for (edges nfa x) (is_match nfa) (capture nfa) (rw none at next)
+        Searching-for (space nfa x) (is_match nfa) (rw none at next)
         (kept-work (starts_from width state (at + 1) limit)) (blank width)
 
     -- a match at the position
@@ -90,11 +89,11 @@ module _ (nfa : Automaton) (x : Search) (at width state limit : ℕ) where
         let h = first_match-cut (is_match nfa) c.front a some in
         let split = subst (λ (f : Front). SearchingAt nfa x at (is_match nfa) (starts nfa x) (blank width) so_far after
         f l.left l.written) h.split left in
-        let cut = Searching-cut (edges nfa x) (is_match nfa) (capture nfa) (before_match (is_match nfa) c.front) a
+        let cut = Searching-cut (space nfa x) (is_match nfa) (before_match (is_match nfa) c.front) a
         h.after split h.matches (IsMatch-capture nfa a.0 h.matches) in
-        let next = Searching-round (edges nfa x) (is_match nfa) (capture nfa)
+        let next = Searching-round (space nfa x) (is_match nfa)
         {After = SeenAt (at + 1) (replicate (length after.bits) false)}
-        (Searching-wait (edges nfa x) (is_match nfa) (capture nfa) (blank width) cut) (λ v. at < v.1)
+        (Searching-wait (space nfa x) (is_match nfa) (blank width) cut) (λ v. at < v.1)
         (λ v w k i. let m : v.1 ≤ w.1 = edges-onward nfa x v w i in let n : at < v.1 = k in omega arith)
         (λ b i.
         let r = Formed-rests nfa x at after.bits c.front c.formed b (before_match-among (is_match nfa) c.front b i) in (
@@ -105,7 +104,7 @@ module _ (nfa : Automaton) (x : Search) (at width state limit : ℕ) where
         ))
         (λ k i. absurd (none_waits k i)) (λ v seen k. let m : v.1 ≡ at = seen.here in let n : at < v.1 = k in
         omega arith) (SeenAt-none (at + 1) (length after.bits)) (blank width) in
-        Searching-for (edges nfa x) (is_match nfa) (capture nfa) next (kept-work []) (blank width)
+        Searching-for (space nfa x) (is_match nfa) next (kept-work []) (blank width)
       where
         none_waits : (k : Pair) → In (Explore k) [] → ⊥
         none_waits k i = i

@@ -2,7 +2,7 @@
 use Rattle.std.proofs.Common.{◌≡◌, ℕ, suc, zero, ◌+◌, ◌<◌, ◌≤◌, ◌⊎◌, ◌↔◌, inl, inr, List, [], ◌∷◌, ◌++◌, map, refl, ap, sym, ◌∙◌, arith, subst, Bool}
 use Rattle.std.specs.Prelude.{Option, None}
 use Rattle.std.proofs.lemmas.Bool.{cases_lt, lt-ltb, le-ltb}
-use Rattle.nfa_paths.specs.Graphs.{Pair, In}
+use Rattle.nfa_paths.specs.Graphs.{Pair, In, Space}
 use Rattle.nfa_paths.specs.FirstPaths.{IsFirst}
 use Rattle.nfa_paths.specs.Exploring.{Item, Slots, Hit, ExploresTo, ExploresBehind, Searching, round, seeds}
 use Rattle.nfa_paths.specs.Exploring.Item.{Explore, Load}
@@ -64,30 +64,28 @@ tasks-joined starts width at items =
 -- work that answers for other work
 
 -- Whatever the work `less` answers, `more` answers too; and what is loaded before does not matter to either.
-pub record AnswersFor (edges : Pair → List Pair) (target : Pair → Bool) (capture : Pair → Option ℕ)
-    (more less : List Item) : Type 0 where
+pub record AnswersFor (space : Space) (target : Pair → Bool) (more less : List Item) : Type 0 where
   pub back : (left : ℕ) (otherwise : Hit) (marks : List Pair) (slots after : Slots) (g : Hit)
-      → ExploresTo edges target capture left otherwise marks less after g
-      → ExploresTo edges target capture left otherwise marks more slots g
+      → ExploresTo space target left otherwise marks less after g
+      → ExploresTo space target left otherwise marks more slots g
 
-module _ (edges : Pair → List Pair) (target : Pair → Bool) (capture : Pair → Option ℕ) where
+module _ (space : Space) (target : Pair → Bool) where
   -- work that loads slots first answers for itself
-  pub AnswersFor-same : (old : Slots) (work : List Item)
-      → AnswersFor edges target capture (Load old ∷ work) (Load old ∷ work)
+  pub AnswersFor-same : (old : Slots) (work : List Item) → AnswersFor space target (Load old ∷ work) (Load old ∷ work)
   unfolding ExploresTo
   AnswersFor-same old work = record { back = λ left otherwise marks slots after g h. h }
 
   -- one after the other
-  pub AnswersFor-then : {a b c : List Item} → AnswersFor edges target capture a b → AnswersFor edges target capture b c
-      → AnswersFor edges target capture a c
+  pub AnswersFor-then : {a b c : List Item} → AnswersFor space target a b → AnswersFor space target b c
+      → AnswersFor space target a c
   AnswersFor-then f k = record {
     back = λ left otherwise marks slots after g h. f.back left otherwise marks slots after
         g (k.back left otherwise marks after after g h);
   }
 
   -- slots that are loaded in vain
-  pub AnswersFor-load : {a b : List Item} (old : Slots) → AnswersFor edges target capture a b
-      → AnswersFor edges target capture (Load old ∷ a) b
+  pub AnswersFor-load : {a b : List Item} (old : Slots) → AnswersFor space target a b
+      → AnswersFor space target (Load old ∷ a) b
   unfolding ExploresTo
   AnswersFor-load old f = record {
     back = λ left otherwise marks slots after g h.
@@ -95,8 +93,8 @@ module _ (edges : Pair → List Pair) (target : Pair → Bool) (capture : Pair �
   }
 
   -- below one more state
-  pub AnswersFor-item : {a b : List Item} (old : Slots) (v : Pair) → AnswersFor edges target capture a b
-      → AnswersFor edges target capture (Load old ∷ Explore v ∷ a) (Load old ∷ Explore v ∷ b)
+  pub AnswersFor-item : {a b : List Item} (old : Slots) (v : Pair) → AnswersFor space target a b
+      → AnswersFor space target (Load old ∷ Explore v ∷ a) (Load old ∷ Explore v ∷ b)
   unfolding ExploresTo
   AnswersFor-item old v f = record {
     back = λ left otherwise marks slots after g h.
@@ -104,23 +102,23 @@ module _ (edges : Pair → List Pair) (target : Pair → Bool) (capture : Pair �
   }
 
   -- below the states of a position
-  pub AnswersFor-tasks : {a b : List Item} (at : ℕ) (items : List (ℕ × Slots)) → AnswersFor edges target capture a b
-      → AnswersFor edges target capture (tasks at items a) (tasks at items b)
+  pub AnswersFor-tasks : {a b : List Item} (at : ℕ) (items : List (ℕ × Slots)) → AnswersFor space target a b
+      → AnswersFor space target (tasks at items a) (tasks at items b)
   AnswersFor-tasks at [] f = f
   AnswersFor-tasks at (i ∷ items) f = AnswersFor-item i.1 (i.0, at) (AnswersFor-tasks at items f)
 
   -- a start from which no target is reached
   pub AnswersFor-dead : (slots : Slots) (v : Pair) (work : List Item)
-      → ((marks : List Pair) → IsFirst edges target marks v None)
-      → AnswersFor edges target capture (Load slots ∷ Explore v ∷ Load slots ∷ work) (Load slots ∷ work)
+      → ((marks : List Pair) → IsFirst space.edges target marks v None)
+      → AnswersFor space target (Load slots ∷ Explore v ∷ Load slots ∷ work) (Load slots ∷ work)
   unfolding ExploresTo
   AnswersFor-dead slots v work dead = record { back = λ left otherwise marks s after g h. inr (dead marks, h) }
 
   -- what was put aside, as the states of the next position
   pub AnswersFor-round : (at : ℕ) (front : Front) (old : Slots) (waiting : List Item)
-      → ((a : Pair × Slots) → In a front → (edges a.0 ≡ []) ⊎ ((t : ℕ) × (edges a.0 ≡ (t, at + 1) ∷ [])))
-      → AnswersFor edges target capture (round edges front (Load old ∷ waiting))
-      (tasks (at + 1) (moves edges front) (Load old ∷ waiting))
+      → ((a : Pair × Slots) → In a front → (space.edges a.0 ≡ []) ⊎ ((t : ℕ) × (space.edges a.0 ≡ (t, at + 1) ∷ [])))
+      → AnswersFor space target (round space.edges front (Load old ∷ waiting))
+      (tasks (at + 1) (moves space.edges front) (Load old ∷ waiting))
   unfolding round
   AnswersFor-round at [] old waiting one = AnswersFor-same old waiting
   AnswersFor-round at (a ∷ front) old waiting one =
@@ -133,15 +131,15 @@ module _ (edges : Pair → List Pair) (target : Pair → Bool) (capture : Pair �
   -- the search goes on with the work that answers for what was left
   pub Searching-for : {goal : Hit → ℕ → Type 0} {Seen : Pair → Type 0} {spent : ℕ} {front : List (Pair × Slots)}
       {otherwise : Hit} {more less : List Item} {slots : Slots}
-      → Searching edges target capture goal Seen spent front otherwise more slots
-      → AnswersFor edges target capture more less → (after : Slots)
-      → Searching edges target capture goal Seen spent front otherwise less after
+      → Searching space target goal Seen spent front otherwise more slots
+      → AnswersFor space target more less → (after : Slots)
+      → Searching space target goal Seen spent front otherwise less after
   Searching-for {front = front} {otherwise} {more} {less} {slots} s f after = record {
     marks = s.marks;
     agrees = s.agrees;
     leads = λ g left total e h.
         s.leads g left total e
-        (AnswerBehind-along edges target capture front left left (omega arith) otherwise otherwise s.marks s.marks less
+        (AnswerBehind-along space target front left left (omega arith) otherwise otherwise s.marks s.marks less
         more after slots g
         (f.back left otherwise s.marks slots after g) h);
   }
@@ -149,9 +147,8 @@ module _ (edges : Pair → List Pair) (target : Pair → Bool) (capture : Pair �
   -- other words for what is seen
   pub Searching-seen : {goal : Hit → ℕ → Type 0} {Seen : Pair → Type 0} {spent : ℕ} {front : List (Pair × Slots)}
       {otherwise : Hit} {work : List Item} {slots : Slots}
-      → Searching edges target capture goal Seen spent front otherwise work slots → (After : Pair → Type 0)
-      → ((v : Pair) → Seen v ↔ After v)
-      → Searching edges target capture goal After spent front otherwise work slots
+      → Searching space target goal Seen spent front otherwise work slots → (After : Pair → Type 0)
+      → ((v : Pair) → Seen v ↔ After v) → Searching space target goal After spent front otherwise work slots
   Searching-seen s After agree = record {
     marks = s.marks;
     agrees = λ v. (λ i. (agree v).0 ((s.agrees v).0 i), λ a. (s.agrees v).1 ((agree v).1 a));
@@ -161,51 +158,49 @@ module _ (edges : Pair → List Pair) (target : Pair → Bool) (capture : Pair �
   -- a search begins, where some turns were taken before
   pub Searching-begin : (Seen : Pair → Type 0) (spent : ℕ) (otherwise : Hit) (starts : List Pair)
       (slots current : Slots) → ((v : Pair) → Seen v → ⊥)
-      → Searching edges target capture
-      (λ g total. ExploresTo edges target capture total otherwise [] (map Explore starts) slots g) Seen spent []
-      otherwise (Load slots ∷ seeds slots starts) current
+      → Searching space target (λ g total. ExploresTo space target total otherwise [] (map Explore starts)
+      slots g) Seen spent [] otherwise (Load slots ∷ seeds slots starts) current
   unfolding ExploresTo ExploresBehind
   Searching-begin Seen spent otherwise starts slots current fresh = record {
     marks = [];
     agrees = λ v. (λ i. absurd i, λ s. absurd (fresh v s));
     leads = λ g left total e h.
-        Answer-more edges target capture left total (omega arith) otherwise [] (map Explore starts) slots g
-        (Answer-seeds edges target capture left otherwise [] starts slots g h);
+        Answer-more space target left total (omega arith) otherwise [] (map Explore starts) slots g
+        (Answer-seeds space target left otherwise [] starts slots g h);
   }
 
 -- starts that are passed over
 
-module _ (edges : Pair → List Pair) (target : Pair → Bool) (capture : Pair → Option ℕ) (width state limit : ℕ) where
+module _ (space : Space) (target : Pair → Bool) (width state limit : ℕ) where
   -- one that is passed over
-  pub AnswersFor-pass : (at : ℕ) → ((marks : List Pair) → IsFirst edges target marks (state, at) None)
-      → AnswersFor edges target capture (Load (blank width) ∷ starts_from width state at limit)
+  pub AnswersFor-pass : (at : ℕ) → ((marks : List Pair) → IsFirst space.edges target marks (state, at) None)
+      → AnswersFor space target (Load (blank width) ∷ starts_from width state at limit)
       (Load (blank width) ∷ starts_from width state (at + 1) limit)
   AnswersFor-pass at dead =
       elim (cases_lt at limit) [
         | inl less ↦
-            subst (λ (w : List Item). AnswersFor edges target capture (Load (blank width) ∷ w)
+            subst (λ (w : List Item). AnswersFor space target (Load (blank width) ∷ w)
             (Load (blank width) ∷ starts_from width state (at + 1) limit)) (sym (starts_from-step width state less))
-            (AnswersFor-dead edges target capture (blank width) (state, at)
-            (starts_from width state (at + 1) limit) dead)
+            (AnswersFor-dead space target (blank width) (state, at) (starts_from width state (at + 1) limit) dead)
         | inr past ↦
             let later : limit ≤ at + 1 = omega arith in
-            subst (λ (w : List Item). AnswersFor edges target capture (Load (blank width) ∷ w)
+            subst (λ (w : List Item). AnswersFor space target (Load (blank width) ∷ w)
             (Load (blank width) ∷ starts_from width state (at + 1) limit))
             (starts_from-end width state later ∙ sym (starts_from-end width state past))
-            (AnswersFor-same edges target capture (blank width) (starts_from width state (at + 1) limit))
+            (AnswersFor-same space target (blank width) (starts_from width state (at + 1) limit))
       ]
 
   -- and so all up to a position
   pub AnswersFor-skip : (count at to : ℕ) → to ≡ at + count
-      → ((k : ℕ) → at ≤ k → k < to → (marks : List Pair) → IsFirst edges target marks (state, k) None)
-      → AnswersFor edges target capture (Load (blank width) ∷ starts_from width state at limit)
+      → ((k : ℕ) → at ≤ k → k < to → (marks : List Pair) → IsFirst space.edges target marks (state, k) None)
+      → AnswersFor space target (Load (blank width) ∷ starts_from width state at limit)
       (Load (blank width) ∷ starts_from width state to limit)
   AnswersFor-skip zero at to is dead =
       let same : to ≡ at = omega arith in
-      subst (λ (n : ℕ). AnswersFor edges target capture (Load (blank width) ∷ starts_from width state at limit)
+      subst (λ (n : ℕ). AnswersFor space target (Load (blank width) ∷ starts_from width state at limit)
       (Load (blank width) ∷ starts_from width state n limit)) (sym same)
-      (AnswersFor-same edges target capture (blank width) (starts_from width state at limit))
+      (AnswersFor-same space target (blank width) (starts_from width state at limit))
   AnswersFor-skip (suc count) at to is dead =
       let next : to ≡ at + 1 + count = omega arith in
-      AnswersFor-then edges target capture (AnswersFor-pass at (dead at (omega arith) (omega arith)))
+      AnswersFor-then space target (AnswersFor-pass at (dead at (omega arith) (omega arith)))
       (AnswersFor-skip count (at + 1) to next (λ k h l. dead k (omega arith) l))

@@ -5,7 +5,7 @@ use Rattle.regex_search_core.specs.Found.{HalfFound, half_found_of}
 use Rattle.regex_search_core.specs.Search.{Search}
 use Rattle.regex_search_core.specs.declared.search.HalfMatch.{HalfMatch}
 use Rattle.thompson_nfa.specs.Automaton.{Automaton, LeadsBelow}
-use Rattle.nfa_paths.specs.Paths.{node_at, pattern_of, edges, is_match, capture, starts, pairs_from, turn_weight}
+use Rattle.nfa_paths.specs.Paths.{node_at, pattern_of, is_match, starts, pairs_from, turn_weight, space}
 use Rattle.nfa_paths.specs.Exploring.{Slots, Hit, Item, seeds}
 use Rattle.nfa_paths.specs.Exploring.Item.{Load}
 use Rattle.nfa_paths.specs.Kinds.{Scanning}
@@ -129,6 +129,5 @@ module _ (nfa : Automaton) (x : Search) where
 
   -- The scan for each match, at a position where it has followed no state yet.
   pub record ScansAll (at width start limit : ℕ) (met : Marks) (items : List (ℕ × Slots)) : Type 0 where
-    pub scanning : Scanning (edges nfa x) (capture nfa) (starts nfa x) (is_match nfa) (blank width) at
-        (SeenAt at (unmarked met).bits) met.turns []
+    pub scanning : Scanning (space nfa x) (is_match nfa) (blank width) at (SeenAt at (unmarked met).bits) met.turns []
         (tasks at items (Load (blank width) ∷ starts_from width start at limit)) (blank width)

@@ -7,7 +7,7 @@ use Rattle.regex_search_core.specs.Patterns.{number_of}
 use Rattle.regex_search_core.specs.declared.primitives.PatternID.{PatternID}
 use Rattle.thompson_nfa.specs.Automaton.{Automaton, Node}
 use Rattle.nfa_paths.specs.Graphs.{Pair, NoRepeats}
-use Rattle.nfa_paths.specs.Paths.{degree, node_at, pattern_of, edges, is_match, capture, byte_at}
+use Rattle.nfa_paths.specs.Paths.{degree, node_at, pattern_of, edges, is_match, byte_at, space}
 use Rattle.nfa_paths.specs.Exploring.{Slots, Hit, Item, ExploresTo, Searching}
 use Rattle.nfa_paths.specs.Exploring.Item.{Explore as ToExplore, Restore as ToRestore, Load as ToLoad}
 use Rattle.nfa_paths.specs.Kinds.{rests, first_match, before_match, last_match, NoMatch}
@@ -164,8 +164,8 @@ module _ (nfa : Automaton) (x : Search) where
   -- at position `at`
   abbrev pub SearchingAt : ℕ → (Pair → Bool) → List Pair → Slots → Hit → Marks → Front → List Item → Slots → Type 0
   SearchingAt at target starts entry otherwise met front work slots =
-      Searching (edges nfa x) target (capture nfa)
-      (λ g total. ExploresTo (edges nfa x) target (capture nfa) total None [] (map ToExplore starts) entry g)
+      Searching (space nfa x) target
+      (λ g total. ExploresTo (space nfa x) target total None [] (map ToExplore starts) entry g)
       (SeenAt at met.bits) met.turns front otherwise work slots
 
   -- The search for any set of match pairs goes on from the state after as it did from the state before.

@@ -2,7 +2,7 @@
 use Rattle.std.proofs.Common.{◌≡◌, [], length}
 use Rattle.regex_search_core.specs.Search.{search_of}
 use Rattle.nfa_paths.specs.Kinds.{NoneBefore}
-use Rattle.nfa_paths.specs.Paths.{edges, is_match, starts}
+use Rattle.nfa_paths.specs.Paths.{is_match, space}
 use Rattle.nfa_pikevm.specs.Scans.{SameSizes, AreAt, IsPaidAt, ScansAll}
 use Rattle.nfa_pikevm.proofs.scan.scan_earliest.Given as goal
 
@@ -17,7 +17,7 @@ invariant-loop-at l = record {
   scans : ScansAll l.nfa (search_of l.input) l.at (length l.fn.slots) l.starts.state l.starts.limit
       l.threads.reached.seen
       l.threads.curr.items;
-  none : NoneBefore (edges l.nfa (search_of l.input)) (starts l.nfa (search_of l.input)) (is_match l.nfa) l.at;
+  none : NoneBefore (space l.nfa (search_of l.input)) (is_match l.nfa) l.at;
   same : l.slots ≡ l.fn.slots;
   counted : l.threads.scans ≡ l.fn.threads.scans;
 }
