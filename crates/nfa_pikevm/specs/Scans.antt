@@ -73,6 +73,14 @@ pub record AreStarts (nfa : Automaton) (x : Search) (starts_at : Starts) : Type 
   pub before : starts_at.stop < starts_at.limit
   pub skips : x.start < starts_at.stop → starts_at.state ≡ nfa.anchored
 
+-- A scan may begin: the starts are its own, the span is one, and there is room for rows of this width, and no state.
+pub record MayScan (nfa : Automaton) (x : Search) (starts_at : Starts) (width : ℕ) (t : Threads) : Type 0 where
+  pub starts : AreStarts nfa x starts_at
+  pub span : x.start ≤ x.end
+  pub room : HaveRows nfa width t
+  pub curr : t.curr.items ≡ []
+  pub next : t.reached.next.items ≡ []
+
 -- the states at a position with the start behind them, where it may still join
 abbrev pub with_start : Starts → ℕ → ℕ → List (ℕ × Slots) → List (ℕ × Slots)
 with_start starts_at width at items = if nat_lt at starts_at.limit then items ++ (starts_at.state, blank width)

@@ -7,7 +7,7 @@ ghost use Rattle.regex_search_core.specs.declared.search.MatchKind.TheVariants.{
 ghost use Rattle.thompson_nfa.specs.Automaton.{IsAutomaton};
 ghost use Rattle.nfa_paths.specs.Overlaps.{IsOverlapResult};
 ghost use Rattle.nfa_pikevm.specs.States.{HasRoom, IsHere, KeepsRoom, HasRoomHere};
-ghost use Rattle.nfa_pikevm.specs.Scans.{HaveRoom, HaveRows, SameSizes, AreStarts, scan_turns, IsWithinTurns};
+ghost use Rattle.nfa_pikevm.specs.Scans.{HaveRoom, HaveRows, SameSizes, MayScan, scan_turns, IsWithinTurns};
 ghost use Rattle.nfa_pikevm.specs.Engines.{overlap_scans};
 ghost use Rattle.nfa_pikevm.specs.Overlapping.{permits, rowless, CrossesInSet, ArrivesInSetHere, CrossesInSetHere};
 
@@ -173,11 +173,7 @@ fn overlap_all(
     patterns: &mut PatternSet,
 )
     requires valid { IsAutomaton nfa.now }
-    requires starts { AreStarts nfa.now (search_of input.now) starts.now }
-    requires span { (search_of input.now).start ≤ (search_of input.now).end }
-    requires room { HaveRows nfa.now 0 threads.old }
-    requires curr { threads.old.curr.items ≡ [] }
-    requires next { threads.old.reached.next.items ≡ [] }
+    requires ready { MayScan nfa.now (search_of input.now) starts.now 0 threads.old }
     ensures sizes { SameSizes threads.old threads.new }
     ensures scans { threads.new.scans ≡ threads.old.scans }
     ensures turns { IsWithinTurns nfa.now (search_of input.now) threads.old threads.new }
@@ -206,11 +202,7 @@ fn overlap_earliest(
     patterns: &mut PatternSet,
 )
     requires valid { IsAutomaton nfa.now }
-    requires starts { AreStarts nfa.now (search_of input.now) starts.now }
-    requires span { (search_of input.now).start ≤ (search_of input.now).end }
-    requires room { HaveRows nfa.now 0 threads.old }
-    requires curr { threads.old.curr.items ≡ [] }
-    requires next { threads.old.reached.next.items ≡ [] }
+    requires ready { MayScan nfa.now (search_of input.now) starts.now 0 threads.old }
     requires empty { past_match ≡ false → size_of_set patterns.old ≡ 0 }
     ensures sizes { SameSizes threads.old threads.new }
     ensures scans { threads.new.scans ≡ threads.old.scans }
@@ -240,11 +232,7 @@ fn overlap_first(
     patterns: &mut PatternSet,
 )
     requires valid { IsAutomaton nfa.now }
-    requires starts { AreStarts nfa.now (search_of input.now) starts.now }
-    requires span { (search_of input.now).start ≤ (search_of input.now).end }
-    requires room { HaveRows nfa.now 0 threads.old }
-    requires curr { threads.old.curr.items ≡ [] }
-    requires next { threads.old.reached.next.items ≡ [] }
+    requires ready { MayScan nfa.now (search_of input.now) starts.now 0 threads.old }
     requires empty { size_of_set patterns.old ≡ 0 }
     ensures sizes { SameSizes threads.old threads.new }
     ensures scans { threads.new.scans ≡ threads.old.scans }
@@ -276,11 +264,7 @@ fn overlap_from(
     patterns: &mut PatternSet,
 )
     requires valid { IsAutomaton nfa.now }
-    requires starts { AreStarts nfa.now (search_of input.now) starts.now }
-    requires span { (search_of input.now).start ≤ (search_of input.now).end }
-    requires room { HaveRows nfa.now 0 threads.old }
-    requires curr { threads.old.curr.items ≡ [] }
-    requires next { threads.old.reached.next.items ≡ [] }
+    requires ready { MayScan nfa.now (search_of input.now) starts.now 0 threads.old }
     requires empty { kind ≡ LeftmostFirst → size_of_set patterns.old ≡ 0 }
     ensures sizes { SameSizes threads.old threads.new }
     ensures scans { threads.new.scans ≡ threads.old.scans }

@@ -6,7 +6,7 @@ ghost use Rattle.regex_search_core.specs.Patterns.{number_of};
 ghost use Rattle.regex_search_core.specs.declared.search.MatchKind.TheVariants.{All, LeftmostFirst};
 ghost use Rattle.nfa_paths.specs.Restarts.{ScanGives};
 ghost use Rattle.nfa_scanning.specs.FirstBytes.{IsFirstBytes, IsRefused};
-ghost use Rattle.nfa_pikevm.specs.Scans.{blank, HaveRoom, HaveRows, SameSizes, AreStarts, Joins, with_start};
+ghost use Rattle.nfa_pikevm.specs.Scans.{blank, HaveRoom, SameSizes, MayScan, Joins, with_start};
 ghost use Rattle.nfa_pikevm.specs.Scans.{half_found, IsWithinTurns};
 
 use crate::scratch::Threads;
@@ -114,11 +114,7 @@ fn scan_first(
     slots: &mut [Slot],
 ) -> Option<HalfMatch>
     requires first { IsFirstBytes nfa.now first.now.may_begin }
-    requires starts { AreStarts nfa.now (search_of input.now) starts.now }
-    requires span { (search_of input.now).start ≤ (search_of input.now).end }
-    requires room { HaveRows nfa.now (length slots.old) threads.old }
-    requires curr { threads.old.curr.items ≡ [] }
-    requires next { threads.old.reached.next.items ≡ [] }
+    requires ready { MayScan nfa.now (search_of input.now) starts.now (length slots.old) threads.old }
     requires unset { slots.old ≡ blank (length slots.old) }
     ensures sizes { SameSizes threads.old threads.new }
     ensures scans { threads.new.scans ≡ threads.old.scans }
@@ -154,11 +150,7 @@ fn scan_last(
     threads: &mut Threads,
     slots: &mut [Slot],
 ) -> Option<HalfMatch>
-    requires starts { AreStarts nfa.now (search_of input.now) starts.now }
-    requires span { (search_of input.now).start ≤ (search_of input.now).end }
-    requires room { HaveRows nfa.now (length slots.old) threads.old }
-    requires curr { threads.old.curr.items ≡ [] }
-    requires next { threads.old.reached.next.items ≡ [] }
+    requires ready { MayScan nfa.now (search_of input.now) starts.now (length slots.old) threads.old }
     requires unset { slots.old ≡ blank (length slots.old) }
     ensures sizes { SameSizes threads.old threads.new }
     ensures scans { threads.new.scans ≡ threads.old.scans }
@@ -188,11 +180,7 @@ fn scan_earliest(
     threads: &mut Threads,
     slots: &mut [Slot],
 ) -> Option<HalfMatch>
-    requires starts { AreStarts nfa.now (search_of input.now) starts.now }
-    requires span { (search_of input.now).start ≤ (search_of input.now).end }
-    requires room { HaveRows nfa.now (length slots.old) threads.old }
-    requires curr { threads.old.curr.items ≡ [] }
-    requires next { threads.old.reached.next.items ≡ [] }
+    requires ready { MayScan nfa.now (search_of input.now) starts.now (length slots.old) threads.old }
     requires unset { slots.old ≡ blank (length slots.old) }
     ensures sizes { SameSizes threads.old threads.new }
     ensures scans { threads.new.scans ≡ threads.old.scans }

@@ -10,11 +10,11 @@ loop-at-init c = record {
   counted = refl;
   low = omega (arith, c.start-at.ensures);
   sizes = refl;
-  width = c.requires.room.width_is;
-  next = c.requires.next;
+  width = c.requires.ready.room.width_is;
+  next = c.requires.ready.next;
   so_far = rw c.start-at.ensures (All-start c.args.nfa.now (search_of c.args.input.now) c.args.starts.now
-      c.requires.starts c.args.threads.now.reached.seen c.args.threads.now.curr.items c.args.patterns.now
-      c.requires.curr);
+      c.requires.ready.starts c.args.threads.now.reached.seen c.args.threads.now.curr.items c.args.patterns.now
+      c.requires.ready.curr);
 }
 
 pub returns-then-is_full-clause-gains : goal.returns-then-is_full-clause-gains
@@ -32,7 +32,7 @@ pub cross_to_set-requires-clause-states : goal.cross_to_set-requires-clause-stat
 cross_to_set-requires-clause-states c =
     let items = rw c.loop-at.invariant.width at c.join.ensures.curr in
     rw items (below-joined c.args.starts.now 0 c.loop-at.at c.loop-at.threads.curr.items
-    c.requires.starts.state c.loop-at.invariant.so_far.stands.states.states)
+    c.requires.ready.starts.state c.loop-at.invariant.so_far.stands.states.states)
 
 pub loop-at-preserved : goal.loop-at-preserved
 loop-at-preserved c =

@@ -13,12 +13,12 @@ loop-at-init c = record {
   counted = refl;
   low = omega (arith, c.start-at.ensures);
   sizes = refl;
-  width = c.requires.room.width_is;
-  next = c.requires.next;
+  width = c.requires.ready.room.width_is;
+  next = c.requires.ready.next;
   so_far = rw c.start-at.ensures
       (Earliest-start c.args.nfa.now (search_of c.args.input.now) c.args.patterns.now c.args.past_match
-      c.args.starts.now c.requires.starts c.args.threads.now.reached.seen c.args.threads.now.curr.items
-      c.requires.curr);
+      c.args.starts.now c.requires.ready.starts c.args.threads.now.reached.seen c.args.threads.now.curr.items
+      c.requires.ready.curr);
 }
 
 pub returns-then-is_empty-clause-gains : goal.returns-then-is_empty-clause-gains
@@ -34,7 +34,7 @@ pub cross_to_set-met-requires-clause-states : goal.cross_to_set-met-requires-cla
 cross_to_set-met-requires-clause-states c =
     let items = rw c.loop-at.invariant.width at c.join.ensures.curr in
     rw items (below-joined c.args.starts.now 0 c.loop-at.at c.loop-at.threads.curr.items
-    c.requires.starts.state c.loop-at.invariant.so_far.stands.states.states)
+    c.requires.ready.starts.state c.loop-at.invariant.so_far.stands.states.states)
 
 pub returns-then-met-clause-turns : goal.returns-then-met-clause-turns
 returns-then-met-clause-turns c =

@@ -12,15 +12,15 @@ pub loop-at-init : goal.loop-at-init
 loop-at-init c = record {
   counted = refl;
   low = omega (arith, c.start-at.ensures);
-  state = c.requires.starts.state;
-  limit = c.requires.starts.high;
-  last = λ past. c.requires.curr;
+  state = c.requires.ready.starts.state;
+  limit = c.requires.ready.starts.high;
+  last = λ past. c.requires.ready.curr;
   sizes = refl;
-  width = c.requires.room.width_is;
-  next = c.requires.next;
+  width = c.requires.ready.room.width_is;
+  next = c.requires.ready.next;
   so_far = rw c.start-at.ensures
       (FirstWay-start c.args.nfa.now (search_of c.args.input.now) c.args.patterns.now c.args.starts.now
-      c.requires.starts c.args.threads.now.reached.seen c.args.threads.now.curr.items c.requires.curr);
+      c.requires.ready.starts c.args.threads.now.reached.seen c.args.threads.now.curr.items c.requires.ready.curr);
 }
 
 pub returns-then-is_empty-clause-gains : goal.returns-then-is_empty-clause-gains

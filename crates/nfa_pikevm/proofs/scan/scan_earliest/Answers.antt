@@ -16,12 +16,12 @@ loop-at-init c =
     record {
       counted = refl;
       sizes = refl;
-      width = c.requires.room.width_is;
-      next = c.requires.next;
-      items = rw c.requires.curr (AreAt-none c.args.nfa.now);
-      paid = rw (start, c.requires.curr) (record { bound = omega arith });
-      scans = rw (start, c.requires.curr) (ScansAll-begin c.args.nfa.now (search_of c.args.input.now) c.args.starts.now
-          c.requires.starts c.args.slots.now c.args.threads.now.reached.seen);
+      width = c.requires.ready.room.width_is;
+      next = c.requires.ready.next;
+      items = rw c.requires.ready.curr (AreAt-none c.args.nfa.now);
+      paid = rw (start, c.requires.ready.curr) (record { bound = omega arith });
+      scans = rw (start, c.requires.ready.curr) (ScansAll-begin c.args.nfa.now (search_of c.args.input.now)
+          c.args.starts.now c.requires.ready.starts c.args.slots.now c.args.threads.now.reached.seen);
       none = rw start (NoneBefore-begin c.args.nfa.now (search_of c.args.input.now));
       same = refl;
     }
@@ -48,7 +48,7 @@ pub cross-requires-clause-states : goal.cross-requires-clause-states
 cross-requires-clause-states c =
     rw (rw c.loop-at.invariant.width at c.join.ensures.curr)
     (below-joined c.args.starts.now (length c.args.slots.now) c.loop-at.at c.loop-at.threads.curr.items
-    c.requires.starts.state c.loop-at.invariant.items.states)
+    c.requires.ready.starts.state c.loop-at.invariant.items.states)
 
 pub returns-then-is_some-clause-turns : goal.returns-then-is_some-clause-turns
 returns-then-is_some-clause-turns c =
@@ -64,7 +64,7 @@ returns-then-is_some-clause-turns c =
     let within : c.loop-at.at + 1 ≤ x.end + 1 = omega (arith, c.loop-at-test.true) in
     IsPaidAt-end c.args.nfa.now x (c.loop-at.at + 1) c.args.threads.now.reached.seen.turns
     c.move_on.new.threads.reached.seen.turns
-    (length c.move_on.new.threads.curr.items) within c.requires.span
+    (length c.move_on.new.threads.curr.items) within c.requires.ready.span
     (rw (c.move_on.ensures.seen, kept)
     (IsPaidAt-cross c.args.nfa.now x c.loop-at.at c.args.threads.now.reached.seen.turns
     c.loop-at.threads.reached.seen.turns
@@ -113,7 +113,7 @@ loop-at-preserved c =
       width = c.move_on.ensures.width ∙ c.cross.ensures.width ∙ c.join.ensures.width ∙ c.loop-at.invariant.width;
       next = c.move_on.ensures.next;
       items = rw kept (AreAt-cross c.args.nfa.now x c.loop-at.at width c.args.starts.now.state c.args.starts.now.limit
-          c.requires.starts.leads crosses);
+          c.requires.ready.starts.leads crosses);
       paid = rw (c.move_on.ensures.seen, kept)
           (IsPaidAt-cross c.args.nfa.now x c.loop-at.at c.args.threads.now.reached.seen.turns
           c.loop-at.threads.reached.seen.turns
@@ -137,7 +137,7 @@ returns-clause-answer c =
     let past : c.end-at-end.result + 1 ≤ c.loop-at.at = c.loop-at-test.false in
     let e : c.end-at-end.result ≡ (search_of c.args.input.now).end = c.end-at-end.ensures.value in
     let start : c.start-at.result ≡ (search_of c.args.input.now).start = c.start-at.ensures in
-    let span : (search_of c.args.input.now).start ≤ (search_of c.args.input.now).end = c.requires.span in
+    let span : (search_of c.args.input.now).start ≤ (search_of c.args.input.now).end = c.requires.ready.span in
     let within : c.loop-at.at ≤ c.end-at-end.result + 1 = c.loop-at.auto.at-end (omega arith) in (
       scan_answer-none c.args.nfa.now (search_of c.args.input.now) (cond c.args.past_match All LeftmostFirst) true
           c.loop-at.invariant.none

@@ -12,20 +12,20 @@ use Rattle.nfa_pikevm.proofs.scan.scan_first.Goals.{then-is_some, else-is_some}
 pub loop-at-init : goal.loop-at-init
 loop-at-init c =
     let start : c.start-at.result ≡ (search_of c.args.input.now).start = c.start-at.ensures in
-    let span : (search_of c.args.input.now).start ≤ (search_of c.args.input.now).end = c.requires.span in
+    let span : (search_of c.args.input.now).start ≤ (search_of c.args.input.now).end = c.requires.ready.span in
     record {
       counted = refl;
       sizes = refl;
-      width = c.requires.room.width_is;
-      next = c.requires.next;
-      items = rw c.requires.curr (AreAt-none c.args.nfa.now);
+      width = c.requires.ready.room.width_is;
+      next = c.requires.ready.next;
+      items = rw c.requires.ready.curr (AreAt-none c.args.nfa.now);
       low = omega arith;
       high = omega arith;
       limits = inl refl;
-      over = λ _. c.requires.curr;
-      paid = rw (start, c.requires.curr) (record { bound = omega arith });
-      searches = rw (start, c.requires.curr)
-          (SearchesFirst-begin c.args.nfa.now (search_of c.args.input.now) c.args.starts.now c.requires.starts
+      over = λ _. c.requires.ready.curr;
+      paid = rw (start, c.requires.ready.curr) (record { bound = omega arith });
+      searches = rw (start, c.requires.ready.curr)
+          (SearchesFirst-begin c.args.nfa.now (search_of c.args.input.now) c.args.starts.now c.requires.ready.starts
           c.args.slots.now c.args.threads.now.reached.seen c.requires.unset);
     }
 
@@ -39,7 +39,7 @@ returns-then-is_empty-clause-answer c =
     let past : c.loop-at.limit ≤ to = over-joins joins none in
     let next : c.loop-at.limit ≤ to + 1 = omega arith in
     let s = SearchesFirst-joins c.args.nfa.now x c.args.first.now.may_begin c.requires.first c.args.starts.now
-    c.requires.starts c.loop-at.limit width c.loop-at.at to c.loop-at.invariant.low joins
+    c.requires.ready.starts c.loop-at.limit width c.loop-at.at to c.loop-at.invariant.low joins
     c.loop-at.invariant.searches in
     rw c.join_or_skip-at.ensures.seen
     (first-over c.args.nfa.now x to (to + 1) width c.args.starts.now.state c.loop-at.limit c.loop-at.found
@@ -49,7 +49,7 @@ returns-then-is_empty-clause-answer c =
 
 pub cross-requires-clause-states : goal.cross-requires-clause-states
 cross-requires-clause-states c =
-    below-joins c.join_or_skip-at.ensures.joins c.requires.starts.state c.loop-at.invariant.items.states
+    below-joins c.join_or_skip-at.ensures.joins c.requires.ready.starts.state c.loop-at.invariant.items.states
 
 pub loop-at-preserved : goal.loop-at-preserved
 loop-at-preserved c =
@@ -66,7 +66,7 @@ loop-at-preserved c =
     let from : x.start ≤ to = omega arith in
     let s = rw (← c.join_or_skip-at.ensures.seen) at
     (SearchesFirst-joins c.args.nfa.now x c.args.first.now.may_begin c.requires.first c.args.starts.now
-    c.requires.starts c.loop-at.limit width c.loop-at.at to low joins c.loop-at.invariant.searches) in
+    c.requires.ready.starts c.loop-at.limit width c.loop-at.at to low joins c.loop-at.invariant.searches) in
     let crosses = c.cross.ensures.crosses in
     let few = few-joins joins in
     let kept = c.move_on.ensures.curr in
@@ -78,7 +78,8 @@ loop-at-preserved c =
       width = c.move_on.ensures.width ∙ c.cross.ensures.width ∙ c.join_or_skip-at.ensures.width
           ∙ c.loop-at.invariant.width;
       next = c.move_on.ensures.next;
-      items = rw kept (AreAt-cross c.args.nfa.now x to width state c.loop-at.limit c.requires.starts.leads crosses);
+      items = rw kept (AreAt-cross c.args.nfa.now x to width state c.loop-at.limit
+          c.requires.ready.starts.leads crosses);
       low = omega arith;
       high = omega arith;
       limits = elim c.if-is_some.branch [
@@ -122,7 +123,7 @@ returns-clause-answer c =
     let e : c.end.result ≡ x.end = c.end.ensures.value in
     let past : x.end < c.loop-at.at = omega (arith, c.loop-at-test.false) in
     let high : c.loop-at.at ≤ x.end + 1 = c.loop-at.invariant.high in
-    let limit : c.args.starts.now.limit ≤ x.end + 1 = c.requires.starts.high in
+    let limit : c.args.starts.now.limit ≤ x.end + 1 = c.requires.ready.starts.high in
     let over : c.loop-at.limit ≤ c.loop-at.at =
     elim c.loop-at.invariant.limits [ inl same ↦ omega arith | inr none ↦ omega arith ] in
     first-over c.args.nfa.now x c.loop-at.at c.loop-at.at (length c.args.slots.now) c.args.starts.now.state

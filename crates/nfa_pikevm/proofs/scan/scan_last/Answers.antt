@@ -14,14 +14,14 @@ loop-at-init c =
     record {
       counted = refl;
       sizes = refl;
-      width = c.requires.room.width_is;
-      next = c.requires.next;
-      items = rw c.requires.curr (AreAt-none c.args.nfa.now);
-      paid = rw (start, c.requires.curr) (record { bound = omega arith });
-      scans = rw (start, c.requires.curr) (ScansAll-begin c.args.nfa.now (search_of c.args.input.now) c.args.starts.now
-          c.requires.starts c.args.slots.now c.args.threads.now.reached.seen);
-      last = rw start (HasLast-begin c.args.nfa.now (search_of c.args.input.now) c.args.starts.now c.requires.starts
-          c.args.slots.now c.args.threads.now.reached.seen c.requires.unset);
+      width = c.requires.ready.room.width_is;
+      next = c.requires.ready.next;
+      items = rw c.requires.ready.curr (AreAt-none c.args.nfa.now);
+      paid = rw (start, c.requires.ready.curr) (record { bound = omega arith });
+      scans = rw (start, c.requires.ready.curr) (ScansAll-begin c.args.nfa.now (search_of c.args.input.now)
+          c.args.starts.now c.requires.ready.starts c.args.slots.now c.args.threads.now.reached.seen);
+      last = rw start (HasLast-begin c.args.nfa.now (search_of c.args.input.now) c.args.starts.now
+          c.requires.ready.starts c.args.slots.now c.args.threads.now.reached.seen c.requires.unset);
     }
 
 pub returns-then-is_empty-clause-answer : goal.returns-then-is_empty-clause-answer
@@ -45,7 +45,7 @@ pub cross-requires-clause-states : goal.cross-requires-clause-states
 cross-requires-clause-states c =
     rw (rw c.loop-at.invariant.width at c.join.ensures.curr)
     (below-joined c.args.starts.now (length c.args.slots.now) c.loop-at.at c.loop-at.threads.curr.items
-    c.requires.starts.state c.loop-at.invariant.items.states)
+    c.requires.ready.starts.state c.loop-at.invariant.items.states)
 
 pub loop-at-preserved : goal.loop-at-preserved
 loop-at-preserved c =
@@ -66,7 +66,7 @@ loop-at-preserved c =
       width = c.move_on.ensures.width ∙ c.cross.ensures.width ∙ c.join.ensures.width ∙ c.loop-at.invariant.width;
       next = c.move_on.ensures.next;
       items = rw kept (AreAt-cross c.args.nfa.now x c.loop-at.at width c.args.starts.now.state c.args.starts.now.limit
-          c.requires.starts.leads crosses);
+          c.requires.ready.starts.leads crosses);
       paid = rw (c.move_on.ensures.seen, kept)
           (IsPaidAt-cross c.args.nfa.now x c.loop-at.at c.args.threads.now.reached.seen.turns
           c.loop-at.threads.reached.seen.turns
@@ -91,7 +91,7 @@ returns-clause-answer c =
     let past : c.end-at-end.result + 1 ≤ c.loop-at.at = c.loop-at-test.false in
     let e : c.end-at-end.result ≡ (search_of c.args.input.now).end = c.end-at-end.ensures.value in
     let start : c.start-at.result ≡ (search_of c.args.input.now).start = c.start-at.ensures in
-    let span : (search_of c.args.input.now).start ≤ (search_of c.args.input.now).end = c.requires.span in
+    let span : (search_of c.args.input.now).start ≤ (search_of c.args.input.now).end = c.requires.ready.span in
     let within : c.loop-at.at ≤ c.end-at-end.result + 1 = c.loop-at.auto.at-end (omega arith) in
     last-over c.args.nfa.now (search_of c.args.input.now) c.loop-at.at (length c.args.slots.now) c.loop-at.found
     c.loop-at.slots c.loop-at.threads.reached.seen.turns c.loop-at.invariant.last
