@@ -60,8 +60,10 @@ groups_in patterns = map (λ names. names_in names.now) patterns
 abbrev pub is_sound : ℕ → Draft → Bool
 is_sound more d =
     nat_lt 0 (length d.rows.now) && nat_le (length d.rows.now + more) 2147483647
-    && list_all (is_row (length d.rows.now + more) (slot_count (groups_in d.groups.now)) (length d.starts.now)) d.rows.now
-    && list_all (λ start. nat_lt start (length d.rows.now + more)) d.starts.now && nat_le (length d.starts.now) 2147483647
+    && list_all (is_row (length d.rows.now + more) (slot_count (groups_in d.groups.now)) (length d.starts.now))
+    d.rows.now
+    && list_all (λ start. nat_lt start (length d.rows.now + more)) d.starts.now
+    && nat_le (length d.starts.now) 2147483647
     && (nat_eq (length d.groups.now) (length d.starts.now) || nat_eq (length d.groups.now) 0)
     && nat_le (slot_count (groups_in d.groups.now)) 2147483646
 

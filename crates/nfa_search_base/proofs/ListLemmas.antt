@@ -125,7 +125,8 @@ module _ {X : Type 0} (span : X → Span) (tells : Search → Answer X → Type 
   last-next ends w (Err e ∷ items) h = h
 
   -- where what a search tells lies in its span
-  module _ (lies : (t : Search) (a : Answer X) → tells t a → AnswerIsInside span t a × IsOrdered (place_of span a)) where
+  module _ (lies : (t : Search) (a : Answer X) → tells t a
+      → AnswerIsInside span t a × IsOrdered (place_of span a)) where
     abbrev asks : Unit {0} → Search → Answer X → Unit {0} → Type 0
     asks s t a s' = tells t a
 

@@ -61,7 +61,8 @@ module _ {T F : Type 0} (g : Mut F (Bor Input × Unit {0}) (Placed T))
         (come : HasCome s r0 f0 t r f) where
       -- one answer more
       more : (o : Option Search) (a : Placed T) (f' : F) → ((n : ℕ) → moved n ≡ Some t → moved (n + 1) ≡ o)
-          → IsInCharacter haystack r → Answers g f o a f' → Reaches g haystack moved 0 r0 f0 (come.answers ++ a ∷ []) a f'
+          → IsInCharacter haystack r → Answers g f o a f'
+          → Reaches g haystack moved 0 r0 f0 (come.answers ++ a ∷ []) a f'
       more o a f' up split answered =
           let e : length come.answers + 1 ≡ 0 + length come.answers + 1 = omega arith in
           let is : moved (0 + length come.answers + 1) ≡ o =
@@ -139,8 +140,10 @@ module _ {T F : Type 0} (g : Mut F (Bor Input × Unit {0}) (Placed T))
   none-ends : (n : ℕ) (r : Placed T) (f : F) (answers : List (Placed T)) (last : Placed T) (left : F) → r ≡ Ok None
       → Reaches g haystack moved n r f answers last left → IsInCharacter haystack last → ⊥
   none-ends n r f [] last left is reaches split =
-      subst (λ (p : Placed T). IsInCharacter haystack p) is (subst (λ (p : Placed T). IsInCharacter haystack p) reaches.0 split)
-  none-ends n r f (a ∷ answers) last left is reaches split = subst (λ (p : Placed T). IsInCharacter haystack p) is reaches.0
+      subst (λ (p : Placed T). IsInCharacter haystack p) is
+      (subst (λ (p : Placed T). IsInCharacter haystack p) reaches.0 split)
+  none-ends n r f (a ∷ answers) last left is reaches split =
+      subst (λ (p : Placed T). IsInCharacter haystack p) is reaches.0
 
   -- the calls that are made are calls on searches like s
   calls-like : (n : ℕ) (r : Placed T) (f : F) (answers : List (Placed T)) (last : Placed T) (left : F)

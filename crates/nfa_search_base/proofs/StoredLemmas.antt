@@ -166,7 +166,8 @@ module _ {S X Y : Type 0} (accepts : S → Search → Type 0) (asks : S → Sear
 
   -- where no call errs, the matches stay in the span
   pub surely-inside : (s : Steps S) → can_step_surely accepts asks span s → can_step accepts asks span s
-  surely-inside s h = Along-weaker accepts asks span (IsSurelyInside span) (AnswerIsInside span) s.asker (steps_walk s).at
+  surely-inside s h =
+      Along-weaker accepts asks span (IsSurelyInside span) (AnswerIsInside span) s.asker (steps_walk s).at
       (λ t a p. p.0) h
 
   module _ (s t : Steps S) (r : Option (Result Y SearchError)) (h : can_step_surely accepts asks span s)

@@ -163,7 +163,8 @@ module _ {A X F : Type 0} (view : A → X) (span : X → Span)
       view-ordered k.asked.reply a k.asked.shows,
     )
 
-    pub found-apart : (s : Steps F) → s.done ≡ false → AnswersAlong view g (AnswerIsInside span) s.asker (steps_walk s).at
+    pub found-apart : (s : Steps F) → s.done ≡ false
+        → AnswersAlong view g (AnswerIsInside span) s.asker (steps_walk s).at
         → FoundApart view span g (steps_walk s) s
     found-apart s going serves = λ p seen from.
         spans-apart span (May s) (may-lies (AnswerIsInside span) (λ t a k. k) s.asker (steps_walk s).at serves)

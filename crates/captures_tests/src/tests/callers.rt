@@ -1,5 +1,5 @@
-//! Callers that list captures, by `collect` and by loops, and are told what they have: the list of them, and by the laws
-//! that it is the one that others have.
+//! Callers that list captures, by `collect` and by loops, and are told what they have: the list of them, and by the
+//! laws that it is the one that others have.
 ghost use Rattle.std.specs.Prelude.{IfOk, ◌≡◌, false, length, map};
 ghost use Rattle.regex_search_core.specs.Found.{found_of};
 ghost use Rattle.regex_search_core.specs.Search.{whole};

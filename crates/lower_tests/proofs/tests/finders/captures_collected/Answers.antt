@@ -7,4 +7,5 @@ use Rattle.lower_tests.proofs.tests.finders.captures_collected.Goals as goal
 
 pub returns : goal.returns
 returns c = told_caught (IsSurelyInside row_span) _ c.collect.result c.collect.ensures.ran
-    c.into_captures_iter-items.ensures.all (c.new-searcher.ensures ∙ ap fresh c.new-input.ensures) (λ q t a q' caught. search rules)
+    c.into_captures_iter-items.ensures.all
+    (c.new-searcher.ensures ∙ ap fresh c.new-input.ensures) (λ q t a q' caught. search rules)

@@ -6,4 +6,5 @@ use Rattle.lower_tests.proofs.tests.finders.halves_collected.Goals as goal
 
 pub returns : goal.returns
 returns c = told_collected (IsSurelyInside half_span_of) _ c.collect.result c.collect.ensures.ran
-    c.into_half_matches_iter-items.ensures.all (c.new-searcher.ensures ∙ ap fresh c.new-input.ensures) (λ t a f' found. search rules)
+    c.into_half_matches_iter-items.ensures.all
+    (c.new-searcher.ensures ∙ ap fresh c.new-input.ensures) (λ t a f' found. search rules)

@@ -8,7 +8,8 @@ use Rattle.nfa_search_base.proofs.StepLemmas.{serves-lent, step-lent}
 use Rattle.nfa_search_base.proofs.iter.searcher.Searcher.try_advance_by_ref.Goals as goal
 
 pub step_with-requires : goal.step_with-requires
-step_with-requires g c = serves-lent (IsCallableOn g.F.FnMut) (Finds found_of g.F.FnMut) span_of (AnswerIsInside span_of) _
+step_with-requires g c =
+    serves-lent (IsCallableOn g.F.FnMut) (Finds found_of g.F.FnMut) span_of (AnswerIsInside span_of) _
     (walk_of c.args.self.now) c.requires
 
 pub returns-clause-step : goal.returns-clause-step

@@ -12,8 +12,8 @@ step_by-reply-requires g c = ServesTurn-now g.A.Answers.accepts g.A.Answers.asks
 
 pub returns-clause-goes : goal.returns-clause-goes
 returns-clause-goes g c =
-    steps-progress g.A.Answers.accepts g.A.Answers.asks g.A.Answers.span g.A.Answers.gives (AnswerIsInside g.A.Answers.span)
-    c.args.self.now
+    steps-progress g.A.Answers.accepts g.A.Answers.asks g.A.Answers.span g.A.Answers.gives
+    (AnswerIsInside g.A.Answers.span) c.args.self.now
     (record { searcher = c.step_by-reply.new.self; asker = c.step_by-reply.new.asker; done = c.is_last-self.result })
     c.item-item.result c.requires (search rules)
     (takes-step g.A.Answers.accepts g.A.Answers.asks g.A.Answers.span g.A.Answers.gives c.args.self.now.asker
