@@ -15,7 +15,8 @@ use Rattle.nfa_paths.specs.Exploring.Item.{Explore, Load}
 use Rattle.nfa_paths.specs.Kinds.{IsFoundBy, found_along, NoneBefore, LastBefore, EndsBefore, first_match, last_match, Scanned, IsFront, rests, is_resting}
 use Rattle.nfa_paths.specs.Paths.{space, target_on, pairs_from, node_at, is_match, IsMatch, capture, start_state, byte_at, edges_of, edges, start_count, starts, IsScanAnswer, last_of, slot_row}
 use Rattle.nfa_paths.proofs.PathToLemmas.{EndsWith-last, found-end}
-use Rattle.nfa_paths.proofs.AnswerLemmas.{pairs_from-ahead, starts-increase, starts-none, IsMatch-edges, IsMatch-capture, apply-slot_row, scan_answer-leads, never_none, same_parts}
+use Rattle.nfa_paths.proofs.StartLemmas.{pairs_from-ahead, starts-increase, starts-none, IsMatch-edges, IsMatch-capture}
+use Rattle.nfa_paths.proofs.AnswerLemmas.{apply-slot_row, scan_answer-leads, never_none, same_parts}
 use Rattle.nfa_paths.proofs.ScanLemmas.{EndsBefore-within, IsEarliestPath-found, IsEarliestLastPath-found, LastBefore-end, IsFirstPath-found}
 
 -- the edges

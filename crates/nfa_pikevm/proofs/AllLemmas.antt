@@ -14,9 +14,9 @@ use Rattle.nfa_paths.specs.Exploring.{Item, Slots, Hit, round}
 use Rattle.nfa_paths.specs.Exploring.Item.{Explore, Load}
 use Rattle.nfa_paths.specs.Kinds.{is_resting, NoMatch, IsFoundBy, NoneBefore, LastBefore, last_match, IsFront, Scanning}
 use Rattle.nfa_paths.specs.Paths.{node_at, pattern_of, edges, is_match, capture, starts, IsScanAnswer, space}
-use Rattle.nfa_paths.proofs.KindsLemmas.{first_match-is, last_match-is}
-use Rattle.nfa_paths.proofs.ScanAnswerLemmas.{edges-onward, seeds-later, Scanned-matches, scan_earliest_last-found}
+use Rattle.nfa_paths.proofs.FrontMatchLemmas.{first_match-is, last_match-is}
 use Rattle.nfa_paths.proofs.ScanLemmas.{NoneBefore-step, LastBefore-step}
+use Rattle.nfa_paths.proofs.ScanAnswerLemmas.{edges-onward, seeds-later, Scanned-matches, scan_earliest_last-found}
 use Rattle.nfa_paths.proofs.ScanningLemmas.{Scanning-front, Scanning-round}
 use Rattle.nfa_scanning.specs.Marks.{Marks}
 use Rattle.nfa_pikevm.specs.States.{Front, tasks, unmarked, meant, GoesOn, SeenAt, Crosses}

@@ -2,7 +2,6 @@
 use Rattle.std.proofs.Common.{◌≡◌, ℕ, suc, ◌<◌, ◌≤◌, ◌⊎◌, inl, inr, List, [], ◌∷◌, length, refl, ap, sym, ◌∙◌, arith, Bool, true, false}
 use Rattle.std.specs.Prelude.{Option, Some, None}
 use Rattle.std.specs.Option.{option_map_or}
-use Rattle.std.proofs.Math.Decide.{ℕ_discrete}
 use Rattle.std.proofs.lemmas.Bool.{cases_Bool, cases_lt}
 use Rattle.regex_search_core.specs.Search.{Search}
 use Rattle.regex_search_core.specs.declared.search.MatchKind.TheVariants.{LeftmostFirst}
@@ -13,33 +12,26 @@ use Rattle.nfa_paths.specs.FirstPaths.Path.{stop, go}
 use Rattle.nfa_paths.specs.Exploring.{Item, Slots, ExploresBehind, found}
 use Rattle.nfa_paths.specs.Kinds.{Passes, IsFoundBy, found_along, NoneBefore, first_match, is_resting, Scanning}
 use Rattle.nfa_paths.specs.Paths.{edges, is_match, capture, starts, IsScanAnswer, space}
-use Rattle.nfa_paths.proofs.AnswerLemmas.{IsMatch-capture, never_none}
-use Rattle.nfa_paths.proofs.KindsLemmas.{is_plain, test, test-true, true-test}
+use Rattle.nfa_paths.proofs.TestLemmas.{is_plain, tell_at, test, test-true, true-test}
+use Rattle.nfa_paths.proofs.StartLemmas.{IsMatch-capture}
+use Rattle.nfa_paths.proofs.AnswerLemmas.{never_none}
+use Rattle.nfa_paths.proofs.ScanLemmas.{IsFirstPath-found}
 use Rattle.nfa_paths.proofs.PathLemmas.{IsFirst-target}
 use Rattle.nfa_paths.proofs.ScanAnswerLemmas.{edges-onward, edges-rise, Scanned-matches}
-use Rattle.nfa_paths.proofs.ScanLemmas.{IsFirstPath-found}
 use Rattle.nfa_pikevm.specs.States.{Front}
 
 module _ (nfa : Automaton) (x : Search) (e : ℕ) where
-  -- whether a pair is a match at e
-  told : (v : Pair) → WantedAt (Passes (is_match nfa)) e v ⊎ ¬ (WantedAt (Passes (is_match nfa)) e v)
-  told v =
-      elim (cases_Bool (is_match nfa v)) [
-        | inl t ↦ elim (ℕ_discrete v.1 e) [ yes p ↦ inl (record { wanted = t; at = p }) | no n ↦ inr (λ h. n h.at) ]
-        | inr f ↦ inr (λ h. is_plain (is_match nfa) (is_match nfa v) f h.wanted)
-      ]
-
   -- the matches at e, as a set that a search can be for
   wanted : Pair → Bool
-  wanted v = test (told v)
+  wanted v = test (tell_at (is_match nfa) e v)
 
   wanted-is : (v : Pair) → wanted v ≡ true → WantedAt (Passes (is_match nfa)) e v
   unfolding wanted
-  wanted-is v = test-true (told v)
+  wanted-is v = test-true (tell_at (is_match nfa) e v)
 
   is-wanted : (v : Pair) → WantedAt (Passes (is_match nfa)) e v → wanted v ≡ true
   unfolding wanted
-  is-wanted v = true-test (told v)
+  is-wanted v = true-test (tell_at (is_match nfa) e v)
 
   -- none is reached from a later position
   Path-later : {v : Pair} {p : List Pair} → Path (edges nfa x) wanted v p → e < v.1 → ⊥
@@ -51,7 +43,7 @@ module _ (nfa : Automaton) (x : Search) (e : ℕ) where
       → IsFirst (edges nfa x) wanted marks v None
   IsFirst-plain marks v rest here plain p a =
       none a.path (λ w i. let k : v.1 < w.1 = edges-rise nfa x v w rest i in omega arith)
-      (λ t. is_plain (is_match nfa) (is_match nfa v) plain (wanted-is v t).wanted)
+      (λ t. is_plain (is_match nfa v) plain (wanted-is v t).wanted)
     where
       none : {v : Pair} {p : List Pair} → Path (edges nfa x) wanted v p → ((w : Pair) → In w (edges nfa x v) → e < w.1)
           → (wanted v ≡ true → ⊥) → ⊥
