@@ -8,6 +8,7 @@ pub mod FrontMatchLemmas
 pub mod KindsLemmas
 pub mod ScanLemmas
 pub mod ReachedLemmas
+pub mod CutLemmas
 pub mod ScanningLemmas
 pub mod StartLemmas
 pub mod AnswerLemmas

@@ -6,7 +6,7 @@ use Rattle.std.proofs.lemmas.Bool.{cases_lt, cases_Bool}
 use Rattle.nfa_paths.specs.Graphs.{Pair, Space, In, HeadIs, Linked, EndsWith, PathTo, NoPath, IsFirstTo, IsEnd, IsLeastEnd, IsGreatestEnd, WantedAt, IsLastOfFirsts, IsFirstPath, IsEarliestPath, IsLastPath, IsEarliestLastPath}
 use Rattle.nfa_paths.specs.Exploring.{Slots, Hit, ExploresTo}
 use Rattle.nfa_paths.specs.Exploring.Item.{Explore}
-use Rattle.nfa_paths.specs.Kinds.{Passes, WantedBefore, IsLastAt, IsFoundBy, NoneBefore, LastBefore, EndsBefore, first_match, last_match, NoMatch, Scanned, IsFront, IsOver}
+use Rattle.nfa_paths.specs.Kinds.{Passes, found_along, WantedBefore, IsLastAt, IsFoundBy, NoneBefore, LastBefore, EndsBefore, first_match, last_match, NoMatch, Scanned, IsFront, IsOver}
 use Rattle.nfa_paths.proofs.PathLemmas.{IsLeast-from_first}
 use Rattle.nfa_paths.proofs.PathToLemmas.{PathTo-along, IsLeast-none, IsLeast-first}
 use Rattle.nfa_paths.proofs.SearchLemmas.{Answer-starts, found-Some}
@@ -179,24 +179,25 @@ module _ (space : Space) (resting is_match : Pair → Bool) (slots : Slots) (sha
     ];
   }
 
-  -- the first front with a match pair: its first is the earliest
-  pub IsEarliestPath-found : {turns e : ℕ} {front : List (Pair × Slots)} → NoneBefore space is_match e
-      → IsFront space resting is_match slots turns front e → (a : Pair × Slots) → first_match is_match front ≡ Some a
+  -- the first path that ends at e, where none ends before: the earliest
+  pub IsEarliestPath-found : {turns e : ℕ} {a : Pair × Slots} → NoneBefore space is_match e
+      → IsFoundBy space.capture slots (IsFirstPath space.edges space.starts (WantedAt (Passes is_match) e)) turns
+      (Some a)
       → IsFoundBy space.capture slots (IsEarliestPath space.edges space.starts (Passes is_match)) turns (Some a)
-  IsEarliestPath-found {turns} {e} {front} none f a found_it =
-      elim (first_match-is is_match front) [
-        | inl lacks ↦ let never : Some a ≡ None = sym found_it ∙ lacks.0 in cc
-        | inr has ↦
-            let h = IsFront-first_match space resting is_match slots turns shape f has.0 has.2 in
-            record {
-              path = Some h.0;
-              meant = (e, least_end none h.1.end h.0 h.1.path h.1.wanted, h.1);
-              leads = h.3 ∙ sym has.1 ∙ found_it;
-              short = h.4;
-            }
-      ]
+  IsEarliestPath-found {turns} {e} {a} none h = of h.path h.meant h.leads h.short
+    where
+      of : (o : Option (List Pair)) → IsFirstPath space.edges space.starts (WantedAt (Passes is_match) e) o
+          → found_along space.capture o slots ≡ Some a → option_map_or length o 0 ≤ turns
+          → IsFoundBy space.capture slots (IsEarliestPath space.edges space.starts (Passes is_match)) turns (Some a)
+      of None meant leads short = cc
+      of (Some p) meant leads short = record {
+        path = Some p;
+        meant = (e, least_end none meant.end p meant.path meant.wanted, meant);
+        leads = leads;
+        short = short;
+      }
 
-  -- and its last is the last of the first paths
+  -- the first front with a match pair: its last is the last of the first paths
   pub IsEarliestLastPath-found : {turns e : ℕ} {front : List (Pair × Slots)} → NoneBefore space is_match e
       → IsFront space resting is_match slots turns front e → (a : Pair × Slots)
       → last_match is_match None front ≡ Some a

@@ -1,26 +1,26 @@
 -- What the first wanted pair of a front stands for, also where a search drops what is behind it.
-use Rattle.std.proofs.Common.{◌≡◌, ℕ, suc, ◌+◌, ◌≤◌, ◌<◌, ◌⊎◌, ◌↔◌, inl, inr, Bool, true, false, List, [], ◌∷◌, ◌++◌, map, length, refl, sym, ap, ◌∙◌, arith, set}
+use Rattle.std.proofs.Common.{◌≡◌, ℕ, ◌+◌, ◌≤◌, ◌<◌, ◌⊎◌, ◌↔◌, inl, inr, Bool, true, List, [], ◌∷◌, ◌++◌, map, length, refl, sym, ap, ◌∙◌, arith, set}
 use Rattle.std.specs.Prelude.{Option, None, Some, option_map}
 use Rattle.std.specs.List.{last_or}
 use Rattle.std.proofs.lemmas.Bool.{cases_Bool}
 use Rattle.regex_search_core.specs.Search.{Search}
 use Rattle.thompson_nfa.specs.Automaton.{Automaton}
-use Rattle.nfa_paths.specs.Graphs.{Pair, Space, In, PathTo, IsFirstTo, WantedAt}
+use Rattle.nfa_paths.specs.Graphs.{Pair, Space, In, PathTo, IsFirstPath, IsFirstTo, WantedAt}
 use Rattle.nfa_paths.specs.Exploring.{Slots, Hit, Item, found, apply, round, ExploresTo, ExploresBehind}
 use Rattle.nfa_paths.specs.Exploring.Item.{Explore, Restore, Load}
-use Rattle.nfa_paths.specs.Kinds.{Passes, first_match, before_match, MatchesFrom, Scanned, Scanning, rests, is_resting}
+use Rattle.nfa_paths.specs.Kinds.{Passes, found_along, first_match, before_match, MatchesFrom, Scanned, Scanning, rests, is_resting}
 use Rattle.nfa_paths.specs.Paths.{space, capture, edges, starts}
 use Rattle.nfa_paths.specs.Overlaps.{IsHeld}
-use Rattle.nfa_paths.proofs.PathLemmas.{same, IsFirst-target, IsLeast-from_first}
+use Rattle.nfa_paths.proofs.PathLemmas.{same, IsLeast-from_first}
 use Rattle.nfa_paths.proofs.SearchLemmas.{Answer-starts, AnswerBehind-round}
 use Rattle.nfa_paths.proofs.MemberLemmas.{In-append_left, In-middle}
-use Rattle.nfa_paths.proofs.TestLemmas.{is_plain, test, test-true, true-test, tell_at}
+use Rattle.nfa_paths.proofs.TestLemmas.{test, test-true, true-test}
 use Rattle.nfa_paths.proofs.FrontMatchLemmas.{first_match-is}
-use Rattle.nfa_paths.proofs.KindsLemmas.{IsFirst-rises}
 use Rattle.nfa_paths.proofs.StartLemmas.{resting-capture}
 use Rattle.nfa_paths.proofs.AnswerLemmas.{same_parts}
 use Rattle.nfa_paths.proofs.GainLemmas.{wanted-shape}
 use Rattle.nfa_paths.proofs.PathToLemmas.{is_false, found-end, IsLeast-first}
+use Rattle.nfa_paths.proofs.CutLemmas.{first-sub, front-answers, first_match-cut}
 use Rattle.nfa_paths.proofs.ScanAnswerLemmas.{edges-onward, edges-rise}
 
 -- the pairs that work is to explore
@@ -77,48 +77,6 @@ module _ (nfa : Automaton) (x : Search) (old : List Bool) (wants : Pair → Bool
   shape : Scanned (space nfa x) (is_resting nfa) wants
   shape = wanted-shape nfa x old wants tells
 
-  -- it is the first of a smaller set that it is in
-  first-sub : (target : Pair → Bool) → ((v : Pair) → target v ≡ true → wants v ≡ true)
-      → (front : List (Pair × Slots)) (a : Pair × Slots) → target a.0 ≡ true
-      → first_match wants front ≡ Some a → first_match target front ≡ Some a
-  first-sub target sub [] a t is = cc
-  first-sub target sub (b ∷ front) a t is =
-      elim (cases_Bool (wants b.0)) [
-        | inl yes_b ↦ let here : Some b ≡ Some a = rw yes_b at is in let same_item : b ≡ a = cc in
-            rw (same_item, t) refl
-        | inr no_b ↦
-            let later : first_match wants front ≡ Some a = rw no_b at is in
-            let not_b : target b.0 ≡ false = is_false (target b.0) (λ h. is_plain (wants b.0) no_b (sub b.0 h)) in
-            rw not_b (first-sub target sub front a t later)
-      ]
-
-  -- it answers, whatever is left
-  front-answers : (target : Pair → Bool) (e : ℕ) → ((v : Pair) → target v ≡ true → v.1 ≡ e)
-      → (left : ℕ) (marks : List Pair) (work : List Item) (slots : Slots)
-      (front : List (Pair × Slots)) (a : Pair × Slots)
-      → ((b : Pair × Slots) → In b front → (is_resting nfa b.0 ≡ true) × (b.0.1 ≡ e))
-      → first_match target front ≡ Some a
-      → ExploresBehind (space nfa x) target left front None marks work slots (found (capture nfa) (a.0 ∷ []) a.1)
-  unfolding ExploresBehind
-  front-answers target e at left marks work slots [] a rests is = cc
-  front-answers target e at left marks work slots (b ∷ front) a rests is =
-      elim (cases_Bool (target b.0)) [
-        | inl yes_b ↦
-            let here : Some b ≡ Some a = rw yes_b at is in
-            let same_item : b ≡ a = cc in
-            let short : length (b.0 ∷ []) ≤ suc left = omega arith in
-            inl (b.0 ∷ [], IsFirst-target (edges nfa x) target [] b.0 (λ i. i) yes_b, rw same_item refl, short)
-        | inr no_b ↦
-            let later : first_match target front ≡ Some a = rw no_b at is in
-            let r = rests b (inl refl) in
-            inr (
-              IsFirst-rises (space nfa x) target e (edges-onward nfa x) at [] b.0
-                  (λ w i. rw (← r.1) (edges-rise nfa x b.0 w r.0 i))
-                  (λ t. is_plain (target b.0) no_b t),
-              front-answers target e at left marks work slots front a (λ c i. rests c (inr i)) later,
-            )
-      ]
-
   -- what the search for a set finds, where it finds something
   pub record Reaches (target : Pair → Bool) : Type 0 where
     pub path : List Pair
@@ -143,19 +101,6 @@ module _ (nfa : Automaton) (x : Search) (old : List Bool) (wants : Pair → Bool
         | inr k ↦ inl k.1
       ]
 
-  -- the wanted pairs at one position, as a test
-  module _ (e : ℕ) where
-    here_target : Pair → Bool
-    here_target v = test (tell_at wants e v)
-
-    here_is : (v : Pair) → here_target v ≡ true → WantedAt (Passes wants) e v
-    unfolding here_target
-    here_is v = test-true (tell_at wants e v)
-
-    is_here : (v : Pair) → WantedAt (Passes wants) e v → here_target v ≡ true
-    unfolding here_target
-    is_here v = true-test (tell_at wants e v)
-
   -- a pair at e as the end of the first path that ends there
   pub record FirstAt (e : ℕ) (a : Pair × Slots) : Type 0 where
     pub path : List Pair
@@ -166,45 +111,20 @@ module _ (nfa : Automaton) (x : Search) (old : List Bool) (wants : Pair → Bool
   pub FirstAt-front : {slots : Slots} {e : ℕ} {Seen : Pair → Type 0} {spent : ℕ} {front : List (Pair × Slots)}
       {work : List Item} {current : Slots} → Scanning (space nfa x) wants slots e Seen spent front work current
       → ((b : Pair × Slots) → In b front → (is_resting nfa b.0 ≡ true) × (b.0.1 ≡ e)) → (a : Pair × Slots)
-      → first_match wants front ≡ Some a
-      → FirstAt e a
-  FirstAt-front {slots} {e} {Seen} {spent} {front} {work} {current} s rests a is =
-      elim (first_match-is wants front) [
-        | inl lacks ↦ let never : Some a ≡ None = sym is ∙ lacks.0 in cc
-        | inr has ↦
-            let both : Some has.0 ≡ Some a = sym has.1 ∙ is in
-            let same_item : has.0 ≡ a = cc in
-            let matches : wants a.0 ≡ true = rw (← same_item) has.2.matches in
-            let among : In a front = rw (← same_item) (rw has.2.split (In-middle has.2.before has.0 has.2.after)) in
-            let t : here_target e a.0 ≡ true = is_here e a.0 (record { wanted = matches; at = (rests a among).1 }) in
-            let searching = s.searching (here_target e)
-            (λ v h. ((here_is e v h).wanted, let k : v.1 ≡ e = (here_is e v h).at in omega arith)) in
-            let answer = searching.leads (found (capture nfa) (a.0 ∷ []) a.1) 0 spent (omega arith)
-            (front-answers (here_target e) e (λ v h. (here_is e v h).at) 0 searching.marks work current front a rests
-            (first-sub (here_target e) (λ v h. (here_is e v h).wanted) front a t is)) in
-            let wrote : found (capture nfa) (a.0 ∷ []) a.1 ≡ Some a =
-            rw (shape.writes_nothing a.0 matches) refl in
-            elim (answer-reaches (here_target e) (λ v h. (here_is e v h).wanted) spent slots
-            (found (capture nfa) (a.0 ∷ []) a.1) answer) [
-              | inl k ↦ let never : Some a ≡ None = sym wrote ∙ k in cc
-              | inr k ↦
-                  let f = k.0.first in
-                  let end : found (capture nfa) k.0.path slots ≡ Some (f.end, apply (capture nfa) k.0.path slots) =
-                  found-end (capture nfa) f.end k.0.path slots f.path.ends in
-                  let one : Some (f.end, apply (capture nfa) k.0.path slots) ≡ Some a = sym end ∙ sym k.1 ∙ wrote in
-                  record {
-                    path = k.0.path;
-                    first = record {
-                      end = f.end;
-                      path = f.path;
-                      wanted = here_is e f.end f.wanted;
-                      first =
-                          λ m q w t. f.first m q w (is_here e m t);
-                    };
-                    is = (same_parts (f.end, apply (capture nfa) k.0.path slots) a one).0;
-                  }
-            ]
-      ]
+      → first_match wants front ≡ Some a → FirstAt e a
+  FirstAt-front {slots} {e} s rests a is =
+      let h = first_match-cut (space nfa x) (is_resting nfa) wants shape s rests is in
+      of h.path h.meant h.leads
+    where
+      of : (o : Option (List Pair)) → IsFirstPath (edges nfa x) (starts nfa x) (WantedAt (Passes wants) e) o
+          → found_along (capture nfa) o slots ≡ Some a → FirstAt e a
+      of None none leads = cc
+      of (Some p) first leads =
+          let end = found-end (capture nfa) first.end p slots first.path.ends in record {
+            path = p;
+            first = first;
+            is = (same_parts (first.end, apply (capture nfa) p slots) a (sym end ∙ leads)).0;
+          }
 
   -- What some work leads to was reached by the starts, whichever wanted pairs at e or behind it it leads to: so it
   -- stays where work is dropped.
@@ -247,8 +167,10 @@ module _ (nfa : Automaton) (x : Search) (old : List Bool) (wants : Pair → Bool
               × (v.1 ≡ e) = λ v t. rw (is_one v t) (matches, at) in
               let lead = s.leads (λ v. test (one v)) (λ v t. (only v t).0) in
               let answer = lead.2 0 (found (capture nfa) (a.0 ∷ []) a.1)
-              (front-answers (λ v. test (one v)) e (λ v t. (only v t).1) 0 lead.0 work written front a rests_at
-              (first-sub (λ v. test (one v)) (λ v t. (only v t).0) front a (true-test (one a.0) refl) is)) in
+              (front-answers (space nfa x) (is_resting nfa) wants shape (λ v. test (one v)) e (λ v t. (only v t).1) 0
+              lead.0 work written front a rests_at
+              (first-sub (space nfa x) (is_resting nfa) wants shape (λ v. test (one v)) (λ v t. (only v t).0) front a
+              (true-test (one a.0) refl) is)) in
               let wrote : found (capture nfa) (a.0 ∷ []) a.1 ≡ Some a =
               rw (shape.writes_nothing a.0 matches) refl in
               elim (sound.reaches (λ v. test (one v))
