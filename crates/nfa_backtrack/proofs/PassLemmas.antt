@@ -9,7 +9,7 @@ use Rattle.nfa_paths.specs.FirstPaths.{IsFirst}
 use Rattle.nfa_paths.specs.Paths.{start_state, starts, pairs_from, edges, is_match, space}
 use Rattle.nfa_paths.specs.Exploring.{Item, Slots, ExploresTo}
 use Rattle.nfa_paths.specs.Exploring.Item.{Explore}
-use Rattle.nfa_paths.proofs.AnswerLemmas.{pairs_from-step, pairs_from-end}
+use Rattle.nfa_paths.proofs.StartLemmas.{pairs_from-step, pairs_from-end}
 use Rattle.nfa_scanning.specs.Marks.{Marks}
 use Rattle.nfa_scanning.specs.FirstBytes.{IsRefused, IsFirstBytes}
 use Rattle.nfa_backtrack.specs.Walk.{WalkAnswer, Carries}

@@ -10,7 +10,8 @@ use Rattle.thompson_nfa.specs.Automaton.{Automaton, IsAutomaton}
 use Rattle.nfa_paths.specs.Graphs.{Pair, HeadIs, EndsWith}
 use Rattle.nfa_paths.specs.Paths.{raised, is_utf8_empty, path_pattern, slot_row}
 use Rattle.nfa_paths.specs.Paths.{IsScanAnswer, IsKeptAnswer, IsRestartedAnswer, IsSearchAnswer, IsMatchAnswer}
-use Rattle.nfa_paths.proofs.AnswerLemmas.{scan_answer-leads, search_answer-unique, never_none, raised-zero}
+use Rattle.nfa_paths.proofs.StartLemmas.{raised-zero}
+use Rattle.nfa_paths.proofs.AnswerLemmas.{scan_answer-leads, search_answer-unique, never_none}
 use Rattle.nfa_paths.proofs.ExistenceLemmas.{scan_answer-none}
 use Rattle.nfa_paths.proofs.PathToLemmas.{EndsWith-last}
 use Rattle.nfa_engines.proofs.GapLemmas.{path-match}

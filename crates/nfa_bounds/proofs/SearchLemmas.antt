@@ -12,7 +12,7 @@ use Rattle.thompson_nfa.specs.Automaton.{Automaton, Node, LeadsBelow}
 use Rattle.thompson_nfa.specs.Automaton.Node.{ByteRange, Sparse, Dense, Look, Union, BinaryUnion, Capture, Fail, Match}
 use Rattle.nfa_paths.specs.Graphs.{In}
 use Rattle.nfa_paths.specs.Paths.{node_at, pattern_of}
-use Rattle.nfa_paths.proofs.KindsLemmas.{In-append_left}
+use Rattle.nfa_paths.proofs.MemberLemmas.{In-append_left}
 use Rattle.nfa_bounds.specs.Ways.{targets, IsStart}
 use Rattle.nfa_bounds.specs.Places.{fresh_place, at_state, after_node, next_places, is_recorded}
 use Rattle.nfa_bounds.specs.Places.{IsFresh, GainsPlaces, IsFine}

@@ -7,7 +7,7 @@ use Rattle.std.proofs.Math.Decide.{ℕ_discrete}
 use Rattle.std.proofs.lemmas.List.{append_assoc, length-append, append-nil, length-replicate}
 use Rattle.std.proofs.lemmas.List.Sums.{sum_by-cons, sum_by-set}
 use Rattle.nfa_paths.specs.Graphs.{In}
-use Rattle.nfa_paths.proofs.KindsLemmas.{In-append_left, In-append_right}
+use Rattle.nfa_paths.proofs.MemberLemmas.{In-append_left, In-append_right}
 use Rattle.nfa_bounds.specs.Places.{bit, place_number, unmarked_place, IsTable, GainsPlaces}
 use Rattle.nfa_bounds.specs.declared.place.Place.{Place}
 

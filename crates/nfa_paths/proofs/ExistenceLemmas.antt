@@ -12,8 +12,9 @@ use Rattle.thompson_nfa.specs.Automaton.{Automaton, Node}
 use Rattle.thompson_nfa.specs.Automaton.Node.{Fail}
 use Rattle.nfa_paths.specs.Graphs.{Pair, In, NoPath}
 use Rattle.nfa_paths.specs.Paths.{pattern_of, pairs_from, raised, node_at, is_match, IsMatch, is_utf8_empty, edges_of, edges, starts, IsScanAnswer, EndsOnBoundary, IsWhole, SplitsCharacter, IsKeptAnswer, IsRestartedAnswer, IsSearchAnswer}
-use Rattle.nfa_paths.proofs.KindsLemmas.{In-append_left, In-append_right}
-use Rattle.nfa_paths.proofs.AnswerLemmas.{starts-increase, IsMatch-edges, scan_answer-leads, scan_answer-within}
+use Rattle.nfa_paths.proofs.MemberLemmas.{In-append_left, In-append_right}
+use Rattle.nfa_paths.proofs.StartLemmas.{starts-increase, IsMatch-edges}
+use Rattle.nfa_paths.proofs.AnswerLemmas.{scan_answer-leads, scan_answer-within}
 use Rattle.nfa_paths.proofs.ScanAnswerLemmas.{edges-within, starts-within}
 use Rattle.nfa_paths.proofs.FinitePathLemmas.{IsFinite}
 use Rattle.nfa_paths.proofs.FiniteKindsLemmas.{first_path_exists, earliest_path_exists, last_path_exists, earliest_last_path_exists}

@@ -1,12 +1,12 @@
 -- Where finitely many pairs lead on, each kind of scan has its path, or no path leads to a match.
-use Rattle.std.proofs.Common.{◌≡◌, ℕ, zero, suc, ◌+◌, ◌≤◌, ◌<◌, ◌⊎◌, inl, inr, Bool, true, false, List, [], ◌∷◌, refl, sym, ap, ◌∙◌, subst, arith}
+use Rattle.std.proofs.Common.{◌≡◌, ℕ, zero, suc, ◌+◌, ◌≤◌, ◌<◌, ◌⊎◌, inl, inr, Bool, true, List, [], ◌∷◌, refl, sym, ap, ◌∙◌, subst, arith}
 use Rattle.std.specs.Prelude.{Option, None, Some}
-use Rattle.std.proofs.Math.Decide.{ℕ_discrete}
-use Rattle.std.proofs.lemmas.Bool.{cases_Bool, cases_lt}
+use Rattle.std.proofs.lemmas.Bool.{cases_lt}
 use Rattle.nfa_paths.specs.Graphs.{Pair, In, Earlier, BeforeAfter, Before, ComesBefore, WantedAt, PathTo, NoPath, IsFirstTo, IsEnd, IsLeastEnd, IsGreatestEnd, IsLastOfFirsts, IsFirstPath, IsEarliestPath, IsLastPath, IsEarliestLastPath}
 use Rattle.nfa_paths.specs.Kinds.{Passes}
 use Rattle.nfa_paths.proofs.PathLemmas.{same}
 use Rattle.nfa_paths.proofs.PathToLemmas.{PathTo-along, PathTo-order, IsFirstTo-unique}
+use Rattle.nfa_paths.proofs.TestLemmas.{tell_at}
 use Rattle.nfa_paths.proofs.ScanLemmas.{EndsBefore-within}
 use Rattle.nfa_paths.proofs.FinitePathLemmas.{IsFinite, first_to, first_in}
 
@@ -110,10 +110,6 @@ greatest_with {A} {B} tell (suc k) =
 
 -- the kinds
 
--- a test has one outcome
-one_outcome : (b : Bool) → b ≡ true → b ≡ false → ⊥
-one_outcome b t f = cc
-
 module _ {edges : Pair → List Pair} {starts all : List Pair} {n : ℕ} (finite : IsFinite edges starts all n)
     (is_match : Pair → Bool)
     (stops : (x : Pair) → is_match x ≡ true → edges x ≡ []) (matches_in : (x : Pair) → x.1 ≤ n → is_match x ≡ true
@@ -126,21 +122,10 @@ module _ {edges : Pair → List Pair} {starts all : List Pair} {n : ℕ} (finite
   abbrev NoneAt : ℕ → Type 0
   NoneAt e = NoPath edges starts (WantedAt (Passes is_match) e)
 
-  -- whether a pair is a match pair at e
-  tell_at : (e : ℕ) (x : Pair) → WantedAt (Passes is_match) e x ⊎ ¬ (WantedAt (Passes is_match) e x)
-  tell_at e x =
-      elim (cases_Bool (is_match x)) [
-        | inl t ↦ elim (ℕ_discrete x.1 e) [
-          | yes a ↦ inl (record { wanted = t; at = a })
-          | no other ↦ inr (λ h. other h.at)
-        ]
-        | inr f ↦ inr (λ h. one_outcome (is_match x) h.wanted f)
-      ]
-
   -- each position has its first path or none
   first_at : (e : ℕ) → FirstAt e ⊎ NoneAt e
   first_at e =
-      elim (first_in finite (WantedAt (Passes is_match) e) (tell_at e) (λ x h. stops x h.wanted)) [
+      elim (first_in finite (WantedAt (Passes is_match) e) (tell_at is_match e) (λ x h. stops x h.wanted)) [
         | inl none ↦ inr none
         | inr f ↦ inl f
       ]
@@ -296,7 +281,7 @@ module _ {edges : Pair → List Pair} {starts all : List Pair} {n : ℕ} (finite
   sought : (e : ℕ) (es : List Pair) → Sought e es
   sought e [] = inl (λ m i. absurd i)
   sought e (m ∷ es) =
-      elim (tell_at e m) [
+      elim (tell_at is_match e m) [
         | inl w ↦
             elim (first_in finite (λ x. x ≡ m) (λ x. same x m) (λ x is. stops x (rw is w.wanted))) [
               | inl none ↦ Sought-skip e m es (λ h. none) (sought e es)

@@ -7,7 +7,7 @@ use Rattle.nfa_paths.specs.FirstPaths.{IsFirst, FirstAmong, Increasing, IsLeast}
 use Rattle.nfa_paths.specs.Kinds.{Passes}
 use Rattle.nfa_paths.proofs.PathLemmas.{IsFirst-marked, IsFirst-dead, IsFirst-target, IsFirst-step, IsFirstOfAll-from_among, IsLeast-from_first}
 use Rattle.nfa_paths.proofs.PathToLemmas.{In-cases, IsFirstTo-along, IsLeast-none, IsLeast-first}
-use Rattle.nfa_paths.proofs.KindsLemmas.{test, test-true, true-test}
+use Rattle.nfa_paths.proofs.TestLemmas.{test, test-true, true-test}
 
 -- the first path
 

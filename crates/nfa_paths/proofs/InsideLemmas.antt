@@ -1,6 +1,6 @@
 -- The match of a search's answer lies in its span.
 use Rattle.std.proofs.Common.{◌∙◌, ◌≡◌, ℕ, ◌+◌, ◌*◌, ◌≤◌, inl, inr, Bool, true, false, List, [], ◌∷◌, map, refl, ap, sym, subst, MatchBool, arith}
-use Rattle.std.specs.Prelude.{◌<◌, length, replicate, All, IfSome, Option, None, Some, cond, nat_le, option_and_then, option_map, ◌==◌}
+use Rattle.std.specs.Prelude.{◌<◌, length, All, IfSome, Option, None, Some, cond, nat_le, option_and_then, option_map, ◌==◌}
 use Rattle.std.specs.Option.{option_or, option_map_or}
 use Rattle.std.specs.List.{slice_get, range_with_len}
 use Rattle.std.proofs.lemmas.Bool.{cases_lt, le-leb, lt-leb}

@@ -1,17 +1,18 @@
 -- What the front of a position says of the paths that end there.
-use Rattle.std.proofs.Common.{◌≡◌, ℕ, suc, ◌≤◌, ◌<◌, ◌⊎◌, ◌↔◌, inl, inr, Bool, true, false, List, [], ◌∷◌, ◌++◌, map, length, refl, sym, ap, ◌∙◌, subst, append_assoc, arith}
-use Rattle.std.specs.Prelude.{Option, None, Some}
-use Rattle.std.proofs.Math.Decide.{ℕ_discrete}
-use Rattle.std.proofs.lemmas.Bool.{cases_Bool}
+use Rattle.std.proofs.Common.{◌≡◌, ℕ, suc, ◌≤◌, ◌<◌, ◌⊎◌, ◌↔◌, inl, inr, Bool, true, List, [], ◌∷◌, ◌++◌, map, length, refl, sym, ap, ◌∙◌, subst, append_assoc, arith}
+use Rattle.std.specs.Prelude.{None, Some}
 use Rattle.nfa_paths.specs.Graphs.{Pair, Space, In, NoRepeats, ComesBefore, PathTo, NoPath, IsFirstTo, WantedAt, IsLastOfFirsts}
 use Rattle.nfa_paths.specs.FirstPaths.{Path, IsFirst}
 use Rattle.nfa_paths.specs.FirstPaths.Path.{stop, go}
-use Rattle.nfa_paths.specs.Exploring.{Slots, Hit, Item, apply, found, ExploresTo, ExploresBehind}
+use Rattle.nfa_paths.specs.Exploring.{Slots, Item, apply, found, ExploresTo, ExploresBehind}
 use Rattle.nfa_paths.specs.Exploring.Item.{Explore, Restore, Load}
-use Rattle.nfa_paths.specs.Kinds.{Passes, MatchesAt, NoMatch, first_match, last_match, Scanned, IsFront}
+use Rattle.nfa_paths.specs.Kinds.{Passes, MatchesAt, NoMatch, Scanned, IsFront}
 use Rattle.nfa_paths.proofs.PathLemmas.{same, IsFirst-target, IsLeast-from_first}
 use Rattle.nfa_paths.proofs.SearchLemmas.{Answer-starts, found-Some}
 use Rattle.nfa_paths.proofs.PathToLemmas.{found-end, IsFirstTo-along, IsFirstTo-unique, IsLeast-none, IsLeast-first}
+use Rattle.nfa_paths.proofs.MemberLemmas.{In-append_left, In-append_right, In-append}
+use Rattle.nfa_paths.proofs.TestLemmas.{Tested, tell_at, test, test-true, true-test}
+use Rattle.nfa_paths.proofs.FrontMatchLemmas.{FirstMatch, LastMatch}
 
 -- the answer of a front
 
@@ -83,25 +84,7 @@ module _ (space : Space) (target : Pair → Bool) where
             AnswerBehind-first before a after (λ c i. rises c (inr i)) (λ c i. plain c (inr i)) t,
           )
 
--- lists
-
--- what stands in the first of two lists
-pub In-append_left : {A : Type 0} (x : A) (xs ys : List A) → In x xs → In x (xs ++ ys)
-In-append_left x [] ys i = absurd i
-In-append_left x (y ∷ xs) ys i = elim i [ inl e ↦ inl e | inr j ↦ inr (In-append_left x xs ys j) ]
-
--- what stands in the second of two lists
-pub In-append_right : {A : Type 0} (x : A) (xs ys : List A) → In x ys → In x (xs ++ ys)
-In-append_right x [] ys i = i
-In-append_right x (y ∷ xs) ys i = inr (In-append_right x xs ys i)
-
--- what stands in two lists stands in one of them
-In-append : {A : Type 0} (x : A) (xs ys : List A) → In x (xs ++ ys) → In x xs ⊎ In x ys
-In-append x [] ys i = inr i
-In-append x (y ∷ xs) ys i = elim i [
-  | inl e ↦ inl (inl e)
-  | inr j ↦ elim (In-append x xs ys j) [ inl k ↦ inl (inr k) | inr k ↦ inr k ]
-]
+-- the items of a front
 
 -- an item's pair is among the pairs
 In-map : (a : Pair × Slots) (xs : List (Pair × Slots)) → In a xs → In a.0 (map (λ b. b.0) xs)
@@ -149,27 +132,6 @@ find m (a ∷ front) =
             | inr none ↦ inr (λ b i e. elim i [ inl here ↦ n (rw here at e) | inr j ↦ none b j e ])
           ]
     ]
-
--- a property that can be tested
-abbrev Tested : (Pair → Type 0) → Type 0
-Tested P = (x : Pair) → P x ⊎ ¬ (P x)
-
--- whether a property that can be told holds
-pub test : {A : Type 0} → A ⊎ ¬ A → Bool
-test (inl a) = true
-test (inr n) = false
-
--- where the test succeeds, the property holds
-pub test-true : {A : Type 0} (d : A ⊎ ¬ A) → test d ≡ true → A
-unfolding test
-test-true (inl a) e = a
-test-true (inr n) e = cc
-
--- where the property holds, the test succeeds
-pub true-test : {A : Type 0} (d : A ⊎ ¬ A) → A → test d ≡ true
-unfolding test
-true-test (inl a) h = refl
-true-test (inr n) h = absurd (n h)
 
 module _ (space : Space) (resting is_match : Pair → Bool) (slots : Slots) (turns : ℕ) where
   module _ (shape : Scanned space resting is_match) {front : List (Pair × Slots)} {e : ℕ}
@@ -250,128 +212,11 @@ module _ (space : Space) (resting is_match : Pair → Bool) (slots : Slots) (tur
           | inr k ↦ let never : Some a ≡ None = sym wrote ∙ k.1 in cc
         ]
 
--- the match pairs of a front
-
-module _ (is_match : Pair → Bool) where
-  -- a match pair of the list, with none before it
-  pub record FirstMatch (front : List (Pair × Slots)) (a : Pair × Slots) : Type 0 where
-    pub before : List (Pair × Slots)
-    pub after : List (Pair × Slots)
-    pub split : front ≡ before ++ a ∷ after
-    pub plain : (b : Pair × Slots) → In b before → is_match b.0 ≡ true → ⊥
-    pub matches : is_match a.0 ≡ true
-
-  -- the same with none after it
-  pub record LastMatch (front : List (Pair × Slots)) (a : Pair × Slots) : Type 0 where
-    pub before : List (Pair × Slots)
-    pub after : List (Pair × Slots)
-    pub split : front ≡ before ++ a ∷ after
-    pub plain : (b : Pair × Slots) → In b after → is_match b.0 ≡ true → ⊥
-    pub matches : is_match a.0 ≡ true
-
-  -- a test does not both fail and succeed
-  pub is_plain : (b : Bool) → b ≡ false → b ≡ true → ⊥
-  is_plain b f t = cc
-
-  -- a front's first match pair, or that there is none
-  pub first_match-is : (front : List (Pair × Slots))
-      → ((first_match is_match front ≡ None) × NoMatch is_match front)
-      ⊎ ((a : Pair × Slots) × (first_match is_match front ≡ Some a) × FirstMatch front a)
-  first_match-is [] = inl (refl, λ b i. absurd i)
-  first_match-is (a ∷ front) =
-      elim (cases_Bool (is_match a.0)) [
-        | inl t ↦ inr (
-          a,
-          rw t refl,
-          record {
-            before = [];
-            after = front;
-            split = refl;
-            plain =
-                λ b i. absurd i;
-            matches = t;
-          },
-        )
-        | inr f ↦
-            elim (first_match-is front) [
-              | inl none ↦ inl (
-                rw f none.0,
-                λ b i t. elim i [
-                  | inl e ↦ is_plain (is_match a.0) f (rw (← e) t)
-                  | inr j ↦ none.1 b j t
-                ],
-              )
-              | inr some ↦
-                  let h = some.2 in
-                  inr (
-                    some.0,
-                    rw f some.1,
-                    record {
-                      before = a ∷ h.before;
-                      after = h.after;
-                      split = ap (λ x. a ∷ x) h.split;
-                      plain = λ b i t. elim i [
-                        | inl e ↦ is_plain (is_match a.0) f (rw (← e) t)
-                        | inr j ↦ h.plain b j t
-                      ];
-                      matches = h.matches;
-                    },
-                  )
-            ]
-      ]
-
-  -- a front's last match pair, or that there is none
-  pub last_match-is : (g : Hit) (front : List (Pair × Slots))
-      → ((last_match is_match g front ≡ g) × NoMatch is_match front)
-      ⊎ ((a : Pair × Slots) × (last_match is_match g front ≡ Some a) × LastMatch front a)
-  last_match-is g [] = inl (refl, λ b i. absurd i)
-  last_match-is g (a ∷ front) =
-      elim (cases_Bool (is_match a.0)) [
-        | inl t ↦
-            elim (last_match-is (Some a) front) [
-              | inl none ↦ inr (
-                a,
-                rw t none.0,
-                record
-                    { before = []; after = front; split = refl; plain = none.1; matches = t },
-              )
-              | inr some ↦ inr (some.0, rw t some.1, later some.2)
-            ]
-        | inr f ↦
-            elim (last_match-is g front) [
-              | inl none ↦ inl (
-                rw f none.0,
-                λ b i t. elim i [
-                  | inl e ↦ is_plain (is_match a.0) f (rw (← e) t)
-                  | inr j ↦ none.1 b j t
-                ],
-              )
-              | inr some ↦ inr (some.0, rw f some.1, later some.2)
-            ]
-      ]
-    where
-      later : {b : Pair × Slots} → LastMatch front b → LastMatch (a ∷ front) b
-      later h = record {
-        before = a ∷ h.before;
-        after = h.after;
-        split = ap (λ x. a ∷ x) h.split;
-        plain = h.plain;
-        matches = h.matches;
-      }
-
 -- what one front says of the paths that end at its position
 
 module _ (space : Space) (resting is_match : Pair → Bool) (slots : Slots) (turns : ℕ)
     (shape : Scanned space resting is_match) {front : List (Pair × Slots)} {e : ℕ}
     (f : IsFront space resting is_match slots turns front e) where
-  -- the match pairs at e can be told
-  here : Tested (WantedAt (Passes is_match) e)
-  here x =
-      elim (cases_Bool (is_match x)) [
-        | inl t ↦ elim (ℕ_discrete x.1 e) [ yes p ↦ inl (record { wanted = t; at = p }) | no n ↦ inr (λ h. n h.at) ]
-        | inr g ↦ inr (λ h. is_plain is_match (is_match x) g h.wanted)
-      ]
-
   -- they are match pairs at e
   here_matches : (x : Pair) → WantedAt (Passes is_match) e x → (is_match x ≡ true) × (x.1 ≡ e)
   here_matches x h = (h.wanted, h.at)
@@ -379,7 +224,7 @@ module _ (space : Space) (resting is_match : Pair → Bool) (slots : Slots) (tur
   -- no match pair in the front: no path ends at e
   pub IsFront-no_match : NoMatch is_match front → NoPath space.edges space.starts (WantedAt (Passes is_match) e)
   IsFront-no_match none = IsFront-none space resting is_match slots turns shape f
-      (WantedAt (Passes is_match) e) here here_matches (λ a i h. none a i h.wanted)
+      (WantedAt (Passes is_match) e) (tell_at is_match e) here_matches (λ a i h. none a i h.wanted)
 
   -- its first match pair is the end of the first path that ends at e
   pub IsFront-first_match : (a : Pair × Slots) → FirstMatch is_match front a
@@ -387,7 +232,7 @@ module _ (space : Space) (resting is_match : Pair → Bool) (slots : Slots) (tur
       × (first.end ≡ a.0)
       × (found space.capture p slots ≡ Some a) × (length p ≤ turns)
   IsFront-first_match a m =
-      IsFront-first space resting is_match slots turns shape f (WantedAt (Passes is_match) e) here
+      IsFront-first space resting is_match slots turns shape f (WantedAt (Passes is_match) e) (tell_at is_match e)
       here_matches m.before a m.after m.split
       (λ b i h. m.plain b i h.wanted) (record {
         wanted = m.matches;

@@ -1,5 +1,5 @@
 -- A match that one search found is the match of each such search, and is there to be found.
-use Rattle.std.proofs.Common.{◌≡◌, ℕ, Bool, List, Option, Some, sym, ◌∙◌, ap, subst, refl}
+use Rattle.std.proofs.Common.{◌≡◌, Bool, List, Option, Some, sym, ◌∙◌, ap, subst, refl}
 use Rattle.std.specs.Option.{option_and_then}
 use Rattle.regex_search_core.specs.Found.{Found}
 use Rattle.regex_search_core.specs.Groups.{slot_count}

@@ -2,9 +2,15 @@ pub mod PathLemmas
 pub mod PathToLemmas
 pub mod SearchLemmas
 pub mod SearchingLemmas
+pub mod MemberLemmas
+pub mod TestLemmas
+pub mod FrontMatchLemmas
 pub mod KindsLemmas
 pub mod ScanLemmas
+pub mod ReachedLemmas
+pub mod CutLemmas
 pub mod ScanningLemmas
+pub mod StartLemmas
 pub mod AnswerLemmas
 pub mod ScanAnswerLemmas
 pub mod PatternLemmas
@@ -14,6 +20,9 @@ pub mod ExistenceLemmas
 pub mod EarliestLemmas
 pub mod InsideLemmas
 pub mod KnownLemmas
-pub mod OverlapLemmas
+pub mod SetLemmas
+pub mod GainLemmas
+pub mod SoundLemmas
+pub mod UpToLemmas
 pub mod TurnLemmas
 pub mod RestartLemmas

@@ -10,12 +10,14 @@ use Rattle.thompson_nfa.specs.Automaton.{Automaton, Node}
 use Rattle.thompson_nfa.specs.Automaton.Node.{ByteRange, Sparse, Dense, Look, Union, BinaryUnion, Capture, Fail, Match}
 use Rattle.thompson_nfa.specs.Looks.{look_holds}
 use Rattle.nfa_paths.specs.Graphs.{Pair, In, NoPath}
-use Rattle.nfa_paths.specs.Exploring.{Slots, Hit, apply, ExploresTo, seeds}
+use Rattle.nfa_paths.specs.Exploring.{Item, Slots, Hit, apply, ExploresTo, seeds}
 use Rattle.nfa_paths.specs.Exploring.Item.{Explore, Load}
-use Rattle.nfa_paths.specs.Kinds.{IsFoundBy, found_along, NoneBefore, LastBefore, EndsBefore, first_match, last_match, Scanned, IsFront, rests, is_resting}
+use Rattle.nfa_paths.specs.Kinds.{Scanning, IsFoundBy, found_along, NoneBefore, LastBefore, EndsBefore, first_match, last_match, Scanned, IsFront, rests, is_resting}
 use Rattle.nfa_paths.specs.Paths.{space, target_on, pairs_from, node_at, is_match, IsMatch, capture, start_state, byte_at, edges_of, edges, start_count, starts, IsScanAnswer, last_of, slot_row}
 use Rattle.nfa_paths.proofs.PathToLemmas.{EndsWith-last, found-end}
-use Rattle.nfa_paths.proofs.AnswerLemmas.{pairs_from-ahead, starts-increase, starts-none, IsMatch-edges, IsMatch-capture, apply-slot_row, scan_answer-leads, never_none, same_parts}
+use Rattle.nfa_paths.proofs.StartLemmas.{pairs_from-ahead, starts-increase, starts-none, IsMatch-edges, IsMatch-capture}
+use Rattle.nfa_paths.proofs.AnswerLemmas.{apply-slot_row, scan_answer-leads, never_none, same_parts}
+use Rattle.nfa_paths.proofs.CutLemmas.{first_match-cut}
 use Rattle.nfa_paths.proofs.ScanLemmas.{EndsBefore-within, IsEarliestPath-found, IsEarliestLastPath-found, LastBefore-end, IsFirstPath-found}
 
 -- the edges
@@ -254,16 +256,19 @@ module _ (nfa : Automaton) (x : Search) (slots : Slots) where
       IsFirstPath-found (space nfa x) (is_resting nfa) (is_match nfa) slots
       (Scanned-matches nfa x (is_match nfa) (λ v m. m)) turns g answer
 
-  -- the first front with a match has the earliest path
-  pub scan_earliest-found : {turns e : ℕ} {front : List (Pair × Slots)} → NoneBefore (space nfa x) (is_match nfa) e
-      → IsFront (space nfa x) (is_resting nfa) (is_match nfa) slots turns front e
-      → (a : Pair × Slots) → first_match (is_match nfa) front ≡ Some a
-      → IsFoundBy (capture nfa) slots (IsScanAnswer nfa x LeftmostFirst true) turns (Some a)
-  scan_earliest-found none f a is =
-      IsEarliestPath-found (space nfa x) (is_resting nfa) (is_match nfa) slots
-      (Scanned-matches nfa x (is_match nfa) (λ v m. m)) none f a is
+  -- the first front with a match has the earliest path, also where what is behind it was not followed
+  pub scan_earliest-cut : {e : ℕ} {Seen : Pair → Type 0} {spent : ℕ} {front : List (Pair × Slots)} {work : List Item}
+      {current : Slots} {a : Pair × Slots} → NoneBefore (space nfa x) (is_match nfa) e
+      → Scanning (space nfa x) (is_match nfa) slots e Seen spent front work current
+      → ((b : Pair × Slots) → In b front → (is_resting nfa b.0 ≡ true) × (b.0.1 ≡ e))
+      → first_match (is_match nfa) front ≡ Some a
+      → IsFoundBy (capture nfa) slots (IsScanAnswer nfa x LeftmostFirst true) spent (Some a)
+  scan_earliest-cut none s rests is =
+      let shape = Scanned-matches nfa x (is_match nfa) (λ v m. m) in
+      IsEarliestPath-found (space nfa x) (is_resting nfa) (is_match nfa) slots shape none
+      (first_match-cut (space nfa x) (is_resting nfa) (is_match nfa) shape s rests is)
 
-  -- and the earliest last path
+  -- and the earliest last path, where all was followed
   pub scan_earliest_last-found : {turns e : ℕ} {front : List (Pair × Slots)} → NoneBefore (space nfa x) (is_match nfa) e
       → IsFront (space nfa x) (is_resting nfa) (is_match nfa) slots turns front e
       → (a : Pair × Slots) → last_match (is_match nfa) None front ≡ Some a

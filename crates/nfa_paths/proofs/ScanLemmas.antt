@@ -1,16 +1,18 @@
 -- The answers of a scan, position by position.
-use Rattle.std.proofs.Common.{◌≡◌, ℕ, ◌+◌, ◌≤◌, ◌<◌, ◌⊎◌, ◌↔◌, inl, inr, Bool, true, List, [], ◌∷◌, map, length, refl, sym, ap, ◌∙◌, arith}
+use Rattle.std.proofs.Common.{◌≡◌, ℕ, ◌+◌, ◌≤◌, ◌<◌, ◌⊎◌, inl, inr, Bool, true, List, [], ◌∷◌, map, length, refl, sym, ap, ◌∙◌, arith}
 use Rattle.std.specs.Prelude.{Option, None, Some}
 use Rattle.std.specs.Option.{option_map_or}
 use Rattle.std.proofs.lemmas.Bool.{cases_lt, cases_Bool}
 use Rattle.nfa_paths.specs.Graphs.{Pair, Space, In, HeadIs, Linked, EndsWith, PathTo, NoPath, IsFirstTo, IsEnd, IsLeastEnd, IsGreatestEnd, WantedAt, IsLastOfFirsts, IsFirstPath, IsEarliestPath, IsLastPath, IsEarliestLastPath}
 use Rattle.nfa_paths.specs.Exploring.{Slots, Hit, ExploresTo}
 use Rattle.nfa_paths.specs.Exploring.Item.{Explore}
-use Rattle.nfa_paths.specs.Kinds.{Passes, WantedBefore, IsLastAt, IsFoundBy, IsReached, NoneBefore, LastBefore, ReachedBefore, EndsBefore, first_match, last_match, NoMatch, HoldsMatch, Scanned, IsFront, IsOver}
+use Rattle.nfa_paths.specs.Kinds.{Passes, found_along, WantedBefore, IsLastAt, IsFoundBy, NoneBefore, LastBefore, EndsBefore, first_match, last_match, NoMatch, Scanned, IsFront, IsOver}
 use Rattle.nfa_paths.proofs.PathLemmas.{IsLeast-from_first}
 use Rattle.nfa_paths.proofs.PathToLemmas.{PathTo-along, IsLeast-none, IsLeast-first}
 use Rattle.nfa_paths.proofs.SearchLemmas.{Answer-starts, found-Some}
-use Rattle.nfa_paths.proofs.KindsLemmas.{first_match-is, last_match-is, IsFront-no_match, IsFront-first_match, IsFront-last_match, IsFront-pairs, is_plain, test, test-true, true-test}
+use Rattle.nfa_paths.proofs.TestLemmas.{is_plain, test, test-true, true-test}
+use Rattle.nfa_paths.proofs.FrontMatchLemmas.{first_match-is, last_match-is}
+use Rattle.nfa_paths.proofs.KindsLemmas.{IsFront-no_match, IsFront-first_match, IsFront-last_match}
 
 -- what is found in few turns is found in more
 pub IsFoundBy-more : {capture : Pair → Option ℕ} {slots : Slots} {Meant : Option (List Pair) → Type 0}
@@ -177,24 +179,25 @@ module _ (space : Space) (resting is_match : Pair → Bool) (slots : Slots) (sha
     ];
   }
 
-  -- the first front with a match pair: its first is the earliest
-  pub IsEarliestPath-found : {turns e : ℕ} {front : List (Pair × Slots)} → NoneBefore space is_match e
-      → IsFront space resting is_match slots turns front e → (a : Pair × Slots) → first_match is_match front ≡ Some a
+  -- the first path that ends at e, where none ends before: the earliest
+  pub IsEarliestPath-found : {turns e : ℕ} {a : Pair × Slots} → NoneBefore space is_match e
+      → IsFoundBy space.capture slots (IsFirstPath space.edges space.starts (WantedAt (Passes is_match) e)) turns
+      (Some a)
       → IsFoundBy space.capture slots (IsEarliestPath space.edges space.starts (Passes is_match)) turns (Some a)
-  IsEarliestPath-found {turns} {e} {front} none f a found_it =
-      elim (first_match-is is_match front) [
-        | inl lacks ↦ let never : Some a ≡ None = sym found_it ∙ lacks.0 in cc
-        | inr has ↦
-            let h = IsFront-first_match space resting is_match slots turns shape f has.0 has.2 in
-            record {
-              path = Some h.0;
-              meant = (e, least_end none h.1.end h.0 h.1.path h.1.wanted, h.1);
-              leads = h.3 ∙ sym has.1 ∙ found_it;
-              short = h.4;
-            }
-      ]
+  IsEarliestPath-found {turns} {e} {a} none h = of h.path h.meant h.leads h.short
+    where
+      of : (o : Option (List Pair)) → IsFirstPath space.edges space.starts (WantedAt (Passes is_match) e) o
+          → found_along space.capture o slots ≡ Some a → option_map_or length o 0 ≤ turns
+          → IsFoundBy space.capture slots (IsEarliestPath space.edges space.starts (Passes is_match)) turns (Some a)
+      of None meant leads short = cc
+      of (Some p) meant leads short = record {
+        path = Some p;
+        meant = (e, least_end none meant.end p meant.path meant.wanted, meant);
+        leads = leads;
+        short = short;
+      }
 
-  -- and its last is the last of the first paths
+  -- the first front with a match pair: its last is the last of the first paths
   pub IsEarliestLastPath-found : {turns e : ℕ} {front : List (Pair × Slots)} → NoneBefore space is_match e
       → IsFront space resting is_match slots turns front e → (a : Pair × Slots)
       → last_match is_match None front ≡ Some a
@@ -324,7 +327,7 @@ module _ (space : Space) (resting is_match : Pair → Bool) (slots : Slots) (sha
             | inl less ↦ inr (λ h. let k : e ≤ x.1 = h.1 in omega arith)
             | inr more ↦ inl (t, more)
           ]
-          | inr g ↦ inr (λ h. is_plain is_match (is_match x) g h.0)
+          | inr g ↦ inr (λ h. is_plain (is_match x) g h.0)
         ]
 
     -- they are a set that a search can be for
@@ -359,95 +362,3 @@ module _ (space : Space) (resting is_match : Pair → Bool) (slots : Slots) (sha
           | inl less ↦ less
           | inr more ↦ absurd (NoPath-over over m p w (t, more))
         ]
-
-  -- the patterns that are reached
-  module _ (pattern : Pair → Option ℕ) (k : ℕ) where
-    -- at one position: those of the match pairs of its front
-    pub IsReached-at : {turns e : ℕ} {front : List (Pair × Slots)} → IsFront space resting is_match slots turns front e
-        → IsReached space.edges space.starts (WantedAt (Passes is_match) e) pattern k
-        ↔ HoldsMatch is_match pattern k front
-    IsReached-at {turns} f = (
-      λ r.
-          let a = (IsFront-pairs space resting is_match slots turns shape f r.end r.wanted).0 (r.along, r.path) in
-          record { item = a.0; among = a.1; matches = rw a.2 r.wanted.wanted; pattern_is = rw a.2 r.pattern_is },
-      λ a.
-          let h = wanted_at a.item.0 a.matches (f.rest a.item a.among).1 in
-          let w = (IsFront-pairs space resting is_match slots turns shape f a.item.0 h).1 (a.item, a.among, refl) in
-          record { end = a.item.0; along = w.0; path = w.1; wanted = h; pattern_is = a.pattern_is },
-    )
-      where
-        wanted_at : {e : ℕ} (m : Pair) → is_match m ≡ true → m.1 ≡ e → WantedAt (Passes is_match) e m
-        wanted_at m t at = record { wanted = t; at = at }
-
-    -- before the first start none
-    pub ReachedBefore-start : (e : ℕ) → ((s : Pair) → In s space.starts → e ≤ s.1)
-        → ReachedBefore space is_match pattern e k → ⊥
-    ReachedBefore-start e from r = NoneBefore-start e from r.end r.along r.path r.wanted
-
-    -- before the next position: what was reached before, and the match pairs of the front
-    pub ReachedBefore-step : {turns e : ℕ} {front : List (Pair × Slots)}
-        → IsFront space resting is_match slots turns front e
-        → ReachedBefore space is_match pattern (e + 1) k
-        ↔ (ReachedBefore space is_match pattern e k ⊎ HoldsMatch is_match pattern k front)
-    ReachedBefore-step {e = e} f = (
-      λ r.
-          elim (cases_lt r.end.1 e) [
-            | inl less ↦
-                inl (record {
-                  end = r.end;
-                  along = r.along;
-                  path = r.path;
-                  wanted =
-                      record { wanted = r.wanted.wanted; before = less };
-                  pattern_is = r.pattern_is;
-                })
-            | inr more ↦
-                let b : r.end.1 < e + 1 = r.wanted.before in
-                inr ((IsReached-at f).0 (record {
-                  end = r.end;
-                  along = r.along;
-                  path = r.path;
-                  wanted =
-                      record { wanted = r.wanted.wanted; at = omega arith };
-                  pattern_is = r.pattern_is;
-                }))
-          ],
-      λ s.
-          elim s [
-            | inl r ↦
-                let b : r.end.1 < e = r.wanted.before in
-                record {
-                  end = r.end;
-                  along = r.along;
-                  path = r.path;
-                  wanted =
-                      record { wanted = r.wanted.wanted; before = omega arith };
-                  pattern_is = r.pattern_is;
-                }
-            | inr a ↦
-                let r = (IsReached-at f).1 a in
-                let b : r.end.1 ≡ e = r.wanted.at in
-                record {
-                  end = r.end;
-                  along = r.along;
-                  path = r.path;
-                  wanted =
-                      record { wanted = r.wanted.wanted; before = omega arith };
-                  pattern_is = r.pattern_is;
-                }
-          ],
-    )
-
-    -- where every path has ended: all that are reached
-    pub ReachedBefore-end : {e : ℕ} → EndsBefore space is_match e
-        → ReachedBefore space is_match pattern e k ↔ IsReached space.edges space.starts (Passes is_match) pattern k
-    ReachedBefore-end ends = (
-      λ r. record { end = r.end; along = r.along; path = r.path; wanted = r.wanted.wanted; pattern_is = r.pattern_is },
-      λ r. record {
-        end = r.end;
-        along = r.along;
-        path = r.path;
-        wanted = record { wanted = r.wanted; before = ends r.end r.along r.path r.wanted };
-        pattern_is = r.pattern_is;
-      },
-    )

@@ -11,6 +11,7 @@ use Rattle.nfa_paths.proofs.PathLemmas.{IsFirst-target}
 use Rattle.nfa_paths.proofs.PathToLemmas.{is_false}
 use Rattle.nfa_paths.proofs.SearchLemmas.{AnswerBehind-along}
 use Rattle.nfa_paths.proofs.SearchingLemmas.{Searching-start, Searching-seeds, Searching-restore, Searching-load, Searching-marked, Searching-plain, Searching-write, Searching-unkept, Searching-end, Searching-keep, Searching-round, Searching-done}
+use Rattle.nfa_paths.proofs.MemberLemmas.{In-middle}
 
 -- a test that implies a failing one fails
 not_true : (b c : Bool) → (b ≡ true → c ≡ true) → c ≡ false → b ≡ false
@@ -304,11 +305,6 @@ module _ (space : Space) (target : Pair → Bool) where
             rw h.1.first (next (Some h.0) [] (Searching-wait old cut) (λ k i. absurd i))
       ]
     where
-      In-middle : (before : List (Pair × Slots)) (a : Pair × Slots) (later : List (Pair × Slots))
-          → In a (before ++ a ∷ later)
-      In-middle [] a later = inl refl
-      In-middle (b ∷ before) a later = inr (In-middle before a later)
-
       next : (other : Hit) (waits : List Item)
           → Searching space target goal Seen spent (before_match target front) other (Load old ∷ waits) slots
           → ((k : Pair) → In (Explore k) waits → e < k.1)

@@ -14,16 +14,15 @@ use Rattle.nfa_paths.specs.Exploring.{Item, Slots, Hit, round}
 use Rattle.nfa_paths.specs.Exploring.Item.{Explore, Load}
 use Rattle.nfa_paths.specs.Kinds.{is_resting, NoMatch, IsFoundBy, NoneBefore, LastBefore, last_match, IsFront, Scanning}
 use Rattle.nfa_paths.specs.Paths.{node_at, pattern_of, edges, is_match, capture, starts, IsScanAnswer, space}
-use Rattle.nfa_paths.proofs.KindsLemmas.{first_match-is, last_match-is}
-use Rattle.nfa_paths.proofs.ScanAnswerLemmas.{edges-onward, seeds-later, Scanned-matches, scan_earliest_last-found}
+use Rattle.nfa_paths.proofs.FrontMatchLemmas.{first_match-is, last_match-is}
 use Rattle.nfa_paths.proofs.ScanLemmas.{NoneBefore-step, LastBefore-step}
+use Rattle.nfa_paths.proofs.ScanAnswerLemmas.{edges-onward, seeds-later, Scanned-matches, scan_earliest-cut, scan_earliest_last-found}
 use Rattle.nfa_paths.proofs.ScanningLemmas.{Scanning-front, Scanning-round}
 use Rattle.nfa_scanning.specs.Marks.{Marks}
 use Rattle.nfa_pikevm.specs.States.{Front, tasks, unmarked, meant, GoesOn, SeenAt, Crosses}
 use Rattle.nfa_pikevm.specs.Scans.{blank, starts_from, half_found, IsSoFar, ScansAll}
 use Rattle.nfa_pikevm.proofs.TaskLemmas.{AnswersFor, AnswersFor-round, Searching-for}
 use Rattle.nfa_pikevm.proofs.FrontLemmas.{Formed-rests, Formed-resting, Formed-next, first_match-cut, last_match-or, SeenAt-none}
-use Rattle.nfa_pikevm.proofs.EarliestLemmas.{scan_earliest-cut}
 
 -- what is found last stands in the front, or was found before
 last_match-among : (is : Pair → Bool) (g : Hit) (front : Front) (a : Pair × Slots) → last_match is g front ≡ Some a
@@ -156,9 +155,9 @@ module _ (nfa : Automaton) (x : Search) (at width state limit : ℕ) where
       → NoneBefore (space nfa x) (is_match nfa) at → (a : Pair × Slots) → meant false (is_match nfa) c.front ≡ Some a
       → IsFoundBy (capture nfa) (blank width) (IsScanAnswer nfa x LeftmostFirst true) after.turns (Some a)
   earliest-first {after = after} c s none a first =
-      scan_earliest-cut nfa x at none (all-left c s
+      scan_earliest-cut nfa x (blank width) none (all-left c s
       (c.leads (blank width) (blank width) (starts_from width state (at + 1) limit)).left refl)
-      (Formed-resting nfa x at after.bits c.front c.formed) a first
+      (Formed-resting nfa x at after.bits c.front c.formed) first
 
   -- and where it went on, the last match is the earliest last path's
   pub earliest-last : {met : Marks} {items : List (ℕ × Slots)} {slots : Slots} {hit : Option PatternID} {after : Marks}

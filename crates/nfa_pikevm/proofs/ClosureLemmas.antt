@@ -11,7 +11,7 @@ use Rattle.nfa_paths.specs.Paths.{edges, is_match}
 use Rattle.nfa_paths.specs.Exploring.{Item, Slots, Hit}
 use Rattle.nfa_paths.specs.Exploring.Item.{Explore as ToExplore, Load as ToLoad}
 use Rattle.nfa_paths.specs.Kinds.{first_match, before_match, last_match, NoMatch}
-use Rattle.nfa_paths.proofs.AnswerLemmas.{IsMatch-edges}
+use Rattle.nfa_paths.proofs.StartLemmas.{IsMatch-edges}
 use Rattle.nfa_scanning.specs.Marks.{Marks}
 use Rattle.nfa_pikevm.specs.Rows.{Active}
 use Rattle.nfa_pikevm.specs.States.{Front, moves, work_onto, with_state, state_on, tries, meant, IsHit, Follows, Formed, Paid, HasRoom, KeepsRoom, Enters, FindsMatch, Arrives}

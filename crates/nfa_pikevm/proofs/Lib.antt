@@ -10,7 +10,6 @@ pub mod TaskLemmas
 pub mod FrontLemmas
 pub mod ScanLemmas
 pub mod AllLemmas
-pub mod EarliestLemmas
 pub mod EndLemmas
 pub mod RoomLemmas
 pub mod SizeLemmas

@@ -13,13 +13,15 @@ use Rattle.nfa_paths.specs.Exploring.{Slots, Hit, Item, round, seeds}
 use Rattle.nfa_paths.specs.Exploring.Item.{Explore as ToExplore, Load as ToLoad}
 use Rattle.nfa_paths.specs.Kinds.{first_match, before_match}
 use Rattle.nfa_paths.specs.Overlaps.{IsOverlapResult}
-use Rattle.nfa_paths.proofs.AnswerLemmas.{pairs_from-step, pairs_from-end}
-use Rattle.nfa_paths.proofs.KindsLemmas.{first_match-is}
+use Rattle.nfa_paths.proofs.MemberLemmas.{In-middle}
+use Rattle.nfa_paths.proofs.FrontMatchLemmas.{first_match-is}
+use Rattle.nfa_paths.proofs.StartLemmas.{pairs_from-step, pairs_from-end}
+use Rattle.nfa_paths.proofs.SoundLemmas.{heads, Sound, Sound-start, Sound-hit, Sound-round, Sound-cut, Searched}
+use Rattle.nfa_paths.proofs.UpToLemmas.{UpTo, UpTo-next, UpTo-match, UpTo-end}
 use Rattle.nfa_paths.proofs.ScanAnswerLemmas.{edges-onward, seeds-later}
 use Rattle.nfa_paths.proofs.SearchingLemmas.{Searching-load, Searching-round, Searching-done}
 use Rattle.nfa_paths.proofs.ScanningLemmas.{Searching-cut, Searching-wait}
 use Rattle.nfa_paths.proofs.PathToLemmas.{is_false}
-use Rattle.nfa_paths.proofs.OverlapLemmas.{heads, Sound, Sound-start, Sound-hit, Sound-round, Sound-cut, Searched, UpTo, UpTo-next, UpTo-match, UpTo-end}
 use Rattle.nfa_scanning.specs.Marks.{Marks}
 use Rattle.nfa_pikevm.specs.Scans.{starts_from, with_start, AreStarts, AreAt, IsPaidAt}
 use Rattle.nfa_pikevm.specs.States.{Front, moves, tasks, unmarked, SearchingAt, Leads}
@@ -327,7 +329,7 @@ module _ (nfa : Automaton) (x : Search) (old : List Bool) where
               let before_it = before_match (wants nfa x (length old)) c.front in
               let split = subst (λ f. SearchingAt nfa x at (wants nfa x (length old)) (starts nfa x) [] w.so_far after f
               l.left l.written) parts.1 (front-search l) in
-              let among : In has.0 c.front = rw has.2.split (in-middle has.2.before has.0 has.2.after) in
+              let among : In has.0 c.front = rw has.2.split (In-middle has.2.before has.0 has.2.after) in
               let cut = Searching-cut (space nfa x) (wants nfa x (length old)) before_it has.0 parts.0
               split parts.2 (front-leaves nfa x old c has.0 among).0 in
               let next = Searching-round (space nfa x) (wants nfa x (length old))
@@ -367,7 +369,3 @@ module _ (nfa : Automaton) (x : Search) (old : List Bool) where
                     (front-searched l) (front-rests nfa x old c) has.0 has.1) put.1.1 put.1.2;
               }
         ]
-      where
-        in-middle : (before : Front) (a : Pair × Slots) (behind : Front) → In a (before ++ a ∷ behind)
-        in-middle [] a behind = inl refl
-        in-middle (b ∷ before) a behind = inr (in-middle before a behind)

@@ -15,9 +15,12 @@ use Rattle.nfa_paths.specs.Exploring.{Slots}
 use Rattle.nfa_paths.specs.Kinds.{is_resting, NoneBefore, EndsBefore, IsFront}
 use Rattle.nfa_paths.specs.Overlaps.{HoldsPattern, IsOverlapResult}
 use Rattle.nfa_paths.proofs.ScanAnswerLemmas.{EndsBefore-span, starts-from}
+use Rattle.nfa_paths.proofs.FrontMatchLemmas.{first_match-is}
 use Rattle.nfa_paths.proofs.ScanLemmas.{NoneBefore-start, NoneBefore-step, NoneBefore-end}
-use Rattle.nfa_paths.proofs.KindsLemmas.{first_match-is}
-use Rattle.nfa_paths.proofs.OverlapLemmas.{wanted-shape, GainsBefore, GainsBefore-start, GainsBefore-step, GainsBefore-end, GainsBefore-full, NoneHeld, NoneHeld-start, NoneHeld-step, NoneHeld-found, NoneHeld-end, FirstAt-front, FirstAt-found, First-none, full-gains, first-gains}
+use Rattle.nfa_paths.proofs.SetLemmas.{full-gains, first-gains}
+use Rattle.nfa_paths.proofs.GainLemmas.{wanted-shape, GainsBefore, GainsBefore-start, GainsBefore-step, GainsBefore-end, GainsBefore-full, NoneHeld, NoneHeld-start, NoneHeld-step, NoneHeld-found, NoneHeld-end}
+use Rattle.nfa_paths.proofs.SoundLemmas.{FirstAt-front}
+use Rattle.nfa_paths.proofs.UpToLemmas.{FirstAt-found, First-none}
 use Rattle.nfa_scanning.specs.Marks.{Marks}
 use Rattle.nfa_pikevm.specs.Scans.{with_start, AreStarts, AreAt, IsPaidAt, scan_turns}
 use Rattle.nfa_pikevm.specs.Overlapping.{wants, Gathers, GathersAll, GathersFirst, GoesPast, CrossesInSet}

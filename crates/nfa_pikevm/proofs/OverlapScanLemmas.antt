@@ -1,26 +1,24 @@
 -- The positions of a scan for a set of patterns.
-use Rattle.std.proofs.Common.{◌≡◌, ℕ, ◌+◌, ◌-◌, ◌*◌, ◌<◌, ◌≤◌, inl, inr, Bool, true, false, List, [], ◌∷◌, ◌++◌, length, get_or, map, replicate, refl, sym, ap, ◌∙◌, subst, arith}
+use Rattle.std.proofs.Common.{◌≡◌, ℕ, ◌+◌, ◌-◌, ◌*◌, ◌<◌, ◌≤◌, inl, inr, Bool, true, false, List, [], ◌∷◌, ◌++◌, length, map, refl, sym, ap, ◌∙◌, subst, arith}
 use Rattle.std.specs.Prelude.{Option, None, Some, All, sum, option_map, option_and_then, option_to_list}
 use Rattle.std.proofs.lemmas.Bool.{cases_lt, lt-ltb, le-ltb}
-use Rattle.std.proofs.lemmas.List.{get_or_past, get_or-replicate, length-replicate}
-use Rattle.std.proofs.lemmas.List.Elements.{All-nil, All-cons, All-head, All-tail}
+use Rattle.std.proofs.lemmas.List.Elements.{All-nil, All-cons, All-head, All-tail, All-append}
 use Rattle.std.proofs.lemmas.List.Sums.{sum-map, sum_by-cons}
 use Rattle.regex_search_core.specs.Search.{Search}
 use Rattle.thompson_nfa.specs.Automaton.{Automaton, Node, LeadsBelow, IsAutomaton}
 use Rattle.thompson_nfa.specs.Automaton.Node.{ByteRange, Sparse, Dense, Look, Union, BinaryUnion, Capture, Fail, Match}
 use Rattle.nfa_paths.specs.Graphs.{Pair, In}
-use Rattle.nfa_paths.specs.Paths.{node_at, degree, edges, edges_of, byte_at, target_on, capture, starts, pairs_from, turn_weight, space}
+use Rattle.nfa_paths.specs.Paths.{node_at, degree, edges, edges_of, byte_at, target_on, capture, starts, turn_weight, space}
 use Rattle.nfa_paths.specs.Exploring.{Slots, Hit, Item, ExploresTo, ExploresBehind, Searching, round, seeds}
 use Rattle.nfa_paths.specs.Exploring.Item.{Explore as ToExplore, Load as ToLoad}
 use Rattle.nfa_paths.specs.Kinds.{rests, is_resting, Scanning, IsFront, EndsBefore}
 use Rattle.nfa_paths.specs.Turns.{marked_sum}
-use Rattle.nfa_paths.proofs.AnswerLemmas.{pairs_from-step, pairs_from-end}
-use Rattle.nfa_paths.proofs.SearchLemmas.{Answer-more, Answer-seeds}
+use Rattle.nfa_paths.proofs.StartLemmas.{pairs_from-step, pairs_from-end, resting-capture}
+use Rattle.nfa_paths.proofs.ScanLemmas.{EndsBefore-over}
+use Rattle.nfa_paths.proofs.GainLemmas.{wanted-shape}
 use Rattle.nfa_paths.proofs.ScanningLemmas.{Scanning-round, Scanning-front, Scanning-load, Scanning-over}
 use Rattle.nfa_paths.proofs.ScanAnswerLemmas.{edges_of-next, edges-onward, seeds-later}
-use Rattle.nfa_paths.proofs.ScanLemmas.{EndsBefore-over}
 use Rattle.nfa_paths.proofs.TurnLemmas.{marked_sum-le, marked_sum-clear}
-use Rattle.nfa_paths.proofs.OverlapLemmas.{wanted-shape, resting-capture}
 use Rattle.nfa_scanning.proofs.TargetLemmas.{target-below}
 use Rattle.nfa_scanning.specs.Marks.{Marks}
 use Rattle.nfa_pikevm.specs.Scans.{starts_from, with_start, AreStarts, AreAt, IsPaidAt}
@@ -41,10 +39,6 @@ all-in P (y ∷ xs) a h i = elim i [
   | inl e ↦ subst P (sym e) (All-head P y xs h)
   | inr j ↦ all-in P xs a (All-tail P y xs h) j
 ]
-
-all-append : {A : Type 0} (P : A → Type 0) (xs ys : List A) → All P xs → All P ys → All P (xs ++ ys)
-all-append P [] ys h k = k
-all-append P (y ∷ xs) ys h k = All-cons P y (xs ++ ys) (All-head P y xs h) (all-append P xs ys (All-tail P y xs h) k)
 
 -- where the edges of a resting state lead
 module _ (x : Search) (n p : ℕ) (v : Pair) where
@@ -132,7 +126,7 @@ module _ (nfa : Automaton) (x : Search) where
           let leads : LeadsBelow (length nfa.states) (node_at nfa a.0.0) = good.numbered.targets_in a.0.0 Fail less in
           let r : rests (node_at nfa a.0.0) ≡ true =
           All-head (λ (b : Pair × Slots). rests (node_at nfa b.0.0) ≡ true) a front resting in
-          all-append (λ (i : ℕ × Slots). i.0 < length nfa.states) (map (λ v. (v.0, a.1)) (edges nfa x a.0))
+          All-append (λ (i : ℕ × Slots). i.0 < length nfa.states) (map (λ v. (v.0, a.1)) (edges nfa x a.0))
           (moves (edges nfa x) front)
           (each (edges nfa x a.0) a.1 (λ v i. edges_of-below x (length nfa.states) a.0.1 v
           (node_at nfa a.0.0) leads r i))
@@ -276,7 +270,7 @@ module _ (nfa : Automaton) (x : Search) where
           × ((w : Pair) → In w (edges nfa x b.0) → at < w.1)
       front-leaves b i =
           let r = front-rests b i in (
-            resting-capture nfa x old (wants nfa x (length old)) (wants-tells nfa x (length old)) b.0 r.0,
+            resting-capture nfa b.0 r.0,
             r.1,
             λ w j. let e : w.1 ≡ at + 1 = front-edges b i w j in omega arith,
           )

@@ -12,7 +12,7 @@ use Rattle.nfa_paths.specs.Paths.{node_at, pattern_of, is_match, is_utf8_empty}
 use Rattle.nfa_paths.specs.Exploring.{Slots, Hit}
 use Rattle.nfa_paths.specs.Kinds.{HoldsMatch, NoMatch, first_match, before_match}
 use Rattle.nfa_paths.specs.Overlaps.{pattern_at, IsPermittedEnd, IsHeld}
-use Rattle.nfa_paths.proofs.OverlapLemmas.{holds-with, length-with}
+use Rattle.nfa_paths.proofs.SetLemmas.{holds-with, length-with}
 use Rattle.nfa_pikevm.specs.States.{Front}
 use Rattle.nfa_pikevm.specs.Overlapping.{is_boundary, permits, is_below, wants, GathersFirst, Gathers}
 

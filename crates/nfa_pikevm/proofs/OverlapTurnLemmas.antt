@@ -13,7 +13,7 @@ use Rattle.nfa_paths.specs.Paths.{node_at, pattern_of, edges, is_match, space}
 use Rattle.nfa_paths.specs.Exploring.{Slots, Item}
 use Rattle.nfa_paths.specs.Exploring.Item.{Explore as ToExplore, Load as ToLoad}
 use Rattle.nfa_paths.specs.Kinds.{NoMatch, before_match}
-use Rattle.nfa_paths.proofs.AnswerLemmas.{IsMatch-edges}
+use Rattle.nfa_paths.proofs.StartLemmas.{IsMatch-edges}
 use Rattle.nfa_paths.proofs.SearchLemmas.{Answer-load, AnswerBehind-along}
 use Rattle.nfa_paths.proofs.SearchingLemmas.{Searching-load}
 use Rattle.nfa_scanning.specs.Marks.{Marks}

@@ -12,7 +12,7 @@ use Rattle.nfa_paths.specs.Exploring.{Item, Slots, Hit, round}
 use Rattle.nfa_paths.specs.Exploring.Item.{Explore, Load}
 use Rattle.nfa_paths.specs.Kinds.{first_match, before_match}
 use Rattle.nfa_paths.specs.Paths.{edges, is_match, starts, space}
-use Rattle.nfa_paths.proofs.AnswerLemmas.{IsMatch-capture}
+use Rattle.nfa_paths.proofs.StartLemmas.{IsMatch-capture}
 use Rattle.nfa_paths.proofs.ScanAnswerLemmas.{edges-onward, seeds-later}
 use Rattle.nfa_paths.proofs.ScanningLemmas.{Searching-cut, Searching-wait, Searching-cut_round}
 use Rattle.nfa_paths.proofs.SearchingLemmas.{Searching-round}

@@ -7,7 +7,7 @@ use Rattle.nfa_paths.specs.FirstPaths.{IsFirst}
 use Rattle.nfa_paths.specs.Exploring.{Item, Slots, Hit, ExploresTo, ExploresBehind, Searching, round, seeds}
 use Rattle.nfa_paths.specs.Exploring.Item.{Explore, Load}
 use Rattle.nfa_paths.proofs.SearchLemmas.{Answer-more, Answer-seeds, AnswerBehind-along}
-use Rattle.nfa_paths.proofs.AnswerLemmas.{pairs_from-step, pairs_from-end}
+use Rattle.nfa_paths.proofs.StartLemmas.{pairs_from-step, pairs_from-end}
 use Rattle.nfa_pikevm.specs.States.{Front, moves, tasks}
 use Rattle.nfa_pikevm.specs.Scans.{blank, starts_from, with_start}
 use Rattle.nfa_pikevm.specs.declared.scan.Starts.{Starts}

@@ -4,7 +4,7 @@ use Rattle.std.specs.Prelude.{None}
 use Rattle.regex_search_core.specs.Search.{search_of}
 use Rattle.nfa_paths.specs.Paths.{pairs_from}
 use Rattle.nfa_paths.specs.Exploring.Item.{Explore}
-use Rattle.nfa_paths.proofs.AnswerLemmas.{pairs_from-step, pairs_from-end}
+use Rattle.nfa_paths.proofs.StartLemmas.{pairs_from-step, pairs_from-end}
 use Rattle.nfa_backtrack.proofs.PassLemmas.{Carries-first, Carries-pass}
 use Rattle.nfa_backtrack.proofs.WalkLemmas.{Carries-then, Carries-ends, Ends-none, EndsAt-along}
 use Rattle.nfa_backtrack.proofs.ScanLemmas.{starts-none, starts-some, turns-all, turns-bound}

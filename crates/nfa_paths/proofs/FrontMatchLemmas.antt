@@ -1,0 +1,111 @@
+-- The first and the last match pair of a front.
+use Rattle.std.proofs.Common.{◌≡◌, ◌⊎◌, inl, inr, Bool, true, List, [], ◌∷◌, ◌++◌, refl, ap}
+use Rattle.std.specs.Prelude.{None, Some}
+use Rattle.std.proofs.lemmas.Bool.{cases_Bool}
+use Rattle.nfa_paths.specs.Graphs.{Pair, In}
+use Rattle.nfa_paths.specs.Exploring.{Slots, Hit}
+use Rattle.nfa_paths.specs.Kinds.{NoMatch, first_match, last_match}
+use Rattle.nfa_paths.proofs.TestLemmas.{is_plain}
+
+module _ (is_match : Pair → Bool) where
+  -- a match pair of the list, with none before it
+  pub record FirstMatch (front : List (Pair × Slots)) (a : Pair × Slots) : Type 0 where
+    pub before : List (Pair × Slots)
+    pub after : List (Pair × Slots)
+    pub split : front ≡ before ++ a ∷ after
+    pub plain : (b : Pair × Slots) → In b before → is_match b.0 ≡ true → ⊥
+    pub matches : is_match a.0 ≡ true
+
+  -- the same with none after it
+  pub record LastMatch (front : List (Pair × Slots)) (a : Pair × Slots) : Type 0 where
+    pub before : List (Pair × Slots)
+    pub after : List (Pair × Slots)
+    pub split : front ≡ before ++ a ∷ after
+    pub plain : (b : Pair × Slots) → In b after → is_match b.0 ≡ true → ⊥
+    pub matches : is_match a.0 ≡ true
+
+  -- a front's first match pair, or that there is none
+  pub first_match-is : (front : List (Pair × Slots))
+      → ((first_match is_match front ≡ None) × NoMatch is_match front)
+      ⊎ ((a : Pair × Slots) × (first_match is_match front ≡ Some a) × FirstMatch front a)
+  first_match-is [] = inl (refl, λ b i. absurd i)
+  first_match-is (a ∷ front) =
+      elim (cases_Bool (is_match a.0)) [
+        | inl t ↦ inr (
+          a,
+          rw t refl,
+          record {
+            before = [];
+            after = front;
+            split = refl;
+            plain =
+                λ b i. absurd i;
+            matches = t;
+          },
+        )
+        | inr f ↦
+            elim (first_match-is front) [
+              | inl none ↦ inl (
+                rw f none.0,
+                λ b i t. elim i [
+                  | inl e ↦ is_plain (is_match a.0) f (rw (← e) t)
+                  | inr j ↦ none.1 b j t
+                ],
+              )
+              | inr some ↦
+                  let h = some.2 in
+                  inr (
+                    some.0,
+                    rw f some.1,
+                    record {
+                      before = a ∷ h.before;
+                      after = h.after;
+                      split = ap (λ x. a ∷ x) h.split;
+                      plain = λ b i t. elim i [
+                        | inl e ↦ is_plain (is_match a.0) f (rw (← e) t)
+                        | inr j ↦ h.plain b j t
+                      ];
+                      matches = h.matches;
+                    },
+                  )
+            ]
+      ]
+
+  -- a front's last match pair, or that there is none
+  pub last_match-is : (g : Hit) (front : List (Pair × Slots))
+      → ((last_match is_match g front ≡ g) × NoMatch is_match front)
+      ⊎ ((a : Pair × Slots) × (last_match is_match g front ≡ Some a) × LastMatch front a)
+  last_match-is g [] = inl (refl, λ b i. absurd i)
+  last_match-is g (a ∷ front) =
+      elim (cases_Bool (is_match a.0)) [
+        | inl t ↦
+            elim (last_match-is (Some a) front) [
+              | inl none ↦ inr (
+                a,
+                rw t none.0,
+                record
+                    { before = []; after = front; split = refl; plain = none.1; matches = t },
+              )
+              | inr some ↦ inr (some.0, rw t some.1, later some.2)
+            ]
+        | inr f ↦
+            elim (last_match-is g front) [
+              | inl none ↦ inl (
+                rw f none.0,
+                λ b i t. elim i [
+                  | inl e ↦ is_plain (is_match a.0) f (rw (← e) t)
+                  | inr j ↦ none.1 b j t
+                ],
+              )
+              | inr some ↦ inr (some.0, rw f some.1, later some.2)
+            ]
+      ]
+    where
+      later : {b : Pair × Slots} → LastMatch front b → LastMatch (a ∷ front) b
+      later h = record {
+        before = a ∷ h.before;
+        after = h.after;
+        split = ap (λ x. a ∷ x) h.split;
+        plain = h.plain;
+        matches = h.matches;
+      }

@@ -1,0 +1,298 @@
+-- What a set of patterns gains under All, position by position.
+use Rattle.std.proofs.Common.{◌≡◌, ℕ, ◌+◌, ◌<◌, ◌⊎◌, ◌↔◌, inl, inr, Bool, true, false, List, [], length, refl, ◌∙◌, subst}
+use Rattle.std.specs.Prelude.{Some}
+use Rattle.std.proofs.lemmas.Bool.{cases_lt}
+use Rattle.regex_search_core.specs.PatternSets.{size_of_set}
+use Rattle.regex_search_core.specs.Search.{Search}
+use Rattle.regex_search_core.specs.declared.search.MatchKind.TheVariants.{All}
+use Rattle.thompson_nfa.specs.Automaton.{Automaton}
+use Rattle.nfa_paths.specs.Graphs.{Pair, NoPath, IsLeastEnd, WantedAt}
+use Rattle.nfa_paths.specs.Exploring.{Slots}
+use Rattle.nfa_paths.specs.Kinds.{Passes, ReachedBefore, EndsBefore, HoldsMatch, Scanned, IsFront, is_resting}
+use Rattle.nfa_paths.specs.Paths.{space, edges, starts}
+use Rattle.nfa_paths.specs.Overlaps.{HoldsPattern, pattern_at, IsPermitted, IsHeld, IsPatternOf, GainsAll, IsOverlapResult}
+use Rattle.nfa_paths.proofs.ReachedLemmas.{IsReached-at, ReachedBefore-start, ReachedBefore-step, ReachedBefore-end, IsReached-along}
+use Rattle.nfa_paths.proofs.SetLemmas.{full-holds}
+use Rattle.nfa_paths.proofs.PathToLemmas.{IsLeastEnd-unique}
+use Rattle.nfa_paths.proofs.ScanAnswerLemmas.{Scanned-matches, starts-from}
+
+-- The set before is `old`: wanted is what it has room for.
+module _ (nfa : Automaton) (x : Search) (old : List Bool) (wants : Pair → Bool)
+    (tells : (v : Pair) → (wants v ≡ true) ↔ IsHeld nfa x (length old) v) where
+  -- what the search goes over
+  pub wanted-shape : Scanned (space nfa x) (is_resting nfa) wants
+  wanted-shape = Scanned-matches nfa x wants (λ v w. ((tells v).0 w).permitted.matches)
+
+  permitted_at : (e : ℕ) (v : Pair) → WantedAt (Passes wants) e v → WantedAt (IsPermitted nfa x) e v
+  permitted_at e v w = record { wanted = ((tells v).0 w.wanted).permitted; at = w.at }
+
+  -- a permitted match counts where its pattern is below the capacity
+  counts : {k : ℕ} → k < length old → (v : Pair) → IsPermitted nfa x v → pattern_at nfa v ≡ Some k → wants v ≡ true
+  counts {k} less v may is = (tells v).1 (record { permitted = may; pattern = k; pattern_is = is; below = less })
+
+  -- a pattern that is reached before e is one of an accepting path with a permitted end
+  reached-sound : {e k : ℕ} → ReachedBefore (space nfa x) wants (pattern_at nfa) e k
+      → IsPatternOf nfa x (IsPermitted nfa x) k
+  reached-sound = IsReached-along (λ v w. ((tells v).0 w.wanted).permitted)
+
+  -- The set of `All` at position e: it gained the patterns below its capacity that are reached before e.
+  pub record GainsBefore (e : ℕ) (new : List Bool) : Type 0 where
+    pub capacity : length new ≡ length old
+    pub gained : (k : ℕ) → HoldsPattern new k
+        ↔ (HoldsPattern old k ⊎ ((k < length old)
+        × ReachedBefore (space nfa x) wants (pattern_at nfa) e k))
+
+  pub GainsBefore-start : GainsBefore x.start old
+  GainsBefore-start = record {
+    capacity = refl;
+    gained = λ k. (
+      λ h. inl h,
+      λ s. elim s [
+        | inl h ↦ h
+        | inr h ↦ absurd (ReachedBefore-start (space nfa x) (is_resting nfa) wants []
+            wanted-shape (pattern_at nfa) k x.start (starts-from nfa x) h.1)
+      ],
+    );
+  }
+
+  module _ {slots : Slots} {turns e : ℕ} {front : List (Pair × Slots)}
+      (f : IsFront (space nfa x) (is_resting nfa) wants slots turns front e) where
+    -- what is reached before the next position
+    reached-step : (k : ℕ) → ReachedBefore (space nfa x) wants (pattern_at nfa) (e + 1) k
+        ↔ (ReachedBefore (space nfa x) wants (pattern_at nfa) e k
+        ⊎ HoldsMatch wants (pattern_at nfa) k front)
+    reached-step k = ReachedBefore-step (space nfa x) (is_resting nfa) wants slots
+        wanted-shape (pattern_at nfa) k f
+
+    pub GainsBefore-step : {mid new : List Bool} → GainsBefore e mid → length new ≡ length mid
+        → ((k : ℕ) → HoldsPattern new k ↔ (HoldsPattern mid k
+        ⊎ ((k < length mid) × HoldsMatch wants (pattern_at nfa) k front)))
+        → GainsBefore (e + 1) new
+    GainsBefore-step {mid} {new} g size put = record {
+      capacity = size ∙ g.capacity;
+      gained = λ k. (
+        λ h.
+            elim ((put k).0 h) [
+              | inl m ↦ elim ((g.gained k).0 m) [ inl o ↦ inl o | inr w ↦ inr (w.0, (reached-step k).1 (inl w.1)) ]
+              | inr w ↦ inr (rw (← g.capacity) w.0, (reached-step k).1 (inr w.1))
+            ],
+        λ s.
+            elim s [
+              | inl o ↦ (put k).1 (inl ((g.gained k).1 (inl o)))
+              | inr w ↦
+                  elim ((reached-step k).0 w.1) [
+                    | inl before ↦ (put k).1 (inl ((g.gained k).1 (inr (w.0, before))))
+                    | inr here ↦ (put k).1 (inr (rw g.capacity w.0, here))
+                  ]
+            ],
+      );
+    }
+
+  -- where every path has ended it gained all
+  pub GainsBefore-end : {e : ℕ} {new : List Bool} → GainsBefore e new → EndsBefore (space nfa x) wants e
+      → IsOverlapResult nfa x All false old new
+  GainsBefore-end {e} {new} g ends = record {
+    capacity = g.capacity;
+    keeps = λ k h. (g.gained k).1 (inl h);
+    sound = λ k h. elim ((g.gained k).0 h) [ inl o ↦ inl o | inr w ↦ inr (w.0, reached-sound w.1) ];
+    gains = record {
+      gained = λ k. (
+        λ h. elim ((g.gained k).0 h) [ inl o ↦ inl o | inr w ↦ inr (w.0, reached-sound w.1) ],
+        λ s.
+            elim s [
+              | inl o ↦ (g.gained k).1 (inl o)
+              | inr w ↦
+                  (g.gained k).1
+                  (inr (
+                    w.0,
+                    (ReachedBefore-end (space nfa x) (is_resting nfa) wants [] wanted-shape (pattern_at nfa) k ends).1
+                        (record {
+                          end = w.1.end;
+                          along = w.1.along;
+                          path = w.1.path;
+                          wanted =
+                              counts w.0 w.1.end w.1.wanted w.1.pattern_is;
+                          pattern_is = w.1.pattern_is;
+                        }),
+                  ))
+            ],
+      );
+    };
+  }
+
+  -- a full set gains no more
+  pub GainsBefore-full : {e : ℕ} {new : List Bool} → GainsBefore e new → size_of_set new ≡ length new
+      → IsOverlapResult nfa x All false old new
+  GainsBefore-full {e} {new} g full = record {
+    capacity = g.capacity;
+    keeps = λ k h. (g.gained k).1 (inl h);
+    sound = λ k h. elim ((g.gained k).0 h) [ inl o ↦ inl o | inr w ↦ inr (w.0, reached-sound w.1) ];
+    gains = record {
+      gained = λ k. (
+        λ h. elim ((g.gained k).0 h) [ inl o ↦ inl o | inr w ↦ inr (w.0, reached-sound w.1) ],
+        λ s. elim s [ inl o ↦ (g.gained k).1 (inl o) | inr w ↦ full-holds new full k (rw g.capacity w.0) ],
+      );
+    };
+  }
+
+  -- no pattern below the capacity is reached before e
+  pub record NoneHeld (e : ℕ) : Type 0 where
+    pub none : (k : ℕ) → k < length old → ReachedBefore (space nfa x) wants (pattern_at nfa) e k → ⊥
+
+  pub NoneHeld-start : NoneHeld x.start
+  NoneHeld-start = record {
+    none = λ k less r. ReachedBefore-start (space nfa x) (is_resting nfa) wants []
+        wanted-shape (pattern_at nfa) k x.start (starts-from nfa x) r;
+  }
+
+  module _ {slots : Slots} {turns e : ℕ} {front : List (Pair × Slots)}
+      (f : IsFront (space nfa x) (is_resting nfa) wants slots turns front e) where
+    pub NoneHeld-step : NoneHeld e → ((k : ℕ) → k < length old → HoldsMatch wants (pattern_at nfa) k front → ⊥)
+        → NoneHeld (e + 1)
+    NoneHeld-step none plain = record {
+      none = λ k less r. elim ((reached-step f k).0 r) [
+        | inl before ↦ none.none k less before
+        | inr here ↦ plain k less here
+      ];
+    }
+
+    -- what is reached at e, by the front
+    reached-here : (k : ℕ) → k < length old → IsPatternOf nfa x (WantedAt (IsPermitted nfa x) e) k
+        ↔ HoldsMatch wants (pattern_at nfa) k front
+    reached-here k less =
+        let at = IsReached-at (space nfa x) (is_resting nfa) wants slots wanted-shape
+        (pattern_at nfa) k f in (
+          λ r. at.0 (record {
+            end = r.end;
+            along = r.along;
+            path = r.path;
+            wanted = record { wanted = counts less r.end r.wanted.wanted r.pattern_is; at = r.wanted.at };
+            pattern_is = r.pattern_is;
+          }),
+          λ h. IsReached-along (permitted_at e) (at.1 h),
+        )
+
+    -- the first front with a match of a pattern below the capacity stands at the least end
+    held-least : NoneHeld e → (k : ℕ) → k < length old → HoldsMatch wants (pattern_at nfa) k front
+        → IsLeastEnd (edges nfa x) (starts nfa x) (IsHeld nfa x (length old)) e
+    held-least none k less here =
+        let r = (reached-here k less).1 here in
+        record {
+          is_end = record {
+            end = r.end;
+            along = r.along;
+            path = r.path;
+            wanted =
+                record { permitted = r.wanted.wanted; pattern = k; pattern_is = r.pattern_is; below = less };
+            at = r.wanted.at;
+          };
+          least = λ m p w h.
+              elim (cases_lt m.1 e) [
+                | inl before ↦
+                    absurd (none.none h.pattern h.below
+                    (record {
+                      end = m;
+                      along = p;
+                      path = w;
+                      wanted = record { wanted = (tells m).1 h; before = before };
+                      pattern_is = h.pattern_is;
+                    }))
+                | inr more ↦ more
+              ];
+        }
+
+    pub NoneHeld-found : {new : List Bool} → NoneHeld e → (k : ℕ) → k < length old
+        → HoldsMatch wants (pattern_at nfa) k front
+        → length new ≡ length old
+        → ((j : ℕ) → HoldsPattern new j ↔ (HoldsPattern old j
+        ⊎ ((j < length old) × HoldsMatch wants (pattern_at nfa) j front)))
+        → IsOverlapResult nfa x All true old new
+    NoneHeld-found {new} none k less here size put = record {
+      capacity = size;
+      keeps = λ j h. (put j).1 (inl h);
+      sound = λ j h. elim ((put j).0 h) [
+        | inl o ↦ inl o
+        | inr w ↦ inr (w.0, IsReached-along (λ v p. p.wanted) ((reached-here j w.0).1 w.1))
+      ];
+      gains = record {
+        gained = λ j. (
+          λ h. elim ((put j).0 h) [
+            | inl o ↦ inl o
+            | inr w ↦ inr (w.0, (e, held-least none k less here, (reached-here j w.0).1 w.1))
+          ],
+          λ s.
+              elim s [
+                | inl o ↦ (put j).1 (inl o)
+                | inr w ↦
+                    let same : w.1.0 ≡ e = IsLeastEnd-unique (edges nfa x) (starts nfa x) (IsHeld nfa x (length old))
+                    w.1.0 e w.1.1 (held-least none k less here) in
+                    (put j).1 (inr (
+                      w.0,
+                      (reached-here j w.0).0
+                          (subst (λ d. IsPatternOf nfa x (WantedAt (IsPermitted nfa x) d) j) same w.1.2),
+                    ))
+              ],
+        );
+      };
+    }
+
+  -- where every path has ended nothing is gained
+  pub NoneHeld-end : {e : ℕ} → NoneHeld e → EndsBefore (space nfa x) wants e → IsOverlapResult nfa x All true old old
+  NoneHeld-end {e} none ends = record {
+    capacity = refl;
+    keeps = λ k h. h;
+    sound = λ k h. inl h;
+    gains = record {
+      gained = λ k. (
+        λ h. inl h,
+        λ s.
+            elim s [
+              | inl o ↦ o
+              | inr w ↦
+                  let i = w.1.1.is_end in
+                  absurd (none.none i.wanted.pattern i.wanted.below (record {
+                    end = i.end;
+                    along = i.along;
+                    path = i.path;
+                    wanted = record {
+                      wanted = (tells i.end).1 i.wanted;
+                      before =
+                          ends i.end i.along i.path ((tells i.end).1 i.wanted);
+                    };
+                    pattern_is = i.wanted.pattern_is;
+                  }))
+            ],
+      );
+    };
+  }
+
+  -- no accepting path has a permitted end
+  pub All-none : NoPath (edges nfa x) (starts nfa x) (Passes wants) → (earliest : Bool)
+      → IsOverlapResult nfa x All earliest old old
+  All-none none earliest = record {
+    capacity = refl;
+    keeps = λ k h. h;
+    sound = λ k h. inl h;
+    gains = of earliest;
+  }
+    where
+      of : (b : Bool) → GainsAll nfa x b old old
+      of false = record {
+        gained = λ k. (
+          λ h. inl h,
+          λ s. elim s [
+            | inl o ↦ o
+            | inr w ↦ absurd (none w.1.end w.1.along w.1.path (counts w.0 w.1.end w.1.wanted w.1.pattern_is))
+          ],
+        );
+      }
+      of true = record {
+        gained = λ k. (
+          λ h. inl h,
+          λ s. elim s [
+            | inl o ↦ o
+            | inr w ↦ let i = w.1.2 in
+                absurd (none i.end i.along i.path (counts w.0 i.end i.wanted.wanted i.pattern_is))
+          ],
+        );
+      }

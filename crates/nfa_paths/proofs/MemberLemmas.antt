@@ -1,0 +1,25 @@
+-- What stands in a list.
+use Rattle.std.proofs.Common.{◌⊎◌, inl, inr, List, [], ◌∷◌, ◌++◌, refl}
+use Rattle.nfa_paths.specs.Graphs.{In}
+
+-- what stands in the first of two lists
+pub In-append_left : {A : Type 0} (x : A) (xs ys : List A) → In x xs → In x (xs ++ ys)
+In-append_left x [] ys i = absurd i
+In-append_left x (y ∷ xs) ys i = elim i [ inl e ↦ inl e | inr j ↦ inr (In-append_left x xs ys j) ]
+
+-- what stands in the second of two lists
+pub In-append_right : {A : Type 0} (x : A) (xs ys : List A) → In x ys → In x (xs ++ ys)
+In-append_right x [] ys i = i
+In-append_right x (y ∷ xs) ys i = inr (In-append_right x xs ys i)
+
+-- what stands in two lists stands in one of them
+pub In-append : {A : Type 0} (x : A) (xs ys : List A) → In x (xs ++ ys) → In x xs ⊎ In x ys
+In-append x [] ys i = inr i
+In-append x (y ∷ xs) ys i = elim i [
+  | inl e ↦ inl (inl e)
+  | inr j ↦ elim (In-append x xs ys j) [ inl k ↦ inl (inr k) | inr k ↦ inr k ]
+]
+
+-- an item in the middle
+pub In-middle : {A : Type 0} (xs : List A) (x : A) (ys : List A) → In x (xs ++ x ∷ ys)
+In-middle xs x ys = In-append_right x xs (x ∷ ys) (inl refl)

@@ -1,0 +1,114 @@
+-- The patterns of the match pairs that are reached, position by position.
+use Rattle.std.proofs.Common.{◌≡◌, ℕ, ◌+◌, ◌≤◌, ◌<◌, ◌⊎◌, ◌↔◌, inl, inr, Bool, true, List, refl, arith}
+use Rattle.std.specs.Prelude.{Option}
+use Rattle.std.proofs.lemmas.Bool.{cases_lt}
+use Rattle.nfa_paths.specs.Graphs.{Pair, Space, In, WantedAt}
+use Rattle.nfa_paths.specs.Exploring.{Slots}
+use Rattle.nfa_paths.specs.Kinds.{Passes, IsReached, ReachedBefore, EndsBefore, HoldsMatch, Scanned, IsFront}
+use Rattle.nfa_paths.proofs.KindsLemmas.{IsFront-pairs}
+use Rattle.nfa_paths.proofs.ScanLemmas.{NoneBefore-start}
+
+-- the patterns that are reached by the pairs of another set
+pub IsReached-along : {edges : Pair → List Pair} {starts : List Pair} {P Q : Pair → Type 0}
+    {pattern : Pair → Option ℕ} {k : ℕ}
+    → ((v : Pair) → P v → Q v) → IsReached edges starts P pattern k → IsReached edges starts Q pattern k
+IsReached-along to r = record {
+  end = r.end;
+  along = r.along;
+  path = r.path;
+  wanted = to r.end r.wanted;
+  pattern_is = r.pattern_is;
+}
+
+module _ (space : Space) (resting is_match : Pair → Bool) (slots : Slots) (shape : Scanned space resting is_match) where
+  module _ (pattern : Pair → Option ℕ) (k : ℕ) where
+    -- at one position: those of the match pairs of its front
+    pub IsReached-at : {turns e : ℕ} {front : List (Pair × Slots)} → IsFront space resting is_match slots turns front e
+        → IsReached space.edges space.starts (WantedAt (Passes is_match) e) pattern k
+        ↔ HoldsMatch is_match pattern k front
+    IsReached-at {turns} f = (
+      λ r.
+          let a = (IsFront-pairs space resting is_match slots turns shape f r.end r.wanted).0 (r.along, r.path) in
+          record { item = a.0; among = a.1; matches = rw a.2 r.wanted.wanted; pattern_is = rw a.2 r.pattern_is },
+      λ a.
+          let h = wanted_at a.item.0 a.matches (f.rest a.item a.among).1 in
+          let w = (IsFront-pairs space resting is_match slots turns shape f a.item.0 h).1 (a.item, a.among, refl) in
+          record { end = a.item.0; along = w.0; path = w.1; wanted = h; pattern_is = a.pattern_is },
+    )
+      where
+        wanted_at : {e : ℕ} (m : Pair) → is_match m ≡ true → m.1 ≡ e → WantedAt (Passes is_match) e m
+        wanted_at m t at = record { wanted = t; at = at }
+
+    -- before the first start none
+    pub ReachedBefore-start : (e : ℕ) → ((s : Pair) → In s space.starts → e ≤ s.1)
+        → ReachedBefore space is_match pattern e k → ⊥
+    ReachedBefore-start e from r =
+        NoneBefore-start space resting is_match slots shape e from r.end r.along r.path r.wanted
+
+    -- before the next position: what was reached before, and the match pairs of the front
+    pub ReachedBefore-step : {turns e : ℕ} {front : List (Pair × Slots)}
+        → IsFront space resting is_match slots turns front e
+        → ReachedBefore space is_match pattern (e + 1) k
+        ↔ (ReachedBefore space is_match pattern e k ⊎ HoldsMatch is_match pattern k front)
+    ReachedBefore-step {e = e} f = (
+      λ r.
+          elim (cases_lt r.end.1 e) [
+            | inl less ↦
+                inl (record {
+                  end = r.end;
+                  along = r.along;
+                  path = r.path;
+                  wanted =
+                      record { wanted = r.wanted.wanted; before = less };
+                  pattern_is = r.pattern_is;
+                })
+            | inr more ↦
+                let b : r.end.1 < e + 1 = r.wanted.before in
+                inr ((IsReached-at f).0 (record {
+                  end = r.end;
+                  along = r.along;
+                  path = r.path;
+                  wanted =
+                      record { wanted = r.wanted.wanted; at = omega arith };
+                  pattern_is = r.pattern_is;
+                }))
+          ],
+      λ s.
+          elim s [
+            | inl r ↦
+                let b : r.end.1 < e = r.wanted.before in
+                record {
+                  end = r.end;
+                  along = r.along;
+                  path = r.path;
+                  wanted =
+                      record { wanted = r.wanted.wanted; before = omega arith };
+                  pattern_is = r.pattern_is;
+                }
+            | inr a ↦
+                let r = (IsReached-at f).1 a in
+                let b : r.end.1 ≡ e = r.wanted.at in
+                record {
+                  end = r.end;
+                  along = r.along;
+                  path = r.path;
+                  wanted =
+                      record { wanted = r.wanted.wanted; before = omega arith };
+                  pattern_is = r.pattern_is;
+                }
+          ],
+    )
+
+    -- where every path has ended: all that are reached
+    pub ReachedBefore-end : {e : ℕ} → EndsBefore space is_match e
+        → ReachedBefore space is_match pattern e k ↔ IsReached space.edges space.starts (Passes is_match) pattern k
+    ReachedBefore-end ends = (
+      λ r. record { end = r.end; along = r.along; path = r.path; wanted = r.wanted.wanted; pattern_is = r.pattern_is },
+      λ r. record {
+        end = r.end;
+        along = r.along;
+        path = r.path;
+        wanted = record { wanted = r.wanted; before = ends r.end r.along r.path r.wanted };
+        pattern_is = r.pattern_is;
+      },
+    )

@@ -1,0 +1,39 @@
+-- Sets of pairs as tests.
+use Rattle.std.proofs.Common.{◌≡◌, ℕ, ◌⊎◌, inl, inr, Bool, true, false, refl}
+use Rattle.std.proofs.Math.Decide.{ℕ_discrete}
+use Rattle.std.proofs.lemmas.Bool.{cases_Bool}
+use Rattle.nfa_paths.specs.Graphs.{Pair, WantedAt}
+use Rattle.nfa_paths.specs.Kinds.{Passes}
+
+-- a property that can be tested
+abbrev pub Tested : (Pair → Type 0) → Type 0
+Tested P = (x : Pair) → P x ⊎ ¬ (P x)
+
+-- whether a property that can be told holds
+pub test : {A : Type 0} → A ⊎ ¬ A → Bool
+test (inl a) = true
+test (inr n) = false
+
+-- where the test succeeds, the property holds
+pub test-true : {A : Type 0} (d : A ⊎ ¬ A) → test d ≡ true → A
+unfolding test
+test-true (inl a) e = a
+test-true (inr n) e = cc
+
+-- where the property holds, the test succeeds
+pub true-test : {A : Type 0} (d : A ⊎ ¬ A) → A → test d ≡ true
+unfolding test
+true-test (inl a) h = refl
+true-test (inr n) h = absurd (n h)
+
+-- a test does not both fail and succeed
+pub is_plain : (b : Bool) → b ≡ false → b ≡ true → ⊥
+is_plain b f t = cc
+
+-- the pairs at e that pass a test can be told
+pub tell_at : (wanted : Pair → Bool) (e : ℕ) → Tested (WantedAt (Passes wanted) e)
+tell_at wanted e v =
+    elim (cases_Bool (wanted v)) [
+      | inl t ↦ elim (ℕ_discrete v.1 e) [ yes p ↦ inl (record { wanted = t; at = p }) | no n ↦ inr (λ h. n h.at) ]
+      | inr g ↦ inr (λ h. is_plain (wanted v) g h.wanted)
+    ]
