@@ -23,20 +23,6 @@ boundary-to haystack i t = grind (arith, nat_tests)
 boundary-from : (haystack : List ℕ) (i : ℕ) → IsBoundary haystack i → is_boundary haystack i ≡ true
 boundary-from haystack i h = grind (arith, nat_tests)
 
--- the test that the program makes
-pub permits-is : (nfa : Automaton) (x : Search) (at : ℕ) (b : Bool) → (b ≡ true → IsBoundary x.haystack at)
-    → (IsBoundary x.haystack at → b ≡ true)
-    → (not (is_utf8_empty nfa) || b) ≡ permits nfa x at
-unfolding permits
-permits-is nfa x at b to back = ap (λ c. not (is_utf8_empty nfa) || c)
-    (same b (is_boundary x.haystack at) (λ t. boundary-from x.haystack at (to t))
-    (λ t. back (boundary-to x.haystack at t)))
-  where
-    same : (b c : Bool) → (b ≡ true → c ≡ true) → (c ≡ true → b ≡ true) → b ≡ c
-    same true c f g = sym (f refl)
-    same false true f g = g refl
-    same false false f g = refl
-
 module _ (nfa : Automaton) (x : Search) where
   permits-tells : (at : ℕ) → (permits nfa x at ≡ true) ↔ IsPermittedEnd nfa x at
   unfolding permits
@@ -49,6 +35,17 @@ module _ (nfa : Automaton) (x : Search) where
       back : (b : Bool) → (b ≡ true → IsBoundary x.haystack at) → (not b || is_boundary x.haystack at) ≡ true
       back true h = boundary-from x.haystack at (h refl)
       back false h = refl
+
+  -- the test that the program makes
+  pub permits-is : (at : ℕ) (b : Bool) → (b ≡ true → IsPermittedEnd nfa x at) → (b ≡ false → is_utf8_empty nfa ≡ true)
+      → (b ≡ false → ¬ (IsBoundary x.haystack at))
+      → b ≡ permits nfa x at
+  permits-is at true counts splits inside = sym ((permits-tells at).1 (counts refl))
+  permits-is at false counts splits inside =
+      elim (cases_Bool (permits nfa x at)) [
+        | inl t ↦ absurd (inside refl ((permits-tells at).0 t (splits refl)))
+        | inr f ↦ sym f
+      ]
 
   module _ (n : ℕ) where
     -- the test of a pair
@@ -275,18 +272,3 @@ module _ (nfa : Automaton) (wanted : Pair → Bool) where
       of None false off w = (off, w.1)
       of (Some c) true off w = w
       of (Some c) false off w = let never : false ≡ true = w.0 in cc
-
--- where an NFA asks for no boundaries any end is permitted
-pub permits-any : (nfa : Automaton) (x : Search) (at : ℕ) (b : Bool) → b ≡ is_utf8_empty nfa → b ≡ false
-    → not b ≡ permits nfa x at
-unfolding permits
-permits-any nfa x at b is off = let e : is_utf8_empty nfa ≡ false = sym is ∙ off in rw (off, e) refl
-
--- else the boundaries
-pub permits-boundary : (nfa : Automaton) (x : Search) (at : ℕ) (b r : Bool) → b ≡ is_utf8_empty nfa → b ≡ true
-    → (r ≡ true → IsBoundary x.haystack at) → (IsBoundary x.haystack at → r ≡ true)
-    → r ≡ permits nfa x at
-permits-boundary nfa x at b r is on to back =
-    let e : is_utf8_empty nfa ≡ true = sym is ∙ on in
-    let whole : (not (is_utf8_empty nfa) || r) ≡ permits nfa x at = permits-is nfa x at r to back in
-    rw e at whole

@@ -1,6 +1,6 @@
 -- What a turn comes to, and the turns of one state and of all states at a position, for a set of patterns. Rows have no
 -- slots.
-use Rattle.std.proofs.Common.{◌≡◌, ℕ, ◌<◌, ◌≤◌, ◌⊎◌, inl, inr, Bool, true, false, List, [], ◌∷◌, ◌++◌, length, map, take, refl, sym, ap, ◌∙◌, subst, arith, append_assoc, append-nil}
+use Rattle.std.proofs.Common.{◌≡◌, ℕ, ◌<◌, ◌⊎◌, inl, inr, Bool, true, false, List, [], ◌∷◌, ◌++◌, length, map, take, refl, sym, ap, ◌∙◌, subst, arith, append_assoc, append-nil}
 use Rattle.std.specs.Prelude.{Option, None, Some, ◌&&◌, ◌||◌, nat_lt, not}
 use Rattle.std.proofs.lemmas.Bool.{cases_lt, le-ltb}
 use Rattle.regex_search_core.specs.PatternSets.{with_pattern}
@@ -17,7 +17,6 @@ use Rattle.nfa_paths.proofs.AnswerLemmas.{IsMatch-edges}
 use Rattle.nfa_paths.proofs.SearchLemmas.{Answer-load, AnswerBehind-along}
 use Rattle.nfa_paths.proofs.SearchingLemmas.{Searching-load}
 use Rattle.nfa_scanning.specs.Marks.{Marks}
-use Rattle.nfa_pikevm.specs.Rows.{Active}
 use Rattle.nfa_pikevm.specs.States.{Front, moves, work_onto, with_state, FindsMatch, Formed, Paid, Follows}
 use Rattle.nfa_pikevm.specs.Overlapping.{permits, wants, Gathers, ArrivesInSet}
 use Rattle.nfa_pikevm.specs.declared.frame.FollowEpsilon.{FollowEpsilon}

@@ -16,18 +16,10 @@ use crate::closure::{Here, Reached, next_match, resume};
 use crate::frame::FollowEpsilon;
 use crate::scan::{Starts, join};
 use crate::threads::{Threads, move_on, set_up};
-use nfa_scanning::starts::{start_limit, start_state};
+use nfa_scanning::starts::{may_end_at, start_limit, start_state};
 use nfa_scanning::transitions::byte_at;
 use regex_search_core::{Input, MatchKind, PatternID, PatternSet, StateID};
 use thompson_nfa::NFA;
-
-/// Whether a match may end at the position.
-#[inline(always)]
-fn permits(nfa: &NFA, input: &Input<'_>, at: usize) -> bool
-    ensures { result ≡ permits nfa.now (search_of input.now) at }
-{
-    !(nfa.has_empty() && nfa.is_utf8()) || input.is_char_boundary(at)
-}
 
 /// Puts the pattern of a match into the set, where the match may end at its position and the set has room for the
 /// pattern, and notes that it was met. Another match does not count. Answers whether the position ends with it: without
@@ -109,7 +101,7 @@ fn cross_states_to_set(
     ensures crosses { CrossesInSetHere here.now reached.old (rowless kept.now) patterns.old result reached.new
         patterns.new }
 {
-    let permitted = permits(here.nfa, here.input, here.at);
+    let permitted = may_end_at(here.nfa, here.input, here.at);
     let mut met = false;
     for i in 0..kept.len() {
         if follow_to_set(here, permitted, kept[i], frames, reached, patterns) {

@@ -1,5 +1,5 @@
 -- All that a root leads to without reading a byte is followed from match to match, up to the first one or past all.
-use Rattle.std.proofs.Common.{◌≡◌, ◌∙◌, [], length, map, take, arith, refl}
+use Rattle.std.proofs.Common.{◌≡◌, [], length, map, take, arith, refl}
 use Rattle.std.specs.Prelude.{None}
 use Rattle.regex_search_core.specs.Search.{search_of}
 use Rattle.nfa_paths.specs.Paths.{degree}

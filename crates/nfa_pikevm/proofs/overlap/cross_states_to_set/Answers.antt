@@ -6,6 +6,7 @@ use Rattle.regex_search_core.specs.Search.{search_of}
 use Rattle.nfa_pikevm.specs.Overlapping.{GoesPast, rowless}
 use Rattle.nfa_pikevm.proofs.ClosureLemmas.{KeepsRoom-none, KeepsRoom-then, Paid-dropped}
 use Rattle.nfa_pikevm.proofs.OverlapCrossLemmas.{unmarked-same, rowless-next, rowless-rows, length-rowless, Crossing-start, Crossing-step, Crossing-stop, Crossing-end, Paid-state, Paid-states, going-next}
+use Rattle.nfa_pikevm.proofs.OverlapSetLemmas.{permits-is}
 use Rattle.nfa_pikevm.proofs.overlap.cross_states_to_set.Goals as goal
 use Rattle.nfa_pikevm.proofs.overlap.cross_states_to_set.Goals.{then-follow_to_set+else-not-here, else-follow_to_set}
 
@@ -75,3 +76,8 @@ returns-clause-crosses c =
     c.loop-i.invariant.crossing none (rowless-rows c.args.kept.now) (unmarked-same c.args.reached.now.seen
     c.requires.clear)
     (rw (length-rowless c.args.kept.now) (Paid-dropped c.loop-i.invariant.paid))
+
+pub follow_to_set-requires-clause-permitted : goal.follow_to_set-requires-clause-permitted
+follow_to_set-requires-clause-permitted c =
+    permits-is c.args.here.now.nfa.now (search_of c.args.here.now.input.now) c.args.here.now.at c.may_end_at-permitted.result
+    c.may_end_at-permitted.ensures.counts c.may_end_at-permitted.ensures.splits c.may_end_at-permitted.ensures.inside

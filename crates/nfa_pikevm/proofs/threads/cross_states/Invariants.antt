@@ -1,5 +1,5 @@
 -- The states of a position are followed in order, up to the first match.
-use Rattle.std.proofs.Common.{◌≡◌, ◌*◌, ◌≤◌, false, length, drop}
+use Rattle.std.proofs.Common.{◌≡◌, ◌*◌, ◌≤◌, false, drop}
 use Rattle.std.specs.Prelude.{None}
 use Rattle.regex_search_core.specs.Search.{search_of}
 use Rattle.nfa_pikevm.specs.Rows.{items_of}
