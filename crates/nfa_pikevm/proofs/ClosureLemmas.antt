@@ -32,13 +32,6 @@ moves-append edges (a ∷ front) more =
 
 -- fronts with no match
 module _ (test : Pair → Bool) where
-  is_plain : (b : Bool) → (b ≡ true → ⊥) → b ≡ false
-  is_plain true h = absurd (h refl)
-  is_plain false h = refl
-
-  head-plain : (a : Pair × Slots) (front : Front) → NoMatch test (a ∷ front) → test a.0 ≡ false
-  head-plain a front plain = is_plain (test a.0) (λ t. plain a (inl refl) t)
-
   tail-plain : (a : Pair × Slots) (front : Front) → NoMatch test (a ∷ front) → NoMatch test front
   tail-plain a front plain = λ b i. plain b (inr i)
 

@@ -108,14 +108,6 @@ module _ (nfa : Automaton) (wanted : Pair → Bool) where
             | inr f ↦ rw f (of front (λ b i. plain b (inr i)))
           ]
 
-  pub before-none : (front : Front) → NoMatch wanted front → before_match wanted front ≡ front
-  before-none [] plain = refl
-  before-none (a ∷ front) plain =
-      elim (cases_Bool (wanted a.0)) [
-        | inl t ↦ absurd (plain a (inl refl) t)
-        | inr f ↦ rw f (ap (λ l. a ∷ l) (before-none front (λ b i. plain b (inr i))))
-      ]
-
   -- one wanted pair, of a pattern that the set has room for
   pub Gathers-one : (past : Bool) (a : Pair × Slots) (k : ℕ) (set : List Bool) → wanted a.0 ≡ true
       → pattern_at nfa a.0 ≡ Some k → k < length set
@@ -142,17 +134,6 @@ module _ (nfa : Automaton) (wanted : Pair → Bool) where
           ]
   Gathers-one false a k set t is room = rw t (refl, (k, is, refl))
 
-  -- the set keeps its capacity
-  pub Gathers-capacity : (past : Bool) (front : Front) (old : List Bool) (met : Bool) (new : List Bool)
-      → Gathers nfa past wanted front old met new
-      → length new ≡ length old
-  Gathers-capacity true front old met new g = g.capacity
-  Gathers-capacity false front old met new g = of (first_match wanted front) g
-    where
-      of : (o : Hit) → GathersFirst nfa o old met new → length new ≡ length old
-      of None h = ap (λ (l : List Bool). length l) h.1
-      of (Some a) h = ap (λ (l : List Bool). length l) h.1.2 ∙ length-with old h.1.0
-
   -- a pair that stands in two lists
   in-left : (b : Pair × Slots) (f g : Front) → In b f → In b (f ++ g)
   in-left b [] g i = absurd i
@@ -178,28 +159,14 @@ module _ (nfa : Automaton) (wanted : Pair → Bool) where
         | inr e ↦ let rest : first_match wanted f ≡ None = rw e at none in rw e (first-append f g rest)
       ]
 
-  before-append : (f g : Front) → first_match wanted f ≡ None
-      → before_match wanted (f ++ g) ≡ f ++ before_match wanted g
-  before-append [] g none = refl
-  before-append (a ∷ f) g none =
-      elim (cases_Bool (wanted a.0)) [
-        | inl t ↦ let some : Some a ≡ None = rw t at none in cc
-        | inr e ↦ let rest : first_match wanted f ≡ None = rw e at none in
-            rw e (ap (λ l. a ∷ l) (before-append f g rest))
-      ]
-
   -- what was met in no front
-  pub first-none : (front : Front) (set new : List Bool) → Gathers nfa false wanted front set false new
+  first-none : (front : Front) (set new : List Bool) → Gathers nfa false wanted front set false new
       → first_match wanted front ≡ None
   first-none front set new = of (first_match wanted front)
     where
       of : (o : Hit) → GathersFirst nfa o set false new → o ≡ None
       of None h = refl
       of (Some a) h = let never : false ≡ true = h.0 in cc
-
-  pub before-then : (f g : Front) (set new : List Bool) → Gathers nfa false wanted f set false new
-      → before_match wanted (f ++ g) ≡ f ++ before_match wanted g
-  before-then f g set new h = before-append f g (first-none f set new h)
 
   -- one front behind another
   pub Gathers-then : (past : Bool) (f g : Front) (old mid new : List Bool) (h k : Bool) → (past ≡ false → h ≡ false)

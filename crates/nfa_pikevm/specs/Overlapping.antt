@@ -56,10 +56,6 @@ Gathers nfa false wanted front old met new = GathersFirst nfa (first_match wante
 abbrev pub GoesPast : Bool → Bool → Type 0
 GoesPast past met = (past ≡ true) ⊎ (met ≡ false)
 
--- the states, with rows of no slots
-abbrev pub rowless : List ℕ → List (ℕ × Slots)
-rowless states = map (λ s. (s, [])) states
-
 module _ (nfa : Automaton) (x : Search) where
   -- Of a set of capacity n: what comes of all states at a position, where none was marked before, which have rows of no
   -- slots: a front, which memory holds the moves of, and what of it is put into the set.
