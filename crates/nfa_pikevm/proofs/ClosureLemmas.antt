@@ -1,5 +1,5 @@
 -- The turns of a closure, one after the other.
-use Rattle.std.proofs.Common.{◌≡◌, ℕ, ◌+◌, ◌≤◌, inl, inr, List, [], ◌∷◌, ◌++◌, length, map, take, refl, ap, sym, ◌∙◌, arith, append_assoc, append-nil, Bool, true, false, cond}
+use Rattle.std.proofs.Common.{◌≡◌, ℕ, ◌+◌, ◌≤◌, inl, inr, List, [], ◌∷◌, ◌++◌, length, map, take, refl, ap, sym, ◌∙◌, arith, append_assoc, append-nil, Bool, true, false}
 use Rattle.std.specs.Prelude.{Option, Some, None}
 use Rattle.std.specs.List.{sum_by}
 use Rattle.std.proofs.lemmas.List.{length-take-le}
@@ -8,19 +8,20 @@ use Rattle.regex_search_core.specs.declared.primitives.PatternID.{PatternID}
 use Rattle.thompson_nfa.specs.Automaton.{Automaton}
 use Rattle.nfa_paths.specs.Graphs.{Pair}
 use Rattle.nfa_paths.specs.Paths.{edges, is_match}
-use Rattle.nfa_paths.specs.Exploring.{Item, Slots, Hit}
+use Rattle.nfa_paths.specs.Exploring.{Item, Slots}
 use Rattle.nfa_paths.specs.Exploring.Item.{Explore as ToExplore, Load as ToLoad}
-use Rattle.nfa_paths.specs.Kinds.{first_match, before_match, last_match, NoMatch}
-use Rattle.nfa_paths.proofs.StartLemmas.{IsMatch-edges}
+use Rattle.nfa_paths.specs.Kinds.{NoMatch}
 use Rattle.nfa_scanning.specs.Marks.{Marks}
 use Rattle.nfa_pikevm.specs.Rows.{Active}
-use Rattle.nfa_pikevm.specs.States.{Front, moves, work_onto, with_state, state_on, tries, meant, IsHit, Follows, Formed, Paid, HasRoom, KeepsRoom, Enters, FindsMatch, Arrives}
+use Rattle.nfa_pikevm.specs.States.{Front, moves, work_onto, with_state, state_on, tries, Follows, Formed, Paid, HasRoom, KeepsRoom, Enters, FindsMatch}
+use Rattle.nfa_pikevm.specs.Taking.{Takes, Arrives}
+use Rattle.nfa_pikevm.specs.Taking.Takes.{none}
 use Rattle.nfa_pikevm.specs.declared.closure.Move.{Move}
 use Rattle.nfa_pikevm.specs.declared.closure.Reached.{Reached}
 use Rattle.nfa_pikevm.specs.declared.closure.Move.TheVariants.{Matched}
 use Rattle.nfa_pikevm.specs.declared.frame.FollowEpsilon.{FollowEpsilon}
 use Rattle.nfa_pikevm.proofs.FollowLemmas.{Follows-then, Follows-none}
-use Rattle.nfa_pikevm.proofs.EdgeLemmas.{moves-one}
+use Rattle.nfa_pikevm.proofs.TakingLemmas.{Takes-then}
 
 pub moves-append : (edges : Pair → List Pair) (front more : Front)
     → moves edges (front ++ more) ≡ moves edges front ++ moves edges more
@@ -29,15 +30,8 @@ moves-append edges (a ∷ front) more =
     ap (λ l. map (λ v. (v.0, a.1)) (edges a.0) ++ l) (moves-append edges front more)
     ∙ sym (append_assoc (map (λ v. (v.0, a.1)) (edges a.0)) (moves edges front) (moves edges more))
 
--- what is meant of a front
+-- fronts with no match
 module _ (test : Pair → Bool) where
-  is_plain : (b : Bool) → (b ≡ true → ⊥) → b ≡ false
-  is_plain true h = absurd (h refl)
-  is_plain false h = refl
-
-  head-plain : (a : Pair × Slots) (front : Front) → NoMatch test (a ∷ front) → test a.0 ≡ false
-  head-plain a front plain = is_plain (test a.0) (λ t. plain a (inl refl) t)
-
   tail-plain : (a : Pair × Slots) (front : Front) → NoMatch test (a ∷ front) → NoMatch test front
   tail-plain a front plain = λ b i. plain b (inr i)
 
@@ -45,61 +39,6 @@ module _ (test : Pair → Bool) where
   NoMatch-append [] more f m = m
   NoMatch-append (a ∷ front) more f m = λ b i t.
       elim i [ inl e ↦ f b (inl e) t | inr j ↦ NoMatch-append front more (tail-plain a front f) m b j t ]
-
-  first_match-none : (front : Front) → NoMatch test front → first_match test front ≡ None
-  first_match-none [] plain = refl
-  first_match-none (a ∷ front) plain = rw (head-plain a front plain) (first_match-none front (tail-plain a front plain))
-
-  first_match-plain : (front more : Front) → NoMatch test more
-      → first_match test (front ++ more) ≡ first_match test front
-  first_match-plain [] more plain = first_match-none more plain
-  first_match-plain (a ∷ front) more plain = ap (λ g. cond (test a.0) (Some a) g) (first_match-plain front more plain)
-
-  last_match-none : (g : Hit) (front : Front) → NoMatch test front → last_match test g front ≡ g
-  last_match-none g [] plain = refl
-  last_match-none g (a ∷ front) plain = rw (head-plain a front plain)
-      (last_match-none g front (tail-plain a front plain))
-
-  last_match-plain : (g : Hit) (front more : Front) → NoMatch test more
-      → last_match test g (front ++ more) ≡ last_match test g front
-  last_match-plain g [] more plain = last_match-none g more plain
-  last_match-plain g (a ∷ front) more plain = last_match-plain (cond (test a.0) (Some a) g) front more plain
-
-  first_match-new : (front : Front) (a : Pair × Slots) → NoMatch test front → test a.0 ≡ true
-      → first_match test (front ++ a ∷ []) ≡ Some a
-  first_match-new [] a plain t = rw t refl
-  first_match-new (b ∷ front) a plain t = rw (head-plain b front plain)
-      (first_match-new front a (tail-plain b front plain) t)
-
-  last_match-new : (g : Hit) (front : Front) (a : Pair × Slots) → test a.0 ≡ true
-      → last_match test g (front ++ a ∷ []) ≡ Some a
-  last_match-new g [] a t = rw t refl
-  last_match-new g (b ∷ front) a t = last_match-new (cond (test b.0) (Some b) g) front a t
-
-  pub before_match-plain : (front : Front) → NoMatch test front → before_match test front ≡ front
-  before_match-plain [] plain = refl
-  before_match-plain (a ∷ front) plain = rw (head-plain a front plain)
-      (ap (λ l. a ∷ l) (before_match-plain front (tail-plain a front plain)))
-
-  before_match-new : (front : Front) (a : Pair × Slots) → NoMatch test front → test a.0 ≡ true
-      → before_match test (front ++ a ∷ []) ≡ front
-  before_match-new [] a plain t = rw t refl
-  before_match-new (b ∷ front) a plain t = rw (head-plain b front plain)
-      (ap (λ l. b ∷ l) (before_match-new front a (tail-plain b front plain) t))
-
-  pub meant-nil : (past : Bool) → meant past test [] ≡ None
-  meant-nil true = refl
-  meant-nil false = refl
-
-  pub meant-plain : (past : Bool) (front more : Front) → NoMatch test more
-      → meant past test (front ++ more) ≡ meant past test front
-  meant-plain true front more plain = last_match-plain None front more plain
-  meant-plain false front more plain = first_match-plain front more plain
-
-  pub meant-new : (past : Bool) (front : Front) (a : Pair × Slots) → (past ≡ false → NoMatch test front)
-      → test a.0 ≡ true → meant past test (front ++ a ∷ []) ≡ Some a
-  meant-new true front a plain t = last_match-new None front a t
-  meant-new false front a plain t = first_match-new front a (plain refl) t
 
 -- only the kept states change
 pub same-items : (a b c : Active) → b ≡ record a { items = b.items } → c ≡ record b { items = c.items }
@@ -263,170 +202,114 @@ module _ {nfa : Automaton} {x : Search} {at s : ℕ} {met : Marks} {items : List
     follows = passed_follows f h;
   }
 
--- What comes of the state s from its row, with a state in hand and a stack that are still to be followed.
-pub record Followed (nfa : Automaton) (x : Search) (at : ℕ) (past : Bool) (s : ℕ) (met : Marks)
-    (items : List (ℕ × Slots)) (row slots : Slots)
-    (after : Marks) (kept : List (ℕ × Slots)) (state : Option ℕ) (stack : List FollowEpsilon) (now : Slots)
-    (hit : Option PatternID) (written : Slots) : Type 0 where
-  pub front : Front
-  pub added : kept ≡ items ++ moves (edges nfa x) front
-  pub is_hit : IsHit nfa (meant past (is_match nfa) front) slots hit written
-  pub plain : past ≡ false → NoMatch (is_match nfa) front
-  pub formed : (before : Front) → Formed nfa at met.bits before → Formed nfa at after.bits (before ++ front)
-  pub follows : (before : Front) (old : Slots) (work : List Item)
-      → Follows nfa x at met before (ToExplore (s, at) ∷ ToLoad old ∷ work) row
-      after (before ++ front) (with_state at state (work_onto at stack (ToLoad old ∷ work))) now
+module _ {V : Type 0} (nfa : Automaton) (x : Search) (takes : V → PatternID → Slots → Bool → V → Type 0) where
+  -- What comes of the state s from its row, with a state in hand and a stack that are still to be followed.
+  pub record Followed (at s : ℕ) (met : Marks) (items : List (ℕ × Slots)) (row : Slots) (old : V)
+      (after : Marks) (kept : List (ℕ × Slots)) (state : Option ℕ) (stack : List FollowEpsilon) (now : Slots) (new : V)
+      : Type 0 where
+    pub front : Front
+    pub added : kept ≡ items ++ moves (edges nfa x) front
+    pub takes_all : Takes nfa takes front old false new
+    pub formed : (before : Front) → Formed nfa at met.bits before → Formed nfa at after.bits (before ++ front)
+    pub follows : (before : Front) (old : Slots) (work : List Item)
+        → Follows nfa x at met before (ToExplore (s, at) ∷ ToLoad old ∷ work) row
+        after (before ++ front) (with_state at state (work_onto at stack (ToLoad old ∷ work))) now
 
--- nothing was followed yet
-pub Followed-begin : (nfa : Automaton) (x : Search) (at : ℕ) (past : Bool) (s : ℕ) (met : Marks)
-    (items : List (ℕ × Slots)) (row slots : Slots)
-    → Followed nfa x at past s met items row slots met items (Some s) [] row None slots
-Followed-begin nfa x at past s met items row slots = record {
-  front = [];
-  added = sym (append-nil items);
-  is_hit = (meant-nil (is_match nfa) past, refl);
-  plain = λ e b i. absurd i;
-  formed = λ before f. rw (append-nil before) f;
-  follows = λ before old work. rw (append-nil before)
-      (Follows-none nfa x at met before (ToExplore (s, at) ∷ ToLoad old ∷ work) row);
-}
+  -- nothing was followed yet
+  pub Followed-begin : (at s : ℕ) (met : Marks) (items : List (ℕ × Slots)) (row : Slots) (old : V)
+      → Followed at s met items row old met items (Some s) [] row old
+  Followed-begin at s met items row old = record {
+    front = [];
+    added = sym (append-nil items);
+    takes_all = none;
+    formed = λ before f. rw (append-nil before) f;
+    follows = λ before old work. rw (append-nil before)
+        (Follows-none nfa x at met before (ToExplore (s, at) ∷ ToLoad old ∷ work) row);
+  }
 
--- all was followed
-pub Arrives-whole : {nfa : Automaton} {x : Search} {at : ℕ} {past : Bool} {s : ℕ} {met : Marks}
-    {items : List (ℕ × Slots)} {row slots : Slots}
-    {m : Marks} {i : List (ℕ × Slots)} {stack : List FollowEpsilon} {now : Slots} {hit : Option PatternID}
-    {written : Slots} → stack ≡ []
-    → Followed nfa x at past s met items row slots m i None stack now hit written
-    → Paid nfa met (length items) [] 1 m (length i) [] 0
-    → Arrives nfa x at past s met items row slots hit m i written
-Arrives-whole {nfa} {x} {at} {row = row} {m = m} {stack = stack} {now = now} empty f paid = record {
-  front = f.front;
-  added = f.added;
-  is_hit = f.is_hit;
-  cut = λ e. ap (moves (edges nfa x)) (before_match-plain (is_match nfa) f.front (f.plain e));
-  formed = f.formed;
-  paid = paid;
-  leads = λ before old work. record {
-    left = ToLoad old ∷ work;
-    written = now;
-    follows =
-        rw empty at (f.follows before old work);
-    whole = λ g. refl;
-  };
-}
-
-module _ {nfa : Automaton} {x : Search} {at : ℕ} {past : Bool} {s : ℕ} {met : Marks} {items : List (ℕ × Slots)}
-    {row slots : Slots}
-    {m : Marks} {i : List (ℕ × Slots)} {stack : List FollowEpsilon} {now : Slots} {hit : Option PatternID}
-    {written : Slots} where
+module _ {V : Type 0} {nfa : Automaton} {x : Search} {takes : V → PatternID → Slots → Bool → V → Type 0} {at s : ℕ}
+    {met : Marks} {items : List (ℕ × Slots)} {row : Slots} {old : V}
+    {m : Marks} {i : List (ℕ × Slots)} {stack : List FollowEpsilon} {now : Slots} {v : V} where
   -- frames are taken up
   pub Followed-resumed : (state : Option ℕ) (above : List FollowEpsilon) (then : Slots)
       → ((front : Front) (work : List Item) → Follows nfa x at m front (work_onto at stack work) now m front
       (with_state at state (work_onto at above work)) then)
-      → Followed nfa x at past s met items row slots m i None stack now hit written
-      → Followed nfa x at past s met items row slots m i state above then hit written
-  Followed-resumed state above then takes f = record {
+      → Followed nfa x takes at s met items row old m i None stack now v
+      → Followed nfa x takes at s met items row old m i state above then v
+  Followed-resumed state above then resumes f = record {
     front = f.front;
     added = f.added;
-    is_hit = f.is_hit;
-    plain = f.plain;
+    takes_all = f.takes_all;
     formed = f.formed;
     follows = λ before old work. Follows-then nfa x at (f.follows before old work)
-        (takes (before ++ f.front) (ToLoad old ∷ work));
+        (resumes (before ++ f.front) (ToLoad old ∷ work));
   }
 
-  module _ {sid : ℕ} {n : Marks} {j : List (ℕ × Slots)} {above : List FollowEpsilon} {then : Slots}
-      (f : Followed nfa x at past s met items row slots m i (Some sid) stack now hit written) where
-    -- What comes up to a match adds its front.
-    module _ {one : Option PatternID} (h : FindsMatch nfa x at sid m i stack now one n j above then) where
-      added : j ≡ items ++ moves (edges nfa x) (f.front ++ h.front)
-      added =
-          h.added ∙ ap (λ l. l ++ moves (edges nfa x) h.front) f.added
-          ∙ append_assoc items (moves (edges nfa x) f.front) (moves (edges nfa x) h.front)
-          ∙ ap (λ l. items ++ l) (sym (moves-append (edges nfa x) f.front h.front))
+  -- all was followed
+  pub Arrives-whole : stack ≡ [] → Followed nfa x takes at s met items row old m i None stack now v
+      → Paid nfa met (length items) [] 1 m (length i) [] 0
+      → Arrives nfa x takes at s met items row old false m i v
+  Arrives-whole empty f paid = record {
+    front = f.front;
+    added = f.added;
+    takes_all = f.takes_all;
+    formed = f.formed;
+    paid = paid;
+    leads = λ before old work. record {
+      left = ToLoad old ∷ work;
+      written = now;
+      follows = rw empty at (f.follows before old work);
+      whole = λ g. refl;
+    };
+  }
 
-      formed : (before : Front) → Formed nfa at met.bits before → Formed nfa at n.bits (before ++ (f.front ++ h.front))
-      formed before k = rw (← append_assoc before f.front h.front) (h.formed (before ++ f.front) (f.formed before k))
+  -- What comes up to a match, or with no match, adds its front.
+  module _ {sid : ℕ} {n : Marks} {j : List (ℕ × Slots)} {above : List FollowEpsilon} {then : Slots} {w : V}
+      {one : Option PatternID} {ended : Bool}
+      (f : Followed nfa x takes at s met items row old m i (Some sid) stack now v)
+      (h : FindsMatch nfa x at sid m i stack now one n j above then)
+      (t : Takes nfa takes h.front v ended w) where
+    added : j ≡ items ++ moves (edges nfa x) (f.front ++ h.front)
+    added =
+        h.added ∙ ap (λ l. l ++ moves (edges nfa x) h.front) f.added
+        ∙ append_assoc items (moves (edges nfa x) f.front) (moves (edges nfa x) h.front)
+        ∙ ap (λ l. items ++ l) (sym (moves-append (edges nfa x) f.front h.front))
 
-      follows : (before : Front) (old : Slots) (work : List Item)
-          → Follows nfa x at met before (ToExplore (s, at) ∷ ToLoad old ∷ work) row
-          n (before ++ (f.front ++ h.front)) (work_onto at above (ToLoad old ∷ work)) then
-      follows before old work = rw (← append_assoc before f.front h.front)
-          (Follows-then nfa x at (f.follows before old work) (h.follows (before ++ f.front) old work))
+    formed : (before : Front) → Formed nfa at met.bits before → Formed nfa at n.bits (before ++ (f.front ++ h.front))
+    formed before k = rw (← append_assoc before f.front h.front) (h.formed (before ++ f.front) (f.formed before k))
 
-    -- no match comes
-    pub Followed-plain : (h : FindsMatch nfa x at sid m i stack now None n j above then)
-        → Followed nfa x at past s met items row slots n j None above then hit written
-    Followed-plain h = record {
+    follows : (before : Front) (old : Slots) (work : List Item)
+        → Follows nfa x at met before (ToExplore (s, at) ∷ ToLoad old ∷ work) row
+        n (before ++ (f.front ++ h.front)) (work_onto at above (ToLoad old ∷ work)) then
+    follows before old work = rw (← append_assoc before f.front h.front)
+        (Follows-then nfa x at (f.follows before old work) (h.follows (before ++ f.front) old work))
+
+    -- the position goes on
+    pub Followed-more : ended ≡ false → Followed nfa x takes at s met items row old n j None above then w
+    Followed-more goes = record {
       front = f.front ++ h.front;
-      added = added h;
-      is_hit = rw (meant-plain (is_match nfa) past f.front h.front h.ends) f.is_hit;
-      plain = λ e. NoMatch-append (is_match nfa) f.front h.front (f.plain e) h.ends;
-      formed = formed h;
-      follows = follows h;
+      added = added;
+      takes_all = Takes-then f.takes_all (rw goes at t);
+      formed = formed;
+      follows = follows;
     }
 
-    -- a match comes
-    module _ {pattern : PatternID} (h : FindsMatch nfa x at sid m i stack now (Some pattern) n j above then) where
-      abbrev v : Pair
-      v = (h.ends.1, at)
-
-      matches : is_match nfa v ≡ true
-      matches = rw h.ends.4 refl
-
-      -- all before it
-      abbrev ahead : Front
-      ahead = f.front ++ h.ends.0
-
-      split : f.front ++ h.front ≡ ahead ++ (v, then) ∷ []
-      split = ap (λ l. f.front ++ l) h.ends.3 ∙ sym (append_assoc f.front h.ends.0 ((v, then) ∷ []))
-
-      plain_ahead : past ≡ false → NoMatch (is_match nfa) ahead
-      plain_ahead e = NoMatch-append (is_match nfa) f.front h.ends.0 (f.plain e) h.ends.2
-
-      hits : IsHit nfa (meant past (is_match nfa) (f.front ++ h.front)) slots (Some pattern) then
-      hits = (
-        v,
-        rw split (meant-new (is_match nfa) past ahead (v, then) plain_ahead matches),
-        h.ends.4,
-      )
-
-      -- past it all is followed
-      pub Followed-matched : past ≡ true → Followed nfa x at past s met items row slots n j None above then
-          (Some pattern) then
-      Followed-matched goes = record {
-        front = f.front ++ h.front;
-        added = added h;
-        is_hit = hits;
-        plain = λ e. absurd (cc (e, goes));
-        formed = formed h;
-        follows = follows h;
-      }
-
-      -- else it ends the position, and leads nowhere
-      pub Arrives-cut : past ≡ false → Paid nfa met (length items) [] 1 n (length j) [] 0
-          → Arrives nfa x at past s met items row slots (Some pattern) n j then
-      Arrives-cut stops paid =
-          let none : moves (edges nfa x) ((v, then) ∷ []) ≡ [] =
-          moves-one (edges nfa x) v then [] (IsMatch-edges nfa x v matches) in
-          record {
-            front = f.front ++ h.front;
-            added = added h;
-            is_hit = hits;
-            cut = λ e.
-                ap (λ l. moves (edges nfa x) (before_match (is_match nfa) l)) split
-                ∙ ap (moves (edges nfa x)) (before_match-new (is_match nfa) ahead (v, then) (plain_ahead e) matches)
-                ∙ sym (ap (moves (edges nfa x)) split ∙ moves-append (edges nfa x) ahead ((v, then) ∷ [])
-                ∙ ap (λ l. moves (edges nfa x) ahead ++ l) none ∙ append-nil (moves (edges nfa x) ahead));
-            formed = formed h;
-            paid = paid;
-            leads = λ before old work. record {
-              left = work_onto at above (ToLoad old ∷ work);
-              written = then;
-              follows = follows h before old work;
-              whole = λ g. elim g [ inl e ↦ absurd (cc (e, stops)) | inr e ↦ cc ];
-            };
-          }
+    -- it ends with the match
+    pub Arrives-ended : ended ≡ true → Paid nfa met (length items) [] 1 n (length j) [] 0
+        → Arrives nfa x takes at s met items row old true n j w
+    Arrives-ended stops paid = record {
+      front = f.front ++ h.front;
+      added = added;
+      takes_all = Takes-then f.takes_all (rw stops at t);
+      formed = formed;
+      paid = paid;
+      leads = λ before old work. record {
+        left = work_onto at above (ToLoad old ∷ work);
+        written = then;
+        follows = follows before old work;
+        whole = λ e. absurd (cc e);
+      };
+    }
 
 -- what is left on the stack at a match is dropped
 pub Paid-dropped : {nfa : Automaton} {m n : Marks} {i j : ℕ} {stack above : List FollowEpsilon} {hand left : ℕ}

@@ -9,7 +9,7 @@ use Rattle.nfa_paths.specs.Graphs.{Pair, In, Space}
 use Rattle.nfa_paths.specs.Paths.{edges, is_match, capture, space}
 use Rattle.nfa_paths.specs.Exploring.{Item, Slots, Hit, ExploresTo, Searching}
 use Rattle.nfa_paths.specs.Exploring.Item.{Explore, Restore, Load}
-use Rattle.nfa_paths.proofs.SearchLemmas.{AnswerBehind-along}
+use Rattle.nfa_paths.proofs.SearchLemmas.{Answer-load, AnswerBehind-along}
 use Rattle.nfa_paths.proofs.SearchingLemmas.{Searching-restore, Searching-load, Searching-marked, Searching-plain, Searching-write, Searching-unkept, Searching-keep}
 use Rattle.nfa_scanning.specs.Marks.{Marks}
 use Rattle.nfa_pikevm.specs.States.{Front, SeenAt, AreMatchPairs, Follows}
@@ -91,6 +91,21 @@ module _ (nfa : Automaton) (x : Search) (at : ℕ) where
     pub Follows-load : (old : Slots) → Follows nfa x at m i (Load old ∷ rest) slots m i rest old
     Follows-load old = record {
       leads = λ target ok starts entry otherwise h. Searching-load (space nfa x) target h;
+    }
+
+    -- what is loaded does not depend on the slots before
+    pub Follows-any : (old after : Slots) → Follows nfa x at m i (Load old ∷ rest) slots m i (Load old ∷ rest) after
+    Follows-any old after = record {
+      leads = λ target ok starts entry otherwise h. record {
+        marks = h.marks;
+        agrees = h.agrees;
+        leads = λ g left total e k.
+            h.leads g left total e
+            (AnswerBehind-along (space nfa x) target i left left (omega arith) otherwise otherwise h.marks
+            h.marks (Load old ∷ rest) (Load old ∷ rest) after slots g
+            (λ a. (Answer-load (space nfa x) target left otherwise h.marks old rest slots g).0
+            ((Answer-load (space nfa x) target left otherwise h.marks old rest after g).1 a)) k);
+      };
     }
 
     pub Follows-unrestored : (v : Pair) (k : ℕ) (back : Option ℕ) (old : Slots)

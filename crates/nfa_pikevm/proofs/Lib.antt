@@ -4,8 +4,10 @@ pub mod FollowLemmas
 pub mod UnwindLemmas
 pub mod EdgeLemmas
 pub mod EnterLemmas
+pub mod TakingLemmas
 pub mod ClosureLemmas
 pub mod CrossLemmas
+pub mod LastRowLemmas
 pub mod TaskLemmas
 pub mod FrontLemmas
 pub mod ScanLemmas
@@ -16,10 +18,9 @@ pub mod SizeLemmas
 pub mod EngineLemmas
 pub mod IsMatchLemmas
 pub mod FindLemmas
-pub mod OverlapCrossLemmas
 pub mod OverlapFirstLemmas
 pub mod OverlapLoopLemmas
 pub mod OverlapScanLemmas
 pub mod OverlapSetLemmas
-pub mod OverlapTurnLemmas
+pub mod GathererLemmas
 pub mod CaughtLemmas

@@ -23,20 +23,6 @@ boundary-to haystack i t = grind (arith, nat_tests)
 boundary-from : (haystack : List ℕ) (i : ℕ) → IsBoundary haystack i → is_boundary haystack i ≡ true
 boundary-from haystack i h = grind (arith, nat_tests)
 
--- the test that the program makes
-pub permits-is : (nfa : Automaton) (x : Search) (at : ℕ) (b : Bool) → (b ≡ true → IsBoundary x.haystack at)
-    → (IsBoundary x.haystack at → b ≡ true)
-    → (not (is_utf8_empty nfa) || b) ≡ permits nfa x at
-unfolding permits
-permits-is nfa x at b to back = ap (λ c. not (is_utf8_empty nfa) || c)
-    (same b (is_boundary x.haystack at) (λ t. boundary-from x.haystack at (to t))
-    (λ t. back (boundary-to x.haystack at t)))
-  where
-    same : (b c : Bool) → (b ≡ true → c ≡ true) → (c ≡ true → b ≡ true) → b ≡ c
-    same true c f g = sym (f refl)
-    same false true f g = g refl
-    same false false f g = refl
-
 module _ (nfa : Automaton) (x : Search) where
   permits-tells : (at : ℕ) → (permits nfa x at ≡ true) ↔ IsPermittedEnd nfa x at
   unfolding permits
@@ -49,6 +35,17 @@ module _ (nfa : Automaton) (x : Search) where
       back : (b : Bool) → (b ≡ true → IsBoundary x.haystack at) → (not b || is_boundary x.haystack at) ≡ true
       back true h = boundary-from x.haystack at (h refl)
       back false h = refl
+
+  -- the test that the program makes
+  pub permits-is : (at : ℕ) (b : Bool) → (b ≡ true → IsPermittedEnd nfa x at) → (b ≡ false → is_utf8_empty nfa ≡ true)
+      → (b ≡ false → ¬ (IsBoundary x.haystack at))
+      → b ≡ permits nfa x at
+  permits-is at true counts splits inside = sym ((permits-tells at).1 (counts refl))
+  permits-is at false counts splits inside =
+      elim (cases_Bool (permits nfa x at)) [
+        | inl t ↦ absurd (inside refl ((permits-tells at).0 t (splits refl)))
+        | inr f ↦ sym f
+      ]
 
   module _ (n : ℕ) where
     -- the test of a pair
@@ -111,14 +108,6 @@ module _ (nfa : Automaton) (wanted : Pair → Bool) where
             | inr f ↦ rw f (of front (λ b i. plain b (inr i)))
           ]
 
-  pub before-none : (front : Front) → NoMatch wanted front → before_match wanted front ≡ front
-  before-none [] plain = refl
-  before-none (a ∷ front) plain =
-      elim (cases_Bool (wanted a.0)) [
-        | inl t ↦ absurd (plain a (inl refl) t)
-        | inr f ↦ rw f (ap (λ l. a ∷ l) (before-none front (λ b i. plain b (inr i))))
-      ]
-
   -- one wanted pair, of a pattern that the set has room for
   pub Gathers-one : (past : Bool) (a : Pair × Slots) (k : ℕ) (set : List Bool) → wanted a.0 ≡ true
       → pattern_at nfa a.0 ≡ Some k → k < length set
@@ -145,17 +134,6 @@ module _ (nfa : Automaton) (wanted : Pair → Bool) where
           ]
   Gathers-one false a k set t is room = rw t (refl, (k, is, refl))
 
-  -- the set keeps its capacity
-  pub Gathers-capacity : (past : Bool) (front : Front) (old : List Bool) (met : Bool) (new : List Bool)
-      → Gathers nfa past wanted front old met new
-      → length new ≡ length old
-  Gathers-capacity true front old met new g = g.capacity
-  Gathers-capacity false front old met new g = of (first_match wanted front) g
-    where
-      of : (o : Hit) → GathersFirst nfa o old met new → length new ≡ length old
-      of None h = ap (λ (l : List Bool). length l) h.1
-      of (Some a) h = ap (λ (l : List Bool). length l) h.1.2 ∙ length-with old h.1.0
-
   -- a pair that stands in two lists
   in-left : (b : Pair × Slots) (f g : Front) → In b f → In b (f ++ g)
   in-left b [] g i = absurd i
@@ -181,28 +159,14 @@ module _ (nfa : Automaton) (wanted : Pair → Bool) where
         | inr e ↦ let rest : first_match wanted f ≡ None = rw e at none in rw e (first-append f g rest)
       ]
 
-  before-append : (f g : Front) → first_match wanted f ≡ None
-      → before_match wanted (f ++ g) ≡ f ++ before_match wanted g
-  before-append [] g none = refl
-  before-append (a ∷ f) g none =
-      elim (cases_Bool (wanted a.0)) [
-        | inl t ↦ let some : Some a ≡ None = rw t at none in cc
-        | inr e ↦ let rest : first_match wanted f ≡ None = rw e at none in
-            rw e (ap (λ l. a ∷ l) (before-append f g rest))
-      ]
-
   -- what was met in no front
-  pub first-none : (front : Front) (set new : List Bool) → Gathers nfa false wanted front set false new
+  first-none : (front : Front) (set new : List Bool) → Gathers nfa false wanted front set false new
       → first_match wanted front ≡ None
   first-none front set new = of (first_match wanted front)
     where
       of : (o : Hit) → GathersFirst nfa o set false new → o ≡ None
       of None h = refl
       of (Some a) h = let never : false ≡ true = h.0 in cc
-
-  pub before-then : (f g : Front) (set new : List Bool) → Gathers nfa false wanted f set false new
-      → before_match wanted (f ++ g) ≡ f ++ before_match wanted g
-  before-then f g set new h = before-append f g (first-none f set new h)
 
   -- one front behind another
   pub Gathers-then : (past : Bool) (f g : Front) (old mid new : List Bool) (h k : Bool) → (past ≡ false → h ≡ false)
@@ -275,18 +239,3 @@ module _ (nfa : Automaton) (wanted : Pair → Bool) where
       of None false off w = (off, w.1)
       of (Some c) true off w = w
       of (Some c) false off w = let never : false ≡ true = w.0 in cc
-
--- where an NFA asks for no boundaries any end is permitted
-pub permits-any : (nfa : Automaton) (x : Search) (at : ℕ) (b : Bool) → b ≡ is_utf8_empty nfa → b ≡ false
-    → not b ≡ permits nfa x at
-unfolding permits
-permits-any nfa x at b is off = let e : is_utf8_empty nfa ≡ false = sym is ∙ off in rw (off, e) refl
-
--- else the boundaries
-pub permits-boundary : (nfa : Automaton) (x : Search) (at : ℕ) (b r : Bool) → b ≡ is_utf8_empty nfa → b ≡ true
-    → (r ≡ true → IsBoundary x.haystack at) → (IsBoundary x.haystack at → r ≡ true)
-    → r ≡ permits nfa x at
-permits-boundary nfa x at b r is on to back =
-    let e : is_utf8_empty nfa ≡ true = sym is ∙ on in
-    let whole : (not (is_utf8_empty nfa) || r) ≡ permits nfa x at = permits-is nfa x at r to back in
-    rw e at whole

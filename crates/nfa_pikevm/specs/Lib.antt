@@ -1,6 +1,7 @@
 pub mod Rows
 pub mod Engines
 pub mod States
+pub mod Taking
 pub mod Scans
 pub mod Sizes
 pub mod Finding

@@ -1,18 +1,16 @@
 -- What a PikeVM puts into a set of patterns, at each position and in all.
-use Rattle.std.specs.Prelude.{◌≡◌, ◌↔◌, ◌⊎◌, ℕ, ◌<◌, ◌==◌, ◌&&◌, ◌||◌, not, Bool, true, false, List, [], ◌∷◌, ◌++◌, Option, None, Some, length, map, All, slice_index, nat_lt, nat_le}
+use Rattle.std.specs.Prelude.{◌≡◌, ◌↔◌, ◌⊎◌, ℕ, ◌<◌, ◌==◌, ◌&&◌, ◌||◌, not, Bool, true, false, List, [], ◌∷◌, Option, None, Some, length, map, All, slice_index, nat_lt, nat_le}
 use Rattle.regex_search_core.specs.PatternSets.{with_pattern}
-use Rattle.regex_search_core.specs.Search.{Search, search_of}
+use Rattle.regex_search_core.specs.Search.{Search}
 use Rattle.thompson_nfa.specs.Automaton.{Automaton}
 use Rattle.nfa_paths.specs.Graphs.{Pair}
 use Rattle.nfa_paths.specs.Paths.{edges, is_utf8_empty}
 use Rattle.nfa_paths.specs.Exploring.{Slots, Hit, Item}
-use Rattle.nfa_paths.specs.Exploring.Item.{Explore as ToExplore, Load as ToLoad}
+use Rattle.nfa_paths.specs.Exploring.Item.{Load as ToLoad}
 use Rattle.nfa_paths.specs.Kinds.{HoldsMatch, first_match, before_match}
 use Rattle.nfa_paths.specs.Overlaps.{HoldsPattern, pattern_at}
 use Rattle.nfa_scanning.specs.Marks.{Marks}
 use Rattle.nfa_pikevm.specs.States.{Front, moves, tasks, unmarked, Formed, Paid, Leads}
-use Rattle.nfa_pikevm.specs.declared.closure.Here.{Here}
-use Rattle.nfa_pikevm.specs.declared.closure.Reached.{Reached}
 
 -- whether the position is a boundary of characters
 abbrev pub is_boundary : List ℕ → ℕ → Bool
@@ -58,27 +56,9 @@ Gathers nfa false wanted front old met new = GathersFirst nfa (first_match wante
 abbrev pub GoesPast : Bool → Bool → Type 0
 GoesPast past met = (past ≡ true) ⊎ (met ≡ false)
 
--- the states, with rows of no slots
-abbrev pub rowless : List ℕ → List (ℕ × Slots)
-rowless states = map (λ s. (s, [])) states
-
 module _ (nfa : Automaton) (x : Search) where
-  -- Of a set of capacity n: what comes of all that a state leads to up to the position's next byte: the front that it
-  -- adds, and what of it is put into the set.
-  pub record ArrivesInSet (at : ℕ) (past : Bool) (n : ℕ) (s : ℕ) (met : Marks) (items : List (ℕ × Slots))
-      (set : List Bool)
-      (hit : Bool) (after : Marks) (kept : List (ℕ × Slots)) (gathered : List Bool) : Type 0 where
-    pub front : Front
-    pub added : kept ≡ items ++ moves (edges nfa x) front
-    pub gathers : Gathers nfa past (wants nfa x n) front set hit gathered
-    pub cut : past ≡ false → moves (edges nfa x) (before_match (wants nfa x n) front) ≡ moves (edges nfa x) front
-    pub formed : (before : Front) → Formed nfa at met.bits before → Formed nfa at after.bits (before ++ front)
-    pub paid : Paid nfa met (length items) [] 1 after (length kept) [] 0
-    pub leads : (before : Front) (old : Slots) (work : List Item)
-        → Leads nfa x at met before (ToExplore (s, at) ∷ ToLoad old ∷ work) [] (GoesPast past hit) after
-        (before ++ front) (ToLoad old ∷ work)
-
-  -- The same of all states at a position, where none was marked before. They have rows of no slots.
+  -- Of a set of capacity n: what comes of all states at a position, where none was marked before, which have rows of no
+  -- slots: a front, which memory holds the moves of, and what of it is put into the set.
   pub record CrossesInSet (at : ℕ) (past : Bool) (n : ℕ) (met : Marks) (items : List (ℕ × Slots)) (set : List Bool)
       (hit : Bool) (after : Marks) (kept : List (ℕ × Slots)) (gathered : List Bool) : Type 0 where
     pub front : Front
@@ -91,15 +71,3 @@ module _ (nfa : Automaton) (x : Search) where
     pub leads : (old : Slots) (waiting : List Item)
         → Leads nfa x at (unmarked met) [] (tasks at items (ToLoad old ∷ waiting)) [] (GoesPast past hit) after front
         (ToLoad old ∷ waiting)
-
--- The same of what is reached from where a scan stands.
-
-abbrev pub ArrivesInSetHere : Here → ℕ → Reached → List Bool → Bool → Reached → List Bool → Type 0
-ArrivesInSetHere here s old set hit new gathered =
-    ArrivesInSet here.nfa.now (search_of here.input.now) here.at here.past_match (length set) s old.seen
-    old.next.items set hit new.seen new.next.items gathered
-
-abbrev pub CrossesInSetHere : Here → Reached → List (ℕ × Slots) → List Bool → Bool → Reached → List Bool → Type 0
-CrossesInSetHere here old items set hit new gathered =
-    CrossesInSet here.nfa.now (search_of here.input.now) here.at here.past_match (length set) old.seen items set hit
-    new.seen new.next.items gathered

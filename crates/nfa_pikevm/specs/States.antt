@@ -119,6 +119,12 @@ IsHit nfa g before None after = (g ≡ None) × (after ≡ before)
 IsHit nfa g before (Some pattern) after = (v : Pair) × (g ≡ Some (v, after))
     × (pattern_of (node_at nfa v.0) ≡ Some (number_of pattern))
 
+-- the front ends with this match, and holds no other; or it holds none
+abbrev pub EndsInMatch : Automaton → ℕ → Slots → Option PatternID → Front → Type 0
+EndsInMatch nfa at slots None front = NoMatch (is_match nfa) front
+EndsInMatch nfa at slots (Some pattern) front = (before : Front) × (s : ℕ) × NoMatch (is_match nfa) before
+    × (front ≡ before ++ ((s, at), slots) ∷ []) × (pattern_of (node_at nfa s) ≡ Some (number_of pattern))
+
 -- all that waits is followed: past matches always, else where there is none
 abbrev pub GoesOn : Bool → Option PatternID → Type 0
 GoesOn past hit = (past ≡ true) ⊎ (hit ≡ None)
@@ -196,12 +202,6 @@ module _ (nfa : Automaton) (x : Search) where
         → Follows at met before (ToExplore (s, at) ∷ work_onto at stack (ToLoad old ∷ work)) slots
         after (before ++ front) (with_state at (state_on turn) (work_onto at above (ToLoad old ∷ work))) written
 
-  -- the front ends with this match, and holds no other; or it holds none
-  abbrev pub EndsInMatch : ℕ → Slots → Option PatternID → Front → Type 0
-  EndsInMatch at slots None front = NoMatch (is_match nfa) front
-  EndsInMatch at slots (Some pattern) front = (before : Front) × (s : ℕ) × NoMatch (is_match nfa) before
-      × (front ≡ before ++ ((s, at), slots) ∷ []) × (pattern_of (node_at nfa s) ≡ Some (number_of pattern))
-
   -- What comes of turns from a state on up to the next match, if there is one: the front that they add, which ends with
   -- it, and what is left on the stack.
   pub record FindsMatch (at s : ℕ) (met : Marks) (items : List (ℕ × Slots)) (stack : List FollowEpsilon) (slots : Slots)
@@ -209,7 +209,7 @@ module _ (nfa : Automaton) (x : Search) where
       (written : Slots) : Type 0 where
     pub front : Front
     pub added : kept ≡ items ++ moves (edges nfa x) front
-    pub ends : EndsInMatch at written hit front
+    pub ends : EndsInMatch nfa at written hit front
     pub formed : (before : Front) → Formed nfa at met.bits before → Formed nfa at after.bits (before ++ front)
     pub follows : (before : Front) (old : Slots) (work : List Item)
         → Follows at met before (ToExplore (s, at) ∷ work_onto at stack (ToLoad old ∷ work)) slots
@@ -223,21 +223,8 @@ module _ (nfa : Automaton) (x : Search) where
     pub follows : Follows at met before work slots after front left written
     pub whole : goes_on → left ≡ rest
 
-  -- What comes of a state that is followed with a row of slots, up to the position's next byte: a front, which memory
-  -- holds the moves of, and the match of it that is meant. Without `past` nothing is kept behind the first match.
-  pub record Arrives (at : ℕ) (past : Bool) (s : ℕ) (met : Marks) (items : List (ℕ × Slots)) (row slots : Slots)
-      (hit : Option PatternID) (after : Marks) (kept : List (ℕ × Slots)) (written : Slots) : Type 0 where
-    pub front : Front
-    pub added : kept ≡ items ++ moves (edges nfa x) front
-    pub is_hit : IsHit nfa (meant past (is_match nfa) front) slots hit written
-    pub cut : past ≡ false → moves (edges nfa x) (before_match (is_match nfa) front) ≡ moves (edges nfa x) front
-    pub formed : (before : Front) → Formed nfa at met.bits before → Formed nfa at after.bits (before ++ front)
-    pub paid : Paid nfa met (length items) [] 1 after (length kept) [] 0
-    pub leads : (before : Front) (old : Slots) (work : List Item)
-        → Leads at met before (ToExplore (s, at) ∷ ToLoad old ∷ work) row (GoesOn past hit) after (before ++ front)
-        (ToLoad old ∷ work)
-
-  -- The same of all states at a position, where none was marked before.
+  -- What comes of all states at a position, where none was marked before: a front, which memory holds the moves of, and
+  -- the match of it that is meant. Without `past` nothing is kept behind the first match.
   pub record Crosses (at : ℕ) (past : Bool) (met : Marks) (items : List (ℕ × Slots)) (slots : Slots)
       (hit : Option PatternID) (after : Marks) (kept : List (ℕ × Slots)) (written : Slots) : Type 0 where
     pub front : Front
@@ -274,13 +261,3 @@ abbrev pub FindsHere : Here → ℕ → Reached → List FollowEpsilon → Slots
 FindsHere here s old stack slots hit new above written =
     FindsMatch here.nfa.now (search_of here.input.now) here.at s old.seen old.next.items stack slots hit new.seen
     new.next.items above written
-
-abbrev pub ArrivesHere : Here → ℕ → Reached → Slots → Slots → Option PatternID → Reached → Slots → Type 0
-ArrivesHere here s old row slots hit new written =
-    Arrives here.nfa.now (search_of here.input.now) here.at here.past_match s old.seen old.next.items row slots hit
-    new.seen new.next.items written
-
-abbrev pub CrossesHere : Here → Reached → List (ℕ × Slots) → Slots → Option PatternID → Reached → Slots → Type 0
-CrossesHere here old items slots hit new written =
-    Crosses here.nfa.now (search_of here.input.now) here.at here.past_match old.seen items slots hit new.seen
-    new.next.items written

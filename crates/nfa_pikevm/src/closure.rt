@@ -5,13 +5,15 @@ ghost use Rattle.regex_search_core.specs.Search.{Search, search_of};
 ghost use Rattle.thompson_nfa.specs.Automaton.{Automaton};
 ghost use Rattle.nfa_paths.specs.Exploring.{Item};
 ghost use Rattle.nfa_scanning.specs.Marks.{Marks};
-ghost use Rattle.nfa_pikevm.specs.States.{Front, work_onto, with_state, tries, tries_of, state_on, undone, state_of, HasSlot, IsBelow, IsWithin, Follows, IsHere, KeepsRoom, HasRoomHere, AreWithinHere, PaidHere, EntersHere, FindsHere, ArrivesHere};
+ghost use Rattle.nfa_pikevm.specs.States.{Front, work_onto, with_state, tries, tries_of, state_on, undone, state_of, HasSlot, IsBelow, IsWithin, Follows, IsHere, KeepsRoom, HasRoomHere, AreWithinHere, PaidHere, EntersHere, FindsHere};
+ghost use Rattle.nfa_pikevm.specs.Taking.{Arrives};
 ghost use Rattle.nfa_pikevm.specs.declared.frame.FollowEpsilon.TheVariants.{Explore, Restore};
 
 use crate::active::ActiveStates;
 use crate::frame::FollowEpsilon;
 use crate::seen::Seen;
-use crate::slot::{Slot, copy_row};
+use crate::slot::Slot;
+use crate::taker::Taker;
 use nfa_scanning::transitions::{dense_target, range_target, sparse_target};
 use regex_search_core::{Input, PatternID, StateID};
 use thompson_nfa::{NFA, State, look_matches};
@@ -24,8 +26,6 @@ pub struct Here<'n, 'h> {
     pub at: usize,
     /// The byte at the position, if one is there before the end of the span.
     pub byte: Option<u8>,
-    /// Whether what stands behind a match is followed, too.
-    pub past_match: bool,
 }
 
 /// What is reached from a position: the states that were met there, and those that its byte leads to.
@@ -267,39 +267,39 @@ pub fn next_match(
     }
 }
 
-/// Follows all that the root leads to at the position, as [`next_match`] does up to a match. It answers the last match,
-/// and copies the row as it is there; without `past_match` it stops at the first match.
+/// Follows all that the root leads to at the position, and gives each match that it comes to to the taker, up to the one
+/// that the position ends with. Answers whether it ended.
 #[inline(always)]
-pub fn follow(
+pub fn follow<T: Taker>(
     here: &Here<'_, '_>,
     root: StateID,
     frames: &mut [FollowEpsilon],
     reached: &mut Reached,
     row: &mut [Slot],
-    slots: &mut [Slot],
-) -> Option<PatternID>
+    taker: &mut T,
+) -> bool
     requires here { IsHere here.now }
     requires state { root < length here.now.nfa.now.states }
     requires room { HasRoomHere here.now reached.old 0 (length frames.old) }
     requires width { length row.old ≡ reached.old.next.width }
-    requires slots { length slots.old ≡ length row.old }
+    requires takes { length row.old ≡ T.row_width taker.old }
     ensures keeps { KeepsRoom reached.old reached.new }
     ensures grows { reached.old.seen.turns ≤ reached.new.seen.turns }
-    ensures arrives { ArrivesHere here.now root reached.old row.old slots.old result reached.new slots.new }
+    ensures width { T.row_width taker.new ≡ T.row_width taker.old }
+    ensures same_reference { T.reference taker.new ≡ T.reference taker.old }
+    ensures arrives { Arrives here.now.nfa.now (search_of here.now.input.now) T.takes here.now.at root reached.old.seen
+        reached.old.next.items row.old taker.old result reached.new.seen reached.new.next.items taker.new }
 {
     let mut top = 0;
     let mut sid = root;
-    let mut hit = None;
     while let Some(pattern) = next_match(here, sid, frames, &mut top, reached, row) {
-        copy_row(slots, row);
-        hit = Some(pattern);
-        if !here.past_match {
-            return hit;
+        if taker.take(pattern, row) {
+            return true;
         }
         let Some(waiting) = resume(frames, &mut top, row) else {
-            return hit;
+            return false;
         };
         sid = waiting;
     }
-    hit
+    false
 }

@@ -33,6 +33,7 @@ mod search;
 mod seen;
 mod sizes;
 mod slot;
+mod taker;
 mod threads;
 
 pub use cache::Cache;

@@ -9,119 +9,53 @@ ghost use Rattle.nfa_paths.specs.Overlaps.{IsOverlapResult};
 ghost use Rattle.nfa_pikevm.specs.States.{HasRoom, IsHere, KeepsRoom, HasRoomHere};
 ghost use Rattle.nfa_pikevm.specs.Scans.{HaveRoom, HaveRows, SameSizes, MayScan, scan_turns, IsWithinTurns};
 ghost use Rattle.nfa_pikevm.specs.Engines.{overlap_scans};
-ghost use Rattle.nfa_pikevm.specs.Overlapping.{permits, rowless, CrossesInSet, ArrivesInSetHere, CrossesInSetHere};
+ghost use Rattle.nfa_pikevm.specs.Overlapping.{CrossesInSet};
+ghost use Rattle.nfa_pikevm.specs.Taking.{TakesPattern};
 
-use crate::active::Parts;
-use crate::closure::{Here, Reached, next_match, resume};
-use crate::frame::FollowEpsilon;
 use crate::scan::{Starts, join};
 use crate::scratch::Threads;
-use crate::threads::{move_on, set_up};
-use nfa_scanning::starts::{start_limit, start_state};
-use nfa_scanning::transitions::byte_at;
-use regex_search_core::{Input, MatchKind, PatternID, PatternSet, StateID};
+use crate::slot::Slot;
+use crate::taker::Taker;
+use crate::threads::{cross_with, move_on, set_up};
+use nfa_scanning::starts::{may_end_at, start_limit, start_state};
+use regex_search_core::{Input, MatchKind, PatternID, PatternSet};
 use thompson_nfa::NFA;
 
-/// Whether a match may end at the position.
-#[inline(always)]
-fn permits(nfa: &NFA, input: &Input<'_>, at: usize) -> bool
-    ensures { result ≡ permits nfa.now (search_of input.now) at }
-{
-    !(nfa.has_empty() && nfa.is_utf8()) || input.is_char_boundary(at)
+/// A set that takes patterns: that of a match which may end at its position, and which the set has room for. Another
+/// match does not count. The position ends with the first that counts, without `past_match`.
+#[derive(Drop)]
+pub struct Gatherer<'p> {
+    pub patterns: &'p mut PatternSet,
+    /// Whether a match may end at the position.
+    pub permitted: bool,
+    pub past_match: bool,
+    /// Whether a match that counts was met.
+    pub met: bool,
 }
 
-/// Puts the pattern of a match into the set, where the match may end at its position and the set has room for the
-/// pattern, and notes that it was met. Another match does not count. Answers whether the position ends with it: without
-/// `past_match` it does.
-#[inline(always)]
-fn gather(
-    pattern: PatternID,
-    permitted: bool,
-    past_match: bool,
-    patterns: &mut PatternSet,
-    met: &mut bool,
-) -> bool
-    ensures stops { result ≡ ((permitted && nat_lt (number_of pattern) (length patterns.old)) && not past_match) }
-    ensures dead { (permitted && nat_lt (number_of pattern) (length patterns.old)) ≡ false
-        → patterns.new ≡ patterns.old }
-    ensures put { (permitted && nat_lt (number_of pattern) (length patterns.old)) ≡ true
-        → patterns.new ≡ with_pattern patterns.old (number_of pattern) }
-    ensures met { met.new ≡ ((permitted && nat_lt (number_of pattern) (length patterns.old)) || met.old) }
-{
-    if !permitted {
-        return false;
-    }
-    if patterns.try_insert(pattern).is_none() {
-        return false;
-    }
-    *met = true;
-    !past_match
-}
+impl Taker for Gatherer<'_> {
+    ghost row_width = { λ s. 0 };
 
-/// Follows all that the root leads to at the position, as [`next_match`] does up to a match. The patterns of the
-/// matches that count are put into the set; without `past_match` it stops at the first one. Answers whether one was
-/// met.
-#[inline(always)]
-fn follow_to_set(
-    here: &Here<'_, '_>,
-    permitted: bool,
-    root: StateID,
-    frames: &mut [FollowEpsilon],
-    reached: &mut Reached,
-    patterns: &mut PatternSet,
-) -> bool
-    requires here { IsHere here.now }
-    requires permitted { permitted ≡ permits here.now.nfa.now (search_of here.now.input.now) here.now.at }
-    requires state { root < length here.now.nfa.now.states }
-    requires room { HasRoomHere here.now reached.old 0 (length frames.old) }
-    requires width { reached.old.next.width ≡ 0 }
-    ensures keeps { KeepsRoom reached.old reached.new }
-    ensures arrives { ArrivesInSetHere here.now root reached.old patterns.old result reached.new patterns.new }
-{
-    let mut top = 0;
-    let mut sid = root;
-    let mut met = false;
-    while let Some(pattern) = next_match(here, sid, frames, &mut top, reached, &mut []) {
-        if gather(pattern, permitted, here.past_match, patterns, &mut met) {
-            return met;
+    ghost takes = { TakesPattern };
+
+    ghost reference = { λ s. s.patterns.ghost_name };
+
+    #[inline(always)]
+    fn width(&self) -> usize {
+        0
+    }
+
+    #[inline(always)]
+    fn take(&mut self, pattern: PatternID, _row: &[Slot]) -> bool {
+        if !self.permitted {
+            return false;
         }
-        let Some(waiting) = resume(frames, &mut top, &mut []) else {
-            return met;
-        };
-        sid = waiting;
-    }
-    met
-}
-
-/// Follows the states at the position, in order, as [`follow_to_set`] does with each, and answers as it does.
-fn cross_states_to_set(
-    here: &Here<'_, '_>,
-    kept: &[StateID],
-    frames: &mut [FollowEpsilon],
-    reached: &mut Reached,
-    patterns: &mut PatternSet,
-) -> bool
-    requires here { IsHere here.now }
-    requires states { All (λ s. s < length here.now.nfa.now.states) kept.now }
-    requires room { HasRoom here.now.nfa.now reached.old.seen.bits 0 (length frames.old) 0 reached.old.next.places }
-    requires clear { reached.old.seen.bits ≡ replicate (length reached.old.seen.bits) false }
-    requires empty { reached.old.next.items ≡ [] }
-    requires width { reached.old.next.width ≡ 0 }
-    ensures keeps { KeepsRoom reached.old reached.new }
-    ensures crosses { CrossesInSetHere here.now reached.old (rowless kept.now) patterns.old result reached.new
-        patterns.new }
-{
-    let permitted = permits(here.nfa, here.input, here.at);
-    let mut met = false;
-    for i in 0..kept.len() {
-        if follow_to_set(here, permitted, kept[i], frames, reached, patterns) {
-            met = true;
-            if !here.past_match {
-                return true;
-            }
+        if self.patterns.try_insert(pattern).is_none() {
+            return false;
         }
+        self.met = true;
+        !self.past_match
     }
-    met
 }
 
 /// Follows the states at the position, and keeps what its byte leads to for the next one. Answers whether a match that
@@ -145,23 +79,14 @@ fn cross_to_set(
         threads.old.reached.seen threads.old.curr.items patterns.old result threads.new.reached.seen
         threads.new.reached.next.items patterns.new }
 {
-    let Threads {
-        frames,
-        curr,
-        reached,
-        ..
-    } = threads;
-    reached.seen.clear();
-    let Parts { kept, len, .. } = &*curr.parts;
-    let here = Here {
-        nfa,
-        input,
-        at,
-        byte: byte_at(input, at),
+    let mut gatherer = Gatherer {
+        patterns,
+        permitted: may_end_at(nfa, input, at),
         past_match,
+        met: false,
     };
-    let kept = &kept.as_slice()[..*len];
-    cross_states_to_set(&here, kept, frames.as_mut_slice(), reached, patterns)
+    cross_with(nfa, input, at, threads, &mut gatherer);
+    gatherer.met
 }
 
 /// The patterns of all matches.

@@ -2,7 +2,8 @@
 ghost use Rattle.std.specs.Prelude.{◌≡◌, ◌*◌, ◌<◌, ◌≤◌, [], false, length, replicate, All, IfOk};
 ghost use Rattle.regex_search_core.specs.Search.{search_of};
 ghost use Rattle.nfa_pikevm.specs.Rows.{items_of};
-ghost use Rattle.nfa_pikevm.specs.States.{HasRoom, IsHere, KeepsRoom, Crosses, CrossesHere};
+ghost use Rattle.nfa_pikevm.specs.States.{HasRoom, IsHere, KeepsRoom, Crosses};
+ghost use Rattle.nfa_pikevm.specs.Taking.{ArriveAll};
 ghost use Rattle.nfa_pikevm.specs.Scans.{HaveRows, SameSizes};
 
 use crate::active::Parts;
@@ -10,6 +11,7 @@ use crate::closure::{Here, Reached, follow};
 use crate::frame::FollowEpsilon;
 use crate::scratch::Threads;
 use crate::slot::Slot;
+use crate::taker::{LastRow, Taker};
 use nfa_scanning::transitions::byte_at;
 use regex_search_core::{Input, PatternID, StateID};
 use std::mem;
@@ -44,43 +46,97 @@ pub fn move_on(threads: &mut Threads)
     reached.next.clear();
 }
 
-/// Follows the states at the position, in order, each with its row, and keeps what the byte leads to. It answers the
-/// last match, and copies its row; without `past_match` it stops at the first match.
+/// Follows the states at the position, in order, each with its row, as [`follow`] does, up to the match that the position
+/// ends with, and keeps what the byte leads to.
 #[inline(always)]
-fn cross_states(
+fn cross_states<T: Taker>(
     here: &Here<'_, '_>,
     kept: &[StateID],
     rows: &mut [Slot],
     frames: &mut [FollowEpsilon],
     reached: &mut Reached,
-    slots: &mut [Slot],
-) -> Option<PatternID>
+    taker: &mut T,
+)
     requires here { IsHere here.now }
     requires states { All (λ s. s < length here.now.nfa.now.states) kept.now }
     requires room { HasRoom here.now.nfa.now reached.old.seen.bits 0 (length frames.old) 0 reached.old.next.places }
     requires clear { reached.old.seen.bits ≡ replicate (length reached.old.seen.bits) false }
     requires empty { reached.old.next.items ≡ [] }
-    requires width { length slots.old ≡ reached.old.next.width }
-    requires rows { length kept.now * length slots.old ≤ length rows.old }
+    requires width { T.row_width taker.old ≡ reached.old.next.width }
+    requires rows { length kept.now * T.row_width taker.old ≤ length rows.old }
     ensures keeps { KeepsRoom reached.old reached.new }
     ensures grows { reached.old.seen.turns ≤ reached.new.seen.turns }
-    ensures crosses { CrossesHere here.now reached.old (items_of (length slots.old) kept.now rows.old) slots.old result
-        reached.new slots.new }
+    ensures width { T.row_width taker.new ≡ T.row_width taker.old }
+    ensures same_reference { T.reference taker.new ≡ T.reference taker.old }
+    ensures arrive { ArriveAll here.now.nfa.now (search_of here.now.input.now) T.takes here.now.at reached.old.seen
+        (items_of (T.row_width taker.old) kept.now rows.old) taker.old reached.new.seen reached.new.next.items taker.new }
 {
-    let width = slots.len();
-    let mut hit = None;
+    let width = taker.width();
     for i in 0..kept.len() {
         let start = i * width;
         let row = &mut rows[start..start + width];
-        let Some(pattern) = follow(here, kept[i], frames, reached, row, slots) else {
-            continue;
-        };
-        hit = Some(pattern);
-        if !here.past_match {
-            return hit;
+        if follow(here, kept[i], frames, reached, row, taker) {
+            return;
         }
     }
-    hit
+}
+
+/// Follows the states at the position, gives their matches to the taker, and keeps what the position's byte leads to for
+/// the next one.
+#[inline(always)]
+pub fn cross_with<T: Taker>(
+    nfa: &NFA,
+    input: &Input<'_>,
+    at: usize,
+    threads: &mut Threads,
+    taker: &mut T,
+)
+    requires place { at ≤ (search_of input.now).end }
+    requires states { All (λ i. i.0 < length nfa.now.states) threads.old.curr.items }
+    requires room { HaveRows nfa.now (T.row_width taker.old) threads.old }
+    requires empty { threads.old.reached.next.items ≡ [] }
+    ensures width { threads.new.curr.width ≡ threads.old.curr.width }
+    ensures sizes { SameSizes threads.old threads.new }
+    ensures grows { threads.old.reached.seen.turns ≤ threads.new.reached.seen.turns }
+    ensures scans { threads.new.scans ≡ threads.old.scans }
+    ensures same_reference { T.reference taker.new ≡ T.reference taker.old }
+    ensures rows { All (λ i. length i.1 ≤ T.row_width taker.old) threads.old.curr.items }
+    ensures arrive { ArriveAll nfa.now (search_of input.now) T.takes at threads.old.reached.seen
+        threads.old.curr.items taker.old threads.new.reached.seen threads.new.reached.next.items taker.new }
+{
+    let Threads {
+        frames,
+        curr,
+        reached,
+        ..
+    } = threads;
+    reached.seen.clear();
+    let Parts {
+        kept,
+        rows,
+        len,
+        ..
+    } = &mut *curr.parts;
+    let kept = &kept.as_slice()[..*len];
+    let rows = rows.as_mut_slice();
+    let frames = frames.as_mut_slice();
+    let end = Here {
+        nfa,
+        input,
+        at,
+        byte: None,
+    };
+    // A call each, so that the loop over the states does not ask at each one whether there is a byte.
+    match byte_at(input, at) {
+        Some(byte) => {
+            let here = Here {
+                byte: Some(byte),
+                ..end
+            };
+            cross_states(&here, kept, rows, frames, reached, taker);
+        }
+        None => cross_states(&end, kept, rows, frames, reached, taker),
+    }
 }
 
 /// Follows the states at the position, and keeps what its byte leads to for the next one. It answers the last match,
@@ -105,38 +161,11 @@ pub fn cross(
     ensures crosses { Crosses nfa.now (search_of input.now) at past_match threads.old.reached.seen
         threads.old.curr.items slots.old result threads.new.reached.seen threads.new.reached.next.items slots.new }
 {
-    let Threads {
-        frames,
-        curr,
-        reached,
-        ..
-    } = threads;
-    reached.seen.clear();
-    let Parts {
-        kept,
-        rows,
-        len,
-        ..
-    } = &mut *curr.parts;
-    let kept = &kept.as_slice()[..*len];
-    let rows = rows.as_mut_slice();
-    let frames = frames.as_mut_slice();
-    let end = Here {
-        nfa,
-        input,
-        at,
-        byte: None,
+    let mut last = LastRow {
+        slots,
+        hit: None,
         past_match,
     };
-    // A call each, so that the loop over the states does not ask at each one whether there is a byte.
-    match byte_at(input, at) {
-        Some(byte) => {
-            let here = Here {
-                byte: Some(byte),
-                ..end
-            };
-            cross_states(&here, kept, rows, frames, reached, slots)
-        }
-        None => cross_states(&end, kept, rows, frames, reached, slots),
-    }
+    cross_with(nfa, input, at, threads, &mut last);
+    last.hit
 }

@@ -1,11 +1,11 @@
 -- All that a state leads to without reading a byte is entered in order, up to the next match.
-use Rattle.std.proofs.Common.{◌∙◌, length, map, arith, refl}
+use Rattle.std.proofs.Common.{length, map, arith}
 use Rattle.std.specs.Prelude.{None}
 use Rattle.regex_search_core.specs.Search.{search_of}
 use Rattle.nfa_paths.specs.Paths.{degree}
 use Rattle.nfa_paths.proofs.TurnLemmas.{marked_sum-le}
 use Rattle.nfa_pikevm.proofs.UnwindLemmas.{within-lower}
-use Rattle.nfa_pikevm.proofs.ClosureLemmas.{Passed-begin, Passed-plain, Passed-resumed, Finds-none, Finds-match, Paid-begin, Paid-then, Paid-resumed, HasRoom-paid, same-items, KeepsRoom-none, KeepsRoom-then}
+use Rattle.nfa_pikevm.proofs.ClosureLemmas.{Passed-begin, Passed-plain, Passed-resumed, Finds-none, Finds-match, Paid-begin, Paid-then, Paid-resumed, HasRoom-paid, KeepsRoom-none, KeepsRoom-then}
 use Rattle.nfa_pikevm.proofs.closure.next_match.Goals as goal
 
 pub loop-on-init : goal.loop-on-init

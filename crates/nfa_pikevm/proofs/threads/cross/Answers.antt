@@ -1,16 +1,9 @@
--- A position is left for the next one, with a byte or at the end of the span.
-use Rattle.std.proofs.Common.{length}
-use Rattle.nfa_pikevm.proofs.CrossLemmas.{states-below}
+-- The match that is meant is the last row.
+use Rattle.std.proofs.Common.{refl, rules}
+use Rattle.nfa_pikevm.proofs.LastRowLemmas.{Crosses-taken}
 use Rattle.nfa_pikevm.proofs.threads.cross.Goals as goal
 
-pub cross_states-requires-clause-states : goal.cross_states-requires-clause-states
-cross_states-requires-clause-states c =
-    let states = rw (← c.curr.view_is, ← c.deref_mut.ensures.value) at c.requires.states in
-    let p = c.deref_mut.result.now in
-    rw c.as_slice.ensures.value (states-below (length c.args.nfa.now.states) p.width _ p.rows.items states)
-
-pub cross_states-requires-in-None-clause-states : goal.cross_states-requires-in-None-clause-states
-cross_states-requires-in-None-clause-states c =
-    let states = rw (← c.curr.view_is, ← c.deref_mut.ensures.value) at c.requires.states in
-    let p = c.deref_mut.result.now in
-    rw c.as_slice.ensures.value (states-below (length c.args.nfa.now.states) p.width _ p.rows.items states)
+pub returns-clause-crosses : goal.returns-clause-crosses
+returns-clause-crosses c =
+    let h = Crosses-taken refl c.cross_with.ensures.arrive in
+    search (rules, h)
