@@ -108,10 +108,6 @@ pub bits_of-nil : bits_of [] ≡ []
 unfolding bits_of
 bits_of-nil = refl
 
--- no block is in use
-pub IsClearFrom-nil : IsClearFrom 0 []
-IsClearFrom-nil = record { clear = λ i h. refl }
-
 -- the blocks up to here were made zero, and the others were
 pub bits_of-zeroed : (used : ℕ) (old new : List ℕ) → length new ≡ length old → IsClearFrom used old
     → ((i : ℕ) → i < used → get_or new i 0 ≡ 0) → ((i : ℕ) → used ≤ i → get_or new i 0 ≡ get_or old i 0)

@@ -46,9 +46,6 @@ module _ (nfa : Automaton) (x : Search) (place : Place) (is_place : IsPlace nfa 
         let lt : place.at - x.start < span_len x + 1 = omega arith in
         mul-add-lt (place.at - x.start) (length nfa.states) place.sid (span_len x + 1) lt is_place.state
 
-    pub Fits-bit : (sid : ℕ) → sid ≡ place.sid → Fits w64 (place.row + sid)
-    Fits-bit sid is = rw (is_place.row, is) (let k = lies in let f = room.fits in omega arith)
-
 -- the row of the next position
 row-next : (nfa : Automaton) (x : Search) (at row states : ℕ) → x.start ≤ at → row ≡ (at - x.start) * length nfa.states
     → states ≡ length nfa.states

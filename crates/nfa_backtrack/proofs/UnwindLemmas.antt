@@ -51,15 +51,6 @@ module _ (nfa : Automaton) (x : Search) where
       let both = All-pop (IsFrame nfa x count) stack popped (Some frame) pop fits in
       (both.0, IsFrame-place count frame slots place after u both.1)
 
-  -- a frame that is within has its slot
-  WritesSlot-within : (count : ℕ) (frame : Frame) → IsFrame nfa x count frame → WritesSlot count frame
-  WritesSlot-within count (Step sid at row) fits = tt
-  WritesSlot-within count (Restore slot offset) fits = fits
-  WritesSlot-within count (Clear slot) fits = fits
-
-  pub all-WritesSlot : (count : ℕ) (stack : List Frame) → All (IsFrame nfa x count) stack → All (WritesSlot count) stack
-  all-WritesSlot count stack fits = λ k d h. WritesSlot-within count _ (fits k d h)
-
 tries-unwind : (frame : Frame) (slots : Slots) (place : Option Place) (after : Slots) → Unwinds frame slots place after
     → frame_tries frame ≡ tries_of_place place
 tries-unwind (Step sid at row) slots place after u = rw u.0 refl

@@ -47,22 +47,6 @@ place_number-tells v w e =
     let four : v.end_written ≡ w.end_written = bit-tells v.end_written w.end_written (omega arith) in
     same-place one two three four
 
--- nothing is reached at first
-unmarked_place-all : (n : ℕ) → sum_by unmarked_place (replicate n false) ≡ n
-unmarked_place-all zero = refl
-unmarked_place-all (suc n) = omega (arith, sum_by-cons unmarked_place false (replicate n false), unmarked_place-all n)
-
-pub IsTable-none : (n : ℕ) → IsTable (replicate n false) []
-IsTable-none n = record {
-  count = omega (arith, unmarked_place-all n, length-replicate n false);
-  listed = λ v m. absurd (never n (place_number v) m);
-}
-  where
-    never : (n k : ℕ) → get_or (replicate n false) k false ≡ true → ⊥
-    never zero k e = cc
-    never (suc n) zero e = cc
-    never (suc n) (suc k) e = never n k e
-
 -- a place that was not marked is marked, and listed
 pub IsTable-more : (marks : List Bool) (places : List Place) (v : Place) → place_number v < length marks
     → get_or marks (place_number v) false ≡ false → IsTable marks places
@@ -89,24 +73,12 @@ IsTable-more marks places v inside clear table = record {
 
 -- places that were added
 
-pub GainsPlaces-none : (old : List Place) → GainsPlaces old old []
-GainsPlaces-none old = record { more = []; kept = sym (append-nil old); only = λ v i. i; all = λ v i. absurd i }
-
 pub GainsPlaces-one : (old : List Place) (v : Place) → GainsPlaces old (old ++ v ∷ []) (v ∷ [])
 GainsPlaces-one old v = record {
   more = v ∷ [];
   kept = refl;
   only = λ w i. i;
   all = λ w i. In-append_right w old (v ∷ []) i;
-}
-
--- one that was there
-pub GainsPlaces-there : (old : List Place) (v : Place) → In v old → GainsPlaces old old (v ∷ [])
-GainsPlaces-there old v there = record {
-  more = [];
-  kept = sym (append-nil old);
-  only = λ w i. absurd i;
-  all = λ w i. elim i [ inl e ↦ rw e there | inr never ↦ absurd never ];
 }
 
 -- some, and then more

@@ -194,6 +194,3 @@ pub RecordsBounds-each : (nfa : Automaton) → IsAutomaton nfa
 RecordsBounds-each nfa valid each end p way matches =
     let some = some-pattern (node_at nfa end.0) matches in
     each some.0 (node-pattern nfa valid end.0 some.0 some.1) end p way some.1
-
-pub RecordsBounds-one : (nfa : Automaton) (pattern : ℕ) → RecordsBounds nfa → PatternRecordsBounds nfa pattern
-RecordsBounds-one nfa pattern all end p way matches = all end p way (ap is_some matches)

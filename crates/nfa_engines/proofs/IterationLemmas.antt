@@ -10,17 +10,6 @@ use Rattle.nfa_search_base.specs.Walks.{LeavesFewer, Advances}
 use Rattle.nfa_search_base.proofs.StepLemmas.{chosen}
 use Rattle.nfa_engines.specs.IterationLaws.{IsCall, AreCalls, places_of, EndsRise}
 
--- a step that gives its match behind the last one and leaves fewer ends is a call
-pub call-of-step : {S X : Type 0} (span : X → Span) (asks : S → Search → Answer X → S → Type 0)
-    (s : S) (w : Walk) (r : Answer X) (s' : S) (w' : Walk)
-    → Advances span asks s w r s' w' → ComesAfter w (place_of span r) → LeavesFewer w (place_of span r) w'
-    → IsCall w (place_of span r) w'
-call-of-step span asks s w r s' w' step rises fewer = record {
-  rises = rises;
-  fewer = fewer;
-  moves = elim (chosen (repeats w (place_of span step.answer)) step.rest) [ inl p ↦ inr p.1.1 | inr p ↦ inl p.1.2 ];
-}
-
 -- a call that gave a match leaves its end as the last one
 call-last : (w : Walk) (p : Span) (w' : Walk) → IsCall w (Some p) w' → w'.last ≡ Some p.end
 call-last w p w' call = elim call.moves [ inl e ↦ ap (λ (v : Walk). v.last) e | inr e ↦ ap (λ (v : Walk). v.last) e ]

@@ -292,24 +292,6 @@ module _ (nfa : Automaton) where
         of true false h k = IsRestartedAnswer-unique x i j r s h k
         of false c h k = (h.0 ∙ sym k.0, scan_answer-unique x kind earliest r s h.1 k.1)
 
-    -- the scans of a search are within the limit
-    pub restarts_bound : (x : Search) (restarts : ℕ) (path : Option (List Pair))
-        → IsSearchAnswer nfa kind earliest x restarts path → restarts + 1 ≤ scan_limit nfa x
-    restarts_bound x restarts path = of (is_utf8_empty nfa) (is_anchored x.anchored)
-      where
-        of : (b c : Bool)
-            → MatchBool b (MatchBool c ((restarts ≡ 0) × IsKeptAnswer nfa kind earliest x path)
-            (IsRestartedAnswer nfa kind earliest x restarts path))
-            ((restarts ≡ 0) × IsScanAnswer nfa x kind earliest path)
-            → restarts + 1 ≤ cond (b && not c) (span_len x + 2) 1
-        of true true h = let e : restarts ≡ 0 = h.0 in omega arith
-        of true false h = skipped-bound x restarts h.skipped
-        of false c h = let e : restarts ≡ 0 = h.0 in omega arith
-
-    -- one scan is within any answer's, and within the limit
-    pub one_scan-within : (x : Search) {scans : ℕ} → scans ≤ 1 → IsWithinScans nfa kind earliest x scans
-    one_scan-within x few restarts path answers = omega arith
-
     module _ (x : Search) (empty : is_utf8_empty nfa ≡ true) (free : is_anchored x.anchored ≡ false) (k : ℕ)
         (skipped : (i : ℕ) → i < k → SplitsCharacter nfa kind earliest (raised x i)) where
       -- where k scans split a character, one more is no more than the answer takes

@@ -6,11 +6,11 @@ use Rattle.regex_search_core.specs.PatternSets.{size_of_set}
 use Rattle.regex_search_core.specs.Search.{Search}
 use Rattle.regex_search_core.specs.declared.search.MatchKind.TheVariants.{All}
 use Rattle.thompson_nfa.specs.Automaton.{Automaton}
-use Rattle.nfa_paths.specs.Graphs.{Pair, NoPath, IsLeastEnd, WantedAt}
+use Rattle.nfa_paths.specs.Graphs.{Pair, IsLeastEnd, WantedAt}
 use Rattle.nfa_paths.specs.Exploring.{Slots}
 use Rattle.nfa_paths.specs.Kinds.{Passes, ReachedBefore, EndsBefore, HoldsMatch, Scanned, IsFront, is_resting}
 use Rattle.nfa_paths.specs.Paths.{space, edges, starts}
-use Rattle.nfa_paths.specs.Overlaps.{HoldsPattern, pattern_at, IsPermitted, IsHeld, IsPatternOf, GainsAll, IsOverlapResult}
+use Rattle.nfa_paths.specs.Overlaps.{HoldsPattern, pattern_at, IsPermitted, IsHeld, IsPatternOf, IsOverlapResult}
 use Rattle.nfa_paths.proofs.ReachedLemmas.{IsReached-at, ReachedBefore-start, ReachedBefore-step, ReachedBefore-end, IsReached-along}
 use Rattle.nfa_paths.proofs.SetLemmas.{full-holds}
 use Rattle.nfa_paths.proofs.PathToLemmas.{IsLeastEnd-unique}
@@ -265,34 +265,3 @@ module _ (nfa : Automaton) (x : Search) (old : List Bool) (wants : Pair → Bool
       );
     };
   }
-
-  -- no accepting path has a permitted end
-  pub All-none : NoPath (edges nfa x) (starts nfa x) (Passes wants) → (earliest : Bool)
-      → IsOverlapResult nfa x All earliest old old
-  All-none none earliest = record {
-    capacity = refl;
-    keeps = λ k h. h;
-    sound = λ k h. inl h;
-    gains = of earliest;
-  }
-    where
-      of : (b : Bool) → GainsAll nfa x b old old
-      of false = record {
-        gained = λ k. (
-          λ h. inl h,
-          λ s. elim s [
-            | inl o ↦ o
-            | inr w ↦ absurd (none w.1.end w.1.along w.1.path (counts w.0 w.1.end w.1.wanted w.1.pattern_is))
-          ],
-        );
-      }
-      of true = record {
-        gained = λ k. (
-          λ h. inl h,
-          λ s. elim s [
-            | inl o ↦ o
-            | inr w ↦ let i = w.1.2 in
-                absurd (none i.end i.along i.path (counts w.0 i.end i.wanted.wanted i.pattern_is))
-          ],
-        );
-      }

@@ -17,11 +17,6 @@ use Rattle.nfa_paths.proofs.FrontMatchLemmas.{FirstMatch, LastMatch}
 -- the answer of a front
 
 module _ (space : Space) (target : Pair → Bool) where
-  -- a path holds a target
-  Path-target : {v : Pair} {p : List Pair} → Path space.edges target v p → (x : Pair) × In x p × (target x ≡ true)
-  Path-target (stop {v = v} t) = (v, inl refl, t)
-  Path-target (go t e n h) = let r = Path-target h in (r.0, inr r.1, r.2)
-
   module _ (e : ℕ) (onward : (x y : Pair) → In y (space.edges x) → x.1 ≤ y.1) (at : (x : Pair) → target x ≡ true
       → x.1 ≡ e) where
     -- from a later position no target is reached

@@ -1,5 +1,5 @@
 -- The first accepting path, and what marks change of it.
-use Rattle.std.proofs.Common.{◌≡◌, ◌<◌, ◌⊎◌, inl, inr, ◌↔◌, Bool, true, false, List, [], ◌∷◌, ◌++◌, refl, sym, ap, ◌∙◌, subst}
+use Rattle.std.proofs.Common.{◌≡◌, ◌<◌, ◌⊎◌, inl, inr, ◌↔◌, Bool, true, false, List, [], ◌∷◌, refl, sym, ap, ◌∙◌, subst}
 use Rattle.std.specs.Prelude.{Option, None, Some}
 use Rattle.std.specs.Option.{option_map}
 use Rattle.std.proofs.Math.Decide.{ℕ_discrete}
@@ -310,25 +310,6 @@ module _ (edges : Pair → List Pair) (target : Pair → Bool) where
         })
         (λ p h. record { path = h.path; clear = λ x i j. h.clear x i (to x (Path-ahead h.path a x i) j) })
 
-    -- marks that are not ahead do not matter to a pair that is
-    pub IsFirst-behind : (n marks : List Pair) → ((x : Pair) → In x n → ahead x → ⊥)
-        → (k : Pair) → ahead k → (r : Option (List Pair))
-        → IsFirst edges target (n ++ marks) k r ↔ IsFirst edges target marks k r
-    IsFirst-behind n marks past k a r = (
-      IsFirst-ahead (n ++ marks) marks (left n past) (λ x b i. right n x i) k a r,
-      IsFirst-ahead marks (n ++ marks) (λ x b i. right n x i) (left n past) k a r,
-    )
-      where
-        left : (n : List Pair) → ((x : Pair) → In x n → ahead x → ⊥) → (x : Pair) → ahead x
-            → In x (n ++ marks) → In x marks
-        left [] past x b i = i
-        left (y ∷ n) past x b i =
-            elim i [ inl here ↦ absurd (past x (inl here) b) | inr later ↦ left n (λ z j. past z (inr j)) x b later ]
-
-        right : (n : List Pair) (x : Pair) → In x marks → In x (n ++ marks)
-        right [] x i = i
-        right (y ∷ n) x i = inr (right n x i)
-
     -- a pair that is left for pairs ahead of every mark, and is itself unmarked
     pub IsFirst-resting : (marks : List Pair) (v : Pair) → ¬ (In v marks) → ((w : Pair) → In w (edges v) → ahead w)
         → ((x : Pair) → In x marks → ahead x → ⊥)
@@ -359,44 +340,6 @@ module _ (edges : Pair → List Pair) (target : Pair → Bool) where
       elim (g.1 p f.0) [
         | inl e ↦ ap Some e
         | inr k ↦ elim (f.1 q g.0) [ inl e ↦ ap Some (sym e) | inr l ↦ absurd (Before-asymmetric edges p q l k) ]
-      ]
-
-  -- of two paths that differ behind their heads, the heads are one
-  Before-heads : {v w : Pair} {p q : List Pair} → Path edges target v p → Path edges target w q
-      → Before edges p q → v ≡ w
-  Before-heads (stop t) (stop u) h = h.0
-  Before-heads (stop t) (go u e n k) h = h.0
-  Before-heads (go t e n k) (stop u) h = h.0
-  Before-heads (go t e n k) (go u f m l) h = h.0
-
-  -- there is one first path from several starts
-  pub IsFirstOfAll-unique : (marks es : List Pair) (r s : Option (List Pair))
-      → IsFirstOfAll edges target marks es r → IsFirstOfAll edges target marks es s → r ≡ s
-  IsFirstOfAll-unique marks es None None f g = refl
-  IsFirstOfAll-unique marks es None (Some q) f g = absurd (f g.0 g.1 q g.2)
-  IsFirstOfAll-unique marks es (Some p) None f g = absurd (g f.0 f.1 p f.2)
-  IsFirstOfAll-unique marks es (Some p) (Some q) f g =
-      elim (f.3 g.0 q g.1 g.2) [
-        | inl e ↦ ap Some (sym e)
-        | inr k ↦
-            elim (g.3 f.0 p f.1 f.2) [
-              | inl e ↦ ap Some e
-              | inr l ↦
-                  elim k [
-                    | inl less ↦
-                        elim l [
-                          | inl more ↦ absurd (Earlier-asymmetric es f.0 g.0 less more)
-                          | inr after ↦ absurd (Earlier-irreflexive es f.0
-                              (rw (Before-heads g.2.path f.2.path after) at less))
-                        ]
-                    | inr before ↦
-                        elim l [
-                          | inl more ↦ absurd (Earlier-irreflexive es g.0
-                              (rw (Before-heads f.2.path g.2.path before) at more))
-                          | inr after ↦ absurd (Before-asymmetric edges p q before after)
-                        ]
-                  ]
-            ]
       ]
 
   -- where the starts rise, the first start is that at the smallest position

@@ -1,5 +1,5 @@
 -- Paths from the starts in plain words: which comes first, and that each kind of scan has one answer.
-use Rattle.std.proofs.Common.{◌≡◌, ℕ, ◌≤◌, ◌<◌, ◌⊎◌, inl, inr, Bool, true, false, List, [], ◌∷◌, ◌++◌, refl, sym, ap, subst, arith}
+use Rattle.std.proofs.Common.{◌≡◌, ℕ, ◌≤◌, ◌<◌, ◌⊎◌, inl, inr, Bool, true, false, List, [], ◌∷◌, refl, sym, ap, subst, arith}
 use Rattle.std.specs.Prelude.{Option, None, Some}
 use Rattle.std.specs.List.{last_or}
 use Rattle.nfa_paths.specs.Graphs.{Pair, In, Before, ComesBefore, HeadIs, NoRepeats, Linked, EndsWith, WantedAt, PathTo, NoPath, IsFirstTo, IsEnd, IsLeastEnd, IsGreatestEnd, IsLastOfFirsts, IsFirstPath, IsEarliestPath, IsLastPath, IsEarliestLastPath}
@@ -95,93 +95,11 @@ module _ (edges : Pair → List Pair) where
     ends : EndsWith w along
     within : (z : Pair) → In z along → In z p
 
-  -- one more pair at the head
-  Leads-cons : {y w : Pair} {p : List Pair} (x : Pair) → In y (edges x) → ¬ (In x p) → Leads y w p → Leads x w (x ∷ p)
-  Leads-cons {y} {w} {p} x i n h = of h.along h.head h.once h.linked h.ends h.within
-    where
-      of : (q : List Pair) → HeadIs y q → NoRepeats q → Linked edges q → EndsWith w q → ((z : Pair) → In z q → In z p)
-          → Leads x w (x ∷ p)
-      of [] head once linked ends within = absurd head
-      of (z ∷ q) head once linked ends within = record {
-        along = x ∷ (z ∷ q);
-        head = refl;
-        once = (λ j. n (within x j), once);
-        linked = (rw head i, linked);
-        ends = ends;
-        within = λ u j. elim j [ inl e ↦ inl e | inr k ↦ inr (within u k) ];
-      }
-
-  -- a path up to one of its pairs
-  Leads-up_to : (s w : Pair) (p : List Pair) → HeadIs s p → NoRepeats p → Linked edges p → In w p → Leads s w p
-  Leads-up_to s w [] head once linked i = absurd head
-  Leads-up_to s w (x ∷ p) head once linked (inl here) =
-      record {
-        along = x ∷ [];
-        head = head;
-        once = (λ j. j, tt);
-        linked = tt;
-        ends = sym here;
-        within =
-            λ z j. elim j [ inl e ↦ inl e | inr never ↦ absurd never ];
-      }
-  Leads-up_to s w (x ∷ []) head once linked (inr later) = absurd later
-  Leads-up_to s w (x ∷ (y ∷ p)) head once linked (inr later) =
-      subst (λ z. Leads z w (x ∷ (y ∷ p))) head
-      (Leads-cons x linked.0 once.0 (Leads-up_to y w (y ∷ p) refl once.1 linked.1 later))
-
-  -- a path with one more pair behind it
-  Leads-behind : (s v w : Pair) (p : List Pair) → HeadIs s p → NoRepeats p → Linked edges p → EndsWith v p
-      → In w (edges v) → ¬ (In w p) → Leads s w (p ++ w ∷ [])
-  Leads-behind s v w [] head once linked ends i n = absurd head
-  Leads-behind s v w (x ∷ []) head once linked ends i n = record {
-    along = x ∷ (w ∷ []);
-    head = head;
-    once = (λ j. elim j [ inl e ↦ n (inl (sym e)) | inr never ↦ never ], (λ j. j, tt));
-    linked = (rw ends i, tt);
-    ends = refl;
-    within = λ z j. j;
-  }
-  Leads-behind s v w (x ∷ (y ∷ p)) head once linked ends i n =
-      let rest = Leads-behind y v w (y ∷ p) refl once.1 linked.1 ends i (λ j. n (inr j)) in
-      subst (λ z. Leads z w (x ∷ (y ∷ (p ++ w ∷ [])))) head (Leads-cons x linked.0 (apart (y ∷ p) once.0) rest)
-    where
-      apart : (q : List Pair) → ¬ (In x q) → ¬ (In x (q ++ w ∷ []))
-      apart [] m j = elim j [ inl e ↦ n (inl (sym e)) | inr never ↦ never ]
-      apart (z ∷ q) m j = elim j [ inl e ↦ m (inl e) | inr k ↦ apart q (λ l. m (inr l)) k ]
-
 module _ (edges : Pair → List Pair) (starts : List Pair) where
   -- some path leads to the pair
   pub record IsReachable (m : Pair) : Type 0 where
     pub along : List Pair
     pub path : PathTo edges starts m along
-
-  -- a start is reached
-  pub IsReachable-start : (s : Pair) → In s starts → IsReachable s
-  IsReachable-start s i = record {
-    along = s ∷ [];
-    path = record { start = s; among = i; head = refl; once = (λ j. j, tt); linked = tt; ends = refl };
-  }
-
-  -- what a reached pair leads to is reached: where the pair stands in the path already, by the path up to there
-  pub IsReachable-step : (v w : Pair) → IsReachable v → In w (edges v) → IsReachable w
-  IsReachable-step v w h i =
-      elim (In-cases w h.along) [
-        | inl j ↦ of (Leads-up_to edges h.path.start w h.along h.path.head h.path.once h.path.linked j)
-        | inr n ↦ of (Leads-behind edges h.path.start v w h.along h.path.head h.path.once h.path.linked h.path.ends i n)
-      ]
-    where
-      of : {p : List Pair} → Leads edges h.path.start w p → IsReachable w
-      of l = record {
-        along = l.along;
-        path = record {
-          start = h.path.start;
-          among = h.path.among;
-          head = l.head;
-          once = l.once;
-          linked = l.linked;
-          ends = l.ends;
-        };
-      }
 
 module _ (edges : Pair → List Pair) (starts : List Pair) where
   -- a path to the same pair, under another name

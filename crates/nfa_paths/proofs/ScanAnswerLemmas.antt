@@ -152,14 +152,6 @@ module _ (nfa : Automaton) (x : Search) where
 
 -- the starts that wait
 
--- a pair that waits to be explored is one of the list
-pub Explore-among : (k : Pair) (es : List Pair) → In (Explore k) (map Explore es) → In k es
-Explore-among k [] i = absurd i
-Explore-among k (e ∷ es) i = elim i [
-  | inl here ↦ inl (let h : k ≡ e = cc in h)
-  | inr later ↦ inr (Explore-among k es later)
-]
-
 -- so it is where the slots are loaded behind each
 pub Explore-among_seeds : (k : Pair) (slots : Slots) (es : List Pair) → In (Explore k) (seeds slots es) → In k es
 unfolding seeds

@@ -3,16 +3,16 @@ use Rattle.std.proofs.Common.{◌≡◌, ℕ, ◌+◌, ◌≤◌, ◌<◌, ◌�
 use Rattle.std.specs.Prelude.{Option, None, Some}
 use Rattle.std.specs.Option.{option_map_or}
 use Rattle.std.proofs.lemmas.Bool.{cases_lt, cases_Bool}
-use Rattle.nfa_paths.specs.Graphs.{Pair, Space, In, HeadIs, Linked, EndsWith, PathTo, NoPath, IsFirstTo, IsEnd, IsLeastEnd, IsGreatestEnd, WantedAt, IsLastOfFirsts, IsFirstPath, IsEarliestPath, IsLastPath, IsEarliestLastPath}
+use Rattle.nfa_paths.specs.Graphs.{Pair, Space, In, HeadIs, Linked, EndsWith, PathTo, NoPath, IsEnd, IsLeastEnd, IsGreatestEnd, WantedAt, IsLastOfFirsts, IsFirstPath, IsEarliestPath, IsLastPath, IsEarliestLastPath}
 use Rattle.nfa_paths.specs.Exploring.{Slots, Hit, ExploresTo}
 use Rattle.nfa_paths.specs.Exploring.Item.{Explore}
-use Rattle.nfa_paths.specs.Kinds.{Passes, found_along, WantedBefore, IsLastAt, IsFoundBy, NoneBefore, LastBefore, EndsBefore, first_match, last_match, NoMatch, Scanned, IsFront, IsOver}
+use Rattle.nfa_paths.specs.Kinds.{Passes, found_along, WantedBefore, IsFoundBy, NoneBefore, LastBefore, EndsBefore, last_match, NoMatch, Scanned, IsFront, IsOver}
 use Rattle.nfa_paths.proofs.PathLemmas.{IsLeast-from_first}
 use Rattle.nfa_paths.proofs.PathToLemmas.{PathTo-along, IsLeast-none, IsLeast-first}
 use Rattle.nfa_paths.proofs.SearchLemmas.{Answer-starts, found-Some}
 use Rattle.nfa_paths.proofs.TestLemmas.{is_plain, test, test-true, true-test}
-use Rattle.nfa_paths.proofs.FrontMatchLemmas.{first_match-is, last_match-is}
-use Rattle.nfa_paths.proofs.KindsLemmas.{IsFront-no_match, IsFront-first_match, IsFront-last_match}
+use Rattle.nfa_paths.proofs.FrontMatchLemmas.{last_match-is}
+use Rattle.nfa_paths.proofs.KindsLemmas.{IsFront-no_match, IsFront-last_match}
 
 -- what is found in few turns is found in more
 pub IsFoundBy-more : {capture : Pair → Option ℕ} {slots : Slots} {Meant : Option (List Pair) → Type 0}
@@ -34,16 +34,6 @@ module _ (edges : Pair → List Pair) (starts : List Pair) (P Q : Pair → Type 
   -- no path to the one set, so none to the other
   NoPath-agree : NoPath edges starts P → NoPath edges starts Q
   NoPath-agree none m p w q = none m p w (back m p w q)
-
-  -- the first path to both sets
-  IsFirstTo-agree : {p : List Pair} → IsFirstTo edges starts P p → IsFirstTo edges starts Q p
-  IsFirstTo-agree {p} h = record {
-    end = h.end;
-    path = h.path;
-    wanted = to h.end p h.path h.wanted;
-    first =
-        λ m q w t. h.first m q w (back m q w t);
-  }
 
   -- an end of both sets
   IsEnd-agree : {e : ℕ} → IsEnd edges starts P e → IsEnd edges starts Q e
@@ -95,44 +85,6 @@ module _ (edges : Pair → List Pair) (starts : List Pair) (is_match : Pair → 
       omega arith
 
 module _ (space : Space) (resting is_match : Pair → Bool) (slots : Slots) (shape : Scanned space resting is_match) where
-  -- the first match pair of a front is what the first path that ends there finds
-  pub first_match-found : {turns e : ℕ} {front : List (Pair × Slots)}
-      → IsFront space resting is_match slots turns front e
-      → IsFoundBy space.capture slots (IsFirstPath space.edges space.starts (WantedAt (Passes is_match) e)) turns
-      (first_match is_match front)
-  first_match-found {turns} {e} {front} f =
-      elim (first_match-is is_match front) [
-        | inl lacks ↦ record {
-          path = None;
-          meant =
-              IsFront-no_match space resting is_match slots turns shape f lacks.1;
-          leads = sym lacks.0;
-          short = omega arith;
-        }
-        | inr has ↦
-            let h = IsFront-first_match space resting is_match slots turns shape f has.0 has.2 in
-            record { path = Some h.0; meant = h.1; leads = h.3 ∙ sym has.1; short = h.4 }
-      ]
-
-  -- the last match pair of a front is what the last of the first paths that end there finds
-  pub last_match-found : {turns e : ℕ} {front : List (Pair × Slots)}
-      → IsFront space resting is_match slots turns front e
-      → IsFoundBy space.capture slots (IsLastAt space.edges space.starts (Passes is_match) e) turns
-      (last_match is_match None front)
-  last_match-found {turns} {e} {front} f =
-      elim (last_match-is is_match None front) [
-        | inl lacks ↦ record {
-          path = None;
-          meant =
-              IsFront-no_match space resting is_match slots turns shape f lacks.1;
-          leads = sym lacks.0;
-          short = omega arith;
-        }
-        | inr has ↦
-            let h = IsFront-last_match space resting is_match slots turns shape f has.0 has.2 in
-            record { path = Some h.0; meant = h.1; leads = h.3 ∙ sym has.1; short = h.4 }
-      ]
-
   -- positions do not fall along a path
   path_onward : (s m : Pair) (p : List Pair) → HeadIs s p → Linked space.edges p → EndsWith m p → s.1 ≤ m.1
   path_onward s m [] h l d = absurd h

@@ -1,118 +1,25 @@
 -- The steps of a scan, as a loop takes them: each is the step of the search for every set of match pairs at once.
-use Rattle.std.proofs.Common.{◌≡◌, ℕ, suc, ◌+◌, ◌≤◌, ◌<◌, ◌⊎◌, ◌↔◌, inl, inr, Bool, true, false, List, [], ◌∷◌, ◌++◌, map, length, get_or, set, refl, sym, ap, ◌∙◌, subst, arith}
-use Rattle.std.specs.Prelude.{Option, None, Some, cond}
+use Rattle.std.proofs.Common.{◌≡◌, ℕ, suc, ◌+◌, ◌≤◌, ◌<◌, ◌⊎◌, inl, inr, Bool, true, false, List, [], ◌∷◌, ◌++◌, map, length, refl, ap, subst, arith}
+use Rattle.std.specs.Prelude.{None, Some, cond}
 use Rattle.std.specs.Option.{option_or}
 use Rattle.std.proofs.lemmas.Bool.{cases_Bool}
 use Rattle.nfa_paths.specs.Graphs.{Pair, Space, In, NoRepeats}
-use Rattle.nfa_paths.specs.Exploring.{Slots, Hit, Item, round, seeds, found, Searching, ExploresTo, ExploresBehind}
-use Rattle.nfa_paths.specs.Exploring.Item.{Explore, Restore, Load}
-use Rattle.nfa_paths.specs.Kinds.{MatchesFrom, NoMatch, first_match, before_match, behind_match, IsFront, IsOver, Scanning}
+use Rattle.nfa_paths.specs.Exploring.{Slots, Hit, Item, round, found, Searching, ExploresTo, ExploresBehind}
+use Rattle.nfa_paths.specs.Exploring.Item.{Explore, Load}
+use Rattle.nfa_paths.specs.Kinds.{NoMatch, first_match, before_match, behind_match, IsFront, IsOver, Scanning}
 use Rattle.nfa_paths.proofs.PathLemmas.{IsFirst-target}
 use Rattle.nfa_paths.proofs.PathToLemmas.{is_false}
 use Rattle.nfa_paths.proofs.SearchLemmas.{AnswerBehind-along}
-use Rattle.nfa_paths.proofs.SearchingLemmas.{Searching-start, Searching-seeds, Searching-restore, Searching-load, Searching-marked, Searching-plain, Searching-write, Searching-unkept, Searching-end, Searching-keep, Searching-round, Searching-done}
+use Rattle.nfa_paths.proofs.SearchingLemmas.{Searching-load, Searching-round, Searching-done}
 use Rattle.nfa_paths.proofs.MemberLemmas.{In-middle}
 
--- a test that implies a failing one fails
-not_true : (b c : Bool) → (b ≡ true → c ≡ true) → c ≡ false → b ≡ false
-not_true true c h f = sym (h refl) ∙ f
-not_true false c h f = refl
-
 module _ (space : Space) (is_match : Pair → Bool) (slots : Slots) where
-  -- nothing is seen yet
-  pub Scanning-start : (e : ℕ) (Seen : Pair → Type 0) → ((x : Pair) → Seen x → ⊥)
-      → Scanning space is_match slots e Seen 0 [] (map Explore space.starts) slots
-  Scanning-start e Seen fresh = record {
-    searching =
-        λ target at. Searching-start space target Seen None (map Explore space.starts) slots fresh;
-  }
-
-  -- nothing is seen yet, and each start has its slots loaded
-  pub Scanning-seeds : (e : ℕ) (Seen : Pair → Type 0) (current : Slots) → ((x : Pair) → Seen x → ⊥)
-      → Scanning space is_match slots e Seen 0 [] (Load slots ∷ seeds slots space.starts) current
-  Scanning-seeds e Seen current fresh = record
-      { searching = λ target at. Searching-seeds space target Seen None space.starts slots current fresh }
-
   module _ {e : ℕ} {Seen : Pair → Type 0} {spent : ℕ} {front : List (Pair × Slots)} {rest : List Item}
       {current : Slots} where
-    -- a slot is restored
-    pub Scanning-restore : {k : ℕ} {old : Option ℕ}
-        → Scanning space is_match slots e Seen spent front (Restore k old ∷ rest) current
-        → Scanning space is_match slots e Seen spent front rest (set current k old)
-    Scanning-restore s = record {
-      searching =
-          λ target at. Searching-restore space target (s.searching target at);
-    }
-
     -- slots are loaded
     pub Scanning-load : {old : Slots} → Scanning space is_match slots e Seen spent front (Load old ∷ rest) current
         → Scanning space is_match slots e Seen spent front rest old
     Scanning-load s = record { searching = λ target at. Searching-load space target (s.searching target at) }
-
-    module _ {v : Pair} (s : Scanning space is_match slots e Seen spent front (Explore v ∷ rest) current)
-      where
-        -- a turn that finds its pair marked
-        pub Scanning-marked : Seen v → Scanning space is_match slots e Seen (spent + 1) front rest current
-        Scanning-marked seen = record {
-          searching =
-              λ target at. Searching-marked space target (s.searching target at) seen;
-        }
-
-        module _ {After : Pair → Type 0} (fresh : ¬ (Seen v)) (adds : (x : Pair) → After x ↔ ((x ≡ v) ⊎ Seen x)) where
-          -- a pair that is no match pair is in no set of them
-          plain_target : is_match v ≡ false → (target : Pair → Bool) → MatchesFrom is_match e target → target v ≡ false
-          plain_target plain target at = not_true (target v) (is_match v) (λ t. (at v t).0) plain
-
-          -- a pair that writes nothing gives way to its edges
-          pub Scanning-plain : is_match v ≡ false → (es : List Pair) → space.edges v ≡ es → space.capture v ≡ None
-              → Scanning space is_match slots e After (spent + 1) front (map Explore es ++ rest) current
-          Scanning-plain plain es leads c =
-              record {
-                searching = λ target at. Searching-plain space target (s.searching target at) fresh adds
-                    (plain_target plain target at) es leads c;
-              }
-
-          -- a pair that writes to a slot, which is restored below its edges
-          pub Scanning-write : is_match v ≡ false → (es : List Pair) → space.edges v ≡ es → (k : ℕ)
-              → space.capture v ≡ Some k
-              → Scanning space is_match slots e After (spent + 1) front
-              (map Explore es ++ Restore k (get_or current k None) ∷ rest) (set current k (Some v.1))
-          Scanning-write plain es leads k c =
-              record {
-                searching = λ target at. Searching-write space target (s.searching target at) fresh adds
-                    (plain_target plain target at) es leads k c;
-              }
-
-          -- a pair that writes to a slot that is not kept
-          pub Scanning-unkept : is_match v ≡ false → (es : List Pair) → space.edges v ≡ es → (k : ℕ)
-              → space.capture v ≡ Some k → length current ≤ k
-              → Scanning space is_match slots e After (spent + 1) front (map Explore es ++ rest) current
-          Scanning-unkept plain es leads k c past =
-              record {
-                searching = λ target at. Searching-unkept space target (s.searching target at) fresh adds
-                    (plain_target plain target at) es leads k c past;
-              }
-
-          -- a pair with no edge is dropped
-          pub Scanning-end : is_match v ≡ false → space.edges v ≡ []
-              → Scanning space is_match slots e After (spent + 1) front rest current
-          Scanning-end plain leads =
-              record {
-                searching = λ target at. Searching-end space target (s.searching target at) fresh adds
-                    (plain_target plain target at) leads;
-              }
-
-          -- a pair at e whose edges all rise is put aside, a match pair too
-          pub Scanning-keep : ((x y : Pair) → In y (space.edges x) → x.1 ≤ y.1)
-              → ((w : Pair) → In w (space.edges v) → e < w.1) → ((x : Pair) → Seen x → x.1 ≤ e)
-              → Scanning space is_match slots e After (spent + 1) (front ++ (v, current) ∷ []) rest
-              current
-          Scanning-keep onward leaves past = record {
-            searching = λ target at.
-                Searching-keep space target (s.searching target at) fresh adds (λ x. e < x.1)
-                (λ x y a i. let k : x.1 ≤ y.1 = onward x y i in let l : e < x.1 = a in omega arith) leaves
-                (λ x h a. let k : x.1 ≤ e = past x h in let l : e < x.1 = a in omega arith);
-          }
 
   -- the next position
   pub Scanning-round : {e : ℕ} {Seen After : Pair → Type 0} {spent : ℕ} {front : List (Pair × Slots)}

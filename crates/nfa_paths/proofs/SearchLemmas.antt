@@ -9,7 +9,7 @@ use Rattle.nfa_paths.specs.FirstPaths.{Path, IsFirst, FirstAmong, IsFirstOfAll}
 use Rattle.nfa_paths.specs.FirstPaths.Path.{stop, go}
 use Rattle.nfa_paths.specs.Exploring.{Slots, Hit, Item, write, apply, found, ExploresTo, ExploresBehind, round, seeds}
 use Rattle.nfa_paths.specs.Exploring.Item.{Explore, Restore, Load}
-use Rattle.nfa_paths.proofs.PathLemmas.{IsFirst-marked, IsFirst-dead, IsFirst-target, IsFirstOfAll-from_among, IsFirst-step, IsFirst-mark, IsFirst-ahead, IsFirst-resting, IsFirst-unique}
+use Rattle.nfa_paths.proofs.PathLemmas.{IsFirst-marked, IsFirst-dead, IsFirst-target, IsFirstOfAll-from_among, IsFirst-step, IsFirst-mark, IsFirst-ahead, IsFirst-resting}
 
 -- a list with an item has a last one
 last_or-Some : {A B : Type 0} (f : A → B) (x : A) (xs : List A) → None ≡ option_map f (last_or (Some x) xs) → ⊥
@@ -87,15 +87,6 @@ module _ (space : Space) (target : Pair → Bool) where
       Answer-along left (suc left) (omega arith) otherwise (v ∷ marks) marks work slots g
       (λ k i r. (IsFirst-mark space.edges target marks v none k r).0)
 
-  -- only which pairs are marked matters
-  pub Answer-same : (left : ℕ) (otherwise : Hit) (m n : List Pair) → ((x : Pair) → In x m ↔ In x n)
-      → (work : List Item) (slots : Slots) (g : Hit) → ExploresTo space target left otherwise m work slots g
-      → ExploresTo space target left otherwise n work slots g
-  Answer-same left otherwise m n agree work slots g =
-      Answer-along left left (omega arith) otherwise m n work slots g
-      (λ k i. IsFirst-ahead space.edges target (λ x. Unit {0}) (λ x y a e. tt) m n (λ x a. (agree x).0)
-      (λ x a. (agree x).1) k tt)
-
   -- the first pair of a path writes first
   found-cons : (v : Pair) {w : Pair} {p : List Pair} (slots : Slots) → Path space.edges target w p
       → found space.capture (v ∷ p) slots ≡ found space.capture p (write (space.capture v) v.1 slots)
@@ -112,12 +103,6 @@ module _ (space : Space) (target : Pair → Bool) where
       IsFirst-marked space.edges target marks v m,
       Answer-more left (suc left) (omega arith) otherwise marks rest slots g h,
     )
-
-    -- a pair from which nothing can be reached is dropped, with no turn
-    pub Answer-dead : target v ≡ false → space.edges v ≡ [] → ExploresTo space target left otherwise marks rest slots g
-        → ExploresTo space target left otherwise marks (Explore v ∷ rest) slots g
-    unfolding ExploresTo
-    Answer-dead plain leads h = inr (IsFirst-dead space.edges target marks v plain leads, h)
 
     -- a target ends the search
     pub Answer-target : ¬ (In v marks) → target v ≡ true → g ≡ Some (v, write (space.capture v) v.1 slots)
@@ -182,39 +167,12 @@ module _ (space : Space) (target : Pair → Bool) where
         let none = IsFirst-dead space.edges target marks v plain leads in
         inr (none, Answer-mark left otherwise marks v none rest slots g h)
 
-  -- there is one answer, however many turns are left
-  pub Answer-unique : (left more : ℕ) (otherwise : Hit) (marks : List Pair) (work : List Item)
-      (slots : Slots) (g h : Hit) → ExploresTo space target left otherwise marks work slots g
-      → ExploresTo space target more otherwise marks work slots h → g ≡ h
-  unfolding ExploresTo
-  Answer-unique left more otherwise marks [] slots g h a b = a ∙ sym b
-  Answer-unique left more otherwise marks (Restore k old ∷ rest) slots g h a b =
-      Answer-unique left more otherwise marks rest (set slots k old) g h a b
-  Answer-unique left more otherwise marks (Load old ∷ rest) slots g h a b =
-      Answer-unique left more otherwise marks rest old g h a b
-  Answer-unique left more otherwise marks (Explore v ∷ rest) slots g h (inl a) (inl b) =
-      let e : a.0 ≡ b.0 = let s = IsFirst-unique space.edges target marks v (Some a.0) (Some b.0) a.1 b.1 in cc in
-      a.2 ∙ rw e (sym b.2)
-  Answer-unique left more otherwise marks (Explore v ∷ rest) slots g h (inl a) (inr b) = absurd (b.0 a.0 a.1.0)
-  Answer-unique left more otherwise marks (Explore v ∷ rest) slots g h (inr a) (inl b) = absurd (a.0 b.0 b.1.0)
-  Answer-unique left more otherwise marks (Explore v ∷ rest) slots g h (inr a) (inr b) =
-      Answer-unique left more otherwise marks rest slots g h a.1 b.1
-
   -- a path finds something
   pub found-Some : {v : Pair} {p : List Pair} (slots : Slots) → Path space.edges target v p
       → None ≡ found space.capture p slots → ⊥
   found-Some slots (stop t) e = cc
   found-Some slots (go {v = v} {p = p} t i n h) e =
       last_or-Some (λ (x : Pair). (x, apply space.capture (v ∷ p) slots)) v p e
-
-  -- what the answer says where one pair is all the work
-  pub Answer-first : (left : ℕ) (marks : List Pair) (v : Pair) (slots : Slots) (g : Hit)
-      → ExploresTo space target left None marks (Explore v ∷ []) slots g
-      → ((p : List Pair) × IsFirst space.edges target marks v (Some p) × (g ≡ found space.capture p slots)
-      × (length p ≤ left))
-      ⊎ (IsFirst space.edges target marks v None × (g ≡ None))
-  unfolding ExploresTo
-  Answer-first left marks v slots g h = h
 
   -- several starts, one after another, with the marks kept
   pub Answer-starts : (left : ℕ) (starts : List Pair) (slots : Slots) (g : Hit)
@@ -251,17 +209,6 @@ module _ (space : Space) (target : Pair → Bool) where
       let short : length h.0 ≤ suc more = omega (arith, h.3) in inl (h.0, h.1, h.2, short)
   AnswerBehind-along (a ∷ front) left more le o u m n work later slots after g f (inr h) =
       inr (h.0, AnswerBehind-along front left more le o u m n work later slots after g f h.1)
-
-  -- a target: what is below it is dropped, and what was put aside comes first
-  pub AnswerBehind-target : (left : ℕ) (front : List (Pair × Slots)) (otherwise : Hit) (marks : List Pair) (v : Pair)
-      (rest : List Item) (slots : Slots) (g : Hit)
-      → ¬ (In v marks) → target v ≡ true
-      → ExploresBehind space target left front (Some (v, write (space.capture v) v.1 slots)) marks [] slots g
-      → ExploresBehind space target (suc left) front otherwise marks (Explore v ∷ rest) slots g
-  unfolding ExploresTo
-  AnswerBehind-target left front otherwise marks v rest slots g free t =
-      AnswerBehind-along front left (suc left) (omega arith) _ otherwise marks marks [] (Explore v ∷ rest) slots slots g
-      (Answer-target left otherwise marks v rest slots g free t)
 
   module _ (ahead : Pair → Type 0) (closed : (x y : Pair) → ahead x → In y (space.edges x) → ahead y) where
     -- a resting pair is put aside: its edges lead to pairs ahead of all that is marked

@@ -1,10 +1,10 @@
 -- The steps of the search, forwards, as a loop takes them.
-use Rattle.std.proofs.Common.{◌≡◌, ℕ, suc, ◌+◌, ◌≤◌, arith, ◌⊎◌, ◌↔◌, inl, inr, Bool, true, false, List, [], ◌∷◌, ◌++◌, map, length, get_or, set, refl}
+use Rattle.std.proofs.Common.{◌≡◌, ℕ, suc, ◌+◌, ◌≤◌, arith, ◌⊎◌, ◌↔◌, inl, inr, Bool, false, List, [], ◌∷◌, ◌++◌, map, length, get_or, set, refl}
 use Rattle.std.specs.Prelude.{Option, None, Some}
 use Rattle.nfa_paths.specs.Graphs.{Pair, Space, In}
-use Rattle.nfa_paths.specs.Exploring.{Slots, Hit, Item, write, ExploresTo, ExploresBehind, round, seeds, Searching}
+use Rattle.nfa_paths.specs.Exploring.{Slots, Hit, Item, ExploresTo, ExploresBehind, round, seeds, Searching}
 use Rattle.nfa_paths.specs.Exploring.Item.{Explore, Restore, Load}
-use Rattle.nfa_paths.proofs.SearchLemmas.{Answer-more, Answer-seeds, Answer-restore, Answer-load, Answer-marked, Answer-target, Answer-plain, Answer-write, Answer-unkept, Answer-end, AnswerBehind-along, AnswerBehind-keep, AnswerBehind-round}
+use Rattle.nfa_paths.proofs.SearchLemmas.{Answer-more, Answer-seeds, Answer-restore, Answer-load, Answer-marked, Answer-plain, Answer-write, Answer-unkept, Answer-end, AnswerBehind-along, AnswerBehind-keep, AnswerBehind-round}
 
 module _ (space : Space) (target : Pair → Bool) where
   -- nothing is seen yet
@@ -84,14 +84,6 @@ module _ (space : Space) (target : Pair → Bool) where
           (Answer-marked space target left otherwise s.marks v rest slots g ((s.agrees v).1 seen)) h);
     }
 
-    -- with nothing put aside
-    pub Searching-found : ¬ (Seen v) → target v ≡ true → front ≡ []
-        → goal (Some (v, write (space.capture v) v.1 slots)) (spent + 1)
-    unfolding ExploresBehind
-    Searching-found fresh t e =
-        s.leads _ 1 (spent + 1) refl
-        (rw e (Answer-target space target 0 otherwise s.marks v rest slots _ (λ i. fresh ((s.agrees v).0 i)) t refl))
-
     module _ {After : Pair → Type 0} (fresh : ¬ (Seen v)) (adds : (x : Pair) → After x ↔ ((x ≡ v) ⊎ Seen x)) where
       -- the pair is unmarked
       free : ¬ (In v s.marks)
@@ -150,21 +142,6 @@ module _ (space : Space) (target : Pair → Bool) where
       Searching-end plain leads =
           Searching-next rest slots (λ left g. Answer-end space target left otherwise s.marks v rest slots g
           free plain leads)
-
-      -- a target, where pairs were put aside
-      pub Searching-target : target v ≡ true
-          → Searching space target goal After (spent + 1) front (Some (v, write (space.capture v) v.1 slots)) [] slots
-      unfolding ExploresTo
-      Searching-target t = record {
-        marks = v ∷ s.marks;
-        agrees = grows;
-        leads = λ g left total e h.
-            s.leads g (suc left) total (omega arith)
-            (AnswerBehind-along space target front left (suc left) (omega arith)
-            (Some (v, write (space.capture v) v.1 slots)) otherwise (v ∷ s.marks) s.marks []
-            (Explore v ∷ rest) slots slots g
-            (Answer-target space target left otherwise s.marks v rest slots g free t) h);
-      }
 
       -- a pair whose edges lead ahead of all that is seen is put aside
       pub Searching-keep : (ahead : Pair → Type 0) → ((x y : Pair) → ahead x → In y (space.edges x) → ahead y)

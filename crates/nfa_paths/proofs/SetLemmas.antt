@@ -70,12 +70,6 @@ size-none (false ∷ bs) e zero h = cc
 size-none (false ∷ bs) e (suc k) h = let rest : size_of_set bs ≡ 0 = omega (arith, size-cons false bs) in
     size-none bs rest k h
 
-pub none-size : (set : List Bool) → ((k : ℕ) → HoldsPattern set k → ⊥) → size_of_set set ≡ 0
-none-size [] h = refl
-none-size (true ∷ bs) h = absurd (h 0 refl)
-none-size (false ∷ bs) h = let rest : size_of_set bs ≡ 0 = none-size bs (λ k. h (suc k)) in
-    omega (arith, size-cons false bs)
-
 -- what a set holds is below its capacity
 pub holds-below : (set : List Bool) (k : ℕ) → HoldsPattern set k → k < length set
 holds-below [] k h = cc

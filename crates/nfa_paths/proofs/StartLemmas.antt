@@ -1,9 +1,9 @@
 -- Where the paths of an NFA start, and where its pairs lead.
-use Rattle.std.proofs.Common.{◌≡◌, ℕ, zero, suc, ◌+◌, ◌-◌, ◌≤◌, ◌<◌, ◌⊎◌, inl, inr, true, false, [], ◌∷◌, refl, ap, arith}
-use Rattle.std.specs.Prelude.{Option, None, Some, ◌==◌, ◌||◌, is_some}
+use Rattle.std.proofs.Common.{◌≡◌, ℕ, zero, suc, ◌+◌, ◌-◌, ◌≤◌, ◌<◌, inl, inr, true, [], ◌∷◌, refl, ap, arith}
+use Rattle.std.specs.Prelude.{Option, None, Some, is_some}
 use Rattle.std.specs.Option.{option_map_or}
-use Rattle.std.proofs.lemmas.Bool.{eq-eqb, ne_eqb, lt-ltb, le-ltb, or_left, or_right, or_from}
-use Rattle.regex_search_core.specs.Search.{Search, is_anchored}
+use Rattle.std.proofs.lemmas.Bool.{lt-ltb}
+use Rattle.regex_search_core.specs.Search.{Search}
 use Rattle.thompson_nfa.specs.Automaton.{Automaton, Node}
 use Rattle.thompson_nfa.specs.Automaton.Node.{ByteRange, Sparse, Dense, Look, Union, BinaryUnion, Capture, Fail, Match}
 use Rattle.nfa_paths.specs.Graphs.{Pair, In}
@@ -47,10 +47,6 @@ module _ (nfa : Automaton) (x : Search) where
       of None = tt
       of (Some state) = pairs_from-increase state x.start (start_count nfa x)
 
-  -- an unknown pattern starts nowhere
-  pub starts-unknown : start_state nfa x.anchored ≡ None → starts nfa x ≡ []
-  starts-unknown e = rw e refl
-
   -- a span that is over holds no start
   pub starts-none : x.end < x.start → starts nfa x ≡ []
   starts-none past = of (start_state nfa x.anchored)
@@ -58,34 +54,6 @@ module _ (nfa : Automaton) (x : Search) where
       of : (o : Option ℕ) → option_map_or (λ state. pairs_from state x.start (start_count nfa x)) o [] ≡ []
       of None = refl
       of (Some state) = rw (lt-ltb x.end x.start past) refl
-
-  -- a bound search, or a bound NFA, starts at the first position alone
-  pub starts-bound : {state : ℕ} → start_state nfa x.anchored ≡ Some state → x.start ≤ x.end
-      → (is_anchored x.anchored ≡ true) ⊎ (nfa.anchored ≡ nfa.unanchored)
-      → starts nfa x ≡ pairs_from state x.start (x.start + 1 - x.start)
-  starts-bound {state} e within bound =
-      let one : x.start + 1 - x.start ≡ 1 = omega arith in
-      rw (e, le-ltb x.end x.start within, either bound, one) refl
-    where
-      either : (is_anchored x.anchored ≡ true) ⊎ (nfa.anchored ≡ nfa.unanchored)
-          → (is_anchored x.anchored || nfa.anchored == nfa.unanchored) ≡ true
-      either (inl a) = or_left (is_anchored x.anchored) (nfa.anchored == nfa.unanchored) a
-      either (inr f) = or_right (is_anchored x.anchored) (nfa.anchored == nfa.unanchored)
-          (eq-eqb nfa.anchored nfa.unanchored f)
-
-  -- a search that is free starts at each position of its span, its end included
-  pub starts-free : {state : ℕ} → start_state nfa x.anchored ≡ Some state → x.start ≤ x.end
-      → is_anchored x.anchored ≡ false → ¬ (nfa.anchored ≡ nfa.unanchored)
-      → starts nfa x ≡ pairs_from state x.start (x.end + 1 - x.start)
-  starts-free {state} e within free apart =
-      let all : x.end - x.start + 1 ≡ x.end + 1 - x.start = omega arith in
-      rw (
-        e,
-        le-ltb x.end x.start within,
-        or_from (is_anchored x.anchored) (nfa.anchored == nfa.unanchored) free
-            (ne_eqb nfa.anchored nfa.unanchored apart),
-        all,
-      ) refl
 
 -- the pairs
 
@@ -142,24 +110,3 @@ resting-capture nfa v = of (node_at nfa v.0)
 -- a start raised by none
 pub raised-zero : (x : Search) → raised x 0 ≡ x
 raised-zero x = let e : x.start + 0 ≡ x.start = omega arith in ap (λ (s : ℕ). record x { start = s }) e
-
--- a start raised once more
-pub raised-raised : (x : Search) (i : ℕ) → raised (raised x i) 1 ≡ raised x (i + 1)
-raised-raised x i = let e : x.start + i + 1 ≡ x.start + (i + 1) = omega arith in
-    ap (λ (s : ℕ). record x { start = s }) e
-
--- the edges are the same wherever the search starts
-pub edges-raised : (nfa : Automaton) (x : Search) (i : ℕ) (v : Pair) → edges nfa (raised x i) v ≡ edges nfa x v
-unfolding edges_of
-edges-raised nfa x i v = of (node_at nfa v.0)
-  where
-    of : (n : Node) → edges_of (raised x i) n v.1 ≡ edges_of x n v.1
-    of (ByteRange t) = refl
-    of (Sparse ts) = refl
-    of (Dense targets) = refl
-    of (Look look next) = refl
-    of (Union alternates) = refl
-    of (BinaryUnion a b) = refl
-    of (Capture next slot) = refl
-    of Fail = refl
-    of (Match pattern) = refl

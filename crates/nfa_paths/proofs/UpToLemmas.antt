@@ -1,5 +1,5 @@
 -- What a set of patterns becomes under LeftmostFirst, position by position.
-use Rattle.std.proofs.Common.{◌≡◌, ℕ, ◌+◌, ◌<◌, ◌⊎◌, ◌↔◌, inl, inr, Bool, true, false, List, [], map, length, refl, sym, ap, ◌∙◌, subst, arith, set}
+use Rattle.std.proofs.Common.{◌≡◌, ℕ, ◌+◌, ◌<◌, ◌⊎◌, ◌↔◌, inl, inr, Bool, true, false, List, [], map, length, refl, sym, ap, ◌∙◌, subst, arith}
 use Rattle.std.specs.Prelude.{Option, None, Some}
 use Rattle.std.proofs.lemmas.Bool.{cases_lt}
 use Rattle.regex_search_core.specs.PatternSets.{with_pattern, size_of_set}
@@ -58,16 +58,6 @@ module _ (nfa : Automaton) (x : Search) (old : List Bool) (wants : Pair → Bool
         still : (b : Bool) → HoldsPath nfa x b None old
         still false = empty
         still true = empty
-
-  -- a set that holds a pattern gains none
-  pub First-full : (earliest : Bool) (set : List Bool) → 0 < size_of_set set
-      → IsOverlapResult nfa x LeftmostFirst earliest set set
-  First-full earliest set some = record {
-    capacity = refl;
-    keeps = λ k h. h;
-    sound = λ k h. inl h;
-    gains = record { full = λ h. refl; empty = λ e. absurd (omega arith) };
-  }
 
   -- the first front with a wanted pair: its first has the pattern of the earliest path
   pub FirstAt-found : {e k : ℕ} {a : Pair × Slots} {new : List Bool} → NoneBefore (space nfa x) wants e

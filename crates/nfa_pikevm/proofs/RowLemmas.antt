@@ -61,12 +61,6 @@ eq-same n = elim (eqb_tells n n) [ inl e ↦ e.0 | inr e ↦ absurd (e.1 refl) ]
 eq-differs : (a b : ℕ) → a < b → (a == b) ≡ false
 eq-differs a b less = elim (eqb_tells a b) [ inl e ↦ absurd (let same = e.1 in omega arith) | inr e ↦ e.0 ]
 
--- a stamp that is not the newest
-pub marks_of-clear : (newest : ℕ) (stamps : List ℕ) (k : ℕ) (b : Bool) → k < length stamps
-    → (get_or stamps k newest == newest) ≡ false
-    → get_or (marks_of newest stamps) k b ≡ false
-marks_of-clear newest stamps k b h e = get_or-map (λ stamp. stamp == newest) stamps k newest b h ∙ e
-
 pub marks_of-set : (newest : ℕ) (stamps : List ℕ) (k : ℕ)
     → marks_of newest (set stamps k newest) ≡ set (marks_of newest stamps) k true
 marks_of-set newest stamps k = map-set (λ stamp. stamp == newest) stamps k newest

@@ -20,27 +20,6 @@ use Rattle.nfa_scanning.specs.declared.first_bytes.Reached.{Reached}
 
 -- tables
 
-pub Grows-none : (table : List Bool) → Grows table table
-Grows-none table = record { still = λ b a. a }
-
-pub Grows-then : {a b c : List Bool} → Grows a b → Grows b c → Grows a c
-Grows-then f g = record { still = λ k h. g.still k (f.still k h) }
-
--- one byte more
-pub Admits-set : (table : List Bool) (i : ℕ) → Admits (set table i true) i
-Admits-set [] i = refl
-Admits-set (t ∷ table) zero = refl
-Admits-set (t ∷ table) (suc i) = Admits-set table i
-
-pub Grows-set : (table : List Bool) (i : ℕ) → Grows table (set table i true)
-Grows-set table i = record {
-  still = λ b a.
-      elim (ℕ_discrete b i) [
-        | yes e ↦ rw e (Admits-set table i)
-        | no n ↦ rw (get_or-set_other table i b true true n) a
-      ];
-}
-
 -- what the first of some transitions that holds the byte is let through by
 pub admits-first : (table : List Bool) (ts : List Transition)
     → All (λ t. (b : ℕ) → holds_byte t b ≡ true → Admits table b) ts
@@ -55,9 +34,6 @@ admits-first table (t ∷ ts) all b u e =
     ]) refl e
 
 -- states
-
-pub Extends-none : (r : Reached) → Extends r r
-Extends-none r = record { more = omega arith; same = λ k h. refl }
 
 pub Extends-then : {a b c : Reached} → Extends a b → Extends b c → Extends a c
 Extends-then f g = record {

@@ -78,27 +78,3 @@ target-degree (BinaryUnion alt1 alt2) b t e = cc
 target-degree (Capture next slot) b t e = cc
 target-degree Fail b t e = cc
 target-degree (Match pattern) b t e = cc
-
--- a resting state has no more edges than its degree
-byte-edges : (node : Node) (at : ℕ) (byte : Option ℕ)
-    → length {A = Pair} (option_to_list (option_and_then (λ b. option_map (λ next. (next, at + 1)) (target_on node b))
-    byte)) ≤ degree node
-byte-edges node at None = omega arith
-byte-edges node at (Some b) =
-    (elim (target_on node b) as (λ o. target_on node b ≡ o
-    → length {A = Pair} (option_to_list (option_map (λ next. (next, at + 1)) o)) ≤ degree node) [
-      | None ↦ λ none. omega arith
-      | Some t ↦ λ some. let k : 1 ≤ degree node = target-degree node b t some in k
-    ]) refl
-
-pub edges-degree : (x : Search) (node : Node) (at : ℕ) → rests node ≡ true → length (edges_of x node at) ≤ degree node
-unfolding edges_of
-edges-degree x (ByteRange trans) at r = byte-edges (ByteRange trans) at (byte_at x at)
-edges-degree x (Sparse ts) at r = byte-edges (Sparse ts) at (byte_at x at)
-edges-degree x (Dense targets) at r = byte-edges (Dense targets) at (byte_at x at)
-edges-degree x (Look look next) at r = cc
-edges-degree x (Union alternates) at r = cc
-edges-degree x (BinaryUnion alt1 alt2) at r = cc
-edges-degree x (Capture next slot) at r = cc
-edges-degree x Fail at r = omega arith
-edges-degree x (Match pattern) at r = omega arith
