@@ -1,5 +1,5 @@
 -- What is put into a set of patterns at a position.
-use Rattle.std.proofs.Common.{◌≡◌, ℕ, ◌<◌, ◌⊎◌, ◌↔◌, inl, inr, Bool, true, false, List, [], ◌∷◌, ◌++◌, length, refl, sym, ap, ◌∙◌, arith}
+use Rattle.std.proofs.Common.{◌≡◌, ℕ, ◌<◌, ◌⊎◌, ◌↔◌, inl, inr, Bool, true, false, List, [], ◌∷◌, ◌++◌, length, refl, sym, ◌∙◌, arith}
 use Rattle.std.specs.Prelude.{Option, None, Some, not, ◌&&◌, ◌||◌, nat_lt}
 use Rattle.std.proofs.lemmas.Bool.{cases_Bool, cases_lt, lt-ltb, le-ltb}
 use Rattle.std.proofs.lemmas.Bool.Decides.{nat_tests}
@@ -10,7 +10,7 @@ use Rattle.thompson_nfa.specs.Automaton.{Automaton}
 use Rattle.nfa_paths.specs.Graphs.{Pair, In}
 use Rattle.nfa_paths.specs.Paths.{node_at, pattern_of, is_match, is_utf8_empty}
 use Rattle.nfa_paths.specs.Exploring.{Slots, Hit}
-use Rattle.nfa_paths.specs.Kinds.{HoldsMatch, NoMatch, first_match, before_match}
+use Rattle.nfa_paths.specs.Kinds.{HoldsMatch, NoMatch, first_match}
 use Rattle.nfa_paths.specs.Overlaps.{pattern_at, IsPermittedEnd, IsHeld}
 use Rattle.nfa_paths.proofs.SetLemmas.{holds-with, length-with}
 use Rattle.nfa_pikevm.specs.States.{Front}

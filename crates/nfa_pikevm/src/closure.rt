@@ -267,8 +267,8 @@ pub fn next_match(
     }
 }
 
-/// Follows all that the root leads to at the position, and gives each match that it comes to to the taker, up to the one
-/// that the position ends with. Answers whether it ended.
+/// Follows all that the root leads to at the position, as [`next_match`] does up to a match. Each match is given to the
+/// taker, up to the one that the position ends with. Answers whether it ended.
 #[inline(always)]
 pub fn follow<T: Taker>(
     here: &Here<'_, '_>,

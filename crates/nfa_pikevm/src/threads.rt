@@ -46,8 +46,8 @@ pub fn move_on(threads: &mut Threads)
     reached.next.clear();
 }
 
-/// Follows the states at the position, in order, each with its row, as [`follow`] does, up to the match that the position
-/// ends with, and keeps what the byte leads to.
+/// Follows the states at the position, in order, each with its row, as [`follow`] does, up to the match that the
+/// position ends with, and keeps what the byte leads to.
 #[inline(always)]
 fn cross_states<T: Taker>(
     here: &Here<'_, '_>,
@@ -69,7 +69,8 @@ fn cross_states<T: Taker>(
     ensures width { T.row_width taker.new ≡ T.row_width taker.old }
     ensures same_reference { T.reference taker.new ≡ T.reference taker.old }
     ensures arrive { ArriveAll here.now.nfa.now (search_of here.now.input.now) T.takes here.now.at reached.old.seen
-        (items_of (T.row_width taker.old) kept.now rows.old) taker.old reached.new.seen reached.new.next.items taker.new }
+        (items_of (T.row_width taker.old) kept.now rows.old) taker.old reached.new.seen reached.new.next.items
+        taker.new }
 {
     let width = taker.width();
     for i in 0..kept.len() {
@@ -81,8 +82,8 @@ fn cross_states<T: Taker>(
     }
 }
 
-/// Follows the states at the position, gives their matches to the taker, and keeps what the position's byte leads to for
-/// the next one.
+/// Follows the states at the position, gives their matches to the taker, and keeps what the position's byte leads to
+/// for the next one.
 #[inline(always)]
 pub fn cross_with<T: Taker>(
     nfa: &NFA,
