@@ -73,12 +73,13 @@ fn cross_states<T: Taker>(
         taker.new }
 {
     let width = taker.width();
-    for i in 0..kept.len() {
-        let start = i * width;
+    let mut start = 0;
+    for sid in kept {
         let row = &mut rows[start..start + width];
-        if follow(here, kept[i], frames, reached, row, taker) {
+        if follow(here, *sid, frames, reached, row, taker) {
             return;
         }
+        start += width;
     }
 }
 

@@ -6,14 +6,15 @@ use Rattle.nfa_pikevm.specs.States.{KeepsRoom}
 use Rattle.nfa_pikevm.proofs.CrossLemmas.{CrossesTo}
 use Rattle.nfa_pikevm.proofs.threads.cross_states.Given as goal
 
-abbrev pub invariant-loop-i : goal.invariant-loop-i
-invariant-loop-i g l = record {
+abbrev pub invariant-loop-sid : goal.invariant-loop-sid
+invariant-loop-sid g l = record {
+  start : l.start ≡ l.sid-index * l.width;
   keeps : KeepsRoom l.fn.reached l.reached;
   grows : l.fn.reached.seen.turns ≤ l.reached.seen.turns;
-  behind : drop (l.i * l.width) l.rows ≡ drop (l.i * l.width) l.fn.rows;
+  behind : drop (l.sid-index * l.width) l.rows ≡ drop (l.sid-index * l.width) l.fn.rows;
   width : g.T.Taker.row_width l.taker ≡ g.T.Taker.row_width l.fn.taker;
   same_reference : g.T.Taker.reference l.taker ≡ g.T.Taker.reference l.fn.taker;
   crosses : CrossesTo l.here.nfa.now (search_of l.here.input.now) g.T.Taker.takes l.here.at l.fn.reached.seen
       (items_of l.width l.kept l.fn.rows) l.fn.taker
-      (drop l.i (items_of l.width l.kept l.fn.rows)) l.reached.seen l.reached.next.items l.taker;
+      (drop l.sid-index (items_of l.width l.kept l.fn.rows)) l.reached.seen l.reached.next.items l.taker;
 }
