@@ -1,5 +1,5 @@
 -- Tokens of a text, by anchored searches of a PikeVM.
-use Rattle.std.specs.Prelude.{ℕ, ◌≡◌, ◌<◌, ◌≤◌, false, List, [], ◌∷◌, length, reverse, Option, Some, None, option_map, IfSome, slice_range}
+use Rattle.std.specs.Prelude.{ℕ, ◌≡◌, ◌<◌, false, List, [], ◌∷◌, length, reverse, Option, Some, None, option_map, slice_range}
 use Rattle.regex_search_core.specs.Found.{Found, found_of}
 use Rattle.regex_search_core.specs.Patterns.{number_of}
 use Rattle.regex_search_core.specs.Search.{Search}

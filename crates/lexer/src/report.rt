@@ -1,5 +1,4 @@
 //! A line for each token.
-ghost use Rattle.std.specs.Prelude.{◌≤◌, length};
 
 use crate::lexer::{Token, tokens};
 use crate::patterns::{NAMES, SPACE, language};

@@ -1,11 +1,4 @@
 -- The lemmas of the backtracker.
-pub mod BitLemmas
-pub mod PassLemmas
-pub mod WalkLemmas
-pub mod StepLemmas
-pub mod BeginLemmas
-pub mod UnwindLemmas
-pub mod ScanLemmas
 pub mod EngineLemmas
 pub mod FindLemmas
 pub mod RunLemmas

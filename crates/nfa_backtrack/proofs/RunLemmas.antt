@@ -1,7 +1,7 @@
 -- The calls of an iterator over a backtracker's matches give the items of its search.
-use Rattle.std.proofs.Common.{◌≡◌, ◌∙◌, ℕ, ◌+◌, ◌≤◌, arith, Bool, true, false, Option, None, Some, Result, Ok, Err}
+use Rattle.std.proofs.Common.{◌≡◌, ◌∙◌, ◌+◌, ◌≤◌, arith, false, Option, None, Some, Result, Ok, Err}
 use Rattle.std.proofs.Common.{refl, sym, ap, subst}
-use Rattle.std.proofs.Common.{List, [], ◌∷◌, ◌++◌, map, MatchBool, ◌⊎◌, inl, inr}
+use Rattle.std.proofs.Common.{List, [], ◌∷◌, ◌++◌, map, MatchBool, inl, inr}
 use Rattle.std.specs.Prelude.{All, IfOk, IfErr}
 use Rattle.std.specs.Iterator.{Yields}
 use Rattle.std.proofs.lemmas.List.Elements.{All-nil, All-cons}
@@ -10,8 +10,8 @@ use Rattle.regex_search_core.specs.Search.{Search}
 use Rattle.regex_search_core.specs.declared.search.Match.{Match}
 use Rattle.regex_search_core.specs.declared.search.MatchKind.TheVariants.{LeftmostFirst}
 use Rattle.nfa_paths.specs.Paths.{span_len}
-use Rattle.nfa_search_base.specs.Items.{Item, item_by}
-use Rattle.nfa_search_base.specs.Lists.{IsStep, Fails, ItemsNext, ItemsLast, TellsMatch, ComeNext, ComeLast, AreMatches}
+use Rattle.nfa_search_base.specs.Items.{item_by}
+use Rattle.nfa_search_base.specs.Lists.{IsStep, Fails, ItemsNext, ItemsLast, TellsMatch, ComeNext, ComeLast}
 use Rattle.nfa_search_base.specs.Lists.{IsInside}
 use Rattle.nfa_search_base.specs.Lending.{With}
 use Rattle.nfa_search_base.specs.Lent.{lent_state, lent_walk}
@@ -32,7 +32,7 @@ use Rattle.nfa_backtrack.specs.Finding.{AnswersByLength, IsFindOf, IsRefusal}
 use Rattle.nfa_backtrack.specs.Runs.{RunsMatch, RunsInside, RunsApart, RunsRefused}
 use Rattle.nfa_backtrack.specs.Runs.{GivesFirstMatches, GivesAllMatches, GivesNextMatch, AreFirstItems, AreAllItems}
 use Rattle.nfa_backtrack.specs.declared.find_iter.Finder.{Finder}
-use Rattle.nfa_backtrack.specs.Runs.{AreRefused, GivesByLength, EndsByLength}
+use Rattle.nfa_backtrack.specs.Runs.{GivesByLength, EndsByLength}
 use Rattle.nfa_backtrack.specs.declared.find_iter.TryFindMatches.{TryFindMatches}
 use Rattle.nfa_backtrack.proofs.FindLemmas.{back-acts, find-lies, still-fits}
 

@@ -1,10 +1,7 @@
 pub mod Backtrack
-pub mod Begin
-pub mod Bits
 pub mod CapturesMatches
 pub mod Finding
 pub mod FindMatches
-pub mod Walk
 pub mod Runs
 pub use Rattle.nfa_paths.specs.Graphs
 pub use Rattle.nfa_paths.specs.Paths

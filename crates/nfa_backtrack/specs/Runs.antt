@@ -1,8 +1,8 @@
 -- What the calls of an iterator over a backtracker's matches have given, wherever they stop.
 use Rattle.std.specs.Prelude.{◌≡◌, true, false, List, [], ◌∷◌, ◌++◌, map, All, None, Some, Result, Ok, Err, IfOk, IfErr}
 use Rattle.std.specs.Iterator.{Yields}
-use Rattle.std.specs.Iterator.Runs.{Run, EachRunFrom}
-use Rattle.regex_search_core.specs.Found.{Found, found_of}
+use Rattle.std.specs.Iterator.Runs.{EachRunFrom}
+use Rattle.regex_search_core.specs.Found.{found_of}
 use Rattle.regex_search_core.specs.Search.{Search}
 use Rattle.regex_search_core.specs.declared.search.Match.{Match}
 use Rattle.regex_search_core.specs.declared.search.MatchKind.TheVariants.{LeftmostFirst}

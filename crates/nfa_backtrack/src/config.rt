@@ -1,7 +1,7 @@
 //! The options of a backtracker, and its builder.
 ghost use Rattle.std.specs.Prelude.{◌≡◌, None, Some, Ok, unwrap_or};
 ghost use Rattle.std.specs.Option.{option_or};
-ghost use Rattle.nfa_backtrack.specs.Backtrack.{Backtracker, default_capacity};
+ghost use Rattle.nfa_backtrack.specs.Backtrack.{default_capacity};
 
 use crate::engine::BoundedBacktracker;
 use std::marker::Model;

@@ -18,8 +18,8 @@ ghost use Rattle.nfa_search_base.specs.Lists.{IsInside, IsSlotInside};
 
 use crate::cache::Cache;
 use crate::config::{Builder, Config};
-use crate::scratch::Scratch;
-use crate::search::unset;
+use nfa_backtrack_scan::scan::unset;
+use nfa_backtrack_scan::scratch::Scratch;
 use nfa_scanning::first_bytes::FirstBytes;
 use nfa_search_base::error::SearchError;
 use regex_search_core::{Captures, HalfMatch, Input, Match, NonMaxUsize, PatternID, Refused};

@@ -22,11 +22,7 @@ mod captures_iter;
 mod config;
 mod engine;
 mod find_iter;
-mod frame;
-mod scratch;
 mod search;
-mod visited;
-mod walk;
 
 pub use cache::Cache;
 pub use captures_iter::TryCapturesMatches;

@@ -1,116 +1,20 @@
 //! A search: a scan and, while its answer ends inside a character, further scans.
-ghost use Rattle.std.specs.Prelude.{◌≡◌, ℕ, ◌+◌, ◌-◌, ◌*◌, ◌/◌, ◌^◌, ◌<◌, ◌≤◌, [], None, Some, false, length};
+ghost use Rattle.std.specs.Prelude.{◌≡◌, ◌+◌, ◌-◌, ◌*◌, ◌/◌, ◌^◌, ◌<◌, ◌≤◌, None, Some, false, length};
 ghost use Rattle.std.specs.Prelude.{replicate};
 ghost use Rattle.std.specs.Prelude.{IfOk, IfSome, OnErr};
 ghost use Rattle.regex_search_core.specs.Found.{half_found_of};
 ghost use Rattle.regex_search_core.specs.Search.{search_of};
 ghost use Rattle.regex_search_core.specs.declared.search.MatchKind.TheVariants.{LeftmostFirst};
-ghost use Rattle.nfa_paths.specs.Paths.{span_len, start_state, starts, pairs_from, scan_limit, IsWithinScans};
-ghost use Rattle.nfa_paths.specs.Restarts.{scan_turns, AreUnset, ScanGives, SearchGives};
-ghost use Rattle.nfa_scanning.specs.FirstBytes.{IsFirstBytes};
+ghost use Rattle.nfa_paths.specs.Paths.{span_len, starts, scan_limit, IsWithinScans};
+ghost use Rattle.nfa_paths.specs.Restarts.{scan_turns, ScanGives, SearchGives};
 ghost use Rattle.nfa_backtrack.specs.Backtrack.{GrowsBlocks};
-ghost use Rattle.nfa_backtrack.specs.Walk.{pair_of, HasBits, IsPlace, StartsGive};
+ghost use Rattle.nfa_backtrack_scan.specs.Walk.{HasBits};
 
 use crate::engine::BoundedBacktracker;
-use crate::frame::Place;
-use crate::scratch::Scratch;
-use crate::walk::walk;
-use nfa_scanning::first_bytes::FirstBytes;
-use nfa_scanning::starts::{may_end_at, next_start, skip_limit, start_limit, start_state};
-use regex_search_core::{HalfMatch, Input, NonMaxUsize, Refused, StateID};
-use thompson_nfa::NFA;
-
-/// Takes the offset of every slot away.
-pub fn unset(slots: &mut [Option<NonMaxUsize>])
-    ensures { slots.new ≡ replicate (length slots.old) None }
-{
-    slots.fill(None);
-}
-
-/// The place of a state and a position of the span.
-fn place_of(nfa: &NFA, input: &Input<'_>, sid: StateID, at: usize) -> Place
-    requires state { sid < length nfa.now.states }
-    requires from { (search_of input.now).start ≤ at }
-    requires to { at ≤ (search_of input.now).end }
-    requires fits { length nfa.now.states * (span_len (search_of input.now) + 1) < 2 ^ 64 }
-    ensures pair { pair_of result ≡ (sid, at) }
-    ensures place { IsPlace nfa.now (search_of input.now) result }
-{
-    let row = (at - input.start()) * nfa.states().len();
-    Place { sid, at, row }
-}
-
-/// Searches from each start in turn that is not passed over for its byte, with the marks kept.
-fn try_starts(
-    nfa: &NFA,
-    first: &FirstBytes,
-    input: &Input<'_>,
-    scratch: &mut Scratch,
-    slots: &mut [Option<NonMaxUsize>],
-) -> Result<Option<HalfMatch>, Refused>
-    requires first { IsFirstBytes nfa.now first.now.may_begin }
-    requires room { HasBits nfa.now (search_of input.now) scratch.old.visited.bits }
-    requires clear { scratch.old.visited.bits ≡ replicate (length scratch.old.visited.bits) false }
-    requires empty { scratch.old.stack.items ≡ [] }
-    requires unset { slots.old ≡ replicate (length slots.old) None }
-    ensures scans { scratch.new.scans ≡ scratch.old.scans }
-    ensures size { length scratch.new.visited.bits ≡ length scratch.old.visited.bits }
-    ensures turns { scratch.new.visited.turns ≤ scratch.old.visited.turns + scan_turns nfa.now (search_of input.now) }
-    ensures answer { IfOk result (λ half. StartsGive nfa.now (search_of input.now) half slots.new
-        (scratch.new.visited.turns - scratch.old.visited.turns)) }
-{
-    if input.is_done() {
-        return Ok(None);
-    }
-    let Some(sid) = start_state(nfa, input) else {
-        return Ok(None);
-    };
-    let limit = start_limit(nfa, input);
-    let stop = skip_limit(nfa, input);
-    let mut at = next_start(first, input, input.start(), stop);
-    while at < limit {
-        let place = place_of(nfa, input, sid, at);
-        if let Some(half) = walk(nfa, input, place, scratch, slots)? {
-            return Ok(Some(half));
-        }
-        at = next_start(first, input, at + 1, stop);
-    }
-    Ok(None)
-}
-
-/// One scan, from a clean slate: the first accepting path, its slots, or no slot set.
-fn scan(
-    nfa: &NFA,
-    first: &FirstBytes,
-    input: &Input<'_>,
-    scratch: &mut Scratch,
-    slots: &mut [Option<NonMaxUsize>],
-) -> Result<Option<HalfMatch>, Refused>
-    requires first { IsFirstBytes nfa.now first.now.may_begin }
-    requires room { HasBits nfa.now (search_of input.now) scratch.old.visited.bits }
-    ensures scans { scratch.new.scans ≡ scratch.old.scans + 1 }
-    ensures size { length scratch.new.visited.bits ≡ length scratch.old.visited.bits }
-    ensures turns { scratch.new.visited.turns ≤ scratch.old.visited.turns + scan_turns nfa.now (search_of input.now) }
-    ensures answer { IfOk result (λ half. ScanGives nfa.now LeftmostFirst false (search_of input.now) half slots.new
-        (scratch.new.visited.turns - scratch.old.visited.turns)) }
-    ensures refused { OnErr result (slots.new ≡ replicate (length slots.old) None) }
-{
-    scratch.scans.tick();
-    unset(slots);
-    scratch.stack.clear();
-    scratch.visited.clear();
-    match try_starts(nfa, first, input, scratch, slots) {
-        Ok(Some(half)) => Ok(Some(half)),
-        Ok(None) => {
-            unset(slots);
-            Ok(None)
-        }
-        Err(refused) => {
-            unset(slots);
-            Err(refused)
-        }
-    }
-}
+use nfa_backtrack_scan::scan::{scan, unset};
+use nfa_backtrack_scan::scratch::Scratch;
+use nfa_scanning::starts::may_end_at;
+use regex_search_core::{HalfMatch, Input, NonMaxUsize, Refused};
 
 impl BoundedBacktracker {
     /// One scan of this engine.

@@ -1,7 +1,7 @@
 -- Ways, and the places that they lead to.
 use Rattle.std.proofs.Common.{◌≡◌, ℕ, ◌+◌, ◌*◌, ◌<◌, inl, inr, length, List, [], ◌∷◌, ◌++◌, map, refl, ap, sym, ◌∙◌}
 use Rattle.std.proofs.Common.{subst}
-use Rattle.std.specs.Prelude.{Option, Some, None, true, false, Bool, ◌&&◌, is_some, option_and_then}
+use Rattle.std.specs.Prelude.{Option, Some, None, true, false, Bool, ◌&&◌, option_and_then}
 use Rattle.std.specs.Option.{option_or}
 use Rattle.thompson_nfa.specs.Automaton.{Automaton, IsAutomaton}
 use Rattle.nfa_paths.specs.Graphs.{Pair, In, HeadIs, Linked, EndsWith}

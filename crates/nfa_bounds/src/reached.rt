@@ -1,6 +1,6 @@
 //! The places that were reached, each once, in order.
-ghost use Rattle.std.specs.Prelude.{◌≡◌, ℕ, ◌+◌, ◌*◌, ◌^◌, ◌≤◌, ◌<◌, All, IfOk, OnOk, length, map, [], ◌∷◌};
-ghost use Rattle.std.specs.Prelude.{slice_get, slice_index, Some};
+ghost use Rattle.std.specs.Prelude.{◌≡◌, ◌+◌, ◌*◌, ◌^◌, ◌≤◌, ◌<◌, All, IfOk, OnOk, length, map, [], ◌∷◌};
+ghost use Rattle.std.specs.Prelude.{slice_get, Some};
 ghost use Rattle.nfa_bounds.specs.Places.{at_state, GainsPlaces};
 
 use crate::place::Place;

@@ -5,9 +5,7 @@ use Rattle.std.specs.Prelude.{Option, None, Some}
 use Rattle.regex_search_core.specs.Search.{Search}
 use Rattle.regex_search_core.specs.declared.search.Span.{Span}
 use Rattle.nfa_paths.specs.Paths.{span_len}
-use Rattle.nfa_search_base.specs.Walks.{Answer, Walk, fresh, repeats, place_of, ends_left, ComesAfter}
-use Rattle.nfa_search_base.specs.Walks.{LeavesFewer, Advances}
-use Rattle.nfa_search_base.proofs.StepLemmas.{chosen}
+use Rattle.nfa_search_base.specs.Walks.{Walk, fresh, ends_left}
 use Rattle.nfa_engines.specs.IterationLaws.{IsCall, AreCalls, places_of, EndsRise}
 
 -- a call that gave a match leaves its end as the last one

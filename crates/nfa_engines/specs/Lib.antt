@@ -11,6 +11,7 @@ pub use Rattle.nfa_backtrack.specs.Finding as BacktrackFinding
 pub use Rattle.nfa_backtrack.specs.FindMatches as BacktrackFindMatches
 pub use Rattle.nfa_backtrack.specs.Runs as BacktrackRuns
 pub use Rattle.nfa_pikevm.specs.Engines
+pub use Rattle.nfa_pikevm.specs.Needs
 pub use Rattle.nfa_pikevm.specs.CapturesMatches as PikeVMCapturesMatches
 pub use Rattle.nfa_pikevm.specs.Finding as PikeVMFinding
 pub use Rattle.nfa_pikevm.specs.FindMatches as PikeVMFindMatches

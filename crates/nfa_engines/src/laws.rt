@@ -9,7 +9,7 @@
 //! let same = engine.try_search_slots(&mut other, &input, &mut others)?;
 //! ```
 ghost use Rattle.regex_search_core.specs.declared.search.MatchKind.TheVariants.{All, LeftmostFirst};
-ghost use Rattle.std.specs.Prelude.{true, false};
+ghost use Rattle.std.specs.Prelude.{false};
 ghost use Rattle.nfa_engines.specs.CapacityLaws.{LeastCapacityIsEnough, LongerIsRefused, LongestLengthFits};
 ghost use Rattle.nfa_engines.specs.CapturesLaws.{CapturesUpToRefusal, EverySearchHasRows, FirstRowsAreMatches};
 ghost use Rattle.nfa_engines.specs.CapturesLaws.{OneRowList, RowsAreMatches, RowsAsLeftmost};

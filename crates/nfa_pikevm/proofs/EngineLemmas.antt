@@ -16,7 +16,7 @@ use Rattle.nfa_paths.specs.Paths.{slot_row, IsAnswer, IsMatchAnswer}
 use Rattle.nfa_paths.specs.Exploring.{Slots}
 use Rattle.nfa_paths.proofs.PatternLemmas.{slot_row-more, slots-unset}
 use Rattle.nfa_paths.proofs.InsideLemmas.{match-within, match-pattern, slots-within, pattern-within}
-use Rattle.nfa_pikevm.specs.Scans.{blank}
+use Rattle.nfa_pikevm_scan.specs.Scans.{blank}
 use Rattle.nfa_search_base.specs.Lists.{IsInside, IsSlotInside}
 
 module _ (nfa : Automaton) where

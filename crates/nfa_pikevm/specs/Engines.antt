@@ -1,13 +1,11 @@
 -- A PikeVM and its cache as values, and when a cache fits.
-use Rattle.std.specs.Prelude.{◌≡◌, ℕ, ◌+◌, ◌-◌, ◌*◌, ◌≤◌, max, Bool, List, Option, length, unwrap_or, nat_lt, if◌then◌else◌}
-use Rattle.std.specs.List.{sum_by}
+use Rattle.std.specs.Prelude.{◌≡◌, ℕ, ◌+◌, ◌*◌, ◌≤◌, Option, length, unwrap_or}
 use Rattle.regex_search_core.specs.Groups.{slot_count}
-use Rattle.regex_search_core.specs.PatternSets.{size_of_set}
 use Rattle.regex_search_core.specs.declared.search.MatchKind.{MatchKind}
-use Rattle.regex_search_core.specs.declared.search.MatchKind.TheVariants.{All, LeftmostFirst}
-use Rattle.thompson_nfa.specs.Automaton.{Automaton, Node}
-use Rattle.thompson_nfa.specs.Automaton.Node.{ByteRange, Sparse, Dense, Look, Union, BinaryUnion, Capture, Fail, Match}
+use Rattle.regex_search_core.specs.declared.search.MatchKind.TheVariants.{LeftmostFirst}
+use Rattle.thompson_nfa.specs.Automaton.{Automaton}
 use Rattle.nfa_scanning.specs.Numbers.{saturated}
+use Rattle.nfa_pikevm_scan.specs.Needs.{stack_places}
 
 -- an NFA, and which of several matches was asked for, if that was said
 pub record Pike : Type 0 where
@@ -17,22 +15,6 @@ pub record Pike : Type 0 where
 -- which of several matches is meant
 abbrev pub kind_of : Pike → MatchKind
 kind_of vm = unwrap_or vm.match_kind LeftmostFirst
-
--- how many frames a state pushes at most, beside the state that it goes on with
-abbrev pub room_of : Node → ℕ
-room_of (ByteRange trans) = 0
-room_of (Sparse transitions) = 0
-room_of (Dense targets) = 0
-room_of (Look look next) = 0
-room_of (Union alternates) = length alternates - 1
-room_of (BinaryUnion alt1 alt2) = 1
-room_of (Capture next slot) = 1
-room_of Fail = 0
-room_of (Match pattern) = 0
-
--- how many places the stack of a search needs: those of all states together, and at least one
-abbrev pub stack_places : Automaton → ℕ
-stack_places nfa = max (sum_by room_of nfa.states) 1
 
 -- What a cache shows: for how many states, slots and patterns it is made, the places of its stack, the scans and turns
 -- of its last search, and those of all its searches.
@@ -45,12 +27,6 @@ pub record PikeCache : Type 0 where
   pub turns : ℕ
   pub all_scans : ℕ
   pub all_turns : ℕ
-
--- How many scans a search for the patterns of all matches makes: one, or none where the first match alone is meant and
--- the set holds a pattern.
-abbrev pub overlap_scans : MatchKind → List Bool → ℕ
-overlap_scans All set = 1
-overlap_scans LeftmostFirst set = if nat_lt 0 (size_of_set set) then 0 else 1
 
 -- the scans and turns of the new search are the only ones that were added to those of all
 pub record AddsPikeWork (old new : PikeCache) : Type 0 where

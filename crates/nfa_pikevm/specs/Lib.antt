@@ -1,10 +1,5 @@
-pub mod Rows
 pub mod Engines
-pub mod States
-pub mod Taking
-pub mod Scans
-pub mod Sizes
 pub mod Finding
 pub mod FindMatches
-pub mod Overlapping
 pub mod CapturesMatches
+pub use Rattle.nfa_pikevm_scan.specs.Needs

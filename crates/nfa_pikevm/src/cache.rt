@@ -3,9 +3,9 @@ ghost use Rattle.std.specs.Prelude.{◌≡◌, ◌↔◌, IfOk, OnOk, OnErr, IsO
 ghost use Rattle.nfa_pikevm.specs.Engines.{Fits, cache_for, refitted, pike_memory_of};
 
 use crate::engine::PikeVM;
-use crate::scratch::Threads;
-use crate::sizes::{make_room, size_for, stack_places};
-use crate::slot::Slot;
+use nfa_pikevm_scan::scratch::Threads;
+use nfa_pikevm_scan::sizes::{make_room, size_for, stack_places};
+use nfa_pikevm_scan::slot::Slot;
 use nfa_scanning::counter::Counter;
 use nfa_search_base::error::SearchError;
 use regex_search_core::Refused;
@@ -32,7 +32,7 @@ pub struct Cache {
 impl Model for Cache {
     ghost use Rattle.std.specs.Prelude.{◌+◌, length};
     ghost use Rattle.nfa_pikevm.specs.Engines.{PikeCache};
-    ghost use Rattle.nfa_pikevm.specs.Sizes.{IsRoomFor};
+    ghost use Rattle.nfa_pikevm_scan.specs.Sizes.{IsRoomFor};
 
     ghost Value = { PikeCache };
 

@@ -16,25 +16,13 @@
 //! ```
 #![tactic(auto)]
 
-mod active;
 mod cache;
 mod captures;
 mod captures_iter;
-mod closure;
 mod config;
 mod engine;
 mod find_iter;
-mod frame;
-mod overlap;
-mod room;
-mod scan;
-mod scratch;
 mod search;
-mod seen;
-mod sizes;
-mod slot;
-mod taker;
-mod threads;
 
 pub use cache::Cache;
 pub use captures_iter::CapturesMatches;

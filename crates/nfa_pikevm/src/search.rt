@@ -4,11 +4,11 @@ ghost use Rattle.regex_search_core.specs.Search.{search_of};
 ghost use Rattle.nfa_paths.specs.Paths.{scan_limit};
 ghost use Rattle.nfa_paths.specs.Restarts.{scan_turns, SearchGives};
 ghost use Rattle.nfa_scanning.specs.FirstBytes.{IsFirstBytes};
-ghost use Rattle.nfa_pikevm.specs.Scans.{HaveRoom, SameSizes};
+ghost use Rattle.nfa_pikevm_scan.specs.Scans.{HaveRoom, SameSizes};
 
-use crate::scan::scan;
-use crate::scratch::Threads;
-use crate::slot::{Slot, unset_row};
+use nfa_pikevm_scan::scan::scan;
+use nfa_pikevm_scan::scratch::Threads;
+use nfa_pikevm_scan::slot::{Slot, unset_row};
 use nfa_scanning::first_bytes::FirstBytes;
 use nfa_scanning::starts::may_end_at;
 use regex_search_core::{HalfMatch, Input, MatchKind};

@@ -1,8 +1,7 @@
 -- A draft that is sound makes an NFA.
-use Rattle.std.specs.Borrow.{Bor}
-use Rattle.std.proofs.Common.{◌≡◌, ◌⊎◌, inl, inr, ℕ, ◌+◌, ◌*◌, ◌<◌, ◌≤◌, Bool, true, false, ◌&&◌, ◌||◌, nat_lt, nat_le, nat_eq}
-use Rattle.std.proofs.Common.{List, [], ◌∷◌, ◌++◌, map, length, Option, None, Some, Result, Ok, Err, refl, subst, sym, ap, arith, append-nil, append_assoc}
-use Rattle.std.specs.Prelude.{All, IfOk, IsOkUnless, IsTrue, slice_index_or}
+use Rattle.std.proofs.Common.{◌≡◌, ◌⊎◌, inl, inr, ℕ, ◌+◌, ◌<◌, ◌≤◌, Bool, true, false, ◌&&◌, ◌||◌, nat_lt, nat_le, nat_eq}
+use Rattle.std.proofs.Common.{List, [], ◌∷◌, ◌++◌, map, length, Result, Ok, Err, refl, subst, sym, ap, arith, append-nil, append_assoc}
+use Rattle.std.specs.Prelude.{All, IsOkUnless, IsTrue, slice_index_or}
 use Rattle.std.specs.List.{list_all, AllPass}
 use Rattle.std.proofs.lemmas.List.Elements.{All-append, All-cons, All-map}
 use Rattle.std.proofs.lemmas.List.Sums.{AllPass-from_list_all}
@@ -14,7 +13,7 @@ use Rattle.thompson_nfa.specs.declared.nfa.BuildError.TheVariants as error
 use Rattle.thompson_nfa.specs.declared.nfa.Holder.TheVariants as holder
 use Rattle.thompson_nfa.specs.declared.state.State.{State}
 use Rattle.thompson_nfa.specs.Automaton as nfa
-use Rattle.thompson_nfa.specs.Automaton.{Node, node_of, Automaton, IsAutomaton, AreStatesNumbered, LeadsBelow, SlotBelow, PatternBelow}
+use Rattle.thompson_nfa.specs.Automaton.{Node, node_of, Automaton, IsAutomaton, LeadsBelow, SlotBelow, PatternBelow}
 use Rattle.thompson_nfa.specs.Built.{IsBuilt}
 use Rattle.nfa_samples.specs.declared.draft.Row.{Row}
 use Rattle.nfa_samples.specs.declared.draft.Row.TheVariants.{Byte, Range, Ranges, Either, Union, Capture, Assert, Match}

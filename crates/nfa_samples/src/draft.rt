@@ -1,6 +1,6 @@
 //! A draft of an NFA, as a table has it: state by state.
-ghost use Rattle.std.specs.Prelude.{◌≡◌, ◌≤◌, length, map, option_map, string_bytes, All, IfOk, IsOkUnless, IsTrue};
-ghost use Rattle.regex_search_core.specs.Groups.{names_of, slot_count};
+ghost use Rattle.std.specs.Prelude.{◌≡◌, ◌≤◌, map, option_map, string_bytes, All, IfOk, IsOkUnless, IsTrue};
+ghost use Rattle.regex_search_core.specs.Groups.{slot_count};
 ghost use Rattle.regex_search_core.specs.Patterns.{number_of};
 ghost use Rattle.thompson_nfa.specs.Automaton.{IsAutomaton, node_of};
 ghost use Rattle.nfa_samples.specs.Drafts.{

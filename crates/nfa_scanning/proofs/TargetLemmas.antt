@@ -1,6 +1,6 @@
 -- Where a byte state leads.
-use Rattle.std.proofs.Common.{◌≡◌, ℕ, suc, zero, ◌+◌, ◌<◌, ◌≤◌, List, [], ◌∷◌, length, refl, arith}
-use Rattle.std.specs.Prelude.{Option, Some, None, true, false, Bool, All, IfSome, option_map, option_and_then, option_to_list, is_some, count_by, cond, nat_lt, if◌then◌else◌}
+use Rattle.std.proofs.Common.{◌≡◌, ℕ, suc, zero, ◌<◌, ◌≤◌, List, [], ◌∷◌, length, refl, arith}
+use Rattle.std.specs.Prelude.{Option, Some, None, true, false, Bool, All, IfSome, option_and_then, is_some, count_by, cond, nat_lt, if◌then◌else◌}
 use Rattle.std.specs.List.{slice_get}
 use borrow.Author.Tests.{ltb-true}
 use Rattle.std.proofs.lemmas.List.Sums.{sum_by-cons}
@@ -8,9 +8,7 @@ use Rattle.regex_search_core.specs.Search.{Search}
 use Rattle.thompson_nfa.specs.Automaton.{Node, LeadsBelow}
 use Rattle.thompson_nfa.specs.Automaton.Node.{ByteRange, Sparse, Dense, Look, Union, BinaryUnion, Capture, Fail, Match}
 use Rattle.thompson_nfa.specs.declared.state.Transition.{Transition}
-use Rattle.nfa_paths.specs.Graphs.{Pair}
-use Rattle.nfa_paths.specs.Paths.{degree, edges_of, byte_at, target_on, first_target, holds_byte}
-use Rattle.nfa_paths.specs.Kinds.{rests}
+use Rattle.nfa_paths.specs.Paths.{degree, byte_at, target_on, first_target, holds_byte}
 
 -- what a choice between something and nothing says
 then-some : {A : Type 0} (c : Bool) (a u : A) → (if c then Some a else None) ≡ Some u → (c ≡ true) × (a ≡ u)

@@ -2,7 +2,7 @@
 //!
 //! From where an anchored search starts, some states are reached before a byte is read. Where none of them is a match
 //! and none reads the byte at a position, no match begins there, and a search passes the position over.
-ghost use Rattle.std.specs.Prelude.{◌≡◌, ℕ, ◌<◌, ◌≤◌, Some, true, false, slice_index, slice_index_or, All, IfSome};
+ghost use Rattle.std.specs.Prelude.{◌≡◌, ℕ, ◌<◌, ◌≤◌, Some, true, false, slice_index_or, All, IfSome};
 ghost use Rattle.thompson_nfa.specs.Automaton.{LeadsBelow, node_of};
 ghost use Rattle.thompson_nfa.specs.Automaton.Node.{Sparse, Dense};
 ghost use Rattle.nfa_paths.specs.Paths.{holds_byte, target_on};

@@ -2,7 +2,6 @@ pub mod AgreementLemmas
 pub mod AskingLemmas
 pub mod CatchingLemmas
 pub mod DrainedLemmas
-pub mod EmptyFinderLemmas
 pub mod EngineLemmas
 pub mod GreedyLemmas
 pub mod SkipLemmas

@@ -1,7 +1,7 @@
 -- The list of an iteration's items: there is one at most, and one where each search has an answer; its matches are
 -- apart,
 -- lie in the span, and are at most one more than the span has bytes. And so the list of the matches of an NFA.
-use Rattle.std.proofs.Common.{◌≡◌, ◌∙◌, ℕ, zero, suc, ◌+◌, ◌-◌, ◌≤◌, ◌<◌, ◌⊎◌, inl, inr, Bool, true, false}
+use Rattle.std.proofs.Common.{◌≡◌, ◌∙◌, ℕ, zero, suc, ◌+◌, ◌-◌, ◌≤◌, ◌<◌, inl, inr, Bool, true, false}
 use Rattle.std.proofs.Common.{if◌then◌else◌, MatchBool}
 use Rattle.std.proofs.Common.{Option, None, Some, Ok, Err, List, [], ◌∷◌, ◌++◌, map, length, refl, sym, ap, subst}
 use Rattle.std.proofs.Common.{arith}
@@ -11,7 +11,6 @@ use Rattle.regex_search_core.specs.Search.{Search}
 use Rattle.regex_search_core.specs.declared.search.MatchKind.{MatchKind}
 use Rattle.regex_search_core.specs.declared.search.Span.{Span}
 use Rattle.thompson_nfa.specs.Automaton.{Automaton}
-use Rattle.nfa_paths.specs.Paths.{IsMatchAnswer}
 use Rattle.nfa_paths.proofs.InsideLemmas.{match-within}
 use Rattle.nfa_paths.proofs.KnownLemmas.{match-unique}
 use Rattle.nfa_paths.proofs.ExistenceLemmas.{search_answer-exists}
@@ -21,10 +20,10 @@ use Rattle.regex_search_core.specs.Slots.{match_of}
 use Rattle.std.specs.Option.{option_and_then}
 use Rattle.nfa_search_base.specs.Asking.{SameButStart}
 use Rattle.nfa_search_base.specs.Behind.{IsBehind}
-use Rattle.nfa_search_base.specs.Items.{Item, matches_in, items_from, items_within, greedy, step_answer, step_walk}
-use Rattle.nfa_search_base.specs.Lists.{IsStep, Fails, ItemsNext, ItemsLast, IsInside, AreApart, AreSpansApart}
-use Rattle.nfa_search_base.specs.Lists.{TellsMatch, ComeNext, ComeLast, AreFirstMatches, AreMatches}
-use Rattle.nfa_search_base.specs.Walks.{Walk, Answer, Advances, LiesIn, ComesAfter, AnswerIsInside}
+use Rattle.nfa_search_base.specs.Items.{Item, matches_in, items_from, items_within, greedy}
+use Rattle.nfa_search_base.specs.Lists.{IsStep, Fails, ItemsNext, ItemsLast, AreApart, AreSpansApart}
+use Rattle.nfa_search_base.specs.Lists.{TellsMatch, ComeLast, AreFirstMatches, AreMatches}
+use Rattle.nfa_search_base.specs.Walks.{Walk, Answer, Advances, AnswerIsInside}
 use Rattle.nfa_search_base.specs.Walks.{fresh, repeats, shifted, after, place_of, span_of, ends_left}
 use Rattle.nfa_search_base.specs.declared.error.SearchError.{SearchError}
 use Rattle.nfa_search_base.proofs.AskingLemmas.{same_start-self, same_start-then}

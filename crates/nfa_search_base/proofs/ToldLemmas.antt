@@ -15,9 +15,9 @@ use Rattle.nfa_search_base.specs.Asking.{IsCallableOn, SameButStart}
 use Rattle.nfa_search_base.specs.Finders.{Finds, AnswersAlong, answer_by}
 use Rattle.nfa_search_base.specs.Items.{Item, item_by, matches_in}
 use Rattle.nfa_search_base.specs.Lists.{IsStep, Fails, ItemsLast, AreFirstFound, AreAllFound, AreSpansApart}
-use Rattle.nfa_search_base.specs.Serving.{LeadsOn, MayReply}
+use Rattle.nfa_search_base.specs.Serving.{LeadsOn}
 use Rattle.nfa_search_base.specs.Steps.{GivesItem}
-use Rattle.nfa_search_base.specs.Stored.{steps_walk, takes_steps}
+use Rattle.nfa_search_base.specs.Stored.{steps_walk}
 use Rattle.nfa_search_base.specs.StoredRuns.{MayAnswer, found_steps, sure_found_steps, FoundRun, FoundFirst, FoundAll}
 use Rattle.nfa_search_base.specs.StoredRuns.{FoundApart, FoundNext, SureFoundApart, SureFoundNext}
 use Rattle.nfa_search_base.specs.StoredRuns.{SureFoundRun, SureFoundFirst, SureFoundAll}
@@ -196,6 +196,16 @@ module _ {A X F : Type 0} (view : A → X) (span : X → Span)
   may-tells f x tells says t a k =
       let same = kept f x tells says k.calls f k.between refl k.leads in
       (says t a k.left (subst (λ (z : F). Finds view g z t a k.left) same k.asked)).1
+
+-- What `collect` makes of an iterator that gives a whole list at its end: that list.
+pub collected_all : {S A Z E : Type 0} (steps : S → Option A → S → Type 0) (Whole : List A → Type 0) (s : S)
+    (r : Result (Vec A Z) E) → IsCollectResult steps s r
+    → ((xs : List A) (t u : S) → Yields steps s xs t → steps t None u → Whole xs)
+    → IfOk r (λ all. Whole (vec_items all))
+collected_all steps Whole s (Ok all) ran gives =
+    let end = ran.1.2 tt in
+    subst Whole (sym ran.2.0) (gives ran.0 ran.1.0 end.0 ran.1.1 end.1)
+collected_all steps Whole s (Err e) ran gives = tt
 
 -- What `collect` makes of such an iterator: all items, as the finder tells them.
 pub told_collected : {A X F Z E : Type 0} {view : A → X} {span : X → Span}

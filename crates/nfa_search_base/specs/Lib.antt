@@ -7,7 +7,6 @@ pub mod CaughtRuns
 pub mod CaughtSteps
 pub mod CapturesGiven
 pub mod Drained
-pub mod EmptyFinder
 pub mod EngineSearches
 pub mod Finders
 pub mod Items

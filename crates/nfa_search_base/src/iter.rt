@@ -35,8 +35,3 @@ pub use matches::{MatchesIter, TryMatchesIter};
 pub use searcher::{Offered, Searcher};
 pub use searches::Searches;
 pub use steps::Steps;
-
-#[cfg(test)]
-mod callers;
-#[cfg(test)]
-mod tests;

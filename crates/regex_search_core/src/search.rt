@@ -1,5 +1,5 @@
 //! What a search is asked, and what it answers.
-ghost use Rattle.std.specs.Prelude.{◌≡◌, ℕ, ◌+◌, ◌-◌, ◌<◌, ◌≤◌, ◌↔◌, ◌^◌, Bool, List, length, IsTrue, false};
+ghost use Rattle.std.specs.Prelude.{◌≡◌, ◌+◌, ◌-◌, ◌<◌, ◌≤◌, ◌↔◌, ◌^◌, length, IsTrue, false};
 ghost use Rattle.regex_search_core.specs.Boundary.{IsBoundary};
 
 use crate::primitives::{NonMaxUsize, PatternID};

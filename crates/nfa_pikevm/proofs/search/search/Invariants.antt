@@ -2,7 +2,7 @@
 use Rattle.std.proofs.Common.{◌≡◌, ◌+◌, ◌-◌}
 use Rattle.regex_search_core.specs.Search.{search_of}
 use Rattle.nfa_paths.specs.Restarts.{Restarts}
-use Rattle.nfa_pikevm.specs.Scans.{SameSizes}
+use Rattle.nfa_pikevm_scan.specs.Scans.{SameSizes}
 use Rattle.nfa_pikevm.proofs.search.search.Given as goal
 
 abbrev pub invariant-loop-half : goal.invariant-loop-half

@@ -5,7 +5,7 @@ use Rattle.regex_search_core.specs.Search.{search_of}
 use Rattle.regex_search_core.specs.declared.search.MatchKind.TheVariants.{LeftmostFirst}
 use Rattle.nfa_paths.proofs.RestartLemmas.{restarts-begin, settled-none, settled-some, discarded, restarted, start-left}
 use Rattle.nfa_paths.proofs.RestartLemmas.{turns-after, scans-within, scans-bound}
-use Rattle.nfa_backtrack.proofs.ScanLemmas.{room-after}
+use Rattle.nfa_backtrack_scan.proofs.ScanLemmas.{room-after}
 use Rattle.nfa_backtrack.proofs.engine.BoundedBacktracker.search_from.Goals as goal
 
 pub returns-in_err-half-clause-within : goal.returns-in_err-half-clause-within

@@ -5,7 +5,6 @@ use Rattle.regex_search_core.specs.Search.{search_of}
 use Rattle.nfa_search_base.specs.Lending.{lend}
 use Rattle.nfa_search_base.proofs.DrainedLemmas.{made-holds}
 use Rattle.nfa_pikevm.specs.CapturesMatches.{MayCatchByPike}
-use Rattle.nfa_pikevm.specs.Engines.{Pike}
 use Rattle.nfa_pikevm.proofs.CaughtLemmas.{all-caught, caught-memory, caught-numbers, steps-serve}
 use Rattle.nfa_pikevm.proofs.engine.PikeVM.captures_all.Goals as goal
 

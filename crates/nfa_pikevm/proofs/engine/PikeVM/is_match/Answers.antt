@@ -1,5 +1,5 @@
 -- There is a match exactly where a search with no slots finds a pattern.
-use Rattle.std.proofs.Common.{◌≡◌, ◌∙◌, ap, refl}
+use Rattle.std.proofs.Common.{◌≡◌, ap, refl}
 use Rattle.std.specs.Prelude.{Option, None, Some, not, is_some, option_map}
 use Rattle.regex_search_core.specs.Search.{search_of}
 use Rattle.regex_search_core.specs.Patterns.{number_of}

@@ -7,11 +7,11 @@ use Rattle.regex_search_core.specs.Groups.{slot_count}
 use Rattle.regex_search_core.specs.Patterns.{number_of}
 use Rattle.nfa_paths.specs.Exploring.{Slots}
 use Rattle.nfa_paths.proofs.RestartLemmas.{answer-of}
-use Rattle.nfa_pikevm.specs.Scans.{blank}
+use Rattle.nfa_pikevm_scan.specs.Scans.{blank}
 use Rattle.thompson_nfa.specs.Automaton.{IsAutomaton}
 use Rattle.nfa_pikevm.specs.Engines.{kind_of}
 use Rattle.nfa_pikevm.proofs.EngineLemmas.{row-whole, slots-pattern}
-use Rattle.nfa_pikevm.proofs.RowLemmas.{length-blank}
+use Rattle.nfa_pikevm_scan.proofs.RowLemmas.{length-blank}
 use Rattle.nfa_pikevm.proofs.engine.PikeVM.search_with.Goals as goal
 
 pub returns-in_err-half-clause-answer : goal.returns-in_err-half-clause-answer

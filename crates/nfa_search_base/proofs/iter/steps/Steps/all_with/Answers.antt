@@ -1,7 +1,6 @@
 -- Each call gives one item more. The last one gave none, an error, or the item that could not be kept.
-use Rattle.std.proofs.Common.{◌≡◌, ap, inr, refl, sym, List, [], ◌∷◌, ◌++◌, Ok, Result, Some, map}
+use Rattle.std.proofs.Common.{◌≡◌, ap, inr, refl, List, [], ◌∷◌, ◌++◌, Ok, Result, Some, map}
 use Rattle.std.proofs.lemmas.Result.{err_from_is_err_and}
-use Rattle.std.specs.Iterator.{Yields}
 use Rattle.nfa_search_base.specs.Lending.{lend}
 use Rattle.nfa_search_base.specs.Stored.{takes_steps}
 use Rattle.nfa_search_base.specs.Walks.{AnswerIsInside}

@@ -1,5 +1,5 @@
 -- The calls so far gave what is kept, and the next one may be made.
-use Rattle.std.proofs.Common.{◌≡◌, Ok, map}
+use Rattle.std.proofs.Common.{Ok, map}
 use Rattle.std.specs.Iterator.{Yields}
 use Rattle.nfa_search_base.specs.Items.{items_left}
 use Rattle.nfa_search_base.specs.Lending.{lend}

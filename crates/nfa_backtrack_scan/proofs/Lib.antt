@@ -1,0 +1,7 @@
+pub mod BitLemmas
+pub mod PassLemmas
+pub mod WalkLemmas
+pub mod StepLemmas
+pub mod BeginLemmas
+pub mod UnwindLemmas
+pub mod ScanLemmas

@@ -1,0 +1,84 @@
+-- From what a walk comes to, to what the search from all starts comes to.
+use Rattle.std.proofs.Common.{◌≡◌, ℕ, ◌+◌, ◌-◌, ◌*◌, ◌^◌, ◌<◌, ◌≤◌, List, [], length, map, replicate, arith, sum}
+use Rattle.std.specs.Prelude.{None, false, Bool}
+use Rattle.std.proofs.Math.Nat.{mul-le-mul_left}
+use Rattle.regex_search_core.specs.Found.{half_found_of}
+use Rattle.regex_search_core.specs.Search.{Search}
+use Rattle.regex_search_core.specs.declared.search.HalfMatch.{HalfMatch}
+use Rattle.regex_search_core.specs.declared.search.MatchKind.TheVariants.{LeftmostFirst}
+use Rattle.thompson_nfa.specs.Automaton.{Automaton}
+use Rattle.nfa_paths.specs.Paths.{span_len, raised, starts, IsScanAnswer}
+use Rattle.nfa_paths.specs.Restarts.{scan_turns, GivesPath}
+use Rattle.nfa_paths.specs.Exploring.{Slots}
+use Rattle.nfa_paths.specs.Exploring.Item.{Explore}
+use Rattle.nfa_paths.specs.Turns.{marked_sum}
+use Rattle.nfa_paths.proofs.AnswerLemmas.{scan_none, scan_some}
+use Rattle.nfa_paths.proofs.TurnLemmas.{marked_sum-le}
+use Rattle.nfa_scanning.specs.Marks.{Marks}
+use Rattle.nfa_backtrack_scan.specs.Walk.{HasBits, Agrees, WalkAnswer, Ends, EndsAt, weights}
+use Rattle.nfa_backtrack_scan.proofs.WalkLemmas.{IsMarked-clear, sum-weights}
+
+module _ (nfa : Automaton) (x : Search) where
+  -- nothing is marked
+  fresh : (bits : List Bool) → bits ≡ replicate (length bits) false → Agrees nfa x bits []
+  fresh bits clear v = (λ i. absurd i, λ m. absurd (IsMarked-clear nfa x (length bits) v (rw clear at m)))
+
+  module _ (marks : Marks) (clear : marks.bits ≡ replicate (length marks.bits) false) (slots : Slots) (turns : ℕ) where
+    -- all starts were tried, and nothing was found
+    pub starts-none : Ends nfa x marks (map Explore (starts nfa x)) slots None turns
+        → IsScanAnswer nfa x LeftmostFirst false None
+    unfolding WalkAnswer
+    starts-none e =
+        let g = e.grows in
+        scan_none nfa x (turns - marks.turns) slots
+        (e.answer (turns - marks.turns) (omega arith) [] (fresh marks.bits clear))
+
+    -- a match was found
+    pub starts-some : (half : HalfMatch) (written : Slots) → slots ≡ replicate (length written) None
+        → EndsAt nfa x half marks (map Explore (starts nfa x)) slots written turns
+        → GivesPath nfa LeftmostFirst false x half written (turns - marks.turns)
+    unfolding WalkAnswer
+    starts-some half written unset e =
+        let g = e.ends.grows in
+        let found = scan_some nfa x (length written) (turns - marks.turns) (e.state, (half_found_of half).offset)
+        written
+        (rw unset at (e.ends.answer (turns - marks.turns) (omega arith) [] (fresh marks.bits clear))) in
+        record {
+          path = found.path;
+          state = e.state;
+          answers = found.answers;
+          matches = e.matches;
+          ends = found.ends;
+          row = found.row_is;
+          short = found.short;
+        }
+
+  -- the turns of a scan
+
+  pub turns-all : (tried turns before : ℕ) (bits : List Bool) → tried ≤ span_len x + 1 → turns
+      ≤ before + tried + marked_sum (weights nfa x) bits
+      → turns ≤ before + scan_turns nfa x
+  turns-all tried turns before bits few h = omega (arith, marked_sum-le (weights nfa x) bits, sum-weights nfa x)
+
+  pub turns-bound : (tried turns after before : ℕ) (bits : List Bool) → tried ≤ span_len x → turns
+      ≤ before + tried + marked_sum (weights nfa x) bits
+      → after + marked_sum (weights nfa x) bits ≤ turns + 1 + sum (weights nfa x) → after ≤ before + scan_turns nfa x
+  turns-bound tried turns after before bits few h k = omega (arith, sum-weights nfa x)
+
+  -- a scan from further on has room too
+  HasBits-raised : (bits : List Bool) (i : ℕ) → HasBits nfa x bits → HasBits nfa (raised x i) bits
+  HasBits-raised bits i room =
+      let few : span_len (raised x i) + 1 ≤ span_len x + 1 = omega arith in
+      let le = mul-le-mul_left (length nfa.states) few in
+      let r = room.room in let f = room.fits in
+      let room' : length nfa.states * (span_len (raised x i) + 1) ≤ length bits = omega arith in
+      let fits' : length nfa.states * (span_len (raised x i) + 1) < 2 ^ 64 = omega arith in
+      record { room = room'; fits = fits' }
+
+-- so it has after some restarts, where there are as many marks as before
+pub room-after : (nfa : Automaton) (x y : Search) (i : ℕ) (bits after : List Bool) → length after ≡ length bits → y
+    ≡ raised x i
+    → HasBits nfa x bits → HasBits nfa y after
+room-after nfa x y i bits after same is room =
+    let raised_room = HasBits-raised nfa x bits i room in
+    rw is (record { room = rw same raised_room.room; fits = raised_room.fits })

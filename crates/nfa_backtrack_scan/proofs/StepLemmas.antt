@@ -1,0 +1,356 @@
+-- What each kind of state leads to, after the turn that marked its place.
+use Rattle.std.proofs.Common.{◌≡◌, ℕ, suc, ◌+◌, ◌-◌, ◌*◌, ◌^◌, ◌<◌, ◌≤◌, List, [], ◌∷◌, ◌++◌, length, get_or, set, map}
+use Rattle.std.proofs.Common.{reverse, drop, refl, ap, sym, ◌∙◌, arith, append_assoc, append-nil, Fits}
+use Rattle.std.specs.Prelude.{Option, Some, None, true, false, Bool, All, option_map, option_and_then, option_to_list}
+use Rattle.std.specs.List.{slice_get, sum_by}
+use Rattle.std.proofs.lemmas.Nat.{mul-add-lt}
+use Rattle.std.proofs.lemmas.List.{length-map, map_push}
+use Rattle.std.proofs.lemmas.Grind.{reverse_onto}
+use Rattle.std.proofs.lemmas.List.Elements.{All-push}
+use Rattle.std.proofs.lemmas.List.Sums.{sum_by_push}
+use Rattle.regex_search_core.specs.Search.{Search}
+use Rattle.thompson_nfa.specs.Automaton.{Automaton, Node, LeadsBelow, node_of}
+use Rattle.thompson_nfa.specs.Automaton.Node.{ByteRange, Sparse, Dense, Look, Union, BinaryUnion, Capture, Fail, Match}
+use Rattle.thompson_nfa.specs.Looks.{look_holds}
+use Rattle.thompson_nfa.specs.declared.look.Look as looks
+use Rattle.thompson_nfa.specs.declared.state.State.{State}
+use Rattle.thompson_nfa.specs.declared.state.Transition.{Transition}
+use Rattle.nfa_paths.specs.Graphs.{Pair}
+use Rattle.nfa_paths.specs.Paths.{span_len, degree, node_at, pattern_of, slot_of, edges_of, byte_at, target_on}
+use Rattle.nfa_paths.specs.Exploring.{Item, Slots}
+use Rattle.nfa_paths.specs.Exploring.Item.{Explore, Restore}
+use Rattle.nfa_scanning.proofs.TargetLemmas.{byte_at-within, target-below, target-degree}
+use Rattle.nfa_scanning.specs.Marks.{Marks}
+use Rattle.nfa_backtrack_scan.specs.Walk.{pair_of, work_item, stacked, restoring, move_of, frame_tries, tries_of_move, bit_of}
+use Rattle.nfa_backtrack_scan.specs.Walk.{HasBits, IsPlace, IsFrame, PaidFor, Carries, Ends, Goes, Taken, WasMarked}
+use Rattle.nfa_backtrack_scan.specs.declared.frame.Place.{Place}
+use Rattle.nfa_backtrack_scan.specs.declared.frame.Frame.{Frame}
+use Rattle.nfa_backtrack_scan.specs.declared.frame.Frame.TheVariants.{Step}
+use Rattle.nfa_backtrack_scan.proofs.WalkLemmas.{node_at-get, bit_of-within, marked_sum-weights, Carries-plain}
+use Rattle.nfa_backtrack_scan.proofs.WalkLemmas.{Carries-write, Carries-unkept, Ends-match}
+
+-- the states that the code holds are those of the NFA
+pub same_size : (nfa : Automaton) (states : List State) → map node_of states ≡ nfa.states → length states
+    ≡ length nfa.states
+same_size nfa states nodes = rw (← nodes, length-map) refl
+
+-- a place's bit, as the code computes it, and what fits a `usize`
+module _ (nfa : Automaton) (x : Search) (place : Place) (is_place : IsPlace nfa x place) where
+  pub bit_of-place : (sid : ℕ) → sid ≡ place.sid → place.row + sid ≡ bit_of nfa x (pair_of place)
+  bit_of-place sid is = rw (is_place.row, is) refl
+
+  module _ (bits : List Bool) (room : HasBits nfa x bits) where
+    lies : (place.at - x.start) * length nfa.states + place.sid < length nfa.states * (span_len x + 1)
+    lies =
+        let f = is_place.from in let t = is_place.to in
+        let lt : place.at - x.start < span_len x + 1 = omega arith in
+        mul-add-lt (place.at - x.start) (length nfa.states) place.sid (span_len x + 1) lt is_place.state
+
+-- the row of the next position
+row-next : (nfa : Automaton) (x : Search) (at row states : ℕ) → x.start ≤ at → row ≡ (at - x.start) * length nfa.states
+    → states ≡ length nfa.states
+    → row + states ≡ (at + 1 - x.start) * length nfa.states
+row-next nfa x at row states from is wide =
+    let e : at + 1 - x.start ≡ suc (at - x.start) = omega arith in
+    rw (e, is, wide) (one-more (at - x.start) (length nfa.states))
+  where
+    one-more : (k n : ℕ) → k * n + n ≡ suc k * n
+    one-more k n = grind arith
+
+-- a row ends in the table
+pub Fits-row : (nfa : Automaton) (x : Search) (place : Place) (bits : List Bool) → IsPlace nfa x place
+    → HasBits nfa x bits
+    → (states : ℕ) → states ≡ length nfa.states → place.row + states ≤ 2 ^ 64 - 1
+Fits-row nfa x place bits p room states wide =
+    let f = p.from in let t = p.to in
+    let ends = row-next nfa x place.at place.row states p.from p.row wide in
+    let more : place.at + 1 - x.start ≤ span_len x + 1 = omega arith in
+    let k = row-le (place.at + 1 - x.start) (span_len x + 1) (length nfa.states) more in
+    let g = room.fits in omega arith
+  where
+    row-le : (k m n : ℕ) → k ≤ m → k * n ≤ n * m
+    row-le k m n le = grind arith
+
+-- the turn at a place marked it
+pub Taken-place : (nfa : Automaton) (x : Search) (place : Place) (marks marked : Marks) (bit : ℕ) → bit
+    ≡ bit_of nfa x (pair_of place)
+    → IsPlace nfa x place → HasBits nfa x marks.bits → marked.turns ≡ marks.turns + 1
+    → (get_or marks.bits bit true ≡ false) × (marked.bits ≡ set marks.bits bit true)
+    → Taken nfa x (pair_of place) marks marked
+Taken-place nfa x place marks marked bit is p room counted fresh = record {
+  state = p.state;
+  from = p.from;
+  to = p.to;
+  inside = bit_of-within nfa x marks.bits place.sid place.at room p.state p.from p.to;
+  clear = rw is at fresh.0;
+  set = rw is at fresh.1;
+  counted = counted;
+}
+
+-- it found it marked
+pub WasMarked-place : (nfa : Automaton) (x : Search) (place : Place) (marks marked : Marks) (bit : ℕ) → bit
+    ≡ bit_of nfa x (pair_of place)
+    → IsPlace nfa x place → marked.turns ≡ marks.turns + 1 → (get_or marks.bits bit false ≡ true)
+    × (marked.bits ≡ marks.bits)
+    → WasMarked nfa x (pair_of place) marks marked
+WasMarked-place nfa x place marks marked bit is p counted seen = record {
+  marked_before = record { state = p.state; from = p.from; set = rw is at seen.0 };
+  same = seen.1;
+  counted = counted;
+}
+
+-- the first of a list that is not empty
+pub first-drop : (xs : List ℕ) (f : ℕ) → slice_get xs 0 ≡ Some f → xs ≡ f ∷ drop 1 xs
+first-drop [] f e = cc
+first-drop (x ∷ xs) f e = cc
+
+pub none-nil : (xs : List ℕ) → slice_get xs 0 ≡ None → xs ≡ []
+none-nil [] e = refl
+none-nil (x ∷ xs) e = cc
+
+-- frames as work
+pub stacked-push : (fs : List Frame) (f : Frame) (work : List Item) → stacked (fs ++ f ∷ []) work
+    ≡ work_item f ∷ stacked fs work
+stacked-push [] f work = refl
+stacked-push (g ∷ fs) f work = stacked-push fs f (work_item g ∷ work)
+
+-- the alternatives that are put off, the earliest on top
+abbrev pub put : ℕ → ℕ → List ℕ → List Frame
+put at row es = map (λ s. Step s at row) (reverse es)
+
+pub put-cons : (stack : List Frame) (at row e : ℕ) (es : List ℕ) → stack ++ put at row (e ∷ es)
+    ≡ (stack ++ put at row es) ++ Step e at row ∷ []
+put-cons stack at row e es =
+    ap (λ t. stack ++ map (λ s. Step s at row) t) (reverse_onto es e []) ∙ ap (λ t. stack ++ t)
+    (map_push (λ s. Step s at row) (reverse es) e)
+    ∙ sym (append_assoc stack (put at row es) (Step e at row ∷ []))
+
+pub stacked-put : (stack : List Frame) (at row : ℕ) (es : List ℕ) (work : List Item)
+    → stacked (stack ++ put at row es) work ≡ map Explore (map (λ n. (n, at)) es) ++ stacked stack work
+stacked-put stack at row [] work = rw append-nil refl
+stacked-put stack at row (e ∷ es) work =
+    ap (λ t. stacked t work) (put-cons stack at row e es) ∙ stacked-push (stack ++ put at row es) (Step e at row)
+    work
+    ∙ ap (λ t. Explore (e, at) ∷ t) (stacked-put stack at row es work)
+
+pub tries-put : (stack : List Frame) (at row : ℕ) (es : List ℕ) → sum_by frame_tries (stack ++ put at row es)
+    ≡ sum_by frame_tries stack + length es
+tries-put stack at row [] = rw append-nil (omega arith)
+tries-put stack at row (e ∷ es) =
+    ap (sum_by frame_tries) (put-cons stack at row e es)
+    ∙ sum_by_push frame_tries (stack ++ put at row es) (Step e at row)
+    ∙ (let k = tries-put stack at row es in omega arith)
+
+module _ (nfa : Automaton) (x : Search) (count : ℕ) where
+  pub within-put : (stack : List Frame) (at row : ℕ) → x.start ≤ at → at ≤ x.end → row
+      ≡ (at - x.start) * length nfa.states → (es : List ℕ)
+      → All (IsFrame nfa x count) stack → All (λ s. s < length nfa.states) es
+      → All (IsFrame nfa x count) (stack ++ put at row es)
+  within-put stack at row from to is [] fits below = rw append-nil fits
+  within-put stack at row from to is (e ∷ es) fits below =
+      let here : e < length nfa.states = below 0 e (omega arith) in
+      let rest : All (λ s. s < length nfa.states) es = λ k d h. below (suc k) d (omega arith) in
+      rw (put-cons stack at row e es)
+      (All-push (IsFrame nfa x count) (stack ++ put at row es) (Step e at row)
+      (within-put stack at row from to is es fits rest)
+      (record { state = here; from = from; to = to; row = is }))
+
+-- a frame that puts a slot back
+pub work_item-restoring : (slot : ℕ) (old : Option ℕ) → work_item (restoring slot old) ≡ Restore slot old
+work_item-restoring slot None = refl
+work_item-restoring slot (Some offset) = refl
+
+pub IsFrame-restoring : (nfa : Automaton) (x : Search) (count slot : ℕ) (old : Option ℕ) → slot < count
+    → IsFrame nfa x count (restoring slot old)
+IsFrame-restoring nfa x count slot None h = h
+IsFrame-restoring nfa x count slot (Some offset) h = h
+
+pub tries-restoring : (slot : ℕ) (old : Option ℕ) → frame_tries (restoring slot old) ≡ 0
+tries-restoring slot None = refl
+tries-restoring slot (Some offset) = refl
+
+-- the turns that a byte state leaves to take
+pub target-tries : (node : Node) (place : Place) (states : ℕ) (byte : Option ℕ)
+    → tries_of_move (move_of (option_and_then (target_on node) byte) place states) ≤ degree node
+target-tries node place states None = omega arith
+target-tries node place states (Some b) =
+    (elim (target_on node b) as (λ o. ((t : ℕ) → o ≡ Some t → 1 ≤ degree node) → tries_of_move (move_of o place states)
+    ≤ degree node) [
+      | None ↦ λ some. omega arith
+      | Some t ↦ λ some. some t refl
+    ]) (target-degree node b)
+
+module _ {nfa : Automaton} {x : Search} {s at : ℕ} {m n : Marks} (t : Taken nfa x (s, at) m n) where
+  -- what is pushed is paid for by the state's degree
+  pub PaidFor-step : (node : Node) → slice_get nfa.states s ≡ Some node
+      → (count : ℕ) (stack after : List Frame) (in_hand : ℕ)
+      → All (IsFrame nfa x count) after → sum_by frame_tries after + in_hand ≤ sum_by frame_tries stack + degree node
+      → PaidFor nfa x count stack m.bits after n.bits in_hand
+  PaidFor-step node is count stack after in_hand within tried = record {
+    within = within;
+    tried = rw t.set (omega (arith, marked_sum-weights nfa x m.bits s at node t.state t.from t.to is t.clear));
+  }
+
+  pub PaidFor-same : (node : Node) → slice_get nfa.states s ≡ Some node → (count : ℕ) (stack : List Frame) (in_hand : ℕ)
+      → All (IsFrame nfa x count) stack → in_hand ≤ degree node → PaidFor nfa x count stack m.bits stack n.bits in_hand
+  PaidFor-same node is count stack in_hand within few =
+      PaidFor-step node is count stack stack in_hand within (omega arith)
+
+  pub PaidFor-push : (node : Node) → slice_get nfa.states s ≡ Some node
+      → (count : ℕ) (stack : List Frame) (f : Frame) (in_hand : ℕ)
+      → All (IsFrame nfa x count) stack → IsFrame nfa x count f → frame_tries f + in_hand ≤ degree node
+      → PaidFor nfa x count stack m.bits (stack ++ f ∷ []) n.bits in_hand
+  PaidFor-push node is count stack f in_hand within fits few =
+      PaidFor-step node is count stack (stack ++ f ∷ []) in_hand (All-push (IsFrame nfa x count) stack f within fits)
+      (omega (arith, sum_by_push frame_tries stack f))
+
+  pub PaidFor-put : (alternates : List ℕ) → slice_get nfa.states s ≡ Some (Union alternates)
+      → (count : ℕ) (stack : List Frame) (f : ℕ)
+      → slice_get alternates 0 ≡ Some f → (row : ℕ) → row ≡ (at - x.start) * length nfa.states
+      → All (IsFrame nfa x count) stack → All (λ q. q < length nfa.states) alternates
+      → PaidFor nfa x count stack m.bits (stack ++ put at row (drop 1 alternates)) n.bits 1
+  PaidFor-put alternates is count stack f first row placed within below =
+      let split = first-drop alternates f first in
+      let rest : All (λ q. q < length nfa.states) (drop 1 alternates) = λ k d h. (rw split at below) (suc k) d
+      (omega arith) in
+      PaidFor-step (Union alternates) is count stack (stack ++ put at row (drop 1 alternates)) 1
+      (within-put nfa x count stack at row t.from t.to placed (drop 1 alternates) within rest)
+      (omega (arith, tries-put stack at row (drop 1 alternates), ap length split))
+
+  -- on to the edges
+  pub Goes-edges : (node : Node) → slice_get nfa.states s ≡ Some node → pattern_of node ≡ None → slot_of node ≡ None
+      → (es : List Pair) → edges_of x node at ≡ es → (rest : List Item) (slots : Slots)
+      → Carries nfa x m (Explore (s, at) ∷ rest) slots n (map Explore es ++ rest) slots
+  Goes-edges node is plain writes es leads rest slots =
+      Carries-plain nfa x m s at rest slots n t.counted t.state t.from t.inside t.clear t.set node is plain writes es
+      leads
+
+  -- a byte state, at a place with its row
+  module _ (row : ℕ) (placed : row ≡ (at - x.start) * length nfa.states) (states : ℕ)
+      (wide : states ≡ length nfa.states) where
+    Goes-target : (node : Node) → slice_get nfa.states s ≡ Some node → pattern_of node ≡ None → slot_of node ≡ None
+        → LeadsBelow (length nfa.states) node
+        → edges_of x node at ≡ option_to_list
+        (option_and_then (λ b. option_map (λ next. (next, at + 1)) (target_on node b)) (byte_at x at))
+        → (byte : Option ℕ) → byte ≡ byte_at x at → (stack : List Frame) (slots : Slots)
+        → Goes nfa x (s, at) (move_of (option_and_then (target_on node) byte) (record { sid = s; at = at; row = row })
+        states) stack m slots stack n slots
+    Goes-target node is plain writes below leads None e stack slots = λ work.
+        Goes-edges node is plain writes [] (leads ∙ rw (← e) refl) (stacked stack work) slots
+    Goes-target node is plain writes below leads (Some b) e stack slots =
+        (elim (target_on node b) as (λ o. target_on node b ≡ o
+        → Goes nfa x (s, at) (move_of o (record { sid = s; at = at; row = row }) states) stack m slots stack n
+        slots) [
+          | None ↦ λ none. λ work. Goes-edges node is plain writes [] (leads ∙ rw (← e, none) refl)
+              (stacked stack work) slots
+          | Some q ↦ λ some.
+              let f = t.from in let inside = byte_at-within x at b (sym e) in
+              let state : q < length nfa.states = target-below (length nfa.states) node b q below some in
+              let from : x.start ≤ at + 1 = omega arith in
+              let to : at + 1 ≤ x.end = omega arith in (
+                record { state = state; from = from; to = to; row = row-next nfa x at row states t.from placed wide },
+                λ work. Goes-edges node is plain writes ((q, at + 1) ∷ []) (leads ∙ rw (← e, some) refl)
+                    (stacked stack work) slots,
+              )
+        ]) refl
+
+    -- the three kinds of byte states
+    pub Goes-range : (trans : Transition) → slice_get nfa.states s ≡ Some (ByteRange trans)
+        → LeadsBelow (length nfa.states) (ByteRange trans)
+        → (byte : Option ℕ) → byte ≡ byte_at x at → (stack : List Frame) (slots : Slots)
+        → Goes nfa x (s, at) (move_of (option_and_then (target_on (ByteRange trans)) byte)
+        (record { sid = s; at = at; row = row }) states) stack m slots stack n slots
+    unfolding edges_of
+    Goes-range trans is below = Goes-target (ByteRange trans) is refl refl below refl
+
+    pub Goes-sparse : (ts : List Transition) → slice_get nfa.states s ≡ Some (Sparse ts)
+        → LeadsBelow (length nfa.states) (Sparse ts)
+        → (byte : Option ℕ) → byte ≡ byte_at x at → (stack : List Frame) (slots : Slots)
+        → Goes nfa x (s, at) (move_of (option_and_then (target_on (Sparse ts)) byte)
+        (record { sid = s; at = at; row = row }) states) stack m slots stack n slots
+    unfolding edges_of
+    Goes-sparse ts is below = Goes-target (Sparse ts) is refl refl below refl
+
+    pub Goes-dense : (targets : List (Option ℕ)) → slice_get nfa.states s ≡ Some (Dense targets)
+        → LeadsBelow (length nfa.states) (Dense targets)
+        → (byte : Option ℕ) → byte ≡ byte_at x at → (stack : List Frame) (slots : Slots)
+        → Goes nfa x (s, at) (move_of (option_and_then (target_on (Dense targets)) byte)
+        (record { sid = s; at = at; row = row }) states) stack m slots stack n slots
+    unfolding edges_of
+    Goes-dense targets is below = Goes-target (Dense targets) is refl refl below refl
+
+  -- an assertion
+  module _ (look : looks.Look) (next : ℕ) (is : slice_get nfa.states s ≡ Some (Look look next)) (rest : List Item)
+      (slots : Slots) where
+    pub Goes-look : look_holds look x.haystack at ≡ true
+        → Carries nfa x m (Explore (s, at) ∷ rest) slots n (Explore (next, at) ∷ rest) slots
+    unfolding edges_of
+    Goes-look holds = Goes-edges (Look look next) is refl refl ((next, at) ∷ []) (rw holds refl) rest slots
+
+    pub Goes-no_look : look_holds look x.haystack at ≡ false
+        → Carries nfa x m (Explore (s, at) ∷ rest) slots n rest slots
+    unfolding edges_of
+    Goes-no_look fails = Goes-edges (Look look next) is refl refl [] (rw fails refl) rest slots
+
+  -- alternatives
+  module _ (alternates : List ℕ) (is : slice_get nfa.states s ≡ Some (Union alternates)) (slots : Slots) where
+    pub Goes-union : (f : ℕ) → slice_get alternates 0 ≡ Some f → (stack : List Frame) (work : List Item)
+        → (row : ℕ) → Carries nfa x m (Explore (s, at) ∷ stacked stack work) slots n
+        (Explore (f, at) ∷ stacked (stack ++ put at row (drop 1 alternates)) work) slots
+    unfolding edges_of
+    Goes-union f first stack work row =
+        let split = first-drop alternates f first in
+        rw (stacked-put stack at row (drop 1 alternates) work)
+        (Goes-edges (Union alternates) is refl refl ((f, at) ∷ map (λ q. (q, at)) (drop 1 alternates))
+        (ap (map (λ q. (q, at))) split) (stacked stack work) slots)
+
+    pub Goes-no_union : slice_get alternates 0 ≡ None → (rest : List Item)
+        → Carries nfa x m (Explore (s, at) ∷ rest) slots n rest slots
+    unfolding edges_of
+    Goes-no_union none rest = Goes-edges (Union alternates) is refl refl []
+        (ap (map (λ q. (q, at))) (none-nil alternates none)) rest slots
+
+  pub Goes-both : (alt1 alt2 : ℕ) → slice_get nfa.states s ≡ Some (BinaryUnion alt1 alt2)
+      → (slots : Slots) (stack : List Frame) (work : List Item) (row : ℕ)
+      → Carries nfa x m (Explore (s, at) ∷ stacked stack work) slots n
+      (Explore (alt1, at) ∷ stacked (stack ++ Step alt2 at row ∷ []) work) slots
+  unfolding edges_of
+  Goes-both alt1 alt2 is slots stack work row =
+      rw (stacked-push stack (Step alt2 at row) work)
+      (Goes-edges (BinaryUnion alt1 alt2) is refl refl ((alt1, at) ∷ (alt2, at) ∷ []) refl (stacked stack work) slots)
+
+  pub Goes-fail : slice_get nfa.states s ≡ Some Fail → (rest : List Item) (slots : Slots)
+      → Carries nfa x m (Explore (s, at) ∷ rest) slots n rest slots
+  unfolding edges_of
+  Goes-fail is rest slots = Goes-edges Fail is refl refl [] refl rest slots
+
+  -- a Capture, whose slot is tracked or is not
+  module _ (next slot : ℕ) (is : slice_get nfa.states s ≡ Some (Capture next slot)) (slots : Slots) (stack : List Frame)
+      (work : List Item) where
+    pub Goes-write : Carries nfa x m (Explore (s, at) ∷ stacked stack work) slots n
+        (Explore (next, at) ∷ stacked (stack ++ restoring slot (get_or slots slot None) ∷ []) work)
+        (set slots slot (Some at))
+    Goes-write =
+        rw (
+          stacked-push stack (restoring slot (get_or slots slot None)) work,
+          work_item-restoring slot
+              (get_or slots slot None),
+        )
+        (Carries-write nfa x m s at (stacked stack work) slots n t.counted t.state t.from t.inside t.clear t.set next
+        slot is)
+
+    pub Goes-unkept : length slots ≤ slot
+        → Carries nfa x m (Explore (s, at) ∷ stacked stack work) slots n (Explore (next, at) ∷ stacked stack work)
+        slots
+    Goes-unkept past = Carries-unkept nfa x m s at (stacked stack work) slots n t.counted t.state t.from t.inside
+        t.clear t.set next slot is past
+
+  -- a match
+  pub Goes-match : (pattern : ℕ) → slice_get nfa.states s ≡ Some (Match pattern) → (rest : List Item) (slots : Slots)
+      → (pattern_of (node_at nfa s) ≡ Some pattern)
+      × Ends nfa x m (Explore (s, at) ∷ rest) slots (Some ((s, at), slots)) n.turns
+  Goes-match pattern is rest slots = (
+    rw (node_at-get nfa x s (Match pattern) is) refl,
+    Ends-match nfa x m s at rest slots n t.counted t.state t.from
+        t.inside t.clear t.set pattern is,
+  )

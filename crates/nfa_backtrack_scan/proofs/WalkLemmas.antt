@@ -1,0 +1,259 @@
+-- The steps of a walk, one for each kind of state.
+use Rattle.std.proofs.Common.{◌≡◌, ℕ, suc, zero, ◌+◌, ◌-◌, ◌*◌, ◌<◌, ◌≤◌, ◌⊎◌, inl, inr, List, [], ◌∷◌, ◌++◌, length}
+use Rattle.std.proofs.Common.{get_or, set, map, replicate, refl, ap, ◌∙◌, arith}
+use Rattle.std.specs.Prelude.{Option, Some, None, true, false, Bool, sum}
+use Rattle.std.specs.List.{slice_get}
+use Rattle.std.proofs.Math.Decide.{ℕ_discrete}
+use Rattle.std.proofs.lemmas.Nat.{mul-add-lt, same_from_place}
+use Rattle.std.proofs.lemmas.Option.{slice_get-map, get_or_from_slice_get}
+use Rattle.std.proofs.lemmas.List.{length-map, get_or_default}
+use Rattle.std.proofs.Common.{get_or-set_same, get_or-set_other}
+use Rattle.std.proofs.lemmas.List.Sums.{sum-map}
+use Rattle.regex_search_core.specs.Search.{Search}
+use Rattle.thompson_nfa.specs.Automaton.{Automaton, Node}
+use Rattle.thompson_nfa.specs.Automaton.Node.{Capture, Fail, Match}
+use Rattle.nfa_paths.specs.Graphs.{Pair, In}
+use Rattle.nfa_paths.specs.Paths.{span_len, degree, node_at, pattern_of, slot_of, edges_of, is_match, space}
+use Rattle.nfa_paths.specs.Paths.{turn_weight}
+use Rattle.nfa_paths.specs.Exploring.{Item, Slots, Hit, ExploresTo}
+use Rattle.nfa_paths.specs.Exploring.Item.{Explore, Restore}
+use Rattle.nfa_paths.specs.Turns.{marked_sum, repeated}
+use Rattle.nfa_paths.proofs.SearchLemmas.{Answer-none, Answer-restore, Answer-marked, Answer-target, Answer-plain}
+use Rattle.nfa_paths.proofs.SearchLemmas.{Answer-write, Answer-unkept}
+use Rattle.nfa_paths.proofs.TurnLemmas.{marked_sum-set, sum-repeated, get_or-repeated}
+use Rattle.nfa_scanning.specs.Marks.{Marks}
+use Rattle.regex_search_core.specs.declared.search.HalfMatch.{HalfMatch}
+use Rattle.nfa_backtrack_scan.specs.Walk.{bit_of, HasBits, IsMarked, Agrees, weights, WalkAnswer, Carries, Ends, EndsAt}
+
+module _ (nfa : Automaton) (x : Search) where
+  -- what a state's number names
+  pub node_at-get : (s : ℕ) (node : Node) → slice_get nfa.states s ≡ Some node → node_at nfa s ≡ node
+  unfolding node_at
+  node_at-get s node is = get_or_from_slice_get nfa.states s node Fail is
+
+  -- the bit of a place lies in the table
+  pub bit_of-within : (bits : List Bool) (s at : ℕ) → HasBits nfa x bits → s < length nfa.states → x.start
+      ≤ at → at ≤ x.end
+      → bit_of nfa x (s, at) < length bits
+  bit_of-within bits s at room state from to =
+      let lt : at - x.start < span_len x + 1 = omega arith in
+      let k = mul-add-lt (at - x.start) (length nfa.states) s (span_len x + 1) lt state in let h = room.room in omega
+      arith
+
+  -- marking a pair adds its state's degree
+  pub marked_sum-weights : (bits : List Bool) (s at : ℕ) (node : Node) → s < length nfa.states → x.start
+      ≤ at → at ≤ x.end
+      → slice_get nfa.states s ≡ Some node → get_or bits (bit_of nfa x (s, at)) true ≡ false
+      → marked_sum (weights nfa x) (set bits (bit_of nfa x (s, at)) true)
+      ≡ marked_sum (weights nfa x) bits + degree node
+  unfolding weights
+  marked_sum-weights bits s at node state from to is clear =
+      let here : at - x.start < span_len x + 1 = omega arith in
+      let one = get_or-repeated (span_len x + 1) (map degree nfa.states) (at - x.start) s 0 here
+      (rw length-map state) in
+      let w : get_or (map degree nfa.states) s 0
+      ≡ degree node = get_or_from_slice_get (map degree nfa.states) s (degree node) 0
+      (rw (slice_get-map degree nfa.states s, is) refl) in
+      let e : get_or (repeated (span_len x + 1) (map degree nfa.states)) (bit_of nfa x (s, at)) 0
+      ≡ degree node = rw length-map at one ∙ w in
+      marked_sum-set (repeated (span_len x + 1) (map degree nfa.states)) bits (bit_of nfa x (s, at)) clear
+      ∙ ap (λ k. marked_sum (repeated (span_len x + 1) (map degree nfa.states)) bits + k) e
+
+  -- all of them together
+  pub sum-weights : sum (weights nfa x) ≡ (span_len x + 1) * turn_weight nfa
+  unfolding weights
+  sum-weights = sum-repeated (span_len x + 1) (map degree nfa.states) ∙ ap (λ k. (span_len x + 1) * k)
+      (sum-map degree nfa.states)
+
+  -- no pair is marked in a table of clear bits
+  pub IsMarked-clear : (n : ℕ) (v : Pair) → IsMarked nfa x (replicate n false) v → ⊥
+  IsMarked-clear n v s = never n (bit_of nfa x v) s.set
+    where
+      never : (n k : ℕ) → get_or (replicate n false) k false ≡ true → ⊥
+      never zero k e = cc
+      never (suc n) zero e = cc
+      never (suc n) (suc k) e = never n k e
+
+  -- setting a pair's bit marks it and no other
+  pub IsMarked-set : (bits : List Bool) (s at : ℕ) → s < length nfa.states → x.start
+      ≤ at → bit_of nfa x (s, at) < length bits
+      → (v : Pair) → (IsMarked nfa x (set bits (bit_of nfa x (s, at)) true) v → (v ≡ (s, at)) ⊎ IsMarked nfa x bits v)
+      × ((v ≡ (s, at)) ⊎ IsMarked nfa x bits v → IsMarked nfa x (set bits (bit_of nfa x (s, at)) true) v)
+  IsMarked-set bits s at state from inside v = (
+    λ m.
+        elim (ℕ_discrete (bit_of nfa x v) (bit_of nfa x (s, at))) [
+          | yes e ↦
+              let both = same_from_place (v.1 - x.start) v.0 (at - x.start) s (length nfa.states) m.state state e in
+              let same : v.1 ≡ at = let f = m.from in let d = both.0 in omega arith in
+              inl (λ i. (both.1 i, same i))
+          | no n ↦ inr (record {
+            state = m.state;
+            from = m.from;
+            set = rw (get_or-set_other bits (bit_of nfa x (s, at)) (bit_of nfa x v) true false n) at m.set;
+          })
+        ],
+    λ m.
+        elim m [
+          | inl e ↦ rw e (record {
+            state = state;
+            from = from;
+            set = get_or-set_same bits (bit_of nfa x (s, at)) true
+                false inside;
+          })
+          | inr old ↦
+              elim (ℕ_discrete (bit_of nfa x v) (bit_of nfa x (s, at))) [
+                | yes e ↦ record {
+                  state = old.state;
+                  from = old.from;
+                  set = rw (e, get_or-set_same bits (bit_of nfa x (s, at)) true false inside) refl;
+                }
+                | no n ↦ record {
+                  state = old.state;
+                  from = old.from;
+                  set = rw (get_or-set_other bits (bit_of nfa x (s, at)) (bit_of nfa x v) true false n) old.set;
+                }
+              ]
+        ],
+  )
+
+  module _ (marks : Marks) (s at : ℕ) (rest : List Item) (slots : Slots) (after : Marks)
+      (counted : after.turns ≡ marks.turns + 1) where
+    -- a turn that finds its pair marked
+    pub Carries-marked : s < length nfa.states → x.start ≤ at → get_or marks.bits (bit_of nfa x (s, at)) false ≡ true
+        → after.bits ≡ marks.bits
+        → Carries nfa x marks (Explore (s, at) ∷ rest) slots after rest slots
+    unfolding WalkAnswer
+    Carries-marked state from seen same = record {
+      grows = omega arith;
+      back = λ left more g e a pairs agrees.
+          let one : more ≡ suc left = omega arith in
+          rw one
+          (Answer-marked (space nfa x) (is_match nfa) left None pairs (s, at) rest slots g
+          ((agrees (s, at)).1 (record { state = state; from = from; set = seen })) (rw same at a pairs agrees));
+    }
+
+    module _ (state : s < length nfa.states) (from : x.start ≤ at) (inside : bit_of nfa x (s, at) < length marks.bits)
+        (clear : get_or marks.bits (bit_of nfa x (s, at)) true ≡ false)
+        (marked : after.bits ≡ set marks.bits (bit_of nfa x (s, at)) true) where
+      free : (pairs : List Pair) → Agrees nfa x marks.bits pairs → ¬ (In (s, at) pairs)
+      free pairs agrees i =
+          let m = (agrees (s, at)).0 i in
+          let e : get_or marks.bits (bit_of nfa x (s, at)) false
+          ≡ false = get_or_default marks.bits (bit_of nfa x (s, at)) false true inside ∙ clear in
+          absurd (cc (m.set, e))
+
+      grown : (pairs : List Pair) → Agrees nfa x marks.bits pairs → Agrees nfa x after.bits ((s, at) ∷ pairs)
+      grown pairs agrees v =
+          let now = IsMarked-set marks.bits s at state from inside v in
+          rw marked (
+            λ i. now.1 (elim i [ inl e ↦ inl e | inr k ↦ inr ((agrees v).0 k) ]),
+            λ m. elim (now.0 m) [ inl e ↦ inl e | inr k ↦ inr ((agrees v).1 k) ],
+          )
+
+      -- a turn that marks the pair
+      Carries-taken : (work : List Item) (written : Slots)
+          → ((left : ℕ) (pairs : List Pair) (g : Hit) → ¬ (In (s, at) pairs)
+          → ExploresTo (space nfa x) (is_match nfa) left None ((s, at) ∷ pairs) work written g
+          → ExploresTo (space nfa x) (is_match nfa) (suc left) None pairs (Explore (s, at) ∷ rest) slots g)
+          → Carries nfa x marks (Explore (s, at) ∷ rest) slots after work written
+      unfolding WalkAnswer
+      Carries-taken work written step = record {
+        grows = omega arith;
+        back = λ left more g e a pairs agrees.
+            let one : more ≡ suc left = omega arith in
+            rw one (step left pairs g (free pairs agrees) (a ((s, at) ∷ pairs) (grown pairs agrees)));
+      }
+
+      -- a match ends the search
+      pub Ends-match : (pattern : ℕ) → slice_get nfa.states s ≡ Some (Match pattern)
+          → Ends nfa x marks (Explore (s, at) ∷ rest) slots (Some ((s, at), slots)) after.turns
+      unfolding WalkAnswer
+      Ends-match pattern is = record {
+        grows = omega arith;
+        answer = λ left e pairs agrees.
+            let one : left ≡ suc 0 = omega arith in
+            let node = node_at-get s (Match pattern) is in
+            rw one
+            (Answer-target (space nfa x) (is_match nfa) 0 None pairs (s, at) rest slots _
+            (free pairs agrees) (rw node refl) (rw node refl));
+      }
+
+      -- a state that writes nothing gives way to its edges
+      pub Carries-plain : (node : Node) → slice_get nfa.states s ≡ Some node → pattern_of node ≡ None → slot_of node
+          ≡ None
+          → (es : List Pair) → edges_of x node at ≡ es
+          → Carries nfa x marks (Explore (s, at) ∷ rest) slots after (map Explore es ++ rest) slots
+      Carries-plain node is plain writes es leads =
+          let n = node_at-get s node is in
+          Carries-taken (map Explore es ++ rest) slots
+          (λ left pairs g f. Answer-plain (space nfa x) (is_match nfa) left None pairs (s, at) rest slots
+          g f (rw (n, plain) refl) es (rw n leads) (rw (n, writes) refl))
+
+      -- a Capture writes its slot, which is restored below its edge
+      pub Carries-write : (next slot : ℕ) → slice_get nfa.states s ≡ Some (Capture next slot)
+          → Carries nfa x marks (Explore (s, at) ∷ rest) slots after
+          (Explore (next, at) ∷ Restore slot (get_or slots slot None) ∷ rest) (set slots slot (Some at))
+      unfolding edges_of
+      Carries-write next slot is =
+          let n = node_at-get s (Capture next slot) is in
+          Carries-taken (Explore (next, at) ∷ Restore slot (get_or slots slot None) ∷ rest) (set slots slot (Some at))
+          (λ left pairs g f. Answer-write (space nfa x) (is_match nfa) left None pairs (s, at) rest slots
+          g f (rw n refl) ((next, at) ∷ []) (rw n refl) slot (rw n refl))
+
+      -- a Capture of a slot that is not tracked
+      pub Carries-unkept : (next slot : ℕ) → slice_get nfa.states s ≡ Some (Capture next slot) → length slots ≤ slot
+          → Carries nfa x marks (Explore (s, at) ∷ rest) slots after (Explore (next, at) ∷ rest) slots
+      unfolding edges_of
+      Carries-unkept next slot is past =
+          let n = node_at-get s (Capture next slot) is in
+          Carries-taken (Explore (next, at) ∷ rest) slots
+          (λ left pairs g f. Answer-unkept (space nfa x) (is_match nfa) left None pairs (s, at) rest slots
+          g f (rw n refl) ((next, at) ∷ []) (rw n refl) slot (rw n refl) past)
+
+  -- steps one after another
+  module _ {m : Marks} {w : List Item} {s : Slots} where
+    module _ {n : Marks} {y : List Item} {t : Slots} (f : Carries nfa x m w s n y t) where
+      pub Carries-then : {o : Marks} {z : List Item} {u : Slots} → Carries nfa x n y t o z u → Carries nfa x m w s o z u
+      Carries-then {o = o} k = let p = f.grows in let q = k.grows in record {
+        grows = omega arith;
+        back = λ left more g e h.
+            f.back (left + (o.turns - n.turns)) more g (omega arith)
+            (k.back left (left + (o.turns - n.turns)) g (omega arith) h);
+      }
+
+      pub Carries-ends : {g : Hit} {turns : ℕ} → Ends nfa x n y t g turns → Ends nfa x m w s g turns
+      Carries-ends {g} {turns} e = let p = f.grows in let q = e.grows in record {
+        grows = omega arith;
+        answer = λ left k. f.back (turns - n.turns) left g (omega arith) (e.answer (turns - n.turns) (omega arith));
+      }
+
+  pub Carries-none : (m : Marks) (w : List Item) (s : Slots) → Carries nfa x m w s m w s
+  Carries-none m w s = record {
+    grows = omega arith;
+    back = λ left more g e h. let same : more ≡ left = omega arith in rw same h;
+  }
+
+  -- a slot has its old value again
+  pub Carries-restore : (m : Marks) (w : List Item) (s : Slots) (k : ℕ) (old : Option ℕ)
+      → Carries nfa x m (Restore k old ∷ w) s m w (set s k old)
+  unfolding WalkAnswer
+  Carries-restore m w s k old = record {
+    grows = omega arith;
+    back = λ left more g e h pairs agrees.
+        let same : more ≡ left = omega arith in
+        rw same ((Answer-restore (space nfa x) (is_match nfa) left None pairs k old w s g).0 (h pairs agrees));
+  }
+
+  -- nothing is left
+  pub Ends-none : (m : Marks) (s : Slots) → Ends nfa x m [] s None m.turns
+  unfolding WalkAnswer
+  Ends-none m s = record {
+    grows = omega arith;
+    answer = λ left e pairs agrees. Answer-none (space nfa x) (is_match nfa) left None pairs s;
+  }
+
+  -- steps before the end
+  pub EndsAt-along : {half : HalfMatch} {m : Marks} {w : List Item} {s : Slots} {n : Marks} {y : List Item}
+      {t written : Slots} {turns : ℕ}
+      → Carries nfa x m w s n y t → EndsAt nfa x half n y t written turns → EndsAt nfa x half m w s written turns
+  EndsAt-along f e = record { state = e.state; matches = e.matches; ends = Carries-ends f e.ends }

@@ -1,0 +1,97 @@
+-- What the search from all starts comes to, and how many turns it takes at most.
+use Rattle.std.proofs.Common.{◌≡◌, ◌∙◌, ◌+◌, ◌-◌, ◌<◌, ◌≤◌, length, replicate, map, arith, sym, ap, refl}
+use Rattle.std.specs.Prelude.{None}
+use Rattle.regex_search_core.specs.Search.{search_of}
+use Rattle.nfa_paths.specs.Paths.{pairs_from}
+use Rattle.nfa_paths.specs.Exploring.Item.{Explore}
+use Rattle.nfa_paths.proofs.StartLemmas.{pairs_from-step, pairs_from-end}
+use Rattle.nfa_backtrack_scan.proofs.PassLemmas.{Carries-first, Carries-pass}
+use Rattle.nfa_backtrack_scan.proofs.WalkLemmas.{Carries-then, Carries-ends, Ends-none, EndsAt-along}
+use Rattle.nfa_backtrack_scan.proofs.ScanLemmas.{starts-none, starts-some, turns-all, turns-bound}
+use Rattle.nfa_backtrack_scan.proofs.scan.try_starts.Goals as goal
+
+pub returns-in_err-half-clause-turns : goal.returns-in_err-half-clause-turns
+returns-in_err-half-clause-turns c =
+    turns-bound c.args.nfa.now (search_of c.args.input.now) (c.loop-at.at - (search_of c.args.input.now).start)
+    c.loop-at.scratch.visited.turns _ _ c.loop-at.scratch.visited.bits
+    (omega arith) c.loop-at.invariant.tried c.walk.ensures.bounded
+
+pub returns-in-Some-2-clause-turns : goal.returns-in-Some-2-clause-turns
+returns-in-Some-2-clause-turns c =
+    turns-bound c.args.nfa.now (search_of c.args.input.now) (c.loop-at.at - (search_of c.args.input.now).start)
+    c.loop-at.scratch.visited.turns _ _ c.loop-at.scratch.visited.bits
+    (omega arith) c.loop-at.invariant.tried c.walk.ensures.bounded
+
+pub returns-in-Some-2-clause-answer : goal.returns-in-Some-2-clause-answer
+returns-in-Some-2-clause-answer c =
+    let here : c.loop-at.at < c.start_limit-limit.result = c.loop-at-test.true in
+    let follows = rw (pairs_from-step c.in-Some.sid here) at c.loop-at.invariant.follows in
+    let walks = rw (c.in-Some-2.is, c.place_of-place.ensures.pair) at c.in_ok-half.ensures.walks in
+    let rest = map Explore (pairs_from c.in-Some.sid (c.loop-at.at + 1)
+    (c.start_limit-limit.result - (c.loop-at.at + 1))) in
+    let size : length c.walk.new.slots ≡ length c.args.slots.now = c.walk.auto.slots ∙ c.loop-at.auto.slots in
+    let unset : c.args.slots.now ≡ replicate (length c.walk.new.slots) None = c.requires.unset ∙ ap
+    (λ n. replicate n None) (sym size) in
+    starts-some c.args.nfa.now (search_of c.args.input.now) c.args.scratch.now.visited c.requires.clear c.args.slots.now
+    _ c.in-Some-2.half c.walk.new.slots unset
+    (EndsAt-along c.args.nfa.now (search_of c.args.input.now) follows (walks rest))
+
+pub loop-at-init : goal.loop-at-init
+loop-at-init c =
+    let known = sym c.in-Some.ensures.value in
+    let start : c.start.result ≡ (search_of c.args.input.now).start = c.start.ensures in
+    let low : (search_of c.args.input.now).start
+    ≤ c.next_start-at.result = omega (arith, c.next_start-at.ensures.low) in
+    record {
+      follows = Carries-first c.args.nfa.now (search_of c.args.input.now) c.args.first.now.may_begin c.requires.first
+          c.args.scratch.now.visited c.args.slots.now
+          c.in-Some.sid c.skip_limit-stop.result c.next_start-at.result c.start_limit-limit.result low
+          (λ past. c.next_start-at.ensures.stays (omega arith) ∙ start) c.skip_limit-stop.ensures.anchored known
+          (λ k l h. c.next_start-at.ensures.passed k (omega arith) h)
+          (c.start_limit-limit.ensures.starts c.in-Some.sid known);
+      low = low;
+      high = c.next_start-at.ensures.high;
+      scans = refl;
+      size = refl;
+      empty = c.requires.empty;
+      tried = omega arith;
+    }
+
+pub loop-at-preserved : goal.loop-at-preserved
+loop-at-preserved c =
+    let here : c.loop-at.at < c.start_limit-limit.result = c.loop-at-test.true in
+    let follows = rw (pairs_from-step c.in-Some.sid here) at c.loop-at.invariant.follows in
+    let fails = rw (c.in_default-2.is, c.place_of-place.ensures.pair) at c.in_ok-half.ensures.walks in
+    let rest = map Explore (pairs_from c.in-Some.sid (c.loop-at.at + 1)
+    (c.start_limit-limit.result - (c.loop-at.at + 1))) in
+    let walked = Carries-then c.args.nfa.now (search_of c.args.input.now) follows (fails.follows rest) in
+    let next = c.next_start-at-in-loop-at.ensures in
+    record {
+      follows = Carries-then c.args.nfa.now (search_of c.args.input.now) walked
+          (Carries-pass c.args.nfa.now (search_of c.args.input.now) c.args.first.now.may_begin c.requires.first
+          c.walk.new.scratch.visited c.walk.new.slots
+          c.in-Some.sid (c.loop-at.at + 1) c.skip_limit-stop.result c.next_start-at-in-loop-at.result
+          c.start_limit-limit.result
+          (omega (arith, c.loop-at.invariant.low)) next.low next.stays c.skip_limit-stop.ensures.anchored
+          (sym c.in-Some.ensures.value) next.passed);
+      low = omega (arith, c.loop-at.invariant.low, c.next_start-at-in-loop-at.ensures.low);
+      high = next.high;
+      scans = c.walk.ensures.scans ∙ c.loop-at.invariant.scans;
+      size = c.walk.ensures.size ∙ c.loop-at.invariant.size;
+      empty = fails.empty;
+      tried = omega (arith, c.loop-at.invariant.tried, fails.spent, c.next_start-at-in-loop-at.ensures.low);
+    }
+
+pub returns-clause-turns : goal.returns-clause-turns
+returns-clause-turns c =
+    turns-all c.args.nfa.now (search_of c.args.input.now) (c.loop-at.at - (search_of c.args.input.now).start) _ _
+    c.loop-at.scratch.visited.bits (omega arith) c.loop-at.invariant.tried
+
+pub returns-clause-answer : goal.returns-clause-answer
+returns-clause-answer c =
+    let over : c.start_limit-limit.result ≤ c.loop-at.at = c.loop-at-test.false in
+    let follows = rw (pairs_from-end c.in-Some.sid over) at c.loop-at.invariant.follows in
+    starts-none c.args.nfa.now (search_of c.args.input.now) c.args.scratch.now.visited c.requires.clear c.args.slots.now
+    c.loop-at.scratch.visited.turns
+    (Carries-ends c.args.nfa.now (search_of c.args.input.now) follows
+    (Ends-none c.args.nfa.now (search_of c.args.input.now) c.loop-at.scratch.visited c.loop-at.slots))

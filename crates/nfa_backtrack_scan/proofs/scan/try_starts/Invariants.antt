@@ -1,0 +1,26 @@
+-- At each start the answer from there is the answer from all starts, and the turns so far are bounded.
+use Rattle.std.proofs.Common.{◌≡◌, ◌+◌, ◌-◌, ◌≤◌, [], length, map}
+use Rattle.regex_search_core.specs.Search.{search_of}
+use Rattle.nfa_paths.specs.Paths.{starts, pairs_from}
+use Rattle.nfa_paths.specs.Exploring.Item.{Explore}
+use Rattle.nfa_paths.specs.Turns.{marked_sum}
+use Rattle.nfa_backtrack_scan.specs.Walk.{Carries, weights}
+use Rattle.nfa_backtrack_scan.proofs.scan.try_starts.Given as goal
+
+abbrev pub invariant-loop-at : goal.invariant-loop-at
+invariant-loop-at l = record {
+  follows : Carries l.nfa (search_of l.input) l.fn.scratch.visited (map Explore (starts l.nfa (search_of l.input)))
+      l.fn.slots
+      l.scratch.visited (map Explore (pairs_from l.sid l.at (l.limit - l.at))) l.slots;
+  low : (search_of l.input).start ≤ l.at;
+  high : l.at ≤ (search_of l.input).end + 1;
+  scans : l.scratch.scans ≡ l.fn.scratch.scans;
+  size : length l.scratch.visited.bits ≡ length l.fn.scratch.visited.bits;
+  empty : l.scratch.stack.items ≡ [];
+  tried : l.scratch.visited.turns
+      ≤ l.fn.scratch.visited.turns + (l.at - (search_of l.input).start) + marked_sum (weights l.nfa (search_of l.input))
+      l.scratch.visited.bits;
+}
+
+abbrev pub decreases-loop-at : goal.decreases-loop-at
+decreases-loop-at l = l.limit - l.at

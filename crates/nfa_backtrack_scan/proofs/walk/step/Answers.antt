@@ -1,0 +1,240 @@
+-- Where a turn leads, for each kind of state, and that its mark pays for what it puts off.
+use Rattle.std.proofs.Common.{[], ◌<◌, ◌∙◌, length, arith, sym}
+use Rattle.regex_search_core.specs.Search.{search_of}
+use Rattle.nfa_backtrack_scan.specs.declared.frame.Frame.TheVariants.{Step}
+use Rattle.thompson_nfa.specs.Automaton.Node.{ByteRange, Sparse, Dense, Look, Union, BinaryUnion, Capture, Fail}
+use Rattle.nfa_backtrack_scan.proofs.WalkLemmas.{Carries-marked}
+use Rattle.nfa_backtrack_scan.proofs.StepLemmas.{same_size, Fits-row, target-tries, first-drop, PaidFor-same, PaidFor-push}
+use Rattle.nfa_backtrack_scan.proofs.StepLemmas.{PaidFor-put, Goes-range, Goes-sparse, Goes-dense, Goes-look, Goes-no_look}
+use Rattle.nfa_backtrack_scan.proofs.StepLemmas.{Goes-union, Goes-no_union, Goes-both, Goes-fail, Goes-write, Goes-unkept}
+use Rattle.nfa_backtrack_scan.proofs.StepLemmas.{Goes-match, IsFrame-restoring, tries-restoring}
+use Rattle.nfa_backtrack_scan.proofs.walk.step.Goals as goal
+use Rattle.nfa_backtrack_scan.proofs.walk.step.Goals.{then-slot-slots+in_ok-save-in-Capture, else-slot-slots}
+
+pub past_byte-requires-clause-row : goal.past_byte-requires-clause-row
+past_byte-requires-clause-row c =
+    Fits-row c.args.nfa.now (search_of c.args.input.now) c.args.place c.args.scratch.now.visited.bits c.requires.place
+    c.requires.room _
+    (same_size c.args.nfa.now c.args.states.now c.requires.states)
+
+pub returns-then-not-mark-clause-goes : goal.returns-then-not-mark-clause-goes
+returns-then-not-mark-clause-goes c = λ work.
+    let met = c.mark.ensures.seen c.if-not-mark.true in
+    Carries-marked c.args.nfa.now (search_of c.args.input.now) c.args.scratch.now.visited c.args.place.sid
+    c.args.place.at _ _ c.mark.new.visited met.counted
+    met.marked_before.state met.marked_before.from met.marked_before.set met.same
+
+pub returns-in-ByteRange-clause-paid : goal.returns-in-ByteRange-clause-paid
+returns-in-ByteRange-clause-paid c =
+    let t = c.mark.ensures.taken c.if-not-mark.false in
+    let is = rw c.in-ByteRange.is at c.state_at.ensures.node in
+    PaidFor-same t (ByteRange c.in-ByteRange.trans) is _ _ _ c.requires.within
+    (rw (c.past_byte.ensures, c.range_target-target.ensures)
+    (target-tries (ByteRange c.in-ByteRange.trans) c.args.place _ c.byte_at.result))
+
+pub returns-in-ByteRange-clause-goes : goal.returns-in-ByteRange-clause-goes
+returns-in-ByteRange-clause-goes c =
+    let t = c.mark.ensures.taken c.if-not-mark.false in
+    let is = rw c.in-ByteRange.is at c.state_at.ensures.node in
+    let below = rw c.in-ByteRange.is at c.state_at.ensures.leads in
+    rw (c.past_byte.ensures, c.range_target-target.ensures)
+    (Goes-range t c.args.place.row c.requires.place.row _
+    (same_size c.args.nfa.now c.args.states.now c.requires.states) c.in-ByteRange.trans is below c.byte_at.result
+    c.byte_at.ensures _ _)
+
+pub returns-in-Sparse-clause-paid : goal.returns-in-Sparse-clause-paid
+returns-in-Sparse-clause-paid c =
+    let t = c.mark.ensures.taken c.if-not-mark.false in
+    let is = rw c.in-Sparse.is at c.state_at.ensures.node in
+    let list = c.deref.ensures.value in
+    PaidFor-same t (Sparse c.in-Sparse.transitions.items) is _ _ _ c.requires.within
+    (rw (c.past_byte-in-Sparse.ensures, (rw list at c.sparse_target-target.ensures))
+    (target-tries (Sparse c.in-Sparse.transitions.items) c.args.place _ c.byte_at-in-Sparse.result))
+
+pub returns-in-Sparse-clause-goes : goal.returns-in-Sparse-clause-goes
+returns-in-Sparse-clause-goes c =
+    let t = c.mark.ensures.taken c.if-not-mark.false in
+    let is = rw c.in-Sparse.is at c.state_at.ensures.node in
+    let below = rw c.in-Sparse.is at c.state_at.ensures.leads in
+    let list = c.deref.ensures.value in
+    rw (c.past_byte-in-Sparse.ensures, (rw list at c.sparse_target-target.ensures))
+    (Goes-sparse t c.args.place.row c.requires.place.row _
+    (same_size c.args.nfa.now c.args.states.now c.requires.states) c.in-Sparse.transitions.items is below
+    c.byte_at-in-Sparse.result c.byte_at-in-Sparse.ensures _ _)
+
+pub returns-in-Dense-clause-paid : goal.returns-in-Dense-clause-paid
+returns-in-Dense-clause-paid c =
+    let t = c.mark.ensures.taken c.if-not-mark.false in
+    let is = rw c.in-Dense.is at c.state_at.ensures.node in
+    let list = c.deref-in-Dense.ensures.value in
+    PaidFor-same t (Dense c.in-Dense.targets.items) is _ _ _ c.requires.within
+    (rw (c.past_byte-in-Dense.ensures, (rw list at c.dense_target-target.ensures))
+    (target-tries (Dense c.in-Dense.targets.items) c.args.place _ c.byte_at-in-Dense.result))
+
+pub returns-in-Dense-clause-goes : goal.returns-in-Dense-clause-goes
+returns-in-Dense-clause-goes c =
+    let t = c.mark.ensures.taken c.if-not-mark.false in
+    let is = rw c.in-Dense.is at c.state_at.ensures.node in
+    let below = rw c.in-Dense.is at c.state_at.ensures.leads in
+    let list = c.deref-in-Dense.ensures.value in
+    rw (c.past_byte-in-Dense.ensures, (rw list at c.dense_target-target.ensures))
+    (Goes-dense t c.args.place.row c.requires.place.row _
+    (same_size c.args.nfa.now c.args.states.now c.requires.states) c.in-Dense.targets.items is below
+    c.byte_at-in-Dense.result c.byte_at-in-Dense.ensures _ _)
+
+pub returns-then-assertion_holds-clause-paid : goal.returns-then-assertion_holds-clause-paid
+returns-then-assertion_holds-clause-paid c =
+    let t = c.mark.ensures.taken c.if-not-mark.false in
+    let is = rw c.in-Look.is at c.state_at.ensures.node in
+    PaidFor-same t (Look c.in-Look.look c.in-Look.next) is _ _ _ c.requires.within (omega arith)
+
+pub returns-then-assertion_holds-clause-goes : goal.returns-then-assertion_holds-clause-goes
+returns-then-assertion_holds-clause-goes c =
+    let t = c.mark.ensures.taken c.if-not-mark.false in
+    let is = rw c.in-Look.is at c.state_at.ensures.node in
+    let below = rw c.in-Look.is at c.state_at.ensures.leads in
+    let holds = sym (rw c.haystack.ensures at c.assertion_holds.ensures) ∙ c.if-assertion_holds.true in
+    rw c.to.ensures (
+      record {
+        state = below;
+        from = c.requires.place.from;
+        to = c.requires.place.to;
+        row = c.requires.place.row;
+      },
+      λ work. Goes-look t c.in-Look.look c.in-Look.next is _ _ holds,
+    )
+
+pub returns-else-assertion_holds-clause-paid : goal.returns-else-assertion_holds-clause-paid
+returns-else-assertion_holds-clause-paid c =
+    let t = c.mark.ensures.taken c.if-not-mark.false in
+    let is = rw c.in-Look.is at c.state_at.ensures.node in
+    PaidFor-same t (Look c.in-Look.look c.in-Look.next) is _ _ _ c.requires.within (omega arith)
+
+pub returns-else-assertion_holds-clause-goes : goal.returns-else-assertion_holds-clause-goes
+returns-else-assertion_holds-clause-goes c =
+    let t = c.mark.ensures.taken c.if-not-mark.false in
+    let is = rw c.in-Look.is at c.state_at.ensures.node in
+    let fails = sym (rw c.haystack.ensures at c.assertion_holds.ensures) ∙ c.if-assertion_holds.false in
+    λ work. Goes-no_look t c.in-Look.look c.in-Look.next is _ _ fails
+
+pub returns-in_default-clause-paid : goal.returns-in_default-clause-paid
+returns-in_default-clause-paid c =
+    let t = c.mark.ensures.taken c.if-not-mark.false in
+    let is = rw c.in-Union.is at c.state_at.ensures.node in
+    PaidFor-same t (Union c.in-Union.alternates.items) is _ _ _ c.requires.within (omega arith)
+
+pub returns-in_default-clause-goes : goal.returns-in_default-clause-goes
+returns-in_default-clause-goes c =
+    let t = c.mark.ensures.taken c.if-not-mark.false in
+    let is = rw c.in-Union.is at c.state_at.ensures.node in
+    let none = sym (rw c.deref-in-Union.ensures.value at c.in_default.ensures.value) in
+    λ work. Goes-no_union t c.in-Union.alternates.items is _ none _
+
+pub returns-in_ok-put_off-in-Union-clause-paid : goal.returns-in_ok-put_off-in-Union-clause-paid
+returns-in_ok-put_off-in-Union-clause-paid c =
+    let t = c.mark.ensures.taken c.if-not-mark.false in
+    let is = rw c.in-Union.is at c.state_at.ensures.node in
+    let below = rw c.in-Union.is at c.state_at.ensures.leads in
+    let first = sym (rw c.deref-in-Union.ensures.value at c.in-Some.ensures.value) in
+    rw (c.in_ok-put_off-in-Union.ensures, c.deref-in-Union-2.ensures.value)
+    (PaidFor-put t c.in-Union.alternates.items is _ _ _ first _ c.requires.place.row c.requires.within below)
+
+pub returns-in_ok-put_off-in-Union-clause-goes : goal.returns-in_ok-put_off-in-Union-clause-goes
+returns-in_ok-put_off-in-Union-clause-goes c =
+    let t = c.mark.ensures.taken c.if-not-mark.false in
+    let is = rw c.in-Union.is at c.state_at.ensures.node in
+    let below = rw c.in-Union.is at c.state_at.ensures.leads in
+    let first = sym (rw c.deref-in-Union.ensures.value at c.in-Some.ensures.value) in
+    let split = first-drop c.in-Union.alternates.items c.in-Some.first.now first in
+    let state : c.in-Some.first.now < length c.args.nfa.now.states = (rw split at below) 0 0 (omega arith) in
+    rw c.to-in-Union.ensures (
+      record { state = state; from = c.requires.place.from; to = c.requires.place.to; row = c.requires.place.row },
+      λ work. rw (c.in_ok-put_off-in-Union.ensures, c.deref-in-Union-2.ensures.value)
+          (Goes-union t c.in-Union.alternates.items is c.args.slots.now _ first c.args.scratch.now.stack.items work _),
+    )
+
+pub returns-in_ok-push-in-BinaryUnion-clause-paid : goal.returns-in_ok-push-in-BinaryUnion-clause-paid
+returns-in_ok-push-in-BinaryUnion-clause-paid c =
+    let t = c.mark.ensures.taken c.if-not-mark.false in
+    let is = rw c.in-BinaryUnion.is at c.state_at.ensures.node in
+    let below = rw c.in-BinaryUnion.is at c.state_at.ensures.leads in
+    rw (c.in_ok-push-in-BinaryUnion.ensures.items, c.later.ensures)
+    (PaidFor-push t (BinaryUnion c.in-BinaryUnion.alt1 c.in-BinaryUnion.alt2) is _ _
+    (Step c.in-BinaryUnion.alt2 c.args.place.at c.args.place.row) _ c.requires.within
+    (record { state = below.1; from = c.requires.place.from; to = c.requires.place.to; row = c.requires.place.row })
+    (omega arith))
+
+pub returns-in_ok-push-in-BinaryUnion-clause-goes : goal.returns-in_ok-push-in-BinaryUnion-clause-goes
+returns-in_ok-push-in-BinaryUnion-clause-goes c =
+    let t = c.mark.ensures.taken c.if-not-mark.false in
+    let is = rw c.in-BinaryUnion.is at c.state_at.ensures.node in
+    let below = rw c.in-BinaryUnion.is at c.state_at.ensures.leads in
+    rw c.to-preferred.ensures (
+      record { state = below.0; from = c.requires.place.from; to = c.requires.place.to; row = c.requires.place.row },
+      λ work. rw (c.in_ok-push-in-BinaryUnion.ensures.items, c.later.ensures)
+          (Goes-both t c.in-BinaryUnion.alt1 c.in-BinaryUnion.alt2 is c.args.slots.now c.args.scratch.now.stack.items
+          work _),
+    )
+
+pub returns-after-slot-slots-clause-paid : goal.returns-after-slot-slots-clause-paid
+returns-after-slot-slots-clause-paid c =
+    let t = c.mark.ensures.taken c.if-not-mark.false in
+    let is = rw c.in-Capture.is at c.state_at.ensures.node in
+    elim c.if-slot-slots.branch [
+      | then-slot-slots+in_ok-save-in-Capture w ↦
+          rw (w.scratch-is, w.in_ok-save-in-Capture.ensures.stack)
+          (PaidFor-push t (Capture c.in-Capture.next c.in-Capture.slot) is _ _ _ _ c.requires.within
+          (IsFrame-restoring c.args.nfa.now (search_of c.args.input.now) _ c.in-Capture.slot _ w.if-slot-slots.true)
+          (omega (arith, tries-restoring)))
+      | else-slot-slots w ↦
+          rw w.scratch-is (PaidFor-same t (Capture c.in-Capture.next c.in-Capture.slot) is _ _ _ c.requires.within
+          (omega arith))
+    ]
+
+pub returns-after-slot-slots-clause-goes : goal.returns-after-slot-slots-clause-goes
+returns-after-slot-slots-clause-goes c =
+    let t = c.mark.ensures.taken c.if-not-mark.false in
+    let is = rw c.in-Capture.is at c.state_at.ensures.node in
+    let below = rw c.in-Capture.is at c.state_at.ensures.leads in
+    rw c.to-in-Capture.ensures (
+      record { state = below; from = c.requires.place.from; to = c.requires.place.to; row = c.requires.place.row },
+      λ work.
+          elim c.if-slot-slots.branch [
+            | then-slot-slots+in_ok-save-in-Capture w ↦
+                rw (
+                  w.scratch-is,
+                  w.slots-is,
+                  w.in_ok-save-in-Capture.ensures.stack,
+                  w.in_ok-save-in-Capture.ensures.slots,
+                )
+                (Goes-write t c.in-Capture.next c.in-Capture.slot is c.args.slots.now c.args.scratch.now.stack.items
+                work)
+            | else-slot-slots w ↦
+                rw (w.scratch-is, w.slots-is) (Goes-unkept t c.in-Capture.next c.in-Capture.slot is c.args.slots.now
+                c.args.scratch.now.stack.items work w.if-slot-slots.false)
+          ],
+    )
+
+pub returns-in-Fail-clause-paid : goal.returns-in-Fail-clause-paid
+returns-in-Fail-clause-paid c =
+    let t = c.mark.ensures.taken c.if-not-mark.false in
+    let is = rw c.in-Fail.is at c.state_at.ensures.node in
+    PaidFor-same t Fail is _ _ _ c.requires.within (omega arith)
+
+pub returns-in-Fail-clause-goes : goal.returns-in-Fail-clause-goes
+returns-in-Fail-clause-goes c = λ work.
+    let t = c.mark.ensures.taken c.if-not-mark.false in
+    let is = rw c.in-Fail.is at c.state_at.ensures.node in
+    Goes-fail t is _ _
+
+pub returns-in-Match-clause-paid : goal.returns-in-Match-clause-paid
+returns-in-Match-clause-paid c =
+    let t = c.mark.ensures.taken c.if-not-mark.false in
+    let is = rw c.in-Match.is at c.state_at.ensures.node in
+    PaidFor-same t _ is _ _ _ c.requires.within (omega arith)
+
+pub returns-in-Match-clause-goes : goal.returns-in-Match-clause-goes
+returns-in-Match-clause-goes c =
+    let t = c.mark.ensures.taken c.if-not-mark.false in
+    let is = rw c.in-Match.is at c.state_at.ensures.node in
+    ((Goes-match t _ is [] []).0, λ work. (Goes-match t _ is _ _).1)

@@ -1,0 +1,40 @@
+-- The first turn of a walk, whose slot is not put on the stack.
+use Rattle.std.specs.Prelude.{◌≡◌, ℕ, ◌+◌, ◌<◌, ◌≤◌, List, [], ◌∷◌, Option, None, Some, length, slice_set}
+use Rattle.std.specs.Option.{ForSome}
+use Rattle.regex_search_core.specs.Search.{Search}
+use Rattle.thompson_nfa.specs.Automaton.{Automaton}
+use Rattle.nfa_paths.specs.Graphs.{Pair}
+use Rattle.nfa_paths.specs.Exploring.{Slots, Item}
+use Rattle.nfa_paths.specs.Exploring.Item.{Explore as ToExplore, Restore as ToRestore}
+use Rattle.nfa_paths.specs.Turns.{marked_sum}
+use Rattle.nfa_scanning.specs.Marks.{Marks}
+use Rattle.nfa_backtrack_scan.specs.Walk.{pair_of, weights, IsPlace, Carries, WalkFails}
+use Rattle.nfa_backtrack_scan.specs.declared.walk.Begun.{Begun}
+
+-- the slot that was written gets no offset again, above some work
+abbrev pub kept_onto : Option ℕ → List Item → List Item
+kept_onto None work = work
+kept_onto (Some slot) work = ToRestore slot None ∷ work
+
+-- what that makes of the slots
+abbrev pub IsPutBack : Option ℕ → Slots → Slots → Type 0
+IsPutBack None slots after = after ≡ slots
+IsPutBack (Some slot) slots after = after ≡ slice_set slots slot None
+
+module _ (nfa : Automaton) (x : Search) where
+  -- a walk from v goes on there, and what was tried is paid for
+  pub record BeginsAt (v : Pair) (begun : Begun) (marks : Marks) (slots : Slots) (marked : Marks)
+      (written : Slots) : Type
+      0 where
+    pub place : IsPlace nfa x begun.place
+    pub slot : ForSome begun.slot (λ k. k < length written)
+    pub follows : (work : List Item)
+        → Carries nfa x marks (ToExplore v ∷ work) slots marked
+        (ToExplore (pair_of begun.place) ∷ kept_onto begun.slot work) written
+    pub spent : marked.turns + marked_sum (weights nfa x) marks.bits
+        ≤ marks.turns + marked_sum (weights nfa x) marked.bits
+
+  -- what comes of the first turn, if one was taken
+  abbrev pub Begins : Pair → Option Begun → Marks → Slots → Marks → Slots → Type 0
+  Begins v None marks slots marked written = WalkFails nfa x v marks slots [] marked written
+  Begins v (Some begun) marks slots marked written = BeginsAt v begun marks slots marked written

@@ -1,0 +1,222 @@
+-- The walk of a backtracker in the words of its proof: its stack as work that is left, its marks as pairs that were
+-- seen.
+use Rattle.std.specs.Prelude.{◌≡◌, ◌↔◌, ℕ, ◌+◌, ◌-◌, ◌*◌, ◌^◌, ◌<◌, ◌≤◌, Bool, true, false, List, [], ◌∷◌, Option, None}
+use Rattle.std.specs.Prelude.{Some, length, map, All, slice_index_or, slice_set}
+use Rattle.std.specs.List.{sum_by}
+use Rattle.regex_search_core.specs.Search.{Search}
+use Rattle.regex_search_core.specs.Patterns.{number_of}
+use Rattle.regex_search_core.specs.Found.{half_found_of}
+use Rattle.regex_search_core.specs.declared.search.HalfMatch.{HalfMatch}
+use Rattle.regex_search_core.specs.declared.search.MatchKind.TheVariants.{LeftmostFirst}
+use Rattle.thompson_nfa.specs.Automaton.{Automaton}
+use Rattle.nfa_paths.specs.Graphs.{Pair, In}
+use Rattle.nfa_paths.specs.Paths.{span_len, degree, node_at, pattern_of, is_match, IsScanAnswer, space}
+use Rattle.nfa_paths.specs.Restarts.{GivesPath}
+use Rattle.nfa_paths.specs.Exploring.{Slots, Hit, Item, ExploresTo}
+use Rattle.nfa_paths.specs.Exploring.Item.{Explore as ToExplore, Restore as ToRestore}
+use Rattle.nfa_paths.specs.Turns.{marked_sum, repeated}
+use Rattle.nfa_scanning.specs.Marks.{Marks}
+use Rattle.nfa_backtrack_scan.specs.declared.frame.Place.{Place}
+use Rattle.nfa_backtrack_scan.specs.declared.frame.Frame.{Frame}
+use Rattle.nfa_backtrack_scan.specs.declared.frame.Frame.TheVariants.{Step, Restore, Clear}
+use Rattle.nfa_backtrack_scan.specs.declared.walk.Move.{Move}
+use Rattle.nfa_backtrack_scan.specs.declared.walk.Move.TheVariants.{Go, Stuck, Matched}
+use Rattle.nfa_backtrack_scan.specs.declared.walk.Turn.{Turn}
+use Rattle.nfa_backtrack_scan.specs.declared.walk.Turn.TheVariants.{On, Ended, Over}
+
+-- the state and position of a place
+abbrev pub pair_of : Place → Pair
+pair_of place = (place.sid, place.at)
+
+-- what a frame leaves to do
+abbrev pub work_item : Frame → Item
+work_item (Step sid at row) = ToExplore (sid, at)
+work_item (Restore slot offset) = ToRestore slot (Some offset)
+work_item (Clear slot) = ToRestore slot None
+
+-- what puts the slot back to its old value
+abbrev pub restoring : ℕ → Option ℕ → Frame
+restoring slot None = Clear slot
+restoring slot (Some offset) = Restore slot offset
+
+-- on to the target at the next position, a row of so many states further on, if there is one
+abbrev pub move_of : Option ℕ → Place → ℕ → Move
+move_of None place states = Stuck
+move_of (Some sid) place states = Go (record { sid = sid; at = place.at + 1; row = place.row + states })
+
+-- the turns that a frame waits to take
+abbrev pub frame_tries : Frame → ℕ
+frame_tries (Step sid at row) = 1
+frame_tries (Restore slot offset) = 0
+frame_tries (Clear slot) = 0
+
+-- a frame that writes a slot writes one of these
+abbrev pub WritesSlot : ℕ → Frame → Type 0
+WritesSlot count (Step sid at row) = Unit {0}
+WritesSlot count (Restore slot offset) = slot < count
+WritesSlot count (Clear slot) = slot < count
+
+-- the frames of a stack, the top first, above some work
+abbrev pub stacked : List Frame → List Item → List Item
+stacked [] work = work
+stacked (f ∷ fs) work = stacked fs (work_item f ∷ work)
+
+-- what comes of taking a frame up: a place to search on from, or a slot that has its old value again
+abbrev pub Unwinds : Frame → Slots → Option Place → Slots → Type 0
+Unwinds (Step sid at row) slots place after = (place ≡ Some (record { sid = sid; at = at; row = row }))
+    × (after ≡ slots)
+Unwinds (Restore slot offset) slots place after = (place ≡ None) × (after ≡ slice_set slots slot (Some offset))
+Unwinds (Clear slot) slots place after = (place ≡ None) × (after ≡ slice_set slots slot None)
+
+-- the work with a place to search on from, if there is one
+abbrev pub with_place : Option Place → List Item → List Item
+with_place None work = work
+with_place (Some place) work = ToExplore (pair_of place) ∷ work
+
+-- how many tries to mark are owed where a turn leads
+abbrev pub tries_of_place : Option Place → ℕ
+tries_of_place None = 0
+tries_of_place (Some place) = 1
+
+abbrev pub tries_of_move : Move → ℕ
+tries_of_move (Go place) = 1
+tries_of_move Stuck = 0
+tries_of_move (Matched pattern) = 0
+
+abbrev pub tries_of_turn : Turn → ℕ
+tries_of_turn (On place) = 1
+tries_of_turn (Ended half) = 0
+tries_of_turn Over = 0
+
+module _ (nfa : Automaton) (x : Search) where
+  -- the place is one of the NFA's states, in the span, and its row is as far from the first as its position from the
+  -- start
+  pub record IsPlace (place : Place) : Type 0 where
+    pub state : place.sid < length nfa.states
+    pub from : x.start ≤ place.at
+    pub to : place.at ≤ x.end
+    pub row : place.row ≡ (place.at - x.start) * length nfa.states
+
+  -- so is the place, if there is one
+  abbrev pub IsPlaceOr : Option Place → Type 0
+  IsPlaceOr None = Unit {0}
+  IsPlaceOr (Some place) = IsPlace place
+
+  -- a frame's place is in the span, and its slot is one of these
+  abbrev pub IsFrame : ℕ → Frame → Type 0
+  IsFrame count (Step sid at row) = IsPlace (record { sid = sid; at = at; row = row })
+  IsFrame count (Restore slot offset) = slot < count
+  IsFrame count (Clear slot) = slot < count
+
+  -- the bit of a pair: a row of the NFA's states for each position from the start on
+  abbrev pub bit_of : Pair → ℕ
+  bit_of v = (v.1 - x.start) * length nfa.states + v.0
+
+  -- there is a bit for each pair of the span, and its number fits a `usize`
+  pub record HasBits (bits : List Bool) : Type 0 where
+    pub room : length nfa.states * (span_len x + 1) ≤ length bits
+    pub fits : length nfa.states * (span_len x + 1) < 2 ^ 64
+
+  -- the pair's bit is set
+  pub record IsMarked (bits : List Bool) (v : Pair) : Type 0 where
+    pub state : v.0 < length nfa.states
+    pub from : x.start ≤ v.1
+    pub set : slice_index_or bits (bit_of v) false ≡ true
+
+  -- the list has just the pairs that are marked
+  abbrev pub Agrees : List Bool → List Pair → Type 0
+  Agrees bits seen = (v : Pair) → In v seen ↔ IsMarked bits v
+
+  -- the degree of each pair's state
+  unfoldable pub weights : List ℕ
+  weights = repeated (span_len x + 1) (map degree nfa.states)
+
+  -- what the search answers from here on, with `left` turns left
+  unfoldable pub WalkAnswer : ℕ → List Bool → List Item → Slots → Hit → Type 0
+  WalkAnswer left bits work slots g =
+      (seen : List Pair) → Agrees bits seen → ExploresTo (space nfa x) (is_match nfa) left None seen work slots g
+
+  -- the turn at v marked it
+  pub record Taken (v : Pair) (marks marked : Marks) : Type 0 where
+    pub state : v.0 < length nfa.states
+    pub from : x.start ≤ v.1
+    pub to : v.1 ≤ x.end
+    pub inside : bit_of v < length marks.bits
+    pub clear : slice_index_or marks.bits (bit_of v) true ≡ false
+    pub set : marked.bits ≡ slice_set marks.bits (bit_of v) true
+    pub counted : marked.turns ≡ marks.turns + 1
+
+  -- the turn at v found it marked
+  pub record WasMarked (v : Pair) (marks marked : Marks) : Type 0 where
+    pub marked_before : IsMarked marks.bits v
+    pub same : marked.bits ≡ marks.bits
+    pub counted : marked.turns ≡ marks.turns + 1
+
+  -- What a step pushed is paid for by what it marked. `in_hand` is 1 where it goes on at a place.
+  pub record PaidFor (count : ℕ) (stack : List Frame) (bits : List Bool) (after : List Frame) (marked : List Bool)
+      (in_hand : ℕ) : Type 0 where
+    pub within : All (IsFrame count) after
+    pub tried : sum_by frame_tries after + in_hand + marked_sum weights bits
+        ≤ sum_by frame_tries stack + marked_sum weights marked
+
+  -- The answer from the state after is the answer from the state before.
+  pub record Carries (marks : Marks) (work : List Item) (slots : Slots) (after : Marks) (work_after : List Item)
+      (slots_after : Slots) : Type 0 where
+    pub grows : marks.turns ≤ after.turns
+    pub back : (left more : ℕ) (g : Hit) → marks.turns + more ≡ after.turns + left
+        → WalkAnswer left after.bits work_after slots_after g → WalkAnswer more marks.bits work slots g
+
+  -- The answer is g.
+  pub record Ends (marks : Marks) (work : List Item) (slots : Slots) (g : Hit) (turns : ℕ) : Type 0 where
+    pub grows : marks.turns ≤ turns
+    pub answer : (left : ℕ) → marks.turns + left ≡ turns → WalkAnswer left marks.bits work slots g
+
+  -- what comes of a turn at v
+  abbrev pub Goes : Pair → Move → List Frame → Marks → Slots → List Frame → Marks → Slots → Type 0
+  Goes v (Go place) stack marks slots after marked written =
+      IsPlace place
+      × ((work : List Item) → Carries marks (ToExplore v ∷ stacked stack work) slots marked
+      (ToExplore (pair_of place) ∷ stacked after work) written)
+  Goes v Stuck stack marks slots after marked written =
+      (work : List Item) → Carries marks (ToExplore v ∷ stacked stack work) slots marked (stacked after work)
+      written
+  Goes v (Matched pattern) stack marks slots after marked written =
+      (pattern_of (node_at nfa v.0) ≡ Some (number_of pattern))
+      × ((work : List Item) → Ends marks (ToExplore v ∷ stacked stack work) slots (Some (v, written)) marked.turns)
+
+  -- the search ends at a match: its state is of the pattern, and this is where it ends
+  pub record EndsAt (half : HalfMatch) (marks : Marks) (work : List Item) (slots : Slots) (written : Slots) (turns : ℕ)
+      : Type 0 where
+    pub state : ℕ
+    pub matches : pattern_of (node_at nfa state) ≡ Some (half_found_of half).pattern
+    pub ends : Ends marks work slots (Some ((state, (half_found_of half).offset), written)) turns
+
+  -- what comes of a turn at v and of what was put off, where it goes nowhere
+  abbrev pub ComesTo : Pair → Turn → List Frame → Marks → Slots → List Frame → Marks → Slots → Type 0
+  ComesTo v (On place) stack marks slots after marked written =
+      IsPlace place
+      × ((work : List Item) → Carries marks (ToExplore v ∷ stacked stack work) slots marked
+      (ToExplore (pair_of place) ∷ stacked after work) written)
+  ComesTo v (Ended half) stack marks slots after marked written =
+      (work : List Item) → EndsAt half marks (ToExplore v ∷ stacked stack work) slots written marked.turns
+  ComesTo v Over stack marks slots after marked written =
+      (after ≡ []) × ((work : List Item) → Carries marks (ToExplore v ∷ stacked stack work) slots marked work written)
+
+  -- nothing was found at v, and what was tried is paid for
+  pub record WalkFails (v : Pair) (marks : Marks) (slots : Slots) (after : List Frame) (marked : Marks)
+      (written : Slots) :
+      Type 0 where
+    pub empty : after ≡ []
+    pub follows : (work : List Item) → Carries marks (ToExplore v ∷ work) slots marked work written
+    pub spent : marked.turns + marked_sum weights marks.bits ≤ marks.turns + 1 + marked_sum weights marked.bits
+
+  -- what a walk from v comes to
+  abbrev pub Walks : Pair → Option HalfMatch → Marks → Slots → List Frame → Marks → Slots → Type 0
+  Walks v None marks slots after marked written = WalkFails v marks slots after marked written
+  Walks v (Some half) marks slots after marked written =
+      (work : List Item) → EndsAt half marks (ToExplore v ∷ work) slots written marked.turns
+
+  -- what the search from all starts comes to, in so many turns
+  abbrev pub StartsGive : Option HalfMatch → Slots → ℕ → Type 0
+  StartsGive None slots turns = IsScanAnswer nfa x LeftmostFirst false None
+  StartsGive (Some half) slots turns = GivesPath nfa LeftmostFirst false x half slots turns

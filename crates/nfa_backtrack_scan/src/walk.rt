@@ -1,0 +1,436 @@
+//! A walk: the search from one start, turn by turn, past what is marked.
+ghost use Rattle.std.specs.Prelude.{◌≡◌, ◌+◌, ◌*◌, ◌<◌, ◌≤◌, [], ◌∷◌, ◌++◌, None, Some, true, false, List, length, map};
+ghost use Rattle.std.specs.Prelude.{reverse, drop, slice_get, slice_index_or, slice_set, All, IfOk, OnOk};
+ghost use Rattle.std.specs.Prelude.{sum};
+ghost use Rattle.std.specs.List.{sum_by};
+ghost use Rattle.std.specs.Option.{ForSome};
+ghost use Rattle.regex_search_core.specs.Search.{search_of};
+ghost use Rattle.thompson_nfa.specs.Automaton.{Automaton, IsAutomaton, LeadsBelow, node_of};
+ghost use Rattle.thompson_nfa.specs.Automaton.Node.{ByteRange, Sparse, Dense};
+ghost use Rattle.thompson_nfa.specs.Looks.{look_holds};
+ghost use Rattle.regex_search_core.specs.Search.{Search};
+ghost use Rattle.nfa_paths.specs.Paths.{byte_at};
+ghost use Rattle.nfa_paths.specs.Exploring.{Item};
+ghost use Rattle.nfa_paths.specs.Turns.{marked_sum};
+ghost use Rattle.nfa_backtrack_scan.specs.Begin.{Begins, IsPutBack};
+ghost use Rattle.nfa_scanning.specs.Marks.{Marks};
+ghost use Rattle.nfa_backtrack_scan.specs.Walk.{pair_of, stacked, restoring, move_of, frame_tries, tries_of_move};
+ghost use Rattle.nfa_backtrack_scan.specs.Walk.{tries_of_place, tries_of_turn, with_place, WritesSlot, Unwinds, IsPlace};
+ghost use Rattle.nfa_backtrack_scan.specs.Walk.{IsPlaceOr, IsFrame, HasBits, PaidFor, Carries, Goes, ComesTo, Walks, weights};
+ghost use Rattle.nfa_backtrack_scan.specs.Walk.{Taken, WasMarked};
+ghost use Rattle.nfa_backtrack_scan.specs.declared.frame.Frame.TheVariants.{Step};
+
+use crate::frame::{Frame, Place};
+use crate::scratch::Scratch;
+use crate::visited::Visited;
+use nfa_scanning::transitions::{byte_at, dense_target, range_target, sparse_target};
+use regex_search_core::{HalfMatch, Input, NonMaxUsize, PatternID, Refused, StateID};
+use thompson_nfa::{Look, NFA, State, look_matches};
+
+/// Where a turn leads.
+#[derive(Clone, Copy)]
+pub enum Move {
+    /// On to this place.
+    Go(Place),
+    /// Nowhere.
+    Stuck,
+    /// To a match of the pattern.
+    Matched(PatternID),
+}
+
+/// What comes of a turn and, where it leads nowhere, of what was put off.
+pub enum Turn {
+    /// The search goes on at this place.
+    On(Place),
+    /// It is over with a match.
+    Ended(HalfMatch),
+    /// It is over without one.
+    Over,
+}
+
+/// On to the target at the next position, a row of so many states further on, if there is one.
+#[inline(always)]
+fn past_byte(target: Option<StateID>, place: Place, states: usize) -> Move
+    requires at { place.at < usize.MAX }
+    requires row { place.row + states ≤ usize.MAX }
+    ensures { result ≡ move_of target place states }
+{
+    match target {
+        Some(sid) => Move::Go(Place {
+            sid,
+            at: place.at + 1,
+            row: place.row + states,
+        }),
+        None => Move::Stuck,
+    }
+}
+
+/// The state of this number. The walk has the states at hand, and the NFA is here for the contract alone.
+#[inline(always)]
+fn state_at<'a>(nfa: &NFA, states: &'a [State], sid: StateID) -> &'a State
+    requires states { map node_of states.now ≡ nfa.now.states }
+    requires valid { IsAutomaton nfa.now }
+    requires sid { sid < length nfa.now.states }
+    ensures node { slice_get nfa.now.states sid ≡ Some (node_of result.now) }
+    ensures leads { LeadsBelow (length nfa.now.states) (node_of result.now) }
+{
+    &states[sid.as_usize()]
+}
+
+/// Whether the assertion holds at the position. It is a call of its own, so that its values take no registers from the
+/// walk.
+#[inline(never)]
+fn assertion_holds(look: Look, haystack: &[u8], at: usize) -> bool
+    requires { at ≤ length haystack.now }
+    ensures { result ≡ look_holds look haystack.now at }
+{
+    look_matches(look, haystack, at)
+}
+
+/// Puts off all alternatives but the first, the earliest on top.
+fn put_off(stack: &mut Vec<Frame>, alternates: &[StateID], place: Place) -> Result<(), Refused>
+    ensures { OnOk result (stack.new.items
+        ≡ stack.old.items ++ map (λ sid. Step sid place.at place.row) (reverse (drop 1 alternates.now))) }
+{
+    let mut left = alternates.len();
+    while left > 1 {
+        left -= 1;
+        stack.push(place.later(alternates[left]))?;
+    }
+    Ok(())
+}
+
+/// Writes the position to the slot, and puts off that the slot gets back what it holds.
+#[inline(always)]
+fn save(
+    stack: &mut Vec<Frame>,
+    slots: &mut [Option<NonMaxUsize>],
+    slot: usize,
+    at: usize,
+) -> Result<(), Refused>
+    requires slot { slot < length slots.old }
+    requires at { at < usize.MAX }
+    ensures stack { OnOk result (stack.new.items
+        ≡ stack.old.items ++ restoring slot (slice_index_or slots.old slot None) ∷ []) }
+    ensures slots { OnOk result (slots.new ≡ slice_set slots.old slot (Some at)) }
+{
+    push_restoring(stack, slot, slots[slot])?;
+    write(slots, slot, at);
+    Ok(())
+}
+
+/// Puts off that the slot gets its old value back.
+#[inline(always)]
+fn push_restoring(
+    stack: &mut Vec<Frame>,
+    slot: usize,
+    old: Option<NonMaxUsize>,
+) -> Result<(), Refused>
+    ensures { OnOk result (stack.new.items ≡ stack.old.items ++ restoring slot old ∷ []) }
+{
+    match old {
+        Some(offset) => {
+            stack.push(Frame::Restore { slot, offset })?;
+            Ok(())
+        }
+        None => {
+            stack.push(Frame::Clear { slot })?;
+            Ok(())
+        }
+    }
+}
+
+/// Where a walk goes on after its first turn, and the slot that this wrote, if it took one.
+#[derive(Clone, Copy)]
+pub struct Begun {
+    place: Place,
+    slot: Option<usize>,
+}
+
+/// Tries to mark the place, and says whether it was not marked before. This is one turn.
+#[inline(always)]
+fn mark(nfa: &NFA, input: &Input<'_>, place: Place, visited: &mut Visited) -> bool
+    requires place { IsPlace nfa.now (search_of input.now) place }
+    requires room { HasBits nfa.now (search_of input.now) visited.old.bits }
+    ensures turns { visited.new.turns ≡ visited.old.turns + 1 }
+    ensures size { length visited.new.bits ≡ length visited.old.bits }
+    ensures taken { result ≡ true → Taken nfa.now (search_of input.now) (pair_of place) visited.old visited.new }
+    ensures seen { result ≡ false → WasMarked nfa.now (search_of input.now) (pair_of place) visited.old visited.new }
+{
+    visited.insert(place.row + place.sid.as_usize())
+}
+
+/// One turn: tries to mark the place, and says where it leads.
+#[inline(always)]
+fn step(
+    nfa: &NFA,
+    states: &[State],
+    input: &Input<'_>,
+    place: Place,
+    scratch: &mut Scratch,
+    slots: &mut [Option<NonMaxUsize>],
+) -> Result<Move, Refused>
+    requires states { map node_of states.now ≡ nfa.now.states }
+    requires valid { IsAutomaton nfa.now }
+    requires place { IsPlace nfa.now (search_of input.now) place }
+    requires room { HasBits nfa.now (search_of input.now) scratch.old.visited.bits }
+    requires within { All (IsFrame nfa.now (search_of input.now) (length slots.old)) scratch.old.stack.items }
+    ensures turns { scratch.new.visited.turns ≡ scratch.old.visited.turns + 1 }
+    ensures scans { scratch.new.scans ≡ scratch.old.scans }
+    ensures size { length scratch.new.visited.bits ≡ length scratch.old.visited.bits }
+    ensures paid { IfOk result (λ move. PaidFor nfa.now (search_of input.now) (length slots.old) scratch.old.stack.items
+        scratch.old.visited.bits scratch.new.stack.items scratch.new.visited.bits (tries_of_move move)) }
+    ensures goes { IfOk result (λ move. Goes nfa.now (search_of input.now) (pair_of place) move scratch.old.stack.items
+        scratch.old.visited slots.old scratch.new.stack.items scratch.new.visited slots.new) }
+{
+    let Place { sid, at, .. } = place;
+    if !mark(nfa, input, place, &mut scratch.visited) {
+        return Ok(Move::Stuck);
+    }
+    match state_at(nfa, states, sid) {
+        State::ByteRange { trans } => {
+            let target = range_target(trans, byte_at(input, at));
+            Ok(past_byte(target, place, states.len()))
+        }
+        State::Sparse(transitions) => {
+            let target = sparse_target(transitions, byte_at(input, at));
+            Ok(past_byte(target, place, states.len()))
+        }
+        State::Dense(targets) => {
+            let target = dense_target(targets, byte_at(input, at));
+            Ok(past_byte(target, place, states.len()))
+        }
+        State::Look { look, next } => {
+            if assertion_holds(*look, input.haystack(), at) {
+                Ok(Move::Go(place.to(*next)))
+            } else {
+                Ok(Move::Stuck)
+            }
+        }
+        State::Union { alternates } => {
+            let Some(first) = alternates.first() else {
+                return Ok(Move::Stuck);
+            };
+            put_off(&mut scratch.stack, alternates, place)?;
+            Ok(Move::Go(place.to(*first)))
+        }
+        State::BinaryUnion { alt1, alt2 } => {
+            // Read before the stack is written: the compiler then reads each arm's target in its arm.
+            let preferred = place.to(*alt1);
+            scratch.stack.push(place.later(*alt1))?;
+            Ok(Move::Go(preferred))
+        }
+        State::Capture { next, slot } => {
+            if *slot < slots.len() {
+                save(&mut scratch.stack, slots, *slot, at)?;
+            }
+            Ok(Move::Go(place.to(*next)))
+        }
+        State::Fail => Ok(Move::Stuck),
+        State::Match { pattern_id } => Ok(Move::Matched(*pattern_id)),
+    }
+}
+
+/// Takes a frame up: it gives a place to search on from, or a slot its old value back.
+#[inline(always)]
+fn unwind(frame: Frame, slots: &mut [Option<NonMaxUsize>]) -> Option<Place>
+    requires { WritesSlot (length slots.old) frame }
+    ensures { Unwinds frame slots.old result slots.new }
+{
+    match frame {
+        Frame::Step { sid, at, row } => Some(Place { sid, at, row }),
+        Frame::Restore { slot, offset } => {
+            slots[slot] = Some(offset);
+            None
+        }
+        Frame::Clear { slot } => {
+            slots[slot] = None;
+            None
+        }
+    }
+}
+
+/// Takes up what was put off last, down to a place to search on from.
+#[inline(always)]
+fn resume(stack: &mut Vec<Frame>, slots: &mut [Option<NonMaxUsize>]) -> Option<Place>
+    requires { All (WritesSlot (length slots.old)) stack.old.items }
+    ensures follows { (nfa : Automaton) (x : Search) (marks : Marks) (work : List Item)
+        → Carries nfa x marks (stacked stack.old.items work) slots.old marks
+        (with_place result (stacked stack.new.items work)) slots.new }
+    ensures within { (nfa : Automaton) (x : Search) → All (IsFrame nfa x (length slots.old)) stack.old.items
+        → All (IsFrame nfa x (length slots.old)) stack.new.items × IsPlaceOr nfa x result }
+    ensures tried { sum_by frame_tries stack.new.items + tries_of_place result ≡ sum_by frame_tries stack.old.items }
+    ensures over { result ≡ None → stack.new.items ≡ [] }
+{
+    while let Some(frame) = stack.pop() {
+        if let Some(place) = unwind(frame, slots) {
+            return Some(place);
+        }
+    }
+    None
+}
+
+/// A turn and, where it leads nowhere, what was put off last.
+#[inline(always)]
+fn advance(
+    nfa: &NFA,
+    states: &[State],
+    input: &Input<'_>,
+    place: Place,
+    scratch: &mut Scratch,
+    slots: &mut [Option<NonMaxUsize>],
+) -> Result<Turn, Refused>
+    requires states { map node_of states.now ≡ nfa.now.states }
+    requires valid { IsAutomaton nfa.now }
+    requires place { IsPlace nfa.now (search_of input.now) place }
+    requires room { HasBits nfa.now (search_of input.now) scratch.old.visited.bits }
+    requires within { All (IsFrame nfa.now (search_of input.now) (length slots.old)) scratch.old.stack.items }
+    ensures turns { scratch.new.visited.turns ≡ scratch.old.visited.turns + 1 }
+    ensures scans { scratch.new.scans ≡ scratch.old.scans }
+    ensures size { length scratch.new.visited.bits ≡ length scratch.old.visited.bits }
+    ensures paid { IfOk result (λ turn. PaidFor nfa.now (search_of input.now) (length slots.old) scratch.old.stack.items
+        scratch.old.visited.bits scratch.new.stack.items scratch.new.visited.bits (tries_of_turn turn)) }
+    ensures advances { IfOk result
+        (λ turn. ComesTo nfa.now (search_of input.now) (pair_of place) turn scratch.old.stack.items scratch.old.visited
+        slots.old scratch.new.stack.items scratch.new.visited slots.new) }
+{
+    let at = place.at;
+    match step(nfa, states, input, place, scratch, slots)? {
+        Move::Go(next) => Ok(Turn::On(next)),
+        Move::Matched(pattern) => Ok(Turn::Ended(HalfMatch::new(pattern, at))),
+        Move::Stuck => match resume(&mut scratch.stack, slots) {
+            Some(next) => Ok(Turn::On(next)),
+            None => Ok(Turn::Over),
+        },
+    }
+}
+
+/// Whether the slot is handed out and has no offset.
+#[inline(always)]
+fn is_unset(slots: &[Option<NonMaxUsize>], slot: usize) -> bool
+    ensures { result ≡ true → (slot < length slots.now) × (slice_index_or slots.now slot None ≡ None) }
+{
+    slot < slots.len() && slots[slot].is_none()
+}
+
+/// Writes the position to the slot.
+#[inline(always)]
+fn write(slots: &mut [Option<NonMaxUsize>], slot: usize, at: usize)
+    requires slot { slot < length slots.old }
+    requires at { at < usize.MAX }
+    ensures { slots.new ≡ slice_set slots.old slot (Some at) }
+{
+    // A position in the span is an offset. Said so, it is written without a test.
+    let Some(offset) = NonMaxUsize::new(at) else {
+        unreachable!()
+    };
+    slots[slot] = Some(offset);
+}
+
+/// The first turn of a walk, if it writes a slot without an offset. `None` where the place is marked already.
+#[inline(always)]
+fn begin(
+    nfa: &NFA,
+    input: &Input<'_>,
+    place: Place,
+    visited: &mut Visited,
+    slots: &mut [Option<NonMaxUsize>],
+) -> Option<Begun>
+    requires place { IsPlace nfa.now (search_of input.now) place }
+    requires room { HasBits nfa.now (search_of input.now) visited.old.bits }
+    ensures size { length visited.new.bits ≡ length visited.old.bits }
+    ensures begins { Begins nfa.now (search_of input.now) (pair_of place) result visited.old slots.old visited.new
+        slots.new }
+{
+    match state_at(nfa, nfa.states(), place.sid) {
+        State::Capture { next, slot } => {
+            if !is_unset(slots, *slot) {
+                return Some(Begun { place, slot: None });
+            }
+            if !mark(nfa, input, place, visited) {
+                return None;
+            }
+            write(slots, *slot, place.at);
+            Some(Begun {
+                place: place.to(*next),
+                slot: Some(*slot),
+            })
+        }
+        _ => Some(Begun { place, slot: None }),
+    }
+}
+
+/// Takes the offset of the slot away, if one was written.
+#[inline(always)]
+fn put_back(slot: Option<usize>, slots: &mut [Option<NonMaxUsize>])
+    requires { ForSome slot (λ k. k < length slots.old) }
+    ensures { IsPutBack slot slots.old slots.new }
+{
+    match slot {
+        Some(written) => slots[written] = None,
+        None => {}
+    }
+}
+
+/// Searches from a place to the first match, past what is marked. A slot that its first turn writes needs no place on
+/// the stack.
+pub fn walk(
+    nfa: &NFA,
+    input: &Input<'_>,
+    start: Place,
+    scratch: &mut Scratch,
+    slots: &mut [Option<NonMaxUsize>],
+) -> Result<Option<HalfMatch>, Refused>
+    requires place { IsPlace nfa.now (search_of input.now) start }
+    requires room { HasBits nfa.now (search_of input.now) scratch.old.visited.bits }
+    requires empty { scratch.old.stack.items ≡ [] }
+    ensures scans { scratch.new.scans ≡ scratch.old.scans }
+    ensures size { length scratch.new.visited.bits ≡ length scratch.old.visited.bits }
+    ensures bounded { scratch.new.visited.turns + marked_sum (weights nfa.now (search_of input.now))
+        scratch.old.visited.bits ≤ scratch.old.visited.turns + 1 + sum (weights nfa.now (search_of input.now)) }
+    ensures walks { IfOk result (λ half. Walks nfa.now (search_of input.now) (pair_of start) half scratch.old.visited
+        slots.old scratch.new.stack.items scratch.new.visited slots.new) }
+{
+    match begin(nfa, input, start, &mut scratch.visited, slots) {
+        None => Ok(None),
+        Some(begun) => match walk_on(nfa, input, begun.place, scratch, slots)? {
+            Some(half) => Ok(Some(half)),
+            None => {
+                put_back(begun.slot, slots);
+                Ok(None)
+            }
+        },
+    }
+}
+
+/// Searches from a place to the first match, past what is marked.
+#[inline(always)]
+fn walk_on(
+    nfa: &NFA,
+    input: &Input<'_>,
+    start: Place,
+    scratch: &mut Scratch,
+    slots: &mut [Option<NonMaxUsize>],
+) -> Result<Option<HalfMatch>, Refused>
+    requires place { IsPlace nfa.now (search_of input.now) start }
+    requires room { HasBits nfa.now (search_of input.now) scratch.old.visited.bits }
+    requires empty { scratch.old.stack.items ≡ [] }
+    ensures scans { scratch.new.scans ≡ scratch.old.scans }
+    ensures size { length scratch.new.visited.bits ≡ length scratch.old.visited.bits }
+    ensures bounded { scratch.new.visited.turns + marked_sum (weights nfa.now (search_of input.now))
+        scratch.old.visited.bits ≤ scratch.old.visited.turns + 1 + sum (weights nfa.now (search_of input.now)) }
+    ensures walks { IfOk result (λ half. Walks nfa.now (search_of input.now) (pair_of start) half scratch.old.visited
+        slots.old scratch.new.stack.items scratch.new.visited slots.new) }
+{
+    // Both are read at each place. Held here, and not behind a reference, they need not be read again after each write.
+    let states = nfa.states();
+    let own_input = *input;
+    let mut place = start;
+    loop {
+        match advance(nfa, states, &own_input, place, scratch, slots)? {
+            Turn::On(next) => place = next,
+            Turn::Ended(half) => return Ok(Some(half)),
+            Turn::Over => return Ok(None),
+        }
+    }
+}

@@ -1,9 +1,0 @@
--- The room of all states, or none where it is past the limit.
-use Rattle.std.proofs.Common.{◌≡◌, take}
-use Rattle.std.specs.List.{sum_by}
-use Rattle.thompson_nfa.specs.Automaton.{node_of}
-use Rattle.nfa_pikevm.specs.Engines.{room_of}
-use Rattle.nfa_pikevm.proofs.sizes.rooms.Given as goal
-
-abbrev pub invariant-loop-state : goal.invariant-loop-state
-invariant-loop-state l = l.sum ≡ sum_by (λ s. room_of (node_of s)) (take l.state-index l.states)

@@ -1,0 +1,288 @@
+-- How a scan begins, joins its starts, and ends.
+use Rattle.std.proofs.Common.{◌≡◌, ℕ, ◌+◌, ◌-◌, ◌<◌, ◌≤◌, inl, inr, List, [], ◌∷◌, ◌++◌, length, refl, sym, arith, subst, Bool, true, false}
+use Rattle.std.specs.Prelude.{Option, Some, None, cond, is_some}
+use Rattle.regex_search_core.specs.Search.{Search}
+use Rattle.regex_search_core.specs.Found.{half_found_of}
+use Rattle.regex_search_core.specs.Patterns.{number_of}
+use Rattle.regex_search_core.specs.declared.primitives.PatternID.{PatternID}
+use Rattle.regex_search_core.specs.declared.search.HalfMatch.{HalfMatch}
+use Rattle.regex_search_core.specs.declared.search.MatchKind.{MatchKind}
+use Rattle.regex_search_core.specs.declared.search.MatchKind.TheVariants.{All as AllMatches, LeftmostFirst}
+use Rattle.thompson_nfa.specs.Automaton.{Automaton}
+use Rattle.nfa_paths.specs.Graphs.{Pair}
+use Rattle.nfa_paths.specs.FirstPaths.{IsFirst}
+use Rattle.nfa_paths.specs.Exploring.{Item, Slots, Hit, seeds}
+use Rattle.nfa_paths.specs.Exploring.Item.{Load}
+use Rattle.nfa_paths.specs.Kinds.{is_resting, IsFoundBy, NoneBefore, EndsBefore, Scanning}
+use Rattle.nfa_paths.specs.Restarts.{ScanGives}
+use Rattle.nfa_paths.specs.Paths.{edges, is_match, capture, starts, IsScanAnswer, space}
+use Rattle.nfa_paths.proofs.SearchingLemmas.{Searching-load, Searching-done}
+use Rattle.nfa_paths.proofs.ScanAnswerLemmas.{Scanned-matches, starts-from, EndsBefore-span, IsFoundBy-none, IsFoundBy-some, scan_first-found, scan_last-found}
+use Rattle.nfa_paths.proofs.ScanLemmas.{IsFoundBy-more, NoneBefore-start, LastBefore-start, EndsBefore-over}
+use Rattle.nfa_paths.proofs.ScanningLemmas.{Scanning-load, Scanning-over}
+use Rattle.nfa_scanning.specs.FirstBytes.{IsFirstBytes}
+use Rattle.nfa_scanning.specs.Marks.{Marks}
+use Rattle.nfa_pikevm_scan.specs.States.{tasks, unmarked, SeenAt, SearchingAt, Crosses}
+use Rattle.nfa_pikevm_scan.specs.Scans.{blank, starts_from, with_start, half_found, IsPassed, Joins, AreStarts, IsSoFar, SearchesFirst, ScansAll}
+use Rattle.nfa_pikevm_scan.specs.declared.scan.Starts.{Starts}
+use Rattle.nfa_pikevm_scan.proofs.TaskLemmas.{tasks-joins, tasks-alone, tasks-joined, starts_from-end, AnswersFor, AnswersFor-same, AnswersFor-then, AnswersFor-tasks, AnswersFor-pass, AnswersFor-skip, Searching-for, Searching-seen, Searching-begin}
+use Rattle.nfa_pikevm_scan.proofs.FrontLemmas.{SeenAt-none}
+use Rattle.nfa_pikevm_scan.proofs.ScanLemmas.{SearchesFirst-hit}
+use Rattle.nfa_pikevm_scan.proofs.AllLemmas.{HasLast, EndsAt, half-so_far, earliest-first, earliest-last}
+
+-- a half match is of a match
+EndsAt-some : (at : ℕ) (hit : Option PatternID) (half : Option HalfMatch) → EndsAt at hit half → is_some half ≡ true
+    → hit ≡ None → ⊥
+EndsAt-some at None None e some none = cc
+EndsAt-some at None (Some m) e some none = cc
+EndsAt-some at (Some p) half e some none = cc
+
+module _ (nfa : Automaton) (x : Search) where
+  -- the beginning
+
+  module _ (begins : Starts) (are : AreStarts nfa x begins) (slots : Slots) (met : Marks) where
+    -- the search for a set of match pairs begins
+    pub SearchingAt-begin : (target : Pair → Bool)
+        → SearchingAt nfa x x.start target (starts nfa x) (blank (length slots)) None (unmarked met) []
+        (tasks x.start [] (Load (blank (length slots)) ∷ starts_from (length slots) begins.state x.start begins.limit))
+        (blank (length slots))
+    SearchingAt-begin target =
+        subst (λ (ps : List Pair). SearchingAt nfa x x.start target (starts nfa x) (blank (length slots)) None
+        (unmarked met) [] (Load (blank (length slots)) ∷ seeds (blank (length slots)) ps) (blank (length slots)))
+        are.all
+        (Searching-begin (space nfa x) target (SeenAt x.start (unmarked met).bits) met.turns None
+        (starts nfa x) (blank (length slots)) (blank (length slots)) (SeenAt-none x.start (length met.bits)))
+
+    pub SearchesFirst-begin : slots ≡ blank (length slots)
+        → SearchesFirst nfa x x.start (length slots) begins.state begins.limit None slots met []
+    SearchesFirst-begin unset =
+        record { so_far = None; is_so_far = (refl, unset); searching = SearchingAt-begin (is_match nfa) }
+
+    pub ScansAll-begin : ScansAll nfa x x.start (length slots) begins.state begins.limit met []
+    ScansAll-begin = record { scanning = record { searching = λ target m. SearchingAt-begin target } }
+
+    pub HasLast-begin : slots ≡ blank (length slots) → HasLast nfa x x.start (length slots) None slots met.turns
+    HasLast-begin unset = record {
+      so_far = None;
+      is_so_far = (refl, unset);
+      last = let few : 0 ≤ met.turns = omega arith in
+          IsFoundBy-more few (LastBefore-start (space nfa x) (is_resting nfa)
+          (is_match nfa) (blank (length slots)) (Scanned-matches nfa x (is_match nfa) (λ v t. t)) x.start
+          (starts-from nfa x));
+    }
+
+  pub NoneBefore-begin : NoneBefore (space nfa x) (is_match nfa) x.start
+  NoneBefore-begin =
+      NoneBefore-start (space nfa x) (is_resting nfa) (is_match nfa) []
+      (Scanned-matches nfa x (is_match nfa) (λ v t. t)) x.start (starts-from nfa x)
+
+  -- the starts join
+
+  -- all sets of matches at once
+  pub ScansAll-joined : (begins : Starts) (at width : ℕ) {met : Marks} {items : List (ℕ × Slots)}
+      → ScansAll nfa x at width begins.state begins.limit met items
+      → Scanning (space nfa x) (is_match nfa) (blank width) at (SeenAt at (unmarked met).bits) met.turns []
+      (tasks at (with_start begins width at items)
+      (Load (blank width) ∷ starts_from width begins.state (at + 1) begins.limit)) (blank width)
+  ScansAll-joined begins at width {met} {items} s =
+      subst (λ (w : List Item). Scanning (space nfa x) (is_match nfa) (blank width) at
+      (SeenAt at (unmarked met).bits) met.turns [] w (blank width)) (tasks-joined begins width at items) s.scanning
+
+  -- the same by what the join gives
+  pub ScansAll-join : (begins : Starts) (at width : ℕ) (met now : Marks) → now ≡ met → (items kept : List (ℕ × Slots))
+      → kept ≡ with_start begins width at items
+      → ScansAll nfa x at width begins.state begins.limit met items
+      → Scanning (space nfa x) (is_match nfa) (blank width) at (SeenAt at (unmarked now).bits) now.turns []
+      (tasks at kept (Load (blank width) ∷ starts_from width begins.state (at + 1) begins.limit)) (blank width)
+  ScansAll-join begins at width met now same items kept e s = rw (same, e) (ScansAll-joined begins at width s)
+
+  module _ (table : List Bool) (first : IsFirstBytes nfa table) (begins : Starts) (are : AreStarts nfa x begins)
+      (limit width : ℕ) where
+    -- a start that may be passed over
+    passed : (k : ℕ) → x.start ≤ k → IsPassed table x begins k → (marks : List Pair)
+        → IsFirst (edges nfa x) (is_match nfa) marks (begins.state, k) None
+    passed k low p marks =
+        let less : k < begins.stop = p.0 in
+        let ahead : x.start < begins.stop = omega arith in
+        rw (are.skips ahead) (first.none x k p.1 marks)
+
+    -- the starts up to a position were passed over, or none was
+    skip-work : (at to : ℕ) (items kept : List (ℕ × Slots)) → x.start ≤ at
+        → Joins table x begins limit width at items to kept
+        → AnswersFor (space nfa x) (is_match nfa)
+        (tasks at items (Load (blank width) ∷ starts_from width begins.state at limit))
+        (tasks to items (Load (blank width) ∷ starts_from width begins.state to limit))
+    skip-work at to [] kept low j =
+        let le : at ≤ to = j.ahead in
+        AnswersFor-skip (space nfa x) (is_match nfa) width begins.state limit (to - at) at
+        to (omega arith)
+        (λ k h l. passed k (omega arith) (j.passed k h l))
+    skip-work at to (i ∷ items) kept low j =
+        let some : 0 < length (i ∷ items) = omega arith in
+        let same : to ≡ at = j.stays some in
+        subst (λ (n : ℕ). AnswersFor (space nfa x) (is_match nfa)
+        (tasks at (i ∷ items) (Load (blank width) ∷ starts_from width begins.state at limit))
+        (tasks n (i ∷ items) (Load (blank width) ∷ starts_from width begins.state n limit))) (sym same)
+        (AnswersFor-tasks (space nfa x) (is_match nfa) at (i ∷ items)
+        (AnswersFor-same (space nfa x) (is_match nfa) (blank width) (starts_from width begins.state at limit)))
+
+    -- the start joins at the position, or is passed over, or none is left
+    join-work : (at to : ℕ) (items kept : List (ℕ × Slots)) → x.start ≤ at
+        → Joins table x begins limit width at items to kept
+        → AnswersFor (space nfa x) (is_match nfa)
+        (tasks to items (Load (blank width) ∷ starts_from width begins.state to limit))
+        (tasks to kept (Load (blank width) ∷ starts_from width begins.state (to + 1) limit))
+    join-work at to items kept low j =
+        let le : at ≤ to = j.ahead in
+        let same = AnswersFor-tasks (space nfa x) (is_match nfa) to items
+        (AnswersFor-same (space nfa x) (is_match nfa) (blank width) (starts_from width begins.state to limit)) in
+        let to_work : (w : List Item) → tasks to items (Load (blank width) ∷ starts_from width begins.state to limit)
+        ≡ w
+        → AnswersFor (space nfa x) (is_match nfa)
+        (tasks to items (Load (blank width) ∷ starts_from width begins.state to limit)) w =
+        λ w e. subst (λ (v : List Item). AnswersFor (space nfa x) (is_match nfa)
+        (tasks to items (Load (blank width) ∷ starts_from width begins.state to limit)) v) e same in
+        elim j.last [
+          | inl h ↦ rw h.1 (to_work (tasks to (items ++ (begins.state, blank width) ∷ [])
+              (Load (blank width) ∷ starts_from width begins.state (to + 1) limit))
+              (tasks-joins width begins.state to limit items h.0))
+          | inr h ↦
+              elim h.1 [
+                | inl over ↦ rw h.0 (to_work (tasks to items
+                    (Load (blank width) ∷ starts_from width begins.state (to + 1) limit))
+                    (tasks-alone width begins.state to limit items over))
+                | inr pass ↦
+                    rw h.0 (AnswersFor-tasks (space nfa x) (is_match nfa) to items
+                    (AnswersFor-pass (space nfa x) (is_match nfa) width begins.state limit to
+                    (passed to (omega arith) pass)))
+              ]
+        ]
+
+    -- the first path
+    pub SearchesFirst-joins : (at to : ℕ) {items kept : List (ℕ × Slots)} {found : Option HalfMatch} {slots : Slots}
+        {met : Marks} → x.start ≤ at
+        → Joins table x begins limit width at items to kept
+        → (s : SearchesFirst nfa x at width begins.state limit found slots met items)
+        → SearchingAt nfa x to (is_match nfa) (starts nfa x) (blank width) s.so_far (unmarked met) []
+        (tasks to kept (Load (blank width) ∷ starts_from width begins.state (to + 1) limit)) (blank width)
+    SearchesFirst-joins at to {items} {kept} {met = met} low j s =
+        Searching-seen (space nfa x) (is_match nfa)
+        (Searching-for (space nfa x) (is_match nfa) s.searching
+        (AnswersFor-then (space nfa x) (is_match nfa) (skip-work at to items kept low j)
+        (join-work at to items kept low j)) (blank width))
+        (SeenAt to (unmarked met).bits)
+        (λ v. (
+          λ seen. absurd (SeenAt-none at (length met.bits) v seen),
+          λ seen. absurd (SeenAt-none to (length met.bits) v seen),
+        ))
+
+  -- the end
+
+  -- what was found is what the scan's answer finds
+  pub Scans-so_far : (kind : MatchKind) (earliest : Bool) (width turns : ℕ) (found : Option HalfMatch) (slots : Slots)
+      (g : Hit) → IsSoFar nfa x found slots g
+      → IsFoundBy (capture nfa) (blank width) (IsScanAnswer nfa x kind earliest) turns g → width ≡ length slots
+      → ScanGives nfa kind earliest x found slots turns
+  Scans-so_far kind earliest width turns None slots g is f size =
+      (IsFoundBy-none nfa x kind earliest turns (blank width) (rw is.0 at f), is.1)
+  Scans-so_far kind earliest width turns (Some half) slots g is f size =
+      let found_by : IsFoundBy (capture nfa) (blank (length slots)) (IsScanAnswer nfa x kind earliest) turns
+      (Some ((is.0, (half_found_of half).offset), slots)) =
+      rw is.1 at (rw size at f) in
+      let h = IsFoundBy-some nfa x kind earliest (length slots) turns (is.0, (half_found_of half).offset)
+      slots found_by in
+      record {
+        path = h.path;
+        state = is.0;
+        answers = h.answers;
+        matches = is.2;
+        ends = h.ends;
+        row = h.row_is;
+        short = h.short;
+      }
+
+  -- nothing is left of the search for the first path
+  pub first-over : (at next width state limit : ℕ) (found : Option HalfMatch) (slots : Slots) (met : Marks)
+      (so_far : Hit) (items : List (ℕ × Slots)) → IsSoFar nfa x found slots so_far → limit ≤ next → items ≡ []
+      → SearchingAt nfa x at (is_match nfa) (starts nfa x) (blank width) so_far (unmarked met) []
+      (tasks at items (Load (blank width) ∷ starts_from width state next limit)) (blank width)
+      → width ≡ length slots → ScanGives nfa LeftmostFirst false x found slots met.turns
+  first-over at next width state limit found slots met so_far items is past none s size =
+      let alone : SearchingAt nfa x at (is_match nfa) (starts nfa x) (blank width) so_far (unmarked met) []
+      (Load (blank width) ∷ []) (blank width) = rw (none, starts_from-end width state past) at s in
+      let answer = Searching-done (space nfa x) (is_match nfa) (Searching-load (space nfa x) (is_match nfa) alone) in
+      Scans-so_far LeftmostFirst false width met.turns found slots so_far is
+      (scan_first-found nfa x (blank width) met.turns so_far answer) size
+
+  -- nothing is left to explore: every path has ended
+  pub all-over : (at next width state limit : ℕ) (met : Marks) (items : List (ℕ × Slots)) → limit ≤ next → items ≡ []
+      → Scanning (space nfa x) (is_match nfa) (blank width) at (SeenAt at (unmarked met).bits) met.turns []
+      (tasks at items (Load (blank width) ∷ starts_from width state next limit)) (blank width)
+      → EndsBefore (space nfa x) (is_match nfa) at
+  all-over at next width state limit met items past none s =
+      let alone : Scanning (space nfa x) (is_match nfa) (blank width) at
+      (SeenAt at (unmarked met).bits) met.turns [] (Load (blank width) ∷ []) (blank width) =
+      rw (none, starts_from-end width state past) at s in
+      EndsBefore-over (space nfa x) (is_resting nfa) (is_match nfa) (blank width)
+      (Scanned-matches nfa x (is_match nfa) (λ v t. t)) at
+      (Scanning-over (space nfa x) (is_match nfa) (blank width)
+      (Scanning-load (space nfa x) (is_match nfa) (blank width) alone))
+
+  -- what was found last
+  pub last-over : (at width : ℕ) (found : Option HalfMatch) (slots : Slots) (turns : ℕ)
+      → HasLast nfa x at width found slots turns → EndsBefore (space nfa x) (is_match nfa) at → width ≡ length slots
+      → ScanGives nfa AllMatches false x found slots turns
+  last-over at width found slots turns h ends size =
+      Scans-so_far AllMatches false width turns found slots h.so_far h.is_so_far
+      (scan_last-found nfa x (blank width) h.last ends) size
+
+  -- every path ends within the span
+  pub ends-span : EndsBefore (space nfa x) (is_match nfa) (x.end + 1)
+  ends-span = EndsBefore-span nfa x (is_match nfa)
+
+  pub ends-at : (at : ℕ) → at ≡ x.end + 1 → EndsBefore (space nfa x) (is_match nfa) at
+  ends-at at e = rw e ends-span
+
+  -- a position with a match, of the search for the first path
+  pub SearchesFirst-some : (at width state limit : ℕ) {met : Marks} {items : List (ℕ × Slots)} {slots : Slots}
+      {hit : Option PatternID} {after : Marks} {kept : List (ℕ × Slots)} {written : Slots} {so_far : Hit}
+      → Crosses nfa x at false met items slots hit after kept written
+      → SearchingAt nfa x at (is_match nfa) (starts nfa x) (blank width) so_far (unmarked met) []
+      (tasks at items (Load (blank width) ∷ starts_from width state (at + 1) limit)) (blank width)
+      → (half : Option HalfMatch) → EndsAt at hit half → is_some half ≡ true
+      → SearchesFirst nfa x (at + 1) width state 0 half written after kept
+  SearchesFirst-some at width state limit {hit = None} c s half is some = let k = EndsAt-some at None half is some in
+      absurd (k refl)
+  SearchesFirst-some at width state limit {hit = Some p} c s None is some = cc
+  SearchesFirst-some at width state limit {hit = Some p} c s (Some m) is some =
+      let same : half_found_of m ≡ half_found (number_of p) at = cc in
+      SearchesFirst-hit nfa x at width state limit c s p refl m same
+
+  -- the first position with a match
+  pub earliest-over : (at width state limit : ℕ) (past : Bool) {met : Marks} {items : List (ℕ × Slots)} {slots : Slots}
+      {hit : Option PatternID} {after : Marks} {kept : List (ℕ × Slots)} {written : Slots}
+      → Crosses nfa x at past met items slots hit after kept written
+      → Scanning (space nfa x) (is_match nfa) (blank width) at (SeenAt at (unmarked met).bits) met.turns []
+      (tasks at items (Load (blank width) ∷ starts_from width state (at + 1) limit)) (blank width)
+      → NoneBefore (space nfa x) (is_match nfa) at → (half : Option HalfMatch) → EndsAt at hit half
+      → is_some half ≡ true → width ≡ length written
+      → ScanGives nfa (cond past AllMatches LeftmostFirst) true x half written after.turns
+  earliest-over at width state limit true {hit = None} c s none half is some size = let k =
+      EndsAt-some at None half is some in absurd (k refl)
+  earliest-over at width state limit false {hit = None} c s none half is some size = let k =
+      EndsAt-some at None half is some in absurd (k refl)
+  earliest-over at width state limit past {hit = Some p} c s none None is some size = cc
+  earliest-over at width state limit true {hit = Some p} {after = after} {written = written} c s none
+      (Some m) is some size =
+      let h = c.is_hit in
+      let same : half_found_of m ≡ half_found (number_of p) at = cc in
+      Scans-so_far AllMatches true width after.turns (Some m) written (Some (h.0, written))
+      (half-so_far nfa x at width state limit c h.0 h.1 p h.2 m same)
+      (earliest-last nfa x at width state limit c s none (h.0, written) h.1) size
+  earliest-over at width state limit false {hit = Some p} {after = after} {written = written} c s none
+      (Some m) is some size =
+      let h = c.is_hit in
+      let same : half_found_of m ≡ half_found (number_of p) at = cc in
+      Scans-so_far LeftmostFirst true width after.turns (Some m) written (Some (h.0, written))
+      (half-so_far nfa x at width state limit c h.0 h.1 p h.2 m same)
+      (earliest-first nfa x at width state limit c s none (h.0, written) h.1) size

@@ -1,0 +1,241 @@
+-- What is put into a set of patterns at a position.
+use Rattle.std.proofs.Common.{◌≡◌, ℕ, ◌<◌, ◌⊎◌, ◌↔◌, inl, inr, Bool, true, false, List, [], ◌∷◌, ◌++◌, length, refl, sym, ◌∙◌, arith}
+use Rattle.std.specs.Prelude.{Option, None, Some, not, ◌&&◌, ◌||◌, nat_lt}
+use Rattle.std.proofs.lemmas.Bool.{cases_Bool, cases_lt, lt-ltb, le-ltb}
+use Rattle.std.proofs.lemmas.Bool.Decides.{nat_tests}
+use Rattle.regex_search_core.specs.Boundary.{IsBoundary}
+use Rattle.regex_search_core.specs.PatternSets.{with_pattern}
+use Rattle.regex_search_core.specs.Search.{Search}
+use Rattle.thompson_nfa.specs.Automaton.{Automaton}
+use Rattle.nfa_paths.specs.Graphs.{Pair, In}
+use Rattle.nfa_paths.specs.Paths.{node_at, pattern_of, is_match, is_utf8_empty}
+use Rattle.nfa_paths.specs.Exploring.{Slots, Hit}
+use Rattle.nfa_paths.specs.Kinds.{HoldsMatch, NoMatch, first_match}
+use Rattle.nfa_paths.specs.Overlaps.{pattern_at, IsPermittedEnd, IsHeld}
+use Rattle.nfa_paths.proofs.SetLemmas.{holds-with, length-with}
+use Rattle.nfa_pikevm_scan.specs.States.{Front}
+use Rattle.nfa_pikevm_scan.specs.Overlapping.{is_boundary, permits, is_below, wants, GathersFirst, Gathers}
+
+-- whether a position is a boundary
+boundary-to : (haystack : List ℕ) (i : ℕ) → is_boundary haystack i ≡ true → IsBoundary haystack i
+boundary-to haystack i t = grind (arith, nat_tests)
+
+boundary-from : (haystack : List ℕ) (i : ℕ) → IsBoundary haystack i → is_boundary haystack i ≡ true
+boundary-from haystack i h = grind (arith, nat_tests)
+
+module _ (nfa : Automaton) (x : Search) where
+  permits-tells : (at : ℕ) → (permits nfa x at ≡ true) ↔ IsPermittedEnd nfa x at
+  unfolding permits
+  permits-tells at = (of (is_utf8_empty nfa), back (is_utf8_empty nfa))
+    where
+      of : (b : Bool) → (not b || is_boundary x.haystack at) ≡ true → b ≡ true → IsBoundary x.haystack at
+      of true t e = boundary-to x.haystack at t
+      of false t e = cc
+
+      back : (b : Bool) → (b ≡ true → IsBoundary x.haystack at) → (not b || is_boundary x.haystack at) ≡ true
+      back true h = boundary-from x.haystack at (h refl)
+      back false h = refl
+
+  -- the test that the program makes
+  pub permits-is : (at : ℕ) (b : Bool) → (b ≡ true → IsPermittedEnd nfa x at) → (b ≡ false → is_utf8_empty nfa ≡ true)
+      → (b ≡ false → ¬ (IsBoundary x.haystack at))
+      → b ≡ permits nfa x at
+  permits-is at true counts splits inside = sym ((permits-tells at).1 (counts refl))
+  permits-is at false counts splits inside =
+      elim (cases_Bool (permits nfa x at)) [
+        | inl t ↦ absurd (inside refl ((permits-tells at).0 t (splits refl)))
+        | inr f ↦ sym f
+      ]
+
+  module _ (n : ℕ) where
+    -- the test of a pair
+    pub wants-tells : (v : Pair) → (wants nfa x n v ≡ true) ↔ IsHeld nfa x n v
+    unfolding wants
+    wants-tells v = (
+      λ t. let both = parts (permits nfa x v.1) (is_below n (pattern_at nfa v)) t in
+          of (pattern_at nfa v) refl ((permits-tells v.1).0 both.0) both.1,
+      λ h.
+          let p : permits nfa x v.1 ≡ true = (permits-tells v.1).1 h.permitted.ends in
+          let is : pattern_at nfa v ≡ Some h.pattern = h.pattern_is in
+          let less : nat_lt h.pattern n ≡ true = lt-ltb h.pattern n h.below in
+          rw (p, is) less,
+    )
+      where
+        parts : (b c : Bool) → (b && c) ≡ true → (b ≡ true) × (c ≡ true)
+        parts true c t = (refl, t)
+        parts false c t = cc
+
+        of : (o : Option ℕ) → pattern_at nfa v ≡ o → IsPermittedEnd nfa x v.1 → is_below n o ≡ true → IsHeld nfa x n v
+        of None e ends t = cc
+        of (Some k) e ends t = record {
+          permitted = record { matches = rw e refl; ends = ends };
+          pattern = k;
+          pattern_is = e;
+          below = elim (cases_lt k n) [
+            | inl less ↦ less
+            | inr more ↦ let f : nat_lt k n ≡ false = le-ltb k n more in cc
+          ];
+        }
+
+    pub wants-match : (v : Pair) → wants nfa x n v ≡ true → is_match nfa v ≡ true
+    wants-match v t = ((wants-tells v).0 t).permitted.matches
+
+    -- the test of a match of this pattern
+    pub wants-here : (s at : ℕ) (k : ℕ) → pattern_of (node_at nfa s) ≡ Some k
+        → wants nfa x n (s, at) ≡ (permits nfa x at && nat_lt k n)
+    unfolding wants
+    wants-here s at k is = rw is refl
+
+-- what is put into the set
+
+module _ (nfa : Automaton) (wanted : Pair → Bool) where
+  -- no wanted pair: the set stays
+  pub Gathers-none : (past : Bool) (front : Front) (set : List Bool) → NoMatch wanted front
+      → Gathers nfa past wanted front set false set
+  Gathers-none true front set plain = record {
+    capacity = refl;
+    gained = λ k. (λ h. inl h, λ s. elim s [ inl h ↦ h | inr h ↦ absurd (plain h.1.item h.1.among h.1.matches) ]);
+    some = λ never. cc;
+    none = λ off k below h. plain h.item h.among h.matches;
+  }
+  Gathers-none false front set plain = of front plain
+    where
+      of : (front : Front) → NoMatch wanted front → Gathers nfa false wanted front set false set
+      of [] plain = (refl, refl)
+      of (a ∷ front) plain =
+          elim (cases_Bool (wanted a.0)) [
+            | inl t ↦ absurd (plain a (inl refl) t)
+            | inr f ↦ rw f (of front (λ b i. plain b (inr i)))
+          ]
+
+  -- one wanted pair, of a pattern that the set has room for
+  pub Gathers-one : (past : Bool) (a : Pair × Slots) (k : ℕ) (set : List Bool) → wanted a.0 ≡ true
+      → pattern_at nfa a.0 ≡ Some k → k < length set
+      → Gathers nfa past wanted (a ∷ []) set true (with_pattern set k)
+  Gathers-one true a k set t is room = record {
+    capacity = length-with set k;
+    gained = λ j. (
+      λ h. elim ((holds-with set k j).0 h) [ inl o ↦ inl o | inr b ↦ inr (b.0, rw (← b.1) here) ],
+      λ s. elim s [ inl o ↦ (holds-with set k j).1 (inl o) | inr b ↦ (holds-with set k j).1 (inr (b.0, only j b.1)) ],
+    );
+    some = λ e. (k, room, here);
+    none = λ never. cc;
+  }
+    where
+      here : HoldsMatch wanted (pattern_at nfa) k (a ∷ [])
+      here = record { item = a; among = inl refl; matches = t; pattern_is = is }
+
+      only : (j : ℕ) → HoldsMatch wanted (pattern_at nfa) j (a ∷ []) → k ≡ j
+      only j h =
+          elim h.among [
+            | inl e ↦ let at : pattern_at nfa a.0 ≡ Some j = rw (← e) h.pattern_is in let both : Some k ≡ Some j =
+                sym is ∙ at in cc
+            | inr never ↦ absurd never
+          ]
+  Gathers-one false a k set t is room = rw t (refl, (k, is, refl))
+
+  -- a pair that stands in two lists
+  in-left : (b : Pair × Slots) (f g : Front) → In b f → In b (f ++ g)
+  in-left b [] g i = absurd i
+  in-left b (c ∷ f) g i = elim i [ inl h ↦ inl h | inr j ↦ inr (in-left b f g j) ]
+
+  in-right : (b : Pair × Slots) (f g : Front) → In b g → In b (f ++ g)
+  in-right b [] g i = i
+  in-right b (c ∷ f) g i = inr (in-right b f g i)
+
+  in-either : (b : Pair × Slots) (f g : Front) → In b (f ++ g) → In b f ⊎ In b g
+  in-either b [] g i = inr i
+  in-either b (c ∷ f) g i = elim i [
+    | inl h ↦ inl (inl h)
+    | inr j ↦ elim (in-either b f g j) [ inl h ↦ inl (inr h) | inr h ↦ inr h ]
+  ]
+
+  -- where none is wanted in the first front, the first of both is that of the second
+  first-append : (f g : Front) → first_match wanted f ≡ None → first_match wanted (f ++ g) ≡ first_match wanted g
+  first-append [] g none = refl
+  first-append (a ∷ f) g none =
+      elim (cases_Bool (wanted a.0)) [
+        | inl t ↦ let some : Some a ≡ None = rw t at none in cc
+        | inr e ↦ let rest : first_match wanted f ≡ None = rw e at none in rw e (first-append f g rest)
+      ]
+
+  -- what was met in no front
+  first-none : (front : Front) (set new : List Bool) → Gathers nfa false wanted front set false new
+      → first_match wanted front ≡ None
+  first-none front set new = of (first_match wanted front)
+    where
+      of : (o : Hit) → GathersFirst nfa o set false new → o ≡ None
+      of None h = refl
+      of (Some a) h = let never : false ≡ true = h.0 in cc
+
+  -- one front behind another
+  pub Gathers-then : (past : Bool) (f g : Front) (old mid new : List Bool) (h k : Bool) → (past ≡ false → h ≡ false)
+      → Gathers nfa past wanted f old h mid → Gathers nfa past wanted g mid k new
+      → Gathers nfa past wanted (f ++ g) old (k || h) new
+  Gathers-then true f g old mid new h k on a b = record {
+    capacity = b.capacity ∙ a.capacity;
+    gained = λ j. (
+      λ held.
+          elim ((b.gained j).0 held) [
+            | inl m ↦ elim ((a.gained j).0 m) [ inl o ↦ inl o | inr w ↦ inr (w.0, left j w.1) ]
+            | inr w ↦ inr (rw (← a.capacity) w.0, right j w.1)
+          ],
+      λ s.
+          elim s [
+            | inl o ↦ (b.gained j).1 (inl ((a.gained j).1 (inl o)))
+            | inr w ↦
+                elim (either j w.1) [
+                  | inl x ↦ (b.gained j).1 (inl ((a.gained j).1 (inr (w.0, x))))
+                  | inr y ↦ (b.gained j).1 (inr (rw a.capacity w.0, y))
+                ]
+          ],
+    );
+    some = λ e.
+        elim (cases_Bool k) [
+          | inl yes_k ↦ let w = b.some yes_k in (w.0, rw (← a.capacity) w.1, right w.0 w.2)
+          | inr no_k ↦ let yes_h : h ≡ true = rw no_k at e in let w = a.some yes_h in (w.0, w.1, left w.0 w.2)
+        ];
+    none = λ e j less held.
+        elim (cases_Bool k) [
+          | inl yes_k ↦ let never : true ≡ false = rw yes_k at e in cc
+          | inr no_k ↦
+              let no_h : h ≡ false = rw no_k at e in
+              elim (either j held) [ inl x ↦ a.none no_h j less x | inr y ↦ b.none no_k j (rw a.capacity less) y ]
+        ];
+  }
+    where
+      left : (j : ℕ) → HoldsMatch wanted (pattern_at nfa) j f → HoldsMatch wanted (pattern_at nfa) j (f ++ g)
+      left j w = record {
+        item = w.item;
+        among = in-left w.item f g w.among;
+        matches = w.matches;
+        pattern_is = w.pattern_is;
+      }
+
+      right : (j : ℕ) → HoldsMatch wanted (pattern_at nfa) j g → HoldsMatch wanted (pattern_at nfa) j (f ++ g)
+      right j w = record {
+        item = w.item;
+        among = in-right w.item f g w.among;
+        matches = w.matches;
+        pattern_is = w.pattern_is;
+      }
+
+      either : (j : ℕ) → HoldsMatch wanted (pattern_at nfa) j (f ++ g) → HoldsMatch wanted (pattern_at nfa) j f
+          ⊎ HoldsMatch wanted (pattern_at nfa) j g
+      either j w =
+          elim (in-either w.item f g w.among) [
+            | inl i ↦ inl (record { item = w.item; among = i; matches = w.matches; pattern_is = w.pattern_is })
+            | inr i ↦ inr (record { item = w.item; among = i; matches = w.matches; pattern_is = w.pattern_is })
+          ]
+  Gathers-then false f g old mid new h k on a b =
+      let off : h ≡ false = on refl in
+      let first : Gathers nfa false wanted f old false mid = rw off at a in
+      let none = first-none f old mid first in
+      let still : mid ≡ old = (let at : GathersFirst nfa None old false mid = rw none at first in at.1) in
+      rw (first-append f g none) (of (first_match wanted g) k off (rw still at b))
+    where
+      of : (o : Hit) (k : Bool) → h ≡ false → GathersFirst nfa o old k new → GathersFirst nfa o old (k || h) new
+      of None true off w = let never : true ≡ false = w.0 in cc
+      of None false off w = (off, w.1)
+      of (Some c) true off w = w
+      of (Some c) false off w = let never : false ≡ true = w.0 in cc

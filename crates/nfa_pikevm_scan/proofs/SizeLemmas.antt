@@ -1,0 +1,17 @@
+-- How much a cache holds.
+use Rattle.std.proofs.Common.{◌≡◌, ℕ, ◌+◌, ◌^◌, ◌<◌, ◌≤◌, List, length, take, get_or, inl, inr, arith}
+use Rattle.std.specs.List.{sum_by}
+use Rattle.std.proofs.lemmas.Bool.{cases_lt}
+use Rattle.std.proofs.lemmas.List.Sums.{sum_by_more_le}
+use Rattle.thompson_nfa.specs.Automaton.{node_of}
+use Rattle.thompson_nfa.specs.declared.state.State.{State}
+use Rattle.nfa_pikevm_scan.specs.Needs.{room_of}
+
+-- the frames of some states pass the greatest `usize`, and so do those of all
+pub rooms-past : (states : List State) (i : ℕ) (item : State) (sum room : ℕ)
+    → sum ≡ sum_by (λ s. room_of (node_of s)) (take i states) → item ≡ get_or states i item
+    → room ≡ room_of (node_of item) → i < length states → ¬ (sum + room < 2 ^ 64)
+    → 2 ^ 64 ≤ sum_by (λ s. room_of (node_of s)) states
+rooms-past states i item sum room so_far is e inside past =
+    let more = rw (← is) at (sum_by_more_le (λ s. room_of (node_of s)) states i item inside) in
+    elim (cases_lt (sum + room) (2 ^ 64)) [ inl less ↦ absurd (past less) | inr reached ↦ omega (arith, more) ]

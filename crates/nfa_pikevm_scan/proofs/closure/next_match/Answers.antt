@@ -1,0 +1,110 @@
+-- All that a state leads to without reading a byte is entered in order, up to the next match.
+use Rattle.std.proofs.Common.{length, map, arith}
+use Rattle.std.specs.Prelude.{None}
+use Rattle.regex_search_core.specs.Search.{search_of}
+use Rattle.nfa_paths.specs.Paths.{degree}
+use Rattle.nfa_paths.proofs.TurnLemmas.{marked_sum-le}
+use Rattle.nfa_pikevm_scan.proofs.UnwindLemmas.{within-lower}
+use Rattle.nfa_pikevm_scan.proofs.ClosureLemmas.{Passed-begin, Passed-plain, Passed-resumed, Finds-none, Finds-match, Paid-begin, Paid-then, Paid-resumed, HasRoom-paid, KeepsRoom-none, KeepsRoom-then}
+use Rattle.nfa_pikevm_scan.proofs.closure.next_match.Goals as goal
+
+pub loop-on-init : goal.loop-on-init
+loop-on-init c =
+    record {
+      state = c.requires.state;
+      inside = c.requires.top;
+      keeps = KeepsRoom-none c.args.reached.now;
+      grows = omega arith;
+      within = c.requires.within;
+      paid = Paid-begin c.args.here.now.nfa.now c.args.reached.now.seen (length c.args.reached.now.next.items) _ 1;
+      passed = Passed-begin c.args.here.now.nfa.now (search_of c.args.here.now.input.now) c.args.here.now.at c.args.from
+          c.args.reached.now.seen c.args.reached.now.next.items _ c.args.row.now;
+    }
+
+pub enter-requires-clause-room : goal.enter-requires-clause-room
+enter-requires-clause-room c =
+    let i = c.loop-on.invariant in
+    let frames = c.loop-on.auto.frames in
+    rw (i.keeps.same, frames)
+    (HasRoom-paid c.args.top.now c.loop-on.top c.args.frames.now c.loop-on.frames c.requires.room i.paid i.keeps.size
+    c.requires.top i.inside)
+
+pub loop-on-smaller-in-On : goal.loop-on-smaller-in-On
+loop-on-smaller-in-On c =
+    omega (
+      arith,
+      c.in-On.ensures.paid.tried,
+      c.in-On.ensures.turns,
+      marked_sum-le (map degree c.args.here.now.nfa.now.states) c.loop-on.reached.seen.bits,
+      marked_sum-le (map degree c.args.here.now.nfa.now.states) c.enter.new.reached.seen.bits,
+    )
+
+pub loop-on-preserved-in-On : goal.loop-on-preserved-in-On
+loop-on-preserved-in-On c =
+    record {
+      state = c.in-On.ensures.state;
+      inside = c.in-On.ensures.top;
+      keeps = KeepsRoom-then c.loop-on.invariant.keeps c.in-On.ensures.keeps;
+      grows = omega (arith, c.in-On.ensures.turns);
+      within = rw c.enter.auto.row c.in-On.ensures.within;
+      paid = Paid-then c.loop-on.invariant.paid c.in-On.ensures.paid;
+      passed = Passed-plain c.loop-on.invariant.passed c.in-On.ensures.enters c.in-On.ensures.enters.is_met;
+    }
+
+pub returns-in-Matched-clause-turns : goal.returns-in-Matched-clause-turns
+returns-in-Matched-clause-turns c = omega (arith, c.loop-on.invariant.grows, c.in-Matched.ensures.turns)
+
+pub returns-in-Matched-clause-keeps : goal.returns-in-Matched-clause-keeps
+returns-in-Matched-clause-keeps c = KeepsRoom-then c.loop-on.invariant.keeps c.in-Matched.ensures.keeps
+
+pub returns-in-Matched-clause-paid : goal.returns-in-Matched-clause-paid
+returns-in-Matched-clause-paid c = Paid-then c.loop-on.invariant.paid c.in-Matched.ensures.paid
+
+pub returns-in-Matched-clause-finds : goal.returns-in-Matched-clause-finds
+returns-in-Matched-clause-finds c = Finds-match c.loop-on.invariant.passed c.in-Matched.ensures.enters
+
+pub loop-on-smaller : goal.loop-on-smaller
+loop-on-smaller c =
+    omega (
+      arith,
+      c.in-Over.ensures.paid.tried,
+      c.enter.ensures.turns,
+      c.in-Some.ensures.tried,
+      marked_sum-le (map degree c.args.here.now.nfa.now.states) c.loop-on.reached.seen.bits,
+      marked_sum-le (map degree c.args.here.now.nfa.now.states) c.enter.new.reached.seen.bits,
+    )
+
+pub loop-on-preserved : goal.loop-on-preserved
+loop-on-preserved c =
+    let turned = Passed-plain c.loop-on.invariant.passed c.in-Over.ensures.enters c.in-Over.ensures.enters.is_met in
+    record {
+      state = c.in-Some.ensures.state (length c.args.here.now.nfa.now.states)
+          (rw c.enter.auto.row c.enter.ensures.within);
+      inside = omega (arith, c.in-Some.ensures.top, c.enter.ensures.top);
+      keeps = KeepsRoom-then c.loop-on.invariant.keeps c.enter.ensures.keeps;
+      grows = omega (arith, c.enter.ensures.turns);
+      within = rw (c.resume.auto.row, c.enter.auto.row)
+          (within-lower _ _ _ _ _ c.in-Some.ensures.top c.enter.ensures.within);
+      paid = Paid-resumed c.enter.new.top c.resume.new.top c.enter.new.frames 1 c.in-Some.ensures.top
+          c.enter.ensures.top c.in-Some.ensures.tried (Paid-then c.loop-on.invariant.paid c.in-Over.ensures.paid);
+      passed = Passed-resumed _ _ _ (λ front work. c.in-Some.ensures.follows c.args.here.now.nfa.now
+          (search_of c.args.here.now.input.now) c.args.here.now.at c.enter.new.reached.seen front work) turned;
+    }
+
+pub returns-in-None-clause-turns : goal.returns-in-None-clause-turns
+returns-in-None-clause-turns c = omega (arith, c.loop-on.invariant.grows, c.enter.ensures.turns)
+
+pub returns-in-None-clause-keeps : goal.returns-in-None-clause-keeps
+returns-in-None-clause-keeps c = KeepsRoom-then c.loop-on.invariant.keeps c.enter.ensures.keeps
+
+pub returns-in-None-clause-paid : goal.returns-in-None-clause-paid
+returns-in-None-clause-paid c =
+    Paid-resumed c.enter.new.top c.resume.new.top c.enter.new.frames 0 c.in-None.ensures.top
+    c.enter.ensures.top c.in-None.ensures.tried (Paid-then c.loop-on.invariant.paid c.in-Over.ensures.paid)
+
+pub returns-in-None-clause-finds : goal.returns-in-None-clause-finds
+returns-in-None-clause-finds c =
+    let turned = Passed-plain c.loop-on.invariant.passed c.in-Over.ensures.enters c.in-Over.ensures.enters.is_met in
+    Finds-none
+    (Passed-resumed None _ _ (λ front work. c.in-None.ensures.follows c.args.here.now.nfa.now
+    (search_of c.args.here.now.input.now) c.args.here.now.at c.enter.new.reached.seen front work) turned)

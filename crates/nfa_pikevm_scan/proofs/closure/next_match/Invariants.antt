@@ -1,0 +1,31 @@
+-- All that a state leads to without reading a byte is entered in order, up to the next match.
+use Rattle.std.proofs.Common.{◌≤◌, ◌<◌, ◌+◌, ◌-◌, length, map, take}
+use Rattle.std.specs.Prelude.{All, Some, sum}
+use Rattle.std.specs.List.{sum_by}
+use Rattle.regex_search_core.specs.Search.{search_of}
+use Rattle.nfa_paths.specs.Paths.{degree}
+use Rattle.nfa_paths.specs.Turns.{marked_sum}
+use Rattle.nfa_pikevm_scan.specs.States.{tries, IsWithin, KeepsRoom, Paid}
+use Rattle.nfa_pikevm_scan.proofs.ClosureLemmas.{Passed}
+use Rattle.nfa_pikevm_scan.proofs.closure.next_match.Given as goal
+
+abbrev pub invariant-loop-on : goal.invariant-loop-on
+invariant-loop-on l = record {
+  state : l.sid < length l.here.nfa.now.states;
+  inside : l.top ≤ length l.frames;
+  keeps : KeepsRoom l.fn.reached l.reached;
+  grows : l.fn.reached.seen.turns ≤ l.reached.seen.turns;
+  within : All (IsWithin (length l.here.nfa.now.states) (length l.row)) (take l.top l.frames);
+  paid : Paid l.here.nfa.now l.fn.reached.seen (length l.fn.reached.next.items) (take l.fn.top l.fn.frames) 1
+      l.reached.seen (length l.reached.next.items) (take l.top l.frames) 1;
+  passed : Passed l.here.nfa.now (search_of l.here.input.now) l.here.at l.fn.from l.fn.reached.seen
+      l.fn.reached.next.items
+      (take l.fn.top l.fn.frames) l.fn.row
+      l.reached.seen l.reached.next.items (Some l.sid) (take l.top l.frames) l.row;
+}
+
+-- the turns that wait on the stack, and those that the states may still bring that are not marked
+abbrev pub decreases-loop-on : goal.decreases-loop-on
+decreases-loop-on l =
+    sum_by tries (take l.top l.frames) + length l.reached.next.items
+    + (sum (map degree l.here.nfa.now.states) - marked_sum (map degree l.here.nfa.now.states) l.reached.seen.bits)

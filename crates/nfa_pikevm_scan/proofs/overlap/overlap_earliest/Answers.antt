@@ -1,0 +1,85 @@
+-- The set gains the patterns of the matches with the least end.
+use Rattle.std.proofs.Common.{◌≡◌, ◌∙◌, ◌+◌, Bool, List, ap, sym, arith, length, refl}
+use Rattle.regex_search_core.specs.Search.{search_of}
+use Rattle.nfa_paths.proofs.ScanAnswerLemmas.{EndsBefore-span}
+use Rattle.nfa_pikevm_scan.specs.Overlapping.{wants}
+use Rattle.nfa_pikevm_scan.proofs.OverlapScanLemmas.{ScansAt-over}
+use Rattle.nfa_pikevm_scan.proofs.OverlapLoopLemmas.{crosses-joined, Stands-turns, Earliest-start, Earliest-next, Earliest-found, Earliest-end}
+use Rattle.nfa_pikevm_scan.proofs.RoomLemmas.{none_of, below-joined}
+use Rattle.nfa_pikevm_scan.proofs.overlap.overlap_earliest.Goals as goal
+
+pub loop-at-init : goal.loop-at-init
+loop-at-init c = record {
+  counted = refl;
+  low = omega (arith, c.start-at.ensures);
+  sizes = refl;
+  width = c.requires.ready.room.width_is;
+  next = c.requires.ready.next;
+  so_far = rw c.start-at.ensures
+      (Earliest-start c.args.nfa.now (search_of c.args.input.now) c.args.patterns.now c.args.past_match
+      c.args.starts.now c.requires.ready.starts c.args.threads.now.reached.seen c.args.threads.now.curr.items
+      c.requires.ready.curr);
+}
+
+pub returns-then-is_empty-clause-gains : goal.returns-then-is_empty-clause-gains
+returns-then-is_empty-clause-gains c =
+    let items = rw c.loop-at.invariant.width at c.join.ensures.curr in
+    Earliest-end c.args.nfa.now (search_of c.args.input.now) c.args.patterns.now c.args.past_match c.requires.empty
+    c.loop-at.invariant.so_far
+    (ScansAt-over c.args.nfa.now (search_of c.args.input.now) c.args.patterns.now c.args.starts.now c.loop-at.at
+    c.loop-at.threads.reached.seen c.loop-at.threads.curr.items c.loop-at.invariant.so_far.stands.scans
+    (sym items ∙ none_of c.join.new.threads.curr.items (c.is_empty.ensures.0 c.if-is_empty.true)))
+
+pub cross_to_set-met-requires-clause-states : goal.cross_to_set-met-requires-clause-states
+cross_to_set-met-requires-clause-states c =
+    let items = rw c.loop-at.invariant.width at c.join.ensures.curr in
+    rw items (below-joined c.args.starts.now 0 c.loop-at.at c.loop-at.threads.curr.items
+    c.requires.ready.starts.state c.loop-at.invariant.so_far.stands.states.states)
+
+pub returns-then-met-clause-turns : goal.returns-then-met-clause-turns
+returns-then-met-clause-turns c =
+    let items = rw c.loop-at.invariant.width at c.join.ensures.curr in
+    let crosses = crosses-joined (length c.args.patterns.now) c.loop-at.threads.reached.seen _
+    (ap (λ (l : List Bool). length l) c.loop-at.invariant.so_far.still) c.join.ensures.seen items
+    c.cross_to_set-met.ensures.crosses in
+    rw c.move_on.ensures.seen
+    (Stands-turns c.args.nfa.now (search_of c.args.input.now) c.args.patterns.now c.loop-at.invariant.low
+    (omega (arith, c.end-at-end.ensures.value, c.loop-at-test.true)) c.loop-at.invariant.so_far.stands crosses)
+
+pub returns-then-met-clause-gains : goal.returns-then-met-clause-gains
+returns-then-met-clause-gains c =
+    let items = rw c.loop-at.invariant.width at c.join.ensures.curr in
+    let crosses = crosses-joined (length c.args.patterns.now) c.loop-at.threads.reached.seen _
+    (ap (λ (l : List Bool). length l) c.loop-at.invariant.so_far.still) c.join.ensures.seen items
+    c.cross_to_set-met.ensures.crosses in
+    Earliest-found c.args.nfa.now (search_of c.args.input.now) c.args.patterns.now c.args.past_match c.requires.valid
+    c.requires.empty c.loop-at.invariant.so_far crosses c.if-met.true
+
+pub loop-at-preserved : goal.loop-at-preserved
+loop-at-preserved c =
+    let items = rw c.loop-at.invariant.width at c.join.ensures.curr in
+    let crosses = crosses-joined (length c.args.patterns.now) c.loop-at.threads.reached.seen _
+    (ap (λ (l : List Bool). length l) c.loop-at.invariant.so_far.still) c.join.ensures.seen items
+    c.cross_to_set-met.ensures.crosses in
+    record {
+      counted = c.move_on.ensures.scans ∙ c.cross_to_set-met.ensures.scans ∙ c.join.ensures.scans
+          ∙ c.loop-at.invariant.counted;
+      low = omega arith;
+      sizes = c.move_on.ensures.sizes ∙ c.cross_to_set-met.ensures.sizes ∙ c.join.ensures.sizes
+          ∙ c.loop-at.invariant.sizes;
+      width = c.move_on.ensures.width ∙ c.cross_to_set-met.ensures.width ∙ c.join.ensures.width
+          ∙ c.loop-at.invariant.width;
+      next = c.move_on.ensures.next;
+      so_far = rw (c.move_on.ensures.seen, c.move_on.ensures.curr)
+          (Earliest-next c.args.nfa.now (search_of c.args.input.now) c.args.patterns.now c.args.past_match
+          c.requires.valid c.loop-at.invariant.low c.loop-at.invariant.so_far crosses c.if-met.false);
+    }
+
+pub returns-clause-gains : goal.returns-clause-gains
+returns-clause-gains c =
+    let last : c.loop-at.at ≡ (search_of c.args.input.now).end + 1 =
+    omega (arith, c.end-at-end.ensures.value, c.loop-at-test.false) in
+    Earliest-end c.args.nfa.now (search_of c.args.input.now) c.args.patterns.now c.args.past_match c.requires.empty
+    c.loop-at.invariant.so_far
+    (rw last (EndsBefore-span c.args.nfa.now (search_of c.args.input.now)
+    (wants c.args.nfa.now (search_of c.args.input.now) (length c.args.patterns.now))))

@@ -1,0 +1,82 @@
+-- The set gains the pattern of the first match, and those that were met on the way to its end.
+use Rattle.std.proofs.Common.{◌∙◌, sym, arith, length, refl}
+use Rattle.regex_search_core.specs.Search.{search_of}
+use Rattle.nfa_pikevm_scan.proofs.OverlapScanLemmas.{kept-none}
+use Rattle.nfa_pikevm_scan.proofs.OverlapLoopLemmas.{crosses-joined}
+use Rattle.nfa_pikevm_scan.proofs.OverlapFirstLemmas.{FirstWay-capacity, FirstWay-start, FirstWay-next, FirstWay-cut, FirstWay-over, FirstWay-end}
+use Rattle.nfa_pikevm_scan.proofs.RoomLemmas.{none_of, below-joined}
+use Rattle.nfa_pikevm_scan.proofs.overlap.overlap_first.Goals as goal
+use Rattle.nfa_pikevm_scan.proofs.overlap.overlap_first.Goals.{then-met, else-met}
+
+pub loop-at-init : goal.loop-at-init
+loop-at-init c = record {
+  counted = refl;
+  low = omega (arith, c.start-at.ensures);
+  state = c.requires.ready.starts.state;
+  limit = c.requires.ready.starts.high;
+  last = λ past. c.requires.ready.curr;
+  sizes = refl;
+  width = c.requires.ready.room.width_is;
+  next = c.requires.ready.next;
+  so_far = rw c.start-at.ensures
+      (FirstWay-start c.args.nfa.now (search_of c.args.input.now) c.args.patterns.now c.args.starts.now
+      c.requires.ready.starts c.args.threads.now.reached.seen c.args.threads.now.curr.items c.requires.ready.curr);
+}
+
+pub returns-then-is_empty-clause-gains : goal.returns-then-is_empty-clause-gains
+returns-then-is_empty-clause-gains c =
+    let items = rw c.loop-at.invariant.width at c.join.ensures.curr in
+    FirstWay-over c.args.nfa.now (search_of c.args.input.now) c.args.patterns.now c.requires.valid c.requires.empty
+    c.loop-at.invariant.so_far
+    (sym items ∙ none_of c.join.new.threads.curr.items (c.is_empty.ensures.0 c.if-is_empty.true))
+
+pub cross_to_set-met-requires-clause-states : goal.cross_to_set-met-requires-clause-states
+cross_to_set-met-requires-clause-states c =
+    let items = rw c.loop-at.invariant.width at c.join.ensures.curr in
+    rw items (below-joined c.loop-at.joining 0 c.loop-at.at c.loop-at.threads.curr.items
+    c.loop-at.invariant.state c.loop-at.invariant.so_far.states.states)
+
+pub loop-at-preserved : goal.loop-at-preserved
+loop-at-preserved c =
+    let items = rw c.loop-at.invariant.width at c.join.ensures.curr in
+    let crosses = crosses-joined (length c.args.patterns.now) c.loop-at.threads.reached.seen _
+    (FirstWay-capacity c.args.nfa.now (search_of c.args.input.now) c.args.patterns.now c.loop-at.invariant.so_far)
+    c.join.ensures.seen items c.cross_to_set-met.ensures.crosses in
+    record {
+      counted = c.move_on.ensures.scans ∙ c.cross_to_set-met.ensures.scans ∙ c.join.ensures.scans
+          ∙ c.loop-at.invariant.counted;
+      low = omega arith;
+      state = elim c.if-met.branch [
+        | then-met w ↦ rw w.joining-is c.loop-at.invariant.state
+        | else-met w ↦ rw w.joining-is c.loop-at.invariant.state
+      ];
+      limit = elim c.if-met.branch [
+        | then-met w ↦ rw w.joining-is (omega arith)
+        | else-met w ↦ rw w.joining-is c.loop-at.invariant.limit
+      ];
+      last = λ past. rw c.move_on.ensures.curr
+          (kept-none c.args.nfa.now (search_of c.args.input.now) c.args.patterns.now crosses (omega arith));
+      sizes = c.move_on.ensures.sizes ∙ c.cross_to_set-met.ensures.sizes ∙ c.join.ensures.sizes
+          ∙ c.loop-at.invariant.sizes;
+      width = c.move_on.ensures.width ∙ c.cross_to_set-met.ensures.width ∙ c.join.ensures.width
+          ∙ c.loop-at.invariant.width;
+      next = c.move_on.ensures.next;
+      so_far = rw (c.move_on.ensures.seen, c.move_on.ensures.curr)
+          (elim c.if-met.branch [
+            | then-met w ↦
+                rw w.joining-is
+                (FirstWay-cut c.args.nfa.now (search_of c.args.input.now) c.args.patterns.now c.requires.valid
+                c.loop-at.invariant.low c.loop-at.invariant.so_far crosses c.requires.empty w.if-met.true)
+            | else-met w ↦
+                rw w.joining-is
+                (FirstWay-next c.args.nfa.now (search_of c.args.input.now) c.args.patterns.now c.requires.valid
+                c.loop-at.invariant.low c.loop-at.invariant.so_far crosses w.if-met.false)
+          ]);
+    }
+
+pub returns-clause-gains : goal.returns-clause-gains
+returns-clause-gains c =
+    FirstWay-end c.args.nfa.now (search_of c.args.input.now) c.args.patterns.now c.requires.valid c.requires.empty
+    c.loop-at.invariant.so_far
+    (c.loop-at.invariant.last (omega (arith, c.end-at-end.ensures.value, c.loop-at-test.false)))
+    (omega (arith, c.loop-at.invariant.limit, c.end-at-end.ensures.value, c.loop-at-test.false))

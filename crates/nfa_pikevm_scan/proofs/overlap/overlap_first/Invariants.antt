@@ -1,0 +1,21 @@
+-- The set gains the pattern of the first match, and those that were met on the way to its end.
+use Rattle.std.proofs.Common.{◌≡◌, ◌≤◌, ◌<◌, ◌+◌, [], length}
+use Rattle.regex_search_core.specs.Search.{search_of}
+use Rattle.nfa_pikevm_scan.proofs.OverlapFirstLemmas.{FirstWay}
+use Rattle.nfa_pikevm_scan.specs.Scans.{SameSizes}
+use Rattle.nfa_pikevm_scan.proofs.overlap.overlap_first.Given as goal
+
+abbrev pub invariant-loop-at : goal.invariant-loop-at
+invariant-loop-at l = record {
+  low : (search_of l.input).start ≤ l.at;
+  state : l.joining.state < length l.nfa.states;
+  limit : l.joining.limit ≤ (search_of l.input).end + 1;
+  last : (search_of l.input).end < l.at → l.threads.curr.items ≡ [];
+  sizes : SameSizes l.fn.threads l.threads;
+  width : l.threads.curr.width ≡ 0;
+  next : l.threads.reached.next.items ≡ [];
+  so_far : FirstWay l.nfa (search_of l.input) l.fn.patterns l.joining l.at l.fn.threads.reached.seen.turns
+      l.threads.reached.seen
+      l.threads.curr.items l.patterns;
+  counted : l.threads.scans ≡ l.fn.threads.scans;
+}

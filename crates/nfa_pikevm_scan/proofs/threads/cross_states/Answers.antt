@@ -1,0 +1,91 @@
+-- The states of a position are followed in order, up to the match that ends it.
+use Rattle.std.proofs.Common.{◌≡◌, ◌+◌, ◌-◌, ◌*◌, ◌∙◌, length, refl, ap, sym, arith}
+use Rattle.regex_search_core.specs.Search.{search_of}
+use Rattle.nfa_pikevm_scan.specs.Rows.{Active}
+use Rattle.nfa_pikevm_scan.proofs.ClosureLemmas.{KeepsRoom-none, KeepsRoom-then}
+use Rattle.nfa_pikevm_scan.proofs.CrossLemmas.{CrossesTo-begin, CrossesTo-next, CrossesTo-ended, CrossesTo-over, HasRoom-next, items-next, items-over, row-long, rows-behind}
+use Rattle.nfa_pikevm_scan.proofs.threads.cross_states.Goals as goal
+
+pub loop-sid-init : goal.loop-sid-init
+loop-sid-init g c = record {
+  start = omega arith;
+  keeps = KeepsRoom-none c.args.reached.now;
+  grows = omega arith;
+  behind = refl;
+  width = refl;
+  same_reference = refl;
+  crosses = CrossesTo-begin c.args.here.now.nfa.now (search_of c.args.here.now.input.now) g.T.Taker.takes
+      c.args.here.now.at c.args.reached.now.seen _ c.args.taker.now _ c.requires.empty c.requires.clear;
+}
+
+pub follow-requires-clause-room : goal.follow-requires-clause-room
+follow-requires-clause-room g c =
+    HasRoom-next c.args.here.now.nfa.now (search_of c.args.here.now.input.now) g.T.Taker.takes c.args.here.now.at
+    c.args.reached.now.seen _ c.args.taker.now _ _ _ _ _ _ _ _
+    c.requires.clear c.requires.room c.loop-sid.invariant.keeps.size c.loop-sid.auto.frames
+    (ap (λ (z : Active). z.places) c.loop-sid.invariant.keeps.same) c.loop-sid.invariant.crosses
+
+pub follow-requires-clause-width : goal.follow-requires-clause-width
+follow-requires-clause-width g c =
+    let width = c.width-width.result in
+    let wide = c.width-width.ensures in
+    rw c.loop-sid.invariant.start (row-long width c.loop-sid.sid-index (length c.args.kept.now) _ c.loop-sid.rows
+    c.args.rows.now c.loop-sid-test.true (rw wide c.requires.rows) c.loop-sid.auto.rows (omega arith))
+    ∙ wide ∙ c.requires.width ∙ sym (ap (λ (z : Active). z.width) c.loop-sid.invariant.keeps.same)
+
+pub follow-requires-clause-takes : goal.follow-requires-clause-takes
+follow-requires-clause-takes g c =
+    let width = c.width-width.result in
+    let wide = c.width-width.ensures in
+    rw c.loop-sid.invariant.start (row-long width c.loop-sid.sid-index (length c.args.kept.now) _ c.loop-sid.rows
+    c.args.rows.now c.loop-sid-test.true (rw wide c.requires.rows) c.loop-sid.auto.rows (omega arith))
+    ∙ wide ∙ sym c.loop-sid.invariant.width
+
+pub loop-sid-preserved : goal.loop-sid-preserved
+loop-sid-preserved g c =
+    let width = c.width-width.result in
+    let i = c.loop-sid.sid-index in
+    let wide : i * width + width - i * width ≡ width = omega arith in
+    let items = items-next width i _ c.args.kept.now c.args.rows.now c.loop-sid.rows c.sid-item.result
+    c.loop-sid-test.true c.sid-item.is wide c.loop-sid.invariant.behind in
+    record {
+      start = omega (arith, c.loop-sid.invariant.start);
+      keeps = KeepsRoom-then c.loop-sid.invariant.keeps c.follow.ensures.keeps;
+      grows = omega (arith, c.follow.ensures.grows);
+      behind = rw c.loop-sid.invariant.start (rows-behind width i (length c.args.kept.now) _ c.args.rows.now
+          c.loop-sid.rows c.follow.new.row
+          c.loop-sid-test.true (rw c.width-width.ensures c.requires.rows) c.loop-sid.auto.rows wide
+          (rw c.loop-sid.invariant.start at c.follow.auto.row)
+          c.loop-sid.invariant.behind);
+      width = c.follow.ensures.width ∙ c.loop-sid.invariant.width;
+      same_reference = c.follow.ensures.same_reference ∙ c.loop-sid.invariant.same_reference;
+      crosses =
+          CrossesTo-next c.args.here.now.nfa.now (search_of c.args.here.now.input.now) g.T.Taker.takes
+          c.args.here.now.at c.args.reached.now.seen _ c.args.taker.now _ _ _ _ _ _ _ items
+          c.loop-sid.invariant.crosses _ _ _ _ (rw c.loop-sid.invariant.start at c.follow.ensures.arrives)
+          c.if-follow.false;
+    }
+
+pub returns-then-follow-clause-keeps : goal.returns-then-follow-clause-keeps
+returns-then-follow-clause-keeps g c = KeepsRoom-then c.loop-sid.invariant.keeps c.follow.ensures.keeps
+
+pub returns-then-follow-clause-arrive : goal.returns-then-follow-clause-arrive
+returns-then-follow-clause-arrive g c =
+    let width = c.width-width.result in
+    let i = c.loop-sid.sid-index in
+    let wide : i * width + width - i * width ≡ width = omega arith in
+    let items = items-next width i _ c.args.kept.now c.args.rows.now c.loop-sid.rows c.sid-item.result
+    c.loop-sid-test.true c.sid-item.is wide c.loop-sid.invariant.behind in
+    rw (← c.width-width.ensures)
+    (CrossesTo-ended c.args.here.now.nfa.now (search_of c.args.here.now.input.now) g.T.Taker.takes c.args.here.now.at
+    c.args.reached.now.seen _ c.args.taker.now _ _ _ _ _ _ _ items
+    c.loop-sid.invariant.crosses _ _ _ _ (rw c.loop-sid.invariant.start at c.follow.ensures.arrives)
+    c.if-follow.true)
+
+pub returns-clause-arrive : goal.returns-clause-arrive
+returns-clause-arrive g c =
+    rw (← c.width-width.ensures)
+    (CrossesTo-over c.args.here.now.nfa.now (search_of c.args.here.now.input.now) g.T.Taker.takes c.args.here.now.at
+    c.args.reached.now.seen _ c.args.taker.now _ _ _ _
+    (items-over c.width-width.result c.loop-sid.sid-index c.args.kept.now c.args.rows.now c.loop-sid-test.false)
+    c.loop-sid.invariant.crosses)

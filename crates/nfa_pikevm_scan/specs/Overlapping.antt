@@ -1,0 +1,73 @@
+-- What a PikeVM puts into a set of patterns, at each position and in all.
+use Rattle.std.specs.Prelude.{◌≡◌, ◌↔◌, ◌⊎◌, ℕ, ◌<◌, ◌==◌, ◌&&◌, ◌||◌, not, Bool, true, false, List, [], ◌∷◌, Option, None, Some, length, All, slice_index, nat_lt, nat_le}
+use Rattle.regex_search_core.specs.PatternSets.{with_pattern}
+use Rattle.regex_search_core.specs.Search.{Search}
+use Rattle.thompson_nfa.specs.Automaton.{Automaton}
+use Rattle.nfa_paths.specs.Graphs.{Pair}
+use Rattle.nfa_paths.specs.Paths.{edges, is_utf8_empty}
+use Rattle.nfa_paths.specs.Exploring.{Slots, Hit, Item}
+use Rattle.nfa_paths.specs.Exploring.Item.{Load as ToLoad}
+use Rattle.nfa_paths.specs.Kinds.{HoldsMatch, first_match, before_match}
+use Rattle.nfa_paths.specs.Overlaps.{HoldsPattern, pattern_at}
+use Rattle.nfa_scanning.specs.Marks.{Marks}
+use Rattle.nfa_pikevm_scan.specs.States.{Front, moves, tasks, unmarked, Formed, Paid, Leads}
+
+-- whether the position is a boundary of characters
+abbrev pub is_boundary : List ℕ → ℕ → Bool
+is_boundary haystack i =
+    (i == length haystack) || (nat_lt i (length haystack) &&
+    (nat_le (slice_index haystack i) 0x7F || nat_le 0xC0 (slice_index haystack i)))
+
+-- whether a match may end at the position
+unfoldable pub permits : Automaton → Search → ℕ → Bool
+permits nfa x at = not (is_utf8_empty nfa) || is_boundary x.haystack at
+
+-- whether there is a number, and it is below n
+abbrev pub is_below : ℕ → Option ℕ → Bool
+is_below n None = false
+is_below n (Some k) = nat_lt k n
+
+-- whether the pair is a match that may end where it does, of a pattern that a set of this capacity has room for
+unfoldable pub wants : Automaton → Search → ℕ → Pair → Bool
+wants nfa x capacity v = permits nfa x v.1 && is_below capacity (pattern_at nfa v)
+
+-- Each pattern below the capacity of which the front holds a wanted pair is put into the set, and it is told whether
+-- there is one.
+pub record GathersAll (nfa : Automaton) (wanted : Pair → Bool) (front : Front) (old : List Bool) (met : Bool)
+    (new : List Bool) : Type 0 where
+  pub capacity : length new ≡ length old
+  pub gained : (k : ℕ) → HoldsPattern new k ↔ (HoldsPattern old k
+      ⊎ ((k < length old) × HoldsMatch wanted (pattern_at nfa) k front))
+  pub some : met ≡ true → (k : ℕ) × (k < length old) × HoldsMatch wanted (pattern_at nfa) k front
+  pub none : met ≡ false → (k : ℕ) → k < length old → HoldsMatch wanted (pattern_at nfa) k front → ⊥
+
+-- the pattern of the first wanted pair is put into the set, if there is one
+abbrev pub GathersFirst : Automaton → Hit → List Bool → Bool → List Bool → Type 0
+GathersFirst nfa None old met new = (met ≡ false) × (new ≡ old)
+GathersFirst nfa (Some a) old met new = (met ≡ true)
+    × ((k : ℕ) × (pattern_at nfa a.0 ≡ Some k) × (new ≡ with_pattern old k))
+
+-- what is put into the set at a position: with `past` of all wanted pairs, else of the first one
+abbrev pub Gathers : Automaton → Bool → (Pair → Bool) → Front → List Bool → Bool → List Bool → Type 0
+Gathers nfa true wanted front old met new = GathersAll nfa wanted front old met new
+Gathers nfa false wanted front old met new = GathersFirst nfa (first_match wanted front) old met new
+
+-- all that waits is followed: past matches always, else where there is none
+abbrev pub GoesPast : Bool → Bool → Type 0
+GoesPast past met = (past ≡ true) ⊎ (met ≡ false)
+
+module _ (nfa : Automaton) (x : Search) where
+  -- Of a set of capacity n: what comes of all states at a position, where none was marked before, which have rows of no
+  -- slots: a front, which memory holds the moves of, and what of it is put into the set.
+  pub record CrossesInSet (at : ℕ) (past : Bool) (n : ℕ) (met : Marks) (items : List (ℕ × Slots)) (set : List Bool)
+      (hit : Bool) (after : Marks) (kept : List (ℕ × Slots)) (gathered : List Bool) : Type 0 where
+    pub front : Front
+    pub rows : All (λ i. i.1 ≡ []) items
+    pub added : kept ≡ moves (edges nfa x) front
+    pub gathers : Gathers nfa past (wants nfa x n) front set hit gathered
+    pub cut : past ≡ false → moves (edges nfa x) (before_match (wants nfa x n) front) ≡ moves (edges nfa x) front
+    pub formed : Formed nfa at after.bits front
+    pub paid : Paid nfa (unmarked met) 0 [] (length items) after (length kept) [] 0
+    pub leads : (old : Slots) (waiting : List Item)
+        → Leads nfa x at (unmarked met) [] (tasks at items (ToLoad old ∷ waiting)) [] (GoesPast past hit) after front
+        (ToLoad old ∷ waiting)

@@ -1,0 +1,141 @@
+-- What the scans and the search of a PikeVM come to, over the theory of paths.
+use Rattle.std.specs.Prelude.{◌≡◌, ◌⊎◌, ℕ, ◌++◌, ◌+◌, ◌-◌, ◌*◌, ◌<◌, ◌≤◌, Bool, List, [], ◌∷◌, Option, None, Some, length, replicate, nat_lt, if◌then◌else◌, All}
+use Rattle.std.specs.List.{sum_by}
+use Rattle.regex_search_core.specs.Found.{HalfFound, half_found_of}
+use Rattle.regex_search_core.specs.Search.{Search}
+use Rattle.regex_search_core.specs.declared.search.HalfMatch.{HalfMatch}
+use Rattle.thompson_nfa.specs.Automaton.{Automaton, LeadsBelow}
+use Rattle.nfa_paths.specs.Paths.{node_at, pattern_of, is_match, starts, pairs_from, turn_weight, space}
+use Rattle.nfa_paths.specs.Exploring.{Slots, Hit, Item, seeds}
+use Rattle.nfa_paths.specs.Exploring.Item.{Load}
+use Rattle.nfa_paths.specs.Kinds.{Scanning}
+pub use Rattle.nfa_paths.specs.Restarts.{scan_turns}
+use Rattle.nfa_scanning.specs.FirstBytes.{IsRefused}
+use Rattle.nfa_scanning.specs.Marks.{Marks}
+use Rattle.nfa_pikevm_scan.specs.Needs.{room_of}
+use Rattle.nfa_pikevm_scan.specs.declared.scan.Starts.{Starts}
+use Rattle.nfa_pikevm_scan.specs.declared.scratch.Threads.{Threads}
+use Rattle.nfa_pikevm_scan.specs.States.{tasks, unmarked, SeenAt, SearchingAt}
+
+-- a row with no slot set
+abbrev pub blank : ℕ → Slots
+blank width = replicate width None
+
+-- the starts from a position on, below the limit, each with the slots to load behind it
+abbrev pub starts_from : ℕ → ℕ → ℕ → ℕ → List Item
+starts_from width start at limit = seeds (blank width) (pairs_from start at (limit - at))
+
+-- for how many states there are marks, for how many there is room in each of the two sets, the cells of the rows of
+-- each, and the frames
+pub record Sizes : Type 0 where
+  pub states : ℕ
+  pub places : ℕ
+  pub cells : ℕ
+  pub frames : ℕ
+
+-- the sizes of the threads, whose two sets are alike
+abbrev pub sizes_of : Threads → Sizes
+sizes_of t = record {
+  states = length t.reached.seen.bits;
+  places = t.curr.places;
+  cells = t.curr.cells;
+  frames = length t.frames.items;
+}
+
+-- There is room for all states of the NFA, and for one more that starts, with rows of this width.
+pub record Serves (nfa : Automaton) (width : ℕ) (size : Sizes) : Type 0 where
+  pub marks : length nfa.states ≤ size.states
+  pub places : length nfa.states < size.places
+  pub cells : size.places * width ≤ size.cells
+  pub frames_fit : sum_by room_of nfa.states ≤ size.frames
+
+-- the threads have room for a search of the NFA, with rows of this width
+abbrev pub HaveRoom : Automaton → ℕ → Threads → Type 0
+HaveRoom nfa width t = Serves nfa width (sizes_of t)
+
+-- and their rows have this width
+pub record HaveRows (nfa : Automaton) (width : ℕ) (t : Threads) : Type 0 where
+  pub room : HaveRoom nfa width t
+  pub width_is : t.curr.width ≡ width
+
+-- the threads have the sizes that they had
+abbrev pub SameSizes : Threads → Threads → Type 0
+SameSizes old new = sizes_of new ≡ sizes_of old
+
+-- the scan's starts, and which of them may be passed over; and each state leads to states of the NFA
+pub record AreStarts (nfa : Automaton) (x : Search) (starts_at : Starts) : Type 0 where
+  pub state : starts_at.state < length nfa.states
+  pub leads : All (LeadsBelow (length nfa.states)) nfa.states
+  pub all : starts nfa x ≡ pairs_from starts_at.state x.start (starts_at.limit - x.start)
+  pub low : x.start ≤ starts_at.limit
+  pub high : starts_at.limit ≤ x.end + 1
+  pub stop : starts_at.stop ≤ x.end
+  pub before : starts_at.stop < starts_at.limit
+  pub skips : x.start < starts_at.stop → starts_at.state ≡ nfa.anchored
+
+-- A scan may begin: the starts are its own, the span is one, and there is room for rows of this width, and no state.
+pub record MayScan (nfa : Automaton) (x : Search) (starts_at : Starts) (width : ℕ) (t : Threads) : Type 0 where
+  pub starts : AreStarts nfa x starts_at
+  pub span : x.start ≤ x.end
+  pub room : HaveRows nfa width t
+  pub curr : t.curr.items ≡ []
+  pub next : t.reached.next.items ≡ []
+
+-- the states at a position with the start behind them, where it may still join
+abbrev pub with_start : Starts → ℕ → ℕ → List (ℕ × Slots) → List (ℕ × Slots)
+with_start starts_at width at items = if nat_lt at starts_at.limit then items ++ (starts_at.state, blank width)
+    ∷ [] else items
+
+-- a match that ends at the position
+abbrev pub half_found : ℕ → ℕ → HalfFound
+half_found pattern at = record { pattern = pattern; offset = at }
+
+-- the position may be passed over: no match begins with its byte
+abbrev pub IsPassed : List Bool → Search → Starts → ℕ → Type 0
+IsPassed table x starts_at k = (k < starts_at.stop) × IsRefused table x k
+
+-- The position that a scan goes on at, where the start has joined the states, or no match begins there. While starts
+-- are left some state is there.
+pub record Joins (table : List Bool) (x : Search) (starts_at : Starts) (limit width at : ℕ) (items : List (ℕ × Slots))
+    (to : ℕ) (now : List (ℕ × Slots)) : Type 0 where
+  pub ahead : at ≤ to
+  pub within : at ≤ x.end → to ≤ x.end
+  pub stays : 0 < length items → to ≡ at
+  pub passed : (k : ℕ) → at ≤ k → k < to → IsPassed table x starts_at k
+  pub some : at < limit → 0 < length now
+  pub last : ((to < limit) × (now ≡ items ++ (starts_at.state, blank width) ∷ []))
+      ⊎ ((now ≡ items) × ((limit ≤ to) ⊎ IsPassed table x starts_at to))
+
+-- The states at a position: each is one of the NFA's, and they are no more than it has.
+pub record AreAt (nfa : Automaton) (items : List (ℕ × Slots)) : Type 0 where
+  pub states : All (λ i. i.0 < length nfa.states) items
+  pub few : length items ≤ length nfa.states
+
+module _ (nfa : Automaton) (x : Search) where
+  -- the match that was found so far, and where it ends: none, and no slot set; or one, and its slots
+  abbrev pub IsSoFar : Option HalfMatch → Slots → Hit → Type 0
+  IsSoFar None slots g = (g ≡ None) × (slots ≡ blank (length slots))
+  IsSoFar (Some half) slots g =
+      (state : ℕ) × (g ≡ Some ((state, (half_found_of half).offset), slots))
+      × (pattern_of (node_at nfa state) ≡ Some (half_found_of half).pattern)
+
+  -- no more turns were taken than a scan takes
+  abbrev pub IsWithinTurns : Threads → Threads → Type 0
+  IsWithinTurns old new = new.reached.seen.turns ≤ old.reached.seen.turns + scan_turns nfa x
+
+  -- The turns so far and the states at the position are within the starts and the positions before it.
+  pub record IsPaidAt (at before : ℕ) (turns items : ℕ) : Type 0 where
+    pub bound : turns + items ≤ before + (at - x.start) * (1 + turn_weight nfa)
+
+  -- The search for the first path, at a position where it has followed no state yet.
+  pub record SearchesFirst (at width start limit : ℕ) (found : Option HalfMatch) (slots : Slots) (met : Marks)
+      (items : List (ℕ × Slots)) : Type 0 where
+    pub so_far : Hit
+    pub is_so_far : IsSoFar found slots so_far
+    pub searching : SearchingAt nfa x at (is_match nfa) (starts nfa x) (blank width) so_far (unmarked met) []
+        (tasks at items (Load (blank width) ∷ starts_from width start at limit)) (blank width)
+
+  -- The scan for each match, at a position where it has followed no state yet.
+  pub record ScansAll (at width start limit : ℕ) (met : Marks) (items : List (ℕ × Slots)) : Type 0 where
+    pub scanning : Scanning (space nfa x) (is_match nfa) (blank width) at (SeenAt at (unmarked met).bits) met.turns []
+        (tasks at items (Load (blank width) ∷ starts_from width start at limit)) (blank width)

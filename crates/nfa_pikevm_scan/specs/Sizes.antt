@@ -1,0 +1,42 @@
+-- How much the parts of a cache hold, and how much an engine asks for.
+use Rattle.std.specs.Prelude.{◌≡◌, ◌⊎◌, ℕ, ◌+◌, ◌*◌, ◌^◌, ◌≤◌, length}
+use Rattle.regex_search_core.specs.Groups.{slot_count}
+use Rattle.thompson_nfa.specs.Automaton.{Automaton}
+use Rattle.nfa_pikevm_scan.specs.Needs.{stack_places}
+use Rattle.nfa_pikevm_scan.specs.Scans.{Sizes, sizes_of}
+use Rattle.nfa_pikevm_scan.specs.declared.scratch.Threads.{Threads}
+use Rattle.nfa_pikevm_scan.specs.declared.sizes.Size.{Size}
+
+-- the sizes for so many states and slots, and such a stack: in each set a place more than states, with a row of all
+-- slots
+abbrev pub sizes_for : ℕ → ℕ → ℕ → Sizes
+sizes_for states slots frames = record {
+  states = states;
+  places = states + 1;
+  cells = (states + 1) * slots;
+  frames = frames;
+}
+
+-- The threads of a cache have the sizes for its states and frames, and for so many slots. `found` is the length of the
+-- row that a search fills.
+pub record IsRoomFor (slots : ℕ) (t : Threads) (found : ℕ) : Type 0 where
+  pub sized : sizes_of t ≡ sizes_for (length t.reached.seen.bits) slots (length t.frames.items)
+  pub row : found ≡ slots
+
+-- The size tells the places and the cells of a set.
+pub record IsSize (size : Size) : Type 0 where
+  pub places : size.places ≡ size.states + 1
+  pub cells : size.cells ≡ size.places * size.slots
+
+-- This is what a search of the NFA needs.
+pub record IsSizeOf (nfa : Automaton) (size : Size) : Type 0 where
+  pub states : size.states ≡ length nfa.states
+  pub slots : size.slots ≡ slot_count nfa.groups
+  pub frames : size.frames ≡ stack_places nfa
+  pub is_size : IsSize size
+
+-- No `usize` says how much that is: the places of a set, the cells of its rows or the places of the stack are too many.
+abbrev pub IsTooLarge : Automaton → Type 0
+IsTooLarge nfa =
+    (2 ^ 64 ≤ length nfa.states + 1) ⊎ ((2 ^ 64 ≤ (length nfa.states + 1) * slot_count nfa.groups)
+    ⊎ (2 ^ 64 ≤ stack_places nfa))

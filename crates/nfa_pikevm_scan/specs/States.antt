@@ -1,0 +1,263 @@
+-- What a PikeVM keeps at a position, in the words of its proof: its marks as pairs that were seen, its stack as work
+-- that is left, what it keeps for the next position as a front.
+use Rattle.std.specs.Prelude.{◌≡◌, ◌⊎◌, ℕ, ◌+◌, ◌<◌, ◌≤◌, Bool, true, false, List, [], ◌∷◌, ◌++◌, Option, None, Some, cond, length, map, replicate, All, slice_index_or, slice_set}
+use Rattle.std.specs.List.{sum_by}
+use Rattle.regex_search_core.specs.Search.{Search, search_of}
+use Rattle.regex_search_core.specs.Patterns.{number_of}
+use Rattle.regex_search_core.specs.declared.primitives.PatternID.{PatternID}
+use Rattle.thompson_nfa.specs.Automaton.{Automaton, Node}
+use Rattle.nfa_paths.specs.Graphs.{Pair, NoRepeats}
+use Rattle.nfa_paths.specs.Paths.{degree, node_at, pattern_of, edges, is_match, byte_at, space}
+use Rattle.nfa_paths.specs.Exploring.{Slots, Hit, Item, ExploresTo, Searching}
+use Rattle.nfa_paths.specs.Exploring.Item.{Explore as ToExplore, Restore as ToRestore, Load as ToLoad}
+use Rattle.nfa_paths.specs.Kinds.{rests, first_match, before_match, last_match, NoMatch}
+use Rattle.nfa_paths.specs.Turns.{marked_sum}
+use Rattle.nfa_scanning.specs.Marks.{Marks}
+use Rattle.nfa_pikevm_scan.specs.Needs.{room_of}
+use Rattle.nfa_pikevm_scan.specs.declared.closure.Here.{Here}
+use Rattle.nfa_pikevm_scan.specs.declared.closure.Move.{Move}
+use Rattle.nfa_pikevm_scan.specs.declared.closure.Move.TheVariants.{On, Matched, Over}
+use Rattle.nfa_pikevm_scan.specs.declared.closure.Reached.{Reached}
+use Rattle.nfa_pikevm_scan.specs.declared.frame.FollowEpsilon.{FollowEpsilon}
+use Rattle.nfa_pikevm_scan.specs.declared.frame.FollowEpsilon.TheVariants.{Explore, Restore}
+
+-- The resting pairs that were reached at a position, in order, each with its slots. Of each that a byte leads on from
+-- only the state that it leads to is kept in memory; matches and pairs that lead nowhere are not.
+abbrev pub Front : Type 0
+Front = List (Pair × Slots)
+
+-- the states that a front leads on to, each with its slots
+abbrev pub moves : (Pair → List Pair) → Front → List (ℕ × Slots)
+moves edges [] = []
+moves edges (a ∷ front) = map (λ v. (v.0, a.1)) (edges a.0) ++ moves edges front
+
+-- the states to follow at the position, each with its slots, above what waits
+abbrev pub tasks : ℕ → List (ℕ × Slots) → List Item → List Item
+tasks at [] waiting = waiting
+tasks at (i ∷ items) waiting = ToLoad i.1 ∷ ToExplore (i.0, at) ∷ tasks at items waiting
+
+-- the pair's position is `at`, and its state is marked
+pub record SeenAt (at : ℕ) (bits : List Bool) (v : Pair) : Type 0 where
+  pub here : v.1 ≡ at
+  pub set : slice_index_or bits v.0 false ≡ true
+
+-- as many marks, none of them set
+abbrev pub unmarked : Marks → Marks
+unmarked met = record met { bits = replicate (length met.bits) false }
+
+-- what is left to do at the position, for a frame
+abbrev pub work_item_of : ℕ → FollowEpsilon → Item
+work_item_of at (Explore sid) = ToExplore (sid, at)
+work_item_of at (Restore slot old) = ToRestore slot old
+
+-- the frames of a stack, the top first, above some work
+abbrev pub work_onto : ℕ → List FollowEpsilon → List Item → List Item
+work_onto at [] work = work
+work_onto at (f ∷ fs) work = work_onto at fs (work_item_of at f ∷ work)
+
+-- the work with a state to follow at the position, if there is one
+abbrev pub with_state : ℕ → Option ℕ → List Item → List Item
+with_state at None work = work
+with_state at (Some s) work = ToExplore (s, at) ∷ work
+
+-- the state that a turn leads on to
+abbrev pub state_on : Move → Option ℕ
+state_on (On sid) = Some sid
+state_on (Matched pattern) = None
+state_on Over = None
+
+-- the turns that a frame waits to take
+abbrev pub tries : FollowEpsilon → ℕ
+tries (Explore sid) = 1
+tries (Restore slot old) = 0
+
+-- the turn that a state to follow waits to take
+abbrev pub tries_of : Option ℕ → ℕ
+tries_of None = 0
+tries_of (Some s) = 1
+
+-- the slots when a frame is taken up
+abbrev pub undone : FollowEpsilon → Slots → Slots
+undone (Explore sid) slots = slots
+undone (Restore slot old) slots = slice_set slots slot old
+
+-- the state that a frame gives to follow
+abbrev pub state_of : FollowEpsilon → Option ℕ
+state_of (Explore sid) = Some sid
+state_of (Restore slot old) = None
+
+-- a frame follows one of so many states, or writes one of so many slots
+abbrev pub IsWithin : ℕ → ℕ → FollowEpsilon → Type 0
+IsWithin states count (Explore sid) = sid < states
+IsWithin states count (Restore slot old) = slot < count
+
+-- a frame that writes a slot writes one of so many
+abbrev pub HasSlot : ℕ → FollowEpsilon → Type 0
+HasSlot count (Explore sid) = Unit {0}
+HasSlot count (Restore slot old) = slot < count
+
+-- the state, if there is one, is one of so many
+abbrev pub IsBelow : ℕ → Option ℕ → Type 0
+IsBelow states None = Unit {0}
+IsBelow states (Some s) = s < states
+
+-- each pair of the set is a Match
+abbrev pub AreMatchPairs : Automaton → (Pair → Bool) → Type 0
+AreMatchPairs nfa target = (v : Pair) → target v ≡ true → is_match nfa v ≡ true
+
+-- a weight that counts states
+abbrev pub one_of : Node → ℕ
+one_of node = 1
+
+-- the match of a front that is meant: the first one, or with `past` the last
+abbrev pub meant : Bool → (Pair → Bool) → Front → Hit
+meant past is_match front = cond past (last_match is_match None front) (first_match is_match front)
+
+-- what comes of a position: no match, and the slots as before; or a match of the pattern, and its slots
+abbrev pub IsHit : Automaton → Hit → Slots → Option PatternID → Slots → Type 0
+IsHit nfa g before None after = (g ≡ None) × (after ≡ before)
+IsHit nfa g before (Some pattern) after = (v : Pair) × (g ≡ Some (v, after))
+    × (pattern_of (node_at nfa v.0) ≡ Some (number_of pattern))
+
+-- the front ends with this match, and holds no other; or it holds none
+abbrev pub EndsInMatch : Automaton → ℕ → Slots → Option PatternID → Front → Type 0
+EndsInMatch nfa at slots None front = NoMatch (is_match nfa) front
+EndsInMatch nfa at slots (Some pattern) front = (before : Front) × (s : ℕ) × NoMatch (is_match nfa) before
+    × (front ≡ before ++ ((s, at), slots) ∷ []) × (pattern_of (node_at nfa s) ≡ Some (number_of pattern))
+
+-- all that waits is followed: past matches always, else where there is none
+abbrev pub GoesOn : Bool → Option PatternID → Type 0
+GoesOn past hit = (past ≡ true) ⊎ (hit ≡ None)
+
+-- Each pair of the front is of one of the NFA's states, stands at the position, rests, is marked, and stands there
+-- once.
+pub record Formed (nfa : Automaton) (at : ℕ) (bits : List Bool) (front : Front) : Type 0 where
+  pub here : All (λ a. a.0.1 ≡ at) front
+  pub states : All (λ a. a.0.0 < length nfa.states) front
+  pub resting : All (λ a. rests (node_at nfa a.0.0) ≡ true) front
+  pub marked : All (λ a. slice_index_or bits a.0.0 false ≡ true) front
+  pub once : NoRepeats (map (λ a. a.0) front)
+
+-- There is a mark for each state, and there is room for the frames and the states that may still come.
+pub record HasRoom (nfa : Automaton) (bits : List Bool) (top frames kept places : ℕ) : Type 0 where
+  pub marks : length nfa.states ≤ length bits
+  pub frames_fit : top + sum_by room_of nfa.states ≤ frames + marked_sum (map room_of nfa.states) bits
+  pub states_fit : kept + length nfa.states ≤ places + marked_sum (map one_of nfa.states) bits
+
+-- From one moment to a later one: what came in turns and what waits is paid for by what was marked, and so are frames
+-- and kept states.
+pub record Paid (nfa : Automaton) (met : Marks) (kept : ℕ) (stack : List FollowEpsilon) (hand : ℕ)
+    (after : Marks) (more : ℕ) (above : List FollowEpsilon) (left : ℕ) : Type 0 where
+  pub tried : after.turns + left + sum_by tries above + more + marked_sum (map degree nfa.states) met.bits
+      ≤ met.turns + hand + sum_by tries stack + kept + marked_sum (map degree nfa.states) after.bits
+  pub framed : length above + marked_sum (map room_of nfa.states) met.bits ≤ length stack
+      + marked_sum (map room_of nfa.states) after.bits
+  pub entered : more + marked_sum (map one_of nfa.states) met.bits ≤ kept
+      + marked_sum (map one_of nfa.states) after.bits
+
+-- The position is in the span or at its end, and the byte is the one there.
+pub record IsHere (here : Here) : Type 0 where
+  pub place : here.at ≤ (search_of here.input.now).end
+  pub byte : here.byte ≡ byte_at (search_of here.input.now) here.at
+
+-- There are as many marks, and of what is kept for the next position only the states change.
+pub record KeepsRoom (old new : Reached) : Type 0 where
+  pub size : length new.seen.bits ≡ length old.seen.bits
+  pub same : new.next ≡ record old.next { items = new.next.items }
+
+module _ (nfa : Automaton) (x : Search) where
+  -- the search for a set of match pairs, from these starts and with these slots, with such states met and such a front
+  -- at position `at`
+  abbrev pub SearchingAt : ℕ → (Pair → Bool) → List Pair → Slots → Hit → Marks → Front → List Item → Slots → Type 0
+  SearchingAt at target starts entry otherwise met front work slots =
+      Searching (space nfa x) target
+      (λ g total. ExploresTo (space nfa x) target total None [] (map ToExplore starts) entry g)
+      (SeenAt at met.bits) met.turns front otherwise work slots
+
+  -- The search for any set of match pairs goes on from the state after as it did from the state before.
+  pub record Follows (at : ℕ) (met : Marks) (front : Front) (work : List Item) (slots : Slots)
+      (after : Marks) (more : Front) (rest : List Item) (written : Slots) : Type 0 where
+    pub leads : (target : Pair → Bool) → AreMatchPairs nfa target
+        → (starts : List Pair) (entry : Slots) (otherwise : Hit)
+        → SearchingAt at target starts entry otherwise met front work slots
+        → SearchingAt at target starts entry otherwise after more rest written
+
+  -- what a turn adds to the front: a match that it led to, and no other match
+  abbrev pub IsMet : Pair → Slots → Move → Front → Type 0
+  IsMet v slots (On sid) front = NoMatch (is_match nfa) front
+  IsMet v slots (Matched pattern) front = (front ≡ (v, slots) ∷ [])
+      × (pattern_of (node_at nfa v.0) ≡ Some (number_of pattern))
+  IsMet v slots Over front = NoMatch (is_match nfa) front
+
+  -- What comes of a turn that tries to enter the state: it adds a front, which memory holds the moves of, and leaves
+  -- its work to do. What is left below the stack begins by loading slots.
+  pub record Enters (at s : ℕ) (met : Marks) (items : List (ℕ × Slots)) (stack : List FollowEpsilon) (slots : Slots)
+      (turn : Move) (after : Marks) (kept : List (ℕ × Slots)) (above : List FollowEpsilon)
+      (written : Slots) : Type 0 where
+    pub front : Front
+    pub added : kept ≡ items ++ moves (edges nfa x) front
+    pub is_met : IsMet (s, at) written turn front
+    pub formed : (before : Front) → Formed nfa at met.bits before → Formed nfa at after.bits (before ++ front)
+    pub follows : (before : Front) (old : Slots) (work : List Item)
+        → Follows at met before (ToExplore (s, at) ∷ work_onto at stack (ToLoad old ∷ work)) slots
+        after (before ++ front) (with_state at (state_on turn) (work_onto at above (ToLoad old ∷ work))) written
+
+  -- What comes of turns from a state on up to the next match, if there is one: the front that they add, which ends with
+  -- it, and what is left on the stack.
+  pub record FindsMatch (at s : ℕ) (met : Marks) (items : List (ℕ × Slots)) (stack : List FollowEpsilon) (slots : Slots)
+      (hit : Option PatternID) (after : Marks) (kept : List (ℕ × Slots)) (above : List FollowEpsilon)
+      (written : Slots) : Type 0 where
+    pub front : Front
+    pub added : kept ≡ items ++ moves (edges nfa x) front
+    pub ends : EndsInMatch nfa at written hit front
+    pub formed : (before : Front) → Formed nfa at met.bits before → Formed nfa at after.bits (before ++ front)
+    pub follows : (before : Front) (old : Slots) (work : List Item)
+        → Follows at met before (ToExplore (s, at) ∷ work_onto at stack (ToLoad old ∷ work)) slots
+        after (before ++ front) (work_onto at above (ToLoad old ∷ work)) written
+
+  -- The search goes on to a front and some work, which is `rest` where it `goes_on` to the end of its work.
+  pub record Leads (at : ℕ) (met : Marks) (before : Front) (work : List Item) (slots : Slots) (goes_on : Type 0)
+      (after : Marks) (front : Front) (rest : List Item) : Type 0 where
+    pub left : List Item
+    pub written : Slots
+    pub follows : Follows at met before work slots after front left written
+    pub whole : goes_on → left ≡ rest
+
+  -- What comes of all states at a position, where none was marked before: a front, which memory holds the moves of, and
+  -- the match of it that is meant. Without `past` nothing is kept behind the first match.
+  pub record Crosses (at : ℕ) (past : Bool) (met : Marks) (items : List (ℕ × Slots)) (slots : Slots)
+      (hit : Option PatternID) (after : Marks) (kept : List (ℕ × Slots)) (written : Slots) : Type 0 where
+    pub front : Front
+    pub added : kept ≡ moves (edges nfa x) front
+    pub is_hit : IsHit nfa (meant past (is_match nfa) front) slots hit written
+    pub cut : past ≡ false → moves (edges nfa x) (before_match (is_match nfa) front) ≡ moves (edges nfa x) front
+    pub formed : Formed nfa at after.bits front
+    pub paid : Paid nfa (unmarked met) 0 [] (length items) after (length kept) [] 0
+    pub leads : (current old : Slots) (waiting : List Item)
+        → Leads at (unmarked met) [] (tasks at items (ToLoad old ∷ waiting)) current (GoesOn past hit) after front
+        (ToLoad old ∷ waiting)
+
+-- The same of what is reached from where a scan stands.
+
+abbrev pub HasRoomHere : Here → Reached → ℕ → ℕ → Type 0
+HasRoomHere here old top frames =
+    HasRoom here.nfa.now old.seen.bits top frames (length old.next.items) old.next.places
+
+abbrev pub AreWithinHere : Here → ℕ → List FollowEpsilon → Type 0
+AreWithinHere here count stack = All (IsWithin (length here.nfa.now.states) count) stack
+
+abbrev pub PaidHere : Here → Reached → List FollowEpsilon → Reached → List FollowEpsilon → ℕ → Type 0
+PaidHere here old stack new above left =
+    Paid here.nfa.now old.seen (length old.next.items) stack 1 new.seen (length new.next.items) above left
+
+abbrev pub EntersHere : Here → ℕ → Reached → List FollowEpsilon → Slots → Move → Reached → List FollowEpsilon → Slots
+    → Type 0
+EntersHere here s old stack slots turn new above written =
+    Enters here.nfa.now (search_of here.input.now) here.at s old.seen old.next.items stack slots turn new.seen
+    new.next.items above written
+
+abbrev pub FindsHere : Here → ℕ → Reached → List FollowEpsilon → Slots → Option PatternID → Reached
+    → List FollowEpsilon → Slots → Type 0
+FindsHere here s old stack slots hit new above written =
+    FindsMatch here.nfa.now (search_of here.input.now) here.at s old.seen old.next.items stack slots hit new.seen
+    new.next.items above written

@@ -1,0 +1,305 @@
+//! What a state leads to without reading a byte.
+ghost use Rattle.std.specs.Prelude.{◌≡◌, ℕ, ◌+◌, ◌<◌, ◌≤◌, [], ◌∷◌, ◌++◌, None, Some, List, length, map, reverse, drop, take, slice_index_or, All};
+ghost use Rattle.std.specs.List.{sum_by};
+ghost use Rattle.regex_search_core.specs.Search.{Search, search_of};
+ghost use Rattle.thompson_nfa.specs.Automaton.{Automaton};
+ghost use Rattle.nfa_paths.specs.Exploring.{Item};
+ghost use Rattle.nfa_scanning.specs.Marks.{Marks};
+ghost use Rattle.nfa_pikevm_scan.specs.States.{Front, work_onto, with_state, tries, tries_of, state_on, undone, state_of, HasSlot, IsBelow, IsWithin, Follows, IsHere, KeepsRoom, HasRoomHere, AreWithinHere, PaidHere, EntersHere, FindsHere};
+ghost use Rattle.nfa_pikevm_scan.specs.Taking.{Arrives};
+ghost use Rattle.nfa_pikevm_scan.specs.declared.frame.FollowEpsilon.TheVariants.{Explore, Restore};
+
+use crate::active::ActiveStates;
+use crate::frame::FollowEpsilon;
+use crate::seen::Seen;
+use crate::slot::Slot;
+use crate::taker::Taker;
+use nfa_scanning::transitions::{dense_target, range_target, sparse_target};
+use regex_search_core::{Input, PatternID, StateID};
+use thompson_nfa::{NFA, State, look_matches};
+
+/// Where a scan stands: what stays as it is while the states of a position are followed.
+#[derive(Clone, Copy)]
+pub struct Here<'n, 'h> {
+    pub nfa: &'n NFA,
+    pub input: &'n Input<'h>,
+    pub at: usize,
+    /// The byte at the position, if one is there before the end of the span.
+    pub byte: Option<u8>,
+}
+
+/// What is reached from a position: the states that were met there, and those that its byte leads to.
+#[derive(Debug, Drop)]
+pub struct Reached {
+    pub seen: Seen,
+    pub next: ActiveStates,
+}
+
+/// Where a turn leads.
+#[derive(Clone, Copy)]
+pub enum Move {
+    /// On to this state, at the same position.
+    On(StateID),
+    /// To a match of the pattern.
+    Matched(PatternID),
+    /// Nowhere at this position.
+    Over,
+}
+
+/// Puts a frame on top of the stack, which has `top` frames.
+#[inline(always)]
+fn push(frames: &mut [FollowEpsilon], top: &mut usize, frame: FollowEpsilon)
+    requires { top.old < length frames.old }
+    ensures top { top.new ≡ top.old + 1 }
+    ensures stack { take top.new frames.new ≡ take top.old frames.old ++ frame ∷ [] }
+{
+    frames[*top] = frame;
+    *top += 1;
+}
+
+/// Puts off all alternatives but the first, the earliest on top.
+#[inline(always)]
+fn put_off(frames: &mut [FollowEpsilon], top: &mut usize, alternates: &[StateID])
+    requires { top.old + length (drop 1 alternates.now) ≤ length frames.old }
+    ensures top { top.new ≡ top.old + length (drop 1 alternates.now) }
+    ensures stack { take top.new frames.new
+        ≡ take top.old frames.old ++ map (λ sid. Explore sid) (reverse (drop 1 alternates.now)) }
+{
+    let mut left = alternates.len();
+    while left > 1 {
+        left -= 1;
+        push(
+            frames,
+            top,
+            FollowEpsilon::Explore {
+                sid: alternates[left],
+            },
+        );
+    }
+}
+
+/// Puts off that the slot gets back what it holds, for what waits on the stack. Where nothing waits nothing is put off.
+#[inline(always)]
+fn keep_old(frames: &mut [FollowEpsilon], top: &mut usize, slots: &[Slot], slot: usize)
+    requires room { top.old < length frames.old }
+    requires slot { slot < length slots.now }
+    ensures empty { top.old ≡ 0 → top.new ≡ 0 }
+    ensures top { 0 < top.old → top.new ≡ top.old + 1 }
+    ensures stack { 0 < top.old → take top.new frames.new ≡ take top.old frames.old
+        ++ Restore slot (slice_index_or slots.now slot None) ∷ [] }
+{
+    if *top > 0 {
+        let old = slots[slot];
+        push(frames, top, FollowEpsilon::Restore { slot, old });
+    }
+}
+
+/// Keeps the state that a byte leads to, if there is one.
+#[inline(always)]
+fn keep(target: Option<StateID>, next: &mut ActiveStates, slots: &[Slot])
+    requires room { length next.old.items < next.old.places }
+    requires width { length slots.now ≡ next.old.width }
+    ensures none { target ≡ None → next.new ≡ next.old }
+    ensures some { (sid : ℕ) → target ≡ Some sid
+        → next.new ≡ record next.old { items = next.old.items ++ (sid, slots.now) ∷ [] } }
+{
+    if let Some(sid) = target {
+        next.push(sid, slots);
+    }
+}
+
+/// One turn: tries to enter the state, and says where it leads. Of a state that waits for a byte, the state that the
+/// byte leads to is kept.
+#[inline(always)]
+pub fn enter(
+    here: &Here<'_, '_>,
+    sid: StateID,
+    frames: &mut [FollowEpsilon],
+    top: &mut usize,
+    reached: &mut Reached,
+    row: &mut [Slot],
+) -> Move
+    requires here { IsHere here.now }
+    requires state { sid < length here.now.nfa.now.states }
+    requires top { top.old ≤ length frames.old }
+    requires room { HasRoomHere here.now reached.old top.old (length frames.old) }
+    requires width { length row.old ≡ reached.old.next.width }
+    requires within { AreWithinHere here.now (length row.old) (take top.old frames.old) }
+    ensures turns { reached.new.seen.turns ≡ reached.old.seen.turns + 1 }
+    ensures keeps { KeepsRoom reached.old reached.new }
+    ensures top { top.new ≤ length frames.new }
+    ensures state { IsBelow (length here.now.nfa.now.states) (state_on result) }
+    ensures within { AreWithinHere here.now (length row.old) (take top.new frames.new) }
+    ensures paid { PaidHere here.now reached.old (take top.old frames.old) reached.new (take top.new frames.new)
+        (tries_of (state_on result)) }
+    ensures enters { EntersHere here.now sid reached.old (take top.old frames.old) row.old result reached.new
+        (take top.new frames.new) row.new }
+{
+    if !reached.seen.insert(sid.as_usize()) {
+        return Move::Over;
+    }
+    match here.nfa.state(sid) {
+        State::ByteRange { trans } => {
+            keep(range_target(trans, here.byte), &mut reached.next, row);
+            Move::Over
+        }
+        State::Sparse(transitions) => {
+            keep(
+                sparse_target(transitions, here.byte),
+                &mut reached.next,
+                row,
+            );
+            Move::Over
+        }
+        State::Dense(targets) => {
+            keep(dense_target(targets, here.byte), &mut reached.next, row);
+            Move::Over
+        }
+        State::Look { look, next } => {
+            if look_matches(*look, here.input.haystack(), here.at) {
+                Move::On(*next)
+            } else {
+                Move::Over
+            }
+        }
+        State::Union { alternates } => {
+            let Some(first) = alternates.first() else {
+                return Move::Over;
+            };
+            put_off(frames, top, alternates);
+            Move::On(*first)
+        }
+        State::BinaryUnion { alt1, alt2 } => {
+            push(frames, top, FollowEpsilon::Explore { sid: *alt2 });
+            Move::On(*alt1)
+        }
+        State::Capture { next, slot } => {
+            if *slot < row.len() {
+                keep_old(frames, top, row, *slot);
+                row[*slot] = Slot::new(here.at);
+            }
+            Move::On(*next)
+        }
+        State::Fail => Move::Over,
+        State::Match { pattern_id } => Move::Matched(*pattern_id),
+    }
+}
+
+/// Takes a frame up: it gives a state to follow, or a slot its old value back.
+#[inline(always)]
+fn unwind(frame: FollowEpsilon, row: &mut [Slot]) -> Option<StateID>
+    requires { HasSlot (length row.old) frame }
+    ensures state { result ≡ state_of frame }
+    ensures row { row.new ≡ undone frame row.old }
+{
+    match frame {
+        FollowEpsilon::Explore { sid } => Some(sid),
+        FollowEpsilon::Restore { slot, old } => {
+            row[slot] = old;
+            None
+        }
+    }
+}
+
+/// Takes up what was put off last, down to a state to follow.
+#[inline(always)]
+pub fn resume(frames: &[FollowEpsilon], top: &mut usize, row: &mut [Slot]) -> Option<StateID>
+    requires top { top.old ≤ length frames.now }
+    requires slots { All (HasSlot (length row.old)) (take top.old frames.now) }
+    ensures top { top.new ≤ top.old }
+    ensures tried { sum_by tries (take top.new frames.now) + tries_of result ≡ sum_by tries (take top.old frames.now) }
+    ensures state { (states : ℕ) → All (IsWithin states (length row.old)) (take top.old frames.now)
+        → IsBelow states result }
+    ensures over { result ≡ None → top.new ≡ 0 }
+    ensures follows { (nfa : Automaton) (x : Search) (at : ℕ) (met : Marks) (front : Front) (work : List Item)
+        → Follows nfa x at met front (work_onto at (take top.old frames.now) work) row.old met front
+        (with_state at result (work_onto at (take top.new frames.now) work)) row.new }
+{
+    while *top > 0 {
+        *top -= 1;
+        if let Some(sid) = unwind(frames[*top], row) {
+            return Some(sid);
+        }
+    }
+    None
+}
+
+/// Follows what the state leads to without reading a byte, and then what was put off, each state in its turn, up to the
+/// next match, and keeps what the byte leads to. It answers the match, and leaves what is still put off.
+#[inline(always)]
+pub fn next_match(
+    here: &Here<'_, '_>,
+    from: StateID,
+    frames: &mut [FollowEpsilon],
+    top: &mut usize,
+    reached: &mut Reached,
+    row: &mut [Slot],
+) -> Option<PatternID>
+    requires here { IsHere here.now }
+    requires state { from < length here.now.nfa.now.states }
+    requires top { top.old ≤ length frames.old }
+    requires room { HasRoomHere here.now reached.old top.old (length frames.old) }
+    requires width { length row.old ≡ reached.old.next.width }
+    requires within { AreWithinHere here.now (length row.old) (take top.old frames.old) }
+    ensures turns { reached.old.seen.turns < reached.new.seen.turns }
+    ensures keeps { KeepsRoom reached.old reached.new }
+    ensures top { top.new ≤ length frames.new }
+    ensures over { result ≡ None → top.new ≡ 0 }
+    ensures within { AreWithinHere here.now (length row.old) (take top.new frames.new) }
+    ensures paid { PaidHere here.now reached.old (take top.old frames.old) reached.new (take top.new frames.new) 0 }
+    ensures finds { FindsHere here.now from reached.old (take top.old frames.old) row.old result reached.new
+        (take top.new frames.new) row.new }
+{
+    let mut sid = from;
+    loop {
+        match enter(here, sid, frames, top, reached, row) {
+            Move::On(on) => {
+                sid = on;
+                continue;
+            }
+            Move::Matched(pattern) => return Some(pattern),
+            Move::Over => {}
+        }
+        match resume(frames, top, row) {
+            Some(waiting) => sid = waiting,
+            None => return None,
+        }
+    }
+}
+
+/// Follows all that the root leads to at the position, as [`next_match`] does up to a match. Each match is given to the
+/// taker, up to the one that the position ends with. Answers whether it ended.
+#[inline(always)]
+pub fn follow<T: Taker>(
+    here: &Here<'_, '_>,
+    root: StateID,
+    frames: &mut [FollowEpsilon],
+    reached: &mut Reached,
+    row: &mut [Slot],
+    taker: &mut T,
+) -> bool
+    requires here { IsHere here.now }
+    requires state { root < length here.now.nfa.now.states }
+    requires room { HasRoomHere here.now reached.old 0 (length frames.old) }
+    requires width { length row.old ≡ reached.old.next.width }
+    requires takes { length row.old ≡ T.row_width taker.old }
+    ensures keeps { KeepsRoom reached.old reached.new }
+    ensures grows { reached.old.seen.turns ≤ reached.new.seen.turns }
+    ensures width { T.row_width taker.new ≡ T.row_width taker.old }
+    ensures same_reference { T.reference taker.new ≡ T.reference taker.old }
+    ensures arrives { Arrives here.now.nfa.now (search_of here.now.input.now) T.takes here.now.at root reached.old.seen
+        reached.old.next.items row.old taker.old result reached.new.seen reached.new.next.items taker.new }
+{
+    let mut top = 0;
+    let mut sid = root;
+    while let Some(pattern) = next_match(here, sid, frames, &mut top, reached, row) {
+        if taker.take(pattern, row) {
+            return true;
+        }
+        let Some(waiting) = resume(frames, &mut top, row) else {
+            return false;
+        };
+        sid = waiting;
+    }
+    false
+}

@@ -1,0 +1,247 @@
+//! The set of all patterns that match, in one scan.
+ghost use Rattle.std.specs.Prelude.{◌≡◌, ◌+◌, ◌*◌, ◌<◌, ◌≤◌, [], true, false, length, take, All, not, ◌&&◌, cond};
+ghost use Rattle.regex_search_core.specs.PatternSets.{size_of_set};
+ghost use Rattle.regex_search_core.specs.Search.{search_of};
+ghost use Rattle.regex_search_core.specs.declared.search.MatchKind.TheVariants.{All as AllMatches, LeftmostFirst};
+ghost use Rattle.thompson_nfa.specs.Automaton.{IsAutomaton};
+ghost use Rattle.nfa_paths.specs.Overlaps.{IsOverlapResult};
+ghost use Rattle.nfa_pikevm_scan.specs.Scans.{HaveRoom, HaveRows, SameSizes, MayScan, scan_turns, IsWithinTurns};
+ghost use Rattle.nfa_pikevm_scan.specs.Needs.{overlap_scans};
+ghost use Rattle.nfa_pikevm_scan.specs.Overlapping.{CrossesInSet};
+ghost use Rattle.nfa_pikevm_scan.specs.Taking.{TakesPattern};
+
+use crate::scan::{Starts, join};
+use crate::scratch::Threads;
+use crate::slot::Slot;
+use crate::taker::Taker;
+use crate::threads::{cross_with, move_on, set_up};
+use nfa_scanning::starts::{may_end_at, start_limit, start_state};
+use regex_search_core::{Input, MatchKind, PatternID, PatternSet};
+use thompson_nfa::NFA;
+
+/// A set that takes patterns: that of a match which may end at its position, and which the set has room for. Another
+/// match does not count. The position ends with the first that counts, without `past_match`.
+#[derive(Drop)]
+pub struct Gatherer<'p> {
+    pub patterns: &'p mut PatternSet,
+    /// Whether a match may end at the position.
+    pub permitted: bool,
+    pub past_match: bool,
+    /// Whether a match that counts was met.
+    pub met: bool,
+}
+
+impl Taker for Gatherer<'_> {
+    ghost row_width = { λ s. 0 };
+
+    ghost takes = { TakesPattern };
+
+    ghost reference = { λ s. s.patterns.ghost_name };
+
+    #[inline(always)]
+    fn width(&self) -> usize {
+        0
+    }
+
+    #[inline(always)]
+    fn take(&mut self, pattern: PatternID, _row: &[Slot]) -> bool {
+        if !self.permitted {
+            return false;
+        }
+        if self.patterns.try_insert(pattern).is_none() {
+            return false;
+        }
+        self.met = true;
+        !self.past_match
+    }
+}
+
+/// Follows the states at the position, and keeps what its byte leads to for the next one. Answers whether a match that
+/// counts was met.
+fn cross_to_set(
+    nfa: &NFA,
+    input: &Input<'_>,
+    at: usize,
+    past_match: bool,
+    threads: &mut Threads,
+    patterns: &mut PatternSet,
+) -> bool
+    requires place { at ≤ (search_of input.now).end }
+    requires states { All (λ i. i.0 < length nfa.now.states) threads.old.curr.items }
+    requires room { HaveRows nfa.now 0 threads.old }
+    requires empty { threads.old.reached.next.items ≡ [] }
+    ensures width { threads.new.curr.width ≡ threads.old.curr.width }
+    ensures sizes { SameSizes threads.old threads.new }
+    ensures scans { threads.new.scans ≡ threads.old.scans }
+    ensures crosses { CrossesInSet nfa.now (search_of input.now) at past_match (length patterns.old)
+        threads.old.reached.seen threads.old.curr.items patterns.old result threads.new.reached.seen
+        threads.new.reached.next.items patterns.new }
+{
+    let mut gatherer = Gatherer {
+        patterns,
+        permitted: may_end_at(nfa, input, at),
+        past_match,
+        met: false,
+    };
+    cross_with(nfa, input, at, threads, &mut gatherer);
+    gatherer.met
+}
+
+/// The patterns of all matches.
+fn overlap_all(
+    nfa: &NFA,
+    input: &Input<'_>,
+    starts: &Starts,
+    threads: &mut Threads,
+    patterns: &mut PatternSet,
+)
+    requires valid { IsAutomaton nfa.now }
+    requires ready { MayScan nfa.now (search_of input.now) starts.now 0 threads.old }
+    ensures sizes { SameSizes threads.old threads.new }
+    ensures scans { threads.new.scans ≡ threads.old.scans }
+    ensures turns { IsWithinTurns nfa.now (search_of input.now) threads.old threads.new }
+    ensures gains { IsOverlapResult nfa.now (search_of input.now) AllMatches false patterns.old patterns.new }
+{
+    for at in input.start()..input.end() + 1 {
+        if patterns.is_full() {
+            return;
+        }
+        join(starts, at, threads);
+        if threads.curr.is_empty() {
+            return;
+        }
+        cross_to_set(nfa, input, at, true, threads, patterns);
+        move_on(threads);
+    }
+}
+
+/// The patterns of the matches that count and have the least end: of the first one, or with `past_match` of all.
+fn overlap_earliest(
+    nfa: &NFA,
+    input: &Input<'_>,
+    starts: &Starts,
+    past_match: bool,
+    threads: &mut Threads,
+    patterns: &mut PatternSet,
+)
+    requires valid { IsAutomaton nfa.now }
+    requires ready { MayScan nfa.now (search_of input.now) starts.now 0 threads.old }
+    requires empty { past_match ≡ false → size_of_set patterns.old ≡ 0 }
+    ensures sizes { SameSizes threads.old threads.new }
+    ensures scans { threads.new.scans ≡ threads.old.scans }
+    ensures turns { IsWithinTurns nfa.now (search_of input.now) threads.old threads.new }
+    ensures gains { IsOverlapResult nfa.now (search_of input.now) (cond past_match AllMatches LeftmostFirst) true
+        patterns.old patterns.new }
+{
+    for at in input.start()..input.end() + 1 {
+        join(starts, at, threads);
+        if threads.curr.is_empty() {
+            return;
+        }
+        let met = cross_to_set(nfa, input, at, past_match, threads, patterns);
+        move_on(threads);
+        if met {
+            return;
+        }
+    }
+}
+
+/// The pattern of the first match, and those that were met on the way to its end.
+fn overlap_first(
+    nfa: &NFA,
+    input: &Input<'_>,
+    starts: &Starts,
+    threads: &mut Threads,
+    patterns: &mut PatternSet,
+)
+    requires valid { IsAutomaton nfa.now }
+    requires ready { MayScan nfa.now (search_of input.now) starts.now 0 threads.old }
+    requires empty { size_of_set patterns.old ≡ 0 }
+    ensures sizes { SameSizes threads.old threads.new }
+    ensures scans { threads.new.scans ≡ threads.old.scans }
+    ensures turns { IsWithinTurns nfa.now (search_of input.now) threads.old threads.new }
+    ensures gains { IsOverlapResult nfa.now (search_of input.now) LeftmostFirst false patterns.old patterns.new }
+{
+    let mut joining = *starts;
+    for at in input.start()..input.end() + 1 {
+        join(&joining, at, threads);
+        if threads.curr.is_empty() {
+            return;
+        }
+        let met = cross_to_set(nfa, input, at, false, threads, patterns);
+        move_on(threads);
+        if met {
+            // A later start comes behind it.
+            joining.limit = 0;
+        }
+    }
+}
+
+/// What a scan from these starts puts into the set.
+fn overlap_from(
+    nfa: &NFA,
+    kind: MatchKind,
+    input: &Input<'_>,
+    starts: &Starts,
+    threads: &mut Threads,
+    patterns: &mut PatternSet,
+)
+    requires valid { IsAutomaton nfa.now }
+    requires ready { MayScan nfa.now (search_of input.now) starts.now 0 threads.old }
+    requires empty { kind ≡ LeftmostFirst → size_of_set patterns.old ≡ 0 }
+    ensures sizes { SameSizes threads.old threads.new }
+    ensures scans { threads.new.scans ≡ threads.old.scans }
+    ensures turns { IsWithinTurns nfa.now (search_of input.now) threads.old threads.new }
+    ensures gains { IsOverlapResult nfa.now (search_of input.now) kind (search_of input.now).earliest patterns.old
+        patterns.new }
+{
+    let past_match = kind.continue_past_first_match();
+    if input.get_earliest() {
+        overlap_earliest(nfa, input, starts, past_match, threads, patterns);
+    } else if past_match {
+        overlap_all(nfa, input, starts, threads, patterns);
+    } else {
+        overlap_first(nfa, input, starts, threads, patterns);
+    }
+}
+
+/// Puts the patterns of the matches that the kind means, also of those that overlap, into the set, in one scan. There
+/// is none where the first match alone is meant and the set holds a pattern.
+pub fn overlap(
+    nfa: &NFA,
+    kind: MatchKind,
+    input: &Input<'_>,
+    threads: &mut Threads,
+    patterns: &mut PatternSet,
+)
+    requires serves { HaveRoom nfa.now 0 threads.old }
+    ensures result { IsOverlapResult nfa.now (search_of input.now) kind (search_of input.now).earliest patterns.old
+        patterns.new }
+    ensures scans { threads.new.scans ≡ threads.old.scans + overlap_scans kind patterns.old }
+    ensures sizes { SameSizes threads.old threads.new }
+    ensures turns { threads.new.reached.seen.turns
+        ≤ threads.old.reached.seen.turns + overlap_scans kind patterns.old * scan_turns nfa.now (search_of input.now) }
+{
+    if !kind.continue_past_first_match() && !patterns.is_empty() {
+        return;
+    }
+    threads.scans.tick();
+    if input.is_done() {
+        return;
+    }
+    // A full set gains nothing, and so does one with no room.
+    if patterns.is_full() {
+        return;
+    }
+    let Some(state) = start_state(nfa, input) else {
+        return;
+    };
+    let starts = Starts {
+        state,
+        limit: start_limit(nfa, input),
+        // No start is passed over here.
+        stop: input.start(),
+    };
+    set_up(threads, 0);
+    overlap_from(nfa, kind, input, &starts, threads, patterns);
+}

@@ -1,0 +1,24 @@
+//! How much room a cache has.
+ghost use Rattle.std.specs.Prelude.{◌≡◌, ◌≤◌, OnOk, replicate, vec_capacity};
+
+use regex_search_core::Refused;
+
+/// Makes room for so many elements, and changes none.
+pub fn reserve<T: Drop>(items: &mut Vec<T>, count: usize) -> Result<(), Refused>
+    ensures items { items.new.items ≡ items.old.items }
+    ensures room { OnOk result (count ≤ vec_capacity items.new) }
+{
+    if items.len() < count {
+        items.reserve(count - items.len())?;
+    }
+    Ok(())
+}
+
+/// Has so many elements from here on, each of this value. There is room for them.
+pub fn refill<T: Copy + Drop>(items: &mut Vec<T>, count: usize, value: T)
+    requires { count ≤ vec_capacity items.old }
+    ensures { items.new.items ≡ replicate count value }
+{
+    items.clear();
+    let _ = items.resize(count, value);
+}

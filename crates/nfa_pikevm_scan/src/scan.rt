@@ -1,0 +1,244 @@
+//! One scan of the span, for each match kind.
+ghost use Rattle.std.specs.Prelude.{◌≡◌, ℕ, ◌+◌, ◌<◌, ◌≤◌, true, false, length, cond, option_map};
+ghost use Rattle.regex_search_core.specs.Search.{search_of};
+ghost use Rattle.regex_search_core.specs.Found.{half_found_of};
+ghost use Rattle.regex_search_core.specs.Patterns.{number_of};
+ghost use Rattle.regex_search_core.specs.declared.search.MatchKind.TheVariants.{All, LeftmostFirst};
+ghost use Rattle.nfa_paths.specs.Restarts.{ScanGives};
+ghost use Rattle.nfa_scanning.specs.FirstBytes.{IsFirstBytes, IsRefused};
+ghost use Rattle.nfa_pikevm_scan.specs.Scans.{blank, HaveRoom, SameSizes, MayScan, Joins, with_start};
+ghost use Rattle.nfa_pikevm_scan.specs.Scans.{half_found, IsWithinTurns};
+
+use crate::scratch::Threads;
+use crate::slot::{Slot, unset_row};
+use crate::threads::{cross, move_on, set_up};
+use nfa_scanning::first_bytes::FirstBytes;
+use nfa_scanning::starts::{next_start, skip_limit, start_limit, start_state};
+use regex_search_core::{HalfMatch, Input, MatchKind, PatternID, StateID};
+use thompson_nfa::NFA;
+
+/// Where the starts of a scan are: the state, the position behind the last one, and the position behind the last one
+/// that may be passed over for its byte.
+#[derive(Clone, Copy)]
+pub struct Starts {
+    pub state: StateID,
+    pub limit: usize,
+    pub stop: usize,
+}
+
+/// Lets the start state join the states at the position, behind them.
+#[inline(always)]
+pub fn join(starts: &Starts, at: usize, threads: &mut Threads)
+    requires room { length threads.old.curr.items < threads.old.curr.places }
+    ensures curr { threads.new.curr.items ≡ with_start starts.now threads.old.curr.width at threads.old.curr.items }
+    ensures next { threads.new.reached.next.items ≡ threads.old.reached.next.items }
+    ensures width { threads.new.curr.width ≡ threads.old.curr.width }
+    ensures sizes { SameSizes threads.old threads.new }
+    ensures seen { threads.new.reached.seen ≡ threads.old.reached.seen }
+    ensures scans { threads.new.scans ≡ threads.old.scans }
+{
+    if at < starts.limit {
+        threads.curr.push_blank(starts.state);
+    }
+}
+
+/// The position, or where it may be passed over for its byte, a later one up to which all may be. Where it may not,
+/// this takes no call.
+#[inline(always)]
+fn pass_over(first: &FirstBytes, input: &Input<'_>, from: usize, stop: usize) -> usize
+    requires from { from ≤ (search_of input.now).end + 1 }
+    requires stop { stop ≤ (search_of input.now).end }
+    ensures low { from ≤ result }
+    ensures near { from ≤ stop → result ≤ stop }
+    ensures stays { stop ≤ from → result ≡ from }
+    ensures passed { (k : ℕ) → from ≤ k → k < result → IsRefused first.now.may_begin (search_of input.now) k }
+    ensures least { result < stop → IsRefused first.now.may_begin (search_of input.now) result → ⊥ }
+{
+    if from < stop && first.refuses(input.haystack()[from]) {
+        return next_start(first, input, from, stop);
+    }
+    from
+}
+
+/// Lets the start state join the states at the position, or, where no state is there, at the next position where a
+/// match may begin. Where none may begin here, or at the limit, it does not join. Answers the position.
+fn join_or_skip(
+    first: &FirstBytes,
+    input: &Input<'_>,
+    starts: &Starts,
+    limit: usize,
+    at: usize,
+    threads: &mut Threads,
+) -> usize
+    requires room { length threads.old.curr.items < threads.old.curr.places }
+    requires place { at ≤ (search_of input.now).end }
+    requires stop { starts.now.stop ≤ (search_of input.now).end }
+    requires order { at < limit → starts.now.stop < limit }
+    ensures next { threads.new.reached.next.items ≡ threads.old.reached.next.items }
+    ensures width { threads.new.curr.width ≡ threads.old.curr.width }
+    ensures sizes { SameSizes threads.old threads.new }
+    ensures seen { threads.new.reached.seen ≡ threads.old.reached.seen }
+    ensures scans { threads.new.scans ≡ threads.old.scans }
+    ensures joins { Joins first.now.may_begin (search_of input.now) starts.now limit threads.old.curr.width at
+        threads.old.curr.items result threads.new.curr.items }
+{
+    if at >= limit {
+        return at;
+    }
+    if threads.curr.is_empty() {
+        let next = pass_over(first, input, at, starts.stop);
+        threads.curr.push_blank(starts.state);
+        return next;
+    }
+    if at >= starts.stop || !first.refuses(input.haystack()[at]) {
+        threads.curr.push_blank(starts.state);
+    }
+    at
+}
+
+/// The match at the position, if there is one.
+#[inline(always)]
+fn half_at(hit: Option<PatternID>, at: usize) -> Option<HalfMatch>
+    ensures { option_map half_found_of result ≡ option_map (λ pattern. half_found (number_of pattern) at) hit }
+{
+    Some(HalfMatch::new(hit?, at))
+}
+
+/// The first accepting path: at each position, what stands behind a match is dropped.
+fn scan_first(
+    nfa: &NFA,
+    first: &FirstBytes,
+    input: &Input<'_>,
+    starts: &Starts,
+    threads: &mut Threads,
+    slots: &mut [Slot],
+) -> Option<HalfMatch>
+    requires first { IsFirstBytes nfa.now first.now.may_begin }
+    requires ready { MayScan nfa.now (search_of input.now) starts.now (length slots.old) threads.old }
+    requires unset { slots.old ≡ blank (length slots.old) }
+    ensures sizes { SameSizes threads.old threads.new }
+    ensures scans { threads.new.scans ≡ threads.old.scans }
+    ensures turns { IsWithinTurns nfa.now (search_of input.now) threads.old threads.new }
+    ensures answer { ScanGives nfa.now LeftmostFirst false (search_of input.now) result slots.new
+        threads.new.reached.seen.turns }
+{
+    let mut limit = starts.limit;
+    let mut found = None;
+    let mut at = input.start();
+    while at <= input.end() {
+        at = join_or_skip(first, input, starts, limit, at, threads);
+        if threads.curr.is_empty() {
+            return found;
+        }
+        let hit = half_at(cross(nfa, input, at, false, threads, slots), at);
+        move_on(threads);
+        if hit.is_some() {
+            // A later start comes behind it.
+            found = hit;
+            limit = 0;
+        }
+        at += 1;
+    }
+    found
+}
+
+/// The paths with the greatest end, of which the last one stands.
+fn scan_last(
+    nfa: &NFA,
+    input: &Input<'_>,
+    starts: &Starts,
+    threads: &mut Threads,
+    slots: &mut [Slot],
+) -> Option<HalfMatch>
+    requires ready { MayScan nfa.now (search_of input.now) starts.now (length slots.old) threads.old }
+    requires unset { slots.old ≡ blank (length slots.old) }
+    ensures sizes { SameSizes threads.old threads.new }
+    ensures scans { threads.new.scans ≡ threads.old.scans }
+    ensures turns { IsWithinTurns nfa.now (search_of input.now) threads.old threads.new }
+    ensures answer { ScanGives nfa.now All false (search_of input.now) result slots.new
+        threads.new.reached.seen.turns }
+{
+    let mut found = None;
+    for at in input.start()..input.end() + 1 {
+        join(starts, at, threads);
+        if threads.curr.is_empty() {
+            return found;
+        }
+        let hit = half_at(cross(nfa, input, at, true, threads, slots), at);
+        move_on(threads);
+        found = hit.or(found);
+    }
+    found
+}
+
+/// The paths with the least end: of them the first, or with `past_match` the last.
+fn scan_earliest(
+    nfa: &NFA,
+    input: &Input<'_>,
+    starts: &Starts,
+    past_match: bool,
+    threads: &mut Threads,
+    slots: &mut [Slot],
+) -> Option<HalfMatch>
+    requires ready { MayScan nfa.now (search_of input.now) starts.now (length slots.old) threads.old }
+    requires unset { slots.old ≡ blank (length slots.old) }
+    ensures sizes { SameSizes threads.old threads.new }
+    ensures scans { threads.new.scans ≡ threads.old.scans }
+    ensures turns { IsWithinTurns nfa.now (search_of input.now) threads.old threads.new }
+    ensures answer { ScanGives nfa.now (cond past_match All LeftmostFirst) true (search_of input.now) result slots.new
+        threads.new.reached.seen.turns }
+{
+    for at in input.start()..input.end() + 1 {
+        join(starts, at, threads);
+        if threads.curr.is_empty() {
+            return None;
+        }
+        let hit = half_at(cross(nfa, input, at, past_match, threads, slots), at);
+        move_on(threads);
+        if hit.is_some() {
+            return hit;
+        }
+    }
+    None
+}
+
+/// One scan, from a clean slate: the path that is meant, its slots, or no slot set.
+// A call of its own, so that a search's loop takes no registers from the scan's.
+#[inline(never)]
+pub fn scan(
+    nfa: &NFA,
+    first: &FirstBytes,
+    kind: MatchKind,
+    input: &Input<'_>,
+    threads: &mut Threads,
+    slots: &mut [Slot],
+) -> Option<HalfMatch>
+    requires first { IsFirstBytes nfa.now first.now.may_begin }
+    requires serves { HaveRoom nfa.now (length slots.old) threads.old }
+    ensures scans { threads.new.scans ≡ threads.old.scans + 1 }
+    ensures sizes { SameSizes threads.old threads.new }
+    ensures turns { IsWithinTurns nfa.now (search_of input.now) threads.old threads.new }
+    ensures answer { ScanGives nfa.now kind (search_of input.now).earliest (search_of input.now) result slots.new
+        threads.new.reached.seen.turns }
+{
+    threads.scans.tick();
+    unset_row(slots);
+    if input.is_done() {
+        return None;
+    }
+    let state = start_state(nfa, input)?;
+    let starts = Starts {
+        state,
+        limit: start_limit(nfa, input),
+        stop: skip_limit(nfa, input),
+    };
+    set_up(threads, slots.len());
+    let past_match = kind.continue_past_first_match();
+    if input.get_earliest() {
+        scan_earliest(nfa, input, &starts, past_match, threads, slots)
+    } else if past_match {
+        scan_last(nfa, input, &starts, threads, slots)
+    } else {
+        scan_first(nfa, first, input, &starts, threads, slots)
+    }
+}

@@ -1,0 +1,121 @@
+//! How much room an NFA needs.
+ghost use Rattle.std.specs.Prelude.{◌≡◌, ◌^◌, ◌≤◌, IfSome, IfNone, OnOk, OnErr, length, max};
+ghost use Rattle.std.specs.List.{sum_by};
+ghost use Rattle.thompson_nfa.specs.Automaton.{node_of};
+ghost use Rattle.nfa_pikevm_scan.specs.Needs.{room_of, stack_places};
+ghost use Rattle.nfa_pikevm_scan.specs.Scans.{sizes_of};
+ghost use Rattle.nfa_pikevm_scan.specs.Sizes.{sizes_for, IsSize, IsSizeOf, IsTooLarge};
+
+use crate::frame::FollowEpsilon;
+use crate::room::{refill, reserve};
+use crate::scratch::Threads;
+use crate::slot::Slot;
+use regex_search_core::{Refused, StateID};
+use thompson_nfa::{NFA, State};
+
+/// How much a cache holds: for how many states and slots it is, the places and the cells of each set of states, and the
+/// frames of the stack.
+#[derive(Clone, Copy, Debug)]
+pub struct Size {
+    pub states: usize,
+    pub slots: usize,
+    pub places: usize,
+    pub cells: usize,
+    pub frames: usize,
+}
+
+/// How many frames the state pushes at most, beside the state that it goes on with.
+fn room(state: &State) -> usize
+    ensures { result ≡ room_of (node_of state.now) }
+{
+    match state {
+        State::Union { alternates } => alternates.len().saturating_sub(1),
+        State::BinaryUnion { .. } | State::Capture { .. } => 1,
+        _ => 0,
+    }
+}
+
+/// How many frames all these states push at most, if a `usize` can say it.
+fn rooms(states: &[State]) -> Option<usize>
+    ensures sum { IfSome result (λ n. n ≡ sum_by (λ s. room_of (node_of s)) states.now) }
+    ensures past { IfNone result (2 ^ 64 ≤ sum_by (λ s. room_of (node_of s)) states.now) }
+{
+    let mut sum: usize = 0;
+    for state in states {
+        sum = sum.checked_add(room(state))?;
+    }
+    Some(sum)
+}
+
+/// How many places the stack of a search needs, if a `usize` can say it.
+pub fn stack_places(nfa: &NFA) -> Option<usize>
+    ensures value { IfSome result (λ n. n ≡ stack_places nfa.now) }
+    ensures past { IfNone result (2 ^ 64 ≤ stack_places nfa.now) }
+{
+    Some(rooms(nfa.states())?.max(1))
+}
+
+/// How much a search of the NFA needs, if a `usize` can say it.
+pub fn size_for(nfa: &NFA) -> Option<Size>
+    ensures value { IfSome result (λ size. IsSizeOf nfa.now size) }
+    ensures past { IfNone result (IsTooLarge nfa.now) }
+{
+    let states = nfa.states().len();
+    let slots = nfa.group_info().slot_len();
+    let places = states.checked_add(1)?;
+    let cells = places.checked_mul(slots)?;
+    let frames = stack_places(nfa)?;
+    Some(Size {
+        states,
+        slots,
+        places,
+        cells,
+        frames,
+    })
+}
+
+/// Makes the parts of a cache as large as this, and no larger. All memory is taken before anything changes.
+pub fn make_room(
+    threads: &mut Threads,
+    found: &mut Vec<Slot>,
+    size: &Size,
+    filler: StateID,
+) -> Result<(), Refused>
+    requires { IsSize size.now }
+    ensures sizes { OnOk result (sizes_of threads.new
+        ≡ sizes_for size.now.states size.now.slots size.now.frames) }
+    ensures row { OnOk result (length found.new.items ≡ size.now.slots) }
+    ensures turns { threads.new.reached.seen.turns ≡ threads.old.reached.seen.turns }
+    ensures scans { threads.new.scans ≡ threads.old.scans }
+    ensures seen { OnErr result (threads.new.reached.seen ≡ threads.old.reached.seen) }
+    ensures curr { OnErr result (threads.new.curr ≡ threads.old.curr) }
+    ensures next { OnErr result (threads.new.reached.next ≡ threads.old.reached.next) }
+    ensures frames { OnErr result (threads.new.frames.items ≡ threads.old.frames.items) }
+    ensures found { OnErr result (found.new.items ≡ found.old.items) }
+{
+    reserve(&mut threads.frames, size.frames)?;
+    reserve(&mut threads.reached.seen.stamps, size.states)?;
+    reserve(&mut threads.curr.parts.kept, size.places)?;
+    reserve(&mut threads.curr.parts.rows, size.cells)?;
+    reserve(&mut threads.reached.next.parts.kept, size.places)?;
+    reserve(&mut threads.reached.next.parts.rows, size.cells)?;
+    reserve(found, size.slots)?;
+    let unused = FollowEpsilon::Explore { sid: filler };
+    refill(&mut threads.frames, size.frames, unused);
+    refill(&mut threads.reached.seen.stamps, size.states, 0);
+    threads.reached.seen.newest = 1;
+    threads.curr.parts.len = 0;
+    threads.curr.parts.width = 0;
+    refill(&mut threads.curr.parts.kept, size.places, filler);
+    refill(&mut threads.curr.parts.rows, size.cells, Slot::unset());
+    threads.reached.next.parts.len = 0;
+    threads.reached.next.parts.width = 0;
+    refill(&mut threads.reached.next.parts.kept, size.places, filler);
+    refill(
+        &mut threads.reached.next.parts.rows,
+        size.cells,
+        Slot::unset(),
+    );
+    refill(found, size.slots, Slot::unset());
+    Ok(())
+}

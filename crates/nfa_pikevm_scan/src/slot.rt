@@ -1,0 +1,148 @@
+//! A slot in eight bytes, and rows of them.
+ghost use Rattle.std.specs.Prelude.{◌≡◌, ◌++◌, ◌+◌, ◌-◌, ◌<◌, ◌≤◌, Some, None, length, replicate, option_map};
+ghost use Rattle.std.specs.Option.{SomeIff};
+ghost use Rattle.regex_search_core.specs.Found.{found_of};
+ghost use Rattle.regex_search_core.specs.Patterns.{number_of};
+ghost use Rattle.regex_search_core.specs.Slots.{match_of, offset_at};
+
+use regex_search_core::{Match, NonMaxUsize, PatternID, Span};
+use std::marker::Model;
+
+/// A slot of a row, in eight bytes, where an `Option` takes sixteen: the greatest `usize` stands for none.
+///
+/// A contract sees it as the offset, if there is one.
+#[derive(Clone, Copy, Debug)]
+pub struct Slot(usize);
+
+impl Model for Slot {
+    ghost use Rattle.std.specs.Prelude.{ℕ, Option};
+    ghost use Rattle.nfa_pikevm_scan.specs.Rows.{offset_of, raw_of};
+
+    ghost Value = { Option ℕ };
+
+    ghost view = { λ s. offset_of s.0 };
+
+    ghost inverse = { λ o. record { 0 = raw_of o } };
+}
+
+impl Slot {
+    /// No offset.
+    #[inline(always)]
+    pub fn unset() -> Slot
+        ensures { result ≡ None }
+    {
+        Slot(usize::MAX)
+    }
+
+    /// This offset. None for the greatest `usize`.
+    #[inline(always)]
+    pub fn new(offset: usize) -> Slot
+        ensures { SomeIff result (offset < usize.MAX) offset }
+    {
+        Slot(offset)
+    }
+
+    /// What the slot holds.
+    #[inline(always)]
+    pub fn get(self) -> Option<NonMaxUsize>
+        ensures { result ≡ self }
+    {
+        NonMaxUsize::new(self.0)
+    }
+}
+
+/// Copies a row. Of most searches it has two slots or four: those of the match of one pattern, or of two.
+#[inline(always)]
+pub fn copy_row(to: &mut [Slot], from: &[Slot])
+    requires { length to.old ≡ length from.now }
+    ensures { to.new ≡ from.now }
+{
+    match from.len() {
+        2 => {
+            to[0] = from[0];
+            to[1] = from[1];
+        }
+        4 => {
+            to[0] = from[0];
+            to[1] = from[1];
+            to[2] = from[2];
+            to[3] = from[3];
+        }
+        _ => copy_long_row(to, from),
+    }
+}
+
+/// Copies a row of any length.
+#[inline(never)]
+fn copy_long_row(to: &mut [Slot], from: &[Slot])
+    requires { length to.old ≡ length from.now }
+    ensures { to.new ≡ from.now }
+{
+    to.copy_from_slice(from);
+}
+
+/// Takes the offset of every slot of a row away. Of most searches it has two slots or four, as for [`copy_row`].
+#[inline(always)]
+pub fn unset_row(row: &mut [Slot])
+    ensures { row.new ≡ replicate (length row.old) None }
+{
+    match row.len() {
+        2 => {
+            row[0] = Slot::unset();
+            row[1] = Slot::unset();
+        }
+        4 => {
+            row[0] = Slot::unset();
+            row[1] = Slot::unset();
+            row[2] = Slot::unset();
+            row[3] = Slot::unset();
+        }
+        _ => unset_long_row(row),
+    }
+}
+
+/// Takes the offset of every slot of a row of any length away.
+#[inline(never)]
+fn unset_long_row(row: &mut [Slot])
+    ensures { row.new ≡ replicate (length row.old) None }
+{
+    row.fill(Slot::unset());
+}
+
+/// Takes the offset of every slot away.
+fn clear(slots: &mut [Option<NonMaxUsize>])
+    ensures { slots.new ≡ replicate (length slots.old) None }
+{
+    slots.fill(None);
+}
+
+/// Gives the slots what the row holds, and those past it no offset.
+pub fn hand_out(row: &[Slot], slots: &mut [Option<NonMaxUsize>])
+    requires { length row.now ≤ length slots.old }
+    ensures { slots.new ≡ row.now ++ replicate (length slots.old - length row.now) None }
+{
+    clear(slots);
+    for i in 0..row.len() {
+        slots[i] = row[i].get();
+    }
+}
+
+/// The offset in this slot of the row, if there is one.
+fn offset_in(row: &[Slot], slot: usize) -> Option<usize>
+    ensures { result ≡ offset_at row.now slot }
+{
+    Some(row.get(slot)?.get()?.get())
+}
+
+/// The match of the pattern whose start and end the row holds, if it holds both, in order.
+pub fn match_in(pattern: PatternID, row: &[Slot]) -> Option<Match>
+    ensures { option_map found_of result ≡ match_of (Some (number_of pattern)) row.now }
+{
+    let slot = pattern.as_usize() * 2;
+    let start = offset_in(row, slot)?;
+    let end = offset_in(row, slot + 1)?;
+    if start > end {
+        return None;
+    }
+    Some(Match::new(pattern, Span { start, end }))
+}

@@ -1,0 +1,173 @@
+//! All states side by side, from one position to the next.
+ghost use Rattle.std.specs.Prelude.{◌≡◌, ◌*◌, ◌<◌, ◌≤◌, [], false, length, replicate, All};
+ghost use Rattle.regex_search_core.specs.Search.{search_of};
+ghost use Rattle.nfa_pikevm_scan.specs.Rows.{items_of};
+ghost use Rattle.nfa_pikevm_scan.specs.States.{HasRoom, IsHere, KeepsRoom, Crosses};
+ghost use Rattle.nfa_pikevm_scan.specs.Taking.{ArriveAll};
+ghost use Rattle.nfa_pikevm_scan.specs.Scans.{HaveRows, SameSizes};
+
+use crate::active::Parts;
+use crate::closure::{Here, Reached, follow};
+use crate::frame::FollowEpsilon;
+use crate::scratch::Threads;
+use crate::slot::Slot;
+use crate::taker::{LastRow, Taker};
+use nfa_scanning::transitions::byte_at;
+use regex_search_core::{Input, PatternID, StateID};
+use std::mem;
+use thompson_nfa::NFA;
+
+/// No state is kept, and rows have `width` slots from here on.
+pub fn set_up(threads: &mut Threads, width: usize)
+    requires { threads.old.curr.places * width ≤ threads.old.curr.cells }
+    ensures curr { threads.new.curr.items ≡ [] }
+    ensures next { threads.new.reached.next.items ≡ [] }
+    ensures width { threads.new.curr.width ≡ width }
+    ensures sizes { SameSizes threads.old threads.new }
+    ensures seen { threads.new.reached.seen ≡ threads.old.reached.seen }
+    ensures scans { threads.new.scans ≡ threads.old.scans }
+{
+    threads.curr.set_up(width);
+    threads.reached.next.set_up(width);
+}
+
+/// The states at the next position become those at this one.
+#[inline(always)]
+pub fn move_on(threads: &mut Threads)
+    ensures curr { threads.new.curr.items ≡ threads.old.reached.next.items }
+    ensures next { threads.new.reached.next.items ≡ [] }
+    ensures width { threads.new.curr.width ≡ threads.old.curr.width }
+    ensures sizes { SameSizes threads.old threads.new }
+    ensures seen { threads.new.reached.seen ≡ threads.old.reached.seen }
+    ensures scans { threads.new.scans ≡ threads.old.scans }
+{
+    let Threads { curr, reached, .. } = threads;
+    mem::swap(curr, &mut reached.next);
+    reached.next.clear();
+}
+
+/// Follows the states at the position, in order, each with its row, as [`follow`] does, up to the match that the
+/// position ends with, and keeps what the byte leads to.
+#[inline(always)]
+fn cross_states<T: Taker>(
+    here: &Here<'_, '_>,
+    kept: &[StateID],
+    rows: &mut [Slot],
+    frames: &mut [FollowEpsilon],
+    reached: &mut Reached,
+    taker: &mut T,
+)
+    requires here { IsHere here.now }
+    requires states { All (λ s. s < length here.now.nfa.now.states) kept.now }
+    requires room { HasRoom here.now.nfa.now reached.old.seen.bits 0 (length frames.old) 0 reached.old.next.places }
+    requires clear { reached.old.seen.bits ≡ replicate (length reached.old.seen.bits) false }
+    requires empty { reached.old.next.items ≡ [] }
+    requires width { T.row_width taker.old ≡ reached.old.next.width }
+    requires rows { length kept.now * T.row_width taker.old ≤ length rows.old }
+    ensures keeps { KeepsRoom reached.old reached.new }
+    ensures grows { reached.old.seen.turns ≤ reached.new.seen.turns }
+    ensures width { T.row_width taker.new ≡ T.row_width taker.old }
+    ensures same_reference { T.reference taker.new ≡ T.reference taker.old }
+    ensures arrive { ArriveAll here.now.nfa.now (search_of here.now.input.now) T.takes here.now.at reached.old.seen
+        (items_of (T.row_width taker.old) kept.now rows.old) taker.old reached.new.seen reached.new.next.items
+        taker.new }
+{
+    let width = taker.width();
+    let mut start = 0;
+    for sid in kept {
+        let row = &mut rows[start..start + width];
+        if follow(here, *sid, frames, reached, row, taker) {
+            return;
+        }
+        start += width;
+    }
+}
+
+/// Follows the states at the position, gives their matches to the taker, and keeps what the position's byte leads to
+/// for the next one.
+#[inline(always)]
+pub fn cross_with<T: Taker>(
+    nfa: &NFA,
+    input: &Input<'_>,
+    at: usize,
+    threads: &mut Threads,
+    taker: &mut T,
+)
+    requires place { at ≤ (search_of input.now).end }
+    requires states { All (λ i. i.0 < length nfa.now.states) threads.old.curr.items }
+    requires room { HaveRows nfa.now (T.row_width taker.old) threads.old }
+    requires empty { threads.old.reached.next.items ≡ [] }
+    ensures width { threads.new.curr.width ≡ threads.old.curr.width }
+    ensures sizes { SameSizes threads.old threads.new }
+    ensures grows { threads.old.reached.seen.turns ≤ threads.new.reached.seen.turns }
+    ensures scans { threads.new.scans ≡ threads.old.scans }
+    ensures same_reference { T.reference taker.new ≡ T.reference taker.old }
+    ensures rows { All (λ i. length i.1 ≤ T.row_width taker.old) threads.old.curr.items }
+    ensures arrive { ArriveAll nfa.now (search_of input.now) T.takes at threads.old.reached.seen
+        threads.old.curr.items taker.old threads.new.reached.seen threads.new.reached.next.items taker.new }
+{
+    let Threads {
+        frames,
+        curr,
+        reached,
+        ..
+    } = threads;
+    reached.seen.clear();
+    let Parts {
+        kept,
+        rows,
+        len,
+        ..
+    } = &mut *curr.parts;
+    let kept = &kept.as_slice()[..*len];
+    let rows = rows.as_mut_slice();
+    let frames = frames.as_mut_slice();
+    let end = Here {
+        nfa,
+        input,
+        at,
+        byte: None,
+    };
+    // A call each, so that the loop over the states does not ask at each one whether there is a byte.
+    match byte_at(input, at) {
+        Some(byte) => {
+            let here = Here {
+                byte: Some(byte),
+                ..end
+            };
+            cross_states(&here, kept, rows, frames, reached, taker);
+        }
+        None => cross_states(&end, kept, rows, frames, reached, taker),
+    }
+}
+
+/// Follows the states at the position, and keeps what its byte leads to for the next one. It answers the last match,
+/// and its slots; without `past_match` it stops at the first match.
+#[inline(always)]
+pub fn cross(
+    nfa: &NFA,
+    input: &Input<'_>,
+    at: usize,
+    past_match: bool,
+    threads: &mut Threads,
+    slots: &mut [Slot],
+) -> Option<PatternID>
+    requires place { at ≤ (search_of input.now).end }
+    requires states { All (λ i. i.0 < length nfa.now.states) threads.old.curr.items }
+    requires room { HaveRows nfa.now (length slots.old) threads.old }
+    requires empty { threads.old.reached.next.items ≡ [] }
+    ensures width { threads.new.curr.width ≡ threads.old.curr.width }
+    ensures sizes { SameSizes threads.old threads.new }
+    ensures grows { threads.old.reached.seen.turns ≤ threads.new.reached.seen.turns }
+    ensures scans { threads.new.scans ≡ threads.old.scans }
+    ensures crosses { Crosses nfa.now (search_of input.now) at past_match threads.old.reached.seen
+        threads.old.curr.items slots.old result threads.new.reached.seen threads.new.reached.next.items slots.new }
+{
+    let mut last = LastRow {
+        slots,
+        hit: None,
+        past_match,
+    };
+    cross_with(nfa, input, at, threads, &mut last);
+    last.hit
+}
