@@ -217,7 +217,7 @@ fn step(
         State::BinaryUnion { alt1, alt2 } => {
             // Read before the stack is written: the compiler then reads each arm's target in its arm.
             let preferred = place.to(*alt1);
-            scratch.stack.push(place.later(*alt1))?;
+            scratch.stack.push(place.later(*alt2))?;
             Ok(Move::Go(preferred))
         }
         State::Capture { next, slot } => {
