@@ -3,7 +3,8 @@ ghost use Rattle.std.specs.Prelude.{◌≡◌};
 ghost use Rattle.regex_search_core.specs.Patterns.{number_of};
 
 use regex_search_core::{GroupInfo, PatternID, StateID};
-use std::alloc::Global;
+use std::alloc::{AllocError, Global};
+use std::fmt::Debug;
 use std::process::Abort;
 use std::test::Fail;
 use thompson_nfa::{BuildError, Holder, Look, NFA, State, Transition, look_matches};
@@ -32,18 +33,26 @@ fn plain_groups(alloc: Global, patterns: usize) -> Result<GroupInfo, Fail> {
 /// An NFA with a state of each kind, of two patterns that start at 1 and 2 and have no explicit
 /// groups; searches start at 0 and 8.
 fn one_of_each(rt: &impl Abort, alloc: Global) -> Result<NFA, Fail> {
+    let patterns = vec![in alloc; id(rt, 1), id(rt, 2)]?;
+    let groups = plain_groups(alloc, 2)?;
+    let states = states_of_each_kind(rt, alloc)?;
+    Ok(NFA::from_states(states, id(rt, 0), id(rt, 8), patterns, groups, true, false)?)
+}
+
+fn states_of_each_kind(rt: &impl Abort, alloc: Global) -> Result<Vec<State>, AllocError> {
+    let alternates = vec![in alloc; id(rt, 1), id(rt, 2)]?;
+    let targets = vec![in alloc; None, Some(id(rt, 9))]?;
     let to_nine = Transition {
         start: 0x61,
         end: 0x7A,
         next: id(rt, 9),
     };
-    let states = vec![in alloc;
-        State::Union {
-            alternates: vec![in alloc; id(rt, 1), id(rt, 2)]?
-        },
+    let transitions = vec![in alloc; to_nine]?;
+    vec![in alloc;
+        State::Union { alternates },
         State::ByteRange { trans: to_nine },
-        State::Sparse(vec![in alloc; to_nine]?),
-        State::Dense(vec![in alloc; None, Some(id(rt, 9))]?),
+        State::Sparse(transitions),
+        State::Dense(targets),
         State::Look {
             look: Look::Start,
             next: id(rt, 9)
@@ -64,10 +73,7 @@ fn one_of_each(rt: &impl Abort, alloc: Global) -> Result<NFA, Fail> {
         State::Match {
             pattern_id: pattern(rt, 1)
         },
-    ]?;
-    let patterns = vec![in alloc; id(rt, 1), id(rt, 2)]?;
-    let groups = plain_groups(alloc, 2)?;
-    Ok(NFA::from_states(states, id(rt, 0), id(rt, 8), patterns, groups, true, false)?)
+    ]
 }
 
 #[test]
@@ -170,60 +176,74 @@ fn word_characters(rt: HostRuntime) {
 
 #[test]
 fn refusals(rt: HostRuntime) -> Result<(), Fail> {
-    let alloc = rt.alloc();
     let start = id(&rt, 0);
     let on_a = Transition {
         start: 0x61,
         end: 0x61,
         next: id(&rt, 1),
     };
-    for (states, groups, want) in [
-        (Vec::new(alloc), 0, BuildError::Empty),
-        (
-            vec![in alloc; State::ByteRange { trans: on_a }]?,
-            0,
-            BuildError::State(Holder::State(0)),
-        ),
-        (
-            vec![in alloc;
-                State::Capture {
-                    next: start,
-                    slot: 0
-                },
-            ]?,
-            0,
-            BuildError::Slot { state: 0, slot: 0 },
-        ),
-        (
-            vec![in alloc;
-                State::Match {
-                    pattern_id: pattern(&rt, 1)
-                },
-            ]?,
-            0,
-            BuildError::Pattern {
-                state: 0,
-                pattern: 1,
-            },
-        ),
-        (
-            vec![in alloc;
-                State::Match {
-                    pattern_id: pattern(&rt, 0)
-                },
-            ]?,
-            2,
-            BuildError::Groups {
-                groups: 2,
-                patterns: 1,
-            },
-        ),
-    ] {
-        let patterns = vec![in alloc; start]?;
-        let groups = plain_groups(alloc, groups)?;
-        let made = NFA::from_states(states, start, start, patterns, groups, false, false);
-        assert_eq!(rt; made.err(), Some(want));
-    }
+    let holder = BuildError::State(Holder::State(0));
+    expect_refusal(&rt, rt.alloc(), State::ByteRange { trans: on_a }, 0, holder)?;
+    let capture = State::Capture {
+        next: start,
+        slot: 0,
+    };
+    let slot = BuildError::Slot { state: 0, slot: 0 };
+    expect_refusal(&rt, rt.alloc(), capture, 0, slot)?;
+    let other = State::Match {
+        pattern_id: pattern(&rt, 1),
+    };
+    let pattern_one = BuildError::Pattern {
+        state: 0,
+        pattern: 1,
+    };
+    expect_refusal(&rt, rt.alloc(), other, 0, pattern_one)?;
+    let first = State::Match {
+        pattern_id: pattern(&rt, 0),
+    };
+    let groups = BuildError::Groups {
+        groups: 2,
+        patterns: 1,
+    };
+    expect_refusal(&rt, rt.alloc(), first, 2, groups)
+}
+
+#[test]
+fn no_state_is_refused(rt: HostRuntime) -> Result<(), Fail> {
+    let groups = plain_groups(rt.alloc(), 0)?;
+    expect_error(
+        &rt,
+        rt.alloc(),
+        Vec::new(rt.alloc()),
+        groups,
+        BuildError::Empty,
+    )
+}
+
+// An NFA of this state alone, with groups of so many patterns, is refused with this error.
+fn expect_refusal(
+    rt: &impl Abort,
+    alloc: Global,
+    state: State,
+    groups: usize,
+    want: BuildError,
+) -> Result<(), Fail> {
+    let states = vec![in alloc; state]?;
+    let groups = plain_groups(alloc, groups)?;
+    expect_error(rt, alloc, states, groups, want)
+}
+
+fn expect_error(
+    rt: &impl Abort,
+    alloc: Global,
+    states: Vec<State>,
+    groups: GroupInfo,
+    want: BuildError,
+) -> Result<(), Fail> {
+    let start = id(rt, 0);
+    let patterns = vec![in alloc; start]?;
+    let made = NFA::from_states(states, start, start, patterns, groups, false, false);
+    assert_eq!(rt; made.err(), Some(want));
     Ok(())
 }
 
@@ -274,59 +294,78 @@ fn errors_are_told(rt: HostRuntime) -> Result<(), Fail> {
 
 #[test]
 fn reads(rt: HostRuntime) -> Result<(), Fail> {
-    let alloc = rt.alloc();
-    let made = one_of_each(&rt, alloc)?;
-    for nfa in [made.clone()?, made] {
-        assert_eq!(rt; nfa.states().len(), 10);
-        assert_eq!(rt;
-            (nfa.start_anchored(), nfa.start_unanchored()),
-            (id(&rt, 0), id(&rt, 8))
-        );
-        assert!(rt; !nfa.is_always_start_anchored());
-        assert!(rt; nfa.has_empty() && !nfa.is_utf8());
-        assert_eq!(rt; nfa.pattern_len(), 2);
-        assert_eq!(rt; nfa.start_pattern(pattern(&rt, 1)), Some(id(&rt, 2)));
-        assert_eq!(rt; nfa.start_pattern(pattern(&rt, 2)), None);
-        assert_eq!(rt; nfa.group_info().slot_len(), 4);
-        let last = format!(in alloc; "{:?}", nfa.state(nfa.start_unanchored()))?;
-        assert_eq!(rt;
-            last.as_str(),
-            "BinaryUnion { alt1: StateID(0), alt2: StateID(5) }"
-        );
-    }
+    let made = one_of_each(&rt, rt.alloc())?;
+    expect_one_of_each(&rt, rt.alloc(), &made)?;
+    expect_one_of_each(&rt, rt.alloc(), &made.clone()?)
+}
+
+fn expect_one_of_each(rt: &impl Abort, alloc: Global, nfa: &NFA) -> Result<(), Fail> {
+    assert_eq!(rt; nfa.states().len(), 10);
+    assert_eq!(rt;
+        (nfa.start_anchored(), nfa.start_unanchored()),
+        (id(rt, 0), id(rt, 8))
+    );
+    assert!(rt; !nfa.is_always_start_anchored());
+    assert!(rt; nfa.has_empty() && !nfa.is_utf8());
+    assert_eq!(rt; nfa.pattern_len(), 2);
+    assert_eq!(rt; nfa.start_pattern(pattern(rt, 1)), Some(id(rt, 2)));
+    assert_eq!(rt; nfa.start_pattern(pattern(rt, 2)), None);
+    assert_eq!(rt; nfa.group_info().slot_len(), 4);
+    let last = format!(in alloc; "{:?}", nfa.state(nfa.start_unanchored()))?;
+    assert_eq!(rt;
+        last.as_str(),
+        "BinaryUnion { alt1: StateID(0), alt2: StateID(5) }"
+    );
     Ok(())
 }
 
 #[test]
-fn simple_nfas(rt: HostRuntime) -> Result<(), Fail> {
-    let alloc = rt.alloc();
-    let always = NFA::always_match(alloc)?;
+fn the_nfa_that_always_matches(rt: HostRuntime) -> Result<(), Fail> {
+    let always = NFA::always_match(rt.alloc())?;
     let want = "[Capture { next: StateID(1), slot: 0 }, Capture { next: StateID(2), slot: 1 }, \
         Match { pattern_id: PatternID { index: 0 } }]";
-    assert_eq!(rt; format!(in alloc; "{:?}", always.states())?.as_str(), want);
+    expect_shown(&rt, rt.alloc(), always.states(), want)?;
     assert!(rt; always.is_always_start_anchored() && always.has_empty() && !always.is_utf8());
     assert_eq!(rt;
         (always.pattern_len(), always.group_info().slot_len()),
         (1, 2)
     );
     assert_eq!(rt; always.start_pattern(pattern(&rt, 0)), Some(id(&rt, 0)));
+    Ok(())
+}
 
-    let never = NFA::never_match(alloc)?;
-    assert_eq!(rt;
-        format!(in alloc; "{:?}", never.states())?.as_str(),
-        "[Fail]"
-    );
+#[test]
+fn the_nfa_that_never_matches(rt: HostRuntime) -> Result<(), Fail> {
+    let never = NFA::never_match(rt.alloc())?;
+    expect_shown(&rt, rt.alloc(), never.states(), "[Fail]")?;
     assert!(rt; never.is_always_start_anchored() && !never.has_empty() && !never.is_utf8());
     assert_eq!(rt;
         (never.pattern_len(), never.group_info().pattern_len()),
         (0, 0)
     );
+    expect_shown(
+        &rt,
+        rt.alloc(),
+        &never,
+        "NFA { states: [Fail], anchored: StateID(0), unanchored: StateID(0), patterns: [], \
+        groups: GroupInfo { names: [], slot_len: 0 }, has_empty: false, utf8: false }",
+    )
+}
+
+// The text of the value is this one.
+fn expect_shown<T: Debug + ?Sized>(
+    rt: &impl Abort,
+    alloc: Global,
+    value: &T,
+    want: &str,
+) -> Result<(), Fail> {
+    let text = format!(in alloc; "{value:?}")?;
+    assert_eq!(rt; text.as_str(), want);
     Ok(())
 }
 
 #[test]
 fn debug_texts(rt: HostRuntime) -> Result<(), Fail> {
-    let alloc = rt.alloc();
     for (look, want) in [
         (Look::Start, "Start"),
         (Look::End, "End"),
@@ -334,13 +373,14 @@ fn debug_texts(rt: HostRuntime) -> Result<(), Fail> {
         (Look::WordAsciiNegate, "WordAsciiNegate"),
         (Look::WordUnicode, "WordUnicode"),
     ] {
-        assert_eq!(rt; format!(in alloc; "{look:?}")?.as_str(), want);
+        expect_shown(&rt, rt.alloc(), &look, want)?;
     }
-    assert_eq!(rt;
-        format!(in alloc; "{:?}", BuildError::Empty)?.as_str(),
-        "Empty"
-    );
-    let nfa = one_of_each(&rt, alloc)?;
+    expect_shown(&rt, rt.alloc(), &BuildError::Empty, "Empty")
+}
+
+#[test]
+fn debug_texts_of_states(rt: HostRuntime) -> Result<(), Fail> {
+    let nfa = one_of_each(&rt, rt.alloc())?;
     let states = [
         "Union { alternates: [StateID(1), StateID(2)] }",
         "ByteRange { trans: Transition { start: 97, end: 122, next: StateID(9) } }",
@@ -354,14 +394,8 @@ fn debug_texts(rt: HostRuntime) -> Result<(), Fail> {
         "Match { pattern_id: PatternID { index: 1 } }",
     ];
     for (state, want) in nfa.states().iter().zip(states) {
-        assert_eq!(rt; format!(in alloc; "{state:?}")?.as_str(), want);
-        assert_eq!(rt; format!(in alloc; "{:?}", state.clone()?)?.as_str(), want);
+        expect_shown(&rt, rt.alloc(), state, want)?;
+        expect_shown(&rt, rt.alloc(), &state.clone()?, want)?;
     }
-    let never = NFA::never_match(alloc)?;
-    assert_eq!(rt;
-        format!(in alloc; "{never:?}")?.as_str(),
-        "NFA { states: [Fail], anchored: StateID(0), unanchored: StateID(0), patterns: [], \
-        groups: GroupInfo { names: [], slot_len: 0 }, has_empty: false, utf8: false }"
-    );
     Ok(())
 }

@@ -8,6 +8,7 @@ use regex_search_core::{
     PatternID, PatternSet, Refused, Span, StateID,
 };
 use std::alloc::{AllocError, Global};
+use std::fmt::Debug;
 use std::process::Abort;
 use std::test::Fail;
 
@@ -192,155 +193,197 @@ fn sets(rt: HostRuntime) -> Result<(), Fail> {
 #[test]
 fn groups(rt: HostRuntime) -> Result<(), Fail> {
     let made = two_patterns(rt.alloc())?;
-    for groups in [made.clone()?, made] {
-        assert_eq!(rt; groups.pattern_len(), 2);
-        assert_eq!(rt; groups.implicit_slot_len(), 4);
-        assert_eq!(rt; groups.slot_len(), 12);
-        for (number, group, want) in [
-            (0, 0, Some(0)),
-            (1, 0, Some(2)),
-            (0, 1, Some(4)),
-            (0, 2, Some(6)),
-            (1, 1, Some(8)),
-            (1, 2, Some(10)),
-            (0, 3, None),
-            (1, usize::MAX, None),
-            (2, 0, None),
-        ] {
-            assert_eq!(rt;
-                groups.slot(pattern(&rt, number), group),
-                want,
-                "{number}, {group}"
-            );
-        }
-        for (number, name, want) in [
-            (0, "numbers", Some(2)),
-            (1, "a", Some(1)),
-            (0, "a", None),
-            (0, "number", None),
-            (2, "a", None),
-        ] {
-            assert_eq!(rt;
-                groups.to_index(pattern(&rt, number), name),
-                want,
-                "{number}, {name}"
-            );
-        }
-    }
+    expect_two_patterns(&rt, &made);
+    expect_two_patterns(&rt, &made.clone()?);
     Ok(())
 }
 
+fn expect_two_patterns(rt: &impl Abort, groups: &GroupInfo) {
+    assert_eq!(rt; groups.pattern_len(), 2);
+    assert_eq!(rt; groups.implicit_slot_len(), 4);
+    assert_eq!(rt; groups.slot_len(), 12);
+    for (number, group, want) in [
+        (0, 0, Some(0)),
+        (1, 0, Some(2)),
+        (0, 1, Some(4)),
+        (0, 2, Some(6)),
+        (1, 1, Some(8)),
+        (1, 2, Some(10)),
+        (0, 3, None),
+        (1, usize::MAX, None),
+        (2, 0, None),
+    ] {
+        assert_eq!(rt;
+            groups.slot(pattern(rt, number), group),
+            want,
+            "{number}, {group}"
+        );
+    }
+    for (number, name, want) in [
+        (0, "numbers", Some(2)),
+        (1, "a", Some(1)),
+        (0, "a", None),
+        (0, "number", None),
+        (2, "a", None),
+    ] {
+        assert_eq!(rt;
+            groups.to_index(pattern(rt, number), name),
+            want,
+            "{number}, {name}"
+        );
+    }
+}
+
 #[test]
-fn captures(rt: HostRuntime) -> Result<(), Fail> {
+fn captures_have_their_slots(rt: HostRuntime) -> Result<(), Fail> {
     let alloc = rt.alloc();
     let groups = two_patterns(alloc)?;
     assert_eq!(rt; Captures::matches(alloc, groups.clone()?)?.slots().len(), 4);
     assert_eq!(rt; Captures::empty(alloc, groups.clone()?)?.slots().len(), 0);
+    expect_blank(&rt, &Captures::all(alloc, groups)?);
+    Ok(())
+}
 
-    let mut captures = Captures::all(alloc, groups)?;
+fn expect_blank(rt: &impl Abort, captures: &Captures) {
     assert_eq!(rt; captures.slots().len(), 12);
     assert_eq!(rt; captures.group_info().slot_len(), 12);
     assert!(rt; !captures.is_match());
     assert_eq!(rt; captures.pattern(), None);
     assert_eq!(rt; (captures.get_match(), captures.get_group(0)), (None, None));
+}
 
-    captures.set_pattern(Some(pattern(&rt, 0)));
+#[test]
+fn captures_tell_what_was_written(rt: HostRuntime) -> Result<(), Fail> {
+    let groups = two_patterns(rt.alloc())?;
+    let mut captures = Captures::all(rt.alloc(), groups)?;
+    write_match(&rt, &mut captures);
+    expect_match(&rt, &mut captures.clone()?);
+    expect_match(&rt, &mut captures);
+    Ok(())
+}
+
+// A match of the first pattern from 1 to 8, with its second group from 2 to 4.
+fn write_match(rt: &impl Abort, captures: &mut Captures) {
+    captures.set_pattern(Some(pattern(rt, 0)));
     for (slot, offset) in [(0, 1), (1, 8), (6, 2), (7, 4)] {
         let slots = captures.slots_mut();
         assert!(rt; slot < slots.len());
         slots[slot] = NonMaxUsize::new(offset);
     }
-    let copy = captures.clone()?;
-    for captures in [copy, captures] {
-        assert!(rt; captures.is_match());
-        assert_eq!(rt; captures.pattern(), Some(pattern(&rt, 0)));
-        assert_eq!(rt;
-            captures.get_match(),
-            Some(Match::new(pattern(&rt, 0), span(1, 8)))
-        );
-        assert_eq!(rt; captures.get_group(0), Some(span(1, 8)));
-        assert_eq!(rt;
-            (captures.get_group(1), captures.get_group(3)),
-            (None, None)
-        );
-        assert_eq!(rt; captures.get_group(2), Some(span(2, 4)));
-        assert_eq!(rt; captures.get_group_by_name("numbers"), Some(span(2, 4)));
-        assert_eq!(rt; captures.get_group_by_name("a"), None);
-        let mut captures = captures;
-        assert_eq!(rt; captures.slots().len(), 12);
-        set_seven(&mut captures, 6);
-        assert_eq!(rt; captures.get_group(2), None);
-    }
+}
+
+// That match is told, and no longer once its group starts behind its end.
+fn expect_match(rt: &impl Abort, captures: &mut Captures) {
+    expect_groups(rt, captures);
+    assert_eq!(rt; captures.slots().len(), 12);
+    set_seven(captures, 6);
+    assert_eq!(rt; captures.get_group(2), None);
+}
+
+fn expect_groups(rt: &impl Abort, captures: &Captures) {
+    assert!(rt; captures.is_match());
+    assert_eq!(rt; captures.pattern(), Some(pattern(rt, 0)));
+    assert_eq!(rt;
+        captures.get_match(),
+        Some(Match::new(pattern(rt, 0), span(1, 8)))
+    );
+    assert_eq!(rt; captures.get_group(0), Some(span(1, 8)));
+    assert_eq!(rt;
+        (captures.get_group(1), captures.get_group(3)),
+        (None, None)
+    );
+    assert_eq!(rt; captures.get_group(2), Some(span(2, 4)));
+    assert_eq!(rt; captures.get_group_by_name("numbers"), Some(span(2, 4)));
+    assert_eq!(rt; captures.get_group_by_name("a"), None);
+}
+
+// The text of the value is this one.
+fn expect_shown<T: Debug>(
+    rt: &impl Abort,
+    alloc: Global,
+    value: &T,
+    want: &str,
+) -> Result<(), AllocError> {
+    let text = format!(in alloc; "{value:?}")?;
+    assert_eq!(rt; text.as_str(), want);
     Ok(())
 }
 
 #[test]
-fn debug_texts(rt: HostRuntime) -> Result<(), Fail> {
+fn debug_texts_of_numbers(rt: HostRuntime) -> Result<(), Fail> {
+    let alloc = rt.alloc();
+    expect_shown(&rt, alloc, &pattern(&rt, 1), "PatternID { index: 1 }")?;
+    expect_shown(&rt, alloc, &StateID::new(2), "Some(StateID(2))")?;
+    expect_shown(&rt, alloc, &NonMaxUsize::new(3), "Some(NonMaxUsize(3))")?;
+    expect_shown(&rt, alloc, &Refused, "Refused")?;
+    expect_shown(&rt, alloc, &MatchKind::LeftmostFirst, "LeftmostFirst")?;
+    let quit = MatchError::Quit {
+        byte: 255,
+        offset: 4,
+    };
+    expect_shown(&rt, alloc, &quit, "Quit { byte: 255, offset: 4 }")?;
+    Ok(())
+}
+
+#[test]
+fn debug_texts_of_searches(rt: HostRuntime) -> Result<(), Fail> {
     let alloc = rt.alloc();
     let one = pattern(&rt, 1);
-    let input = Input::new(b"a").anchored(Anchored::Pattern(one));
+    expect_shown(
+        &rt,
+        alloc,
+        &Input::new(b"a").anchored(Anchored::Pattern(one)),
+        "Input { haystack: [97], span: Span { start: 0, end: 1 }, \
+        anchored: Pattern(PatternID { index: 1 }), earliest: false }",
+    )?;
+    expect_shown(
+        &rt,
+        alloc,
+        &HalfMatch::new(one, 4),
+        "HalfMatch { pattern: PatternID { index: 1 }, offset: 4 }",
+    )?;
+    expect_shown(
+        &rt,
+        alloc,
+        &Match::new(one, span(2, 4)),
+        "Match { pattern: PatternID { index: 1 }, span: Span { start: 2, end: 4 } }",
+    )?;
+    Ok(())
+}
+
+#[test]
+fn debug_texts_of_sets(rt: HostRuntime) -> Result<(), Fail> {
+    let alloc = rt.alloc();
     let mut set = PatternSet::new(alloc, 1)?;
     set.try_insert(pattern(&rt, 0));
+    expect_shown(&rt, alloc, &set, "PatternSet { which: [true], len: 1 }")?;
+    expect_shown(
+        &rt,
+        alloc,
+        &set.iter(),
+        "PatternSetIter { which: [true], next: 0 }",
+    )?;
+    Ok(())
+}
+
+#[test]
+fn debug_texts_of_groups(rt: HostRuntime) -> Result<(), Fail> {
+    let alloc = rt.alloc();
     let names = vec![in alloc; Some(String::from_str(alloc, "n")?)]?;
     let groups = GroupInfo::new(vec![in alloc; names]?).ok_or("too many slots")?;
-    for (text, want) in [
-        (format!(in alloc; "{:?}", one)?, "PatternID { index: 1 }"),
-        (
-            format!(in alloc; "{:?}", StateID::new(2))?,
-            "Some(StateID(2))",
-        ),
-        (
-            format!(in alloc; "{:?}", NonMaxUsize::new(3))?,
-            "Some(NonMaxUsize(3))",
-        ),
-        (format!(in alloc; "{:?}", Refused)?, "Refused"),
-        (
-            format!(in alloc; "{:?}", MatchKind::LeftmostFirst)?,
-            "LeftmostFirst",
-        ),
-        (
-            format!(in alloc; "{:?}", input)?,
-            "Input { haystack: [97], span: Span { start: 0, end: 1 }, \
-            anchored: Pattern(PatternID { index: 1 }), earliest: false }",
-        ),
-        (
-            format!(in alloc; "{:?}", HalfMatch::new(one, 4))?,
-            "HalfMatch { pattern: PatternID { index: 1 }, offset: 4 }",
-        ),
-        (
-            format!(in alloc; "{:?}", Match::new(one, span(2, 4)))?,
-            "Match { pattern: PatternID { index: 1 }, span: Span { start: 2, end: 4 } }",
-        ),
-        (
-            format!(in alloc;
-                "{:?}",
-                MatchError::Quit {
-                    byte: 255,
-                    offset: 4
-                }
-            )?,
-            "Quit { byte: 255, offset: 4 }",
-        ),
-        (
-            format!(in alloc; "{:?}", set)?,
-            "PatternSet { which: [true], len: 1 }",
-        ),
-        (
-            format!(in alloc; "{:?}", set.iter())?,
-            "PatternSetIter { which: [true], next: 0 }",
-        ),
-        (
-            format!(in alloc; "{:?}", groups)?,
-            "GroupInfo { names: [[Some(\"n\")]], slot_len: 4 }",
-        ),
-        (
-            format!(in alloc; "{:?}", Captures::matches(alloc, groups)?)?,
-            "Captures { group_info: GroupInfo { names: [[Some(\"n\")]], slot_len: 4 }, pattern: None, \
-            slots: [None, None] }",
-        ),
-    ] {
-        assert_eq!(rt; text.as_str(), want);
-    }
+    expect_shown(
+        &rt,
+        alloc,
+        &groups,
+        "GroupInfo { names: [[Some(\"n\")]], slot_len: 4 }",
+    )?;
+    expect_shown(
+        &rt,
+        alloc,
+        &Captures::matches(alloc, groups)?,
+        "Captures { group_info: GroupInfo { names: [[Some(\"n\")]], slot_len: 4 }, pattern: None, \
+        slots: [None, None] }",
+    )?;
     Ok(())
 }
 
