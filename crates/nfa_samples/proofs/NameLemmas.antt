@@ -1,6 +1,6 @@
--- A name that stands among the names is not none of them.
+-- A name that stands among the names is not none of them, and what two lists of names tell together.
 use Rattle.std.proofs.Common.{◌≡◌, ℕ, zero, suc, ◌<◌, ◌↔◌, List, [], ◌∷◌, Option, None, Some, Result, Ok, Err, length}
-use Rattle.std.proofs.Common.{slice_index_or, arith, rules}
+use Rattle.std.proofs.Common.{◌++◌, slice_index_or, arith, rules}
 use Rattle.std.specs.Prelude.{IsNone, IsSome, IfOk, IfErr}
 use Rattle.nfa_samples.specs.Names.{IsNoneOf}
 
@@ -25,3 +25,38 @@ pub error-among : {A E : Type 0} (r : Result (Option A) E) (k : ℕ) (name : Lis
     → k < length names → name ≡ slice_index_or names k [] → IfErr r (λ e. ¬ (IsNoneOf name names))
 error-among (Ok found) k name names below is = search rules
 error-among (Err e) k name names below is = λ none. among k name names below is none
+
+-- a name that is none of two lists is none of the first
+none-left : (name : List ℕ) (xs ys : List (List ℕ)) → IsNoneOf name (xs ++ ys) → IsNoneOf name xs
+none-left name [] ys none = tt
+none-left name (x ∷ xs) ys none = (none.0, none-left name xs ys none.1)
+
+-- and none of the second
+none-right : (name : List ℕ) (xs ys : List (List ℕ)) → IsNoneOf name (xs ++ ys) → IsNoneOf name ys
+none-right name [] ys none = none
+none-right name (x ∷ xs) ys none = none-right name xs ys none.1
+
+-- one that is none of either is none of both
+none-both : (name : List ℕ) (xs ys : List (List ℕ)) → IsNoneOf name xs → IsNoneOf name ys → IsNoneOf name (xs ++ ys)
+none-both name [] ys left right = right
+none-both name (x ∷ xs) ys left right = (left.0, none-both name xs ys left.1 right)
+
+-- an error of a name of the first list is one of a name of both
+pub first-known : {A E : Type 0} (r : Result (Option A) E) (name : List ℕ) (xs ys : List (List ℕ))
+    → ¬ (IsNoneOf name xs) → IfErr r (λ e. ¬ (IsNoneOf name (xs ++ ys)))
+first-known (Ok found) name xs ys known = search rules
+first-known (Err e) name xs ys known = λ none. known (none-left name xs ys none)
+
+-- and so is one of a name of the second
+pub rest-known : {A E : Type 0} (r : Result (Option A) E) (name : List ℕ) (xs ys : List (List ℕ))
+    → IfErr r (λ e. ¬ (IsNoneOf name ys)) → IfErr r (λ e. ¬ (IsNoneOf name (xs ++ ys)))
+rest-known (Ok found) name xs ys known = search rules
+rest-known (Err e) name xs ys known = λ none. known (none-right name xs ys none)
+
+-- behind a list that lacks the name, what tells of the second tells of both
+pub rest-none : {A E : Type 0} (r : Result (Option A) E) (name : List ℕ) (xs ys : List (List ℕ))
+    → IsNoneOf name xs → IfOk r (λ found. IsNone found ↔ IsNoneOf name ys)
+    → IfOk r (λ found. IsNone found ↔ IsNoneOf name (xs ++ ys))
+rest-none (Ok found) name xs ys none tells =
+    (λ is. none-both name xs ys none (tells.0 is), λ both. tells.1 (none-right name xs ys both))
+rest-none (Err e) name xs ys none tells = search rules

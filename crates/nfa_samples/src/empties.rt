@@ -1,13 +1,35 @@
 //! The states of samples that may match the empty text.
-ghost use Rattle.std.specs.Prelude.{IsOkUnless};
+ghost use Rattle.std.specs.Prelude.{◌↔◌, IfErr, IfOk, IsNone, IsOkUnless};
+ghost use Rattle.nfa_samples.specs.Names.{IsNoneOf, empty_names};
 
 use crate::draft::Draft;
 use crate::draft::Row::{Assert, Byte, Capture, Either, Match};
+use crate::some;
 use std::alloc::Global;
 use thompson_nfa::{BuildError, Look, NFA};
 
+/// The sample of that name, or None where no sample that may match the empty text has it.
+pub fn named(alloc: Global, name: &str) -> Result<Option<NFA>, BuildError>
+    ensures none { IfOk result (λ found. IsNone found ↔ IsNoneOf name.now empty_names) }
+    ensures known { IfErr result (λ _. ¬ (IsNoneOf name.now empty_names)) }
+    ensures memory { IsOkUnless result BuildError.Memory }
+{
+    match name {
+        "a_or_empty" => some(a_or_empty(alloc)),
+        "empty_or_a" => some(empty_or_a(alloc)),
+        "empty" => some(empty(alloc)),
+        "empty_bytes" => some(empty_bytes(alloc)),
+        "empty_anchored" => some(empty_anchored(alloc)),
+        "a_star" => some(a_star(alloc)),
+        "a_star_bytes" => some(a_star_bytes(alloc)),
+        "loop" => some(empty_loop(alloc)),
+        "snowman" => some(snowman(alloc)),
+        _ => Ok(None),
+    }
+}
+
 /// `a|`.
-pub fn a_or_empty(alloc: Global) -> Result<NFA, BuildError>
+fn a_or_empty(alloc: Global) -> Result<NFA, BuildError>
     ensures { IsOkUnless result BuildError.Memory }
 {
     Draft {
@@ -27,7 +49,7 @@ pub fn a_or_empty(alloc: Global) -> Result<NFA, BuildError>
 }
 
 /// `|a`.
-pub fn empty_or_a(alloc: Global) -> Result<NFA, BuildError>
+fn empty_or_a(alloc: Global) -> Result<NFA, BuildError>
     ensures { IsOkUnless result BuildError.Memory }
 {
     Draft {
@@ -47,7 +69,7 @@ pub fn empty_or_a(alloc: Global) -> Result<NFA, BuildError>
 }
 
 /// The empty pattern.
-pub fn empty(alloc: Global) -> Result<NFA, BuildError>
+fn empty(alloc: Global) -> Result<NFA, BuildError>
     ensures { IsOkUnless result BuildError.Memory }
 {
     Draft {
@@ -61,7 +83,7 @@ pub fn empty(alloc: Global) -> Result<NFA, BuildError>
 }
 
 /// The empty pattern, without UTF-8 mode.
-pub fn empty_bytes(alloc: Global) -> Result<NFA, BuildError>
+fn empty_bytes(alloc: Global) -> Result<NFA, BuildError>
     ensures { IsOkUnless result BuildError.Memory }
 {
     Draft {
@@ -75,7 +97,7 @@ pub fn empty_bytes(alloc: Global) -> Result<NFA, BuildError>
 }
 
 /// The empty pattern, always anchored.
-pub fn empty_anchored(alloc: Global) -> Result<NFA, BuildError>
+fn empty_anchored(alloc: Global) -> Result<NFA, BuildError>
     ensures { IsOkUnless result BuildError.Memory }
 {
     Draft {
@@ -89,7 +111,7 @@ pub fn empty_anchored(alloc: Global) -> Result<NFA, BuildError>
 }
 
 /// `a*`.
-pub fn a_star(alloc: Global) -> Result<NFA, BuildError>
+fn a_star(alloc: Global) -> Result<NFA, BuildError>
     ensures { IsOkUnless result BuildError.Memory }
 {
     Draft {
@@ -109,7 +131,7 @@ pub fn a_star(alloc: Global) -> Result<NFA, BuildError>
 }
 
 /// `a*`, without UTF-8 mode.
-pub fn a_star_bytes(alloc: Global) -> Result<NFA, BuildError>
+fn a_star_bytes(alloc: Global) -> Result<NFA, BuildError>
     ensures { IsOkUnless result BuildError.Memory }
 {
     Draft {
@@ -129,7 +151,7 @@ pub fn a_star_bytes(alloc: Global) -> Result<NFA, BuildError>
 }
 
 /// A loop that takes no byte and sets the start of group 1, whose end is never set.
-pub fn empty_loop(alloc: Global) -> Result<NFA, BuildError>
+fn empty_loop(alloc: Global) -> Result<NFA, BuildError>
     ensures { IsOkUnless result BuildError.Memory }
 {
     Draft {
@@ -149,7 +171,7 @@ pub fn empty_loop(alloc: Global) -> Result<NFA, BuildError>
 }
 
 /// `☃|(?-u:\B)`.
-pub fn snowman(alloc: Global) -> Result<NFA, BuildError>
+fn snowman(alloc: Global) -> Result<NFA, BuildError>
     ensures { IsOkUnless result BuildError.Memory }
 {
     Draft {

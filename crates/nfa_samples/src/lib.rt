@@ -29,37 +29,13 @@ pub fn sample(alloc: Global, name: &str) -> Result<Option<NFA>, BuildError>
     ensures known { IfErr result (λ _. ¬ (IsNoneOf name.now sample_names)) }
     ensures memory { IsOkUnless result BuildError.Memory }
 {
-    match name {
-        "abc" => some(words::abc(alloc)),
-        "ab_b" => some(words::ab_b(alloc)),
-        "ab_abc" => some(words::ab_abc(alloc)),
-        "abc_ab" => some(words::abc_ab(alloc)),
-        "abc_b" => some(words::abc_b(alloc)),
-        "foo_bar" => some(words::foo_bar(alloc)),
-        "b_a" => some(words::b_a(alloc)),
-        "abc_a" => some(words::abc_a(alloc)),
-        "a_or_empty" => some(empties::a_or_empty(alloc)),
-        "empty_or_a" => some(empties::empty_or_a(alloc)),
-        "empty" => some(empties::empty(alloc)),
-        "empty_bytes" => some(empties::empty_bytes(alloc)),
-        "empty_anchored" => some(empties::empty_anchored(alloc)),
-        "a_star" => some(empties::a_star(alloc)),
-        "a_star_bytes" => some(empties::a_star_bytes(alloc)),
-        "groups" => some(tables::groups(alloc)),
-        "loop" => some(empties::empty_loop(alloc)),
-        "a_bare" => some(tables::a_bare(alloc)),
-        "a_pair" => some(tables::a_pair(alloc)),
-        "backwards" => some(tables::backwards(alloc)),
-        "snowman" => some(empties::snowman(alloc)),
-        "three_digits" => some(tables::three_digits(alloc)),
-        "alnum100" => some(tables::alnum100(alloc)),
-        "words_numbers" => some(tables::words_numbers(alloc)),
-        "abcd_b" => some(words::abcd_b(alloc)),
-        "foo_num" => some(tables::foo_num(alloc)),
-        "date" => some(tables::date(alloc)),
-        "six" => some(tables::six(alloc)),
-        _ => Ok(None),
+    if let Some(nfa) = words::named(alloc, name)? {
+        return Ok(Some(nfa));
     }
+    if let Some(nfa) = empties::named(alloc, name)? {
+        return Ok(Some(nfa));
+    }
+    tables::named(alloc, name)
 }
 
 // The NFA that was made, or why it was not.

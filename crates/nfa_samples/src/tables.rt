@@ -1,15 +1,38 @@
 //! The states of the other samples.
-ghost use Rattle.std.specs.Prelude.{◌≡◌, length, true, IfOk, IsOkUnless};
+ghost use Rattle.std.specs.Prelude.{◌↔◌, ◌≡◌, length, true, IfErr, IfOk, IsNone, IsOkUnless};
 ghost use Rattle.std.specs.List.{list_all};
+ghost use Rattle.nfa_samples.specs.Names.{IsNoneOf, table_names};
 ghost use Rattle.nfa_samples.specs.Drafts.{is_row};
 
 use crate::draft::Draft;
 use crate::draft::Row::{self, Assert, Byte, Capture, Either, Match, Range, Ranges};
+use crate::some;
 use std::alloc::{AllocError, Global};
 use thompson_nfa::{BuildError, Look, NFA};
 
+/// The sample of that name, or None where no other sample has it.
+pub fn named(alloc: Global, name: &str) -> Result<Option<NFA>, BuildError>
+    ensures none { IfOk result (λ found. IsNone found ↔ IsNoneOf name.now table_names) }
+    ensures known { IfErr result (λ _. ¬ (IsNoneOf name.now table_names)) }
+    ensures memory { IsOkUnless result BuildError.Memory }
+{
+    match name {
+        "groups" => some(groups(alloc)),
+        "a_bare" => some(a_bare(alloc)),
+        "a_pair" => some(a_pair(alloc)),
+        "backwards" => some(backwards(alloc)),
+        "three_digits" => some(three_digits(alloc)),
+        "alnum100" => some(alnum100(alloc)),
+        "words_numbers" => some(words_numbers(alloc)),
+        "foo_num" => some(foo_num(alloc)),
+        "date" => some(date(alloc)),
+        "six" => some(six(alloc)),
+        _ => Ok(None),
+    }
+}
+
 /// `(a)c|(ab)`.
-pub fn groups(alloc: Global) -> Result<NFA, BuildError>
+fn groups(alloc: Global) -> Result<NFA, BuildError>
     ensures { IsOkUnless result BuildError.Memory }
 {
     Draft {
@@ -36,7 +59,7 @@ pub fn groups(alloc: Global) -> Result<NFA, BuildError>
 }
 
 /// `a`, without captures.
-pub fn a_bare(alloc: Global) -> Result<NFA, BuildError>
+fn a_bare(alloc: Global) -> Result<NFA, BuildError>
     ensures { IsOkUnless result BuildError.Memory }
 {
     Draft {
@@ -50,7 +73,7 @@ pub fn a_bare(alloc: Global) -> Result<NFA, BuildError>
 }
 
 /// `a`, without captures and always anchored: a pair of states.
-pub fn a_pair(alloc: Global) -> Result<NFA, BuildError>
+fn a_pair(alloc: Global) -> Result<NFA, BuildError>
     ensures { IsOkUnless result BuildError.Memory }
 {
     Draft {
@@ -64,7 +87,7 @@ pub fn a_pair(alloc: Global) -> Result<NFA, BuildError>
 }
 
 /// `a`, whose end is captured before the byte and whose start after it.
-pub fn backwards(alloc: Global) -> Result<NFA, BuildError>
+fn backwards(alloc: Global) -> Result<NFA, BuildError>
     ensures { IsOkUnless result BuildError.Memory }
 {
     Draft {
@@ -78,7 +101,7 @@ pub fn backwards(alloc: Global) -> Result<NFA, BuildError>
 }
 
 /// `\b[0-9]{3}\b`.
-pub fn three_digits(alloc: Global) -> Result<NFA, BuildError>
+fn three_digits(alloc: Global) -> Result<NFA, BuildError>
     ensures { IsOkUnless result BuildError.Memory }
 {
     Draft {
@@ -101,7 +124,7 @@ pub fn three_digits(alloc: Global) -> Result<NFA, BuildError>
 }
 
 /// `[0-9A-Za-z]{100}`.
-pub fn alnum100(alloc: Global) -> Result<NFA, BuildError>
+fn alnum100(alloc: Global) -> Result<NFA, BuildError>
     ensures { IsOkUnless result BuildError.Memory }
 {
     let rows = alnum100_rows(alloc)?;
@@ -132,7 +155,7 @@ fn alnum100_rows(alloc: Global) -> Result<Vec<Row<'static>>, AllocError>
 const ALNUM: [(u8, u8); 3] = [(b'0', b'9'), (b'A', b'Z'), (b'a', b'z')];
 
 /// `[a-z]+` and `[0-9]+`.
-pub fn words_numbers(alloc: Global) -> Result<NFA, BuildError>
+fn words_numbers(alloc: Global) -> Result<NFA, BuildError>
     ensures { IsOkUnless result BuildError.Memory }
 {
     Draft {
@@ -158,7 +181,7 @@ pub fn words_numbers(alloc: Global) -> Result<NFA, BuildError>
 }
 
 /// `foo(?P<numbers>[0-9]+)`.
-pub fn foo_num(alloc: Global) -> Result<NFA, BuildError>
+fn foo_num(alloc: Global) -> Result<NFA, BuildError>
     ensures { IsOkUnless result BuildError.Memory }
 {
     Draft {
@@ -183,7 +206,7 @@ pub fn foo_num(alloc: Global) -> Result<NFA, BuildError>
 }
 
 /// `^([0-9]{4})-([0-9]{2})-([0-9]{2})$`, always anchored.
-pub fn date(alloc: Global) -> Result<NFA, BuildError>
+fn date(alloc: Global) -> Result<NFA, BuildError>
     ensures { IsOkUnless result BuildError.Memory }
 {
     Draft {
@@ -221,7 +244,7 @@ pub fn date(alloc: Global) -> Result<NFA, BuildError>
 const LOWER_OR_DIGIT: [(u8, u8); 2] = [(b'0', b'9'), (b'a', b'z')];
 
 /// `[a-z0-9]{6}` and `[a-z][a-z0-9]{5}`.
-pub fn six(alloc: Global) -> Result<NFA, BuildError>
+fn six(alloc: Global) -> Result<NFA, BuildError>
     ensures { IsOkUnless result BuildError.Memory }
 {
     Draft {

@@ -1,13 +1,35 @@
 //! The states of samples whose patterns are words.
-ghost use Rattle.std.specs.Prelude.{IsOkUnless};
+ghost use Rattle.std.specs.Prelude.{◌↔◌, IfErr, IfOk, IsNone, IsOkUnless};
+ghost use Rattle.nfa_samples.specs.Names.{IsNoneOf, word_names};
 
 use crate::draft::Draft;
 use crate::draft::Row::{Byte, Capture, Either, Match, Union};
+use crate::some;
 use std::alloc::Global;
 use thompson_nfa::{BuildError, NFA};
 
+/// The sample of that name, or None where no sample of words has it.
+pub fn named(alloc: Global, name: &str) -> Result<Option<NFA>, BuildError>
+    ensures none { IfOk result (λ found. IsNone found ↔ IsNoneOf name.now word_names) }
+    ensures known { IfErr result (λ _. ¬ (IsNoneOf name.now word_names)) }
+    ensures memory { IsOkUnless result BuildError.Memory }
+{
+    match name {
+        "abc" => some(abc(alloc)),
+        "ab_b" => some(ab_b(alloc)),
+        "ab_abc" => some(ab_abc(alloc)),
+        "abc_ab" => some(abc_ab(alloc)),
+        "abc_b" => some(abc_b(alloc)),
+        "foo_bar" => some(foo_bar(alloc)),
+        "b_a" => some(b_a(alloc)),
+        "abc_a" => some(abc_a(alloc)),
+        "abcd_b" => some(abcd_b(alloc)),
+        _ => Ok(None),
+    }
+}
+
 /// `abc`.
-pub fn abc(alloc: Global) -> Result<NFA, BuildError>
+fn abc(alloc: Global) -> Result<NFA, BuildError>
     ensures { IsOkUnless result BuildError.Memory }
 {
     Draft {
@@ -28,7 +50,7 @@ pub fn abc(alloc: Global) -> Result<NFA, BuildError>
 }
 
 /// `ab` and `b`.
-pub fn ab_b(alloc: Global) -> Result<NFA, BuildError>
+fn ab_b(alloc: Global) -> Result<NFA, BuildError>
     ensures { IsOkUnless result BuildError.Memory }
 {
     Draft {
@@ -53,7 +75,7 @@ pub fn ab_b(alloc: Global) -> Result<NFA, BuildError>
 }
 
 /// `ab` and `abc`.
-pub fn ab_abc(alloc: Global) -> Result<NFA, BuildError>
+fn ab_abc(alloc: Global) -> Result<NFA, BuildError>
     ensures { IsOkUnless result BuildError.Memory }
 {
     Draft {
@@ -80,7 +102,7 @@ pub fn ab_abc(alloc: Global) -> Result<NFA, BuildError>
 }
 
 /// `abc` and `ab`.
-pub fn abc_ab(alloc: Global) -> Result<NFA, BuildError>
+fn abc_ab(alloc: Global) -> Result<NFA, BuildError>
     ensures { IsOkUnless result BuildError.Memory }
 {
     Draft {
@@ -107,7 +129,7 @@ pub fn abc_ab(alloc: Global) -> Result<NFA, BuildError>
 }
 
 /// `abc` and `b`.
-pub fn abc_b(alloc: Global) -> Result<NFA, BuildError>
+fn abc_b(alloc: Global) -> Result<NFA, BuildError>
     ensures { IsOkUnless result BuildError.Memory }
 {
     Draft {
@@ -133,7 +155,7 @@ pub fn abc_b(alloc: Global) -> Result<NFA, BuildError>
 }
 
 /// `foo`, `bar`, `barfoo` and `foobar`.
-pub fn foo_bar(alloc: Global) -> Result<NFA, BuildError>
+fn foo_bar(alloc: Global) -> Result<NFA, BuildError>
     ensures { IsOkUnless result BuildError.Memory }
 {
     Draft {
@@ -179,7 +201,7 @@ pub fn foo_bar(alloc: Global) -> Result<NFA, BuildError>
 }
 
 /// `b` and `a`, of which the second pattern is preferred.
-pub fn b_a(alloc: Global) -> Result<NFA, BuildError>
+fn b_a(alloc: Global) -> Result<NFA, BuildError>
     ensures { IsOkUnless result BuildError.Memory }
 {
     Draft {
@@ -204,7 +226,7 @@ pub fn b_a(alloc: Global) -> Result<NFA, BuildError>
 
 /// `abc|a`. The end of the pattern comes before the branches, so an order by state numbers is not
 /// the order of preference.
-pub fn abc_a(alloc: Global) -> Result<NFA, BuildError>
+fn abc_a(alloc: Global) -> Result<NFA, BuildError>
     ensures { IsOkUnless result BuildError.Memory }
 {
     Draft {
@@ -227,7 +249,7 @@ pub fn abc_a(alloc: Global) -> Result<NFA, BuildError>
 }
 
 /// `abcd|b`.
-pub fn abcd_b(alloc: Global) -> Result<NFA, BuildError>
+fn abcd_b(alloc: Global) -> Result<NFA, BuildError>
     ensures { IsOkUnless result BuildError.Memory }
 {
     Draft {

@@ -1,23 +1,28 @@
--- A name that is not known is none of the table.
-use Rattle.std.proofs.Common.{lit<}
-use Rattle.nfa_samples.specs.Names.{sample_names}
-use Rattle.nfa_samples.proofs.NameLemmas.{found-among, error-among}
+-- What the three tables tell of a name, one after the other, is what the list of all names tells.
+use Rattle.std.proofs.Common.{◌++◌, rules}
+use Rattle.nfa_samples.specs.Names.{word_names, empty_names, table_names}
+use Rattle.nfa_samples.proofs.NameLemmas.{first-known, rest-known, rest-none}
 use Rattle.nfa_samples.proofs.sample.Goals as goal
 
-pub returns-in-empty_bytes-clause-none : goal.returns-in-empty_bytes-clause-none
-returns-in-empty_bytes-clause-none c =
-    found-among c.some-in-empty_bytes.result 11 c.args.name.now sample_names (lit< tt) c.in-empty_bytes.is
-    c.some-in-empty_bytes.ensures.made
+pub returns-in_err-nfa-clause-known : goal.returns-in_err-nfa-clause-known
+returns-in_err-nfa-clause-known c =
+    first-known c.from_residual.result c.args.name.now word_names (empty_names ++ table_names)
+    c.in_err-nfa.ensures.known
 
-pub returns-in-empty_bytes-clause-known : goal.returns-in-empty_bytes-clause-known
-returns-in-empty_bytes-clause-known c =
-    error-among c.some-in-empty_bytes.result 11 c.args.name.now sample_names (lit< tt) c.in-empty_bytes.is
+pub returns-in_err-nfa-2-clause-known : goal.returns-in_err-nfa-2-clause-known
+returns-in_err-nfa-2-clause-known c =
+    let r = c.from_residual-in_err-nfa-2.result in
+    rest-known r c.args.name.now word_names (empty_names ++ table_names)
+    (first-known r c.args.name.now empty_names table_names c.in_err-nfa-2.ensures.known)
 
-pub returns-in-a_star_bytes-clause-none : goal.returns-in-a_star_bytes-clause-none
-returns-in-a_star_bytes-clause-none c =
-    found-among c.some-in-a_star_bytes.result 14 c.args.name.now sample_names (lit< tt) c.in-a_star_bytes.is
-    c.some-in-a_star_bytes.ensures.made
+pub returns-clause-none : goal.returns-clause-none
+returns-clause-none c =
+    rest-none c.named-3.result c.args.name.now word_names (empty_names ++ table_names)
+    (c.in_ok-nfa.ensures.none.0 (search rules))
+    (rest-none c.named-3.result c.args.name.now empty_names table_names
+    (c.in_ok-nfa-2.ensures.none.0 (search rules)) c.named-3.ensures.none)
 
-pub returns-in-a_star_bytes-clause-known : goal.returns-in-a_star_bytes-clause-known
-returns-in-a_star_bytes-clause-known c =
-    error-among c.some-in-a_star_bytes.result 14 c.args.name.now sample_names (lit< tt) c.in-a_star_bytes.is
+pub returns-clause-known : goal.returns-clause-known
+returns-clause-known c =
+    rest-known c.named-3.result c.args.name.now word_names (empty_names ++ table_names)
+    (rest-known c.named-3.result c.args.name.now empty_names table_names c.named-3.ensures.known)
