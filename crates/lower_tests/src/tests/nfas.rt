@@ -48,7 +48,7 @@ fn states_of_each_kind(rt: &impl Abort, alloc: Global) -> Result<Vec<State>, All
         next: id(rt, 9),
     };
     let transitions = vec![in alloc; to_nine]?;
-    vec![in alloc;
+    Ok(vec![in alloc;
         State::Union { alternates },
         State::ByteRange { trans: to_nine },
         State::Sparse(transitions),
@@ -73,7 +73,7 @@ fn states_of_each_kind(rt: &impl Abort, alloc: Global) -> Result<Vec<State>, All
         State::Match {
             pattern_id: pattern(rt, 1)
         },
-    ]
+    ]?)
 }
 
 #[test]
@@ -324,7 +324,7 @@ fn the_nfa_that_always_matches(rt: HostRuntime) -> Result<(), Fail> {
     let always = NFA::always_match(rt.alloc())?;
     let want = "[Capture { next: StateID(1), slot: 0 }, Capture { next: StateID(2), slot: 1 }, \
         Match { pattern_id: PatternID { index: 0 } }]";
-    expect_shown(&rt, rt.alloc(), always.states(), want)?;
+    expect_shown(&rt, rt.alloc(), &always.states(), want)?;
     assert!(rt; always.is_always_start_anchored() && always.has_empty() && !always.is_utf8());
     assert_eq!(rt;
         (always.pattern_len(), always.group_info().slot_len()),
@@ -337,7 +337,7 @@ fn the_nfa_that_always_matches(rt: HostRuntime) -> Result<(), Fail> {
 #[test]
 fn the_nfa_that_never_matches(rt: HostRuntime) -> Result<(), Fail> {
     let never = NFA::never_match(rt.alloc())?;
-    expect_shown(&rt, rt.alloc(), never.states(), "[Fail]")?;
+    expect_shown(&rt, rt.alloc(), &never.states(), "[Fail]")?;
     assert!(rt; never.is_always_start_anchored() && !never.has_empty() && !never.is_utf8());
     assert_eq!(rt;
         (never.pattern_len(), never.group_info().pattern_len()),
@@ -353,7 +353,7 @@ fn the_nfa_that_never_matches(rt: HostRuntime) -> Result<(), Fail> {
 }
 
 // The text of the value is this one.
-fn expect_shown<T: Debug + ?Sized>(
+fn expect_shown<T: Debug>(
     rt: &impl Abort,
     alloc: Global,
     value: &T,
