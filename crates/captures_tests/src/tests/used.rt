@@ -52,9 +52,9 @@ fn expect_numbers(rt: &impl Abort, alloc: Global, vm: &PikeVM) -> Result<(), Fai
         b"foo1 foo12 foo123",
     )?;
     assert_eq!(rt; all.len(), 3);
-    for (captures, want) in all.iter().zip([(3, 4), (8, 10), (14, 17)]) {
+    for (captures, want) in all.iter().zip([(3, 4), (8, 10), (14, 17)].iter()) {
         let numbers = captures.get_group_by_name("numbers");
-        assert_eq!(rt; numbers.map(|span| (span.start, span.end)), Some(want));
+        assert_eq!(rt; numbers.map(|span| (span.start, span.end)), Some(*want));
     }
     Ok(())
 }

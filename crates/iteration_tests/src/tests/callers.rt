@@ -316,8 +316,8 @@ fn captures_at(alloc: Global, start: usize, end: usize) -> Result<Captures, Fail
 }
 
 fn set_slots(captures: &mut Captures, start: usize, end: usize) {
-    for (slot, offset) in captures.slots_mut().iter_mut().zip([start, end]) {
-        *slot = NonMaxUsize::new(offset);
+    for (slot, offset) in captures.slots_mut().iter_mut().zip([start, end].iter()) {
+        *slot = NonMaxUsize::new(*offset);
     }
 }
 

@@ -151,8 +151,8 @@ fn all_characters_are_the_well_formed_sequences(rt: HostRuntime) -> Result<(), F
         "(F4 80-8F 80-BF 80-BF 1 ) 0",
     ];
     assert_eq!(rt; found.len(), want.len());
-    for (text, want) in found.iter().zip(want) {
-        assert_eq!(rt; text.as_str(), want);
+    for (text, want) in found.iter().zip(want.iter()) {
+        assert_eq!(rt; text.as_str(), *want);
     }
     Ok(())
 }

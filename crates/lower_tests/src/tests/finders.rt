@@ -144,8 +144,8 @@ fn first_byte(alloc: Global) -> Result<Captures, Fail> {
 }
 
 fn mark_first_byte(slots: &mut [Option<NonMaxUsize>]) {
-    for (slot, offset) in slots.iter_mut().zip([0, 1]) {
-        *slot = NonMaxUsize::new(offset);
+    for (slot, offset) in slots.iter_mut().zip([0, 1].iter()) {
+        *slot = NonMaxUsize::new(*offset);
     }
 }
 

@@ -79,7 +79,7 @@ fn states_of_each_kind(rt: &impl Abort, alloc: Global) -> Result<Vec<State>, All
 #[test]
 fn assertions(rt: HostRuntime) {
     let e_acute = "é123".as_bytes();
-    for (look, haystack, places) in [
+    for &(look, haystack, places) in &[
         (Look::Start, b"ab".as_slice(), [true, false, false]),
         (Look::End, b"ab", [false, false, true]),
         (Look::WordAscii, b"a ", [true, true, false]),
@@ -109,7 +109,7 @@ fn assertions(rt: HostRuntime) {
             );
         }
     }
-    for (at, want) in [
+    for &(at, want) in &[
         (0, true),
         (1, false),
         (2, false),
@@ -129,7 +129,7 @@ fn assertions(rt: HostRuntime) {
 
 #[test]
 fn word_characters(rt: HostRuntime) {
-    for (text, is_word) in [
+    for &(text, is_word) in &[
         // a letter of four bytes, a mark, a decimal number, connector punctuation, the joiners
         ("𐐷", true),
         ("\u{0301}", true),
@@ -159,7 +159,7 @@ fn word_characters(rt: HostRuntime) {
         );
     }
     // A surrogate's three bytes, and four bytes past the last character, are no characters.
-    for bytes in [
+    for &bytes in &[
         b"\xED\xA0\x80".as_slice(),
         b"\xF4\x90\x80\x80",
         b"\xE2\x98",
@@ -366,7 +366,7 @@ fn expect_shown<T: Debug>(
 
 #[test]
 fn debug_texts(rt: HostRuntime) -> Result<(), Fail> {
-    for (look, want) in [
+    for &(look, want) in &[
         (Look::Start, "Start"),
         (Look::End, "End"),
         (Look::WordAscii, "WordAscii"),
@@ -393,7 +393,7 @@ fn debug_texts_of_states(rt: HostRuntime) -> Result<(), Fail> {
         "BinaryUnion { alt1: StateID(0), alt2: StateID(5) }",
         "Match { pattern_id: PatternID { index: 1 } }",
     ];
-    for (state, want) in nfa.states().iter().zip(states) {
+    for (state, want) in nfa.states().iter().zip(states.iter()) {
         expect_shown(&rt, rt.alloc(), state, want)?;
         expect_shown(&rt, rt.alloc(), &state.clone()?, want)?;
     }

@@ -7,7 +7,7 @@ use std::test::Fail;
 use thompson_nfa::{NFA, State, Transition};
 
 // A name, how many states there are, and the names of the explicit groups of each pattern.
-const STATE_COUNTS: [(&str, usize, &str); 28] = [
+const STATE_COUNTS: &[(&str, usize, &str)] = &[
     ("abc", 8, "[[]]"),
     ("ab_b", 12, "[[], []]"),
     ("ab_abc", 14, "[[], []]"),
@@ -40,7 +40,7 @@ const STATE_COUNTS: [(&str, usize, &str); 28] = [
 
 // Of each name the two starts, the pattern starts, the number of slots and the flags; then the
 // states, as `write_state` writes them.
-const SHAPES: [(&str, &str, &str); 27] = [
+const SHAPES: &[(&str, &str, &str)] = &[
     (
         "abc",
         "0 6 [0] 2 utf8",
@@ -189,7 +189,7 @@ fn expect_counts(
 
 #[test]
 fn each_name_has_so_many_states_and_these_groups(rt: HostRuntime) -> Result<(), Fail> {
-    for (name, count, groups) in STATE_COUNTS {
+    for &(name, count, groups) in STATE_COUNTS {
         let nfa = sample(rt.alloc(), name)?.ok_or("unknown name")?;
         expect_counts(&rt, rt.alloc(), &nfa, count, groups)?;
     }
@@ -198,7 +198,7 @@ fn each_name_has_so_many_states_and_these_groups(rt: HostRuntime) -> Result<(), 
 
 #[test]
 fn other_names_are_unknown(rt: HostRuntime) -> Result<(), Fail> {
-    for name in ["", "nothing", "ABC", "abc ", "ab"] {
+    for &name in &["", "nothing", "ABC", "abc ", "ab"] {
         assert!(rt; sample(rt.alloc(), name)?.is_none(), "{name}");
     }
     Ok(())
@@ -206,16 +206,18 @@ fn other_names_are_unknown(rt: HostRuntime) -> Result<(), Fail> {
 
 #[test]
 fn each_name_has_these_states(rt: HostRuntime) -> Result<(), Fail> {
-    for (name, head, states) in SHAPES {
+    for &(name, head, states) in SHAPES {
         let nfa = sample(rt.alloc(), name)?.ok_or("unknown name")?;
-        assert_eq!(rt; shown_head(rt.alloc(), &nfa)?.as_str(), head, "{name}");
-        assert_eq!(rt;
-            shown_states(rt.alloc(), nfa.states())?.as_str(),
-            states,
-            "{name}"
-        );
+        let shown = shown_head(rt.alloc(), &nfa)?;
+        expect_text(&rt, &shown, head, name);
+        let shown = shown_states(rt.alloc(), nfa.states())?;
+        expect_text(&rt, &shown, states, name);
     }
     Ok(())
+}
+
+fn expect_text(rt: &impl Abort, shown: &str, want: &str, name: &str) {
+    assert_eq!(rt; shown, want, "{name}");
 }
 
 #[test]

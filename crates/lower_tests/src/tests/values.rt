@@ -63,7 +63,7 @@ fn numbers(alloc: Global, set: &PatternSet) -> Result<Vec<usize>, AllocError>
 
 #[test]
 fn numbers_at_their_limits(rt: HostRuntime) {
-    for (number, fits) in [
+    for &(number, fits) in &[
         (0, true),
         (2147483646, true),
         (2147483647, false),
@@ -109,7 +109,7 @@ fn inputs(rt: HostRuntime) {
 #[test]
 fn boundaries(rt: HostRuntime) {
     let input = Input::new("a☃b".as_bytes());
-    for (offset, want) in [
+    for &(offset, want) in &[
         (0, true),
         (1, true),
         (2, false),
@@ -121,7 +121,7 @@ fn boundaries(rt: HostRuntime) {
         assert_eq!(rt; input.is_char_boundary(offset), want, "at {offset}");
     }
     let input = Input::new(b"\x00\x7F\x80\xBF\xC0\xFF");
-    for (offset, want) in [
+    for &(offset, want) in &[
         (0, true),
         (1, true),
         (2, false),
@@ -138,7 +138,7 @@ fn boundaries(rt: HostRuntime) {
 fn matches_of_slots(rt: HostRuntime) {
     let at = |offset| NonMaxUsize::new(offset);
     let row = [at(1), at(3), at(4), None, at(6), at(5), at(2), at(2)];
-    for (number, want) in [
+    for &(number, want) in &[
         (0, Some(span(1, 3))),
         (1, None),
         (2, None),
@@ -167,7 +167,7 @@ fn sets(rt: HostRuntime) -> Result<(), Fail> {
     let alloc = rt.alloc();
     let mut set = PatternSet::new(alloc, 3)?;
     assert!(rt; set.is_empty() && !set.is_full());
-    for (number, want) in [
+    for &(number, want) in &[
         (2, Some(true)),
         (0, Some(true)),
         (2, Some(false)),
@@ -202,7 +202,7 @@ fn expect_two_patterns(rt: &impl Abort, groups: &GroupInfo) {
     assert_eq!(rt; groups.pattern_len(), 2);
     assert_eq!(rt; groups.implicit_slot_len(), 4);
     assert_eq!(rt; groups.slot_len(), 12);
-    for (number, group, want) in [
+    for &(number, group, want) in &[
         (0, 0, Some(0)),
         (1, 0, Some(2)),
         (0, 1, Some(4)),
@@ -219,7 +219,7 @@ fn expect_two_patterns(rt: &impl Abort, groups: &GroupInfo) {
             "{number}, {group}"
         );
     }
-    for (number, name, want) in [
+    for &(number, name, want) in &[
         (0, "numbers", Some(2)),
         (1, "a", Some(1)),
         (0, "a", None),
@@ -265,7 +265,7 @@ fn captures_tell_what_was_written(rt: HostRuntime) -> Result<(), Fail> {
 // A match of the first pattern from 1 to 8, with its second group from 2 to 4.
 fn write_match(rt: &impl Abort, captures: &mut Captures) {
     captures.set_pattern(Some(pattern(rt, 0)));
-    for (slot, offset) in [(0, 1), (1, 8), (6, 2), (7, 4)] {
+    for &(slot, offset) in &[(0, 1), (1, 8), (6, 2), (7, 4)] {
         let slots = captures.slots_mut();
         assert!(rt; slot < slots.len());
         slots[slot] = NonMaxUsize::new(offset);

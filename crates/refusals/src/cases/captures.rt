@@ -178,9 +178,9 @@ fn first_byte(input: &Input<'_>, captures: &mut Captures) -> Result<(), SearchEr
     for (slot, offset) in captures
         .slots_mut()
         .iter_mut()
-        .zip([start, start.saturating_add(1)])
+        .zip([start, start.saturating_add(1)].iter())
     {
-        *slot = NonMaxUsize::new(offset);
+        *slot = NonMaxUsize::new(*offset);
     }
     captures.set_pattern(PatternID::new(0));
     let inside = match captures.get_match() {
