@@ -1,7 +1,10 @@
 //! Tests of drafts: the four examples of the crate's page, the order of preference, the numbers of groups, the bytes of
 //! characters, and each error.
 use nfa_draft::{Draft, DraftError, Expr};
-use std::alloc::Global;
+use regex_search_core::StateID;
+use std::alloc::{AllocError, Global};
+use std::fmt::Debug;
+use std::process::Abort;
 use std::test::Fail;
 use thompson_nfa::{BuildError, Look, NFA, State, Transition};
 
@@ -28,22 +31,32 @@ const MAYBE_A: Expr<'static> = Expr::Repeat {
 #[test]
 fn a_word(rt: HostRuntime) -> Result<(), Fail> {
     let nfa = Draft::new().build(rt.alloc(), &[Expr::Literal(b"foo")])?;
-    assert_eq!(rt; nfa.pattern_len(), 1);
-    assert!(rt; !nfa.has_empty() && nfa.is_utf8() && !nfa.is_always_start_anchored());
-    assert_eq!(rt; nfa.group_info().slot_len(), 2);
+    expect_word(&rt, &nfa);
     // A Match, two Captures, three bytes, and the two states of the prefix.
-    assert_eq!(rt; nfa.states().len(), 8);
+    expect_sizes(&rt, &nfa, [1, 8, 2]);
     let start = nfa.start_anchored().as_usize();
-    assert_eq!(rt; way(rt.alloc(), &nfa, start)?.as_str(), "(0 66 6F 6F 1 ) 0");
+    let shown = way(rt.alloc(), &nfa, start)?;
+    assert_eq!(rt; shown.as_str(), "(0 66 6F 6F 1 ) 0");
     Ok(())
+}
+
+fn expect_word(rt: &impl Abort, nfa: &NFA) {
+    assert!(rt; !nfa.has_empty() && nfa.is_utf8() && !nfa.is_always_start_anchored());
+}
+
+/// The NFA has so many patterns, states and slots.
+fn expect_sizes(rt: &impl Abort, nfa: &NFA, sizes: [usize; 3]) {
+    let [patterns, states, slots] = sizes;
+    assert_eq!(rt; nfa.pattern_len(), patterns);
+    assert_eq!(rt; nfa.states().len(), states);
+    assert_eq!(rt; nfa.group_info().slot_len(), slots);
 }
 
 #[test]
 fn a_number_with_a_name(rt: HostRuntime) -> Result<(), Fail> {
     let pattern = Expr::Concat(&[Expr::Literal(b"foo"), Expr::named("numbers", &NUMBER)]);
     let nfa = Draft::new().build(rt.alloc(), &[pattern])?;
-    assert_eq!(rt; nfa.states().len(), 12);
-    assert_eq!(rt; nfa.group_info().slot_len(), 4);
+    expect_sizes(&rt, &nfa, [1, 12, 4]);
     Ok(())
 }
 
@@ -52,8 +65,7 @@ fn several_patterns(rt: HostRuntime) -> Result<(), Fail> {
     let lower = Expr::Bytes(&[(b'a', b'z')]);
     let patterns = [Expr::plus(&lower), Expr::plus(&DIGIT)];
     let nfa = Draft::new().build(rt.alloc(), &patterns)?;
-    assert_eq!(rt; nfa.pattern_len(), 2);
-    assert_eq!(rt; nfa.states().len(), 13);
+    expect_sizes(&rt, &nfa, [2, 13, 4]);
     Ok(())
 }
 
@@ -82,20 +94,28 @@ fn the_order_of_preference(rt: HostRuntime) -> Result<(), Fail> {
         ),
     ] {
         let nfa = Draft::new().anchored().build(alloc, &[expr])?;
-        assert_eq!(rt;
-            format!(in alloc; "{:?}", nfa.states().get(2))?.as_str(),
-            want
-        );
+        expect_shown(&rt, alloc, &nfa.states().get(2), want)?;
     }
+    Ok(())
+}
+
+/// The text of the value is this one.
+fn expect_shown<T: Debug>(
+    rt: &impl Abort,
+    alloc: Global,
+    value: &T,
+    want: &str,
+) -> Result<(), AllocError> {
+    let text = format!(in alloc; "{value:?}")?;
+    assert_eq!(rt; text.as_str(), want);
     Ok(())
 }
 
 #[test]
 fn no_pattern_matches_nothing(rt: HostRuntime) -> Result<(), Fail> {
     let nfa = Draft::new().anchored().build(rt.alloc(), &[])?;
-    let states = format!(in rt.alloc(); "{:?}", nfa.states())?;
-    assert_eq!(rt; states.as_str(), "[Fail]");
-    assert!(rt; !nfa.has_empty());
+    expect_shown(&rt, rt.alloc(), &nfa.states(), "[Fail]")?;
+    expect_sizes(&rt, &nfa, [0, 1, 0]);
     Ok(())
 }
 
@@ -120,10 +140,15 @@ fn says_where_it_may_be_empty(rt: HostRuntime) -> Result<(), Fail> {
         (Expr::Alternation(&[A, A]), false),
         (Expr::Alternation(&[]), false),
     ] {
-        let nfa = Draft::new().build(rt.alloc(), &[expr])?;
-        assert_eq!(rt; nfa.has_empty(), want);
+        assert_eq!(rt; may_be_empty(rt.alloc(), expr)?, want);
     }
+    assert!(rt; !Draft::new().build(rt.alloc(), &[])?.has_empty());
     Ok(())
+}
+
+fn may_be_empty(alloc: Global, expr: Expr<'_>) -> Result<bool, DraftError> {
+    let nfa = Draft::new().build(alloc, &[expr])?;
+    Ok(nfa.has_empty())
 }
 
 #[test]
@@ -131,30 +156,52 @@ fn all_characters_are_the_well_formed_sequences(rt: HostRuntime) -> Result<(), F
     let alloc = rt.alloc();
     let all = Expr::Chars(&[('\0', '\u{10FFFF}')]);
     let nfa = Draft::new().anchored().build(alloc, &[all])?;
+    expect_texts(
+        &rt,
+        &ways_of_choices(alloc, &nfa)?,
+        &[
+            "(00-7F 1 ) 0",
+            "(C2-DF 80-BF 1 ) 0",
+            "(E0 A0-BF 80-BF 1 ) 0",
+            "(E1-EC 80-BF 80-BF 1 ) 0",
+            "(ED 80-9F 80-BF 1 ) 0",
+            "(EE-EF 80-BF 80-BF 1 ) 0",
+            "(F0 90-BF 80-BF 80-BF 1 ) 0",
+            "(F1-F3 80-BF 80-BF 80-BF 1 ) 0",
+            "(F4 80-8F 80-BF 80-BF 1 ) 0",
+        ],
+    );
+    Ok(())
+}
+
+/// The ways from the states of which a union is the choice.
+fn ways_of_choices(alloc: Global, nfa: &NFA) -> Result<Vec<String>, Fail> {
     let mut found = Vec::new(alloc);
     for state in nfa.states() {
         if let State::Union { alternates } = state {
-            for start in alternates {
-                found.push(way(alloc, &nfa, start.as_usize())?)?;
-            }
+            push_ways(alloc, nfa, alternates, &mut found)?;
         }
     }
-    let want = [
-        "(00-7F 1 ) 0",
-        "(C2-DF 80-BF 1 ) 0",
-        "(E0 A0-BF 80-BF 1 ) 0",
-        "(E1-EC 80-BF 80-BF 1 ) 0",
-        "(ED 80-9F 80-BF 1 ) 0",
-        "(EE-EF 80-BF 80-BF 1 ) 0",
-        "(F0 90-BF 80-BF 80-BF 1 ) 0",
-        "(F1-F3 80-BF 80-BF 80-BF 1 ) 0",
-        "(F4 80-8F 80-BF 80-BF 1 ) 0",
-    ];
-    assert_eq!(rt; found.len(), want.len());
-    for (text, want) in found.iter().zip(want.iter()) {
-        assert_eq!(rt; text.as_str(), *want);
+    Ok(found)
+}
+
+fn push_ways(
+    alloc: Global,
+    nfa: &NFA,
+    starts: &[StateID],
+    found: &mut Vec<String>,
+) -> Result<(), Fail> {
+    for start in starts {
+        found.push(way(alloc, nfa, start.as_usize())?)?;
     }
     Ok(())
+}
+
+fn expect_texts(rt: &impl Abort, found: &[String], want: &[&str]) {
+    assert_eq!(rt; found.len(), want.len());
+    for (text, want) in found.iter().zip(want) {
+        assert_eq!(rt; text.as_str(), *want);
+    }
 }
 
 #[test]
@@ -215,10 +262,12 @@ fn errors_are_told(rt: HostRuntime) -> Result<(), Fail> {
 
 /// The bytes of a transition in hexadecimal.
 fn bytes_text(alloc: Global, trans: &Transition) -> Result<String, Fail> {
-    if trans.start == trans.end {
-        return Ok(format!(in alloc; "{:02X} ", trans.start)?);
-    }
-    Ok(format!(in alloc; "{:02X}-{:02X} ", trans.start, trans.end)?)
+    let Transition { start, end, .. } = *trans;
+    let text = match end.saturating_sub(start) {
+        0 => format!(in alloc; "{start:02X} ")?,
+        _ => format!(in alloc; "{start:02X}-{end:02X} ")?,
+    };
+    Ok(text)
 }
 
 /// A slot in decimal.

@@ -407,9 +407,9 @@ fn groups_are_told(rt: HostRuntime) -> Result<(), Fail> {
         ),
     ] {
         let nfa = Draft::new().build(rt.alloc(), &[expr])?;
-        assert!(rt; records_bounds(rt.alloc(), &nfa)?, "{name}");
+        expect_bounds(&rt, rt.alloc(), name, &nfa)?;
         let groups = groups_text(rt.alloc(), nfa, text.as_bytes())?;
-        assert_eq!(rt; groups.as_str(), want, "{name}");
+        expect_text(&rt, name, &groups, want);
     }
     Ok(())
 }
@@ -419,15 +419,19 @@ fn an_earlier_pattern_is_preferred(rt: HostRuntime) -> Result<(), Fail> {
     let alloc = rt.alloc();
     let patterns = [Expr::plus(&LOWER), Expr::plus(&LOWER_OR_DIGIT)];
     let nfa = Draft::new().build(alloc, &patterns)?;
-    assert!(rt; records_bounds(alloc, &nfa)?);
+    expect_bounds(&rt, alloc, "two patterns", &nfa)?;
     let matches = all_matches(alloc, nfa, b"ab1 2")?;
-    let numbers: Vec<usize> = matches
-        .iter()
-        .map(|found| found.pattern().as_usize())
-        .collect(alloc)?;
-    assert_eq!(rt; numbers.as_slice(), [0, 1, 1].as_slice());
-    assert_eq!(rt; spans_text(alloc, &matches)?.as_str(), "0..2 2..3 4..5 ");
+    expect_numbers(&rt, &matches, &[0, 1, 1]);
+    let shown = spans_text(alloc, &matches)?;
+    expect_text(&rt, "two patterns", &shown, "0..2 2..3 4..5 ");
     Ok(())
+}
+
+fn expect_numbers(rt: &impl Abort, matches: &[Match], numbers: &[usize]) {
+    assert_eq!(rt; matches.len(), numbers.len());
+    for (found, number) in matches.iter().zip(numbers) {
+        assert_eq!(rt; found.pattern().as_usize(), *number);
+    }
 }
 
 #[test]
@@ -464,10 +468,21 @@ fn expect_spans(
     text: &[u8],
     want: &str,
 ) -> Result<(), Fail> {
-    assert!(rt; records_bounds(alloc, &nfa)?, "{name}");
+    expect_bounds(rt, alloc, name, &nfa)?;
     let matches = all_matches(alloc, nfa, text)?;
-    assert_eq!(rt; spans_text(alloc, &matches)?.as_str(), want, "{name}");
+    let shown = spans_text(alloc, &matches)?;
+    expect_text(rt, name, &shown, want);
     Ok(())
+}
+
+fn expect_bounds(rt: &impl Abort, alloc: Global, name: &str, nfa: &NFA) -> Result<(), Fail> {
+    let found = records_bounds(alloc, nfa)?;
+    assert!(rt; found, "{name}");
+    Ok(())
+}
+
+fn expect_text(rt: &impl Abort, name: &str, shown: &str, want: &str) {
+    assert_eq!(rt; shown, want, "{name}");
 }
 
 // All matches of the text, leftmost first.
