@@ -180,8 +180,7 @@ fn lazy_forms_prefer_fewer(rt: HostRuntime) -> Result<(), Fail> {
         ),
         ("(a?)*?", Expr::star(&MAYBE_A).lazy(), "a", "0..0 1..1 "),
     ] {
-        let nfa = Draft::new().build(rt.alloc(), &[expr])?;
-        expect_spans(&rt, rt.alloc(), name, nfa, text.as_bytes(), want)?;
+        expect_spans(&rt, rt.alloc(), name, expr, text.as_bytes(), want)?;
     }
     Ok(())
 }
@@ -240,8 +239,7 @@ fn repetitions_are_counted(rt: HostRuntime) -> Result<(), Fail> {
             "0..3 4..4 ",
         ),
     ] {
-        let nfa = Draft::new().build(rt.alloc(), &[expr])?;
-        expect_spans(&rt, rt.alloc(), name, nfa, text.as_bytes(), want)?;
+        expect_spans(&rt, rt.alloc(), name, expr, text.as_bytes(), want)?;
     }
     Ok(())
 }
@@ -263,8 +261,7 @@ fn parts_that_may_be_empty_end(rt: HostRuntime) -> Result<(), Fail> {
         ),
         ("()*", Expr::star(&Expr::Empty), "a", "0..0 1..1 "),
     ] {
-        let nfa = Draft::new().build(rt.alloc(), &[expr])?;
-        expect_spans(&rt, rt.alloc(), name, nfa, text.as_bytes(), want)?;
+        expect_spans(&rt, rt.alloc(), name, expr, text.as_bytes(), want)?;
     }
     Ok(())
 }
@@ -295,8 +292,7 @@ fn the_first_choice_that_leads_on_is_taken(rt: HostRuntime) -> Result<(), Fail> 
         ("no choice", Expr::Alternation(&[]), "a", ""),
         ("no part", Expr::Concat(&[]), "a", "0..0 1..1 "),
     ] {
-        let nfa = Draft::new().build(rt.alloc(), &[expr])?;
-        expect_spans(&rt, rt.alloc(), name, nfa, text.as_bytes(), want)?;
+        expect_spans(&rt, rt.alloc(), name, expr, text.as_bytes(), want)?;
     }
     Ok(())
 }
@@ -369,8 +365,7 @@ fn characters_are_matched_whole(rt: HostRuntime) -> Result<(), Fail> {
             "0..3 3..7 ",
         ),
     ] {
-        let nfa = Draft::new().build(rt.alloc(), &[expr])?;
-        expect_spans(&rt, rt.alloc(), name, nfa, text, want)?;
+        expect_spans(&rt, rt.alloc(), name, expr, text, want)?;
     }
     Ok(())
 }
@@ -459,15 +454,16 @@ fn mistakes_are_named(rt: HostRuntime) -> Result<(), Fail> {
     Ok(())
 }
 
-// The NFA writes the bounds of its matches, and these are the spans of its matches in the text.
+// The NFA of the expression writes the bounds of its matches, and these are the spans of its matches in the text.
 fn expect_spans(
     rt: &impl Abort,
     alloc: Global,
     name: &str,
-    nfa: NFA,
+    expr: Expr<'_>,
     text: &[u8],
     want: &str,
 ) -> Result<(), Fail> {
+    let nfa = Draft::new().build(alloc, &[expr])?;
     expect_bounds(rt, alloc, name, &nfa)?;
     let matches = all_matches(alloc, nfa, text)?;
     let shown = spans_text(alloc, &matches)?;

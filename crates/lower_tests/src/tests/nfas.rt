@@ -300,23 +300,24 @@ fn reads(rt: HostRuntime) -> Result<(), Fail> {
 }
 
 fn expect_one_of_each(rt: &impl Abort, alloc: Global, nfa: &NFA) -> Result<(), Fail> {
+    expect_starts(rt, nfa);
+    assert!(rt; nfa.has_empty() && !nfa.is_utf8());
+    assert_eq!(rt; nfa.group_info().slot_len(), 4);
+    let last = nfa.state(nfa.start_unanchored());
+    let want = "BinaryUnion { alt1: StateID(0), alt2: StateID(5) }";
+    expect_shown(rt, alloc, last, want)
+}
+
+fn expect_starts(rt: &impl Abort, nfa: &NFA) {
     assert_eq!(rt; nfa.states().len(), 10);
     assert_eq!(rt;
         (nfa.start_anchored(), nfa.start_unanchored()),
         (id(rt, 0), id(rt, 8))
     );
     assert!(rt; !nfa.is_always_start_anchored());
-    assert!(rt; nfa.has_empty() && !nfa.is_utf8());
     assert_eq!(rt; nfa.pattern_len(), 2);
     assert_eq!(rt; nfa.start_pattern(pattern(rt, 1)), Some(id(rt, 2)));
     assert_eq!(rt; nfa.start_pattern(pattern(rt, 2)), None);
-    assert_eq!(rt; nfa.group_info().slot_len(), 4);
-    let last = format!(in alloc; "{:?}", nfa.state(nfa.start_unanchored()))?;
-    assert_eq!(rt;
-        last.as_str(),
-        "BinaryUnion { alt1: StateID(0), alt2: StateID(5) }"
-    );
-    Ok(())
 }
 
 #[test]
@@ -325,12 +326,7 @@ fn the_nfa_that_always_matches(rt: HostRuntime) -> Result<(), Fail> {
     let want = "[Capture { next: StateID(1), slot: 0 }, Capture { next: StateID(2), slot: 1 }, \
         Match { pattern_id: PatternID { index: 0 } }]";
     expect_shown(&rt, rt.alloc(), &always.states(), want)?;
-    assert!(rt; always.is_always_start_anchored() && always.has_empty() && !always.is_utf8());
-    assert_eq!(rt;
-        (always.pattern_len(), always.group_info().slot_len()),
-        (1, 2)
-    );
-    assert_eq!(rt; always.start_pattern(pattern(&rt, 0)), Some(id(&rt, 0)));
+    expect_simple(&rt, &always, true, 1);
     Ok(())
 }
 
@@ -338,11 +334,7 @@ fn the_nfa_that_always_matches(rt: HostRuntime) -> Result<(), Fail> {
 fn the_nfa_that_never_matches(rt: HostRuntime) -> Result<(), Fail> {
     let never = NFA::never_match(rt.alloc())?;
     expect_shown(&rt, rt.alloc(), &never.states(), "[Fail]")?;
-    assert!(rt; never.is_always_start_anchored() && !never.has_empty() && !never.is_utf8());
-    assert_eq!(rt;
-        (never.pattern_len(), never.group_info().pattern_len()),
-        (0, 0)
-    );
+    expect_simple(&rt, &never, false, 0);
     expect_shown(
         &rt,
         rt.alloc(),
@@ -350,6 +342,18 @@ fn the_nfa_that_never_matches(rt: HostRuntime) -> Result<(), Fail> {
         "NFA { states: [Fail], anchored: StateID(0), unanchored: StateID(0), patterns: [], \
         groups: GroupInfo { names: [], slot_len: 0 }, has_empty: false, utf8: false }",
     )
+}
+
+// An NFA that is anchored and not in UTF-8 mode, with so many patterns, each from state 0 and with two slots.
+fn expect_simple(rt: &impl Abort, nfa: &NFA, has_empty: bool, patterns: usize) {
+    assert!(rt; nfa.is_always_start_anchored() && !nfa.is_utf8());
+    assert_eq!(rt; nfa.has_empty(), has_empty);
+    assert_eq!(rt; nfa.pattern_len(), patterns);
+    let groups = nfa.group_info();
+    assert_eq!(rt; groups.pattern_len(), patterns);
+    assert_eq!(rt; groups.slot_len() / 2, patterns);
+    let first = nfa.start_pattern(pattern(rt, 0));
+    assert_eq!(rt; first.is_some(), patterns > 0);
 }
 
 // The text of the value is this one.

@@ -182,9 +182,15 @@ fn expect_counts(
 ) -> Result<(), AllocError> {
     assert_eq!(rt; nfa.states().len(), count, "{groups}");
     let shown = format!(in alloc; "{:?}", nfa.group_info())?;
-    let want = format!(in alloc; "GroupInfo {{ names: {groups}, slot_len: ")?;
-    assert!(rt; shown.as_str().starts_with(want.as_str()), "{groups}");
+    expect_names(rt, &shown, groups);
     Ok(())
+}
+
+fn expect_names(rt: &impl Abort, shown: &str, groups: &str) {
+    match shown.strip_prefix("GroupInfo { names: ") {
+        Some(names) => assert!(rt; names.starts_with(groups), "{groups}"),
+        None => panic!(rt; "{shown}"),
+    }
 }
 
 #[test]
@@ -303,5 +309,6 @@ fn write_transition(text: &mut String, before: &str, trans: &Transition) -> Resu
 }
 
 fn write_id(text: &mut String, before: &str, id: StateID) -> Result<(), AllocError> {
-    write!(text, "{before}{}", id.as_usize())
+    text.push_str(before)?;
+    write!(text, "{}", id.as_usize())
 }
