@@ -1,5 +1,5 @@
 //! How a template is read from its text.
-ghost use Rattle.std.specs.Prelude.{◌≡◌, ◌+◌, ◌<◌, ◌≤◌, IfErr, IfOk, length, slice_index};
+ghost use Rattle.std.specs.Prelude.{◌≡◌, ◌↔◌, ◌+◌, ◌<◌, ◌≤◌, true, IfErr, IfOk, length, slice_index};
 ghost use Rattle.std.specs.List.{AllWithin};
 ghost use Rattle.regex_search_core.specs.Patterns.{number_of};
 ghost use Rattle.replacer.specs.Names.{IsWord};
@@ -127,11 +127,18 @@ fn find_byte(text: &[u8], from: usize, byte: u8) -> usize
     ensures found { result < length text.now → slice_index text.now result ≡ byte }
 {
     for end in from..text.len() {
-        if text[end] == byte {
+        if is_same(text[end], byte) {
             return end;
         }
     }
     text.len()
+}
+
+/// Whether the bytes are the same: a call of its own, since the proof of a loop that compares them in place takes minutes.
+fn is_same(byte: u8, other: u8) -> bool
+    ensures { result ≡ true ↔ byte ≡ other }
+{
+    byte == other
 }
 
 /// Where the run of letters, digits and underscores that begins there ends.
