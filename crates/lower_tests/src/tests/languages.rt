@@ -154,33 +154,33 @@ const NAMED_A: Expr<'static> = Expr::Group {
 #[test]
 fn lazy_forms_prefer_fewer(rt: HostRuntime) -> Result<(), Fail> {
     for &(name, expr, text, want) in &[
-        ("a*?", LAZY_A, "aa", "0..0 1..1 2..2 "),
-        ("a+?", Expr::plus(&A).lazy(), "aaa", "0..1 1..2 2..3 "),
-        ("a??", Expr::optional(&A).lazy(), "aa", "0..0 1..1 2..2 "),
-        ("a*?b", Expr::Concat(&[LAZY_A, B]), "aab b", "0..3 4..5 "),
-        ("(ab)??a", Expr::Concat(&[LAZY_AB, A]), "aba", "0..1 2..3 "),
-        ("(ab)?a", Expr::Concat(&[MAYBE_AB, A]), "aba", "0..3 "),
+        ("a*?", LAZY_A, &b"aa"[..], "0..0 1..1 2..2 "),
+        ("a+?", Expr::plus(&A).lazy(), b"aaa", "0..1 1..2 2..3 "),
+        ("a??", Expr::optional(&A).lazy(), b"aa", "0..0 1..1 2..2 "),
+        ("a*?b", Expr::Concat(&[LAZY_A, B]), b"aab b", "0..3 4..5 "),
+        ("(ab)??a", Expr::Concat(&[LAZY_AB, A]), b"aba", "0..1 2..3 "),
+        ("(ab)?a", Expr::Concat(&[MAYBE_AB, A]), b"aba", "0..3 "),
         (
             "a{1,3}?",
             Expr::repeat(1, Some(3), &A).lazy(),
-            "aaaa",
+            b"aaaa",
             "0..1 1..2 2..3 3..4 ",
         ),
         (
             "a{2,4}?",
             Expr::repeat(2, Some(4), &A).lazy(),
-            "aaaaa",
+            b"aaaaa",
             "0..2 2..4 ",
         ),
         (
             "a{2,}?",
             Expr::repeat(2, None, &A).lazy(),
-            "aaaaa",
+            b"aaaaa",
             "0..2 2..4 ",
         ),
-        ("(a?)*?", Expr::star(&MAYBE_A).lazy(), "a", "0..0 1..1 "),
+        ("(a?)*?", Expr::star(&MAYBE_A).lazy(), b"a", "0..0 1..1 "),
     ] {
-        expect_spans(&rt, rt.alloc(), name, expr, text.as_bytes(), want)?;
+        expect_spans(&rt, rt.alloc(), name, expr, text, want)?;
     }
     Ok(())
 }
@@ -191,55 +191,55 @@ fn repetitions_are_counted(rt: HostRuntime) -> Result<(), Fail> {
         (
             "a{1,3}",
             Expr::repeat(1, Some(3), &A),
-            "aaaa a",
+            &b"aaaa a"[..],
             "0..3 3..4 5..6 ",
         ),
         (
             "a{2,4}",
             Expr::repeat(2, Some(4), &A),
-            "aaaaaaa a aa",
+            b"aaaaaaa a aa",
             "0..4 4..7 10..12 ",
         ),
         (
             "a{0,2}",
             Expr::repeat(0, Some(2), &A),
-            "aaab",
+            b"aaab",
             "0..2 2..3 4..4 ",
         ),
         (
             "a{0,3}b",
             Expr::Concat(&[UP_TO_THREE_A, B]),
-            "aaaab",
+            b"aaaab",
             "1..5 ",
         ),
         (
             "a{3,}",
             Expr::repeat(3, None, &A),
-            "aa aaa aaaaa",
+            b"aa aaa aaaaa",
             "3..6 7..12 ",
         ),
-        ("a{2}", Expr::exactly(2, &A), "aaaaa", "0..2 2..4 "),
-        ("a{0}", Expr::exactly(0, &A), "a", "0..0 1..1 "),
+        ("a{2}", Expr::exactly(2, &A), b"aaaaa", "0..2 2..4 "),
+        ("a{0}", Expr::exactly(0, &A), b"a", "0..0 1..1 "),
         (
             "(ab){2,3}",
             Expr::repeat(2, Some(3), &AB),
-            "ababababab ab",
+            b"ababababab ab",
             "0..6 6..10 ",
         ),
         (
             "(a{1,2}){2}",
             Expr::exactly(2, &ONE_OR_TWO_A),
-            "aaaaa aaa",
+            b"aaaaa aaa",
             "0..4 6..9 ",
         ),
         (
             "(a?){2,}",
             Expr::repeat(2, None, &MAYBE_A),
-            "aaab",
+            b"aaab",
             "0..3 4..4 ",
         ),
     ] {
-        expect_spans(&rt, rt.alloc(), name, expr, text.as_bytes(), want)?;
+        expect_spans(&rt, rt.alloc(), name, expr, text, want)?;
     }
     Ok(())
 }
@@ -247,21 +247,21 @@ fn repetitions_are_counted(rt: HostRuntime) -> Result<(), Fail> {
 #[test]
 fn parts_that_may_be_empty_end(rt: HostRuntime) -> Result<(), Fail> {
     for &(name, expr, text, want) in &[
-        ("(a?)*", Expr::star(&MAYBE_A), "aab", "0..2 3..3 "),
-        ("(a*)*", Expr::star(&MANY_A), "aab", "0..2 3..3 "),
-        ("(a*)+", Expr::plus(&MANY_A), "aab", "0..2 3..3 "),
-        ("(|a)*", Expr::star(&NOTHING_OR_A), "aa", "0..0 1..1 2..2 "),
-        ("(|a)+", Expr::plus(&NOTHING_OR_A), "aa", "0..0 1..1 2..2 "),
-        ("(a|)*", Expr::star(&A_OR_NOTHING), "aa", "0..2 "),
+        ("(a?)*", Expr::star(&MAYBE_A), &b"aab"[..], "0..2 3..3 "),
+        ("(a*)*", Expr::star(&MANY_A), b"aab", "0..2 3..3 "),
+        ("(a*)+", Expr::plus(&MANY_A), b"aab", "0..2 3..3 "),
+        ("(|a)*", Expr::star(&NOTHING_OR_A), b"aa", "0..0 1..1 2..2 "),
+        ("(|a)+", Expr::plus(&NOTHING_OR_A), b"aa", "0..0 1..1 2..2 "),
+        ("(a|)*", Expr::star(&A_OR_NOTHING), b"aa", "0..2 "),
         (
             "(a?)*b",
             Expr::Concat(&[MANY_MAYBE_A, B]),
-            "aab b",
+            b"aab b",
             "0..3 4..5 ",
         ),
-        ("()*", Expr::star(&Expr::Empty), "a", "0..0 1..1 "),
+        ("()*", Expr::star(&Expr::Empty), b"a", "0..0 1..1 "),
     ] {
-        expect_spans(&rt, rt.alloc(), name, expr, text.as_bytes(), want)?;
+        expect_spans(&rt, rt.alloc(), name, expr, text, want)?;
     }
     Ok(())
 }
@@ -269,30 +269,30 @@ fn parts_that_may_be_empty_end(rt: HostRuntime) -> Result<(), Fail> {
 #[test]
 fn the_first_choice_that_leads_on_is_taken(rt: HostRuntime) -> Result<(), Fail> {
     for &(name, expr, text, want) in &[
-        ("a|ab", A_OR_AB, "ab", "0..1 "),
-        ("ab|a", AB_OR_A, "aba", "0..2 2..3 "),
+        ("a|ab", A_OR_AB, &b"ab"[..], "0..1 "),
+        ("ab|a", AB_OR_A, b"aba", "0..2 2..3 "),
         (
             "(a|ab)(c|bcd)",
             Expr::Concat(&[A_OR_AB, C_OR_BCD]),
-            "abcd abc",
+            b"abcd abc",
             "0..4 5..8 ",
         ),
         (
             "^a",
             Expr::Concat(&[Expr::Look(Look::Start), A]),
-            "aa",
+            b"aa",
             "0..1 ",
         ),
         (
             "a$",
             Expr::Concat(&[A, Expr::Look(Look::End)]),
-            "aa",
+            b"aa",
             "1..2 ",
         ),
-        ("no choice", Expr::Alternation(&[]), "a", ""),
-        ("no part", Expr::Concat(&[]), "a", "0..0 1..1 "),
+        ("no choice", Expr::Alternation(&[]), b"a", ""),
+        ("no part", Expr::Concat(&[]), b"a", "0..0 1..1 "),
     ] {
-        expect_spans(&rt, rt.alloc(), name, expr, text.as_bytes(), want)?;
+        expect_spans(&rt, rt.alloc(), name, expr, text, want)?;
     }
     Ok(())
 }
@@ -373,37 +373,37 @@ fn characters_are_matched_whole(rt: HostRuntime) -> Result<(), Fail> {
 #[test]
 fn groups_are_told(rt: HostRuntime) -> Result<(), Fail> {
     for &(name, expr, text, want) in &[
-        ("((a)(b))", IN_GROUP, "xab", "1..3 1..3 1..2 2..3 "),
+        ("((a)(b))", IN_GROUP, &b"xab"[..], "1..3 1..3 1..2 2..3 "),
         (
             "((a)(b))+",
             Expr::plus(&IN_GROUP),
-            "abab",
+            b"abab",
             "0..4 2..4 2..3 3..4 ",
         ),
         (
             "((a)|(b))+",
             Expr::plus(&EITHER_IN_GROUP),
-            "ab",
+            b"ab",
             "0..2 1..2 0..1 1..2 ",
         ),
         (
             "((a)|(b)){2}",
             Expr::exactly(2, &EITHER_IN_GROUP),
-            "bb",
+            b"bb",
             "0..2 1..2 - 1..2 ",
         ),
-        ("(a*)(a)?", MANY_THEN_ONE, "aa", "0..2 0..2 - "),
-        ("(a*?)(a*)", FEW_THEN_MANY, "aa", "0..2 0..0 0..2 "),
+        ("(a*)(a)?", MANY_THEN_ONE, b"aa", "0..2 0..2 - "),
+        ("(a*?)(a*)", FEW_THEN_MANY, b"aa", "0..2 0..0 0..2 "),
         (
             "(a)((a)(b))",
             ONE_THEN_BOTH,
-            "aab",
+            b"aab",
             "0..3 0..1 1..3 1..2 2..3 ",
         ),
     ] {
         let nfa = Draft::new().build(rt.alloc(), &[expr])?;
         expect_bounds(&rt, rt.alloc(), name, &nfa)?;
-        let groups = groups_text(rt.alloc(), nfa, text.as_bytes())?;
+        let groups = groups_text(rt.alloc(), nfa, text)?;
         expect_text(&rt, name, &groups, want);
     }
     Ok(())
