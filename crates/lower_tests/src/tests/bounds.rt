@@ -45,11 +45,15 @@ const SAMPLES: &[(&str, bool)] = &[
 #[test]
 fn samples_that_write_their_bounds(rt: HostRuntime) -> Result<(), Fail> {
     for &(name, want) in SAMPLES {
-        let nfa = sample(rt.alloc(), name)?.ok_or("unknown name")?;
-        let found = records_bounds(rt.alloc(), &nfa)?;
+        let found = sample_records(rt.alloc(), name)?;
         expect_told(&rt, found, want, name);
     }
     Ok(())
+}
+
+fn sample_records(alloc: Global, name: &str) -> Result<bool, Fail> {
+    let nfa = sample(alloc, name)?.ok_or("unknown name")?;
+    Ok(records_bounds(alloc, &nfa)?)
 }
 
 fn expect_told(rt: &impl Abort, found: bool, want: bool, name: &str) {

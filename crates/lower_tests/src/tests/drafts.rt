@@ -140,15 +140,22 @@ fn says_where_it_may_be_empty(rt: HostRuntime) -> Result<(), Fail> {
         (Expr::Alternation(&[A, A]), false),
         (Expr::Alternation(&[]), false),
     ] {
-        assert_eq!(rt; may_be_empty(rt.alloc(), expr)?, want);
+        expect_empty(&rt, rt.alloc(), &[expr], want)?;
     }
-    assert!(rt; !Draft::new().build(rt.alloc(), &[])?.has_empty());
-    Ok(())
+    expect_empty(&rt, rt.alloc(), &[], false)
 }
 
-fn may_be_empty(alloc: Global, expr: Expr<'_>) -> Result<bool, DraftError> {
-    let nfa = Draft::new().build(alloc, &[expr])?;
-    Ok(nfa.has_empty())
+/// Whether the NFA of these patterns says that it may match the empty text.
+fn expect_empty(
+    rt: &impl Abort,
+    alloc: Global,
+    patterns: &[Expr<'_>],
+    want: bool,
+) -> Result<(), Fail> {
+    let nfa = Draft::new().build(alloc, patterns)?;
+    let may_be_empty = nfa.has_empty();
+    assert_eq!(rt; may_be_empty, want);
+    Ok(())
 }
 
 #[test]

@@ -310,5 +310,9 @@ fn write_transition(text: &mut String, before: &str, trans: &Transition) -> Resu
 
 fn write_id(text: &mut String, before: &str, id: StateID) -> Result<(), AllocError> {
     text.push_str(before)?;
-    write!(text, "{}", id.as_usize())
+    write_number(text, id.as_usize())
+}
+
+fn write_number(text: &mut String, number: usize) -> Result<(), AllocError> {
+    write!(text, "{number}")
 }
