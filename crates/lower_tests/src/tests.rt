@@ -6,4 +6,5 @@ mod finders;
 mod languages;
 mod nfas;
 mod samples;
+mod shown;
 mod values;

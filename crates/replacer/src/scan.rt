@@ -134,7 +134,7 @@ fn find_byte(text: &[u8], from: usize, byte: u8) -> usize
     text.len()
 }
 
-/// Whether the bytes are the same: a call of its own, since the proof of a loop that compares them in place takes minutes.
+/// Whether the bytes are the same: a call of its own, since a loop that compares them in place takes minutes to prove.
 fn is_same(byte: u8, other: u8) -> bool
     ensures { result ≡ true ↔ byte ≡ other }
 {

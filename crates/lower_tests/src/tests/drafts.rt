@@ -1,9 +1,9 @@
 //! Tests of drafts: the four examples of the crate's page, the order of preference, the numbers of groups, the bytes of
 //! characters, and each error.
+use super::shown::expect_shown;
 use nfa_draft::{Draft, DraftError, Expr};
 use regex_search_core::StateID;
-use std::alloc::{AllocError, Global};
-use std::fmt::Debug;
+use std::alloc::Global;
 use std::process::Abort;
 use std::test::Fail;
 use thompson_nfa::{BuildError, Look, NFA, State, Transition};
@@ -96,18 +96,6 @@ fn the_order_of_preference(rt: HostRuntime) -> Result<(), Fail> {
         let nfa = Draft::new().anchored().build(alloc, &[expr])?;
         expect_shown(&rt, alloc, &nfa.states().get(2), want)?;
     }
-    Ok(())
-}
-
-/// The text of the value is this one.
-fn expect_shown<T: Debug>(
-    rt: &impl Abort,
-    alloc: Global,
-    value: &T,
-    want: &str,
-) -> Result<(), AllocError> {
-    let text = format!(in alloc; "{value:?}")?;
-    assert_eq!(rt; text.as_str(), want);
     Ok(())
 }
 

@@ -2,9 +2,9 @@
 ghost use Rattle.std.specs.Prelude.{◌≡◌};
 ghost use Rattle.regex_search_core.specs.Patterns.{number_of};
 
+use super::shown::expect_shown;
 use regex_search_core::{GroupInfo, PatternID, StateID};
 use std::alloc::{AllocError, Global};
-use std::fmt::Debug;
 use std::process::Abort;
 use std::test::Fail;
 use thompson_nfa::{BuildError, Holder, Look, NFA, State, Transition, look_matches};
@@ -354,18 +354,6 @@ fn expect_simple(rt: &impl Abort, nfa: &NFA, has_empty: bool, patterns: usize) {
     assert_eq!(rt; groups.slot_len() / 2, patterns);
     let first = nfa.start_pattern(pattern(rt, 0));
     assert_eq!(rt; first.is_some(), patterns > 0);
-}
-
-// The text of the value is this one.
-fn expect_shown<T: Debug>(
-    rt: &impl Abort,
-    alloc: Global,
-    value: &T,
-    want: &str,
-) -> Result<(), Fail> {
-    let text = format!(in alloc; "{value:?}")?;
-    assert_eq!(rt; text.as_str(), want);
-    Ok(())
 }
 
 #[test]

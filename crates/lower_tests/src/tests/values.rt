@@ -3,12 +3,12 @@ ghost use Rattle.std.specs.Prelude.{◌≡◌, ◌<◌, length, map, slice_set, 
 ghost use Rattle.regex_search_core.specs.Patterns.{number_of};
 ghost use Rattle.regex_search_core.specs.PatternSets.{patterns_of};
 
+use super::shown::expect_shown;
 use regex_search_core::{
     Anchored, Captures, GroupInfo, HalfMatch, Input, Match, MatchError, MatchKind, NonMaxUsize,
     PatternID, PatternSet, Refused, Span, StateID,
 };
 use std::alloc::{AllocError, Global};
-use std::fmt::Debug;
 use std::process::Abort;
 use std::test::Fail;
 
@@ -295,18 +295,6 @@ fn expect_groups(rt: &impl Abort, captures: &Captures) {
     assert_eq!(rt; captures.get_group(2), Some(span(2, 4)));
     assert_eq!(rt; captures.get_group_by_name("numbers"), Some(span(2, 4)));
     assert_eq!(rt; captures.get_group_by_name("a"), None);
-}
-
-// The text of the value is this one.
-fn expect_shown<T: Debug>(
-    rt: &impl Abort,
-    alloc: Global,
-    value: &T,
-    want: &str,
-) -> Result<(), AllocError> {
-    let text = format!(in alloc; "{value:?}")?;
-    assert_eq!(rt; text.as_str(), want);
-    Ok(())
 }
 
 #[test]
