@@ -133,7 +133,7 @@ fn says_where_it_may_be_empty(rt: HostRuntime) -> Result<(), Fail> {
     expect_empty(&rt, rt.alloc(), &[], false)
 }
 
-/// Whether the NFA of these patterns says that it may match the empty text.
+/// The NFA of these patterns says whether it may match the empty text.
 fn expect_empty(
     rt: &impl Abort,
     alloc: Global,

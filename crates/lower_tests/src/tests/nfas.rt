@@ -344,16 +344,16 @@ fn the_nfa_that_never_matches(rt: HostRuntime) -> Result<(), Fail> {
     )
 }
 
-// An NFA that is anchored and not in UTF-8 mode, with so many patterns, each from state 0 and with two slots.
+// An NFA that is anchored and not in UTF-8 mode, with so many patterns of two slots, the first from state 0.
 fn expect_simple(rt: &impl Abort, nfa: &NFA, has_empty: bool, patterns: usize) {
     assert!(rt; nfa.is_always_start_anchored() && !nfa.is_utf8());
     assert_eq!(rt; nfa.has_empty(), has_empty);
     assert_eq!(rt; nfa.pattern_len(), patterns);
     let groups = nfa.group_info();
     assert_eq!(rt; groups.pattern_len(), patterns);
-    assert_eq!(rt; groups.slot_len() / 2, patterns);
-    let first = nfa.start_pattern(pattern(rt, 0));
-    assert_eq!(rt; first.is_some(), patterns > 0);
+    assert_eq!(rt; groups.slot_len(), patterns.saturating_mul(2));
+    let first = if patterns > 0 { Some(id(rt, 0)) } else { None };
+    assert_eq!(rt; nfa.start_pattern(pattern(rt, 0)), first);
 }
 
 #[test]
