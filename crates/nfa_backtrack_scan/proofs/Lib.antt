@@ -5,3 +5,4 @@ pub mod StepLemmas
 pub mod BeginLemmas
 pub mod UnwindLemmas
 pub mod ScanLemmas
+pub mod RoundLemmas

@@ -1,6 +1,6 @@
 -- What each kind of state leads to, after the turn that marked its place.
 use Rattle.std.proofs.Common.{◌≡◌, ℕ, suc, ◌+◌, ◌-◌, ◌*◌, ◌^◌, ◌<◌, ◌≤◌, List, [], ◌∷◌, ◌++◌, length, get_or, set, map}
-use Rattle.std.proofs.Common.{reverse, drop, refl, ap, sym, ◌∙◌, arith, append_assoc, append-nil, Fits}
+use Rattle.std.proofs.Common.{reverse, drop, refl, ap, sym, ◌∙◌, arith, append_assoc, append-nil}
 use Rattle.std.specs.Prelude.{Option, Some, None, true, false, Bool, All, option_map, option_and_then, option_to_list}
 use Rattle.std.specs.List.{slice_get, sum_by}
 use Rattle.std.proofs.lemmas.Nat.{mul-add-lt}
@@ -185,21 +185,22 @@ module _ {nfa : Automaton} {x : Search} {s at : ℕ} {m n : Marks} (t : Taken nf
   pub PaidFor-step : (node : Node) → slice_get nfa.states s ≡ Some node
       → (count : ℕ) (stack after : List Frame) (in_hand : ℕ)
       → All (IsFrame nfa x count) after → sum_by frame_tries after + in_hand ≤ sum_by frame_tries stack + degree node
-      → PaidFor nfa x count stack m.bits after n.bits in_hand
+      → PaidFor nfa x count stack m after n in_hand
   PaidFor-step node is count stack after in_hand within tried = record {
     within = within;
-    tried = rw t.set (omega (arith, marked_sum-weights nfa x m.bits s at node t.state t.from t.to is t.clear));
+    tried = rw t.set
+        (omega (arith, t.counted, marked_sum-weights nfa x m.bits s at node t.state t.from t.to is t.clear));
   }
 
   pub PaidFor-same : (node : Node) → slice_get nfa.states s ≡ Some node → (count : ℕ) (stack : List Frame) (in_hand : ℕ)
-      → All (IsFrame nfa x count) stack → in_hand ≤ degree node → PaidFor nfa x count stack m.bits stack n.bits in_hand
+      → All (IsFrame nfa x count) stack → in_hand ≤ degree node → PaidFor nfa x count stack m stack n in_hand
   PaidFor-same node is count stack in_hand within few =
       PaidFor-step node is count stack stack in_hand within (omega arith)
 
   pub PaidFor-push : (node : Node) → slice_get nfa.states s ≡ Some node
       → (count : ℕ) (stack : List Frame) (f : Frame) (in_hand : ℕ)
       → All (IsFrame nfa x count) stack → IsFrame nfa x count f → frame_tries f + in_hand ≤ degree node
-      → PaidFor nfa x count stack m.bits (stack ++ f ∷ []) n.bits in_hand
+      → PaidFor nfa x count stack m (stack ++ f ∷ []) n in_hand
   PaidFor-push node is count stack f in_hand within fits few =
       PaidFor-step node is count stack (stack ++ f ∷ []) in_hand (All-push (IsFrame nfa x count) stack f within fits)
       (omega (arith, sum_by_push frame_tries stack f))
@@ -208,7 +209,7 @@ module _ {nfa : Automaton} {x : Search} {s at : ℕ} {m n : Marks} (t : Taken nf
       → (count : ℕ) (stack : List Frame) (f : ℕ)
       → slice_get alternates 0 ≡ Some f → (row : ℕ) → row ≡ (at - x.start) * length nfa.states
       → All (IsFrame nfa x count) stack → All (λ q. q < length nfa.states) alternates
-      → PaidFor nfa x count stack m.bits (stack ++ put at row (drop 1 alternates)) n.bits 1
+      → PaidFor nfa x count stack m (stack ++ put at row (drop 1 alternates)) n 1
   PaidFor-put alternates is count stack f first row placed within below =
       let split = first-drop alternates f first in
       let rest : All (λ q. q < length nfa.states) (drop 1 alternates) = λ k d h. (rw split at below) (suc k) d

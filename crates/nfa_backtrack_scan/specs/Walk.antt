@@ -1,7 +1,7 @@
 -- The walk of a backtracker in the words of its proof: its stack as work that is left, its marks as pairs that were
 -- seen.
 use Rattle.std.specs.Prelude.{◌≡◌, ◌↔◌, ℕ, ◌+◌, ◌-◌, ◌*◌, ◌^◌, ◌<◌, ◌≤◌, Bool, true, false, List, [], ◌∷◌, Option, None}
-use Rattle.std.specs.Prelude.{Some, length, map, All, slice_index_or, slice_set}
+use Rattle.std.specs.Prelude.{Some, length, map, sum, All, slice_get, slice_index_or, slice_set}
 use Rattle.std.specs.List.{sum_by}
 use Rattle.regex_search_core.specs.Search.{Search}
 use Rattle.regex_search_core.specs.Patterns.{number_of}
@@ -9,6 +9,8 @@ use Rattle.regex_search_core.specs.Found.{half_found_of}
 use Rattle.regex_search_core.specs.declared.search.HalfMatch.{HalfMatch}
 use Rattle.regex_search_core.specs.declared.search.MatchKind.TheVariants.{LeftmostFirst}
 use Rattle.thompson_nfa.specs.Automaton.{Automaton}
+use Rattle.thompson_nfa.specs.Automaton.Node.{ByteRange, BinaryUnion}
+use Rattle.thompson_nfa.specs.declared.state.Transition.{Transition}
 use Rattle.nfa_paths.specs.Graphs.{Pair, In}
 use Rattle.nfa_paths.specs.Paths.{span_len, degree, node_at, pattern_of, is_match, IsScanAnswer, space}
 use Rattle.nfa_paths.specs.Restarts.{GivesPath}
@@ -88,6 +90,14 @@ tries_of_turn (On place) = 1
 tries_of_turn (Ended half) = 0
 tries_of_turn Over = 0
 
+-- A loop over one byte: the state `body` leads by the transition to a union that prefers it to `exit`.
+pub record IsLoop (nfa : Automaton) (body exit : ℕ) (trans : Transition) : Type 0 where
+  pub over : slice_get nfa.states body ≡ Some (ByteRange trans)
+  pub back : slice_get nfa.states trans.next ≡ Some (BinaryUnion body exit)
+  pub onto : trans.next < length nfa.states
+  pub into : body < length nfa.states
+  pub out : exit < length nfa.states
+
 module _ (nfa : Automaton) (x : Search) where
   -- the place is one of the NFA's states, in the span, and its row is as far from the first as its position from the
   -- start
@@ -152,12 +162,18 @@ module _ (nfa : Automaton) (x : Search) where
     pub same : marked.bits ≡ marks.bits
     pub counted : marked.turns ≡ marks.turns + 1
 
-  -- What a step pushed is paid for by what it marked. `in_hand` is 1 where it goes on at a place.
-  pub record PaidFor (count : ℕ) (stack : List Frame) (bits : List Bool) (after : List Frame) (marked : List Bool)
+  -- What turns pushed, and the turns beyond the first, are paid for by what they marked. `in_hand` is 1 where they go on
+  -- at a place.
+  pub record PaidFor (count : ℕ) (stack : List Frame) (marks : Marks) (after : List Frame) (marked : Marks)
       (in_hand : ℕ) : Type 0 where
     pub within : All (IsFrame count) after
-    pub tried : sum_by frame_tries after + in_hand + marked_sum weights bits
-        ≤ sum_by frame_tries stack + marked_sum weights marked
+    pub tried : marked.turns + sum_by frame_tries after + in_hand + marked_sum weights marks.bits
+        ≤ marks.turns + 1 + sum_by frame_tries stack + marked_sum weights marked.bits
+
+  -- Turns that end where memory is refused: those beyond the first are no more than what waited and all weights allow.
+  abbrev pub IsAfforded : List Frame → Marks → Marks → Type 0
+  IsAfforded stack marks marked = marked.turns + marked_sum weights marks.bits
+      ≤ marks.turns + 1 + sum_by frame_tries stack + sum weights
 
   -- The answer from the state after is the answer from the state before.
   pub record Carries (marks : Marks) (work : List Item) (slots : Slots) (after : Marks) (work_after : List Item)
@@ -183,6 +199,17 @@ module _ (nfa : Automaton) (x : Search) where
   Goes v (Matched pattern) stack marks slots after marked written =
       (pattern_of (node_at nfa v.0) ≡ Some (number_of pattern))
       × ((work : List Item) → Ends marks (ToExplore v ∷ stacked stack work) slots (Some (v, written)) marked.turns)
+
+  -- What comes of turns from v on that write no slot and meet no match: the search goes on at the place or, where there
+  -- is none, with what was put off.
+  pub record LeadsOn (v : Pair) (place : Option Place) (stack : List Frame) (marks : Marks) (after : List Frame)
+      (marked : Marks) : Type 0 where
+    pub goes : IsPlaceOr place
+    pub within : (count : ℕ) → All (IsFrame count) stack → All (IsFrame count) after
+    pub tried : marked.turns + sum_by frame_tries after + tries_of_place place + marked_sum weights marks.bits
+        ≤ marks.turns + 1 + sum_by frame_tries stack + marked_sum weights marked.bits
+    pub follows : (work : List Item) (slots : Slots) → Carries marks (ToExplore v ∷ stacked stack work) slots marked
+        (with_place place (stacked after work)) slots
 
   -- the search ends at a match: its state is of the pattern, and this is where it ends
   pub record EndsAt (half : HalfMatch) (marks : Marks) (work : List Item) (slots : Slots) (written : Slots) (turns : ℕ)

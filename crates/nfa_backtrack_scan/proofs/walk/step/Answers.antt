@@ -1,6 +1,8 @@
 -- Where a turn leads, for each kind of state, and that its mark pays for what it puts off.
-use Rattle.std.proofs.Common.{[], ◌<◌, ◌∙◌, length, arith, sym}
+use Rattle.std.proofs.Common.{[], ◌<◌, ◌∙◌, length, arith, refl, sym}
+use Rattle.std.specs.Prelude.{None}
 use Rattle.regex_search_core.specs.Search.{search_of}
+use Rattle.nfa_backtrack_scan.specs.Walk.{pair_of, LeadsOn}
 use Rattle.nfa_backtrack_scan.specs.declared.frame.Frame.TheVariants.{Step}
 use Rattle.thompson_nfa.specs.Automaton.Node.{ByteRange, Sparse, Dense, Look, Union, BinaryUnion, Capture, Fail}
 use Rattle.nfa_backtrack_scan.proofs.WalkLemmas.{Carries-marked}
@@ -8,6 +10,7 @@ use Rattle.nfa_backtrack_scan.proofs.StepLemmas.{same_size, Fits-row, target-tri
 use Rattle.nfa_backtrack_scan.proofs.StepLemmas.{PaidFor-put, Goes-range, Goes-sparse, Goes-dense, Goes-look, Goes-no_look}
 use Rattle.nfa_backtrack_scan.proofs.StepLemmas.{Goes-union, Goes-no_union, Goes-both, Goes-fail, Goes-write, Goes-unkept}
 use Rattle.nfa_backtrack_scan.proofs.StepLemmas.{Goes-match, IsFrame-restoring, tries-restoring}
+use Rattle.nfa_backtrack_scan.proofs.RoundLemmas.{OnErr-always, IsAfforded-turn, IsAfforded-then, LeadsOn-then, LeadsOn-union}
 use Rattle.nfa_backtrack_scan.proofs.walk.step.Goals as goal
 use Rattle.nfa_backtrack_scan.proofs.walk.step.Goals.{then-slot-slots+in_ok-save-in-Capture, else-slot-slots}
 
@@ -153,8 +156,64 @@ returns-in_ok-put_off-in-Union-clause-goes c =
           (Goes-union t c.in-Union.alternates.items is c.args.slots.now _ first c.args.scratch.now.stack.items work _),
     )
 
-pub returns-in_ok-push-in-BinaryUnion-clause-paid : goal.returns-in_ok-push-in-BinaryUnion-clause-paid
-returns-in_ok-push-in-BinaryUnion-clause-paid c =
+pub returns-in_err-put_off-in-Union-clause-refused : goal.returns-in_err-put_off-in-Union-clause-refused
+returns-in_err-put_off-in-Union-clause-refused c =
+    OnErr-always c.from_residual.result
+    (IsAfforded-turn c.args.nfa.now (search_of c.args.input.now) c.args.scratch.now.stack.items
+    c.args.scratch.now.visited c.mark.new.visited c.mark.ensures.turns)
+
+pub returns-in_err-push-in-BinaryUnion-clause-refused : goal.returns-in_err-push-in-BinaryUnion-clause-refused
+returns-in_err-push-in-BinaryUnion-clause-refused c =
+    OnErr-always c.from_residual-in_err-push-in-BinaryUnion.result
+    (IsAfforded-turn c.args.nfa.now (search_of c.args.input.now) c.args.scratch.now.stack.items
+    c.args.scratch.now.visited c.mark.new.visited c.mark.ensures.turns)
+
+pub returns-in_err-save-in-Capture-clause-refused : goal.returns-in_err-save-in-Capture-clause-refused
+returns-in_err-save-in-Capture-clause-refused c =
+    OnErr-always c.from_residual-in_err-save-in-Capture.result
+    (IsAfforded-turn c.args.nfa.now (search_of c.args.input.now) c.args.scratch.now.stack.items
+    c.args.scratch.now.visited c.mark.new.visited c.mark.ensures.turns)
+
+pub go_round-requires-clause-state : goal.go_round-requires-clause-state
+go_round-requires-clause-state c =
+    rw c.to-in-Some-way_back.ensures (c.in-Some-way_back.ensures c.in-Some-way_back.trans refl)
+
+pub returns-in_err-go_round-in-BinaryUnion-clause-refused : goal.returns-in_err-go_round-in-BinaryUnion-clause-refused
+returns-in_err-go_round-in-BinaryUnion-clause-refused c =
+    let t = c.mark.ensures.taken c.if-not-mark.false in
+    let is = rw c.in-BinaryUnion.is at c.state_at.ensures.node in
+    let below = rw c.in-BinaryUnion.is at c.state_at.ensures.leads in
+    let union = LeadsOn-union t c.args.place.row c.requires.place.row c.in-BinaryUnion.alt1 c.in-BinaryUnion.alt2 is
+    below.0 below.1 c.args.scratch.now.stack.items in
+    let round = rw (c.in_ok-push-in-BinaryUnion.ensures.items, c.later.ensures) at
+    c.in_err-go_round-in-BinaryUnion.ensures.refused in
+    OnErr-always c.from_residual-in_err-go_round-in-BinaryUnion.result
+    (IsAfforded-then c.args.nfa.now (search_of c.args.input.now) c.go_round.new.scratch.visited union round)
+
+-- the turn at the union and those of the loop
+round : (c : goal.In_ok-go_round-in-BinaryUnion)
+    → LeadsOn c.args.nfa.now (search_of c.args.input.now) (pair_of c.args.place) None c.args.scratch.now.stack.items
+    c.args.scratch.now.visited c.go_round.new.scratch.stack.items c.go_round.new.scratch.visited
+round c =
+    let t = c.mark.ensures.taken c.if-not-mark.false in
+    let is = rw c.in-BinaryUnion.is at c.state_at.ensures.node in
+    let below = rw c.in-BinaryUnion.is at c.state_at.ensures.leads in
+    LeadsOn-then c.args.nfa.now (search_of c.args.input.now)
+    (LeadsOn-union t c.args.place.row c.requires.place.row c.in-BinaryUnion.alt1 c.in-BinaryUnion.alt2 is below.0 below.1
+    c.args.scratch.now.stack.items)
+    (rw (c.in_ok-push-in-BinaryUnion.ensures.items, c.later.ensures, c.to-in-Some-way_back.ensures) at
+    c.in_ok-go_round-in-BinaryUnion.ensures.leads)
+
+pub returns-in-Some-way_back-clause-paid : goal.returns-in-Some-way_back-clause-paid
+returns-in-Some-way_back-clause-paid c =
+    let leads = round c in
+    record { within = leads.within (length c.args.slots.now) c.requires.within; tried = leads.tried }
+
+pub returns-in-Some-way_back-clause-goes : goal.returns-in-Some-way_back-clause-goes
+returns-in-Some-way_back-clause-goes c = λ work. (round c).follows work c.args.slots.now
+
+pub returns-in_default-way_back-clause-paid : goal.returns-in_default-way_back-clause-paid
+returns-in_default-way_back-clause-paid c =
     let t = c.mark.ensures.taken c.if-not-mark.false in
     let is = rw c.in-BinaryUnion.is at c.state_at.ensures.node in
     let below = rw c.in-BinaryUnion.is at c.state_at.ensures.leads in
@@ -164,8 +223,8 @@ returns-in_ok-push-in-BinaryUnion-clause-paid c =
     (record { state = below.1; from = c.requires.place.from; to = c.requires.place.to; row = c.requires.place.row })
     (omega arith))
 
-pub returns-in_ok-push-in-BinaryUnion-clause-goes : goal.returns-in_ok-push-in-BinaryUnion-clause-goes
-returns-in_ok-push-in-BinaryUnion-clause-goes c =
+pub returns-in_default-way_back-clause-goes : goal.returns-in_default-way_back-clause-goes
+returns-in_default-way_back-clause-goes c =
     let t = c.mark.ensures.taken c.if-not-mark.false in
     let is = rw c.in-BinaryUnion.is at c.state_at.ensures.node in
     let below = rw c.in-BinaryUnion.is at c.state_at.ensures.leads in

@@ -7,14 +7,7 @@ use Rattle.nfa_backtrack_scan.proofs.WalkLemmas.{Carries-then, EndsAt-along}
 use Rattle.nfa_backtrack_scan.proofs.walk.walk_on.Goals as goal
 
 pub returns-in_err-next-clause-bounded : goal.returns-in_err-next-clause-bounded
-returns-in_err-next-clause-bounded c =
-    omega (
-      arith,
-      c.loop-next.invariant.tried,
-      c.advance.ensures.turns,
-      marked_sum-le
-          (weights c.args.nfa.now (search_of c.args.input.now)) c.loop-next.scratch.visited.bits,
-    )
+returns-in_err-next-clause-bounded c = omega (arith, c.loop-next.invariant.tried, c.in_err-next.ensures.refused)
 
 pub loop-next-smaller : goal.loop-next-smaller
 loop-next-smaller c =
@@ -42,12 +35,12 @@ loop-next-preserved c =
 
 pub returns-in-Ended-clause-bounded : goal.returns-in-Ended-clause-bounded
 returns-in-Ended-clause-bounded c =
+    let paid = rw c.in-Ended.is at c.in_ok-next.ensures.paid in
     omega (
       arith,
       c.loop-next.invariant.tried,
-      c.advance.ensures.turns,
-      marked_sum-le
-          (weights c.args.nfa.now (search_of c.args.input.now)) c.loop-next.scratch.visited.bits,
+      paid.tried,
+      marked_sum-le (weights c.args.nfa.now (search_of c.args.input.now)) c.advance.new.scratch.visited.bits,
     )
 
 pub returns-in-Ended-clause-walks : goal.returns-in-Ended-clause-walks
@@ -57,12 +50,12 @@ returns-in-Ended-clause-walks c = λ work.
 
 pub returns-in-Over-clause-bounded : goal.returns-in-Over-clause-bounded
 returns-in-Over-clause-bounded c =
+    let paid = rw c.in-Over.is at c.in_ok-next.ensures.paid in
     omega (
       arith,
       c.loop-next.invariant.tried,
-      c.advance.ensures.turns,
-      marked_sum-le
-          (weights c.args.nfa.now (search_of c.args.input.now)) c.loop-next.scratch.visited.bits,
+      paid.tried,
+      marked_sum-le (weights c.args.nfa.now (search_of c.args.input.now)) c.advance.new.scratch.visited.bits,
     )
 
 pub returns-in-Over-clause-walks : goal.returns-in-Over-clause-walks
