@@ -13,7 +13,7 @@ use Rattle.nfa_paths.specs.Paths.{byte_at, target_on}
 use Rattle.nfa_paths.specs.Turns.{marked_sum}
 use Rattle.nfa_paths.proofs.TurnLemmas.{marked_sum-le}
 use Rattle.nfa_scanning.specs.Marks.{Marks}
-use Rattle.nfa_backtrack_scan.specs.Walk.{pair_of, stacked, frame_tries, weights, IsPlace, IsFrame, IsAfforded, LeadsOn, Taken}
+use Rattle.nfa_backtrack_scan.specs.Walk.{pair_of, stacked, frame_tries, weights, IsPlace, IsFrame, IsAfforded, TurnsLead, Taken}
 use Rattle.nfa_backtrack_scan.specs.Walk.{WasMarked}
 use Rattle.nfa_backtrack_scan.specs.declared.frame.Place.{Place}
 use Rattle.nfa_backtrack_scan.specs.declared.frame.Frame.{Frame}
@@ -28,10 +28,10 @@ OnErr-always (Err error) p = p
 
 module _ (nfa : Automaton) (x : Search) where
   -- turns behind turns
-  pub LeadsOn-then : {v : Pair} {p : Place} {q : Option Place} {stack after last : List Frame} {m n o : Marks}
-      → LeadsOn nfa x v (Some p) stack m after n → LeadsOn nfa x (pair_of p) q after n last o
-      → LeadsOn nfa x v q stack m last o
-  LeadsOn-then f g = let ft = f.tried in let gt = g.tried in record {
+  pub TurnsLead-then : {v : Pair} {p : Place} {q : Option Place} {stack after last : List Frame} {m n o : Marks}
+      → TurnsLead nfa x v (Some p) stack m after n → TurnsLead nfa x (pair_of p) q after n last o
+      → TurnsLead nfa x v q stack m last o
+  TurnsLead-then f g = let ft = f.tried in let gt = g.tried in record {
     goes = g.goes;
     within = λ count fits. g.within count (f.within count fits);
     tried = omega arith;
@@ -39,9 +39,9 @@ module _ (nfa : Automaton) (x : Search) where
   }
 
   -- no turn yet
-  pub LeadsOn-none : (p : Place) (stack : List Frame) (m : Marks) → IsPlace nfa x p
-      → LeadsOn nfa x (pair_of p) (Some p) stack m stack m
-  LeadsOn-none p stack m is = record {
+  pub TurnsLead-none : (p : Place) (stack : List Frame) (m : Marks) → IsPlace nfa x p
+      → TurnsLead nfa x (pair_of p) (Some p) stack m stack m
+  TurnsLead-none p stack m is = record {
     goes = is;
     within = λ count fits. fits;
     tried = omega arith;
@@ -50,7 +50,7 @@ module _ (nfa : Automaton) (x : Search) where
 
   -- turns that end where memory is refused
   pub IsAfforded-then : {v : Pair} {p : Place} {stack after : List Frame} {m n : Marks} (o : Marks)
-      → LeadsOn nfa x v (Some p) stack m after n → IsAfforded nfa x after n o → IsAfforded nfa x stack m o
+      → TurnsLead nfa x v (Some p) stack m after n → IsAfforded nfa x after n o → IsAfforded nfa x stack m o
   IsAfforded-then o f e = let ft = f.tried in omega arith
 
   -- the one turn before memory is refused
@@ -58,9 +58,9 @@ module _ (nfa : Automaton) (x : Search) where
   IsAfforded-turn stack m n counted = omega (arith, marked_sum-le (weights nfa x) m.bits)
 
   -- a turn that finds its place marked
-  pub LeadsOn-marked : (s at : ℕ) (stack : List Frame) {m n : Marks} → WasMarked nfa x (s, at) m n
-      → LeadsOn nfa x (s, at) None stack m stack n
-  LeadsOn-marked s at stack {m} {n} w = record {
+  pub TurnsLead-marked : (s at : ℕ) (stack : List Frame) {m n : Marks} → WasMarked nfa x (s, at) m n
+      → TurnsLead nfa x (s, at) None stack m stack n
+  TurnsLead-marked s at stack {m} {n} w = record {
     goes = tt;
     within = λ count fits. fits;
     tried = rw w.same (omega (arith, w.counted));
@@ -77,11 +77,15 @@ module _ {nfa : Automaton} {x : Search} {s at : ℕ} {m n : Marks} (t : Taken nf
         ≤ m.turns + 1 + sum_by frame_tries stack + marked_sum (weights nfa x) n.bits
     paid =
         rw t.set
-        (omega (arith, t.counted, marked_sum-weights nfa x m.bits s at (ByteRange trans) t.state t.from t.to is t.clear))
+        (omega (
+          arith,
+          t.counted,
+          marked_sum-weights nfa x m.bits s at (ByteRange trans) t.state t.from t.to is t.clear,
+        ))
 
-    pub LeadsOn-stop : option_and_then (target_on (ByteRange trans)) byte ≡ None
-        → LeadsOn nfa x (s, at) None stack m stack n
-    LeadsOn-stop none = record {
+    pub TurnsLead-stop : option_and_then (target_on (ByteRange trans)) byte ≡ None
+        → TurnsLead nfa x (s, at) None stack m stack n
+    TurnsLead-stop none = record {
       goes = tt;
       within = λ count fits. fits;
       tried = omega (arith, paid);
@@ -89,10 +93,10 @@ module _ {nfa : Automaton} {x : Search} {s at : ℕ} {m n : Marks} (t : Taken nf
           (rw none at (Goes-range t row placed (length nfa.states) refl trans is onto byte here stack slots)) work;
     }
 
-    pub LeadsOn-byte : (next : ℕ) → option_and_then (target_on (ByteRange trans)) byte ≡ Some next → (states : ℕ)
+    pub TurnsLead-byte : (next : ℕ) → option_and_then (target_on (ByteRange trans)) byte ≡ Some next → (states : ℕ)
         → states ≡ length nfa.states
-        → LeadsOn nfa x (s, at) (Some (record { sid = next; at = at + 1; row = row + states })) stack m stack n
-    LeadsOn-byte next some states wide = record {
+        → TurnsLead nfa x (s, at) (Some (record { sid = next; at = at + 1; row = row + states })) stack m stack n
+    TurnsLead-byte next some states wide = record {
       goes = (rw some at (Goes-range t row placed states wide trans is onto byte here stack [])).0;
       within = λ count fits. fits;
       tried = paid;
@@ -101,11 +105,11 @@ module _ {nfa : Automaton} {x : Search} {s at : ℕ} {m n : Marks} (t : Taken nf
     }
 
   -- a union, whose exit is put off
-  pub LeadsOn-union : (body exit : ℕ) → slice_get nfa.states s ≡ Some (BinaryUnion body exit)
+  pub TurnsLead-union : (body exit : ℕ) → slice_get nfa.states s ≡ Some (BinaryUnion body exit)
       → body < length nfa.states → exit < length nfa.states → (stack : List Frame)
-      → LeadsOn nfa x (s, at) (Some (record { sid = body; at = at; row = row })) stack m
+      → TurnsLead nfa x (s, at) (Some (record { sid = body; at = at; row = row })) stack m
       (stack ++ Step exit at row ∷ []) n
-  LeadsOn-union body exit is into out stack = record {
+  TurnsLead-union body exit is into out stack = record {
     goes = record { state = into; from = t.from; to = t.to; row = placed };
     within = λ count fits. All-push (IsFrame nfa x count) stack (Step exit at row) fits
         (record { state = out; from = t.from; to = t.to; row = placed });

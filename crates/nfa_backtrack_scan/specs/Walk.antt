@@ -162,8 +162,8 @@ module _ (nfa : Automaton) (x : Search) where
     pub same : marked.bits ≡ marks.bits
     pub counted : marked.turns ≡ marks.turns + 1
 
-  -- What turns pushed, and the turns beyond the first, are paid for by what they marked. `in_hand` is 1 where they go on
-  -- at a place.
+  -- What turns pushed, and the turns beyond the first, are paid for by what they marked. `in_hand` is 1 where they go
+  -- on at a place.
   pub record PaidFor (count : ℕ) (stack : List Frame) (marks : Marks) (after : List Frame) (marked : Marks)
       (in_hand : ℕ) : Type 0 where
     pub within : All (IsFrame count) after
@@ -202,7 +202,7 @@ module _ (nfa : Automaton) (x : Search) where
 
   -- What comes of turns from v on that write no slot and meet no match: the search goes on at the place or, where there
   -- is none, with what was put off.
-  pub record LeadsOn (v : Pair) (place : Option Place) (stack : List Frame) (marks : Marks) (after : List Frame)
+  pub record TurnsLead (v : Pair) (place : Option Place) (stack : List Frame) (marks : Marks) (after : List Frame)
       (marked : Marks) : Type 0 where
     pub goes : IsPlaceOr place
     pub within : (count : ℕ) → All (IsFrame count) stack → All (IsFrame count) after

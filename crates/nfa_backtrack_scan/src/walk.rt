@@ -17,7 +17,7 @@ ghost use Rattle.nfa_scanning.specs.Marks.{Marks};
 ghost use Rattle.nfa_backtrack_scan.specs.Walk.{pair_of, stacked, restoring, move_of, frame_tries, tries_of_move};
 ghost use Rattle.nfa_backtrack_scan.specs.Walk.{tries_of_place, tries_of_turn, with_place, WritesSlot, Unwinds, IsPlace};
 ghost use Rattle.nfa_backtrack_scan.specs.Walk.{IsPlaceOr, IsFrame, HasBits, PaidFor, Carries, Goes, ComesTo, Walks, weights};
-ghost use Rattle.nfa_backtrack_scan.specs.Walk.{Taken, WasMarked, IsAfforded, IsLoop, LeadsOn};
+ghost use Rattle.nfa_backtrack_scan.specs.Walk.{Taken, WasMarked, IsAfforded, IsLoop, TurnsLead};
 ghost use Rattle.nfa_backtrack_scan.specs.declared.frame.Frame.{Frame};
 ghost use Rattle.nfa_backtrack_scan.specs.declared.frame.Frame.TheVariants.{Step};
 
@@ -211,8 +211,8 @@ fn over_byte(
     ensures size { length visited.new.bits ≡ length visited.old.bits }
     ensures state { ForSome result (λ next. next.sid ≡ trans.now.next) }
     ensures further { ForSome result (λ next. next.at ≡ place.at + 1) }
-    ensures leads { (stack : List Frame) → LeadsOn nfa.now (search_of input.now) (pair_of place) result stack visited.old
-        stack visited.new }
+    ensures leads { (stack : List Frame) → TurnsLead nfa.now (search_of input.now) (pair_of place) result stack
+        visited.old stack visited.new }
 {
     let Place { at, row, .. } = place;
     if !mark(nfa, input, place, visited) {
@@ -249,7 +249,7 @@ fn put_off_exit(
     ensures size { length scratch.new.visited.bits ≡ length scratch.old.visited.bits }
     ensures state { IfOk result (λ next. ForSome next (λ to. to.sid ≡ body)) }
     ensures here { IfOk result (λ next. ForSome next (λ to. to.at ≡ union.at)) }
-    ensures leads { IfOk result (λ next. LeadsOn nfa.now (search_of input.now) (pair_of union) next
+    ensures leads { IfOk result (λ next. TurnsLead nfa.now (search_of input.now) (pair_of union) next
         scratch.old.stack.items scratch.old.visited scratch.new.stack.items scratch.new.visited) }
     ensures refused { OnErr result (IsAfforded nfa.now (search_of input.now) scratch.old.stack.items scratch.old.visited
         scratch.new.visited) }
@@ -281,7 +281,7 @@ fn go_round(
     ensures turns { scratch.old.visited.turns ≤ scratch.new.visited.turns }
     ensures scans { scratch.new.scans ≡ scratch.old.scans }
     ensures size { length scratch.new.visited.bits ≡ length scratch.old.visited.bits }
-    ensures leads { OnOk result (LeadsOn nfa.now (search_of input.now) (pair_of body) None
+    ensures leads { OnOk result (TurnsLead nfa.now (search_of input.now) (pair_of body) None
         scratch.old.stack.items scratch.old.visited scratch.new.stack.items scratch.new.visited) }
     ensures refused { OnErr result (IsAfforded nfa.now (search_of input.now) scratch.old.stack.items scratch.old.visited
         scratch.new.visited) }

@@ -1,30 +1,30 @@
 -- Rounds one after another, up to a turn that leads nowhere.
 use Rattle.std.proofs.Common.{◌∙◌, arith}
 use Rattle.regex_search_core.specs.Search.{search_of}
-use Rattle.nfa_backtrack_scan.proofs.RoundLemmas.{LeadsOn-then}
+use Rattle.nfa_backtrack_scan.proofs.RoundLemmas.{TurnsLead-then}
 use Rattle.nfa_backtrack_scan.proofs.walk.go_round.Goals as goal
 
 pub returns-in_default-clause-leads : goal.returns-in_default-clause-leads
 returns-in_default-clause-leads c =
-    LeadsOn-then c.args.nfa.now (search_of c.args.input.now) c.loop-union.invariant.leads
+    TurnsLead-then c.args.nfa.now (search_of c.args.input.now) c.loop-union.invariant.leads
     (c.in_default.ensures.leads c.loop-union.scratch.stack.items)
 
 pub returns-in_default-2-clause-leads : goal.returns-in_default-2-clause-leads
 returns-in_default-2-clause-leads c =
-    let over = LeadsOn-then c.args.nfa.now (search_of c.args.input.now) c.loop-union.invariant.leads
+    let over = TurnsLead-then c.args.nfa.now (search_of c.args.input.now) c.loop-union.invariant.leads
     (c.in-Some.ensures.leads c.loop-union.scratch.stack.items) in
-    LeadsOn-then c.args.nfa.now (search_of c.args.input.now) over
+    TurnsLead-then c.args.nfa.now (search_of c.args.input.now) over
     (rw c.in_default-2.is at c.in_ok-next.ensures.leads)
 
 pub loop-union-preserved : goal.loop-union-preserved
 loop-union-preserved c =
-    let over = LeadsOn-then c.args.nfa.now (search_of c.args.input.now) c.loop-union.invariant.leads
+    let over = TurnsLead-then c.args.nfa.now (search_of c.args.input.now) c.loop-union.invariant.leads
     (c.in-Some.ensures.leads c.loop-union.scratch.stack.items) in
     record {
       state = c.in_ok-next.ensures.state c.in-Some-2.next c.in-Some-2.is;
       turns = omega (arith, c.loop-union.invariant.turns, c.over_byte.ensures.turns, c.put_off_exit.ensures.turns);
       scans = c.put_off_exit.ensures.scans ∙ c.loop-union.invariant.scans;
       size = c.put_off_exit.ensures.size ∙ c.over_byte.ensures.size ∙ c.loop-union.invariant.size;
-      leads = LeadsOn-then c.args.nfa.now (search_of c.args.input.now) over
+      leads = TurnsLead-then c.args.nfa.now (search_of c.args.input.now) over
           (rw c.in-Some-2.is at c.in_ok-next.ensures.leads);
     }

@@ -2,7 +2,7 @@
 use Rattle.std.proofs.Common.{◌≡◌, ◌-◌, ◌≤◌, length}
 use Rattle.regex_search_core.specs.Search.{search_of}
 use Rattle.std.specs.Prelude.{Some}
-use Rattle.nfa_backtrack_scan.specs.Walk.{pair_of, LeadsOn}
+use Rattle.nfa_backtrack_scan.specs.Walk.{pair_of, TurnsLead}
 use Rattle.nfa_backtrack_scan.proofs.walk.go_round.Given as goal
 
 abbrev pub invariant-loop-union : goal.invariant-loop-union
@@ -11,7 +11,7 @@ invariant-loop-union l = record {
   turns : l.fn.scratch.visited.turns ≤ l.scratch.visited.turns;
   scans : l.scratch.scans ≡ l.fn.scratch.scans;
   size : length l.scratch.visited.bits ≡ length l.fn.scratch.visited.bits;
-  leads : LeadsOn l.nfa (search_of l.input) (pair_of l.body) (Some l.place) l.fn.scratch.stack.items
+  leads : TurnsLead l.nfa (search_of l.input) (pair_of l.body) (Some l.place) l.fn.scratch.stack.items
       l.fn.scratch.visited l.scratch.stack.items l.scratch.visited;
 }
 

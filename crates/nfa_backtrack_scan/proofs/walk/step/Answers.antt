@@ -2,7 +2,7 @@
 use Rattle.std.proofs.Common.{[], ◌<◌, ◌∙◌, length, arith, refl, sym}
 use Rattle.std.specs.Prelude.{None}
 use Rattle.regex_search_core.specs.Search.{search_of}
-use Rattle.nfa_backtrack_scan.specs.Walk.{pair_of, LeadsOn}
+use Rattle.nfa_backtrack_scan.specs.Walk.{pair_of, TurnsLead}
 use Rattle.nfa_backtrack_scan.specs.declared.frame.Frame.TheVariants.{Step}
 use Rattle.thompson_nfa.specs.Automaton.Node.{ByteRange, Sparse, Dense, Look, Union, BinaryUnion, Capture, Fail}
 use Rattle.nfa_backtrack_scan.proofs.WalkLemmas.{Carries-marked}
@@ -10,7 +10,7 @@ use Rattle.nfa_backtrack_scan.proofs.StepLemmas.{same_size, Fits-row, target-tri
 use Rattle.nfa_backtrack_scan.proofs.StepLemmas.{PaidFor-put, Goes-range, Goes-sparse, Goes-dense, Goes-look, Goes-no_look}
 use Rattle.nfa_backtrack_scan.proofs.StepLemmas.{Goes-union, Goes-no_union, Goes-both, Goes-fail, Goes-write, Goes-unkept}
 use Rattle.nfa_backtrack_scan.proofs.StepLemmas.{Goes-match, IsFrame-restoring, tries-restoring}
-use Rattle.nfa_backtrack_scan.proofs.RoundLemmas.{OnErr-always, IsAfforded-turn, IsAfforded-then, LeadsOn-then, LeadsOn-union}
+use Rattle.nfa_backtrack_scan.proofs.RoundLemmas.{OnErr-always, IsAfforded-turn, IsAfforded-then, TurnsLead-then, TurnsLead-union}
 use Rattle.nfa_backtrack_scan.proofs.walk.step.Goals as goal
 use Rattle.nfa_backtrack_scan.proofs.walk.step.Goals.{then-slot-slots+in_ok-save-in-Capture, else-slot-slots}
 
@@ -183,7 +183,7 @@ returns-in_err-go_round-in-BinaryUnion-clause-refused c =
     let t = c.mark.ensures.taken c.if-not-mark.false in
     let is = rw c.in-BinaryUnion.is at c.state_at.ensures.node in
     let below = rw c.in-BinaryUnion.is at c.state_at.ensures.leads in
-    let union = LeadsOn-union t c.args.place.row c.requires.place.row c.in-BinaryUnion.alt1 c.in-BinaryUnion.alt2 is
+    let union = TurnsLead-union t c.args.place.row c.requires.place.row c.in-BinaryUnion.alt1 c.in-BinaryUnion.alt2 is
     below.0 below.1 c.args.scratch.now.stack.items in
     let round = rw (c.in_ok-push-in-BinaryUnion.ensures.items, c.later.ensures) at
     c.in_err-go_round-in-BinaryUnion.ensures.refused in
@@ -192,15 +192,15 @@ returns-in_err-go_round-in-BinaryUnion-clause-refused c =
 
 -- the turn at the union and those of the loop
 round : (c : goal.In_ok-go_round-in-BinaryUnion)
-    → LeadsOn c.args.nfa.now (search_of c.args.input.now) (pair_of c.args.place) None c.args.scratch.now.stack.items
+    → TurnsLead c.args.nfa.now (search_of c.args.input.now) (pair_of c.args.place) None c.args.scratch.now.stack.items
     c.args.scratch.now.visited c.go_round.new.scratch.stack.items c.go_round.new.scratch.visited
 round c =
     let t = c.mark.ensures.taken c.if-not-mark.false in
     let is = rw c.in-BinaryUnion.is at c.state_at.ensures.node in
     let below = rw c.in-BinaryUnion.is at c.state_at.ensures.leads in
-    LeadsOn-then c.args.nfa.now (search_of c.args.input.now)
-    (LeadsOn-union t c.args.place.row c.requires.place.row c.in-BinaryUnion.alt1 c.in-BinaryUnion.alt2 is below.0 below.1
-    c.args.scratch.now.stack.items)
+    TurnsLead-then c.args.nfa.now (search_of c.args.input.now)
+    (TurnsLead-union t c.args.place.row c.requires.place.row c.in-BinaryUnion.alt1 c.in-BinaryUnion.alt2 is below.0
+    below.1 c.args.scratch.now.stack.items)
     (rw (c.in_ok-push-in-BinaryUnion.ensures.items, c.later.ensures, c.to-in-Some-way_back.ensures) at
     c.in_ok-go_round-in-BinaryUnion.ensures.leads)
 
