@@ -6,7 +6,9 @@
 #![tactic(auto)]
 
 pub mod frame;
+pub mod round;
 pub mod scan;
 pub mod scratch;
+pub mod turn;
 pub mod visited;
 pub mod walk;

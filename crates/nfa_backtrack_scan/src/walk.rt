@@ -1,12 +1,12 @@
 //! A walk: the search from one start, turn by turn, past what is marked.
-ghost use Rattle.std.specs.Prelude.{◌≡◌, ◌+◌, ◌*◌, ◌<◌, ◌≤◌, [], ◌∷◌, ◌++◌, None, Some, true, false, List, length, map};
-ghost use Rattle.std.specs.Prelude.{reverse, drop, slice_get, slice_index_or, slice_set, All, IfOk, OnErr, OnOk};
+ghost use Rattle.std.specs.Prelude.{◌≡◌, ◌+◌, ◌*◌, ◌<◌, ◌≤◌, [], ◌∷◌, ◌++◌, None, Some, true, List, length, map};
+ghost use Rattle.std.specs.Prelude.{reverse, drop, slice_index_or, slice_set, All, IfOk, OnErr, OnOk};
 ghost use Rattle.std.specs.Prelude.{sum};
 ghost use Rattle.std.specs.List.{sum_by};
 ghost use Rattle.std.specs.Option.{ForSome};
 ghost use Rattle.regex_search_core.specs.Search.{search_of};
-ghost use Rattle.thompson_nfa.specs.Automaton.{Automaton, IsAutomaton, LeadsBelow, node_of};
-ghost use Rattle.thompson_nfa.specs.Automaton.Node.{ByteRange, Sparse, Dense, BinaryUnion};
+ghost use Rattle.thompson_nfa.specs.Automaton.{Automaton, IsAutomaton, node_of};
+ghost use Rattle.thompson_nfa.specs.Automaton.Node.{ByteRange, Sparse, Dense};
 ghost use Rattle.thompson_nfa.specs.Looks.{look_holds};
 ghost use Rattle.regex_search_core.specs.Search.{Search};
 ghost use Rattle.nfa_paths.specs.Paths.{byte_at};
@@ -17,16 +17,17 @@ ghost use Rattle.nfa_scanning.specs.Marks.{Marks};
 ghost use Rattle.nfa_backtrack_scan.specs.Walk.{pair_of, stacked, restoring, move_of, frame_tries, tries_of_move};
 ghost use Rattle.nfa_backtrack_scan.specs.Walk.{tries_of_place, tries_of_turn, with_place, WritesSlot, Unwinds, IsPlace};
 ghost use Rattle.nfa_backtrack_scan.specs.Walk.{IsPlaceOr, IsFrame, HasBits, PaidFor, Carries, Goes, ComesTo, Walks, weights};
-ghost use Rattle.nfa_backtrack_scan.specs.Walk.{Taken, WasMarked, IsAfforded, IsLoop, TurnsLead};
-ghost use Rattle.nfa_backtrack_scan.specs.declared.frame.Frame.{Frame};
+ghost use Rattle.nfa_backtrack_scan.specs.Walk.{IsAfforded};
 ghost use Rattle.nfa_backtrack_scan.specs.declared.frame.Frame.TheVariants.{Step};
 
 use crate::frame::{Frame, Place};
+use crate::round::{go_round, way_back};
 use crate::scratch::Scratch;
+use crate::turn::{mark, state_at};
 use crate::visited::Visited;
 use nfa_scanning::transitions::{byte_at, dense_target, range_target, sparse_target};
 use regex_search_core::{HalfMatch, Input, NonMaxUsize, PatternID, Refused, StateID};
-use thompson_nfa::{Look, NFA, State, Transition, look_matches};
+use thompson_nfa::{Look, NFA, State, look_matches};
 
 /// Where a turn leads.
 #[derive(Clone, Copy)]
@@ -64,18 +65,6 @@ fn past_byte(target: Option<StateID>, place: Place, states: usize) -> Move
         }),
         None => Move::Stuck,
     }
-}
-
-/// The state of this number. The walk has the states at hand, and the NFA is here for the contract alone.
-#[inline(always)]
-fn state_at<'a>(nfa: &NFA, states: &'a [State], sid: StateID) -> &'a State
-    requires states { map node_of states.now ≡ nfa.now.states }
-    requires valid { IsAutomaton nfa.now }
-    requires sid { sid < length nfa.now.states }
-    ensures node { slice_get nfa.now.states sid ≡ Some (node_of result.now) }
-    ensures leads { LeadsBelow (length nfa.now.states) (node_of result.now) }
-{
-    &states[sid.as_usize()]
 }
 
 /// Whether the assertion holds at the position. It is a call of its own, so that its values take no registers from the
@@ -146,158 +135,6 @@ fn push_restoring(
 pub struct Begun {
     place: Place,
     slot: Option<usize>,
-}
-
-/// Tries to mark the place, and says whether it was not marked before. This is one turn.
-#[inline(always)]
-fn mark(nfa: &NFA, input: &Input<'_>, place: Place, visited: &mut Visited) -> bool
-    requires place { IsPlace nfa.now (search_of input.now) place }
-    requires room { HasBits nfa.now (search_of input.now) visited.old.bits }
-    ensures turns { visited.new.turns ≡ visited.old.turns + 1 }
-    ensures size { length visited.new.bits ≡ length visited.old.bits }
-    ensures taken { result ≡ true → Taken nfa.now (search_of input.now) (pair_of place) visited.old visited.new }
-    ensures seen { result ≡ false → WasMarked nfa.now (search_of input.now) (pair_of place) visited.old visited.new }
-{
-    visited.insert(place.row + place.sid.as_usize())
-}
-
-/// The transition that leads from the first of two alternatives back to a union of the same two, if the first is a byte
-/// state and leads there: a loop over one byte.
-#[inline(always)]
-fn way_back<'a>(
-    nfa: &NFA,
-    states: &'a [State],
-    alt1: StateID,
-    alt2: StateID,
-) -> Option<&'a Transition>
-    requires states { map node_of states.now ≡ nfa.now.states }
-    requires valid { IsAutomaton nfa.now }
-    requires alt1 { alt1 < length nfa.now.states }
-    requires alt2 { alt2 < length nfa.now.states }
-    ensures { ForSome result (λ trans. IsLoop nfa.now alt1 alt2 trans.now) }
-{
-    let State::ByteRange { trans } = state_at(nfa, states, alt1) else {
-        return None;
-    };
-    match state_at(nfa, states, trans.next) {
-        State::BinaryUnion {
-            alt1: body,
-            alt2: exit,
-        } => {
-            if *body == alt1 && *exit == alt2 {
-                Some(trans)
-            } else {
-                None
-            }
-        }
-        _ => None,
-    }
-}
-
-/// A turn at a byte state: tries to mark the place, and says where the byte leads.
-#[inline(always)]
-fn over_byte(
-    nfa: &NFA,
-    input: &Input<'_>,
-    place: Place,
-    trans: &Transition,
-    visited: &mut Visited,
-) -> Option<Place>
-    requires state { slice_get nfa.now.states place.sid ≡ Some (ByteRange trans.now) }
-    requires onto { trans.now.next < length nfa.now.states }
-    requires place { IsPlace nfa.now (search_of input.now) place }
-    requires room { HasBits nfa.now (search_of input.now) visited.old.bits }
-    ensures turns { visited.new.turns ≡ visited.old.turns + 1 }
-    ensures size { length visited.new.bits ≡ length visited.old.bits }
-    ensures state { ForSome result (λ next. next.sid ≡ trans.now.next) }
-    ensures further { ForSome result (λ next. next.at ≡ place.at + 1) }
-    ensures leads { (stack : List Frame) → TurnsLead nfa.now (search_of input.now) (pair_of place) result stack
-        visited.old stack visited.new }
-{
-    let Place { at, row, .. } = place;
-    if !mark(nfa, input, place, visited) {
-        return None;
-    }
-    let byte = byte_at(input, at);
-    match range_target(trans, byte) {
-        Some(sid) => Some(Place {
-            sid,
-            at: at + 1,
-            row: row + nfa.states().len(),
-        }),
-        None => None,
-    }
-}
-
-/// A turn at the union of a loop: tries to mark its place, puts off the exit, and goes on at the byte state.
-#[inline(always)]
-fn put_off_exit(
-    nfa: &NFA,
-    input: &Input<'_>,
-    union: Place,
-    body: StateID,
-    exit: StateID,
-    scratch: &mut Scratch,
-) -> Result<Option<Place>, Refused>
-    requires state { slice_get nfa.now.states union.sid ≡ Some (BinaryUnion body exit) }
-    requires into { body < length nfa.now.states }
-    requires out { exit < length nfa.now.states }
-    requires place { IsPlace nfa.now (search_of input.now) union }
-    requires room { HasBits nfa.now (search_of input.now) scratch.old.visited.bits }
-    ensures turns { scratch.new.visited.turns ≡ scratch.old.visited.turns + 1 }
-    ensures scans { scratch.new.scans ≡ scratch.old.scans }
-    ensures size { length scratch.new.visited.bits ≡ length scratch.old.visited.bits }
-    ensures state { IfOk result (λ next. ForSome next (λ to. to.sid ≡ body)) }
-    ensures here { IfOk result (λ next. ForSome next (λ to. to.at ≡ union.at)) }
-    ensures leads { IfOk result (λ next. TurnsLead nfa.now (search_of input.now) (pair_of union) next
-        scratch.old.stack.items scratch.old.visited scratch.new.stack.items scratch.new.visited) }
-    ensures refused { OnErr result (IsAfforded nfa.now (search_of input.now) scratch.old.stack.items scratch.old.visited
-        scratch.new.visited) }
-{
-    if !mark(nfa, input, union, &mut scratch.visited) {
-        return Ok(None);
-    }
-    scratch.stack.push(union.later(exit))?;
-    Ok(Some(union.to(body)))
-}
-
-/// Goes round a loop over one byte, from its byte state on, until a place is marked or the byte does not lead on. Each
-/// exit that is passed is put off.
-///
-/// It is a call of its own, so that its values stay in registers and take none from the walk.
-#[cold]
-#[inline(never)]
-fn go_round(
-    nfa: &NFA,
-    input: &Input<'_>,
-    body: Place,
-    trans: &Transition,
-    exit: StateID,
-    scratch: &mut Scratch,
-) -> Result<(), Refused>
-    requires state { IsLoop nfa.now body.sid exit trans.now }
-    requires place { IsPlace nfa.now (search_of input.now) body }
-    requires room { HasBits nfa.now (search_of input.now) scratch.old.visited.bits }
-    ensures turns { scratch.old.visited.turns ≤ scratch.new.visited.turns }
-    ensures scans { scratch.new.scans ≡ scratch.old.scans }
-    ensures size { length scratch.new.visited.bits ≡ length scratch.old.visited.bits }
-    ensures leads { OnOk result (TurnsLead nfa.now (search_of input.now) (pair_of body) None
-        scratch.old.stack.items scratch.old.visited scratch.new.stack.items scratch.new.visited) }
-    ensures refused { OnErr result (IsAfforded nfa.now (search_of input.now) scratch.old.stack.items scratch.old.visited
-        scratch.new.visited) }
-{
-    let own_input = *input;
-    let own_trans = *trans;
-    let mut place = body;
-    loop {
-        let Some(union) = over_byte(nfa, &own_input, place, &own_trans, &mut scratch.visited) else {
-            return Ok(());
-        };
-        let Some(next) = put_off_exit(nfa, &own_input, union, body.sid, exit, scratch)? else {
-            return Ok(());
-        };
-        place = next;
-    }
 }
 
 /// One turn, or the turns of a loop over one byte: tries to mark the place, and says where it leads.

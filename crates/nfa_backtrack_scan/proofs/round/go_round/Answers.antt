@@ -2,7 +2,7 @@
 use Rattle.std.proofs.Common.{◌∙◌, arith}
 use Rattle.regex_search_core.specs.Search.{search_of}
 use Rattle.nfa_backtrack_scan.proofs.RoundLemmas.{TurnsLead-then}
-use Rattle.nfa_backtrack_scan.proofs.walk.go_round.Goals as goal
+use Rattle.nfa_backtrack_scan.proofs.round.go_round.Goals as goal
 
 pub returns-in_default-clause-leads : goal.returns-in_default-clause-leads
 returns-in_default-clause-leads c =

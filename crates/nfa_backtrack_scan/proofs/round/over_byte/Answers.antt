@@ -3,7 +3,7 @@ use Rattle.std.proofs.Common.{length, sym}
 use Rattle.regex_search_core.specs.Search.{search_of}
 use Rattle.nfa_backtrack_scan.proofs.StepLemmas.{same_size}
 use Rattle.nfa_backtrack_scan.proofs.RoundLemmas.{TurnsLead-marked, TurnsLead-stop, TurnsLead-byte}
-use Rattle.nfa_backtrack_scan.proofs.walk.over_byte.Goals as goal
+use Rattle.nfa_backtrack_scan.proofs.round.over_byte.Goals as goal
 
 pub returns-then-not-mark-clause-leads : goal.returns-then-not-mark-clause-leads
 returns-then-not-mark-clause-leads c = λ stack.

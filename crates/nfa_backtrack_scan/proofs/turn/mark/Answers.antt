@@ -1,7 +1,7 @@
 -- The bit of a place lies in the table, and what a try to set it tells.
 use Rattle.regex_search_core.specs.Search.{search_of}
 use Rattle.nfa_backtrack_scan.proofs.StepLemmas.{bit_of-place, Taken-place, WasMarked-place}
-use Rattle.nfa_backtrack_scan.proofs.walk.mark.Goals as goal
+use Rattle.nfa_backtrack_scan.proofs.turn.mark.Goals as goal
 
 pub returns-clause-taken : goal.returns-clause-taken
 returns-clause-taken c = λ fresh.

@@ -4,7 +4,7 @@ use Rattle.std.specs.Prelude.{All}
 use Rattle.thompson_nfa.specs.Automaton.{LeadsBelow, node_of}
 use Rattle.thompson_nfa.proofs.Tested.{passes-at}
 use Rattle.nfa_backtrack_scan.proofs.StepLemmas.{same_size}
-use Rattle.nfa_backtrack_scan.proofs.walk.state_at.Goals as goal
+use Rattle.nfa_backtrack_scan.proofs.turn.state_at.Goals as goal
 
 pub returns-clause-leads : goal.returns-clause-leads
 returns-clause-leads c =

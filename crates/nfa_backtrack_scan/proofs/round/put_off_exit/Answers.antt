@@ -1,7 +1,7 @@
 -- A turn at a union goes on at its first alternative, with the second put off, or finds its place marked.
 use Rattle.regex_search_core.specs.Search.{search_of}
 use Rattle.nfa_backtrack_scan.proofs.RoundLemmas.{OnErr-always, IsAfforded-turn, TurnsLead-marked, TurnsLead-union}
-use Rattle.nfa_backtrack_scan.proofs.walk.put_off_exit.Goals as goal
+use Rattle.nfa_backtrack_scan.proofs.round.put_off_exit.Goals as goal
 
 pub returns-then-not-mark-clause-leads : goal.returns-then-not-mark-clause-leads
 returns-then-not-mark-clause-leads c =

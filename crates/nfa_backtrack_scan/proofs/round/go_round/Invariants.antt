@@ -3,7 +3,7 @@ use Rattle.std.proofs.Common.{◌≡◌, ◌-◌, ◌≤◌, length}
 use Rattle.regex_search_core.specs.Search.{search_of}
 use Rattle.std.specs.Prelude.{Some}
 use Rattle.nfa_backtrack_scan.specs.Walk.{pair_of, TurnsLead}
-use Rattle.nfa_backtrack_scan.proofs.walk.go_round.Given as goal
+use Rattle.nfa_backtrack_scan.proofs.round.go_round.Given as goal
 
 abbrev pub invariant-loop-union : goal.invariant-loop-union
 invariant-loop-union l = record {

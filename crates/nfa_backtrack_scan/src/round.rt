@@ -1,0 +1,155 @@
+//! A loop over one byte: a byte state and the union that prefers it, gone round turn by turn.
+ghost use Rattle.std.specs.Prelude.{◌≡◌, ◌+◌, ◌<◌, ◌≤◌, None, Some, List, length, map, slice_get, IfOk, OnErr, OnOk};
+ghost use Rattle.std.specs.Option.{ForSome};
+ghost use Rattle.regex_search_core.specs.Search.{search_of};
+ghost use Rattle.thompson_nfa.specs.Automaton.{IsAutomaton, node_of};
+ghost use Rattle.thompson_nfa.specs.Automaton.Node.{ByteRange, BinaryUnion};
+ghost use Rattle.nfa_backtrack_scan.specs.Walk.{pair_of, IsPlace, HasBits, IsAfforded, IsLoop, TurnsLead};
+ghost use Rattle.nfa_backtrack_scan.specs.declared.frame.Frame.{Frame};
+
+use crate::frame::Place;
+use crate::scratch::Scratch;
+use crate::turn::{mark, state_at};
+use crate::visited::Visited;
+use nfa_scanning::transitions::{byte_at, range_target};
+use regex_search_core::{Input, Refused, StateID};
+use thompson_nfa::{NFA, State, Transition};
+
+/// The transition that leads from the first of two alternatives back to a union of the same two, if the first is a byte
+/// state and leads there: a loop over one byte.
+#[inline(always)]
+pub fn way_back<'a>(
+    nfa: &NFA,
+    states: &'a [State],
+    alt1: StateID,
+    alt2: StateID,
+) -> Option<&'a Transition>
+    requires states { map node_of states.now ≡ nfa.now.states }
+    requires valid { IsAutomaton nfa.now }
+    requires alt1 { alt1 < length nfa.now.states }
+    requires alt2 { alt2 < length nfa.now.states }
+    ensures { ForSome result (λ trans. IsLoop nfa.now alt1 alt2 trans.now) }
+{
+    let State::ByteRange { trans } = state_at(nfa, states, alt1) else {
+        return None;
+    };
+    match state_at(nfa, states, trans.next) {
+        State::BinaryUnion {
+            alt1: body,
+            alt2: exit,
+        } => {
+            if *body == alt1 && *exit == alt2 {
+                Some(trans)
+            } else {
+                None
+            }
+        }
+        _ => None,
+    }
+}
+
+/// A turn at a byte state: tries to mark the place, and says where the byte leads.
+#[inline(always)]
+fn over_byte(
+    nfa: &NFA,
+    input: &Input<'_>,
+    place: Place,
+    trans: &Transition,
+    visited: &mut Visited,
+) -> Option<Place>
+    requires state { slice_get nfa.now.states place.sid ≡ Some (ByteRange trans.now) }
+    requires onto { trans.now.next < length nfa.now.states }
+    requires place { IsPlace nfa.now (search_of input.now) place }
+    requires room { HasBits nfa.now (search_of input.now) visited.old.bits }
+    ensures turns { visited.new.turns ≡ visited.old.turns + 1 }
+    ensures size { length visited.new.bits ≡ length visited.old.bits }
+    ensures state { ForSome result (λ next. next.sid ≡ trans.now.next) }
+    ensures further { ForSome result (λ next. next.at ≡ place.at + 1) }
+    ensures leads { (stack : List Frame) → TurnsLead nfa.now (search_of input.now) (pair_of place) result stack
+        visited.old stack visited.new }
+{
+    let Place { at, row, .. } = place;
+    if !mark(nfa, input, place, visited) {
+        return None;
+    }
+    let byte = byte_at(input, at);
+    match range_target(trans, byte) {
+        Some(sid) => Some(Place {
+            sid,
+            at: at + 1,
+            row: row + nfa.states().len(),
+        }),
+        None => None,
+    }
+}
+
+/// A turn at the union of a loop: tries to mark its place, puts off the exit, and goes on at the byte state.
+#[inline(always)]
+fn put_off_exit(
+    nfa: &NFA,
+    input: &Input<'_>,
+    union: Place,
+    body: StateID,
+    exit: StateID,
+    scratch: &mut Scratch,
+) -> Result<Option<Place>, Refused>
+    requires state { slice_get nfa.now.states union.sid ≡ Some (BinaryUnion body exit) }
+    requires into { body < length nfa.now.states }
+    requires out { exit < length nfa.now.states }
+    requires place { IsPlace nfa.now (search_of input.now) union }
+    requires room { HasBits nfa.now (search_of input.now) scratch.old.visited.bits }
+    ensures turns { scratch.new.visited.turns ≡ scratch.old.visited.turns + 1 }
+    ensures scans { scratch.new.scans ≡ scratch.old.scans }
+    ensures size { length scratch.new.visited.bits ≡ length scratch.old.visited.bits }
+    ensures state { IfOk result (λ next. ForSome next (λ to. to.sid ≡ body)) }
+    ensures here { IfOk result (λ next. ForSome next (λ to. to.at ≡ union.at)) }
+    ensures leads { IfOk result (λ next. TurnsLead nfa.now (search_of input.now) (pair_of union) next
+        scratch.old.stack.items scratch.old.visited scratch.new.stack.items scratch.new.visited) }
+    ensures refused { OnErr result (IsAfforded nfa.now (search_of input.now) scratch.old.stack.items scratch.old.visited
+        scratch.new.visited) }
+{
+    if !mark(nfa, input, union, &mut scratch.visited) {
+        return Ok(None);
+    }
+    scratch.stack.push(union.later(exit))?;
+    Ok(Some(union.to(body)))
+}
+
+/// Goes round a loop over one byte, from its byte state on, until a place is marked or the byte does not lead on. Each
+/// exit that is passed is put off.
+///
+/// It is a call of its own, so that its values stay in registers and take none from the walk.
+#[cold]
+#[inline(never)]
+pub fn go_round(
+    nfa: &NFA,
+    input: &Input<'_>,
+    body: Place,
+    trans: &Transition,
+    exit: StateID,
+    scratch: &mut Scratch,
+) -> Result<(), Refused>
+    requires state { IsLoop nfa.now body.sid exit trans.now }
+    requires place { IsPlace nfa.now (search_of input.now) body }
+    requires room { HasBits nfa.now (search_of input.now) scratch.old.visited.bits }
+    ensures turns { scratch.old.visited.turns ≤ scratch.new.visited.turns }
+    ensures scans { scratch.new.scans ≡ scratch.old.scans }
+    ensures size { length scratch.new.visited.bits ≡ length scratch.old.visited.bits }
+    ensures leads { OnOk result (TurnsLead nfa.now (search_of input.now) (pair_of body) None
+        scratch.old.stack.items scratch.old.visited scratch.new.stack.items scratch.new.visited) }
+    ensures refused { OnErr result (IsAfforded nfa.now (search_of input.now) scratch.old.stack.items scratch.old.visited
+        scratch.new.visited) }
+{
+    let own_input = *input;
+    let own_trans = *trans;
+    let mut place = body;
+    loop {
+        let Some(union) = over_byte(nfa, &own_input, place, &own_trans, &mut scratch.visited) else {
+            return Ok(());
+        };
+        let Some(next) = put_off_exit(nfa, &own_input, union, body.sid, exit, scratch)? else {
+            return Ok(());
+        };
+        place = next;
+    }
+}

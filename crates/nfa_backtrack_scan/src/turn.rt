@@ -1,0 +1,35 @@
+//! What a turn of a walk is made of: the state at a place, and the try to mark it.
+ghost use Rattle.std.specs.Prelude.{◌≡◌, ◌+◌, ◌<◌, Some, true, false, length, map, slice_get};
+ghost use Rattle.regex_search_core.specs.Search.{search_of};
+ghost use Rattle.thompson_nfa.specs.Automaton.{IsAutomaton, LeadsBelow, node_of};
+ghost use Rattle.nfa_backtrack_scan.specs.Walk.{pair_of, IsPlace, HasBits, Taken, WasMarked};
+
+use crate::frame::Place;
+use crate::visited::Visited;
+use regex_search_core::{Input, StateID};
+use thompson_nfa::{NFA, State};
+
+/// The state of this number. The walk has the states at hand, and the NFA is here for the contract alone.
+#[inline(always)]
+pub fn state_at<'a>(nfa: &NFA, states: &'a [State], sid: StateID) -> &'a State
+    requires states { map node_of states.now ≡ nfa.now.states }
+    requires valid { IsAutomaton nfa.now }
+    requires sid { sid < length nfa.now.states }
+    ensures node { slice_get nfa.now.states sid ≡ Some (node_of result.now) }
+    ensures leads { LeadsBelow (length nfa.now.states) (node_of result.now) }
+{
+    &states[sid.as_usize()]
+}
+
+/// Tries to mark the place, and says whether it was not marked before. This is one turn.
+#[inline(always)]
+pub fn mark(nfa: &NFA, input: &Input<'_>, place: Place, visited: &mut Visited) -> bool
+    requires place { IsPlace nfa.now (search_of input.now) place }
+    requires room { HasBits nfa.now (search_of input.now) visited.old.bits }
+    ensures turns { visited.new.turns ≡ visited.old.turns + 1 }
+    ensures size { length visited.new.bits ≡ length visited.old.bits }
+    ensures taken { result ≡ true → Taken nfa.now (search_of input.now) (pair_of place) visited.old visited.new }
+    ensures seen { result ≡ false → WasMarked nfa.now (search_of input.now) (pair_of place) visited.old visited.new }
+{
+    visited.insert(place.row + place.sid.as_usize())
+}
