@@ -1,9 +1,11 @@
 //! A loop over one byte: a byte state and the union that prefers it, gone round turn by turn.
 ghost use Rattle.std.specs.Prelude.{◌≡◌, ◌+◌, ◌<◌, ◌≤◌, None, Some, List, length, map, slice_get, IfOk, OnErr, OnOk};
+ghost use Rattle.std.specs.Prelude.{option_and_then, is_some};
 ghost use Rattle.std.specs.Option.{ForSome};
 ghost use Rattle.regex_search_core.specs.Search.{search_of};
 ghost use Rattle.thompson_nfa.specs.Automaton.{IsAutomaton, node_of};
 ghost use Rattle.thompson_nfa.specs.Automaton.Node.{ByteRange, BinaryUnion};
+ghost use Rattle.nfa_paths.specs.Paths.{byte_at, target_on};
 ghost use Rattle.nfa_backtrack_scan.specs.Walk.{pair_of, IsPlace, HasBits, IsAfforded, IsLoop, TurnsLead};
 ghost use Rattle.nfa_backtrack_scan.specs.declared.frame.Frame.{Frame};
 
@@ -16,16 +18,20 @@ use regex_search_core::{Input, Refused, StateID};
 use thompson_nfa::{NFA, State, Transition};
 
 /// The transition that leads from the first of two alternatives back to a union of the same two, if the first is a byte
-/// state and leads there: a loop over one byte.
+/// state and one leads there: a loop over one byte. None where less than two bytes from the position on lead round it:
+/// to go round would then take more than it saves.
 #[inline(always)]
 pub fn way_back<'a>(
     nfa: &NFA,
     states: &'a [State],
+    input: &Input<'_>,
+    at: usize,
     alt1: StateID,
     alt2: StateID,
 ) -> Option<&'a Transition>
     requires states { map node_of states.now ≡ nfa.now.states }
     requires valid { IsAutomaton nfa.now }
+    requires at { at < usize.MAX }
     requires alt1 { alt1 < length nfa.now.states }
     requires alt2 { alt2 < length nfa.now.states }
     ensures { ForSome result (λ trans. IsLoop nfa.now alt1 alt2 trans.now) }
@@ -33,6 +39,9 @@ pub fn way_back<'a>(
     let State::ByteRange { trans } = state_at(nfa, states, alt1) else {
         return None;
     };
+    if !leads_on(trans, input, at) || !leads_on(trans, input, at + 1) {
+        return None;
+    }
     match state_at(nfa, states, trans.next) {
         State::BinaryUnion {
             alt1: body,
@@ -46,6 +55,14 @@ pub fn way_back<'a>(
         }
         _ => None,
     }
+}
+
+/// Whether the byte at the position leads on.
+#[inline(always)]
+fn leads_on(trans: &Transition, input: &Input<'_>, at: usize) -> bool
+    ensures { result ≡ is_some (option_and_then (target_on (ByteRange trans.now)) (byte_at (search_of input.now) at)) }
+{
+    range_target(trans, byte_at(input, at)).is_some()
 }
 
 /// A turn at a byte state: tries to mark the place, and says where the byte leads.

@@ -197,7 +197,7 @@ fn step(
             // Read before the stack is written: the compiler then reads each arm's target in its arm.
             let preferred = place.to(*alt1);
             scratch.stack.push(place.later(*alt2))?;
-            if let Some(trans) = way_back(nfa, states, *alt1, *alt2) {
+            if let Some(trans) = way_back(nfa, states, input, at, *alt1, *alt2) {
                 // A copy: what is lent to a call lies in memory, and what the walk holds is not to.
                 let lent = *input;
                 go_round(nfa, &lent, place.to(*alt1), trans, *alt2, scratch)?;
