@@ -3,7 +3,6 @@
 use super::table::is_row;
 use super::{DATE_SLOTS, backtracker, pikevm};
 use nfa_engines::backtrack::{self, BoundedBacktracker};
-use nfa_engines::error::SearchError;
 use nfa_engines::pikevm::{self, PikeVM};
 use nfa_engines::{Captures, Input};
 use nfa_samples::sample;
@@ -144,7 +143,7 @@ fn expect_backtracked(
     cache: &mut backtrack::Cache,
     captures: &mut Captures,
     row: &Row,
-) -> Result<(), SearchError> {
+) -> Result<(), Fail> {
     engine.try_search(cache, &Input::new(row.3), captures)?;
     expect_row(rt, captures, row);
     engine.try_search(cache, &Input::new(b""), captures)?;
@@ -166,7 +165,7 @@ fn expect_backtracker(rt: &impl Abort, alloc: Global, row: &Row) -> Result<(), F
     let engine = backtracker(alloc, row.0)?;
     let mut cache = engine.create_cache(alloc);
     let mut captures = captures_of(alloc, row)?;
-    Ok(expect_backtracked(rt, &engine, &mut cache, &mut captures, row)?)
+    expect_backtracked(rt, &engine, &mut cache, &mut captures, row)
 }
 
 #[test]

@@ -1,10 +1,11 @@
 //! A span that is too long.
 use super::callers::tries_collected;
-use nfa_engines::Input;
-use nfa_engines::backtrack::{BoundedBacktracker, Config};
+use nfa_engines::backtrack::{BoundedBacktracker, Cache, Config};
 use nfa_engines::error::SearchError;
+use nfa_engines::{Captures, Input};
 use nfa_samples::sample;
 use std::alloc::Global;
+use std::process::Abort;
 use std::test::Fail;
 
 fn short(alloc: Global) -> Result<BoundedBacktracker, Fail> {
@@ -17,15 +18,38 @@ fn short(alloc: Global) -> Result<BoundedBacktracker, Fail> {
     )
 }
 
+fn expect_one(rt: &impl Abort, items: &[Result<Captures, SearchError>]) {
+    assert_eq!(rt; items.len(), 1);
+    for item in items {
+        assert!(rt; matches!(item, Err(SearchError::HaystackTooLong { len: 3 })));
+    }
+}
+
 #[test]
 fn the_refusal_is_the_one_item(rt: HostRuntime) -> Result<(), Fail> {
     let alloc = rt.alloc();
     let engine = short(alloc)?;
     let mut cache = engine.create_cache(alloc);
-    let items = tries_collected(&engine, alloc, &mut cache, b"abc")?;
-    assert_eq!(rt; items.len(), 1);
-    for item in &items {
-        assert!(rt; matches!(item, Err(SearchError::HaystackTooLong { len: 3 })));
+    expect_one(&rt, &tries_collected(&engine, alloc, &mut cache, b"abc")?);
+    Ok(())
+}
+
+fn is_refusal(item: &Option<Result<Captures, SearchError>>) -> bool {
+    matches!(item, Some(Err(SearchError::HaystackTooLong { len: 3 })))
+}
+
+fn expect_no_more(
+    rt: &impl Abort,
+    alloc: Global,
+    engine: &BoundedBacktracker,
+    cache: &mut Cache,
+) -> Result<(), Fail> {
+    let mut items = engine.try_captures_iter(alloc, cache, Input::new(b"abc"))?;
+    let first = is_refusal(&items.next());
+    assert!(rt; first);
+    for _ in 0..2 {
+        let is_none = items.next().is_none();
+        assert!(rt; is_none);
     }
     Ok(())
 }
@@ -35,12 +59,5 @@ fn nothing_comes_after_it(rt: HostRuntime) -> Result<(), Fail> {
     let alloc = rt.alloc();
     let engine = short(alloc)?;
     let mut cache = engine.create_cache(alloc);
-    let mut items = engine.try_captures_iter(alloc, &mut cache, Input::new(b"abc"))?;
-    let first = items.next();
-    assert!(rt; matches!(&first, Some(Err(SearchError::HaystackTooLong { len: 3 }))));
-    for _ in 0..2 {
-        let next = items.next();
-        assert!(rt; next.is_none());
-    }
-    Ok(())
+    expect_no_more(&rt, alloc, &engine, &mut cache)
 }

@@ -2,6 +2,7 @@
 use super::callers::{collected, collected_with, tries_collected, tries_collected_with};
 use super::{DATE_SLOTS, backtracker, pikevm};
 use nfa_engines::error::SearchError;
+use nfa_engines::pikevm::PikeVM;
 use nfa_engines::{Captures, Input};
 use std::alloc::Global;
 use std::process::Abort;
@@ -97,61 +98,97 @@ fn assert_caught(rt: &impl Abort, all: &[Captures], rows: &[Row], name: &str) {
     }
 }
 
+// The list of each row, by an engine and a cache that are made for it.
 #[test]
 fn pikevm_gives_the_lists(rt: HostRuntime) -> Result<(), Fail> {
-    let alloc = rt.alloc();
     for &(name, text, rows) in LISTS {
-        let vm = pikevm(alloc, name)?;
-        let mut cache = vm.create_cache(alloc)?;
-        let items = collected(&vm, alloc, &mut cache, text)?;
-        assert_rows(&rt, items.as_slice(), rows, name);
+        let items = piked(rt.alloc(), name, text)?;
+        assert_rows(&rt, &items, rows, name);
     }
     Ok(())
+}
+
+fn piked(
+    alloc: Global,
+    name: &str,
+    text: &[u8],
+) -> Result<Vec<Result<Captures, SearchError>>, Fail> {
+    let vm = pikevm(alloc, name)?;
+    piked_by(alloc, &vm, text)
+}
+
+fn piked_by(
+    alloc: Global,
+    vm: &PikeVM,
+    text: &[u8],
+) -> Result<Vec<Result<Captures, SearchError>>, Fail> {
+    let mut cache = vm.create_cache(alloc)?;
+    Ok(collected(vm, alloc, &mut cache, text)?)
 }
 
 #[test]
 fn backtracker_gives_the_lists(rt: HostRuntime) -> Result<(), Fail> {
-    let alloc = rt.alloc();
     for &(name, text, rows) in LISTS {
-        let engine = backtracker(alloc, name)?;
-        let mut cache = engine.create_cache(alloc);
-        let items = tries_collected(&engine, alloc, &mut cache, text)?;
-        assert_rows(&rt, items.as_slice(), rows, name);
+        let items = backtracked(rt.alloc(), name, text)?;
+        assert_rows(&rt, &items, rows, name);
     }
     Ok(())
+}
+
+fn backtracked(
+    alloc: Global,
+    name: &str,
+    text: &[u8],
+) -> Result<Vec<Result<Captures, SearchError>>, Fail> {
+    let engine = backtracker(alloc, name)?;
+    let mut cache = engine.create_cache(alloc);
+    Ok(tries_collected(&engine, alloc, &mut cache, text)?)
 }
 
 #[test]
 fn pikevm_gives_the_lists_as_one_value(rt: HostRuntime) -> Result<(), Fail> {
-    let alloc = rt.alloc();
     for &(name, text, rows) in LISTS {
-        let vm = pikevm(alloc, name)?;
-        let mut cache = vm.create_cache(alloc)?;
-        let all = vm.captures_all(alloc, &mut cache, Input::new(text))?;
+        let all = all_piked(rt.alloc(), name, text)?;
         assert_caught(&rt, &all, rows, name);
     }
     Ok(())
+}
+
+fn all_piked(alloc: Global, name: &str, text: &[u8]) -> Result<Vec<Captures>, Fail> {
+    let vm = pikevm(alloc, name)?;
+    all_piked_by(alloc, &vm, text)
+}
+
+fn all_piked_by(alloc: Global, vm: &PikeVM, text: &[u8]) -> Result<Vec<Captures>, Fail> {
+    let mut cache = vm.create_cache(alloc)?;
+    Ok(vm.captures_all(alloc, &mut cache, Input::new(text))?)
 }
 
 #[test]
 fn backtracker_gives_the_lists_as_one_value(rt: HostRuntime) -> Result<(), Fail> {
-    let alloc = rt.alloc();
     for &(name, text, rows) in LISTS {
-        let engine = backtracker(alloc, name)?;
-        let mut cache = engine.create_cache(alloc);
-        let all = engine.try_captures_all(alloc, &mut cache, Input::new(text))?;
+        let all = all_backtracked(rt.alloc(), name, text)?;
         assert_caught(&rt, &all, rows, name);
     }
     Ok(())
 }
 
+fn all_backtracked(alloc: Global, name: &str, text: &[u8]) -> Result<Vec<Captures>, Fail> {
+    let engine = backtracker(alloc, name)?;
+    let mut cache = engine.create_cache(alloc);
+    Ok(engine.try_captures_all(alloc, &mut cache, Input::new(text))?)
+}
+
 #[test]
 fn pikevm_gives_them_with_captures_of_the_caller(rt: HostRuntime) -> Result<(), Fail> {
-    let alloc = rt.alloc();
-    let vm = pikevm(alloc, "foo_num")?;
+    let vm = pikevm(rt.alloc(), "foo_num")?;
+    expect_with(&rt, rt.alloc(), &vm)
+}
+
+fn expect_with(rt: &impl Abort, alloc: Global, vm: &PikeVM) -> Result<(), Fail> {
     let mut cache = vm.create_cache(alloc)?;
-    let items = collected_with(&vm, alloc, &mut cache, FOOS)?;
-    assert_rows(&rt, items.as_slice(), FOO_ROWS, "foo_num");
+    let items = collected_with(vm, alloc, &mut cache, FOOS)?;
+    assert_rows(rt, &items, FOO_ROWS, "foo_num");
     Ok(())
 }
 
@@ -161,6 +198,6 @@ fn backtracker_gives_them_with_captures_of_the_caller(rt: HostRuntime) -> Result
     let engine = backtracker(alloc, "foo_num")?;
     let mut cache = engine.create_cache(alloc);
     let items = tries_collected_with(&engine, alloc, &mut cache, FOOS)?;
-    assert_rows(&rt, items.as_slice(), FOO_ROWS, "foo_num");
+    assert_rows(&rt, &items, FOO_ROWS, "foo_num");
     Ok(())
 }

@@ -1,9 +1,10 @@
 //! What iterators over captures are shown as.
+ghost use Rattle.nfa_pikevm.specs.Engines.{Fits};
 
 use nfa_engines::Input;
 use nfa_engines::backtrack::{self, BoundedBacktracker};
 use nfa_engines::pikevm::{self, PikeVM};
-use std::alloc::Global;
+use std::alloc::{AllocError, Global};
 use std::process::Abort;
 use std::test::Fail;
 
@@ -14,6 +15,32 @@ const FRESH: &str =
 const NEVER: &str =
     "Captures { group_info: GroupInfo { names: [], slot_len: 0 }, pattern: None, slots: [] }";
 
+fn expect_text(rt: &impl Abort, text: &str, want: &str) {
+    assert_eq!(rt; text, want);
+}
+
+// What an iterator of the backtracker is shown as.
+fn tries_text(
+    alloc: Global,
+    engine: &BoundedBacktracker,
+    cache: &mut backtrack::Cache,
+) -> Result<String, Fail> {
+    let items = engine.try_captures_iter(alloc, cache, Input::new(b"a"))?;
+    Ok(format!(in alloc; "{items:?}")?)
+}
+
+// What it is to be shown as, over a cache that is shown so.
+fn wanted_tries(
+    alloc: Global,
+    engine: &BoundedBacktracker,
+    shown: &str,
+) -> Result<String, AllocError> {
+    format!(in alloc;
+        "TryCapturesMatches {{ cache: {shown}, steps: Steps {{ searcher: {FRESH}, \
+        asker: Catcher {{ engine: {engine:?}, captures: {NEVER} }}, done: false }} }}"
+    )
+}
+
 fn expect_tries(
     rt: &impl Abort,
     alloc: Global,
@@ -21,13 +48,24 @@ fn expect_tries(
     cache: &mut backtrack::Cache,
 ) -> Result<(), Fail> {
     let shown = format!(in alloc; "{cache:?}")?;
-    let items = engine.try_captures_iter(alloc, cache, Input::new(b"a"))?;
-    let want = format!(in alloc;
-        "TryCapturesMatches {{ cache: {shown}, steps: Steps {{ searcher: {FRESH}, \
-        asker: Catcher {{ engine: {engine:?}, captures: {NEVER} }}, done: false }} }}"
-    )?;
-    assert_eq!(rt; format!(in alloc; "{items:?}")?.as_str(), want.as_str());
+    let want = wanted_tries(alloc, engine, shown.as_str())?;
+    let text = tries_text(alloc, engine, cache)?;
+    expect_text(rt, text.as_str(), want.as_str());
     Ok(())
+}
+
+fn sure_text(alloc: Global, vm: &PikeVM, cache: &mut pikevm::Cache) -> Result<String, Fail>
+    requires { Fits cache.old vm.now.nfa }
+{
+    let items = vm.captures_iter(alloc, cache, Input::new(b"a"))?;
+    Ok(format!(in alloc; "{items:?}")?)
+}
+
+fn wanted_sure(alloc: Global, vm: &PikeVM, shown: &str) -> Result<String, AllocError> {
+    format!(in alloc;
+        "CapturesMatches {{ cache: {shown}, steps: Steps {{ searcher: {FRESH}, \
+        asker: Catcher {{ engine: {vm:?}, captures: {NEVER} }}, done: false }} }}"
+    )
 }
 
 fn expect_sure(
@@ -37,13 +75,10 @@ fn expect_sure(
     cache: &mut pikevm::Cache,
 ) -> Result<(), Fail> {
     let shown = format!(in alloc; "{cache:?}")?;
+    let want = wanted_sure(alloc, vm, shown.as_str())?;
     assert!(rt; cache.fits(vm));
-    let items = vm.captures_iter(alloc, cache, Input::new(b"a"))?;
-    let want = format!(in alloc;
-        "CapturesMatches {{ cache: {shown}, steps: Steps {{ searcher: {FRESH}, \
-        asker: Catcher {{ engine: {vm:?}, captures: {NEVER} }}, done: false }} }}"
-    )?;
-    assert_eq!(rt; format!(in alloc; "{items:?}")?.as_str(), want.as_str());
+    let text = sure_text(alloc, vm, cache)?;
+    expect_text(rt, text.as_str(), want.as_str());
     Ok(())
 }
 

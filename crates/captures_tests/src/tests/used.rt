@@ -1,7 +1,7 @@
 //! What the callers give when they run.
 ghost use Rattle.std.specs.Prelude.{◌≡◌};
 ghost use Rattle.regex_search_core.specs.declared.search.MatchKind.TheVariants.{LeftmostFirst};
-ghost use Rattle.nfa_pikevm.specs.Engines.{kind_of};
+ghost use Rattle.nfa_pikevm.specs.Engines.{Fits, kind_of};
 
 use super::callers::{
     captures_and_matches, first_two, looped, looped_by_both, looped_twice, texts, tries_first_two,
@@ -10,7 +10,7 @@ use super::callers::{
 use super::{backtracker, pikevm};
 use nfa_engines::Captures;
 use nfa_engines::backtrack::BoundedBacktracker;
-use nfa_engines::pikevm::PikeVM;
+use nfa_engines::pikevm::{Cache, PikeVM};
 use nfa_samples::sample;
 use std::alloc::Global;
 use std::process::Abort;
@@ -33,14 +33,31 @@ fn expect_spans(rt: &impl Abort, all: &[Captures], spans: &[(usize, usize)]) {
     }
 }
 
-fn expect_pikevm(rt: &impl Abort, alloc: Global, vm: &PikeVM) -> Result<(), Fail> {
-    let all = looped(vm, alloc, &mut vm.create_cache(alloc)?, TEXT)?;
+fn expect_looped(rt: &impl Abort, alloc: Global, vm: &PikeVM) -> Result<(), Fail> {
+    let mut cache = vm.create_cache(alloc)?;
+    let all = looped(vm, alloc, &mut cache, TEXT)?;
     expect_spans(rt, &all, SPANS);
-    let all = first_two(vm, alloc, &mut vm.create_cache(alloc)?, TEXT)?;
+    Ok(())
+}
+
+fn expect_first_two(rt: &impl Abort, alloc: Global, vm: &PikeVM) -> Result<(), Fail> {
+    let mut cache = vm.create_cache(alloc)?;
+    let all = first_two(vm, alloc, &mut cache, TEXT)?;
     expect_spans(rt, &all, &SPANS[..2]);
-    let words = texts(vm, alloc, &mut vm.create_cache(alloc)?, TEXT)?;
+    Ok(())
+}
+
+fn expect_words(rt: &impl Abort, alloc: Global, vm: &PikeVM) -> Result<(), Fail> {
+    let mut cache = vm.create_cache(alloc)?;
+    let words = texts(vm, alloc, &mut cache, TEXT)?;
     assert_eq!(rt; words.as_slice(), WORDS);
     Ok(())
+}
+
+fn expect_pikevm(rt: &impl Abort, alloc: Global, vm: &PikeVM) -> Result<(), Fail> {
+    expect_looped(rt, alloc, vm)?;
+    expect_first_two(rt, alloc, vm)?;
+    expect_words(rt, alloc, vm)
 }
 
 // Where the group of the name lies in each.
@@ -71,21 +88,52 @@ fn expect_backtracker(
     Ok(())
 }
 
-// By two caches, and beside the matches.
+// The captures by two caches.
+fn expect_two_lists(
+    rt: &impl Abort,
+    alloc: Global,
+    vm: &PikeVM,
+    cache: &mut Cache,
+    other: &mut Cache,
+) -> Result<(), Fail>
+    requires first { Fits cache.old vm.now.nfa }
+    requires second { Fits other.old vm.now.nfa }
+{
+    let both = looped_twice(vm, alloc, cache, other, TEXT)?;
+    expect_spans(rt, &both.0, SPANS);
+    expect_spans(rt, &both.1, SPANS);
+    Ok(())
+}
+
 fn expect_twice(rt: &impl Abort, alloc: Global, vm: &PikeVM) -> Result<(), Fail> {
     let mut cache = vm.create_cache(alloc)?;
     let mut other = vm.create_cache(alloc)?;
-    let both = looped_twice(vm, alloc, &mut cache, &mut other, TEXT)?;
-    expect_spans(rt, &both.0, SPANS);
-    expect_spans(rt, &both.1, SPANS);
-    let mut cache = vm.create_cache(alloc)?;
-    let mut other = vm.create_cache(alloc)?;
-    let both = captures_and_matches(vm, alloc, &mut cache, &mut other, TEXT)?;
+    expect_two_lists(rt, alloc, vm, &mut cache, &mut other)
+}
+
+// The captures by one cache, beside the matches by another.
+fn expect_list_of_matches(
+    rt: &impl Abort,
+    alloc: Global,
+    vm: &PikeVM,
+    cache: &mut Cache,
+    other: &mut Cache,
+) -> Result<(), Fail>
+    requires first { Fits cache.old vm.now.nfa }
+    requires second { Fits other.old vm.now.nfa }
+{
+    let both = captures_and_matches(vm, alloc, cache, other, TEXT)?;
     expect_spans(rt, &both.0, SPANS);
     for (found, span) in both.1.iter().zip(SPANS) {
         assert_eq!(rt; (found.start(), found.end()), *span);
     }
     Ok(())
+}
+
+fn expect_beside_matches(rt: &impl Abort, alloc: Global, vm: &PikeVM) -> Result<(), Fail> {
+    let mut cache = vm.create_cache(alloc)?;
+    let mut other = vm.create_cache(alloc)?;
+    expect_list_of_matches(rt, alloc, vm, &mut cache, &mut other)
 }
 
 fn expect_both(
@@ -130,7 +178,8 @@ fn items_have_named_groups(rt: HostRuntime) -> Result<(), Fail> {
 fn lists_of_captures_are_one(rt: HostRuntime) -> Result<(), Fail> {
     let alloc = rt.alloc();
     let vm = pikevm(alloc, "words_numbers")?;
-    expect_twice(&rt, alloc, &vm)
+    expect_twice(&rt, alloc, &vm)?;
+    expect_beside_matches(&rt, alloc, &vm)
 }
 
 #[test]

@@ -176,6 +176,16 @@ fn captured_or_error(input: &Input<'_>, captures: &mut Captures) -> Result<(), S
     Ok(())
 }
 
+// The captures have a match, which lies in the span.
+fn match_is_inside(captures: &Captures, input: &Input<'_>) -> bool
+    ensures { IsTrue result → AnswerIsInside row_span (search_of input.now) (caught_by captures.now (Ok tt)) }
+{
+    match captures.get_match() {
+        Some(found) => found.start() >= input.start() && found.end() <= input.end(),
+        None => false,
+    }
+}
+
 // The match that the slots tell, where it lies in the span, or none; and an error where the span starts at `fails`.
 fn captured_or_fails(
     input: &Input<'_>,
@@ -188,11 +198,7 @@ fn captured_or_fails(
         return Err(SearchError::Finder(MatchError::GaveUp { offset: 7 }));
     }
     captures.set_pattern(PatternID::new(0));
-    let inside = match captures.get_match() {
-        Some(found) => found.start() >= input.start() && found.end() <= input.end(),
-        None => false,
-    };
-    if !inside {
+    if !match_is_inside(captures, input) {
         captures.set_pattern(None);
     }
     Ok(())
@@ -304,7 +310,9 @@ fn shown_sure(alloc: Global, captures: Captures) -> Result<(String, usize), Allo
 }
 
 fn no_captures(alloc: Global) -> Result<Captures, Fail> {
-    let groups = GroupInfo::new(vec![in alloc; Vec::new(alloc)]?).ok_or("too many slots")?;
+    let mut names = Vec::new(alloc);
+    names.push(Vec::new(alloc))?;
+    let groups = GroupInfo::new(names).ok_or("too many slots")?;
     Ok(Captures::matches(alloc, groups)?)
 }
 

@@ -1,12 +1,16 @@
 //! Tests of a searcher, step by step.
+ghost use Rattle.std.specs.Prelude.{Ok};
+ghost use Rattle.regex_search_core.specs.Found.{found_of, half_found_of};
 ghost use Rattle.regex_search_core.specs.Search.{search_of};
-ghost use Rattle.nfa_search_base.specs.Finders.{match_place, half_place};
-ghost use Rattle.nfa_search_base.specs.Walks.{LiesIn};
+ghost use Rattle.nfa_search_base.specs.Finders.{answer_by, match_place, half_place};
+ghost use Rattle.nfa_search_base.specs.Walks.{IsSurelyInside, LiesIn, half_span_of, span_of};
 
 use super::callers::{collected_by, halves_collected_by, surely_collected_by};
 use nfa_search_base::error::SearchError;
 use nfa_search_base::iter::{Offered, Searcher};
 use regex_search_core::{HalfMatch, Input, Match, MatchError, PatternID, Span};
+use std::alloc::{AllocError, Global};
+use std::process::Abort;
 use std::test::Fail;
 
 const ERROR: SearchError = SearchError::Finder(MatchError::GaveUp { offset: 7 });
@@ -39,6 +43,49 @@ fn nearest_half(input: &Input<'_>, place: usize) -> Option<HalfMatch>
     }
 }
 
+// The same as a finder that never errs, of the start of the span.
+fn at_start(input: &Input<'_>) -> Result<Option<Match>, SearchError>
+    ensures { IsSurelyInside span_of (search_of input.now) (answer_by found_of result) }
+{
+    Ok(nearest(input, 0))
+}
+
+// The same as a half match.
+fn half_at_start(input: &Input<'_>) -> Result<Option<HalfMatch>, SearchError>
+    ensures { IsSurelyInside half_span_of (search_of input.now) (answer_by half_found_of result) }
+{
+    Ok(nearest_half(input, 0))
+}
+
+// The empty match that is nearest to `place`, and an error where the span starts at `fails`.
+fn found_or_error(
+    input: &Input<'_>,
+    place: usize,
+    fails: usize,
+) -> Result<Option<Match>, SearchError>
+    ensures { LiesIn (search_of input.now) (match_place result) }
+{
+    if input.start() == fails {
+        return Err(ERROR);
+    }
+    Ok(nearest(input, place))
+}
+
+// The same as a half match, and an error where the span starts at `fails`.
+fn half_or_error(
+    input: &Input<'_>,
+    place: usize,
+    fails: usize,
+) -> Result<Option<HalfMatch>, SearchError>
+    ensures { LiesIn (search_of input.now) (half_place result) }
+{
+    if input.start() == fails {
+        return Err(ERROR);
+    }
+    Ok(nearest_half(input, place))
+}
+
+// Where the match lies.
 fn ends(found: Result<Option<Match>, SearchError>) -> Result<Option<(usize, usize)>, SearchError> {
     match found {
         Ok(Some(found)) => Ok(Some((found.start(), found.end()))),
@@ -47,7 +94,9 @@ fn ends(found: Result<Option<Match>, SearchError>) -> Result<Option<(usize, usiz
     }
 }
 
-fn offset(found: Result<Option<HalfMatch>, SearchError>) -> Result<Option<usize>, SearchError> {
+fn half_place_of(
+    found: Result<Option<HalfMatch>, SearchError>,
+) -> Result<Option<usize>, SearchError> {
     match found {
         Ok(Some(found)) => Ok(Some(found.offset())),
         Ok(None) => Ok(None),
@@ -55,186 +104,303 @@ fn offset(found: Result<Option<HalfMatch>, SearchError>) -> Result<Option<usize>
     }
 }
 
+// The start that is not searched, the place that the finder looks for, what comes, which is the error where it is none,
+// and where the searcher then starts.
+type Step = (usize, usize, Option<Option<(usize, usize)>>, usize);
+
+const STEPS: &[Step] = &[
+    (0, 0, None, 0),
+    (9, 0, Some(Some((0, 0))), 0),
+    (1, 0, None, 1),
+    (9, 1, Some(Some((1, 1))), 1),
+];
+
+fn expect_step(rt: &impl Abort, searcher: &mut Searcher<'_>, step: &Step) {
+    let (fails, place, want, start) = *step;
+    let found = searcher.try_advance(|input: &Input<'_>| found_or_error(input, place, fails));
+    assert_eq!(rt; ends(found), want.ok_or(ERROR), "start {start}");
+    assert_eq!(rt; searcher.input().start(), start);
+}
+
 #[test]
 fn searcher_after_errors(rt: HostRuntime) {
     let mut searcher = Searcher::new(Input::new(b"ab"));
-    for (fails, place, want, start) in [
-        (0, 0, Err(ERROR), 0),
-        (9, 0, Ok(Some((0, 0))), 0),
-        (1, 0, Err(ERROR), 1),
-        (9, 1, Ok(Some((1, 1))), 1),
-    ] {
-        let found = searcher.try_advance(|input: &Input<'_>| {
-            if input.start() == fails {
-                return Err(ERROR);
-            }
-            Ok(nearest(input, place))
-        });
-        assert_eq!(rt; ends(found), want, "start {start}");
-        assert_eq!(rt; searcher.input().start(), start);
+    for step in STEPS {
+        expect_step(&rt, &mut searcher, step);
     }
+}
+
+// The same of half matches.
+type HalfStep = (usize, usize, Option<Option<usize>>, usize);
+
+const HALF_STEPS: &[HalfStep] = &[
+    (9, 0, Some(Some(0)), 0),
+    (1, 0, None, 1),
+    (9, 1, Some(Some(1)), 1),
+];
+
+fn expect_half_step(rt: &impl Abort, searcher: &mut Searcher<'_>, step: &HalfStep) {
+    let (fails, place, want, start) = *step;
+    let found = searcher.try_advance_half(|input: &Input<'_>| half_or_error(input, place, fails));
+    assert_eq!(rt; half_place_of(found), want.ok_or(ERROR), "start {start}");
+    assert_eq!(rt; searcher.input().start(), start);
 }
 
 #[test]
 fn half_searcher_after_errors(rt: HostRuntime) {
     let mut searcher = Searcher::new(Input::new(b"ab"));
-    for (fails, place, want, start) in [
-        (9, 0, Ok(Some(0)), 0),
-        (1, 0, Err(ERROR), 1),
-        (9, 1, Ok(Some(1)), 1),
-    ] {
-        let found = searcher.try_advance_half(|input: &Input<'_>| {
-            if input.start() == fails {
-                return Err(ERROR);
-            }
-            Ok(nearest_half(input, place))
-        });
-        assert_eq!(rt; offset(found), want, "start {start}");
-        assert_eq!(rt; searcher.input().start(), start);
+    for step in HALF_STEPS {
+        expect_half_step(&rt, &mut searcher, step);
     }
 }
 
-// A finder that is lent keeps a 1, and after it the starts of the inputs that it was given.
-#[test]
-fn lent_finders_stay(rt: HostRuntime) {
-    let mut searcher = Searcher::new(Input::new(b"ab"));
+// One more digit, behind those that were seen.
+fn noted(seen: usize, digit: usize) -> usize {
+    seen.wrapping_mul(10).wrapping_add(digit)
+}
+
+// What two steps give by one finder that is lent to both, and what it keeps: a 1, and after it the starts of the inputs
+// that it was given.
+fn lent_steps(
+    searcher: &mut Searcher<'_>,
+) -> (Result<Option<Match>, SearchError>, Option<Match>, usize) {
     let mut seen = 1usize;
     let mut finder = |input: &Input<'_>| {
-        seen = seen.wrapping_mul(10).wrapping_add(input.start());
+        seen = noted(seen, input.start());
         Ok(nearest(input, 0))
     };
     let first = searcher.try_advance_by_ref(&mut finder);
-    assert_eq!(rt; ends(first), Ok(Some((0, 0))));
     let second = searcher.advance_by_ref(&mut finder);
+    (first, second, seen)
+}
+
+#[test]
+fn lent_finders_stay(rt: HostRuntime) {
+    let mut searcher = Searcher::new(Input::new(b"ab"));
+    let (first, second, seen) = lent_steps(&mut searcher);
+    assert_eq!(rt; ends(first), Ok(Some((0, 0))));
     assert_eq!(rt; ends(Ok(second)), Ok(Some((1, 1))));
     assert_eq!(rt; seen, 1001);
+}
+
+fn lent_half_steps(
+    searcher: &mut Searcher<'_>,
+) -> (
+    Result<Option<HalfMatch>, SearchError>,
+    Option<HalfMatch>,
+    usize,
+) {
+    let mut seen = 1usize;
+    let mut finder = |input: &Input<'_>| {
+        seen = noted(seen, input.start());
+        Ok(nearest_half(input, 0))
+    };
+    let first = searcher.try_advance_half_by_ref(&mut finder);
+    let second = searcher.advance_half_by_ref(&mut finder);
+    (first, second, seen)
 }
 
 #[test]
 fn lent_half_finders_stay(rt: HostRuntime) {
     let mut searcher = Searcher::new(Input::new(b"ab"));
-    let mut seen = 1usize;
-    let mut finder = |input: &Input<'_>| {
-        seen = seen.wrapping_mul(10).wrapping_add(input.start());
-        Ok(nearest_half(input, 0))
-    };
-    let first = searcher.try_advance_half_by_ref(&mut finder);
-    assert_eq!(rt; offset(first), Ok(Some(0)));
-    let second = searcher.advance_half_by_ref(&mut finder);
-    assert_eq!(rt; offset(Ok(second)), Ok(Some(1)));
+    let (first, second, seen) = lent_half_steps(&mut searcher);
+    assert_eq!(rt; half_place_of(first), Ok(Some(0)));
+    assert_eq!(rt; half_place_of(Ok(second)), Ok(Some(1)));
     assert_eq!(rt; seen, 1001);
+}
+
+// What a call of an iterator gives: an empty match, by its place, the finder's error, or nothing.
+#[derive(Clone, Copy)]
+enum Call {
+    Match(usize),
+    Error,
+    Nothing,
+}
+
+// The start that is not searched, and what the calls give.
+const CALLS: &[(usize, &[Call])] = &[
+    (0, &[Call::Error, Call::Nothing, Call::Nothing]),
+    (
+        1,
+        &[Call::Match(0), Call::Error, Call::Nothing, Call::Nothing],
+    ),
+    (
+        2,
+        &[
+            Call::Match(0),
+            Call::Match(1),
+            Call::Error,
+            Call::Nothing,
+            Call::Nothing,
+        ],
+    ),
+    (
+        9,
+        &[
+            Call::Match(0),
+            Call::Match(1),
+            Call::Match(2),
+            Call::Nothing,
+            Call::Nothing,
+        ],
+    ),
+];
+
+// The call gave this: the ends of a match, or the offset of a half match twice.
+fn expect_call(rt: &impl Abort, item: Option<Result<(usize, usize), SearchError>>, call: Call) {
+    let want = match call {
+        Call::Match(at) => Some(Ok((at, at))),
+        Call::Error => Some(Err(ERROR)),
+        Call::Nothing => None,
+    };
+    assert_eq!(rt; item, want);
+}
+
+fn item_ends(
+    item: Option<Result<Match, SearchError>>,
+) -> Option<Result<(usize, usize), SearchError>> {
+    match item {
+        Some(Ok(found)) => Some(Ok((found.start(), found.end()))),
+        Some(Err(error)) => Some(Err(error)),
+        None => None,
+    }
+}
+
+fn expect_items(rt: &impl Abort, fails: usize, calls: &[Call]) {
+    let mut items = Searcher::new(Input::new(b"ab")).into_matches_iter(|input: &Input<
+        '_,
+    >| found_or_error(input, 0, fails));
+    for call in calls {
+        expect_call(rt, item_ends(items.next()), *call);
+    }
+}
+
+fn half_ends(
+    item: Option<Result<HalfMatch, SearchError>>,
+) -> Option<Result<(usize, usize), SearchError>> {
+    match item {
+        Some(Ok(half)) => Some(Ok((half.offset(), half.offset()))),
+        Some(Err(error)) => Some(Err(error)),
+        None => None,
+    }
+}
+
+fn expect_halves(rt: &impl Abort, fails: usize, calls: &[Call]) {
+    let mut halves = Searcher::new(Input::new(b"ab")).into_half_matches_iter(|input: &Input<
+        '_,
+    >| half_or_error(input, 0, fails));
+    for call in calls {
+        expect_call(rt, half_ends(halves.next()), *call);
+    }
 }
 
 #[test]
 fn iterators_after_errors(rt: HostRuntime) {
-    for (fails, matches) in [(0, 0), (1, 1), (2, 2), (9, 3)] {
-        let mut items = Searcher::new(Input::new(b"ab")).into_matches_iter(|input: &Input<'_>| {
-            if input.start() == fails {
-                return Err(ERROR);
-            }
-            Ok(nearest(input, 0))
-        });
-        let mut halves = Searcher::new(Input::new(b"ab")).into_half_matches_iter(|input: &Input<
-            '_,
-        >| {
-            if input.start() == fails {
-                return Err(ERROR);
-            }
-            Ok(nearest_half(input, 0))
-        });
-        for at in 0..matches {
-            let item = items
-                .next()
-                .map(|item| item.map(|found| (found.start(), found.end())));
-            assert_eq!(rt; item, Some(Ok((at, at))));
-            let half = halves.next().map(|item| item.map(|found| found.offset()));
-            assert_eq!(rt; half, Some(Ok(at)));
-        }
-        if fails != 9 {
-            assert_eq!(rt; items.next(), Some(Err(ERROR)));
-            assert_eq!(rt; halves.next(), Some(Err(ERROR)));
-        }
-        for _again in 0..2 {
-            assert_eq!(rt; items.next(), None);
-            assert_eq!(rt; halves.next(), None);
-        }
+    for &(fails, calls) in CALLS {
+        expect_items(&rt, fails, calls);
+        expect_halves(&rt, fails, calls);
+    }
+}
+
+fn expect_advances(rt: &impl Abort, searcher: &mut Searcher<'_>) {
+    for at in 0..3usize {
+        let full = searcher.advance(at_start);
+        assert_eq!(rt; ends(Ok(full)), Ok(Some((at, at))));
     }
 }
 
 #[test]
-fn infallible_forms(rt: HostRuntime) -> Result<(), Fail> {
+fn infallible_steps(rt: HostRuntime) {
     let mut searcher = Searcher::new(Input::new(b"ab"));
-    for at in 0..3usize {
-        let full = searcher.advance(|input: &Input<'_>| Ok(nearest(input, 0)));
-        assert_eq!(rt; full.map(|found| found.end()), Some(at));
-    }
-    let none = searcher.advance_half(|input: &Input<'_>| Ok(nearest_half(input, 0)));
-    assert_eq!(rt; none, None);
-    let full = Searcher::new(Input::new(b"ab")).into_matches_iter(|input: &Input<'_>| Ok(nearest(
-        input, 0,
-    )));
-    let half = Searcher::new(Input::new(b"ab")).into_half_matches_iter(|input: &Input<'_>| Ok(
-        nearest_half(input, 0),
-    ));
-    assert_eq!(rt; full.input().end(), 2);
-    assert_eq!(rt; half.input().end(), 2);
+    expect_advances(&rt, &mut searcher);
+    let none = searcher.advance_half(half_at_start);
+    assert_eq!(rt; half_place_of(Ok(none)), Ok(None));
+}
+
+// Where the span of an iterator over matches ends, where the one of its form that never errs starts, and how many
+// matches that gives.
+fn infallible_matches() -> (usize, usize, usize) {
+    let full = Searcher::new(Input::new(b"ab")).into_matches_iter(at_start);
+    let end = full.input().end();
     let full = full.infallible();
+    (end, full.input().start(), full.count())
+}
+
+fn infallible_half_matches() -> (usize, usize, usize) {
+    let half = Searcher::new(Input::new(b"ab")).into_half_matches_iter(half_at_start);
+    let end = half.input().end();
     let half = half.infallible();
-    assert_eq!(rt; full.input().start(), 0);
-    assert_eq!(rt; half.input().start(), 0);
-    assert_eq!(rt; full.count(), 3);
-    assert_eq!(rt; half.count(), 3);
-    Ok(())
+    (end, half.input().start(), half.count())
+}
+
+#[test]
+fn infallible_iterators(rt: HostRuntime) {
+    assert_eq!(rt; infallible_matches(), (2, 0, 3));
+    assert_eq!(rt; infallible_half_matches(), (2, 0, 3));
+}
+
+// How many matches are collected of what that finder tells, of one that never errs, and how many half matches.
+fn collected_len(alloc: Global) -> Result<usize, AllocError> {
+    let searcher = Searcher::new(Input::new(b"ab"));
+    let found = collected_by(alloc, searcher, at_start)?;
+    Ok(found.len())
+}
+
+fn surely_collected_len(alloc: Global) -> Result<usize, AllocError> {
+    let searcher = Searcher::new(Input::new(b"ab"));
+    let found = surely_collected_by(alloc, searcher, at_start)?;
+    Ok(found.len())
+}
+
+fn halves_collected_len(alloc: Global) -> Result<usize, AllocError> {
+    let searcher = Searcher::new(Input::new(b"ab"));
+    let found = halves_collected_by(alloc, searcher, half_at_start)?;
+    Ok(found.len())
 }
 
 #[test]
 fn what_a_finder_tells_is_collected(rt: HostRuntime) -> Result<(), Fail> {
     let alloc = rt.alloc();
-    let found = collected_by(
-        alloc,
-        Searcher::new(Input::new(b"ab")),
-        |input: &Input<'_>| Ok(nearest(input, 0)),
-    )?;
-    assert_eq!(rt; found.len(), 3);
-    let surely = surely_collected_by(
-        alloc,
-        Searcher::new(Input::new(b"ab")),
-        |input: &Input<'_>| Ok(nearest(input, 0)),
-    )?;
-    assert_eq!(rt; surely.len(), 3);
-    let halves = halves_collected_by(
-        alloc,
-        Searcher::new(Input::new(b"ab")),
-        |input: &Input<'_>| Ok(nearest_half(input, 0)),
-    )?;
-    assert_eq!(rt; halves.len(), 3);
+    assert_eq!(rt; collected_len(alloc)?, 3);
+    assert_eq!(rt; surely_collected_len(alloc)?, 3);
+    assert_eq!(rt; halves_collected_len(alloc)?, 3);
     Ok(())
 }
 
-#[test]
-fn offers_and_texts(rt: HostRuntime) -> Result<(), Fail> {
-    let mut searcher = Searcher::new(Input::new(b"a"));
+fn expect_offers(rt: &impl Abort, searcher: &mut Searcher<'_>) {
     let first = nearest(searcher.input(), 0);
     assert_eq!(rt; searcher.offer(first), Offered::Done(first));
     let second = nearest(searcher.input(), 0);
     assert_eq!(rt; searcher.offer(second), Offered::Again);
     assert_eq!(rt; searcher.input().start(), 1);
     assert_eq!(rt; searcher.offer(None), Offered::Done(None));
+}
+
+const AFTER_OFFERS: &str =
+    "Searcher { input: Input { haystack: [97], span: Span { start: 1, end: 1 }, anchored: No, \
+    earliest: false }, last_match_end: Some(0) }";
+
+// How an iterator over that searcher is shown.
+fn matches_text(alloc: Global, searcher: Searcher<'_>) -> Result<String, AllocError> {
+    let items = searcher.into_matches_iter(at_start);
+    format!(in alloc; "{items:?}")
+}
+
+#[test]
+fn offers_and_texts(rt: HostRuntime) -> Result<(), Fail> {
+    let alloc = rt.alloc();
+    let mut searcher = Searcher::new(Input::new(b"a"));
+    expect_offers(&rt, &mut searcher);
     let copy = searcher.clone()?;
-    let text =
-        "Searcher { input: Input { haystack: [97], span: Span { start: 1, end: 1 }, anchored: No, \
-        earliest: false }, last_match_end: Some(0) }";
-    assert_eq!(rt; format!(in rt.alloc(); "{copy:?}")?.as_str(), text);
-    assert_eq!(rt;
-        format!(in rt.alloc(); "{:?}", Offered::Again)?.as_str(),
-        "Again"
+    assert_eq!(rt; format!(in alloc; "{copy:?}")?.as_str(), AFTER_OFFERS);
+    let text = matches_text(alloc, copy)?;
+    assert!(rt;
+        text.as_str()
+            .starts_with("TryMatchesIter { searcher: Searcher {")
     );
-    let items = copy.into_matches_iter(|input: &Input<'_>| Ok(nearest(input, 0)));
     assert_eq!(rt;
-        format!(in rt.alloc(); "{items:?}")?
-            .as_str()
-            .starts_with("TryMatchesIter { searcher: Searcher {"),
-        true
+        format!(in alloc; "{:?}", Offered::Again)?.as_str(),
+        "Again"
     );
     Ok(())
 }
