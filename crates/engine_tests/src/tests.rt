@@ -1,6 +1,7 @@
 //! Both engines side by side.
 
 mod alike;
+mod choice;
 mod expected;
 mod grid;
 mod memory;

@@ -1,5 +1,0 @@
-//! Tests of the backtracker on sample NFAs, and callers that use what the iterators promise of their lists.
-#![tactic(auto)]
-
-#[cfg(test)]
-mod tests;

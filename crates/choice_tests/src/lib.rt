@@ -1,5 +1,0 @@
-//! Tests of the engine that chooses.
-#![tactic(auto)]
-
-#[cfg(test)]
-mod tests;

@@ -1,8 +1,0 @@
--- The items are the list.
-use Rattle.nfa_search_base.specs.StoredRuns.{caught_steps}
-use Rattle.nfa_search_base.proofs.ToldLemmas.{collected_all}
-use Rattle.iteration_tests.proofs.tests.callers.captures_collected_by.Goals as goal
-
-pub returns : goal.returns
-returns g c = collected_all (caught_steps g.F.FnMut) _ c.into_captures_iter.result c.collect.result
-    c.collect.ensures.ran c.into_captures_iter.ensures.all

@@ -1,0 +1,4 @@
+//! Tests of each engine by itself.
+
+mod backtrack;
+mod pikevm;
