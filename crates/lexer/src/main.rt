@@ -23,15 +23,18 @@ const MISUSED: u8 = 2;
 
 // An error is printed on standard error, and the status then is 1 too.
 fn main(rt: HostRuntime) -> Result<ExitCode> {
-    let alloc = rt.alloc();
-    let words: Vec<String> = env::args(&rt)?.skip(1).collect(alloc)?;
+    let words: Vec<String> = env::args(&rt)?.skip(1).collect(rt.alloc())?;
     if !words.is_empty() {
         // The status tells of it where this is not written.
         let _ = eprintln!(rt; "{USAGE}");
         return Ok(ExitCode::from(MISUSED));
     }
-    let mut out = BufWriter::new(alloc, io::writer(&rt))?;
-    let whole = report::run(alloc, rt.reader(), &mut out)?;
+    run(&rt)
+}
+
+fn run(rt: &HostRuntime) -> Result<ExitCode> {
+    let mut out = BufWriter::new(rt.alloc(), io::writer(rt))?;
+    let whole = report::run(rt.alloc(), rt.reader(), &mut out)?;
     Ok(if whole {
         ExitCode::SUCCESS
     } else {

@@ -1,6 +1,6 @@
 //! A line for each token.
 
-use crate::lexer::{Token, tokens};
+use crate::lexer::{Lexed, Token, tokens};
 use crate::patterns::{NAMES, SPACE, language};
 use anyhow::Result;
 use nfa_engines::pikevm::PikeVM;
@@ -21,6 +21,11 @@ fn write_tokens<W: Write>(alloc: Global, text: &[u8], out: &mut W) -> Result<boo
     let vm = PikeVM::new_from_nfa(language(alloc)?)?;
     let mut cache = vm.create_cache(alloc)?;
     let lexed = tokens(alloc, &vm, &mut cache, text)?;
+    write_lexed(text, &lexed, out)?;
+    Ok(lexed.stuck.is_none())
+}
+
+fn write_lexed<W: Write>(text: &[u8], lexed: &Lexed, out: &mut W) -> io::Result<()> {
     for token in &lexed.tokens {
         write_token(out, text, token)?;
     }
@@ -28,8 +33,7 @@ fn write_tokens<W: Write>(alloc: Global, text: &[u8], out: &mut W) -> Result<boo
         let at = stuck.at;
         writeln!(out, "no token at {at}")?;
     }
-    out.flush()?;
-    Ok(lexed.stuck.is_none())
+    out.flush()
 }
 
 /// The pattern's name, the span, and the text, which for white space is left out.

@@ -8,7 +8,7 @@ use test_io::{Refusing, Unreadable};
 #[test]
 fn prints_the_tokens(rt: HostRuntime) -> Result<(), Fail> {
     let alloc = rt.alloc();
-    for (text, want, whole) in [
+    for &(text, want, whole) in &[
         ("", "", true),
         ("x", "identifier 0..1 x\n", true),
         (

@@ -27,8 +27,12 @@ fn main(rt: HostRuntime) -> Result<ExitCode> {
         let _ = eprintln!(rt; "{USAGE}");
         return Ok(ExitCode::from(MISUSED));
     };
-    let input = BufReader::new(alloc, rt.reader())?;
-    let mut out = BufWriter::new(alloc, io::writer(&rt))?;
-    report::run(alloc, options, input, &mut out)?;
+    run(&rt, options)?;
     Ok(ExitCode::SUCCESS)
+}
+
+fn run(rt: &HostRuntime, options: Options) -> Result<()> {
+    let input = BufReader::new(rt.alloc(), rt.reader())?;
+    let mut out = BufWriter::new(rt.alloc(), io::writer(rt))?;
+    report::run(rt.alloc(), options, input, &mut out)
 }

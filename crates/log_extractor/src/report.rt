@@ -18,13 +18,7 @@ pub fn run<R: BufRead + Drop, W: Write>(
 ) -> Result<()> {
     let mut parser = Parser::new(alloc)?;
     let mut report = Report::new(alloc, options);
-    out.write_all(b"DATE        TIME      LEVEL  MESSAGE\n")?;
-    for line in input.split(alloc, b'\n') {
-        report.add(&mut parser, without_return(&line?), out)?;
-    }
-    report.write_counts(out)?;
-    out.flush()?;
-    Ok(())
+    report.write_table(&mut parser, input, out)
 }
 
 /// The line without the carriage return that stands before a line's end in some files.
@@ -52,6 +46,21 @@ impl Report {
             matching: 0,
             rejected: 0,
         }
+    }
+
+    fn write_table<R: BufRead + Drop, W: Write>(
+        &mut self,
+        parser: &mut Parser,
+        input: R,
+        out: &mut W,
+    ) -> Result<()> {
+        out.write_all(b"DATE        TIME      LEVEL  MESSAGE\n")?;
+        for line in input.split(self.alloc, b'\n') {
+            self.add(parser, without_return(&line?), out)?;
+        }
+        self.write_counts(out)?;
+        out.flush()?;
+        Ok(())
     }
 
     /// Counts the line, and prints its row; or, where rejects are asked for, that it does not match.

@@ -14,7 +14,7 @@ fn finds_the_fields(rt: HostRuntime) -> Result<(), Fail> {
     let mut parser = Parser::new(rt.alloc())?;
     let line = b"2026-11-22 14:03:07 ERROR disk full";
     let fields = parser.parse_line(line).ok_or("no fields")?;
-    for (text, want) in [
+    for &(text, want) in &[
         (fields.date(), &b"2026-11-22"[..]),
         (fields.time(), b"14:03:07"),
         (fields.level(), b"ERROR"),
@@ -28,7 +28,7 @@ fn finds_the_fields(rt: HostRuntime) -> Result<(), Fail> {
 #[test]
 fn knows_which_lines_match(rt: HostRuntime) -> Result<(), Fail> {
     let mut parser = Parser::new(rt.alloc())?;
-    for (line, want) in [
+    for &(line, want) in &[
         (&b"2026-11-22 14:03:07 INFO ready"[..], true),
         (b"2026-11-22 14:03:07 INFO ", true),
         (b"2026-11-22 14:03:07 INFO \xFF\xFE", true),
@@ -57,7 +57,7 @@ fn prints_the_table(rt: HostRuntime) -> Result<(), Fail> {
         line 2 does not match: noise\n\
         2026-11-22  14:03:08  INFO   \xFF\n\
         ERROR 1, INFO 1, not matching 1\n";
-    for (rejects, want) in [(false, &table[..]), (true, with_rejects)] {
+    for &(rejects, want) in &[(false, &table[..]), (true, with_rejects)] {
         let mut out = Vec::new(alloc);
         run(alloc, Options { rejects }, &log[..], &mut out)?;
         assert_eq!(rt; out.as_slice(), want, "rejects {rejects}");
@@ -76,7 +76,7 @@ fn an_empty_input_has_no_rows(rt: HostRuntime) -> Result<(), Fail> {
 
 #[test]
 fn knows_its_words(rt: HostRuntime) -> Result<(), Fail> {
-    for (words, want) in [
+    for &(words, want) in &[
         (&[][..], Some(Options { rejects: false })),
         (&["--rejects"], Some(Options { rejects: true })),
         (&["--reject"], None),
@@ -124,7 +124,7 @@ impl<'t> Read for Breaking<'t> {
 #[test]
 fn ends_where_the_input_is_not_read(rt: HostRuntime) -> Result<(), Fail> {
     let alloc = rt.alloc();
-    for text in [&b""[..], b"2026-11-22 14:03:07 ERROR disk full\nnoise"] {
+    for &text in &[&b""[..], b"2026-11-22 14:03:07 ERROR disk full\nnoise"] {
         let mut out = Vec::new(alloc);
         let input = BufReader::new(alloc, Breaking { text })?;
         let ended = run(alloc, Options { rejects: true }, input, &mut out);

@@ -13,7 +13,11 @@ fn main(rt: HostRuntime) -> io::Result<ExitCode> {
         .iter()
         .map(|word| word.as_str())
         .collect(rt.alloc())?;
-    let mut out = BufWriter::new(rt.alloc(), io::writer(&rt))?;
-    let status = run::run(rt.alloc(), &words, &mut rt.reader(), &mut out);
+    answer(&rt, &words)
+}
+
+fn answer(rt: &HostRuntime, words: &[&str]) -> io::Result<ExitCode> {
+    let mut out = BufWriter::new(rt.alloc(), io::writer(rt))?;
+    let status = run::run(rt.alloc(), words, &mut rt.reader(), &mut out);
     Ok(ExitCode::from(status))
 }

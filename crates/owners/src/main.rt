@@ -17,15 +17,29 @@ fn named(alloc: Global, name: &str) -> Result<NFA> {
     sample(alloc, name)?.context("there is no NFA of this name")
 }
 
-fn main(rt: HostRuntime) -> Result<()> {
-    let alloc = rt.alloc();
+// The bytes in matches of one NFA, and in those of another that takes its place.
+fn marked(alloc: Global, text: &[u8]) -> Result<(usize, usize)> {
     let mut highlighter = Highlighter::new(alloc, named(alloc, "foo_num")?)?;
-    println!(rt; "{}", highlighter.marked(b"foo1 foo12 abc"))?;
-    highlighter.look_for(named(alloc, "abc")?)?;
-    println!(rt; "{}", highlighter.marked(b"foo1 foo12 abc"))?;
+    marked_by(alloc, &mut highlighter, text)
+}
 
+fn marked_by(alloc: Global, highlighter: &mut Highlighter, text: &[u8]) -> Result<(usize, usize)> {
+    let before = highlighter.marked(text);
+    highlighter.look_for(named(alloc, "abc")?)?;
+    Ok((before, highlighter.marked(text)))
+}
+
+// Where the first match starts.
+fn first_start(alloc: Global, text: &[u8]) -> Result<Option<usize>> {
     let vm = PikeVM::new_from_nfa(named(alloc, "abc")?)?;
     let mut matcher = Matcher::new(alloc, vm)?;
-    println!(rt; "{:?}", matcher.find(b"xabc").map(|found| found.start()))?;
+    Ok(matcher.find(text).map(|found| found.start()))
+}
+
+fn main(rt: HostRuntime) -> Result<()> {
+    let (before, after) = marked(rt.alloc(), b"foo1 foo12 abc")?;
+    println!(rt; "{before}")?;
+    println!(rt; "{after}")?;
+    println!(rt; "{:?}", first_start(rt.alloc(), b"xabc")?)?;
     Ok(())
 }

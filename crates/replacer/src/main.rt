@@ -18,6 +18,7 @@ use crate::pattern::date_nfa;
 use anyhow::Result;
 use nfa_engines::pikevm::PikeVM;
 use std::alloc::Global;
+use std::fmt::Display;
 use std::io::BufWriter;
 use std::process::ExitCode;
 use std::{env, io};
@@ -30,18 +31,27 @@ fn main(rt: HostRuntime) -> Result<ExitCode> {
     let alloc = rt.alloc();
     let arguments: Vec<String> = env::args(&rt)?.skip(1).collect(alloc)?;
     let words: Vec<&str> = arguments.iter().map(|word| word.as_str()).collect(alloc)?;
-    let Some(command) = Command::from_words(&words) else {
-        // The status tells of it where this is not written.
-        let _ = eprintln!(rt; "{USAGE}");
-        return Ok(ExitCode::from(MISUSED));
-    };
-    let vm = engine(alloc)?;
-    let mut out = BufWriter::new(alloc, io::writer(&rt))?;
-    if let Some(error) = report::run(alloc, &vm, command, rt.reader(), &mut out)? {
-        let _ = eprintln!(rt; "{error}");
-        return Ok(ExitCode::from(MISUSED));
+    match Command::from_words(&words) {
+        Some(command) => run(&rt, command),
+        None => Ok(misused(&rt, USAGE)),
     }
-    Ok(ExitCode::SUCCESS)
+}
+
+fn run(rt: &HostRuntime, command: Command<'_>) -> Result<ExitCode> {
+    let vm = engine(rt.alloc())?;
+    let mut out = BufWriter::new(rt.alloc(), io::writer(rt))?;
+    Ok(
+        match report::run(rt.alloc(), &vm, command, rt.reader(), &mut out)? {
+            Some(error) => misused(rt, error),
+            None => ExitCode::SUCCESS,
+        },
+    )
+}
+
+// The status tells of it where this is not written.
+fn misused<T: Display + Drop>(rt: &HostRuntime, why: T) -> ExitCode {
+    let _ = eprintln!(rt; "{why}");
+    ExitCode::from(MISUSED)
 }
 
 fn engine(alloc: Global) -> Result<PikeVM> {

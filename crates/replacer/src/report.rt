@@ -21,20 +21,30 @@ pub fn run<R: Read + Drop, W: Write>(
     input: R,
     out: &mut W,
 ) -> Result<Option<TemplateError>> {
-    match command {
+    let limit = match command {
         Command::Replace(template) => return replace(alloc, vm, template.as_bytes(), input, out),
-        Command::Split => {
-            let text = whole_text(alloc, input)?;
-            let mut cache = vm.create_cache(alloc)?;
-            write_fields(out, &split(alloc, vm, &mut cache, &text)?)?;
-        }
-        Command::SplitN(limit) => {
-            let text = whole_text(alloc, input)?;
-            let mut cache = vm.create_cache(alloc)?;
-            write_fields(out, &splitn(alloc, vm, &mut cache, &text, limit)?)?;
-        }
-    }
+        Command::Split => None,
+        Command::SplitN(limit) => Some(limit),
+    };
+    let text = whole_text(alloc, input)?;
+    write_split(alloc, vm, &text, limit, out)?;
     Ok(None)
+}
+
+fn write_split<W: Write>(
+    alloc: Global,
+    vm: &PikeVM,
+    text: &[u8],
+    limit: Option<usize>,
+    out: &mut W,
+) -> Result<()> {
+    let mut cache = vm.create_cache(alloc)?;
+    let fields = match limit {
+        Some(limit) => splitn(alloc, vm, &mut cache, text, limit)?,
+        None => split(alloc, vm, &mut cache, text)?,
+    };
+    write_fields(out, &fields)?;
+    Ok(())
 }
 
 fn replace<R: Read + Drop, W: Write>(
@@ -51,11 +61,22 @@ fn replace<R: Read + Drop, W: Write>(
         Err(error) => return Ok(Some(error)),
     };
     let text = whole_text(alloc, input)?;
+    write_replaced(alloc, vm, &text, &template, out)?;
+    Ok(None)
+}
+
+fn write_replaced<W: Write>(
+    alloc: Global,
+    vm: &PikeVM,
+    text: &[u8],
+    template: &Template<'_>,
+    out: &mut W,
+) -> Result<()> {
     let mut cache = vm.create_cache(alloc)?;
-    let replaced = replace_all(alloc, vm, &mut cache, &text, &template)?;
+    let replaced = replace_all(alloc, vm, &mut cache, text, template)?;
     out.write_all(&replaced)?;
     out.flush()?;
-    Ok(None)
+    Ok(())
 }
 
 fn whole_text<R: Read + Drop>(alloc: Global, mut input: R) -> io::Result<Vec<u8>> {

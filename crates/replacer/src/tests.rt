@@ -134,11 +134,20 @@ fn nfa_records_its_bounds(rt: HostRuntime) -> Result<(), Fail> {
     Ok(())
 }
 
+fn date_engine(alloc: Global) -> Result<PikeVM, Fail> {
+    Ok(PikeVM::new_from_nfa(date_nfa(alloc)?)?)
+}
+
 #[test]
 fn replaces_dates(rt: HostRuntime) -> Result<(), Fail> {
     let alloc = rt.alloc();
-    let vm = PikeVM::new_from_nfa(date_nfa(alloc)?)?;
-    expect_replaced(&rt, alloc, &vm, DATES)?;
+    expect_replaced(&rt, alloc, &date_engine(alloc)?, DATES)
+}
+
+#[test]
+fn refuses_templates(rt: HostRuntime) -> Result<(), Fail> {
+    let alloc = rt.alloc();
+    let vm = date_engine(alloc)?;
     for (template, want) in NO_TEMPLATES {
         let refused = parsed(alloc, &vm, template);
         assert_eq!(rt; refused.err(), Some(*want), "{template}");
@@ -202,8 +211,13 @@ fn expect_fields(rt: &impl Abort, alloc: Global, vm: &PikeVM, rows: &[Split]) ->
 }
 
 #[test]
-fn splits(rt: HostRuntime) -> Result<(), Fail> {
+fn splits_at_commas(rt: HostRuntime) -> Result<(), Fail> {
     let alloc = rt.alloc();
-    expect_fields(&rt, alloc, &engine(alloc, Expr::Literal(b","))?, COMMAS)?;
+    expect_fields(&rt, alloc, &engine(alloc, Expr::Literal(b","))?, COMMAS)
+}
+
+#[test]
+fn splits_at_empty_matches(rt: HostRuntime) -> Result<(), Fail> {
+    let alloc = rt.alloc();
     expect_fields(&rt, alloc, &engine(alloc, Expr::Empty)?, EMPTY_FIELDS)
 }
