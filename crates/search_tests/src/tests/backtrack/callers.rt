@@ -17,8 +17,8 @@ use nfa_engines::error::SearchError;
 use nfa_engines::iter::Searcher;
 use regex_search_core::{HalfMatch, Input, Match, PatternID, Span};
 use std::alloc::{AllocError, AllocFailed, Global};
+use std::fmt::Debug;
 use std::process::Abort;
-use std::test::Fail;
 use test_support::made::{backtracker, with_capacity};
 use test_support::text::parts;
 
@@ -212,65 +212,52 @@ fn expect_matches(rt: &impl Abort, all: &[Match], len: usize) {
     }
 }
 
-fn expect_lists(
+// The items of a caller's list.
+fn expect_listed<E: Debug>(
     rt: &impl Abort,
-    alloc: Global,
-    engine: &BoundedBacktracker,
-    cache: &mut Cache,
-) -> Result<(), ListError> {
-    expect_items(rt, &collected(alloc, engine, cache, HAYSTACK)?, 6);
-    expect_items(rt, &looped_items(alloc, engine, cache, HAYSTACK)?, 6);
-    expect_items(rt, &first_items(alloc, engine, cache, HAYSTACK)?, 2);
-    expect_matches(rt, &looped(alloc, engine, cache, HAYSTACK)?, 6);
-    expect_matches(rt, &first_two(alloc, engine, cache, HAYSTACK)?, 2);
-    expect_matches(
-        rt,
-        &engine.try_find_all(alloc, cache, Input::new(HAYSTACK))?,
-        6,
-    );
-    Ok(())
+    list: Result<Vec<Result<Match, SearchError>>, E>,
+    len: usize,
+) {
+    let all = list.expect(rt, "a list");
+    expect_items(rt, &all, len);
 }
 
-fn expect_texts(
-    rt: &impl Abort,
-    alloc: Global,
-    engine: &BoundedBacktracker,
-    cache: &mut Cache,
-) -> Result<(), ListError> {
-    let texts = texts(alloc, engine, cache, HAYSTACK)?;
-    assert_eq!(rt; texts.len(), 6);
-    let words = ["abc", "1", "foo", "4567", "0", "quux"];
-    for (text, want) in texts.iter().zip(words.iter()) {
-        assert_eq!(rt; *text, want.as_bytes());
-    }
-    Ok(())
+fn expect_list<E: Debug>(rt: &impl Abort, list: Result<Vec<Match>, E>, len: usize) {
+    let all = list.expect(rt, "a list");
+    expect_matches(rt, &all, len);
+}
+
+fn expect_lists(rt: &impl Abort, alloc: Global, engine: &BoundedBacktracker, cache: &mut Cache) {
+    expect_listed(rt, collected(alloc, engine, cache, HAYSTACK), 6);
+    expect_listed(rt, looped_items(alloc, engine, cache, HAYSTACK), 6);
+    expect_listed(rt, first_items(alloc, engine, cache, HAYSTACK), 2);
+    expect_list(rt, looped(alloc, engine, cache, HAYSTACK), 6);
+    expect_list(rt, first_two(alloc, engine, cache, HAYSTACK), 2);
+    let all = engine.try_find_all(alloc, cache, Input::new(HAYSTACK));
+    expect_list(rt, all, 6);
+}
+
+const WORDS: &[&[u8]] = &[b"abc", b"1", b"foo", b"4567", b"0", b"quux"];
+
+fn expect_texts(rt: &impl Abort, alloc: Global, engine: &BoundedBacktracker, cache: &mut Cache) {
+    let texts = texts(alloc, engine, cache, HAYSTACK).expect(rt, "a list");
+    assert_eq!(rt; texts.as_slice(), WORDS);
 }
 
 #[test]
-fn callers_list_all_matches(rt: HostRuntime) -> Result<(), Fail> {
+fn callers_list_all_matches(rt: HostRuntime) {
     let alloc = rt.alloc();
-    let engine = backtracker(alloc, "words_numbers")?;
+    let engine = backtracker(alloc, "words_numbers").expect(&rt, "an engine");
     let mut cache = engine.create_cache(alloc);
-    expect_lists(&rt, alloc, &engine, &mut cache)?;
-    expect_texts(&rt, alloc, &engine, &mut cache)?;
-    Ok(())
+    expect_lists(&rt, alloc, &engine, &mut cache);
+    expect_texts(&rt, alloc, &engine, &mut cache);
 }
 
 // The one item is the refusal for the length of the text.
-fn expect_refusal(
-    rt: &impl Abort,
-    alloc: Global,
-    engine: &BoundedBacktracker,
-    cache: &mut Cache,
-) -> Result<(), ListError> {
-    let refusal = [Err(SearchError::HaystackTooLong { len: 3 })];
-    let all = collected(alloc, engine, cache, b"abc")?;
-    assert_eq!(rt; all.as_slice(), refusal.as_slice());
-    let all = looped_items(alloc, engine, cache, b"abc")?;
-    assert_eq!(rt; all.as_slice(), refusal.as_slice());
-    let all = first_items(alloc, engine, cache, b"abc")?;
-    assert_eq!(rt; all.as_slice(), refusal.as_slice());
-    Ok(())
+fn expect_refusal<E: Debug>(rt: &impl Abort, list: Result<Vec<Result<Match, SearchError>>, E>) {
+    let all = list.expect(rt, "a list");
+    let refusal = Err(SearchError::HaystackTooLong { len: 3 });
+    assert_eq!(rt; all.as_slice(), [refusal].as_slice());
 }
 
 fn expect_refused(rt: &impl Abort, listed: Result<Vec<Match>, ListError>) {
@@ -283,39 +270,59 @@ fn expect_refused(rt: &impl Abort, listed: Result<Vec<Match>, ListError>) {
     }
 }
 
-#[test]
-fn callers_list_the_refusal_alone(rt: HostRuntime) -> Result<(), Fail> {
-    let alloc = rt.alloc();
-    let engine = with_capacity(alloc, "alnum100", 10)?;
-    let mut cache = engine.create_cache(alloc);
-    expect_refusal(&rt, alloc, &engine, &mut cache)?;
-    expect_refused(&rt, looped(alloc, &engine, &mut cache, b"abc"));
-    expect_refused(&rt, first_two(alloc, &engine, &mut cache, b"abc"));
-    let all = engine.try_find_all(alloc, &mut cache, Input::new(b"abc"));
-    expect_refused(&rt, all.map_err(ListError::Search));
-    Ok(())
+fn expect_refusals(rt: &impl Abort, alloc: Global, engine: &BoundedBacktracker, cache: &mut Cache) {
+    expect_refusal(rt, collected(alloc, engine, cache, b"abc"));
+    expect_refusal(rt, looped_items(alloc, engine, cache, b"abc"));
+    expect_refusal(rt, first_items(alloc, engine, cache, b"abc"));
+    expect_refused(rt, looped(alloc, engine, cache, b"abc"));
+    expect_refused(rt, first_two(alloc, engine, cache, b"abc"));
+    let all = engine.try_find_all(alloc, cache, Input::new(b"abc"));
+    expect_refused(rt, all.map_err(ListError::Search));
 }
 
 #[test]
-fn lists_all_pieces(rt: HostRuntime) -> Result<(), Fail> {
+fn callers_list_the_refusal_alone(rt: HostRuntime) {
     let alloc = rt.alloc();
-    for &(haystack, len, want) in &[
-        ("abcdefgh", 3, [(0, 3), (3, 6), (6, 8)].as_slice()),
-        ("abcd", 2, [(0, 2), (2, 4)].as_slice()),
-        ("ab", 0, [(0, 0), (1, 1), (2, 2)].as_slice()),
-        ("", 1, [(0, 0)].as_slice()),
-    ] {
-        let all = pieces(alloc, haystack.as_bytes(), len)?;
-        assert_eq!(rt; all.len(), want.len(), "{haystack:?} by {len}");
-        for (item, (start, end)) in all.iter().zip(want) {
-            assert_eq!(rt;
-                item.map(parts),
-                Ok((0, *start, *end)),
-                "{haystack:?} by {len}"
-            );
-        }
+    let engine = with_capacity(alloc, "alnum100", 10).expect(&rt, "an engine");
+    let mut cache = engine.create_cache(alloc);
+    expect_refusals(&rt, alloc, &engine, &mut cache);
+}
+
+// A haystack, the length of a piece, and where each piece starts and ends.
+const PIECES: &[(&str, usize, &[(usize, usize)])] = &[
+    ("abcdefgh", 3, &[(0, 3), (3, 6), (6, 8)]),
+    ("abcd", 2, &[(0, 2), (2, 4)]),
+    ("ab", 0, &[(0, 0), (1, 1), (2, 2)]),
+    ("", 1, &[(0, 0)]),
+];
+
+#[test]
+fn lists_all_pieces(rt: HostRuntime) {
+    let alloc = rt.alloc();
+    for &(haystack, len, want) in PIECES {
+        let all = pieces(alloc, haystack.as_bytes(), len).expect(&rt, "a list");
+        expect_pieces(&rt, &all, want, haystack);
     }
-    Ok(())
+}
+
+fn expect_pieces(
+    rt: &impl Abort,
+    all: &[Result<Match, SearchError>],
+    want: &[(usize, usize)],
+    haystack: &str,
+) {
+    assert_eq!(rt; all.len(), want.len(), "{haystack:?}");
+    for (item, (start, end)) in all.iter().zip(want) {
+        assert_eq!(rt; item.map(parts), Ok((0, *start, *end)), "{haystack:?}");
+    }
+}
+
+// The offset of a half match, if there is one.
+fn offset(rt: &impl Abort, item: Option<Result<HalfMatch, SearchError>>) -> Option<usize> {
+    match item {
+        Some(half) => Some(half.expect(rt, "a half match").offset()),
+        None => None,
+    }
 }
 
 // The ends of all matches of `a_or_empty` in "abba", and then nothing.
@@ -324,20 +331,24 @@ fn expect_halves(rt: &impl Abort, engine: &BoundedBacktracker, cache: &mut Cache
     let mut halves = searcher.into_half_matches_iter(|input: &Input<'_>| half_found(
         engine, cache, input,
     ));
-    for want in [1, 2, 4] {
-        let item = halves.next().map(|item| item.map(|half| half.offset()));
-        assert_eq!(rt; item, Some(Ok(want)));
-    }
-    for _ in 0..2 {
-        assert_eq!(rt; halves.next(), None);
+    let items = [
+        halves.next(),
+        halves.next(),
+        halves.next(),
+        halves.next(),
+        halves.next(),
+    ];
+    for (item, want) in items.iter().zip(ENDS) {
+        assert_eq!(rt; offset(rt, *item), *want);
     }
 }
 
+const ENDS: &[Option<usize>] = &[Some(1), Some(2), Some(4), None, None];
+
 #[test]
-fn gives_all_half_matches(rt: HostRuntime) -> Result<(), Fail> {
+fn gives_all_half_matches(rt: HostRuntime) {
     let alloc = rt.alloc();
-    let engine = backtracker(alloc, "a_or_empty")?;
+    let engine = backtracker(alloc, "a_or_empty").expect(&rt, "an engine");
     let mut cache = engine.create_cache(alloc);
     expect_halves(&rt, &engine, &mut cache);
-    Ok(())
 }

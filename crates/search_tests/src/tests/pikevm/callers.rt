@@ -6,11 +6,11 @@ ghost use Rattle.regex_search_core.specs.Search.{search_of, whole};
 ghost use Rattle.nfa_pikevm.specs.Engines.{Fits, SameNumbers, kind_of};
 ghost use Rattle.nfa_search_base.specs.Lists.{AreMatches, AreFirstMatches, AreApart, IsInside};
 
+use super::expect_fits;
 use nfa_engines::pikevm::{Cache, PikeVM};
 use regex_search_core::{Input, Match, NonMaxUsize};
 use std::alloc::{AllocError, Global};
 use std::process::Abort;
-use std::test::Fail;
 use test_support::made::pikevm;
 use test_support::text::parts;
 
@@ -302,47 +302,43 @@ fn count_in_all(vm: &PikeVM, cache: &mut Cache, haystacks: &[&[u8]]) -> usize
 
 const HAYSTACK: &[u8] = b"foo1 foo12 foo123";
 
-// A new cache for each caller.
-fn fresh(alloc: Global, vm: &PikeVM) -> Result<Cache, Fail>
-    ensures { IfOk result (λ cache. Fits cache vm.now.nfa) }
-{
-    Ok(vm.create_cache(alloc)?)
-}
+// Its matches: each one's pattern, start and end.
+const MATCHES: &[(usize, usize, usize)] = &[(0, 0, 4), (0, 5, 10), (0, 11, 17)];
 
 // The first matches of the haystack, so many.
 fn expect_matches(rt: &impl Abort, all: &[Match], len: usize) {
     assert_eq!(rt; all.len(), len);
-    for (found, want) in all.iter().zip([(0, 0, 4), (0, 5, 10), (0, 11, 17)].iter()) {
+    for (found, want) in all.iter().zip(MATCHES) {
         assert_eq!(rt; parts(*found), *want);
     }
 }
 
-fn expect_collected(rt: &impl Abort, alloc: Global, vm: &PikeVM) -> Result<(), Fail> {
-    let all = collected(alloc, vm, &mut fresh(alloc, vm)?, Input::new(HAYSTACK))?;
-    expect_matches(rt, &all, 3);
-    let all = collected_whole(alloc, vm, &mut fresh(alloc, vm)?, HAYSTACK)?;
-    expect_matches(rt, &all, 3);
-    let all = collected_inside(alloc, vm, &mut fresh(alloc, vm)?, HAYSTACK)?;
-    expect_matches(rt, &all, 3);
-    Ok(())
+fn expect_list(rt: &impl Abort, list: Result<Vec<Match>, AllocError>, len: usize) {
+    let all = list.expect(rt, "memory for a list");
+    expect_matches(rt, &all, len);
 }
 
-fn expect_looped(rt: &impl Abort, alloc: Global, vm: &PikeVM) -> Result<(), Fail> {
-    let all = looped(alloc, vm, &mut fresh(alloc, vm)?, HAYSTACK)?;
-    expect_matches(rt, &all, 3);
-    let all = looped_inside(alloc, vm, &mut fresh(alloc, vm)?, HAYSTACK)?;
-    expect_matches(rt, &all, 3);
-    let all = first_two(alloc, vm, &mut fresh(alloc, vm)?, HAYSTACK)?;
-    expect_matches(rt, &all, 2);
-    Ok(())
+fn expect_lists(rt: &impl Abort, alloc: Global, vm: &PikeVM, cache: &mut Cache) {
+    expect_fits(rt, vm, cache);
+    expect_list(rt, collected(alloc, vm, cache, Input::new(HAYSTACK)), 3);
+    expect_fits(rt, vm, cache);
+    expect_list(rt, collected_whole(alloc, vm, cache, HAYSTACK), 3);
+    expect_fits(rt, vm, cache);
+    expect_list(rt, collected_inside(alloc, vm, cache, HAYSTACK), 3);
+    expect_fits(rt, vm, cache);
+    expect_list(rt, looped(alloc, vm, cache, HAYSTACK), 3);
+    expect_fits(rt, vm, cache);
+    expect_list(rt, looped_inside(alloc, vm, cache, HAYSTACK), 3);
+    expect_fits(rt, vm, cache);
+    expect_list(rt, first_two(alloc, vm, cache, HAYSTACK), 2);
 }
 
 #[test]
-fn callers_list_all_matches(rt: HostRuntime) -> Result<(), Fail> {
+fn callers_list_all_matches(rt: HostRuntime) {
     let alloc = rt.alloc();
-    let vm = pikevm(alloc, "foo_num")?;
-    expect_collected(&rt, alloc, &vm)?;
-    expect_looped(&rt, alloc, &vm)
+    let vm = pikevm(alloc, "foo_num").expect(&rt, "an engine");
+    let mut cache = vm.create_cache(alloc).expect(&rt, "a cache");
+    expect_lists(&rt, alloc, &vm, &mut cache);
 }
 
 // The texts, joined.
@@ -355,78 +351,84 @@ fn joined(alloc: Global, words: &[&[u8]]) -> Result<Vec<u8>, AllocError> {
     Ok(all)
 }
 
-fn expect_texts(rt: &impl Abort, alloc: Global, vm: &PikeVM) -> Result<(), Fail> {
-    let found = texts(alloc, vm, &mut fresh(alloc, vm)?, HAYSTACK)?;
-    assert_eq!(rt;
-        joined(alloc, &found)?.as_slice(),
-        b"foo1 foo12 foo123 ".as_slice()
-    );
-    let found = texts_of_collected(alloc, vm, &mut fresh(alloc, vm)?, HAYSTACK)?;
-    assert_eq!(rt;
-        joined(alloc, &found)?.as_slice(),
-        b"foo1 foo12 foo123 ".as_slice()
-    );
-    let found = texts_of_span(alloc, vm, &mut fresh(alloc, vm)?, HAYSTACK, 1)?;
-    assert_eq!(rt;
-        joined(alloc, &found)?.as_slice(),
-        b"foo12 foo123 ".as_slice()
-    );
-    Ok(())
+fn expect_words(
+    rt: &impl Abort,
+    alloc: Global,
+    words: Result<Vec<&[u8]>, AllocError>,
+    want: &[u8],
+) {
+    let words = words.expect(rt, "memory for a list");
+    let text = joined(alloc, &words).expect(rt, "memory for a text");
+    assert_eq!(rt; text.as_slice(), want);
+}
+
+fn expect_texts(rt: &impl Abort, alloc: Global, vm: &PikeVM, cache: &mut Cache) {
+    expect_fits(rt, vm, cache);
+    let words = texts(alloc, vm, cache, HAYSTACK);
+    expect_words(rt, alloc, words, b"foo1 foo12 foo123 ");
+    expect_fits(rt, vm, cache);
+    let words = texts_of_collected(alloc, vm, cache, HAYSTACK);
+    expect_words(rt, alloc, words, b"foo1 foo12 foo123 ");
+    expect_fits(rt, vm, cache);
+    let words = texts_of_span(alloc, vm, cache, HAYSTACK, 1);
+    expect_words(rt, alloc, words, b"foo12 foo123 ");
 }
 
 fn expect_text(rt: &impl Abort, vm: &PikeVM, cache: &mut Cache, text: &[u8], want: Option<&[u8]>) {
-    assert!(rt; cache.fits(vm));
+    expect_fits(rt, vm, cache);
     assert_eq!(rt; found_text(vm, cache, text), want);
 }
 
 #[test]
-fn callers_slice_the_haystack(rt: HostRuntime) -> Result<(), Fail> {
+fn callers_slice_the_haystack(rt: HostRuntime) {
     let alloc = rt.alloc();
-    let vm = pikevm(alloc, "foo_num")?;
-    expect_texts(&rt, alloc, &vm)?;
-    let mut cache = fresh(alloc, &vm)?;
+    let vm = pikevm(alloc, "foo_num").expect(&rt, "an engine");
+    let mut cache = vm.create_cache(alloc).expect(&rt, "a cache");
+    expect_texts(&rt, alloc, &vm, &mut cache);
     expect_text(&rt, &vm, &mut cache, b"x foo1", Some(b"foo1".as_slice()));
     expect_text(&rt, &vm, &mut cache, b"x", None);
-    Ok(())
 }
 
-fn expect_counts(rt: &impl Abort, alloc: Global, vm: &PikeVM) -> Result<(), Fail> {
-    assert_eq!(rt; numbers_kept(vm, &mut fresh(alloc, vm)?, HAYSTACK), 3);
-    assert_eq!(rt; how_many(vm, &mut fresh(alloc, vm)?, HAYSTACK), 3);
-    assert_eq!(rt; in_order(vm, &mut fresh(alloc, vm)?, HAYSTACK), 17);
+fn expect_counts(rt: &impl Abort, vm: &PikeVM, cache: &mut Cache) {
+    expect_fits(rt, vm, cache);
+    assert_eq!(rt; numbers_kept(vm, cache, HAYSTACK), 3);
+    assert_eq!(rt; how_many(vm, cache, HAYSTACK), 3);
+    expect_fits(rt, vm, cache);
+    assert_eq!(rt; in_order(vm, cache, HAYSTACK), 17);
     let texts = [HAYSTACK, b"", b"foo1", b"foo"];
-    assert_eq!(rt; count_in_all(vm, &mut fresh(alloc, vm)?, &texts), 4);
-    Ok(())
+    expect_fits(rt, vm, cache);
+    assert_eq!(rt; count_in_all(vm, cache, &texts), 4);
 }
 
 fn expect_first(rt: &impl Abort, first: Option<Match>) {
     assert_eq!(rt; first.map(parts), Some((0, 0, 4)));
 }
 
-fn expect_firsts(rt: &impl Abort, alloc: Global, vm: &PikeVM) -> Result<(), Fail> {
-    let (count, first) = count_then_find(vm, &mut fresh(alloc, vm)?, HAYSTACK);
+fn expect_firsts(rt: &impl Abort, alloc: Global, vm: &PikeVM, cache: &mut Cache) {
+    expect_fits(rt, vm, cache);
+    let (count, first) = count_then_find(vm, cache, HAYSTACK);
     assert_eq!(rt; count, 3);
     expect_first(rt, first);
-    expect_first(
-        rt,
-        find_all_then_find(alloc, vm, &mut fresh(alloc, vm)?, HAYSTACK)?,
-    );
-    expect_first(rt, ends_in_text(vm, &mut fresh(alloc, vm)?, HAYSTACK));
-    expect_first(rt, first_alone(vm, &mut fresh(alloc, vm)?, HAYSTACK));
-    Ok(())
+    let first = find_all_then_find(alloc, vm, cache, HAYSTACK);
+    expect_first(rt, first.expect(rt, "memory for a list"));
+    expect_first(rt, ends_in_text(vm, cache, HAYSTACK));
+    expect_fits(rt, vm, cache);
+    expect_first(rt, first_alone(vm, cache, HAYSTACK));
 }
 
-fn expect_places(rt: &impl Abort, alloc: Global, vm: &PikeVM) -> Result<(), Fail> {
-    assert_eq!(rt; pattern_of(vm, &mut fresh(alloc, vm)?, HAYSTACK), Some(0));
-    assert_eq!(rt; slot_in_text(vm, &mut fresh(alloc, vm)?, b" foo1"), Some(1));
-    Ok(())
+fn expect_places(rt: &impl Abort, vm: &PikeVM, cache: &mut Cache) {
+    expect_fits(rt, vm, cache);
+    assert_eq!(rt; pattern_of(vm, cache, HAYSTACK), Some(0));
+    expect_fits(rt, vm, cache);
+    assert_eq!(rt; slot_in_text(vm, cache, b" foo1"), Some(1));
 }
 
 #[test]
-fn callers_count_and_search_again(rt: HostRuntime) -> Result<(), Fail> {
+fn callers_count_and_search_again(rt: HostRuntime) {
     let alloc = rt.alloc();
-    let vm = pikevm(alloc, "foo_num")?;
-    expect_counts(&rt, alloc, &vm)?;
-    expect_firsts(&rt, alloc, &vm)?;
-    expect_places(&rt, alloc, &vm)
+    let vm = pikevm(alloc, "foo_num").expect(&rt, "an engine");
+    let mut cache = vm.create_cache(alloc).expect(&rt, "a cache");
+    expect_counts(&rt, &vm, &mut cache);
+    expect_firsts(&rt, alloc, &vm, &mut cache);
+    expect_places(&rt, &vm, &mut cache);
 }
