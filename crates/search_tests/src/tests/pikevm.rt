@@ -2,6 +2,7 @@
 
 ghost use Rattle.nfa_pikevm.specs.Engines.{Fits};
 
+mod answers;
 mod caches;
 mod callers;
 mod histories;
