@@ -3,10 +3,11 @@
 mod backtrack;
 mod pikevm;
 
-use regex_search_core::Captures;
+use regex_search_core::{Captures, Match};
 use std::alloc::{AllocError, Global};
 use std::fmt::Debug;
 use std::process::Abort;
+use test_support::text::parts;
 
 // The text was made, and is this. What it is of tells its row from the others.
 fn expect_text(rt: &impl Abort, of: &impl Debug, text: Result<String, AllocError>, want: &str) {
@@ -23,4 +24,28 @@ fn expect_shown(rt: &impl Abort, alloc: Global, value: &impl Debug, want: &str) 
 fn expect_six_unset(rt: &impl Abort, captures: &Captures) {
     assert_eq!(rt; captures.slots(), [None; 6].as_slice());
     assert!(rt; !captures.is_match());
+}
+
+// The match has this pattern, start and end.
+fn expect_parts(rt: &impl Abort, found: Match, want: (usize, usize, usize)) {
+    assert_eq!(rt; parts(found), want);
+}
+
+// The matches are the first that are wanted, so many.
+fn expect_matches(rt: &impl Abort, all: &[Match], wants: &[(usize, usize, usize)], len: usize) {
+    assert_eq!(rt; all.len(), len);
+    for (found, want) in all.iter().zip(wants) {
+        expect_parts(rt, *found, *want);
+    }
+}
+
+// The same of a list that was made.
+fn expect_list<E: Debug>(
+    rt: &impl Abort,
+    list: Result<Vec<Match>, E>,
+    wants: &[(usize, usize, usize)],
+    len: usize,
+) {
+    let all = list.expect(rt, "a list");
+    expect_matches(rt, &all, wants, len);
 }

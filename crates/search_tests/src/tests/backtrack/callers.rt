@@ -12,42 +12,15 @@ ghost use Rattle.nfa_backtrack.specs.Runs.{AreAllItems, AreFirstItems};
 ghost use Rattle.search_tests.specs.Callers.{piece_answer};
 
 use super::WORDS_AND_NUMBERS;
+use crate::tests::{expect_list, expect_parts};
 use nfa_engines::backtrack::{BoundedBacktracker, Cache};
 use nfa_engines::error::SearchError;
 use nfa_engines::iter::Searcher;
 use regex_search_core::{HalfMatch, Input, Match, PatternID, Span};
-use std::alloc::{AllocError, AllocFailed, Global};
+use std::alloc::{AllocError, Global};
 use std::fmt::Debug;
 use std::process::Abort;
 use test_support::made::{backtracker, with_capacity};
-use test_support::text::parts;
-
-// Why a caller has no list.
-#[derive(Clone, Copy, Debug, thiserror::Error)]
-enum ListError {
-    #[error("out of memory")]
-    Memory,
-    #[error("no search")]
-    Search(SearchError),
-}
-
-impl From<AllocError> for ListError {
-    fn from(_: AllocError) -> ListError {
-        ListError::Memory
-    }
-}
-
-impl<T: Drop> From<AllocFailed<T>> for ListError {
-    fn from(_: AllocFailed<T>) -> ListError {
-        ListError::Memory
-    }
-}
-
-impl From<SearchError> for ListError {
-    fn from(error: SearchError) -> ListError {
-        ListError::Search(error)
-    }
-}
 
 // All items of an engine, by `collect`.
 fn collected(
@@ -68,7 +41,7 @@ fn looped_items(
     engine: &BoundedBacktracker,
     cache: &mut Cache,
     text: &[u8],
-) -> Result<Vec<Result<Match, SearchError>>, ListError>
+) -> Result<Vec<Result<Match, SearchError>>, SearchError>
     ensures { IfOk result (λ v. AreAllItems engine.now (whole text.now) v.items) }
 {
     let mut found = Vec::new(alloc);
@@ -84,7 +57,7 @@ fn looped(
     engine: &BoundedBacktracker,
     cache: &mut Cache,
     text: &[u8],
-) -> Result<Vec<Match>, ListError>
+) -> Result<Vec<Match>, SearchError>
     ensures { IfOk result (λ v. AreMatches engine.now.nfa LeftmostFirst false (whole text.now) (map found_of v.items)) }
 {
     let mut found = Vec::new(alloc);
@@ -100,7 +73,7 @@ fn first_items(
     engine: &BoundedBacktracker,
     cache: &mut Cache,
     text: &[u8],
-) -> Result<Vec<Result<Match, SearchError>>, ListError>
+) -> Result<Vec<Result<Match, SearchError>>, SearchError>
     ensures { IfOk result (λ v. AreFirstItems engine.now (whole text.now) v.items) }
 {
     let mut found = Vec::new(alloc);
@@ -119,7 +92,7 @@ fn first_two(
     engine: &BoundedBacktracker,
     cache: &mut Cache,
     text: &[u8],
-) -> Result<Vec<Match>, ListError>
+) -> Result<Vec<Match>, SearchError>
     ensures { IfOk result
         (λ v. AreFirstMatches engine.now.nfa LeftmostFirst false (whole text.now) (map found_of v.items)) }
 {
@@ -139,7 +112,7 @@ fn texts<'t>(
     engine: &BoundedBacktracker,
     cache: &mut Cache,
     text: &'t [u8],
-) -> Result<Vec<&'t [u8]>, ListError> {
+) -> Result<Vec<&'t [u8]>, SearchError> {
     let mut texts = Vec::new(alloc);
     for item in engine.try_find_iter(cache, Input::new(text)) {
         let found = item?;
@@ -201,15 +174,13 @@ const HAYSTACK: &[u8] = b"abc 1 foo 4567 0 quux";
 fn expect_items(rt: &impl Abort, all: &[Result<Match, SearchError>], len: usize) {
     assert_eq!(rt; all.len(), len);
     for (item, want) in all.iter().zip(WORDS_AND_NUMBERS) {
-        assert_eq!(rt; item.map(parts), Ok(*want));
+        expect_item(rt, item, *want);
     }
 }
 
-fn expect_matches(rt: &impl Abort, all: &[Match], len: usize) {
-    assert_eq!(rt; all.len(), len);
-    for (found, want) in all.iter().zip(WORDS_AND_NUMBERS) {
-        assert_eq!(rt; parts(*found), *want);
-    }
+// The item is a match with this pattern, start and end.
+fn expect_item(rt: &impl Abort, item: &Result<Match, SearchError>, want: (usize, usize, usize)) {
+    expect_parts(rt, item.expect(rt, "a match"), want);
 }
 
 // The items of a caller's list.
@@ -222,19 +193,24 @@ fn expect_listed<E: Debug>(
     expect_items(rt, &all, len);
 }
 
-fn expect_list<E: Debug>(rt: &impl Abort, list: Result<Vec<Match>, E>, len: usize) {
-    let all = list.expect(rt, "a list");
-    expect_matches(rt, &all, len);
-}
-
 fn expect_lists(rt: &impl Abort, alloc: Global, engine: &BoundedBacktracker, cache: &mut Cache) {
     expect_listed(rt, collected(alloc, engine, cache, HAYSTACK), 6);
     expect_listed(rt, looped_items(alloc, engine, cache, HAYSTACK), 6);
     expect_listed(rt, first_items(alloc, engine, cache, HAYSTACK), 2);
-    expect_list(rt, looped(alloc, engine, cache, HAYSTACK), 6);
-    expect_list(rt, first_two(alloc, engine, cache, HAYSTACK), 2);
+    expect_list(
+        rt,
+        looped(alloc, engine, cache, HAYSTACK),
+        WORDS_AND_NUMBERS,
+        6,
+    );
+    expect_list(
+        rt,
+        first_two(alloc, engine, cache, HAYSTACK),
+        WORDS_AND_NUMBERS,
+        2,
+    );
     let all = engine.try_find_all(alloc, cache, Input::new(HAYSTACK));
-    expect_list(rt, all, 6);
+    expect_list(rt, all, WORDS_AND_NUMBERS, 6);
 }
 
 const WORDS: &[&[u8]] = &[b"abc", b"1", b"foo", b"4567", b"0", b"quux"];
@@ -260,14 +236,9 @@ fn expect_refusal<E: Debug>(rt: &impl Abort, list: Result<Vec<Result<Match, Sear
     assert_eq!(rt; all.as_slice(), [refusal].as_slice());
 }
 
-fn expect_refused(rt: &impl Abort, listed: Result<Vec<Match>, ListError>) {
-    match listed {
-        Err(ListError::Search(error)) => assert_eq!(rt;
-            error,
-            SearchError::HaystackTooLong { len: 3 }
-        ),
-        _ => assert!(rt; false, "a list"),
-    }
+fn expect_refused(rt: &impl Abort, list: Result<Vec<Match>, SearchError>) {
+    let refusal = SearchError::HaystackTooLong { len: 3 };
+    assert_eq!(rt; list.err(), Some(refusal));
 }
 
 fn expect_refusals(rt: &impl Abort, alloc: Global, engine: &BoundedBacktracker, cache: &mut Cache) {
@@ -277,7 +248,7 @@ fn expect_refusals(rt: &impl Abort, alloc: Global, engine: &BoundedBacktracker, 
     expect_refused(rt, looped(alloc, engine, cache, b"abc"));
     expect_refused(rt, first_two(alloc, engine, cache, b"abc"));
     let all = engine.try_find_all(alloc, cache, Input::new(b"abc"));
-    expect_refused(rt, all.map_err(ListError::Search));
+    expect_refused(rt, all);
 }
 
 #[test]
@@ -296,6 +267,19 @@ const PIECES: &[(&str, usize, &[(usize, usize)])] = &[
     ("", 1, &[(0, 0)]),
 ];
 
+// The pieces lie there.
+fn expect_pieces(
+    rt: &impl Abort,
+    all: &[Result<Match, SearchError>],
+    want: &[(usize, usize)],
+    haystack: &str,
+) {
+    assert_eq!(rt; all.len(), want.len(), "{haystack:?}");
+    for (item, &(start, end)) in all.iter().zip(want) {
+        expect_item(rt, item, (0, start, end));
+    }
+}
+
 #[test]
 fn lists_all_pieces(rt: HostRuntime) {
     let alloc = rt.alloc();
@@ -305,24 +289,17 @@ fn lists_all_pieces(rt: HostRuntime) {
     }
 }
 
-fn expect_pieces(
+// The item is the half match with this offset, or there is none.
+fn expect_offset(
     rt: &impl Abort,
-    all: &[Result<Match, SearchError>],
-    want: &[(usize, usize)],
-    haystack: &str,
+    item: Option<Result<HalfMatch, SearchError>>,
+    want: Option<usize>,
 ) {
-    assert_eq!(rt; all.len(), want.len(), "{haystack:?}");
-    for (item, (start, end)) in all.iter().zip(want) {
-        assert_eq!(rt; item.map(parts), Ok((0, *start, *end)), "{haystack:?}");
-    }
-}
-
-// The offset of a half match, if there is one.
-fn offset(rt: &impl Abort, item: Option<Result<HalfMatch, SearchError>>) -> Option<usize> {
-    match item {
+    let offset = match item {
         Some(half) => Some(half.expect(rt, "a half match").offset()),
         None => None,
-    }
+    };
+    assert_eq!(rt; offset, want);
 }
 
 // The ends of all matches of `a_or_empty` in "abba", and then nothing.
@@ -331,19 +308,12 @@ fn expect_halves(rt: &impl Abort, engine: &BoundedBacktracker, cache: &mut Cache
     let mut halves = searcher.into_half_matches_iter(|input: &Input<'_>| half_found(
         engine, cache, input,
     ));
-    let items = [
-        halves.next(),
-        halves.next(),
-        halves.next(),
-        halves.next(),
-        halves.next(),
-    ];
-    for (item, want) in items.iter().zip(ENDS) {
-        assert_eq!(rt; offset(rt, *item), *want);
-    }
+    expect_offset(rt, halves.next(), Some(1));
+    expect_offset(rt, halves.next(), Some(2));
+    expect_offset(rt, halves.next(), Some(4));
+    expect_offset(rt, halves.next(), None);
+    expect_offset(rt, halves.next(), None);
 }
-
-const ENDS: &[Option<usize>] = &[Some(1), Some(2), Some(4), None, None];
 
 #[test]
 fn gives_all_half_matches(rt: HostRuntime) {

@@ -50,8 +50,12 @@ fn expect_copies(
 ) {
     let same = engine.clone().expect(rt, "a copy of an engine");
     let mut copy = cache.clone().expect(rt, "a copy of a cache");
-    assert_eq!(rt; copy.memory_usage(), cache.memory_usage());
+    expect_size(rt, &copy, cache.memory_usage());
     expect_slots(rt, alloc, &same, &mut copy, Input::new(haystack), want);
+}
+
+fn expect_size(rt: &impl Abort, cache: &Cache, size: usize) {
+    assert_eq!(rt; cache.memory_usage(), size);
 }
 
 fn expect_same(
@@ -78,11 +82,11 @@ fn a_clone_answers_as_its_original(rt: HostRuntime) {
 
 // 40 pairs take one block of 8 bytes, the two slots of the one pattern 16.
 fn expect_memory(rt: &impl Abort, alloc: Global, engine: &BoundedBacktracker, cache: &mut Cache) {
-    assert_eq!(rt; cache.memory_usage(), 0);
+    expect_size(rt, cache, 0);
     expect_match(rt, alloc, engine, cache, Input::new(b"xyz"), "none");
-    assert_eq!(rt; cache.memory_usage(), 24);
+    expect_size(rt, cache, 24);
     engine.reset_cache(cache);
-    assert_eq!(rt; cache.memory_usage(), 16);
+    expect_size(rt, cache, 16);
 }
 
 #[test]

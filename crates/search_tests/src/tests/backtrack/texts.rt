@@ -1,10 +1,9 @@
 //! What iterators are shown as.
 
-ghost use Rattle.std.specs.Prelude.{Ok};
-ghost use Rattle.regex_search_core.specs.Found.{found_of, half_found_of};
+ghost use Rattle.std.specs.Prelude.{IsOk, Ok};
 ghost use Rattle.regex_search_core.specs.Search.{search_of};
-ghost use Rattle.nfa_search_base.specs.Finders.{answer_by, half_place};
-ghost use Rattle.nfa_search_base.specs.Walks.{LiesIn, IsSurelyInside, span_of, half_span_of};
+ghost use Rattle.nfa_search_base.specs.Finders.{half_place, match_place};
+ghost use Rattle.nfa_search_base.specs.Walks.{LiesIn};
 
 use super::callers::next_piece;
 use crate::tests::expect_shown;
@@ -72,14 +71,16 @@ fn next_end(input: &Input<'_>) -> Option<HalfMatch>
 
 // The next byte, or the empty rest of the span.
 fn byte(input: &Input<'_>) -> Result<Option<Match>, SearchError>
-    ensures { IsSurelyInside span_of (search_of input.now) (answer_by found_of result) }
+    ensures inside { LiesIn (search_of input.now) (match_place result) }
+    ensures surely { IsOk result }
 {
     Ok(next_piece(input, 1))
 }
 
 // Its end.
 fn byte_end(input: &Input<'_>) -> Result<Option<HalfMatch>, SearchError>
-    ensures { IsSurelyInside half_span_of (search_of input.now) (answer_by half_found_of result) }
+    ensures inside { LiesIn (search_of input.now) (half_place result) }
+    ensures surely { IsOk result }
 {
     Ok(next_end(input))
 }

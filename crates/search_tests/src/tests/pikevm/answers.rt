@@ -7,6 +7,7 @@ use super::callers::{
     texts_of_span,
 };
 use super::expect_fits;
+use crate::tests::expect_list;
 use nfa_engines::pikevm::{Cache, PikeVM};
 use regex_search_core::{Input, Match};
 use std::alloc::{AllocError, Global};
@@ -19,32 +20,24 @@ const HAYSTACK: &[u8] = b"foo1 foo12 foo123";
 // Its matches: each one's pattern, start and end.
 const MATCHES: &[(usize, usize, usize)] = &[(0, 0, 4), (0, 5, 10), (0, 11, 17)];
 
-// The first matches of the haystack, so many.
-fn expect_matches(rt: &impl Abort, all: &[Match], len: usize) {
-    assert_eq!(rt; all.len(), len);
-    for (found, want) in all.iter().zip(MATCHES) {
-        assert_eq!(rt; parts(*found), *want);
-    }
-}
-
-fn expect_list(rt: &impl Abort, list: Result<Vec<Match>, AllocError>, len: usize) {
-    let all = list.expect(rt, "memory for a list");
-    expect_matches(rt, &all, len);
+// The list is the first matches of the haystack, so many.
+fn expect_first_of(rt: &impl Abort, list: Result<Vec<Match>, AllocError>, len: usize) {
+    expect_list(rt, list, MATCHES, len);
 }
 
 fn expect_lists(rt: &impl Abort, alloc: Global, vm: &PikeVM, cache: &mut Cache) {
     expect_fits(rt, vm, cache);
-    expect_list(rt, collected(alloc, vm, cache, Input::new(HAYSTACK)), 3);
+    expect_first_of(rt, collected(alloc, vm, cache, Input::new(HAYSTACK)), 3);
     expect_fits(rt, vm, cache);
-    expect_list(rt, collected_whole(alloc, vm, cache, HAYSTACK), 3);
+    expect_first_of(rt, collected_whole(alloc, vm, cache, HAYSTACK), 3);
     expect_fits(rt, vm, cache);
-    expect_list(rt, collected_inside(alloc, vm, cache, HAYSTACK), 3);
+    expect_first_of(rt, collected_inside(alloc, vm, cache, HAYSTACK), 3);
     expect_fits(rt, vm, cache);
-    expect_list(rt, looped(alloc, vm, cache, HAYSTACK), 3);
+    expect_first_of(rt, looped(alloc, vm, cache, HAYSTACK), 3);
     expect_fits(rt, vm, cache);
-    expect_list(rt, looped_inside(alloc, vm, cache, HAYSTACK), 3);
+    expect_first_of(rt, looped_inside(alloc, vm, cache, HAYSTACK), 3);
     expect_fits(rt, vm, cache);
-    expect_list(rt, first_two(alloc, vm, cache, HAYSTACK), 2);
+    expect_first_of(rt, first_two(alloc, vm, cache, HAYSTACK), 2);
 }
 
 #[test]

@@ -90,13 +90,17 @@ const FITS: &[(&str, &str, bool)] = &[
     ("loop", "abc", false),
 ];
 
+fn fits(rt: &impl Abort, alloc: Global, made_for: &str, used_with: &str) -> bool {
+    let cache = cache_for(rt, alloc, made_for);
+    let vm = pikevm(alloc, used_with).expect(rt, used_with);
+    cache.fits(&vm)
+}
+
 #[test]
 fn each_number_of_a_cache_counts(rt: HostRuntime) {
     let alloc = rt.alloc();
     for &(made_for, used_with, want) in FITS {
-        let cache = cache_for(&rt, alloc, made_for);
-        let vm = pikevm(alloc, used_with).expect(&rt, used_with);
-        let fits = cache.fits(&vm);
+        let fits = fits(&rt, alloc, made_for, used_with);
         assert_eq!(rt; fits, want, "{made_for} {used_with}");
     }
 }

@@ -54,13 +54,17 @@ fn tried_twice(
 
 const TEXT: &[u8] = b"x foo12 foo1";
 
+fn expect_seven(rt: &impl Abort, found: Option<Match>) {
+    assert_eq!(rt; found.map(parts), Some((0, 2, 7)));
+}
+
 fn expect_found(rt: &impl Abort, vm: &PikeVM, used: &mut Cache, fresh: &mut Cache) {
     expect_fits(rt, vm, used);
     expect_fits(rt, vm, fresh);
     vm.is_match(used, Input::new(b"foo foo7"));
     let (one, two) = found_twice(vm, used, fresh, TEXT);
-    assert_eq!(rt; one.map(parts), Some((0, 2, 7)));
-    assert_eq!(rt; two.map(parts), Some((0, 2, 7)));
+    expect_seven(rt, one);
+    expect_seven(rt, two);
 }
 
 #[test]
@@ -82,8 +86,8 @@ fn expect_tried(
     assert_eq!(rt; warmed, Ok(true));
     let (one, two) = tried_twice(engine, used, fresh, TEXT);
     let (one, two) = (one.expect(rt, "a search"), two.expect(rt, "a search"));
-    assert_eq!(rt; one.map(parts), Some((0, 2, 7)));
-    assert_eq!(rt; two.map(parts), Some((0, 2, 7)));
+    expect_seven(rt, one);
+    expect_seven(rt, two);
 }
 
 #[test]
@@ -128,11 +132,15 @@ fn count_in_texts(matcher: &mut Matcher<'_>, texts: &[&[u8]]) -> usize {
     count
 }
 
+fn expect_count(rt: &impl Abort, matcher: &mut Matcher<'_>) {
+    let count = count_in_texts(matcher, &[TEXT, b"", b"foo3 foo", TEXT]);
+    assert_eq!(rt; count, 5);
+}
+
 #[test]
 fn one_cache_serves_many_texts(rt: HostRuntime) {
     let alloc = rt.alloc();
     let vm = pikevm(alloc, "foo_num").expect(&rt, "an engine");
     let mut matcher = Matcher::new(alloc, &vm).expect(&rt, "a matcher");
-    let count = count_in_texts(&mut matcher, &[TEXT, b"", b"foo3 foo", TEXT]);
-    assert_eq!(rt; count, 5);
+    expect_count(&rt, &mut matcher);
 }

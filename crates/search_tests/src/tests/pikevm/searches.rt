@@ -62,11 +62,12 @@ fn finds_the_match_of_each_kind(rt: HostRuntime) {
 fn expect_one(rt: &impl Abort, vm: &PikeVM, cache: &mut Cache) {
     expect_fits(rt, vm, cache);
     let mut matches = vm.find_iter(cache, Input::new(b""));
-    let found = [matches.next(), matches.next(), matches.next()];
-    assert_eq!(rt;
-        [found[0].is_some(), found[1].is_some(), found[2].is_some()],
-        [true, false, false]
+    let found = (
+        matches.next().is_some(),
+        matches.next().is_some(),
+        matches.next().is_some(),
     );
+    assert_eq!(rt; found, (true, false, false));
 }
 
 #[test]
@@ -127,13 +128,17 @@ fn keeps_the_kind_that_a_newer_configuration_leaves_unset(rt: HostRuntime) {
     expect_kind(&rt, alloc, &mut builder, PikeVM::config(), MatchKind::All);
 }
 
-// A copy of the cache serves the engine.
+// A copy of a cache has this size, and serves the engine.
+fn expect_serves(rt: &impl Abort, alloc: Global, vm: &PikeVM, copy: &mut Cache, size: usize) {
+    assert_eq!(rt; copy.memory_usage(), size);
+    expect_fits(rt, vm, copy);
+    let text = piked_match(alloc, vm, copy, Input::new(b"abca"));
+    expect_text(rt, &"abca", text, "0 3..4");
+}
+
 fn expect_copy(rt: &impl Abort, alloc: Global, vm: &PikeVM, cache: &Cache) {
     let mut copy = cache.clone().expect(rt, "a copy of a cache");
-    assert_eq!(rt; copy.memory_usage(), cache.memory_usage());
-    expect_fits(rt, vm, &copy);
-    let text = piked_match(alloc, vm, &mut copy, Input::new(b"abca"));
-    expect_text(rt, &"abca", text, "0 3..4");
+    expect_serves(rt, alloc, vm, &mut copy, cache.memory_usage());
 }
 
 #[test]
