@@ -11,8 +11,7 @@ ghost use Rattle.nfa_search_base.specs.Walks.{fresh, span_of, LiesIn};
 ghost use Rattle.nfa_backtrack.specs.Runs.{AreAllItems, AreFirstItems};
 ghost use Rattle.search_tests.specs.Callers.{piece_answer};
 
-use super::WORDS_AND_NUMBERS;
-use crate::tests::{expect_list, expect_parts};
+use crate::tests::{expect_list, expect_text};
 use nfa_engines::backtrack::{BoundedBacktracker, Cache};
 use nfa_engines::error::SearchError;
 use nfa_engines::iter::Searcher;
@@ -21,6 +20,7 @@ use std::alloc::{AllocError, Global};
 use std::fmt::Debug;
 use std::process::Abort;
 use test_support::made::{backtracker, with_capacity};
+use test_support::text::write_item;
 
 // All items of an engine, by `collect`.
 fn collected(
@@ -170,47 +170,53 @@ fn half_found(
 
 const HAYSTACK: &[u8] = b"abc 1 foo 4567 0 quux";
 
-// The first items of the haystack, so many.
-fn expect_items(rt: &impl Abort, all: &[Result<Match, SearchError>], len: usize) {
-    assert_eq!(rt; all.len(), len);
-    for (item, want) in all.iter().zip(WORDS_AND_NUMBERS) {
-        expect_item(rt, item, *want);
-    }
-}
+// The matches of `words_numbers` in it: each one's pattern, start and end.
+const MATCHES: &[(usize, usize, usize)] = &[
+    (0, 0, 3),
+    (1, 4, 5),
+    (0, 6, 9),
+    (1, 10, 14),
+    (1, 15, 16),
+    (0, 17, 21),
+];
 
-// The item is a match with this pattern, start and end.
-fn expect_item(rt: &impl Abort, item: &Result<Match, SearchError>, want: (usize, usize, usize)) {
-    expect_parts(rt, item.expect(rt, "a match"), want);
+// All items, each with a comma and a blank behind it.
+fn items_text(alloc: Global, items: &[Result<Match, SearchError>]) -> Result<String, AllocError> {
+    let mut text = String::new(alloc);
+    for item in items {
+        write_item(&mut text, *item)?;
+    }
+    Ok(text)
 }
 
 // The items of a caller's list.
-fn expect_listed<E: Debug>(
+fn expect_items<E: Debug>(
     rt: &impl Abort,
+    alloc: Global,
     list: Result<Vec<Result<Match, SearchError>>, E>,
-    len: usize,
+    want: &str,
 ) {
-    let all = list.expect(rt, "a list");
-    expect_items(rt, &all, len);
+    let items = list.expect(rt, "a list");
+    expect_text(rt, &"a list", items_text(alloc, &items), want);
 }
 
+// All items of the haystack.
+const ITEMS: &str = "0 0..3, 1 4..5, 0 6..9, 1 10..14, 1 15..16, 0 17..21, ";
+
 fn expect_lists(rt: &impl Abort, alloc: Global, engine: &BoundedBacktracker, cache: &mut Cache) {
-    expect_listed(rt, collected(alloc, engine, cache, HAYSTACK), 6);
-    expect_listed(rt, looped_items(alloc, engine, cache, HAYSTACK), 6);
-    expect_listed(rt, first_items(alloc, engine, cache, HAYSTACK), 2);
-    expect_list(
+    expect_items(rt, alloc, collected(alloc, engine, cache, HAYSTACK), ITEMS);
+    expect_items(
         rt,
-        looped(alloc, engine, cache, HAYSTACK),
-        WORDS_AND_NUMBERS,
-        6,
+        alloc,
+        looped_items(alloc, engine, cache, HAYSTACK),
+        ITEMS,
     );
-    expect_list(
-        rt,
-        first_two(alloc, engine, cache, HAYSTACK),
-        WORDS_AND_NUMBERS,
-        2,
-    );
+    let two = first_items(alloc, engine, cache, HAYSTACK);
+    expect_items(rt, alloc, two, "0 0..3, 1 4..5, ");
+    expect_list(rt, looped(alloc, engine, cache, HAYSTACK), MATCHES, 6);
+    expect_list(rt, first_two(alloc, engine, cache, HAYSTACK), MATCHES, 2);
     let all = engine.try_find_all(alloc, cache, Input::new(HAYSTACK));
-    expect_list(rt, all, WORDS_AND_NUMBERS, 6);
+    expect_list(rt, all, MATCHES, 6);
 }
 
 const WORDS: &[&[u8]] = &[b"abc", b"1", b"foo", b"4567", b"0", b"quux"];
@@ -230,11 +236,7 @@ fn callers_list_all_matches(rt: HostRuntime) {
 }
 
 // The one item is the refusal for the length of the text.
-fn expect_refusal<E: Debug>(rt: &impl Abort, list: Result<Vec<Result<Match, SearchError>>, E>) {
-    let all = list.expect(rt, "a list");
-    let refusal = Err(SearchError::HaystackTooLong { len: 3 });
-    assert_eq!(rt; all.as_slice(), [refusal].as_slice());
-}
+const REFUSAL: &str = "HaystackTooLong { len: 3 }, ";
 
 fn expect_refused(rt: &impl Abort, list: Result<Vec<Match>, SearchError>) {
     let refusal = SearchError::HaystackTooLong { len: 3 };
@@ -242,9 +244,19 @@ fn expect_refused(rt: &impl Abort, list: Result<Vec<Match>, SearchError>) {
 }
 
 fn expect_refusals(rt: &impl Abort, alloc: Global, engine: &BoundedBacktracker, cache: &mut Cache) {
-    expect_refusal(rt, collected(alloc, engine, cache, b"abc"));
-    expect_refusal(rt, looped_items(alloc, engine, cache, b"abc"));
-    expect_refusal(rt, first_items(alloc, engine, cache, b"abc"));
+    expect_items(rt, alloc, collected(alloc, engine, cache, b"abc"), REFUSAL);
+    expect_items(
+        rt,
+        alloc,
+        looped_items(alloc, engine, cache, b"abc"),
+        REFUSAL,
+    );
+    expect_items(
+        rt,
+        alloc,
+        first_items(alloc, engine, cache, b"abc"),
+        REFUSAL,
+    );
     expect_refused(rt, looped(alloc, engine, cache, b"abc"));
     expect_refused(rt, first_two(alloc, engine, cache, b"abc"));
     let all = engine.try_find_all(alloc, cache, Input::new(b"abc"));
@@ -259,33 +271,20 @@ fn callers_list_the_refusal_alone(rt: HostRuntime) {
     expect_refusals(&rt, alloc, &engine, &mut cache);
 }
 
-// A haystack, the length of a piece, and where each piece starts and ends.
-const PIECES: &[(&str, usize, &[(usize, usize)])] = &[
-    ("abcdefgh", 3, &[(0, 3), (3, 6), (6, 8)]),
-    ("abcd", 2, &[(0, 2), (2, 4)]),
-    ("ab", 0, &[(0, 0), (1, 1), (2, 2)]),
-    ("", 1, &[(0, 0)]),
+// A haystack, the length of a piece, and all pieces.
+const PIECES: &[(&str, usize, &str)] = &[
+    ("abcdefgh", 3, "0 0..3, 0 3..6, 0 6..8, "),
+    ("abcd", 2, "0 0..2, 0 2..4, "),
+    ("ab", 0, "0 0..0, 0 1..1, 0 2..2, "),
+    ("", 1, "0 0..0, "),
 ];
-
-// The pieces lie there.
-fn expect_pieces(
-    rt: &impl Abort,
-    all: &[Result<Match, SearchError>],
-    want: &[(usize, usize)],
-    haystack: &str,
-) {
-    assert_eq!(rt; all.len(), want.len(), "{haystack:?}");
-    for (item, &(start, end)) in all.iter().zip(want) {
-        expect_item(rt, item, (0, start, end));
-    }
-}
 
 #[test]
 fn lists_all_pieces(rt: HostRuntime) {
     let alloc = rt.alloc();
     for &(haystack, len, want) in PIECES {
-        let all = pieces(alloc, haystack.as_bytes(), len).expect(&rt, "a list");
-        expect_pieces(&rt, &all, want, haystack);
+        let all = pieces(alloc, haystack.as_bytes(), len);
+        expect_items(&rt, alloc, all, want);
     }
 }
 

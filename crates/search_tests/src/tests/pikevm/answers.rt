@@ -96,15 +96,19 @@ fn callers_slice_the_haystack(rt: HostRuntime) {
     expect_text(&rt, &vm, &mut cache, b"x", None);
 }
 
+fn expect_count(rt: &impl Abort, count: usize, want: usize) {
+    assert_eq!(rt; count, want);
+}
+
 fn expect_counts(rt: &impl Abort, vm: &PikeVM, cache: &mut Cache) {
     expect_fits(rt, vm, cache);
-    assert_eq!(rt; numbers_kept(vm, cache, HAYSTACK), 3);
-    assert_eq!(rt; how_many(vm, cache, HAYSTACK), 3);
+    expect_count(rt, numbers_kept(vm, cache, HAYSTACK), 3);
+    expect_count(rt, how_many(vm, cache, HAYSTACK), 3);
     expect_fits(rt, vm, cache);
-    assert_eq!(rt; in_order(vm, cache, HAYSTACK), 17);
+    expect_count(rt, in_order(vm, cache, HAYSTACK), 17);
+    expect_fits(rt, vm, cache);
     let texts = [HAYSTACK, b"", b"foo1", b"foo"];
-    expect_fits(rt, vm, cache);
-    assert_eq!(rt; count_in_all(vm, cache, &texts), 4);
+    expect_count(rt, count_in_all(vm, cache, &texts), 4);
 }
 
 fn expect_first(rt: &impl Abort, first: Option<Match>) {
@@ -114,7 +118,7 @@ fn expect_first(rt: &impl Abort, first: Option<Match>) {
 fn expect_firsts(rt: &impl Abort, alloc: Global, vm: &PikeVM, cache: &mut Cache) {
     expect_fits(rt, vm, cache);
     let (count, first) = count_then_find(vm, cache, HAYSTACK);
-    assert_eq!(rt; count, 3);
+    expect_count(rt, count, 3);
     expect_first(rt, first);
     let first = find_all_then_find(alloc, vm, cache, HAYSTACK);
     expect_first(rt, first.expect(rt, "memory for a list"));

@@ -3,35 +3,24 @@
 use super::expect_fits;
 use crate::tests::expect_text;
 use nfa_engines::pikevm::{Cache, PikeVM};
-use nfa_samples::answers::{GROUPS_ON_AB, OF_SLOT_LENS};
-use regex_search_core::{Anchored, Input, NonMaxUsize, PatternID};
+use nfa_samples::answers::OF_SLOT_LENS;
+use regex_search_core::{Anchored, Input, PatternID};
 use std::alloc::Global;
 use std::process::Abort;
 use test_support::made::pikevm;
 use test_support::text::{piked_match, piked_slots};
 
-// `groups` on "ab" fills its six slots.
-fn expect_groups(rt: &impl Abort, groups: &PikeVM, cache: &mut Cache) {
-    let mut slots = [NonMaxUsize::new(7); 6];
-    expect_fits(rt, groups, cache);
-    let pattern = groups.search_slots(cache, &Input::new(b"ab"), &mut slots);
-    assert_eq!(rt; pattern, PatternID::new(0));
-    for (slot, want) in slots.iter().zip(GROUPS_ON_AB.iter()) {
-        assert_eq!(rt; slot.map(|offset| offset.get()), *want);
-    }
-}
-
-// What `abc` answers with this cache, in so many slots.
+// What an engine answers with this cache, in so many slots.
 fn expect_slots(
     rt: &impl Abort,
     alloc: Global,
-    abc: &PikeVM,
+    vm: &PikeVM,
     cache: &mut Cache,
     (input, slot_len): (Input<'_>, usize),
     want: &str,
 ) {
-    expect_fits(rt, abc, cache);
-    let text = piked_slots(alloc, abc, cache, &input, slot_len);
+    expect_fits(rt, vm, cache);
+    let text = piked_slots(alloc, vm, cache, &input, slot_len);
     expect_text(rt, &(input, slot_len), text, want);
 }
 
@@ -45,6 +34,11 @@ fn expect_abc(rt: &impl Abort, alloc: Global, abc: &PikeVM, cache: &mut Cache) {
     expect_slots(rt, alloc, abc, cache, (input, 4), "none - - - -");
 }
 
+fn expect_unfit(rt: &impl Abort, vm: &PikeVM, cache: &Cache) {
+    let fits = cache.fits(vm);
+    assert!(rt; !fits);
+}
+
 // A cache for `groups` serves `abc` too, also after a reset for it.
 fn expect_smaller(
     rt: &impl Abort,
@@ -53,10 +47,11 @@ fn expect_smaller(
     abc: &PikeVM,
     cache: &mut Cache,
 ) {
-    expect_groups(rt, groups, cache);
+    let input = Input::new(b"ab");
+    expect_slots(rt, alloc, groups, cache, (input, 6), "0 0 2 - - 0 2");
     expect_abc(rt, alloc, abc, cache);
     abc.reset_cache(cache).expect(rt, "memory for a reset");
-    assert!(rt; !cache.fits(groups));
+    expect_unfit(rt, groups, cache);
     expect_abc(rt, alloc, abc, cache);
 }
 

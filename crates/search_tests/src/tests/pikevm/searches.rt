@@ -41,12 +41,23 @@ const SEARCHES: &[(MatchKind, bool)] = &[
     (MatchKind::All, true),
 ];
 
+fn expect_of_kind(
+    rt: &impl Abort,
+    alloc: Global,
+    name: &str,
+    kind: MatchKind,
+    input: Input<'_>,
+    want: &str,
+) {
+    let vm = of_kind(alloc, name, kind).expect(rt, name);
+    expect_match(rt, alloc, &vm, input, want);
+}
+
 // The first match of each kind.
 fn expect_kinds(rt: &impl Abort, alloc: Global, name: &str, haystack: &str, wants: &[&str]) {
     for (&(kind, earliest), want) in SEARCHES.iter().zip(wants) {
-        let vm = of_kind(alloc, name, kind).expect(rt, name);
         let input = Input::new(haystack.as_bytes()).earliest(earliest);
-        expect_match(rt, alloc, &vm, input, want);
+        expect_of_kind(rt, alloc, name, kind, input, want);
     }
 }
 
@@ -141,14 +152,19 @@ fn expect_copy(rt: &impl Abort, alloc: Global, vm: &PikeVM, cache: &Cache) {
     expect_serves(rt, alloc, vm, &mut copy, cache.memory_usage());
 }
 
+// A copy of the engine takes the cache's copy too.
+fn expect_clone(rt: &impl Abort, alloc: Global, vm: &PikeVM, cache: &Cache) {
+    let same = vm.clone().expect(rt, "a copy of an engine");
+    expect_copy(rt, alloc, &same, cache);
+}
+
 #[test]
 fn a_clone_answers_as_its_original(rt: HostRuntime) {
     let alloc = rt.alloc();
     let vm = of_kind(alloc, "abc_a", MatchKind::All).expect(&rt, "an engine");
     let cache = vm.create_cache(alloc).expect(&rt, "a cache");
     expect_copy(&rt, alloc, &vm, &cache);
-    let same = vm.clone().expect(&rt, "a copy");
-    expect_copy(&rt, alloc, &same, &cache);
+    expect_clone(&rt, alloc, &vm, &cache);
 }
 
 #[test]

@@ -118,13 +118,17 @@ fn an_empty_set_gains_what_matches_in_a_span(rt: HostRuntime) {
     }
 }
 
+fn expect_two(rt: &impl Abort, alloc: Global, cache: &mut Cache) {
+    let vm = of_kind(alloc, "abc_ab", LeftmostFirst).expect(rt, "an engine");
+    let mut set = PatternSet::new(alloc, 2).expect(rt, "a set");
+    let text = searched(rt, alloc, &vm, cache, &Input::new(b"abc"), &mut set);
+    expect_text(rt, &"abc", text, "0 1 ");
+}
+
 #[test]
 fn a_larger_cache_serves_as_well(rt: HostRuntime) {
     let alloc = rt.alloc();
     let larger = of_kind(alloc, "foo_bar", All).expect(&rt, "an engine");
     let mut cache = larger.create_cache(alloc).expect(&rt, "a cache");
-    let vm = of_kind(alloc, "abc_ab", LeftmostFirst).expect(&rt, "an engine");
-    let mut set = PatternSet::new(alloc, 2).expect(&rt, "a set");
-    let text = searched(&rt, alloc, &vm, &mut cache, &Input::new(b"abc"), &mut set);
-    expect_text(&rt, &"abc", text, "0 1 ");
+    expect_two(&rt, alloc, &mut cache);
 }
