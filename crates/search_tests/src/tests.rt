@@ -20,6 +20,11 @@ fn expect_shown(rt: &impl Abort, alloc: Global, value: &impl Debug, want: &str) 
     expect_text(rt, &"a value", format!(in alloc; "{value:?}"), want);
 }
 
+// In a call of its own, since all that follows a comparison in place is far dearer to prove.
+fn expect_number(rt: &impl Abort, number: usize, want: usize) {
+    assert_eq!(rt; number, want);
+}
+
 // No group has matched, of three.
 fn expect_six_unset(rt: &impl Abort, captures: &Captures) {
     assert_eq!(rt; captures.slots(), [None; 6].as_slice());

@@ -1,6 +1,6 @@
 //! What an engine was made with, a cache that is reset, and configurations.
 
-use crate::tests::{expect_shown, expect_text};
+use crate::tests::{expect_number, expect_shown, expect_text};
 use nfa_engines::backtrack::{BoundedBacktracker, Builder, Cache, Config};
 use regex_search_core::Input;
 use std::alloc::Global;
@@ -9,10 +9,10 @@ use test_support::made::{backtracker, nfa_named};
 use test_support::text::backtracked_match;
 
 fn expect_reads(rt: &impl Abort, engine: &BoundedBacktracker) {
-    assert_eq!(rt; engine.pattern_len(), 2);
-    assert_eq!(rt; engine.get_nfa().states().len(), 12);
-    assert_eq!(rt; engine.get_config().get_visited_capacity(), 262144);
-    assert_eq!(rt; engine.max_haystack_len(), 174761);
+    expect_number(rt, engine.pattern_len(), 2);
+    expect_number(rt, engine.get_nfa().states().len(), 12);
+    expect_number(rt, engine.get_config().get_visited_capacity(), 262144);
+    expect_number(rt, engine.max_haystack_len(), 174761);
 }
 
 // Made with no builder, and by a copy of one.
@@ -29,7 +29,7 @@ fn reads_what_it_was_made_with(rt: HostRuntime) {
 
 // A search, a reset, and a search again.
 fn expect_reset(rt: &impl Abort, alloc: Global, engine: &BoundedBacktracker, cache: &mut Cache) {
-    assert_eq!(rt; cache.memory_usage(), 0);
+    expect_number(rt, cache.memory_usage(), 0);
     for turn in 0..2 {
         let text = backtracked_match(alloc, engine, cache, Input::new(b"abc"));
         expect_text(rt, &turn, text, "0 0..3");

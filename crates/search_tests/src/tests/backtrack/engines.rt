@@ -1,7 +1,7 @@
 //! Engines that match always or never, captures, and copies.
 
 use super::{expect_match, expect_slots};
-use crate::tests::expect_six_unset;
+use crate::tests::{expect_number, expect_six_unset};
 use nfa_engines::backtrack::{BoundedBacktracker, Cache};
 use regex_search_core::Input;
 use std::alloc::Global;
@@ -16,7 +16,7 @@ fn expect_everywhere(
     pattern_len: usize,
     want: &str,
 ) {
-    assert_eq!(rt; engine.pattern_len(), pattern_len);
+    expect_number(rt, engine.pattern_len(), pattern_len);
     let mut cache = engine.create_cache(alloc);
     expect_match(rt, alloc, engine, &mut cache, Input::new(b""), want);
     expect_match(rt, alloc, engine, &mut cache, Input::new(b"foo"), want);
@@ -50,12 +50,8 @@ fn expect_copies(
 ) {
     let same = engine.clone().expect(rt, "a copy of an engine");
     let mut copy = cache.clone().expect(rt, "a copy of a cache");
-    expect_size(rt, &copy, cache.memory_usage());
+    expect_number(rt, copy.memory_usage(), cache.memory_usage());
     expect_slots(rt, alloc, &same, &mut copy, Input::new(haystack), want);
-}
-
-fn expect_size(rt: &impl Abort, cache: &Cache, size: usize) {
-    assert_eq!(rt; cache.memory_usage(), size);
 }
 
 fn expect_same(
@@ -82,11 +78,11 @@ fn a_clone_answers_as_its_original(rt: HostRuntime) {
 
 // 40 pairs take one block of 8 bytes, the two slots of the one pattern 16.
 fn expect_memory(rt: &impl Abort, alloc: Global, engine: &BoundedBacktracker, cache: &mut Cache) {
-    expect_size(rt, cache, 0);
+    expect_number(rt, cache.memory_usage(), 0);
     expect_match(rt, alloc, engine, cache, Input::new(b"xyz"), "none");
-    expect_size(rt, cache, 24);
+    expect_number(rt, cache.memory_usage(), 24);
     engine.reset_cache(cache);
-    expect_size(rt, cache, 16);
+    expect_number(rt, cache.memory_usage(), 16);
 }
 
 #[test]

@@ -1,6 +1,7 @@
 //! Which lengths are refused.
 
 use super::expect_slots;
+use crate::tests::expect_number;
 use nfa_engines::backtrack::{BoundedBacktracker, Builder, Config, min_visited_capacity};
 use regex_search_core::{Anchored, Input, PatternID};
 use std::alloc::Global;
@@ -20,13 +21,14 @@ fn expect_anew(
 }
 
 fn expect_lengths(rt: &impl Abort, alloc: Global, engine: &BoundedBacktracker) {
-    assert_eq!(rt; engine.max_haystack_len(), 31);
+    expect_number(rt, engine.max_haystack_len(), 31);
     expect_anew(rt, alloc, engine, Input::new(&[b'a'; 31]), "0 - -");
     let refusal = "HaystackTooLong { len: 32 } - -";
     expect_anew(rt, alloc, engine, Input::new(&[b'a'; 32]), refusal);
     let nfa = engine.get_nfa();
-    assert_eq!(rt; nfa.states().len(), 2);
-    assert_eq!(rt; min_visited_capacity(nfa, &Input::new(&[b'a'; 31])), 8);
+    expect_number(rt, nfa.states().len(), 2);
+    let least = min_visited_capacity(nfa, &Input::new(&[b'a'; 31]));
+    expect_number(rt, least, 8);
 }
 
 #[test]
@@ -39,13 +41,12 @@ fn refuses_lengths_above_the_greatest(rt: HostRuntime) {
 #[test]
 fn any_capacity_has_a_greatest_length(rt: HostRuntime) {
     let engine = with_capacity(rt.alloc(), "a_pair", usize::MAX).expect(&rt, "an engine");
-    let len = engine.max_haystack_len();
-    assert_eq!(rt; len, 9223372036854775806);
+    expect_number(&rt, engine.max_haystack_len(), 9223372036854775806);
 }
 
 // The length is tested before the pattern that is asked for, and before the input is found to be done.
 fn expect_refusals(rt: &impl Abort, alloc: Global, engine: &BoundedBacktracker) {
-    assert_eq!(rt; engine.max_haystack_len(), 0);
+    expect_number(rt, engine.max_haystack_len(), 0);
     let pattern = PatternID::new(5).expect(rt, "a pattern's number");
     let whole = Input::new(b"abc");
     let refusal = "HaystackTooLong { len: 3 } - -";
@@ -82,8 +83,7 @@ fn expect_capacity(
     builder.configure(config);
     let nfa = nfa_named(alloc, "abc_a").expect(rt, "an NFA");
     let engine = builder.build_from_nfa(nfa).expect(rt, "an engine");
-    let capacity = engine.get_config().get_visited_capacity();
-    assert_eq!(rt; capacity, want);
+    expect_number(rt, engine.get_config().get_visited_capacity(), want);
 }
 
 #[test]

@@ -7,7 +7,7 @@ use super::callers::{
     texts_of_span,
 };
 use super::expect_fits;
-use crate::tests::expect_list;
+use crate::tests::{expect_list, expect_number};
 use nfa_engines::pikevm::{Cache, PikeVM};
 use regex_search_core::{Input, Match};
 use std::alloc::{AllocError, Global};
@@ -96,19 +96,15 @@ fn callers_slice_the_haystack(rt: HostRuntime) {
     expect_text(&rt, &vm, &mut cache, b"x", None);
 }
 
-fn expect_count(rt: &impl Abort, count: usize, want: usize) {
-    assert_eq!(rt; count, want);
-}
-
 fn expect_counts(rt: &impl Abort, vm: &PikeVM, cache: &mut Cache) {
     expect_fits(rt, vm, cache);
-    expect_count(rt, numbers_kept(vm, cache, HAYSTACK), 3);
-    expect_count(rt, how_many(vm, cache, HAYSTACK), 3);
+    expect_number(rt, numbers_kept(vm, cache, HAYSTACK), 3);
+    expect_number(rt, how_many(vm, cache, HAYSTACK), 3);
     expect_fits(rt, vm, cache);
-    expect_count(rt, in_order(vm, cache, HAYSTACK), 17);
+    expect_number(rt, in_order(vm, cache, HAYSTACK), 17);
     expect_fits(rt, vm, cache);
     let texts = [HAYSTACK, b"", b"foo1", b"foo"];
-    expect_count(rt, count_in_all(vm, cache, &texts), 4);
+    expect_number(rt, count_in_all(vm, cache, &texts), 4);
 }
 
 fn expect_first(rt: &impl Abort, first: Option<Match>) {
@@ -118,7 +114,7 @@ fn expect_first(rt: &impl Abort, first: Option<Match>) {
 fn expect_firsts(rt: &impl Abort, alloc: Global, vm: &PikeVM, cache: &mut Cache) {
     expect_fits(rt, vm, cache);
     let (count, first) = count_then_find(vm, cache, HAYSTACK);
-    expect_count(rt, count, 3);
+    expect_number(rt, count, 3);
     expect_first(rt, first);
     let first = find_all_then_find(alloc, vm, cache, HAYSTACK);
     expect_first(rt, first.expect(rt, "memory for a list"));

@@ -5,6 +5,7 @@ ghost use Rattle.regex_search_core.specs.Found.{found_of};
 ghost use Rattle.nfa_pikevm.specs.Engines.{Fits};
 
 use super::expect_fits;
+use crate::tests::expect_number;
 use nfa_engines::backtrack::{self, BoundedBacktracker};
 use nfa_engines::error::SearchError;
 use nfa_engines::laws::cache_history_is_invisible;
@@ -134,7 +135,7 @@ fn count_in_texts(matcher: &mut Matcher<'_>, texts: &[&[u8]]) -> usize {
 
 fn expect_count(rt: &impl Abort, matcher: &mut Matcher<'_>) {
     let count = count_in_texts(matcher, &[TEXT, b"", b"foo3 foo", TEXT]);
-    assert_eq!(rt; count, 5);
+    expect_number(rt, count, 5);
 }
 
 #[test]

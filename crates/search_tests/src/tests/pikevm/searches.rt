@@ -1,9 +1,9 @@
 //! Searches of the PikeVM alone: its kinds, `earliest`, long matches, and what it was made with.
 
 use super::expect_fits;
-use crate::tests::{expect_shown, expect_six_unset, expect_text};
+use crate::tests::{expect_number, expect_shown, expect_six_unset, expect_text};
 use nfa_engines::pikevm::{Builder, Cache, Config, PikeVM};
-use regex_search_core::{Input, MatchKind};
+use regex_search_core::{Input, Match, MatchKind};
 use std::alloc::Global;
 use std::process::Abort;
 use test_support::made::{nfa_named, of_kind, pikevm};
@@ -69,16 +69,17 @@ fn finds_the_match_of_each_kind(rt: HostRuntime) {
     }
 }
 
+fn expect_found(rt: &impl Abort, item: Option<Match>, found: bool) {
+    assert_eq!(rt; item.is_some(), found);
+}
+
 // The iterator ends for good behind one match.
 fn expect_one(rt: &impl Abort, vm: &PikeVM, cache: &mut Cache) {
     expect_fits(rt, vm, cache);
     let mut matches = vm.find_iter(cache, Input::new(b""));
-    let found = (
-        matches.next().is_some(),
-        matches.next().is_some(),
-        matches.next().is_some(),
-    );
-    assert_eq!(rt; found, (true, false, false));
+    expect_found(rt, matches.next(), true);
+    expect_found(rt, matches.next(), false);
+    expect_found(rt, matches.next(), false);
 }
 
 #[test]
@@ -91,7 +92,7 @@ fn ends_for_good(rt: HostRuntime) {
 
 // The engine has so many patterns, and finds this in any text.
 fn expect_everywhere(rt: &impl Abort, alloc: Global, vm: &PikeVM, pattern_len: usize, want: &str) {
-    assert_eq!(rt; vm.pattern_len(), pattern_len);
+    expect_number(rt, vm.pattern_len(), pattern_len);
     expect_match(rt, alloc, vm, Input::new(b""), want);
     expect_match(rt, alloc, vm, Input::new(b"foo"), want);
 }
@@ -141,7 +142,7 @@ fn keeps_the_kind_that_a_newer_configuration_leaves_unset(rt: HostRuntime) {
 
 // A copy of a cache has this size, and serves the engine.
 fn expect_serves(rt: &impl Abort, alloc: Global, vm: &PikeVM, copy: &mut Cache, size: usize) {
-    assert_eq!(rt; copy.memory_usage(), size);
+    expect_number(rt, copy.memory_usage(), size);
     expect_fits(rt, vm, copy);
     let text = piked_match(alloc, vm, copy, Input::new(b"abca"));
     expect_text(rt, &"abca", text, "0 3..4");
