@@ -8,12 +8,39 @@ mod lengths;
 mod searches;
 mod texts;
 
-// The matches of `words_numbers` in `abc 1 foo 4567 0 quux`: each one's pattern, start and end.
-const WORDS_AND_NUMBERS: &[(usize, usize, usize)] = &[
-    (0, 0, 3),
-    (1, 4, 5),
-    (0, 6, 9),
-    (1, 10, 14),
-    (1, 15, 16),
-    (0, 17, 21),
-];
+use super::expect_text;
+use nfa_engines::backtrack::{BoundedBacktracker, Cache};
+use regex_search_core::Input;
+use std::alloc::Global;
+use std::process::Abort;
+use test_support::text::{backtracked_match, backtracked_slots};
+
+// What the engine finds with the cache.
+fn expect_match(
+    rt: &impl Abort,
+    alloc: Global,
+    engine: &BoundedBacktracker,
+    cache: &mut Cache,
+    input: Input<'_>,
+    want: &str,
+) {
+    expect_text(
+        rt,
+        &input,
+        backtracked_match(alloc, engine, cache, input),
+        want,
+    );
+}
+
+// What it answers and writes into two slots.
+fn expect_slots(
+    rt: &impl Abort,
+    alloc: Global,
+    engine: &BoundedBacktracker,
+    cache: &mut Cache,
+    input: Input<'_>,
+    want: &str,
+) {
+    let text = backtracked_slots(alloc, engine, cache, &input, 2);
+    expect_text(rt, &input, text, want);
+}

@@ -11,43 +11,16 @@ ghost use Rattle.nfa_search_base.specs.Walks.{fresh, span_of, LiesIn};
 ghost use Rattle.nfa_backtrack.specs.Runs.{AreAllItems, AreFirstItems};
 ghost use Rattle.search_tests.specs.Callers.{piece_answer};
 
-use super::WORDS_AND_NUMBERS;
+use crate::tests::{expect_list, expect_text};
 use nfa_engines::backtrack::{BoundedBacktracker, Cache};
 use nfa_engines::error::SearchError;
 use nfa_engines::iter::Searcher;
 use regex_search_core::{HalfMatch, Input, Match, PatternID, Span};
-use std::alloc::{AllocError, AllocFailed, Global};
+use std::alloc::{AllocError, Global};
+use std::fmt::Debug;
 use std::process::Abort;
-use std::test::Fail;
 use test_support::made::{backtracker, with_capacity};
-use test_support::text::parts;
-
-// Why a caller has no list.
-#[derive(Clone, Copy, Debug, thiserror::Error)]
-enum ListError {
-    #[error("out of memory")]
-    Memory,
-    #[error("no search")]
-    Search(SearchError),
-}
-
-impl From<AllocError> for ListError {
-    fn from(_: AllocError) -> ListError {
-        ListError::Memory
-    }
-}
-
-impl<T: Drop> From<AllocFailed<T>> for ListError {
-    fn from(_: AllocFailed<T>) -> ListError {
-        ListError::Memory
-    }
-}
-
-impl From<SearchError> for ListError {
-    fn from(error: SearchError) -> ListError {
-        ListError::Search(error)
-    }
-}
+use test_support::text::write_item;
 
 // All items of an engine, by `collect`.
 fn collected(
@@ -68,7 +41,7 @@ fn looped_items(
     engine: &BoundedBacktracker,
     cache: &mut Cache,
     text: &[u8],
-) -> Result<Vec<Result<Match, SearchError>>, ListError>
+) -> Result<Vec<Result<Match, SearchError>>, SearchError>
     ensures { IfOk result (λ v. AreAllItems engine.now (whole text.now) v.items) }
 {
     let mut found = Vec::new(alloc);
@@ -84,7 +57,7 @@ fn looped(
     engine: &BoundedBacktracker,
     cache: &mut Cache,
     text: &[u8],
-) -> Result<Vec<Match>, ListError>
+) -> Result<Vec<Match>, SearchError>
     ensures { IfOk result (λ v. AreMatches engine.now.nfa LeftmostFirst false (whole text.now) (map found_of v.items)) }
 {
     let mut found = Vec::new(alloc);
@@ -100,7 +73,7 @@ fn first_items(
     engine: &BoundedBacktracker,
     cache: &mut Cache,
     text: &[u8],
-) -> Result<Vec<Result<Match, SearchError>>, ListError>
+) -> Result<Vec<Result<Match, SearchError>>, SearchError>
     ensures { IfOk result (λ v. AreFirstItems engine.now (whole text.now) v.items) }
 {
     let mut found = Vec::new(alloc);
@@ -119,7 +92,7 @@ fn first_two(
     engine: &BoundedBacktracker,
     cache: &mut Cache,
     text: &[u8],
-) -> Result<Vec<Match>, ListError>
+) -> Result<Vec<Match>, SearchError>
     ensures { IfOk result
         (λ v. AreFirstMatches engine.now.nfa LeftmostFirst false (whole text.now) (map found_of v.items)) }
 {
@@ -139,7 +112,7 @@ fn texts<'t>(
     engine: &BoundedBacktracker,
     cache: &mut Cache,
     text: &'t [u8],
-) -> Result<Vec<&'t [u8]>, ListError> {
+) -> Result<Vec<&'t [u8]>, SearchError> {
     let mut texts = Vec::new(alloc);
     for item in engine.try_find_iter(cache, Input::new(text)) {
         let found = item?;
@@ -197,125 +170,135 @@ fn half_found(
 
 const HAYSTACK: &[u8] = b"abc 1 foo 4567 0 quux";
 
-// The first items of the haystack, so many.
-fn expect_items(rt: &impl Abort, all: &[Result<Match, SearchError>], len: usize) {
-    assert_eq!(rt; all.len(), len);
-    for (item, want) in all.iter().zip(WORDS_AND_NUMBERS) {
-        assert_eq!(rt; item.map(parts), Ok(*want));
+// The matches of `words_numbers` in it: each one's pattern, start and end.
+const MATCHES: &[(usize, usize, usize)] = &[
+    (0, 0, 3),
+    (1, 4, 5),
+    (0, 6, 9),
+    (1, 10, 14),
+    (1, 15, 16),
+    (0, 17, 21),
+];
+
+// All items, each with a comma and a blank behind it.
+fn items_text(alloc: Global, items: &[Result<Match, SearchError>]) -> Result<String, AllocError> {
+    let mut text = String::new(alloc);
+    for item in items {
+        write_item(&mut text, *item)?;
     }
+    Ok(text)
 }
 
-fn expect_matches(rt: &impl Abort, all: &[Match], len: usize) {
-    assert_eq!(rt; all.len(), len);
-    for (found, want) in all.iter().zip(WORDS_AND_NUMBERS) {
-        assert_eq!(rt; parts(*found), *want);
-    }
-}
-
-fn expect_lists(
+// The items of a caller's list.
+fn expect_items<E: Debug>(
     rt: &impl Abort,
     alloc: Global,
-    engine: &BoundedBacktracker,
-    cache: &mut Cache,
-) -> Result<(), ListError> {
-    expect_items(rt, &collected(alloc, engine, cache, HAYSTACK)?, 6);
-    expect_items(rt, &looped_items(alloc, engine, cache, HAYSTACK)?, 6);
-    expect_items(rt, &first_items(alloc, engine, cache, HAYSTACK)?, 2);
-    expect_matches(rt, &looped(alloc, engine, cache, HAYSTACK)?, 6);
-    expect_matches(rt, &first_two(alloc, engine, cache, HAYSTACK)?, 2);
-    expect_matches(
+    list: Result<Vec<Result<Match, SearchError>>, E>,
+    want: &str,
+) {
+    let items = list.expect(rt, "a list");
+    expect_text(rt, &"a list", items_text(alloc, &items), want);
+}
+
+// All items of the haystack.
+const ITEMS: &str = "0 0..3, 1 4..5, 0 6..9, 1 10..14, 1 15..16, 0 17..21, ";
+
+fn expect_lists(rt: &impl Abort, alloc: Global, engine: &BoundedBacktracker, cache: &mut Cache) {
+    expect_items(rt, alloc, collected(alloc, engine, cache, HAYSTACK), ITEMS);
+    expect_items(
         rt,
-        &engine.try_find_all(alloc, cache, Input::new(HAYSTACK))?,
-        6,
+        alloc,
+        looped_items(alloc, engine, cache, HAYSTACK),
+        ITEMS,
     );
-    Ok(())
+    let two = first_items(alloc, engine, cache, HAYSTACK);
+    expect_items(rt, alloc, two, "0 0..3, 1 4..5, ");
+    expect_list(rt, looped(alloc, engine, cache, HAYSTACK), MATCHES, 6);
+    expect_list(rt, first_two(alloc, engine, cache, HAYSTACK), MATCHES, 2);
+    let all = engine.try_find_all(alloc, cache, Input::new(HAYSTACK));
+    expect_list(rt, all, MATCHES, 6);
 }
 
-fn expect_texts(
-    rt: &impl Abort,
-    alloc: Global,
-    engine: &BoundedBacktracker,
-    cache: &mut Cache,
-) -> Result<(), ListError> {
-    let texts = texts(alloc, engine, cache, HAYSTACK)?;
-    assert_eq!(rt; texts.len(), 6);
-    let words = ["abc", "1", "foo", "4567", "0", "quux"];
-    for (text, want) in texts.iter().zip(words.iter()) {
-        assert_eq!(rt; *text, want.as_bytes());
-    }
-    Ok(())
+const WORDS: &[&[u8]] = &[b"abc", b"1", b"foo", b"4567", b"0", b"quux"];
+
+fn expect_texts(rt: &impl Abort, alloc: Global, engine: &BoundedBacktracker, cache: &mut Cache) {
+    let texts = texts(alloc, engine, cache, HAYSTACK).expect(rt, "a list");
+    assert_eq!(rt; texts.as_slice(), WORDS);
 }
 
 #[test]
-fn callers_list_all_matches(rt: HostRuntime) -> Result<(), Fail> {
+fn callers_list_all_matches(rt: HostRuntime) {
     let alloc = rt.alloc();
-    let engine = backtracker(alloc, "words_numbers")?;
+    let engine = backtracker(alloc, "words_numbers").expect(&rt, "an engine");
     let mut cache = engine.create_cache(alloc);
-    expect_lists(&rt, alloc, &engine, &mut cache)?;
-    expect_texts(&rt, alloc, &engine, &mut cache)?;
-    Ok(())
+    expect_lists(&rt, alloc, &engine, &mut cache);
+    expect_texts(&rt, alloc, &engine, &mut cache);
 }
 
 // The one item is the refusal for the length of the text.
-fn expect_refusal(
-    rt: &impl Abort,
-    alloc: Global,
-    engine: &BoundedBacktracker,
-    cache: &mut Cache,
-) -> Result<(), ListError> {
-    let refusal = [Err(SearchError::HaystackTooLong { len: 3 })];
-    let all = collected(alloc, engine, cache, b"abc")?;
-    assert_eq!(rt; all.as_slice(), refusal.as_slice());
-    let all = looped_items(alloc, engine, cache, b"abc")?;
-    assert_eq!(rt; all.as_slice(), refusal.as_slice());
-    let all = first_items(alloc, engine, cache, b"abc")?;
-    assert_eq!(rt; all.as_slice(), refusal.as_slice());
-    Ok(())
+const REFUSAL: &str = "HaystackTooLong { len: 3 }, ";
+
+fn expect_refused(rt: &impl Abort, list: Result<Vec<Match>, SearchError>) {
+    let refusal = SearchError::HaystackTooLong { len: 3 };
+    assert_eq!(rt; list.err(), Some(refusal));
 }
 
-fn expect_refused(rt: &impl Abort, listed: Result<Vec<Match>, ListError>) {
-    match listed {
-        Err(ListError::Search(error)) => assert_eq!(rt;
-            error,
-            SearchError::HaystackTooLong { len: 3 }
-        ),
-        _ => assert!(rt; false, "a list"),
-    }
+fn expect_refusals(rt: &impl Abort, alloc: Global, engine: &BoundedBacktracker, cache: &mut Cache) {
+    expect_items(rt, alloc, collected(alloc, engine, cache, b"abc"), REFUSAL);
+    expect_items(
+        rt,
+        alloc,
+        looped_items(alloc, engine, cache, b"abc"),
+        REFUSAL,
+    );
+    expect_items(
+        rt,
+        alloc,
+        first_items(alloc, engine, cache, b"abc"),
+        REFUSAL,
+    );
+    expect_refused(rt, looped(alloc, engine, cache, b"abc"));
+    expect_refused(rt, first_two(alloc, engine, cache, b"abc"));
+    let all = engine.try_find_all(alloc, cache, Input::new(b"abc"));
+    expect_refused(rt, all);
 }
 
 #[test]
-fn callers_list_the_refusal_alone(rt: HostRuntime) -> Result<(), Fail> {
+fn callers_list_the_refusal_alone(rt: HostRuntime) {
     let alloc = rt.alloc();
-    let engine = with_capacity(alloc, "alnum100", 10)?;
+    let engine = with_capacity(alloc, "alnum100", 10).expect(&rt, "an engine");
     let mut cache = engine.create_cache(alloc);
-    expect_refusal(&rt, alloc, &engine, &mut cache)?;
-    expect_refused(&rt, looped(alloc, &engine, &mut cache, b"abc"));
-    expect_refused(&rt, first_two(alloc, &engine, &mut cache, b"abc"));
-    let all = engine.try_find_all(alloc, &mut cache, Input::new(b"abc"));
-    expect_refused(&rt, all.map_err(ListError::Search));
-    Ok(())
+    expect_refusals(&rt, alloc, &engine, &mut cache);
 }
 
+// A haystack, the length of a piece, and all pieces.
+const PIECES: &[(&str, usize, &str)] = &[
+    ("abcdefgh", 3, "0 0..3, 0 3..6, 0 6..8, "),
+    ("abcd", 2, "0 0..2, 0 2..4, "),
+    ("ab", 0, "0 0..0, 0 1..1, 0 2..2, "),
+    ("", 1, "0 0..0, "),
+];
+
 #[test]
-fn lists_all_pieces(rt: HostRuntime) -> Result<(), Fail> {
+fn lists_all_pieces(rt: HostRuntime) {
     let alloc = rt.alloc();
-    for &(haystack, len, want) in &[
-        ("abcdefgh", 3, [(0, 3), (3, 6), (6, 8)].as_slice()),
-        ("abcd", 2, [(0, 2), (2, 4)].as_slice()),
-        ("ab", 0, [(0, 0), (1, 1), (2, 2)].as_slice()),
-        ("", 1, [(0, 0)].as_slice()),
-    ] {
-        let all = pieces(alloc, haystack.as_bytes(), len)?;
-        assert_eq!(rt; all.len(), want.len(), "{haystack:?} by {len}");
-        for (item, (start, end)) in all.iter().zip(want) {
-            assert_eq!(rt;
-                item.map(parts),
-                Ok((0, *start, *end)),
-                "{haystack:?} by {len}"
-            );
-        }
+    for &(haystack, len, want) in PIECES {
+        let all = pieces(alloc, haystack.as_bytes(), len);
+        expect_items(&rt, alloc, all, want);
     }
-    Ok(())
+}
+
+// The item is the half match with this offset, or there is none.
+fn expect_offset(
+    rt: &impl Abort,
+    item: Option<Result<HalfMatch, SearchError>>,
+    want: Option<usize>,
+) {
+    let offset = match item {
+        Some(half) => Some(half.expect(rt, "a half match").offset()),
+        None => None,
+    };
+    assert_eq!(rt; offset, want);
 }
 
 // The ends of all matches of `a_or_empty` in "abba", and then nothing.
@@ -324,20 +307,17 @@ fn expect_halves(rt: &impl Abort, engine: &BoundedBacktracker, cache: &mut Cache
     let mut halves = searcher.into_half_matches_iter(|input: &Input<'_>| half_found(
         engine, cache, input,
     ));
-    for want in [1, 2, 4] {
-        let item = halves.next().map(|item| item.map(|half| half.offset()));
-        assert_eq!(rt; item, Some(Ok(want)));
-    }
-    for _ in 0..2 {
-        assert_eq!(rt; halves.next(), None);
-    }
+    expect_offset(rt, halves.next(), Some(1));
+    expect_offset(rt, halves.next(), Some(2));
+    expect_offset(rt, halves.next(), Some(4));
+    expect_offset(rt, halves.next(), None);
+    expect_offset(rt, halves.next(), None);
 }
 
 #[test]
-fn gives_all_half_matches(rt: HostRuntime) -> Result<(), Fail> {
+fn gives_all_half_matches(rt: HostRuntime) {
     let alloc = rt.alloc();
-    let engine = backtracker(alloc, "a_or_empty")?;
+    let engine = backtracker(alloc, "a_or_empty").expect(&rt, "an engine");
     let mut cache = engine.create_cache(alloc);
     expect_halves(&rt, &engine, &mut cache);
-    Ok(())
 }

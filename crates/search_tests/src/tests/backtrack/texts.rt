@@ -1,15 +1,19 @@
 //! What iterators are shown as.
 
-ghost use Rattle.std.specs.Prelude.{Ok};
+ghost use Rattle.std.specs.Prelude.{IsOk, Ok};
 ghost use Rattle.regex_search_core.specs.Search.{search_of};
-ghost use Rattle.nfa_search_base.specs.Finders.{half_place};
+ghost use Rattle.nfa_search_base.specs.Finders.{half_place, match_place};
 ghost use Rattle.nfa_search_base.specs.Walks.{LiesIn};
 
 use super::callers::next_piece;
-use nfa_engines::backtrack::BoundedBacktracker;
+use crate::tests::expect_shown;
+use nfa_engines::backtrack::{BoundedBacktracker, Cache};
+use nfa_engines::error::SearchError;
 use nfa_engines::iter::Searcher;
-use regex_search_core::{HalfMatch, Input, PatternID};
-use std::test::Fail;
+use regex_search_core::{HalfMatch, Input, Match, PatternID};
+use std::alloc::Global;
+use std::fmt::Debug;
+use std::process::Abort;
 
 const FRESH: &str =
     "Searcher { input: Input { haystack: [97, 98], span: Span { start: 0, end: 2 }, anchored: No, \
@@ -27,19 +31,28 @@ const UNUSED: &str =
     "Cache { scratch: Scratch { stack: [], visited: Visited { blocks: [], used: 0, turns: Counter }, \
     scans: Counter }, slots: [], answered: Counter, refused: Counter, past_scans: Counter, past_turns: Counter }";
 
-#[test]
-fn an_iterator_over_an_engine_is_shown(rt: HostRuntime) -> Result<(), Fail> {
-    let alloc = rt.alloc();
-    let engine = BoundedBacktracker::never_match(alloc)?;
-    let mut cache = engine.create_cache(alloc);
-    let matches = engine.try_find_iter(&mut cache, Input::new(b"ab"));
+fn expect_matches_shown(
+    rt: &impl Abort,
+    alloc: Global,
+    engine: &BoundedBacktracker,
+    cache: &mut Cache,
+) {
+    let matches = engine.try_find_iter(cache, Input::new(b"ab"));
     let want = format!(in alloc;
         "TryFindMatches {{ cache: {UNUSED}, steps: Steps {{ searcher: {FRESH}, \
         asker: Finder {{ engine: BoundedBacktracker {{ config: Config {{ visited_capacity: None }}, \
         first: FirstBytes {{ .. }}, nfa: {NEVER} }}, known: None }}, done: false }} }}"
-    )?;
-    assert_eq!(rt; format!(in alloc; "{matches:?}")?.as_str(), want.as_str());
-    Ok(())
+    );
+    let want = want.expect(rt, "memory for a text");
+    expect_shown(rt, alloc, &matches, &want);
+}
+
+#[test]
+fn an_iterator_over_an_engine_is_shown(rt: HostRuntime) {
+    let alloc = rt.alloc();
+    let engine = BoundedBacktracker::never_match(alloc).expect(&rt, "an engine");
+    let mut cache = engine.create_cache(alloc);
+    expect_matches_shown(&rt, alloc, &engine, &mut cache);
 }
 
 // The end of the next byte, or of the span where no byte is left.
@@ -56,51 +69,97 @@ fn next_end(input: &Input<'_>) -> Option<HalfMatch>
     }
 }
 
-// How many steps were made, and where the searcher and the iterator then stand.
-const STATES: &[(usize, &str, bool)] = &[(0, FRESH, false), (3, AFTER_THE_LAST, true)];
+// The next byte, or the empty rest of the span.
+fn byte(input: &Input<'_>) -> Result<Option<Match>, SearchError>
+    ensures inside { LiesIn (search_of input.now) (match_place result) }
+    ensures surely { IsOk result }
+{
+    Ok(next_piece(input, 1))
+}
 
-#[test]
-fn iterators_over_a_finder_are_shown(rt: HostRuntime) -> Result<(), Fail> {
-    let alloc = rt.alloc();
-    for &(steps, searcher, done) in STATES {
-        let new = Searcher::new(Input::new(b"ab"));
-        let mut tries = new.into_matches_iter(|input: &Input<'_>| Ok(next_piece(input, 1)));
-        let new = Searcher::new(Input::new(b"ab"));
-        let sure = new.into_matches_iter(|input: &Input<'_>| Ok(next_piece(input, 1)));
-        let mut sure = sure.infallible();
-        for _ in 0..steps {
-            tries.next();
-            sure.next();
-        }
-        let want = format!(in alloc;
-            "TryMatchesIter {{ searcher: {searcher}, done: {done}, .. }}"
-        )?;
-        assert_eq!(rt; format!(in alloc; "{tries:?}")?.as_str(), want.as_str());
-        let want = format!(in alloc; "MatchesIter {{ tries: {want} }}")?;
-        assert_eq!(rt; format!(in alloc; "{sure:?}")?.as_str(), want.as_str());
-    }
-    Ok(())
+// Its end.
+fn byte_end(input: &Input<'_>) -> Result<Option<HalfMatch>, SearchError>
+    ensures inside { LiesIn (search_of input.now) (half_place result) }
+    ensures surely { IsOk result }
+{
+    Ok(next_end(input))
+}
+
+// Where the searcher stands, and whether the iterator is done: at first, and after three steps.
+const FIRST: (&str, bool) = (FRESH, false);
+
+const LAST: (&str, bool) = (AFTER_THE_LAST, true);
+
+// An iterator that tries is shown by where it stands.
+fn expect_tries(
+    rt: &impl Abort,
+    alloc: Global,
+    tries: &impl Debug,
+    name: &str,
+    (searcher, done): (&str, bool),
+) {
+    let want = format!(in alloc; "{name} {{ searcher: {searcher}, done: {done}, .. }}");
+    expect_shown(rt, alloc, tries, &want.expect(rt, "memory for a text"));
+}
+
+// One that is sure is shown by the one that it tries with.
+fn expect_sure(
+    rt: &impl Abort,
+    alloc: Global,
+    sure: &impl Debug,
+    (name, tries): (&str, &str),
+    (searcher, done): (&str, bool),
+) {
+    let want = format!(in alloc;
+        "{name} {{ tries: {tries} {{ searcher: {searcher}, done: {done}, .. }} }}"
+    );
+    expect_shown(rt, alloc, sure, &want.expect(rt, "memory for a text"));
 }
 
 #[test]
-fn iterators_over_a_half_finder_are_shown(rt: HostRuntime) -> Result<(), Fail> {
+fn iterators_over_a_finder_are_shown(rt: HostRuntime) {
     let alloc = rt.alloc();
-    for &(steps, searcher, done) in STATES {
-        let new = Searcher::new(Input::new(b"ab"));
-        let mut tries = new.into_half_matches_iter(|input: &Input<'_>| Ok(next_end(input)));
-        let new = Searcher::new(Input::new(b"ab"));
-        let sure = new.into_half_matches_iter(|input: &Input<'_>| Ok(next_end(input)));
-        let mut sure = sure.infallible();
-        for _ in 0..steps {
-            tries.next();
-            sure.next();
-        }
-        let want = format!(in alloc;
-            "TryHalfMatchesIter {{ searcher: {searcher}, done: {done}, .. }}"
-        )?;
-        assert_eq!(rt; format!(in alloc; "{tries:?}")?.as_str(), want.as_str());
-        let want = format!(in alloc; "HalfMatchesIter {{ tries: {want} }}")?;
-        assert_eq!(rt; format!(in alloc; "{sure:?}")?.as_str(), want.as_str());
+    let mut tries = Searcher::new(Input::new(b"ab")).into_matches_iter(byte);
+    expect_tries(&rt, alloc, &tries, "TryMatchesIter", FIRST);
+    for _ in 0..3 {
+        tries.next();
     }
-    Ok(())
+    expect_tries(&rt, alloc, &tries, "TryMatchesIter", LAST);
+}
+
+#[test]
+fn sure_iterators_over_a_finder_are_shown(rt: HostRuntime) {
+    let alloc = rt.alloc();
+    let names = ("MatchesIter", "TryMatchesIter");
+    let tries = Searcher::new(Input::new(b"ab")).into_matches_iter(byte);
+    let mut sure = tries.infallible();
+    expect_sure(&rt, alloc, &sure, names, FIRST);
+    for _ in 0..3 {
+        sure.next();
+    }
+    expect_sure(&rt, alloc, &sure, names, LAST);
+}
+
+#[test]
+fn iterators_over_a_half_finder_are_shown(rt: HostRuntime) {
+    let alloc = rt.alloc();
+    let mut tries = Searcher::new(Input::new(b"ab")).into_half_matches_iter(byte_end);
+    expect_tries(&rt, alloc, &tries, "TryHalfMatchesIter", FIRST);
+    for _ in 0..3 {
+        tries.next();
+    }
+    expect_tries(&rt, alloc, &tries, "TryHalfMatchesIter", LAST);
+}
+
+#[test]
+fn sure_iterators_over_a_half_finder_are_shown(rt: HostRuntime) {
+    let alloc = rt.alloc();
+    let names = ("HalfMatchesIter", "TryHalfMatchesIter");
+    let tries = Searcher::new(Input::new(b"ab")).into_half_matches_iter(byte_end);
+    let mut sure = tries.infallible();
+    expect_sure(&rt, alloc, &sure, names, FIRST);
+    for _ in 0..3 {
+        sure.next();
+    }
+    expect_sure(&rt, alloc, &sure, names, LAST);
 }

@@ -9,13 +9,9 @@ ghost use Rattle.nfa_search_base.specs.Lists.{AreMatches, AreFirstMatches, AreAp
 use nfa_engines::pikevm::{Cache, PikeVM};
 use regex_search_core::{Input, Match, NonMaxUsize};
 use std::alloc::{AllocError, Global};
-use std::process::Abort;
-use std::test::Fail;
-use test_support::made::pikevm;
-use test_support::text::parts;
 
 // All matches of any input, by `collect`.
-fn collected(
+pub(super) fn collected(
     alloc: Global,
     vm: &PikeVM,
     cache: &mut Cache,
@@ -29,7 +25,7 @@ fn collected(
 }
 
 // All matches in a text.
-fn collected_whole(
+pub(super) fn collected_whole(
     alloc: Global,
     vm: &PikeVM,
     cache: &mut Cache,
@@ -43,7 +39,7 @@ fn collected_whole(
 }
 
 // The same, by a loop that pushes.
-fn looped(
+pub(super) fn looped(
     alloc: Global,
     vm: &PikeVM,
     cache: &mut Cache,
@@ -61,7 +57,7 @@ fn looped(
 }
 
 // At most two matches, by a loop that breaks.
-fn first_two(
+pub(super) fn first_two(
     alloc: Global,
     vm: &PikeVM,
     cache: &mut Cache,
@@ -82,7 +78,11 @@ fn first_two(
 }
 
 // How many matches there are, and the first, searched for with the same cache.
-fn count_then_find(vm: &PikeVM, cache: &mut Cache, haystack: &[u8]) -> (usize, Option<Match>)
+pub(super) fn count_then_find(
+    vm: &PikeVM,
+    cache: &mut Cache,
+    haystack: &[u8],
+) -> (usize, Option<Match>)
     requires { Fits cache.old vm.now.nfa }
     ensures { Fits cache.new vm.now.nfa }
 {
@@ -94,7 +94,7 @@ fn count_then_find(vm: &PikeVM, cache: &mut Cache, haystack: &[u8]) -> (usize, O
 }
 
 // What the text has at the first match.
-fn found_text<'t>(vm: &PikeVM, cache: &mut Cache, text: &'t [u8]) -> Option<&'t [u8]>
+pub(super) fn found_text<'t>(vm: &PikeVM, cache: &mut Cache, text: &'t [u8]) -> Option<&'t [u8]>
     requires { Fits cache.old vm.now.nfa }
 {
     let found = vm.find(cache, Input::new(text))?;
@@ -102,7 +102,7 @@ fn found_text<'t>(vm: &PikeVM, cache: &mut Cache, text: &'t [u8]) -> Option<&'t 
 }
 
 // The first match, which ends in the text.
-fn ends_in_text(vm: &PikeVM, cache: &mut Cache, text: &[u8]) -> Option<Match>
+pub(super) fn ends_in_text(vm: &PikeVM, cache: &mut Cache, text: &[u8]) -> Option<Match>
     requires { Fits cache.old vm.now.nfa }
     ensures { IfSome result (λ m. m.span.end ≤ length text.now) }
 {
@@ -110,7 +110,7 @@ fn ends_in_text(vm: &PikeVM, cache: &mut Cache, text: &[u8]) -> Option<Match>
 }
 
 // The pattern of the first match, which is one of the engine's.
-fn pattern_of(vm: &PikeVM, cache: &mut Cache, text: &[u8]) -> Option<usize>
+pub(super) fn pattern_of(vm: &PikeVM, cache: &mut Cache, text: &[u8]) -> Option<usize>
     requires { Fits cache.old vm.now.nfa }
     ensures { IfSome result (λ p. p < length vm.now.nfa.patterns) }
 {
@@ -119,7 +119,7 @@ fn pattern_of(vm: &PikeVM, cache: &mut Cache, text: &[u8]) -> Option<usize>
 }
 
 // Where the first match starts, which is in the text.
-fn slot_in_text(vm: &PikeVM, cache: &mut Cache, text: &[u8]) -> Option<usize>
+pub(super) fn slot_in_text(vm: &PikeVM, cache: &mut Cache, text: &[u8]) -> Option<usize>
     requires { Fits cache.old vm.now.nfa }
     ensures { IfSome result (λ at. at ≤ length text.now) }
 {
@@ -129,7 +129,7 @@ fn slot_in_text(vm: &PikeVM, cache: &mut Cache, text: &[u8]) -> Option<usize>
 }
 
 // What the text has at each match.
-fn texts<'t>(
+pub(super) fn texts<'t>(
     alloc: Global,
     vm: &PikeVM,
     cache: &mut Cache,
@@ -145,7 +145,7 @@ fn texts<'t>(
 }
 
 // What the text has at each match behind a place.
-fn texts_of_span<'t>(
+pub(super) fn texts_of_span<'t>(
     alloc: Global,
     vm: &PikeVM,
     cache: &mut Cache,
@@ -163,7 +163,7 @@ fn texts_of_span<'t>(
 }
 
 // All matches, which lie in the text, and apart.
-fn collected_inside(
+pub(super) fn collected_inside(
     alloc: Global,
     vm: &PikeVM,
     cache: &mut Cache,
@@ -179,7 +179,7 @@ fn collected_inside(
 }
 
 // What the text has at each match of a list.
-fn texts_of_collected<'t>(
+pub(super) fn texts_of_collected<'t>(
     alloc: Global,
     vm: &PikeVM,
     cache: &mut Cache,
@@ -196,7 +196,7 @@ fn texts_of_collected<'t>(
 }
 
 // How many of the first three matches there are. The cache fits afterwards what it fitted before.
-fn numbers_kept(vm: &PikeVM, cache: &mut Cache, text: &[u8]) -> usize
+pub(super) fn numbers_kept(vm: &PikeVM, cache: &mut Cache, text: &[u8]) -> usize
     requires { Fits cache.old vm.now.nfa }
     ensures numbers { SameNumbers cache.old cache.new }
     ensures fits { Fits cache.new vm.now.nfa }
@@ -212,7 +212,7 @@ fn numbers_kept(vm: &PikeVM, cache: &mut Cache, text: &[u8]) -> usize
 }
 
 // How many matches there are, by `count`.
-fn how_many(vm: &PikeVM, cache: &mut Cache, text: &[u8]) -> usize
+pub(super) fn how_many(vm: &PikeVM, cache: &mut Cache, text: &[u8]) -> usize
     requires { Fits cache.old vm.now.nfa }
     ensures { (all : List Found) → AreMatches vm.now.nfa (kind_of vm.now) false (whole text.now) all
         → result ≡ length all }
@@ -221,7 +221,7 @@ fn how_many(vm: &PikeVM, cache: &mut Cache, text: &[u8]) -> usize
 }
 
 // The first match, after all.
-fn find_all_then_find(
+pub(super) fn find_all_then_find(
     alloc: Global,
     vm: &PikeVM,
     cache: &mut Cache,
@@ -235,7 +235,7 @@ fn find_all_then_find(
 }
 
 // All matches, which lie in the text, and apart, by a loop.
-fn looped_inside(
+pub(super) fn looped_inside(
     alloc: Global,
     vm: &PikeVM,
     cache: &mut Cache,
@@ -253,7 +253,7 @@ fn looped_inside(
 }
 
 // Where the last match ends. Each starts behind the end of the one before.
-fn in_order(vm: &PikeVM, cache: &mut Cache, text: &[u8]) -> usize
+pub(super) fn in_order(vm: &PikeVM, cache: &mut Cache, text: &[u8]) -> usize
     requires { Fits cache.old vm.now.nfa }
 {
     let mut end = 0;
@@ -267,7 +267,7 @@ fn in_order(vm: &PikeVM, cache: &mut Cache, text: &[u8]) -> usize
 }
 
 // The first match, by `next`.
-fn first_alone(vm: &PikeVM, cache: &mut Cache, text: &[u8]) -> Option<Match>
+pub(super) fn first_alone(vm: &PikeVM, cache: &mut Cache, text: &[u8]) -> Option<Match>
     requires { Fits cache.old vm.now.nfa }
     ensures { IfSome result
         (λ m. AreFirstMatches vm.now.nfa (kind_of vm.now) false (whole text.now) (found_of m ∷ [])) }
@@ -289,7 +289,7 @@ fn counted(vm: &PikeVM, cache: &mut Cache, text: &[u8]) -> usize
 }
 
 // How many matches all texts have together, with one cache.
-fn count_in_all(vm: &PikeVM, cache: &mut Cache, haystacks: &[&[u8]]) -> usize
+pub(super) fn count_in_all(vm: &PikeVM, cache: &mut Cache, haystacks: &[&[u8]]) -> usize
     requires { Fits cache.old vm.now.nfa }
     ensures { SameNumbers cache.old cache.new }
 {
@@ -298,135 +298,4 @@ fn count_in_all(vm: &PikeVM, cache: &mut Cache, haystacks: &[&[u8]]) -> usize
         count = usize::saturating_add(count, counted(vm, cache, haystack));
     }
     count
-}
-
-const HAYSTACK: &[u8] = b"foo1 foo12 foo123";
-
-// A new cache for each caller.
-fn fresh(alloc: Global, vm: &PikeVM) -> Result<Cache, Fail>
-    ensures { IfOk result (λ cache. Fits cache vm.now.nfa) }
-{
-    Ok(vm.create_cache(alloc)?)
-}
-
-// The first matches of the haystack, so many.
-fn expect_matches(rt: &impl Abort, all: &[Match], len: usize) {
-    assert_eq!(rt; all.len(), len);
-    for (found, want) in all.iter().zip([(0, 0, 4), (0, 5, 10), (0, 11, 17)].iter()) {
-        assert_eq!(rt; parts(*found), *want);
-    }
-}
-
-fn expect_collected(rt: &impl Abort, alloc: Global, vm: &PikeVM) -> Result<(), Fail> {
-    let all = collected(alloc, vm, &mut fresh(alloc, vm)?, Input::new(HAYSTACK))?;
-    expect_matches(rt, &all, 3);
-    let all = collected_whole(alloc, vm, &mut fresh(alloc, vm)?, HAYSTACK)?;
-    expect_matches(rt, &all, 3);
-    let all = collected_inside(alloc, vm, &mut fresh(alloc, vm)?, HAYSTACK)?;
-    expect_matches(rt, &all, 3);
-    Ok(())
-}
-
-fn expect_looped(rt: &impl Abort, alloc: Global, vm: &PikeVM) -> Result<(), Fail> {
-    let all = looped(alloc, vm, &mut fresh(alloc, vm)?, HAYSTACK)?;
-    expect_matches(rt, &all, 3);
-    let all = looped_inside(alloc, vm, &mut fresh(alloc, vm)?, HAYSTACK)?;
-    expect_matches(rt, &all, 3);
-    let all = first_two(alloc, vm, &mut fresh(alloc, vm)?, HAYSTACK)?;
-    expect_matches(rt, &all, 2);
-    Ok(())
-}
-
-#[test]
-fn callers_list_all_matches(rt: HostRuntime) -> Result<(), Fail> {
-    let alloc = rt.alloc();
-    let vm = pikevm(alloc, "foo_num")?;
-    expect_collected(&rt, alloc, &vm)?;
-    expect_looped(&rt, alloc, &vm)
-}
-
-// The texts, joined.
-fn joined(alloc: Global, words: &[&[u8]]) -> Result<Vec<u8>, AllocError> {
-    let mut all = Vec::new(alloc);
-    for word in words {
-        all.extend_from_slice(word)?;
-        all.push(b' ')?;
-    }
-    Ok(all)
-}
-
-fn expect_texts(rt: &impl Abort, alloc: Global, vm: &PikeVM) -> Result<(), Fail> {
-    let found = texts(alloc, vm, &mut fresh(alloc, vm)?, HAYSTACK)?;
-    assert_eq!(rt;
-        joined(alloc, &found)?.as_slice(),
-        b"foo1 foo12 foo123 ".as_slice()
-    );
-    let found = texts_of_collected(alloc, vm, &mut fresh(alloc, vm)?, HAYSTACK)?;
-    assert_eq!(rt;
-        joined(alloc, &found)?.as_slice(),
-        b"foo1 foo12 foo123 ".as_slice()
-    );
-    let found = texts_of_span(alloc, vm, &mut fresh(alloc, vm)?, HAYSTACK, 1)?;
-    assert_eq!(rt;
-        joined(alloc, &found)?.as_slice(),
-        b"foo12 foo123 ".as_slice()
-    );
-    Ok(())
-}
-
-fn expect_text(rt: &impl Abort, vm: &PikeVM, cache: &mut Cache, text: &[u8], want: Option<&[u8]>) {
-    assert!(rt; cache.fits(vm));
-    assert_eq!(rt; found_text(vm, cache, text), want);
-}
-
-#[test]
-fn callers_slice_the_haystack(rt: HostRuntime) -> Result<(), Fail> {
-    let alloc = rt.alloc();
-    let vm = pikevm(alloc, "foo_num")?;
-    expect_texts(&rt, alloc, &vm)?;
-    let mut cache = fresh(alloc, &vm)?;
-    expect_text(&rt, &vm, &mut cache, b"x foo1", Some(b"foo1".as_slice()));
-    expect_text(&rt, &vm, &mut cache, b"x", None);
-    Ok(())
-}
-
-fn expect_counts(rt: &impl Abort, alloc: Global, vm: &PikeVM) -> Result<(), Fail> {
-    assert_eq!(rt; numbers_kept(vm, &mut fresh(alloc, vm)?, HAYSTACK), 3);
-    assert_eq!(rt; how_many(vm, &mut fresh(alloc, vm)?, HAYSTACK), 3);
-    assert_eq!(rt; in_order(vm, &mut fresh(alloc, vm)?, HAYSTACK), 17);
-    let texts = [HAYSTACK, b"", b"foo1", b"foo"];
-    assert_eq!(rt; count_in_all(vm, &mut fresh(alloc, vm)?, &texts), 4);
-    Ok(())
-}
-
-fn expect_first(rt: &impl Abort, first: Option<Match>) {
-    assert_eq!(rt; first.map(parts), Some((0, 0, 4)));
-}
-
-fn expect_firsts(rt: &impl Abort, alloc: Global, vm: &PikeVM) -> Result<(), Fail> {
-    let (count, first) = count_then_find(vm, &mut fresh(alloc, vm)?, HAYSTACK);
-    assert_eq!(rt; count, 3);
-    expect_first(rt, first);
-    expect_first(
-        rt,
-        find_all_then_find(alloc, vm, &mut fresh(alloc, vm)?, HAYSTACK)?,
-    );
-    expect_first(rt, ends_in_text(vm, &mut fresh(alloc, vm)?, HAYSTACK));
-    expect_first(rt, first_alone(vm, &mut fresh(alloc, vm)?, HAYSTACK));
-    Ok(())
-}
-
-fn expect_places(rt: &impl Abort, alloc: Global, vm: &PikeVM) -> Result<(), Fail> {
-    assert_eq!(rt; pattern_of(vm, &mut fresh(alloc, vm)?, HAYSTACK), Some(0));
-    assert_eq!(rt; slot_in_text(vm, &mut fresh(alloc, vm)?, b" foo1"), Some(1));
-    Ok(())
-}
-
-#[test]
-fn callers_count_and_search_again(rt: HostRuntime) -> Result<(), Fail> {
-    let alloc = rt.alloc();
-    let vm = pikevm(alloc, "foo_num")?;
-    expect_counts(&rt, alloc, &vm)?;
-    expect_firsts(&rt, alloc, &vm)?;
-    expect_places(&rt, alloc, &vm)
 }

@@ -4,6 +4,8 @@ ghost use Rattle.std.specs.Prelude.{◌≡◌, IfOk, option_map};
 ghost use Rattle.regex_search_core.specs.Found.{found_of};
 ghost use Rattle.nfa_pikevm.specs.Engines.{Fits};
 
+use super::expect_fits;
+use crate::tests::expect_number;
 use nfa_engines::backtrack::{self, BoundedBacktracker};
 use nfa_engines::error::SearchError;
 use nfa_engines::laws::cache_history_is_invisible;
@@ -11,7 +13,6 @@ use nfa_engines::pikevm::{Cache, PikeVM};
 use regex_search_core::{Input, Match};
 use std::alloc::Global;
 use std::process::Abort;
-use std::test::Fail;
 use test_support::made::{backtracker, pikevm};
 use test_support::text::parts;
 
@@ -54,43 +55,49 @@ fn tried_twice(
 
 const TEXT: &[u8] = b"x foo12 foo1";
 
+fn expect_seven(rt: &impl Abort, found: Option<Match>) {
+    assert_eq!(rt; found.map(parts), Some((0, 2, 7)));
+}
+
 fn expect_found(rt: &impl Abort, vm: &PikeVM, used: &mut Cache, fresh: &mut Cache) {
-    if !used.fits(vm) || !fresh.fits(vm) {
-        assert!(rt; false, "caches that fit");
-        return;
-    }
+    expect_fits(rt, vm, used);
+    expect_fits(rt, vm, fresh);
     vm.is_match(used, Input::new(b"foo foo7"));
     let (one, two) = found_twice(vm, used, fresh, TEXT);
-    assert_eq!(rt; one.map(parts), Some((0, 2, 7)));
-    assert_eq!(rt; two.map(parts), Some((0, 2, 7)));
+    expect_seven(rt, one);
+    expect_seven(rt, two);
 }
 
 #[test]
-fn a_used_cache_answers_as_a_fresh_one(rt: HostRuntime) -> Result<(), Fail> {
+fn a_used_cache_answers_as_a_fresh_one(rt: HostRuntime) {
     let alloc = rt.alloc();
-    let vm = pikevm(alloc, "foo_num")?;
-    let mut used = vm.create_cache(alloc)?;
-    let mut fresh = vm.create_cache(alloc)?;
+    let vm = pikevm(alloc, "foo_num").expect(&rt, "an engine");
+    let mut used = vm.create_cache(alloc).expect(&rt, "a cache");
+    let mut fresh = vm.create_cache(alloc).expect(&rt, "a cache");
     expect_found(&rt, &vm, &mut used, &mut fresh);
-    Ok(())
 }
 
-fn expect_tried(rt: &impl Abort, alloc: Global, engine: &BoundedBacktracker) {
+fn expect_tried(
+    rt: &impl Abort,
+    engine: &BoundedBacktracker,
+    used: &mut backtrack::Cache,
+    fresh: &mut backtrack::Cache,
+) {
+    let warmed = engine.try_is_match(used, Input::new(b"foo foo7"));
+    assert_eq!(rt; warmed, Ok(true));
+    let (one, two) = tried_twice(engine, used, fresh, TEXT);
+    let (one, two) = (one.expect(rt, "a search"), two.expect(rt, "a search"));
+    expect_seven(rt, one);
+    expect_seven(rt, two);
+}
+
+#[test]
+fn a_used_cache_of_a_backtracker_answers_as_a_fresh_one(rt: HostRuntime) {
+    let alloc = rt.alloc();
+    let engine = backtracker(alloc, "foo_num").expect(&rt, "an engine");
     let mut used = engine.create_cache(alloc);
     let mut fresh = engine.create_cache(alloc);
-    let warmed = engine.try_is_match(&mut used, Input::new(b"foo foo7"));
-    assert_eq!(rt; warmed, Ok(true));
-    let (one, two) = tried_twice(engine, &mut used, &mut fresh, TEXT);
-    assert_eq!(rt; one.map(|found| found.map(parts)), Ok(Some((0, 2, 7))));
-    assert_eq!(rt; two.map(|found| found.map(parts)), Ok(Some((0, 2, 7))));
-}
-
-#[test]
-fn a_used_cache_of_a_backtracker_answers_as_a_fresh_one(rt: HostRuntime) -> Result<(), Fail> {
-    let alloc = rt.alloc();
-    let engine = backtracker(alloc, "foo_num")?;
-    expect_tried(&rt, alloc, &engine);
-    Ok(())
+    expect_tried(&rt, &engine, &mut used, &mut fresh);
 }
 
 // A PikeVM, and a cache that fits it: a fact of the type.
@@ -126,12 +133,15 @@ fn count_in_texts(matcher: &mut Matcher<'_>, texts: &[&[u8]]) -> usize {
     count
 }
 
+fn expect_count(rt: &impl Abort, matcher: &mut Matcher<'_>) {
+    let count = count_in_texts(matcher, &[TEXT, b"", b"foo3 foo", TEXT]);
+    expect_number(rt, count, 5);
+}
+
 #[test]
-fn one_cache_serves_many_texts(rt: HostRuntime) -> Result<(), Fail> {
+fn one_cache_serves_many_texts(rt: HostRuntime) {
     let alloc = rt.alloc();
-    let vm = pikevm(alloc, "foo_num")?;
-    let mut matcher = Matcher::new(alloc, &vm)?;
-    let count = count_in_texts(&mut matcher, &[TEXT, b"", b"foo3 foo", TEXT]);
-    assert_eq!(rt; count, 5);
-    Ok(())
+    let vm = pikevm(alloc, "foo_num").expect(&rt, "an engine");
+    let mut matcher = Matcher::new(alloc, &vm).expect(&rt, "a matcher");
+    expect_count(&rt, &mut matcher);
 }

@@ -1,35 +1,28 @@
 //! Searches of the PikeVM alone: its kinds, `earliest`, long matches, and what it was made with.
 
+use super::expect_fits;
+use crate::tests::{expect_number, expect_shown, expect_six_unset, expect_text};
 use nfa_engines::pikevm::{Builder, Cache, Config, PikeVM};
-use nfa_samples::sample;
-use regex_search_core::{Input, MatchKind};
+use regex_search_core::{Input, Match, MatchKind};
 use std::alloc::Global;
 use std::process::Abort;
-use std::test::Fail;
-use test_support::made::{of_kind, pikevm};
+use test_support::made::{nfa_named, of_kind, pikevm};
 use test_support::text::piked_match;
 
-// The match that an engine finds.
-fn expect_match(
-    rt: &impl Abort,
-    alloc: Global,
-    vm: &PikeVM,
-    input: Input<'_>,
-    want: &str,
-) -> Result<(), Fail> {
-    let mut cache = vm.create_cache(alloc)?;
-    let text = piked_match(alloc, vm, &mut cache, input)?;
-    assert_eq!(rt; text.as_str(), want);
-    Ok(())
+// The match that an engine finds, with a new cache.
+fn expect_match(rt: &impl Abort, alloc: Global, vm: &PikeVM, input: Input<'_>, want: &str) {
+    let mut cache = vm.create_cache(alloc).expect(rt, "a cache");
+    let text = piked_match(alloc, vm, &mut cache, input);
+    expect_text(rt, &input, text, want);
 }
 
 #[test]
-fn finds_long_matches(rt: HostRuntime) -> Result<(), Fail> {
+fn finds_long_matches(rt: HostRuntime) {
     let alloc = rt.alloc();
-    let vm = pikevm(alloc, "alnum100")?;
-    expect_match(&rt, alloc, &vm, Input::new(&[b'.'; 19971]), "none")?;
-    expect_match(&rt, alloc, &vm, Input::new(&[b'a'; 100]), "0 0..100")?;
-    expect_match(&rt, alloc, &vm, Input::new(&[b'a'; 99]), "none")
+    let vm = pikevm(alloc, "alnum100").expect(&rt, "an engine");
+    expect_match(&rt, alloc, &vm, Input::new(&[b'.'; 19971]), "none");
+    expect_match(&rt, alloc, &vm, Input::new(&[b'a'; 100]), "0 0..100");
+    expect_match(&rt, alloc, &vm, Input::new(&[b'a'; 99]), "none");
 }
 
 // A name, a haystack, and the first match of each kind: leftmost first, with `earliest`; all, with `earliest`.
@@ -48,125 +41,142 @@ const SEARCHES: &[(MatchKind, bool)] = &[
     (MatchKind::All, true),
 ];
 
-#[test]
-fn finds_the_match_of_each_kind(rt: HostRuntime) -> Result<(), Fail> {
-    let alloc = rt.alloc();
-    for &(name, haystack, wants) in KINDS {
-        for ((kind, earliest), want) in SEARCHES.iter().zip(wants.iter()) {
-            let vm = of_kind(alloc, name, *kind)?;
-            let input = Input::new(haystack.as_bytes()).earliest(*earliest);
-            expect_match(&rt, alloc, &vm, input, want)?;
-        }
+fn expect_of_kind(
+    rt: &impl Abort,
+    alloc: Global,
+    name: &str,
+    kind: MatchKind,
+    input: Input<'_>,
+    want: &str,
+) {
+    let vm = of_kind(alloc, name, kind).expect(rt, name);
+    expect_match(rt, alloc, &vm, input, want);
+}
+
+// The first match of each kind.
+fn expect_kinds(rt: &impl Abort, alloc: Global, name: &str, haystack: &str, wants: &[&str]) {
+    for (&(kind, earliest), want) in SEARCHES.iter().zip(wants) {
+        let input = Input::new(haystack.as_bytes()).earliest(earliest);
+        expect_of_kind(rt, alloc, name, kind, input, want);
     }
-    Ok(())
+}
+
+#[test]
+fn finds_the_match_of_each_kind(rt: HostRuntime) {
+    let alloc = rt.alloc();
+    for (name, haystack, wants) in KINDS {
+        expect_kinds(&rt, alloc, name, haystack, wants);
+    }
+}
+
+fn expect_found(rt: &impl Abort, item: Option<Match>, found: bool) {
+    assert_eq!(rt; item.is_some(), found);
 }
 
 // The iterator ends for good behind one match.
 fn expect_one(rt: &impl Abort, vm: &PikeVM, cache: &mut Cache) {
-    assert!(rt; cache.fits(vm));
+    expect_fits(rt, vm, cache);
     let mut matches = vm.find_iter(cache, Input::new(b""));
-    assert!(rt; matches.next().is_some());
-    for _ in 0..2 {
-        assert!(rt; matches.next().is_none());
-    }
+    expect_found(rt, matches.next(), true);
+    expect_found(rt, matches.next(), false);
+    expect_found(rt, matches.next(), false);
 }
 
 #[test]
-fn ends_for_good(rt: HostRuntime) -> Result<(), Fail> {
+fn ends_for_good(rt: HostRuntime) {
     let alloc = rt.alloc();
-    let vm = pikevm(alloc, "a_or_empty")?;
-    let mut cache = vm.create_cache(alloc)?;
+    let vm = pikevm(alloc, "a_or_empty").expect(&rt, "an engine");
+    let mut cache = vm.create_cache(alloc).expect(&rt, "a cache");
     expect_one(&rt, &vm, &mut cache);
-    Ok(())
 }
 
 // The engine has so many patterns, and finds this in any text.
-fn expect_everywhere(
+fn expect_everywhere(rt: &impl Abort, alloc: Global, vm: &PikeVM, pattern_len: usize, want: &str) {
+    expect_number(rt, vm.pattern_len(), pattern_len);
+    expect_match(rt, alloc, vm, Input::new(b""), want);
+    expect_match(rt, alloc, vm, Input::new(b"foo"), want);
+}
+
+#[test]
+fn matches_always_or_never(rt: HostRuntime) {
+    let alloc = rt.alloc();
+    let always = PikeVM::always_match(alloc).expect(&rt, "an engine");
+    expect_everywhere(&rt, alloc, &always, 1, "0 0..0");
+    let never = PikeVM::never_match(alloc).expect(&rt, "an engine");
+    expect_everywhere(&rt, alloc, &never, 0, "none");
+}
+
+#[test]
+fn makes_captures_of_all_groups(rt: HostRuntime) {
+    let alloc = rt.alloc();
+    let vm = pikevm(alloc, "groups").expect(&rt, "an engine");
+    let captures = vm.create_captures(alloc).expect(&rt, "captures");
+    expect_six_unset(&rt, &captures);
+}
+
+// The kind of an engine that the builder makes, once it has been given the configuration.
+fn expect_kind(
     rt: &impl Abort,
     alloc: Global,
-    vm: &PikeVM,
-    pattern_len: usize,
-    want: &str,
-) -> Result<(), Fail> {
-    assert_eq!(rt; vm.pattern_len(), pattern_len);
-    expect_match(rt, alloc, vm, Input::new(b""), want)?;
-    expect_match(rt, alloc, vm, Input::new(b"foo"), want)
+    builder: &mut Builder,
+    config: Config,
+    want: MatchKind,
+) {
+    builder.configure(config);
+    let nfa = nfa_named(alloc, "abc_a").expect(rt, "an NFA");
+    let vm = builder.build_from_nfa(nfa).expect(rt, "an engine");
+    let kind = vm.get_config().get_match_kind();
+    assert_eq!(rt; kind, want);
 }
 
 #[test]
-fn matches_always_or_never(rt: HostRuntime) -> Result<(), Fail> {
-    let alloc = rt.alloc();
-    let always = PikeVM::always_match(alloc)?;
-    expect_everywhere(&rt, alloc, &always, 1, "0 0..0")?;
-    let never = PikeVM::never_match(alloc)?;
-    expect_everywhere(&rt, alloc, &never, 0, "none")
-}
-
-#[test]
-fn makes_captures_of_all_groups(rt: HostRuntime) -> Result<(), Fail> {
-    let alloc = rt.alloc();
-    let captures = pikevm(alloc, "groups")?.create_captures(alloc)?;
-    assert_eq!(rt; captures.slots().len(), 6);
-    assert!(rt; captures.slots().iter().all(|slot| slot.is_none()));
-    assert!(rt; !captures.is_match());
-    Ok(())
-}
-
-// The kind of an engine that the builder makes.
-fn kind_of_built(alloc: Global, builder: &Builder) -> Result<MatchKind, Fail> {
-    let nfa = sample(alloc, "abc_a")?.ok_or("unknown name")?;
-    let vm = builder.build_from_nfa(nfa)?;
-    Ok(vm.get_config().get_match_kind())
-}
-
-#[test]
-fn keeps_the_kind_that_a_newer_configuration_leaves_unset(rt: HostRuntime) -> Result<(), Fail> {
+fn keeps_the_kind_that_a_newer_configuration_leaves_unset(rt: HostRuntime) {
     let alloc = rt.alloc();
     let mut builder = PikeVM::builder();
-    for &(config, want) in &[
-        (Config::default(), MatchKind::LeftmostFirst),
-        (Config::new().match_kind(MatchKind::All), MatchKind::All),
-        (PikeVM::config(), MatchKind::All),
-    ] {
-        builder.configure(config);
-        assert_eq!(rt; kind_of_built(alloc, &builder)?, want);
-    }
-    Ok(())
+    let first = MatchKind::LeftmostFirst;
+    expect_kind(&rt, alloc, &mut builder, Config::default(), first);
+    let all = Config::new().match_kind(MatchKind::All);
+    expect_kind(&rt, alloc, &mut builder, all, MatchKind::All);
+    expect_kind(&rt, alloc, &mut builder, PikeVM::config(), MatchKind::All);
 }
 
-// A copy of the cache serves the engine.
-fn expect_copy(rt: &impl Abort, alloc: Global, vm: &PikeVM, cache: &Cache) -> Result<(), Fail> {
-    let mut copy = cache.clone()?;
-    assert_eq!(rt; copy.memory_usage(), cache.memory_usage());
-    assert!(rt; copy.fits(vm));
-    let text = piked_match(alloc, vm, &mut copy, Input::new(b"abca"))?;
-    assert_eq!(rt; text.as_str(), "0 3..4");
-    Ok(())
+// A copy of a cache has this size, and serves the engine.
+fn expect_serves(rt: &impl Abort, alloc: Global, vm: &PikeVM, copy: &mut Cache, size: usize) {
+    expect_number(rt, copy.memory_usage(), size);
+    expect_fits(rt, vm, copy);
+    let text = piked_match(alloc, vm, copy, Input::new(b"abca"));
+    expect_text(rt, &"abca", text, "0 3..4");
+}
+
+fn expect_copy(rt: &impl Abort, alloc: Global, vm: &PikeVM, cache: &Cache) {
+    let mut copy = cache.clone().expect(rt, "a copy of a cache");
+    expect_serves(rt, alloc, vm, &mut copy, cache.memory_usage());
+}
+
+// A copy of the engine takes the cache's copy too.
+fn expect_clone(rt: &impl Abort, alloc: Global, vm: &PikeVM, cache: &Cache) {
+    let same = vm.clone().expect(rt, "a copy of an engine");
+    expect_copy(rt, alloc, &same, cache);
 }
 
 #[test]
-fn a_clone_answers_as_its_original(rt: HostRuntime) -> Result<(), Fail> {
+fn a_clone_answers_as_its_original(rt: HostRuntime) {
     let alloc = rt.alloc();
-    let vm = of_kind(alloc, "abc_a", MatchKind::All)?;
-    let cache = vm.create_cache(alloc)?;
-    expect_copy(&rt, alloc, &vm, &cache)?;
-    let same = vm.clone()?;
-    expect_copy(&rt, alloc, &same, &cache)
+    let vm = of_kind(alloc, "abc_a", MatchKind::All).expect(&rt, "an engine");
+    let cache = vm.create_cache(alloc).expect(&rt, "a cache");
+    expect_copy(&rt, alloc, &vm, &cache);
+    expect_clone(&rt, alloc, &vm, &cache);
 }
 
 #[test]
-fn configurations_are_shown(rt: HostRuntime) -> Result<(), Fail> {
+fn configurations_are_shown(rt: HostRuntime) {
     let alloc = rt.alloc();
     let config = PikeVM::config().match_kind(MatchKind::All);
-    for &(config, want) in &[
-        (config, "Config { match_kind: Some(All) }"),
-        (Config::default(), "Config { match_kind: None }"),
-    ] {
-        assert_eq!(rt; format!(in alloc; "{config:?}")?.as_str(), want);
-    }
+    expect_shown(&rt, alloc, &config, "Config { match_kind: Some(All) }");
+    let want = "Config { match_kind: None }";
+    expect_shown(&rt, alloc, &Config::default(), want);
     let mut builder = PikeVM::builder();
     builder.configure(config);
     let want = "Builder { config: Config { match_kind: Some(All) } }";
-    assert_eq!(rt; format!(in alloc; "{builder:?}")?.as_str(), want);
-    Ok(())
+    expect_shown(&rt, alloc, &builder, want);
 }

@@ -1,11 +1,12 @@
 //! Sets of overlapping matches.
 
+use super::expect_fits;
+use crate::tests::expect_text;
 use nfa_engines::pikevm::{Cache, PikeVM};
 use regex_search_core::MatchKind::{All, LeftmostFirst};
 use regex_search_core::{Input, MatchKind, PatternID, PatternSet};
-use std::alloc::Global;
+use std::alloc::{AllocError, Global};
 use std::process::Abort;
-use std::test::Fail;
 use test_support::made::{input_in, of_kind};
 
 // A name, a kind, a haystack, the capacity of a set, and the patterns that an empty set gains: in a search, and in one
@@ -26,7 +27,7 @@ const GAINED: &[(&str, MatchKind, &str, usize, [&str; 2])] = &[
 ];
 
 // The patterns of a set, each with a blank behind it.
-fn members(alloc: Global, set: &PatternSet) -> Result<String, Fail> {
+fn members(alloc: Global, set: &PatternSet) -> Result<String, AllocError> {
     let mut text = String::new(alloc);
     for pattern in set.iter() {
         write!(text, "{} ", pattern.as_usize())?;
@@ -35,15 +36,15 @@ fn members(alloc: Global, set: &PatternSet) -> Result<String, Fail> {
 }
 
 // The patterns of the set after the search.
-fn expect_set(
+fn searched(
     rt: &impl Abort,
     alloc: Global,
     vm: &PikeVM,
     cache: &mut Cache,
     input: &Input<'_>,
     set: &mut PatternSet,
-) -> Result<String, Fail> {
-    assert!(rt; cache.fits(vm));
+) -> Result<String, AllocError> {
+    expect_fits(rt, vm, cache);
     vm.which_overlapping_matches(cache, input, set);
     members(alloc, set)
 }
@@ -55,44 +56,45 @@ fn gained(
     vm: &PikeVM,
     input: &Input<'_>,
     capacity: usize,
-) -> Result<String, Fail> {
-    let mut cache = vm.create_cache(alloc)?;
-    let mut set = PatternSet::new(alloc, capacity)?;
-    expect_set(rt, alloc, vm, &mut cache, input, &mut set)
+) -> Result<String, AllocError> {
+    let mut cache = vm.create_cache(alloc).expect(rt, "a cache");
+    let mut set = PatternSet::new(alloc, capacity).expect(rt, "a set");
+    searched(rt, alloc, vm, &mut cache, input, &mut set)
 }
 
 #[test]
-fn an_empty_set_gains_what_matches(rt: HostRuntime) -> Result<(), Fail> {
+fn an_empty_set_gains_what_matches(rt: HostRuntime) {
     let alloc = rt.alloc();
-    for &(name, kind, haystack, capacity, wants) in GAINED {
-        for (earliest, want) in [false, true].iter().zip(wants.iter()) {
-            let vm = of_kind(alloc, name, kind)?;
-            let input = Input::new(haystack.as_bytes()).earliest(*earliest);
-            let text = gained(&rt, alloc, &vm, &input, capacity)?;
-            assert_eq!(rt; text.as_str(), *want, "{name} on {haystack:?} {earliest}");
-        }
+    for &(name, kind, haystack, capacity, [plainly, early]) in GAINED {
+        let vm = of_kind(alloc, name, kind).expect(&rt, name);
+        let input = Input::new(haystack.as_bytes());
+        let text = gained(&rt, alloc, &vm, &input, capacity);
+        expect_text(&rt, &(name, input), text, plainly);
+        let input = input.earliest(true);
+        let text = gained(&rt, alloc, &vm, &input, capacity);
+        expect_text(&rt, &(name, input), text, early);
     }
-    Ok(())
 }
 
-// What a set that holds the second pattern has after a search.
-fn added(rt: &impl Abort, alloc: Global, vm: &PikeVM, cache: &mut Cache) -> Result<String, Fail> {
-    let mut set = PatternSet::new(alloc, 2)?;
-    let second = PatternID::new(1).ok_or("too great a number")?;
-    assert_eq!(rt; set.try_insert(second), Some(true));
-    expect_set(rt, alloc, vm, cache, &Input::new(b"abc"), &mut set)
+// A set that holds the second pattern alone.
+fn second_alone(rt: &impl Abort, alloc: Global) -> PatternSet {
+    let mut set = PatternSet::new(alloc, 2).expect(rt, "a set");
+    let second = PatternID::new(1).expect(rt, "a pattern's number");
+    let added = set.try_insert(second);
+    assert_eq!(rt; added, Some(true));
+    set
 }
 
 #[test]
-fn a_set_loses_nothing(rt: HostRuntime) -> Result<(), Fail> {
+fn a_set_loses_nothing(rt: HostRuntime) {
     let alloc = rt.alloc();
     for &(kind, want) in &[(LeftmostFirst, "1 "), (All, "0 1 ")] {
-        let vm = of_kind(alloc, "ab_abc", kind)?;
-        let mut cache = vm.create_cache(alloc)?;
-        let text = added(&rt, alloc, &vm, &mut cache)?;
-        assert_eq!(rt; text.as_str(), want, "{kind:?}");
+        let vm = of_kind(alloc, "ab_abc", kind).expect(&rt, "an engine");
+        let mut cache = vm.create_cache(alloc).expect(&rt, "a cache");
+        let mut set = second_alone(&rt, alloc);
+        let text = searched(&rt, alloc, &vm, &mut cache, &Input::new(b"abc"), &mut set);
+        expect_text(&rt, &kind, text, want);
     }
-    Ok(())
 }
 
 // A name, a haystack, a span, whether the search is anchored, the capacity of a set, and the patterns that an empty set
@@ -106,28 +108,27 @@ const GAINED_IN_SPAN: &[(&str, &str, usize, usize, bool, usize, &str)] = &[
 ];
 
 #[test]
-fn an_empty_set_gains_what_matches_in_a_span(rt: HostRuntime) -> Result<(), Fail> {
+fn an_empty_set_gains_what_matches_in_a_span(rt: HostRuntime) {
     let alloc = rt.alloc();
     for &(name, haystack, start, end, anchored, capacity, want) in GAINED_IN_SPAN {
-        let vm = of_kind(alloc, name, All)?;
-        let input = input_in(haystack.as_bytes(), start, end, anchored).ok_or("no span")?;
-        let text = gained(&rt, alloc, &vm, &input, capacity)?;
-        assert_eq!(rt;
-            text.as_str(),
-            want,
-            "{name} on {haystack:?} from {start} to {end}"
-        );
+        let vm = of_kind(alloc, name, All).expect(&rt, name);
+        let input = input_in(haystack.as_bytes(), start, end, anchored).expect(&rt, "a span");
+        let text = gained(&rt, alloc, &vm, &input, capacity);
+        expect_text(&rt, &(name, input), text, want);
     }
-    Ok(())
+}
+
+fn expect_two(rt: &impl Abort, alloc: Global, cache: &mut Cache) {
+    let vm = of_kind(alloc, "abc_ab", LeftmostFirst).expect(rt, "an engine");
+    let mut set = PatternSet::new(alloc, 2).expect(rt, "a set");
+    let text = searched(rt, alloc, &vm, cache, &Input::new(b"abc"), &mut set);
+    expect_text(rt, &"abc", text, "0 1 ");
 }
 
 #[test]
-fn a_larger_cache_serves_as_well(rt: HostRuntime) -> Result<(), Fail> {
+fn a_larger_cache_serves_as_well(rt: HostRuntime) {
     let alloc = rt.alloc();
-    let mut cache = of_kind(alloc, "foo_bar", All)?.create_cache(alloc)?;
-    let vm = of_kind(alloc, "abc_ab", LeftmostFirst)?;
-    let mut set = PatternSet::new(alloc, 2)?;
-    let text = expect_set(&rt, alloc, &vm, &mut cache, &Input::new(b"abc"), &mut set)?;
-    assert_eq!(rt; text.as_str(), "0 1 ");
-    Ok(())
+    let larger = of_kind(alloc, "foo_bar", All).expect(&rt, "an engine");
+    let mut cache = larger.create_cache(alloc).expect(&rt, "a cache");
+    expect_two(&rt, alloc, &mut cache);
 }

@@ -1,10 +1,11 @@
 //! What an engine, its cache and an iterator are shown as.
 
+use super::expect_fits;
+use crate::tests::expect_shown;
 use nfa_engines::pikevm::{Cache, PikeVM};
 use regex_search_core::Input;
 use std::alloc::Global;
 use std::process::Abort;
-use std::test::Fail;
 
 const NEVER: &str =
     "PikeVM { config: Config { match_kind: None }, first: FirstBytes { .. }, nfa: NFA { states: [Fail], \
@@ -23,29 +24,23 @@ const FRESH: &str =
     earliest: false }, last_match_end: None }";
 
 // The iterator shows the cache as it is, then where the iteration stands, and the engine.
-fn expect_shown(
-    rt: &impl Abort,
-    alloc: Global,
-    vm: &PikeVM,
-    cache: &mut Cache,
-) -> Result<(), Fail> {
-    assert_eq!(rt; format!(in alloc; "{vm:?}")?.as_str(), NEVER);
-    let shown = format!(in alloc; "{cache:?}")?;
-    assert_eq!(rt; shown.as_str(), CACHE);
-    assert!(rt; cache.fits(vm));
+fn expect_matches_shown(rt: &impl Abort, alloc: Global, vm: &PikeVM, cache: &mut Cache) {
+    expect_fits(rt, vm, cache);
     let matches = vm.find_iter(cache, Input::new(b"a"));
     let want = format!(in alloc;
-        "FindMatches {{ cache: {shown}, steps: Steps {{ searcher: {FRESH}, asker: Finder {{ engine: {NEVER}, \
+        "FindMatches {{ cache: {CACHE}, steps: Steps {{ searcher: {FRESH}, asker: Finder {{ engine: {NEVER}, \
         known: None }}, done: false }} }}"
-    )?;
-    assert_eq!(rt; format!(in alloc; "{matches:?}")?.as_str(), want.as_str());
-    Ok(())
+    );
+    let want = want.expect(rt, "memory for a text");
+    expect_shown(rt, alloc, &matches, &want);
 }
 
 #[test]
-fn an_engine_its_cache_and_its_matches_are_shown(rt: HostRuntime) -> Result<(), Fail> {
+fn an_engine_its_cache_and_its_matches_are_shown(rt: HostRuntime) {
     let alloc = rt.alloc();
-    let vm = PikeVM::never_match(alloc)?;
-    let mut cache = vm.create_cache(alloc)?;
-    expect_shown(&rt, alloc, &vm, &mut cache)
+    let vm = PikeVM::never_match(alloc).expect(&rt, "an engine");
+    expect_shown(&rt, alloc, &vm, NEVER);
+    let mut cache = vm.create_cache(alloc).expect(&rt, "a cache");
+    expect_shown(&rt, alloc, &cache, CACHE);
+    expect_matches_shown(&rt, alloc, &vm, &mut cache);
 }
