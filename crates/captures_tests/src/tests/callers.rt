@@ -1,6 +1,6 @@
 //! Callers that list captures, by `collect` and by loops, and are told what they have: the list of them, and by the
-//! laws that it is the one that others have.
-ghost use Rattle.std.specs.Prelude.{IfOk, ◌≡◌, false, length, map};
+//! laws that it is the one that others have. Where memory is refused, or a span is too long, they end the test.
+ghost use Rattle.std.specs.Prelude.{◌≡◌, false, length, map};
 ghost use Rattle.regex_search_core.specs.Found.{found_of};
 ghost use Rattle.regex_search_core.specs.Search.{whole};
 ghost use Rattle.regex_search_core.specs.declared.search.MatchKind.TheVariants.{LeftmostFirst};
@@ -16,255 +16,262 @@ use nfa_engines::error::SearchError;
 use nfa_engines::laws::{one_list_of_captures, one_list_of_matches};
 use nfa_engines::pikevm::{self, PikeVM};
 use nfa_engines::{Captures, Input, Match};
-use std::alloc::{AllocError, Global};
+use std::alloc::Global;
+use std::process::Abort;
 
-// All captures of the text. None where there is no memory for the iterator.
+// All captures of the text.
 pub(crate) fn collected(
+    rt: &impl Abort,
     vm: &PikeVM,
     alloc: Global,
     cache: &mut pikevm::Cache,
     text: &[u8],
-) -> Result<Vec<Result<Captures, SearchError>>, AllocError>
+) -> Vec<Result<Captures, SearchError>>
     requires { Fits cache.old vm.now.nfa }
-    ensures { IfOk result (λ items.
-        AreAllCaptures (TellsRow vm.now.nfa (kind_of vm.now) false) (whole text.now) items.items) }
+    ensures { AreAllCaptures (TellsRow vm.now.nfa (kind_of vm.now) false) (whole text.now) result.items }
 {
-    match vm.captures_iter(alloc, cache, Input::new(text)) {
-        Ok(items) => items.collect(alloc),
-        Err(_) => Err(AllocError),
-    }
+    let Ok(items) = vm.captures_iter(alloc, cache, Input::new(text)) else {
+        panic!(rt; "memory");
+    };
+    items.collect(alloc).expect(rt, "memory")
 }
 
 // The same of a backtracker.
 pub(crate) fn tries_collected(
+    rt: &impl Abort,
     engine: &BoundedBacktracker,
     alloc: Global,
     cache: &mut backtrack::Cache,
     text: &[u8],
-) -> Result<Vec<Result<Captures, SearchError>>, AllocError>
-    ensures { IfOk result (λ items. AreAllCaptures (IsCatchOf engine.now) (whole text.now) items.items) }
+) -> Vec<Result<Captures, SearchError>>
+    ensures { AreAllCaptures (IsCatchOf engine.now) (whole text.now) result.items }
 {
-    match engine.try_captures_iter(alloc, cache, Input::new(text)) {
-        Ok(items) => items.collect(alloc),
-        Err(_) => Err(AllocError),
-    }
+    let Ok(items) = engine.try_captures_iter(alloc, cache, Input::new(text)) else {
+        panic!(rt; "memory");
+    };
+    items.collect(alloc).expect(rt, "memory")
 }
 
 // All captures of the text, searched with captures that are made here.
 pub(crate) fn collected_with(
+    rt: &impl Abort,
     vm: &PikeVM,
     alloc: Global,
     cache: &mut pikevm::Cache,
     text: &[u8],
-) -> Result<Vec<Result<Captures, SearchError>>, AllocError>
+) -> Vec<Result<Captures, SearchError>>
     requires { Fits cache.old vm.now.nfa }
-    ensures { IfOk result (λ items.
-        AreAllCaptures (TellsRow vm.now.nfa (kind_of vm.now) false) (whole text.now) items.items) }
+    ensures { AreAllCaptures (TellsRow vm.now.nfa (kind_of vm.now) false) (whole text.now) result.items }
 {
-    match vm.create_captures(alloc) {
-        Ok(captures) => vm
-            .captures_iter_with(cache, Input::new(text), captures)
-            .collect(alloc),
-        Err(_) => Err(AllocError),
-    }
+    let captures = vm.create_captures(alloc).expect(rt, "memory");
+    vm.captures_iter_with(cache, Input::new(text), captures)
+        .collect(alloc)
+        .expect(rt, "memory")
 }
 
 // The same of a backtracker.
 pub(crate) fn tries_collected_with(
+    rt: &impl Abort,
     engine: &BoundedBacktracker,
     alloc: Global,
     cache: &mut backtrack::Cache,
     text: &[u8],
-) -> Result<Vec<Result<Captures, SearchError>>, AllocError>
-    ensures { IfOk result (λ items. AreAllCaptures (IsCatchOf engine.now) (whole text.now) items.items) }
+) -> Vec<Result<Captures, SearchError>>
+    ensures { AreAllCaptures (IsCatchOf engine.now) (whole text.now) result.items }
 {
-    match engine.create_captures(alloc) {
-        Ok(captures) => engine
-            .try_captures_iter_with(cache, Input::new(text), captures)
-            .collect(alloc),
-        Err(_) => Err(AllocError),
-    }
+    let captures = engine.create_captures(alloc).expect(rt, "memory");
+    engine
+        .try_captures_iter_with(cache, Input::new(text), captures)
+        .collect(alloc)
+        .expect(rt, "memory")
 }
 
-// The captures of the matches of the text, by a loop that pushes, where there is memory for all.
+// The captures of the matches of the text, by a loop that pushes.
 pub(crate) fn looped(
+    rt: &impl Abort,
     vm: &PikeVM,
     alloc: Global,
     cache: &mut pikevm::Cache,
     text: &[u8],
-) -> Result<Vec<Captures>, SearchError>
+) -> Vec<Captures>
     requires { Fits cache.old vm.now.nfa }
-    ensures rows { IfOk result (λ all.
-        AreRows vm.now.nfa (kind_of vm.now) false (whole text.now) (map row_of all.items)) }
-    ensures matches { IfOk result (λ all.
-        AreMatches vm.now.nfa (kind_of vm.now) false (whole text.now) (map match_in all.items)) }
+    ensures rows { AreRows vm.now.nfa (kind_of vm.now) false (whole text.now) (map row_of result.items) }
+    ensures matches { AreMatches vm.now.nfa (kind_of vm.now) false (whole text.now) (map match_in result.items) }
 {
+    let Ok(items) = vm.captures_iter(alloc, cache, Input::new(text)) else {
+        panic!(rt; "memory");
+    };
     let mut all = Vec::new(alloc);
-    for item in vm.captures_iter(alloc, cache, Input::new(text))? {
-        if all.push(item?).is_err() {
-            return Err(SearchError::Memory);
-        }
+    for item in items {
+        all.push(item.expect(rt, "memory")).expect(rt, "memory");
     }
-    Ok(all)
+    all
 }
 
 // The same of a backtracker.
 pub(crate) fn tries_looped(
+    rt: &impl Abort,
     engine: &BoundedBacktracker,
     alloc: Global,
     cache: &mut backtrack::Cache,
     text: &[u8],
-) -> Result<Vec<Captures>, SearchError>
-    ensures rows { IfOk result (λ all.
-        AreRows engine.now.nfa LeftmostFirst false (whole text.now) (map row_of all.items)) }
-    ensures matches { IfOk result (λ all.
-        AreMatches engine.now.nfa LeftmostFirst false (whole text.now) (map match_in all.items)) }
+) -> Vec<Captures>
+    ensures rows { AreRows engine.now.nfa LeftmostFirst false (whole text.now) (map row_of result.items) }
+    ensures matches { AreMatches engine.now.nfa LeftmostFirst false (whole text.now) (map match_in result.items) }
 {
+    let Ok(items) = engine.try_captures_iter(alloc, cache, Input::new(text)) else {
+        panic!(rt; "memory");
+    };
     let mut all = Vec::new(alloc);
-    for item in engine.try_captures_iter(alloc, cache, Input::new(text))? {
-        if all.push(item?).is_err() {
-            return Err(SearchError::Memory);
-        }
+    for item in items {
+        all.push(item.expect(rt, "captures")).expect(rt, "memory");
     }
-    Ok(all)
+    all
 }
 
 // At most two of them, by a loop that breaks.
 pub(crate) fn first_two(
+    rt: &impl Abort,
     vm: &PikeVM,
     alloc: Global,
     cache: &mut pikevm::Cache,
     text: &[u8],
-) -> Result<Vec<Captures>, SearchError>
+) -> Vec<Captures>
     requires { Fits cache.old vm.now.nfa }
-    ensures { IfOk result (λ all.
-        AreFirstRows vm.now.nfa (kind_of vm.now) false (whole text.now) (map row_of all.items)) }
+    ensures { AreFirstRows vm.now.nfa (kind_of vm.now) false (whole text.now) (map row_of result.items) }
 {
+    let Ok(items) = vm.captures_iter(alloc, cache, Input::new(text)) else {
+        panic!(rt; "memory");
+    };
     let mut all = Vec::new(alloc);
-    for item in vm.captures_iter(alloc, cache, Input::new(text))? {
-        if all.push(item?).is_err() {
-            return Err(SearchError::Memory);
-        }
+    for item in items {
+        all.push(item.expect(rt, "memory")).expect(rt, "memory");
         if all.len() == 2 {
             break;
         }
     }
-    Ok(all)
+    all
 }
 
 // The same of a backtracker.
 pub(crate) fn tries_first_two(
+    rt: &impl Abort,
     engine: &BoundedBacktracker,
     alloc: Global,
     cache: &mut backtrack::Cache,
     text: &[u8],
-) -> Result<Vec<Captures>, SearchError>
-    ensures { IfOk result (λ all.
-        AreFirstRows engine.now.nfa LeftmostFirst false (whole text.now) (map row_of all.items)) }
+) -> Vec<Captures>
+    ensures { AreFirstRows engine.now.nfa LeftmostFirst false (whole text.now) (map row_of result.items) }
 {
+    let Ok(items) = engine.try_captures_iter(alloc, cache, Input::new(text)) else {
+        panic!(rt; "memory");
+    };
     let mut all = Vec::new(alloc);
-    for item in engine.try_captures_iter(alloc, cache, Input::new(text))? {
-        if all.push(item?).is_err() {
-            return Err(SearchError::Memory);
-        }
+    for item in items {
+        all.push(item.expect(rt, "captures")).expect(rt, "memory");
         if all.len() == 2 {
             break;
         }
     }
-    Ok(all)
+    all
 }
 
 // The captures of one text by two caches, which hold the same.
 pub(crate) fn looped_twice(
+    rt: &impl Abort,
     vm: &PikeVM,
     alloc: Global,
     cache: &mut pikevm::Cache,
     other: &mut pikevm::Cache,
     text: &[u8],
-) -> Result<(Vec<Captures>, Vec<Captures>), SearchError>
+) -> (Vec<Captures>, Vec<Captures>)
     requires first { Fits cache.old vm.now.nfa }
     requires second { Fits other.old vm.now.nfa }
-    ensures { IfOk result (λ both. map row_of both.0.items ≡ map row_of both.1.items) }
+    ensures { map row_of result.0.items ≡ map row_of result.1.items }
 {
     one_list_of_captures();
-    let first = looped(vm, alloc, cache, text)?;
-    let second = looped(vm, alloc, other, text)?;
-    Ok((first, second))
+    let first = looped(rt, vm, alloc, cache, text);
+    let second = looped(rt, vm, alloc, other, text);
+    (first, second)
 }
 
 // The captures of one text by both engines, which hold the same.
 pub(crate) fn looped_by_both(
+    rt: &impl Abort,
     vm: &PikeVM,
     engine: &BoundedBacktracker,
     alloc: Global,
     cache: &mut pikevm::Cache,
     other: &mut backtrack::Cache,
     text: &[u8],
-) -> Result<(Vec<Captures>, Vec<Captures>), SearchError>
+) -> (Vec<Captures>, Vec<Captures>)
     requires fits { Fits cache.old vm.now.nfa }
     requires same { vm.now.nfa ≡ engine.now.nfa }
     requires kind { kind_of vm.now ≡ LeftmostFirst }
-    ensures { IfOk result (λ both. map row_of both.0.items ≡ map row_of both.1.items) }
+    ensures { map row_of result.0.items ≡ map row_of result.1.items }
 {
     one_list_of_captures();
-    let first = looped(vm, alloc, cache, text)?;
-    let second = tries_looped(engine, alloc, other, text)?;
-    Ok((first, second))
+    let first = looped(rt, vm, alloc, cache, text);
+    let second = tries_looped(rt, engine, alloc, other, text);
+    (first, second)
 }
 
 // All matches of the text.
 fn found(
+    rt: &impl Abort,
     vm: &PikeVM,
     alloc: Global,
     cache: &mut pikevm::Cache,
     text: &[u8],
-) -> Result<Vec<Match>, AllocError>
+) -> Vec<Match>
     requires { Fits cache.old vm.now.nfa }
-    ensures { IfOk result (λ all.
-        AreMatches vm.now.nfa (kind_of vm.now) false (whole text.now) (map found_of all.items)) }
+    ensures { AreMatches vm.now.nfa (kind_of vm.now) false (whole text.now) (map found_of result.items) }
 {
-    vm.find_iter(cache, Input::new(text)).collect(alloc)
+    vm.find_iter(cache, Input::new(text))
+        .collect(alloc)
+        .expect(rt, "memory")
 }
 
 // The captures of the text and its matches, by two caches: as many, and each in its place.
 pub(crate) fn captures_and_matches(
+    rt: &impl Abort,
     vm: &PikeVM,
     alloc: Global,
     cache: &mut pikevm::Cache,
     other: &mut pikevm::Cache,
     text: &[u8],
-) -> Result<(Vec<Captures>, Vec<Match>), SearchError>
+) -> (Vec<Captures>, Vec<Match>)
     requires first { Fits cache.old vm.now.nfa }
     requires second { Fits other.old vm.now.nfa }
-    ensures same { IfOk result (λ both. map match_in both.0.items ≡ map found_of both.1.items) }
-    ensures count { IfOk result (λ both. length both.0.items ≡ length both.1.items) }
+    ensures same { map match_in result.0.items ≡ map found_of result.1.items }
+    ensures count { length result.0.items ≡ length result.1.items }
 {
     one_list_of_matches();
-    let captures = looped(vm, alloc, cache, text)?;
-    match found(vm, alloc, other, text) {
-        Ok(matches) => Ok((captures, matches)),
-        Err(_) => Err(SearchError::Memory),
-    }
+    let captures = looped(rt, vm, alloc, cache, text);
+    let matches = found(rt, vm, alloc, other, text);
+    (captures, matches)
 }
 
 // What the text has at the match of each.
 pub(crate) fn texts<'t>(
+    rt: &impl Abort,
     vm: &PikeVM,
     alloc: Global,
     cache: &mut pikevm::Cache,
     text: &'t [u8],
-) -> Result<Vec<&'t [u8]>, SearchError>
+) -> Vec<&'t [u8]>
     requires { Fits cache.old vm.now.nfa }
 {
+    let Ok(items) = vm.captures_iter(alloc, cache, Input::new(text)) else {
+        panic!(rt; "memory");
+    };
     let mut texts = Vec::new(alloc);
-    for item in vm.captures_iter(alloc, cache, Input::new(text))? {
-        let captures = item?;
-        let Some(found) = captures.get_match() else {
-            continue;
-        };
-        if texts.push(&text[found.start()..found.end()]).is_err() {
-            return Err(SearchError::Memory);
+    for item in items {
+        let captures = item.expect(rt, "memory");
+        if let Some(found) = captures.get_match() {
+            let part = &text[found.start()..found.end()];
+            texts.push(part).expect(rt, "memory");
         }
     }
-    Ok(texts)
+    texts
 }

@@ -1,14 +1,15 @@
 //! Single searches that fill captures: those of another NFA than the one that is searched, with all their slots, with
 //! those of the matches alone, and with none.
+ghost use Rattle.nfa_pikevm.specs.Engines.{Fits};
+
 use super::table::is_row;
-use super::{DATE_SLOTS, backtracker, pikevm};
+use super::{DATE_SLOTS, backtracker, expect, expect_len, nfa, pikevm, threads};
 use nfa_engines::backtrack::{self, BoundedBacktracker};
-use nfa_engines::pikevm::{self, PikeVM};
+use nfa_engines::pikevm::{Cache, PikeVM};
 use nfa_engines::{Captures, Input};
-use nfa_samples::sample;
+use regex_search_core::GroupInfo;
 use std::alloc::Global;
 use std::process::Abort;
-use std::test::Fail;
 
 // Which slots captures have: none, those of each match, or those of each group.
 #[derive(Clone, Copy, Debug)]
@@ -90,49 +91,46 @@ const ROWS: &[Row] = &[
     ),
 ];
 
-fn captures_of(alloc: Global, row: &Row) -> Result<Captures, Fail> {
-    let nfa = sample(alloc, row.1)?.ok_or("unknown name")?;
-    let groups = nfa.group_info().clone()?;
+fn captures_of(rt: &impl Abort, alloc: Global, row: &Row) -> Captures {
+    let groups = groups_of(rt, alloc, row.1);
     let captures = match row.2 {
-        Nothing => Captures::empty(alloc, groups)?,
-        Matches => Captures::matches(alloc, groups)?,
-        Groups => Captures::all(alloc, groups)?,
+        Nothing => Captures::empty(alloc, groups),
+        Matches => Captures::matches(alloc, groups),
+        Groups => Captures::all(alloc, groups),
     };
-    Ok(captures)
+    captures.expect(rt, "memory")
+}
+
+fn groups_of(rt: &impl Abort, alloc: Global, name: &str) -> GroupInfo {
+    let nfa = nfa(rt, alloc, name);
+    nfa.group_info().clone().expect(rt, "memory")
 }
 
 fn expect_row(rt: &impl Abort, captures: &Captures, row: &Row) {
-    let (name, _, kept, _, pattern, slots) = *row;
+    let (name, _, _, _, pattern, slots) = *row;
     match pattern {
-        Some(pattern) => assert!(rt; is_row(captures, &(pattern, slots)), "{name} {kept:?}"),
+        Some(pattern) => expect(rt, is_row(captures, &(pattern, slots)), name),
         None => expect_no_match(rt, captures, slots.len(), name),
     }
 }
 
 // No pattern, and so many slots of which none is set.
 fn expect_no_match(rt: &impl Abort, captures: &Captures, count: usize, name: &str) {
-    assert!(rt; !captures.is_match(), "{name}");
-    assert_eq!(rt; captures.slots().len(), count, "{name}");
+    expect(rt, !captures.is_match(), name);
+    expect_len(rt, captures.slots().len(), count, name);
     for slot in captures.slots() {
-        assert!(rt; slot.is_none(), "{name}");
+        expect(rt, slot.is_none(), name);
     }
 }
 
 // By a search that is lent its input, and by one that is given it, with one that finds nothing between them.
-fn expect_piked(
-    rt: &impl Abort,
-    vm: &PikeVM,
-    cache: &mut pikevm::Cache,
-    captures: &mut Captures,
-    row: &Row,
-) {
-    assert!(rt; cache.fits(vm));
+fn expect_piked(rt: &impl Abort, vm: &PikeVM, cache: &mut Cache, captures: &mut Captures, row: &Row)
+    requires { Fits cache.old vm.now.nfa }
+{
     vm.search(cache, &Input::new(row.3), captures);
     expect_row(rt, captures, row);
-    assert!(rt; cache.fits(vm));
     vm.search(cache, &Input::new(b""), captures);
     expect_no_match(rt, captures, row.5.len(), row.0);
-    assert!(rt; cache.fits(vm));
     vm.captures(cache, Input::new(row.3), captures);
     expect_row(rt, captures, row);
 }
@@ -143,43 +141,45 @@ fn expect_backtracked(
     cache: &mut backtrack::Cache,
     captures: &mut Captures,
     row: &Row,
-) -> Result<(), Fail> {
-    engine.try_search(cache, &Input::new(row.3), captures)?;
+) {
+    engine
+        .try_search(cache, &Input::new(row.3), captures)
+        .expect(rt, "an answer");
     expect_row(rt, captures, row);
-    engine.try_search(cache, &Input::new(b""), captures)?;
+    engine
+        .try_search(cache, &Input::new(b""), captures)
+        .expect(rt, "an answer");
     expect_no_match(rt, captures, row.5.len(), row.0);
-    engine.try_captures(cache, Input::new(row.3), captures)?;
+    engine
+        .try_captures(cache, Input::new(row.3), captures)
+        .expect(rt, "an answer");
     expect_row(rt, captures, row);
-    Ok(())
 }
 
-fn expect_pikevm(rt: &impl Abort, alloc: Global, row: &Row) -> Result<(), Fail> {
-    let vm = pikevm(alloc, row.0)?;
-    let mut cache = vm.create_cache(alloc)?;
-    let mut captures = captures_of(alloc, row)?;
+fn expect_pikevm(rt: &impl Abort, alloc: Global, row: &Row) {
+    let vm = pikevm(rt, alloc, row.0);
+    let mut cache = threads(rt, alloc, &vm);
+    let mut captures = captures_of(rt, alloc, row);
     expect_piked(rt, &vm, &mut cache, &mut captures, row);
-    Ok(())
 }
 
-fn expect_backtracker(rt: &impl Abort, alloc: Global, row: &Row) -> Result<(), Fail> {
-    let engine = backtracker(alloc, row.0)?;
+fn expect_backtracker(rt: &impl Abort, alloc: Global, row: &Row) {
+    let engine = backtracker(rt, alloc, row.0);
     let mut cache = engine.create_cache(alloc);
-    let mut captures = captures_of(alloc, row)?;
-    expect_backtracked(rt, &engine, &mut cache, &mut captures, row)
+    let mut captures = captures_of(rt, alloc, row);
+    expect_backtracked(rt, &engine, &mut cache, &mut captures, row);
 }
 
 #[test]
-fn the_pikevm_fills_them(rt: HostRuntime) -> Result<(), Fail> {
+fn the_pikevm_fills_them(rt: HostRuntime) {
     for row in ROWS {
-        expect_pikevm(&rt, rt.alloc(), row)?;
+        expect_pikevm(&rt, rt.alloc(), row);
     }
-    Ok(())
 }
 
 #[test]
-fn the_backtracker_fills_them(rt: HostRuntime) -> Result<(), Fail> {
+fn the_backtracker_fills_them(rt: HostRuntime) {
     for row in ROWS {
-        expect_backtracker(&rt, rt.alloc(), row)?;
+        expect_backtracker(&rt, rt.alloc(), row);
     }
-    Ok(())
 }

@@ -1,63 +1,64 @@
 //! A span that is too long.
 use super::callers::tries_collected;
-use nfa_engines::backtrack::{BoundedBacktracker, Cache, Config};
+use super::{expect, expect_len, nfa};
+use nfa_engines::backtrack::{BoundedBacktracker, Cache, Config, TryCapturesMatches};
 use nfa_engines::error::SearchError;
 use nfa_engines::{Captures, Input};
-use nfa_samples::sample;
 use std::alloc::Global;
 use std::process::Abort;
-use std::test::Fail;
 
-fn short(alloc: Global) -> Result<BoundedBacktracker, Fail> {
-    let nfa = sample(alloc, "alnum100")?.ok_or("unknown name")?;
-    let config = Config::new().visited_capacity(10);
-    Ok(
-        BoundedBacktracker::builder()
-            .configure(config)
-            .build_from_nfa(nfa)?,
-    )
+fn short(rt: &impl Abort, alloc: Global) -> BoundedBacktracker {
+    let mut builder = BoundedBacktracker::builder();
+    builder.configure(Config::new().visited_capacity(10));
+    builder
+        .build_from_nfa(nfa(rt, alloc, "alnum100"))
+        .expect(rt, "memory")
+}
+
+fn is_refusal(item: &Result<Captures, SearchError>) -> bool {
+    matches!(item, Err(SearchError::HaystackTooLong { len: 3 }))
 }
 
 fn expect_one(rt: &impl Abort, items: &[Result<Captures, SearchError>]) {
-    assert_eq!(rt; items.len(), 1);
+    expect_len(rt, items.len(), 1, "a refusal");
     for item in items {
-        assert!(rt; matches!(item, Err(SearchError::HaystackTooLong { len: 3 })));
+        expect(rt, is_refusal(item), "a refusal");
     }
 }
 
+fn expect_item(rt: &impl Abort, alloc: Global, engine: &BoundedBacktracker, cache: &mut Cache) {
+    let items = tries_collected(rt, engine, alloc, cache, b"abc");
+    expect_one(rt, &items);
+}
+
 #[test]
-fn the_refusal_is_the_one_item(rt: HostRuntime) -> Result<(), Fail> {
+fn the_refusal_is_the_one_item(rt: HostRuntime) {
     let alloc = rt.alloc();
-    let engine = short(alloc)?;
+    let engine = short(&rt, alloc);
     let mut cache = engine.create_cache(alloc);
-    expect_one(&rt, &tries_collected(&engine, alloc, &mut cache, b"abc")?);
-    Ok(())
+    expect_item(&rt, alloc, &engine, &mut cache);
 }
 
-fn is_refusal(item: &Option<Result<Captures, SearchError>>) -> bool {
-    matches!(item, Some(Err(SearchError::HaystackTooLong { len: 3 })))
-}
-
-fn expect_no_more(
-    rt: &impl Abort,
-    alloc: Global,
-    engine: &BoundedBacktracker,
-    cache: &mut Cache,
-) -> Result<(), Fail> {
-    let mut items = engine.try_captures_iter(alloc, cache, Input::new(b"abc"))?;
-    let first = is_refusal(&items.next());
-    assert!(rt; first);
-    for _ in 0..2 {
-        let is_none = items.next().is_none();
-        assert!(rt; is_none);
+fn refuses(items: &mut TryCapturesMatches<'_, '_, '_>) -> bool {
+    match items.next() {
+        Some(item) => is_refusal(&item),
+        None => false,
     }
-    Ok(())
+}
+
+fn expect_no_more(rt: &impl Abort, alloc: Global, engine: &BoundedBacktracker, cache: &mut Cache) {
+    let Ok(mut items) = engine.try_captures_iter(alloc, cache, Input::new(b"abc")) else {
+        panic!(rt; "memory");
+    };
+    expect(rt, refuses(&mut items), "a refusal");
+    expect(rt, items.next().is_none(), "nothing behind it");
+    expect(rt, items.next().is_none(), "nothing behind it");
 }
 
 #[test]
-fn nothing_comes_after_it(rt: HostRuntime) -> Result<(), Fail> {
+fn nothing_comes_after_it(rt: HostRuntime) {
     let alloc = rt.alloc();
-    let engine = short(alloc)?;
+    let engine = short(&rt, alloc);
     let mut cache = engine.create_cache(alloc);
-    expect_no_more(&rt, alloc, &engine, &mut cache)
+    expect_no_more(&rt, alloc, &engine, &mut cache);
 }

@@ -1,12 +1,12 @@
 //! Lists of captures of the sample NFAs, of both engines.
 use super::callers::{collected, collected_with, tries_collected, tries_collected_with};
-use super::{DATE_SLOTS, backtracker, pikevm};
+use super::{DATE_SLOTS, backtracker, expect, expect_len, pikevm, threads};
+use nfa_engines::backtrack::BoundedBacktracker;
 use nfa_engines::error::SearchError;
 use nfa_engines::pikevm::PikeVM;
-use nfa_engines::{Captures, Input};
+use nfa_engines::{Captures, Input, NonMaxUsize};
 use std::alloc::Global;
 use std::process::Abort;
-use std::test::Fail;
 
 // A pattern, and its slots.
 type Row = (usize, &'static [Option<usize>]);
@@ -75,129 +75,126 @@ pub(crate) fn is_row(captures: &Captures, row: &Row) -> bool {
 fn have_slots(captures: &Captures, slots: &[Option<usize>]) -> bool {
     let mut same = captures.slots().len() == slots.len();
     for (offset, wanted) in captures.slots().iter().zip(slots) {
-        let found = offset.map(|offset| offset.get());
-        same = same && found == *wanted;
+        same = same && is_offset(*offset, *wanted);
     }
     same
 }
 
+fn is_offset(offset: Option<NonMaxUsize>, wanted: Option<usize>) -> bool {
+    match offset {
+        Some(offset) => wanted == Some(offset.get()),
+        None => wanted.is_none(),
+    }
+}
+
+fn is_caught(item: &Result<Captures, SearchError>, row: &Row) -> bool {
+    match item {
+        Ok(captures) => is_row(captures, row),
+        Err(_) => false,
+    }
+}
+
 fn assert_rows(rt: &impl Abort, items: &[Result<Captures, SearchError>], rows: &[Row], name: &str) {
-    assert_eq!(rt; items.len(), rows.len(), "{name}");
+    expect_len(rt, items.len(), rows.len(), name);
     for (item, row) in items.iter().zip(rows) {
-        match item {
-            Ok(captures) => assert!(rt; is_row(captures, row), "{name}"),
-            Err(error) => panic!(rt; "{name}: {error}"),
-        }
+        expect(rt, is_caught(item, row), name);
     }
 }
 
 fn assert_caught(rt: &impl Abort, all: &[Captures], rows: &[Row], name: &str) {
-    assert_eq!(rt; all.len(), rows.len(), "{name}");
+    expect_len(rt, all.len(), rows.len(), name);
     for (captures, row) in all.iter().zip(rows) {
-        assert!(rt; is_row(captures, row), "{name}");
+        expect(rt, is_row(captures, row), name);
     }
 }
 
-// The list of each row, by an engine and a cache that are made for it.
+// The list of each row, by an engine and a cache that are made for it, item by item and as one value.
 #[test]
-fn pikevm_gives_the_lists(rt: HostRuntime) -> Result<(), Fail> {
+fn pikevm_gives_the_lists(rt: HostRuntime) {
     for &(name, text, rows) in LISTS {
-        let items = piked(rt.alloc(), name, text)?;
-        assert_rows(&rt, &items, rows, name);
+        expect_piked(&rt, rt.alloc(), name, text, rows);
     }
-    Ok(())
+}
+
+fn expect_piked(rt: &impl Abort, alloc: Global, name: &str, text: &[u8], rows: &[Row]) {
+    let vm = pikevm(rt, alloc, name);
+    assert_rows(rt, &piked(rt, alloc, &vm, text), rows, name);
+    assert_caught(rt, &all_piked(rt, alloc, &vm, text), rows, name);
 }
 
 fn piked(
-    alloc: Global,
-    name: &str,
-    text: &[u8],
-) -> Result<Vec<Result<Captures, SearchError>>, Fail> {
-    let vm = pikevm(alloc, name)?;
-    piked_by(alloc, &vm, text)
-}
-
-fn piked_by(
+    rt: &impl Abort,
     alloc: Global,
     vm: &PikeVM,
     text: &[u8],
-) -> Result<Vec<Result<Captures, SearchError>>, Fail> {
-    let mut cache = vm.create_cache(alloc)?;
-    Ok(collected(vm, alloc, &mut cache, text)?)
+) -> Vec<Result<Captures, SearchError>> {
+    let mut cache = threads(rt, alloc, vm);
+    collected(rt, vm, alloc, &mut cache, text)
+}
+
+fn all_piked(rt: &impl Abort, alloc: Global, vm: &PikeVM, text: &[u8]) -> Vec<Captures> {
+    let mut cache = threads(rt, alloc, vm);
+    vm.captures_all(alloc, &mut cache, Input::new(text))
+        .expect(rt, "memory")
 }
 
 #[test]
-fn backtracker_gives_the_lists(rt: HostRuntime) -> Result<(), Fail> {
+fn backtracker_gives_the_lists(rt: HostRuntime) {
     for &(name, text, rows) in LISTS {
-        let items = backtracked(rt.alloc(), name, text)?;
-        assert_rows(&rt, &items, rows, name);
+        expect_backtracked(&rt, rt.alloc(), name, text, rows);
     }
-    Ok(())
+}
+
+fn expect_backtracked(rt: &impl Abort, alloc: Global, name: &str, text: &[u8], rows: &[Row]) {
+    let engine = backtracker(rt, alloc, name);
+    assert_rows(rt, &backtracked(rt, alloc, &engine, text), rows, name);
+    assert_caught(rt, &all_backtracked(rt, alloc, &engine, text), rows, name);
 }
 
 fn backtracked(
+    rt: &impl Abort,
     alloc: Global,
-    name: &str,
+    engine: &BoundedBacktracker,
     text: &[u8],
-) -> Result<Vec<Result<Captures, SearchError>>, Fail> {
-    let engine = backtracker(alloc, name)?;
+) -> Vec<Result<Captures, SearchError>> {
     let mut cache = engine.create_cache(alloc);
-    Ok(tries_collected(&engine, alloc, &mut cache, text)?)
+    tries_collected(rt, engine, alloc, &mut cache, text)
 }
 
-#[test]
-fn pikevm_gives_the_lists_as_one_value(rt: HostRuntime) -> Result<(), Fail> {
-    for &(name, text, rows) in LISTS {
-        let all = all_piked(rt.alloc(), name, text)?;
-        assert_caught(&rt, &all, rows, name);
-    }
-    Ok(())
-}
-
-fn all_piked(alloc: Global, name: &str, text: &[u8]) -> Result<Vec<Captures>, Fail> {
-    let vm = pikevm(alloc, name)?;
-    all_piked_by(alloc, &vm, text)
-}
-
-fn all_piked_by(alloc: Global, vm: &PikeVM, text: &[u8]) -> Result<Vec<Captures>, Fail> {
-    let mut cache = vm.create_cache(alloc)?;
-    Ok(vm.captures_all(alloc, &mut cache, Input::new(text))?)
-}
-
-#[test]
-fn backtracker_gives_the_lists_as_one_value(rt: HostRuntime) -> Result<(), Fail> {
-    for &(name, text, rows) in LISTS {
-        let all = all_backtracked(rt.alloc(), name, text)?;
-        assert_caught(&rt, &all, rows, name);
-    }
-    Ok(())
-}
-
-fn all_backtracked(alloc: Global, name: &str, text: &[u8]) -> Result<Vec<Captures>, Fail> {
-    let engine = backtracker(alloc, name)?;
+fn all_backtracked(
+    rt: &impl Abort,
+    alloc: Global,
+    engine: &BoundedBacktracker,
+    text: &[u8],
+) -> Vec<Captures> {
     let mut cache = engine.create_cache(alloc);
-    Ok(engine.try_captures_all(alloc, &mut cache, Input::new(text))?)
+    engine
+        .try_captures_all(alloc, &mut cache, Input::new(text))
+        .expect(rt, "captures")
 }
 
 #[test]
-fn pikevm_gives_them_with_captures_of_the_caller(rt: HostRuntime) -> Result<(), Fail> {
-    let vm = pikevm(rt.alloc(), "foo_num")?;
-    expect_with(&rt, rt.alloc(), &vm)
-}
-
-fn expect_with(rt: &impl Abort, alloc: Global, vm: &PikeVM) -> Result<(), Fail> {
-    let mut cache = vm.create_cache(alloc)?;
-    let items = collected_with(vm, alloc, &mut cache, FOOS)?;
-    assert_rows(rt, &items, FOO_ROWS, "foo_num");
-    Ok(())
-}
-
-#[test]
-fn backtracker_gives_them_with_captures_of_the_caller(rt: HostRuntime) -> Result<(), Fail> {
+fn pikevm_gives_them_with_captures_of_the_caller(rt: HostRuntime) {
     let alloc = rt.alloc();
-    let engine = backtracker(alloc, "foo_num")?;
+    let vm = pikevm(&rt, alloc, "foo_num");
+    assert_rows(&rt, &piked_with(&rt, alloc, &vm, FOOS), FOO_ROWS, "foo_num");
+}
+
+fn piked_with(
+    rt: &impl Abort,
+    alloc: Global,
+    vm: &PikeVM,
+    text: &[u8],
+) -> Vec<Result<Captures, SearchError>> {
+    let mut cache = threads(rt, alloc, vm);
+    collected_with(rt, vm, alloc, &mut cache, text)
+}
+
+#[test]
+fn backtracker_gives_them_with_captures_of_the_caller(rt: HostRuntime) {
+    let alloc = rt.alloc();
+    let engine = backtracker(&rt, alloc, "foo_num");
     let mut cache = engine.create_cache(alloc);
-    let items = tries_collected_with(&engine, alloc, &mut cache, FOOS)?;
+    let items = tries_collected_with(&rt, &engine, alloc, &mut cache, FOOS);
     assert_rows(&rt, &items, FOO_ROWS, "foo_num");
-    Ok(())
 }

@@ -1,12 +1,12 @@
 //! What iterators over captures are shown as.
 ghost use Rattle.nfa_pikevm.specs.Engines.{Fits};
 
+use super::{expect_text, threads};
 use nfa_engines::Input;
 use nfa_engines::backtrack::{self, BoundedBacktracker};
 use nfa_engines::pikevm::{self, PikeVM};
-use std::alloc::{AllocError, Global};
+use std::alloc::Global;
 use std::process::Abort;
-use std::test::Fail;
 
 const FRESH: &str =
     "Searcher { input: Input { haystack: [97], span: Span { start: 0, end: 1 }, anchored: No, \
@@ -15,30 +15,31 @@ const FRESH: &str =
 const NEVER: &str =
     "Captures { group_info: GroupInfo { names: [], slot_len: 0 }, pattern: None, slots: [] }";
 
-fn expect_text(rt: &impl Abort, text: &str, want: &str) {
-    assert_eq!(rt; text, want);
-}
-
 // What an iterator of the backtracker is shown as.
 fn tries_text(
+    rt: &impl Abort,
     alloc: Global,
     engine: &BoundedBacktracker,
     cache: &mut backtrack::Cache,
-) -> Result<String, Fail> {
-    let items = engine.try_captures_iter(alloc, cache, Input::new(b"a"))?;
-    Ok(format!(in alloc; "{items:?}")?)
+) -> String {
+    let Ok(items) = engine.try_captures_iter(alloc, cache, Input::new(b"a")) else {
+        panic!(rt; "memory");
+    };
+    format!(in alloc; "{items:?}").expect(rt, "memory")
 }
 
 // What it is to be shown as, over a cache that is shown so.
 fn wanted_tries(
+    rt: &impl Abort,
     alloc: Global,
     engine: &BoundedBacktracker,
     shown: &str,
-) -> Result<String, AllocError> {
+) -> String {
     format!(in alloc;
         "TryCapturesMatches {{ cache: {shown}, steps: Steps {{ searcher: {FRESH}, \
         asker: Catcher {{ engine: {engine:?}, captures: {NEVER} }}, done: false }} }}"
     )
+    .expect(rt, "memory")
 }
 
 fn expect_tries(
@@ -46,54 +47,51 @@ fn expect_tries(
     alloc: Global,
     engine: &BoundedBacktracker,
     cache: &mut backtrack::Cache,
-) -> Result<(), Fail> {
-    let shown = format!(in alloc; "{cache:?}")?;
-    let want = wanted_tries(alloc, engine, shown.as_str())?;
-    let text = tries_text(alloc, engine, cache)?;
+) {
+    let shown = format!(in alloc; "{cache:?}").expect(rt, "memory");
+    let want = wanted_tries(rt, alloc, engine, shown.as_str());
+    let text = tries_text(rt, alloc, engine, cache);
     expect_text(rt, text.as_str(), want.as_str());
-    Ok(())
 }
 
-fn sure_text(alloc: Global, vm: &PikeVM, cache: &mut pikevm::Cache) -> Result<String, Fail>
+fn sure_text(rt: &impl Abort, alloc: Global, vm: &PikeVM, cache: &mut pikevm::Cache) -> String
     requires { Fits cache.old vm.now.nfa }
 {
-    let items = vm.captures_iter(alloc, cache, Input::new(b"a"))?;
-    Ok(format!(in alloc; "{items:?}")?)
+    let Ok(items) = vm.captures_iter(alloc, cache, Input::new(b"a")) else {
+        panic!(rt; "memory");
+    };
+    format!(in alloc; "{items:?}").expect(rt, "memory")
 }
 
-fn wanted_sure(alloc: Global, vm: &PikeVM, shown: &str) -> Result<String, AllocError> {
+fn wanted_sure(rt: &impl Abort, alloc: Global, vm: &PikeVM, shown: &str) -> String {
     format!(in alloc;
         "CapturesMatches {{ cache: {shown}, steps: Steps {{ searcher: {FRESH}, \
         asker: Catcher {{ engine: {vm:?}, captures: {NEVER} }}, done: false }} }}"
     )
+    .expect(rt, "memory")
 }
 
-fn expect_sure(
-    rt: &impl Abort,
-    alloc: Global,
-    vm: &PikeVM,
-    cache: &mut pikevm::Cache,
-) -> Result<(), Fail> {
-    let shown = format!(in alloc; "{cache:?}")?;
-    let want = wanted_sure(alloc, vm, shown.as_str())?;
-    assert!(rt; cache.fits(vm));
-    let text = sure_text(alloc, vm, cache)?;
+fn expect_sure(rt: &impl Abort, alloc: Global, vm: &PikeVM, cache: &mut pikevm::Cache)
+    requires { Fits cache.old vm.now.nfa }
+{
+    let shown = format!(in alloc; "{cache:?}").expect(rt, "memory");
+    let want = wanted_sure(rt, alloc, vm, shown.as_str());
+    let text = sure_text(rt, alloc, vm, cache);
     expect_text(rt, text.as_str(), want.as_str());
-    Ok(())
 }
 
 #[test]
-fn captures_of_a_backtracker_are_shown(rt: HostRuntime) -> Result<(), Fail> {
+fn captures_of_a_backtracker_are_shown(rt: HostRuntime) {
     let alloc = rt.alloc();
-    let engine = BoundedBacktracker::never_match(alloc)?;
+    let engine = BoundedBacktracker::never_match(alloc).expect(&rt, "memory");
     let mut cache = engine.create_cache(alloc);
-    expect_tries(&rt, alloc, &engine, &mut cache)
+    expect_tries(&rt, alloc, &engine, &mut cache);
 }
 
 #[test]
-fn captures_of_a_pikevm_are_shown(rt: HostRuntime) -> Result<(), Fail> {
+fn captures_of_a_pikevm_are_shown(rt: HostRuntime) {
     let alloc = rt.alloc();
-    let vm = PikeVM::never_match(alloc)?;
-    let mut cache = vm.create_cache(alloc)?;
-    expect_sure(&rt, alloc, &vm, &mut cache)
+    let vm = PikeVM::never_match(alloc).expect(&rt, "memory");
+    let mut cache = threads(&rt, alloc, &vm);
+    expect_sure(&rt, alloc, &vm, &mut cache);
 }

@@ -3,7 +3,7 @@
 
 ghost use Rattle.nfa_pikevm.specs.Engines.{Fits, SameNumbers};
 
-use super::sums::{SEED, Shared, fold_match, fold_slots};
+use super::sums::{SEED, Shared, expect_sum, fold_match, fold_slots};
 use nfa_engines::backtrack::{self, BoundedBacktracker};
 use nfa_engines::error::SearchError;
 use nfa_engines::iter::Searcher;
@@ -11,7 +11,6 @@ use nfa_engines::pikevm::{self, PikeVM};
 use regex_search_core::{Captures, Input, Match};
 use std::alloc::Global;
 use std::process::Abort;
-use std::test::Fail;
 
 // More steps than any haystack of these tests has matches.
 const STEPS: usize = 40;
@@ -34,16 +33,17 @@ fn piked_list(vm: &PikeVM, threads: &mut pikevm::Cache, input: &Input<'_>) -> u6
 
 // What `find_all` gives.
 fn piked_all(
+    rt: &impl Abort,
     alloc: Global,
     vm: &PikeVM,
     threads: &mut pikevm::Cache,
     input: &Input<'_>,
-) -> Result<u64, Fail>
+) -> u64
     requires { Fits threads.old vm.now.nfa }
     ensures { SameNumbers threads.old threads.new }
 {
-    let all = vm.find_all(alloc, threads, *input)?;
-    Ok(sum_of_matches(&all))
+    let all = vm.find_all(alloc, threads, *input).expect(rt, "memory");
+    sum_of_matches(&all)
 }
 
 fn sum_of_matches(all: &[Match]) -> u64 {
@@ -100,16 +100,17 @@ fn piked_captures(
 
 // What `captures_all` gives: the same sums.
 fn piked_captures_all(
+    rt: &impl Abort,
     alloc: Global,
     vm: &PikeVM,
     threads: &mut pikevm::Cache,
     input: &Input<'_>,
-) -> Result<[u64; 2], SearchError>
+) -> [u64; 2]
     requires { Fits threads.old vm.now.nfa }
     ensures { SameNumbers threads.old threads.new }
 {
-    let all = vm.captures_all(alloc, threads, *input)?;
-    Ok(sums_of_captures(&all))
+    let all = vm.captures_all(alloc, threads, *input).expect(rt, "memory");
+    sums_of_captures(&all)
 }
 
 fn sums_of_captures(all: &[Captures]) -> [u64; 2] {
@@ -137,7 +138,7 @@ pub fn expect_piked_alike(
     vm: &PikeVM,
     input: &Input<'_>,
     shared: &mut Shared,
-) -> Result<u64, Fail> {
+) -> u64 {
     let Shared {
         alloc,
         threads,
@@ -148,54 +149,82 @@ pub fn expect_piked_alike(
     vm.search(threads, input, captures);
     let searched = sum_of_captures(captures);
     vm.captures(threads, *input, captures);
-    assert_eq!(rt; sum_of_captures(captures), searched, "{input:?}");
+    expect_sum(rt, input, sum_of_captures(captures), searched);
     let list = piked_list(vm, threads, input);
-    assert_eq!(rt; piked_all(*alloc, vm, threads, input)?, list, "{input:?}");
-    let all = piked_captures_all(*alloc, vm, threads, input)?;
-    let [matches, slots] = piked_captures(*alloc, vm, threads, input)?;
-    assert_eq!(rt; matches, list, "{input:?}");
-    assert_eq!(rt; all, [matches, slots], "{input:?}");
-    assert_eq!(rt; piked_steps(vm, threads, input), list, "{input:?}");
-    Ok(slots)
+    expect_sum(rt, input, piked_all(rt, *alloc, vm, threads, input), list);
+    let all = piked_captures_all(rt, *alloc, vm, threads, input);
+    let sums = piked_captures(*alloc, vm, threads, input).expect(rt, "memory");
+    expect_same(rt, input, &sums, &all, list);
+    expect_sum(rt, input, piked_steps(vm, threads, input), list);
+    let [_, slots] = sums;
+    slots
+}
+
+// The sums of an iteration over captures are those of the list of them, and the sum of their matches is this.
+fn expect_same(rt: &impl Abort, input: &Input<'_>, sums: &[u64; 2], all: &[u64; 2], matches: u64) {
+    let [first, second] = sums;
+    let [first_of_all, second_of_all] = all;
+    expect_sum(rt, input, *first, matches);
+    expect_sum(rt, input, *first_of_all, matches);
+    expect_sum(rt, input, *second_of_all, *second);
 }
 
 // What `try_find_iter` gives.
 fn backtracked_list(
+    rt: &impl Abort,
     engine: &BoundedBacktracker,
     marks: &mut backtrack::Cache,
     input: &Input<'_>,
-) -> Result<u64, SearchError> {
+) -> u64 {
     let mut sum = SEED;
     for found in engine.try_find_iter(marks, *input) {
-        sum = fold_match(sum, Some(found?));
+        sum = fold_match(sum, Some(found.expect(rt, "an answer")));
     }
-    Ok(sum)
+    sum
+}
+
+// What `try_find_all` gives.
+fn backtracked_all(
+    rt: &impl Abort,
+    alloc: Global,
+    engine: &BoundedBacktracker,
+    marks: &mut backtrack::Cache,
+    input: &Input<'_>,
+) -> u64 {
+    let all = engine
+        .try_find_all(alloc, marks, *input)
+        .expect(rt, "memory");
+    sum_of_matches(&all)
 }
 
 // The next match of the searcher, by one search or two.
 fn backtracked_step(
+    rt: &impl Abort,
     engine: &BoundedBacktracker,
     marks: &mut backtrack::Cache,
     searcher: &mut Searcher<'_>,
-) -> Result<Option<Match>, SearchError> {
-    searcher.try_advance(|input: &Input<'_>| engine.try_find(marks, *input))
+) -> Option<Match> {
+    searcher
+        .try_advance(|input: &Input<'_>| engine.try_find(marks, *input))
+        .expect(rt, "an answer")
 }
 
 // What a searcher gives over single searches.
 fn backtracked_steps(
+    rt: &impl Abort,
     engine: &BoundedBacktracker,
     marks: &mut backtrack::Cache,
     input: &Input<'_>,
-) -> Result<u64, SearchError> {
+) -> u64 {
     let mut searcher = Searcher::new(*input);
     let mut sum = SEED;
     for _ in 0..STEPS {
-        match backtracked_step(engine, marks, &mut searcher)? {
+        match backtracked_step(rt, engine, marks, &mut searcher) {
             Some(found) => sum = fold_match(sum, Some(found)),
             None => break,
         }
     }
-    Ok(sum)
+    sum
 }
 
 // What `try_captures_iter` gives: the sum of the matches, and that of all slots.
@@ -212,6 +241,20 @@ fn backtracked_captures(
     Ok(sums)
 }
 
+// What `try_captures_all` gives: the same sums.
+fn backtracked_captures_all(
+    rt: &impl Abort,
+    alloc: Global,
+    engine: &BoundedBacktracker,
+    marks: &mut backtrack::Cache,
+    input: &Input<'_>,
+) -> [u64; 2] {
+    let all = engine
+        .try_captures_all(alloc, marks, *input)
+        .expect(rt, "memory");
+    sums_of_captures(&all)
+}
+
 /// Each list of the backtracker is that of its single searches, and `try_captures` answers as `try_search`. The sum of
 /// the slots of all captures.
 pub fn expect_backtracked_alike(
@@ -219,24 +262,29 @@ pub fn expect_backtracked_alike(
     engine: &BoundedBacktracker,
     input: &Input<'_>,
     shared: &mut Shared,
-) -> Result<u64, Fail> {
+) -> u64 {
     let Shared {
         alloc,
         marks,
         captures,
         ..
     } = shared;
-    engine.try_search(marks, input, captures)?;
+    engine
+        .try_search(marks, input, captures)
+        .expect(rt, "an answer");
     let searched = sum_of_captures(captures);
-    engine.try_captures(marks, *input, captures)?;
-    assert_eq!(rt; sum_of_captures(captures), searched, "{input:?}");
-    let list = backtracked_list(engine, marks, input)?;
-    assert_eq!(rt; backtracked_steps(engine, marks, input)?, list, "{input:?}");
-    let all = engine.try_find_all(*alloc, marks, *input)?;
-    assert_eq!(rt; sum_of_matches(&all), list, "{input:?}");
-    let caught = engine.try_captures_all(*alloc, marks, *input)?;
-    let [matches, slots] = backtracked_captures(*alloc, engine, marks, input)?;
-    assert_eq!(rt; matches, list, "{input:?}");
-    assert_eq!(rt; sums_of_captures(&caught), [matches, slots], "{input:?}");
-    Ok(slots)
+    engine
+        .try_captures(marks, *input, captures)
+        .expect(rt, "an answer");
+    expect_sum(rt, input, sum_of_captures(captures), searched);
+    let list = backtracked_list(rt, engine, marks, input);
+    let steps = backtracked_steps(rt, engine, marks, input);
+    expect_sum(rt, input, steps, list);
+    let all = backtracked_all(rt, *alloc, engine, marks, input);
+    expect_sum(rt, input, all, list);
+    let all = backtracked_captures_all(rt, *alloc, engine, marks, input);
+    let sums = backtracked_captures(*alloc, engine, marks, input).expect(rt, "memory");
+    expect_same(rt, input, &sums, &all, list);
+    let [_, slots] = sums;
+    slots
 }

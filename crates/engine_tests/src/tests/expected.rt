@@ -1,9 +1,9 @@
-//! What both engines have to answer. What owns an engine only makes it and lends it to one of these.
+//! What both engines have to answer. What owns an engine only makes it and lends it to one of these. What is asserted in
+//! many places is asserted by one function: a check takes some seconds for each assertion, and less for a call.
 
 use regex_search_core::Input;
-use std::alloc::{AllocError, Global};
+use std::alloc::Global;
 use std::process::Abort;
-use std::test::Fail;
 use test_support::engines::Engines;
 
 /// A search, and the name of what is searched for.
@@ -13,10 +13,26 @@ pub struct Case<'a> {
     pub input: Input<'a>,
 }
 
+/// Both engines of the sample of that name.
+pub fn engines_of(rt: &impl Abort, alloc: Global, name: &str) -> Engines {
+    Engines::of_sample(alloc, name).expect(rt, "engines of a sample")
+}
+
+/// The answer to the search is this.
+pub fn expect_answer(rt: &impl Abort, case: &Case<'_>, text: &str, want: &str) {
+    let Case { name, input } = case;
+    assert!(rt; text == want, "{name} {input:?}: {text}, not {want}");
+}
+
+/// It is as it has to be with what has that name.
+pub fn expect(rt: &impl Abort, holds: bool, name: &str) {
+    assert!(rt; holds, "{name}");
+}
+
 fn expect_texts(rt: &impl Abort, case: &Case<'_>, texts: &[String; 2], want: &str) {
     let [first, second] = texts;
-    assert_eq!(rt; first.as_str(), want, "{} {:?}", case.name, case.input);
-    assert_eq!(rt; second.as_str(), want, "{} {:?}", case.name, case.input);
+    expect_answer(rt, case, first.as_str(), want);
+    expect_answer(rt, case, second.as_str(), want);
 }
 
 /// Both answer this, and leave it in so many slots.
@@ -27,10 +43,11 @@ pub fn expect_slots(
     case: &Case<'_>,
     slot_len: usize,
     want: &str,
-) -> Result<(), Fail> {
-    let texts = engines.slots_texts(alloc, &case.input, slot_len)?;
+) {
+    let texts = engines
+        .slots_texts(alloc, &case.input, slot_len)
+        .expect(rt, "memory");
     expect_texts(rt, case, &texts, want);
-    Ok(())
 }
 
 /// Both find this match.
@@ -40,10 +57,9 @@ pub fn expect_match(
     engines: &mut Engines,
     case: &Case<'_>,
     want: &str,
-) -> Result<(), Fail> {
-    let texts = engines.match_texts(alloc, case.input)?;
+) {
+    let texts = engines.match_texts(alloc, case.input).expect(rt, "memory");
     expect_texts(rt, case, &texts, want);
-    Ok(())
 }
 
 /// Both give these matches, each with a comma and a blank behind it.
@@ -53,30 +69,59 @@ pub fn expect_list(
     engines: &mut Engines,
     case: &Case<'_>,
     want: &str,
-) -> Result<(), Fail> {
-    let texts = engines.list_texts(alloc, case.input)?;
+) {
+    let texts = engines.list_texts(alloc, case.input).expect(rt, "memory");
     expect_texts(rt, case, &texts, want);
-    Ok(())
 }
 
 /// Both tell that there is a match, or that there is none.
-pub fn expect_is_match(
+pub fn expect_is_match(rt: &impl Abort, engines: &mut Engines, case: &Case<'_>, want: bool) {
+    let [first, second] = engines.are_matches(case.input).expect(rt, "memory");
+    expect(rt, first == want, case.name);
+    expect(rt, second == want, case.name);
+}
+
+/// What both engines are asked.
+#[derive(Clone, Copy, Debug)]
+pub enum Ask {
+    /// As many slots as the NFA has.
+    AllSlots,
+    /// So many slots.
+    Slots(usize),
+    /// The first match.
+    Match,
+    /// All matches.
+    List,
+}
+
+/// Both engines of the sample that the case names answer this.
+pub fn expect_asked(rt: &impl Abort, alloc: Global, case: &Case<'_>, ask: Ask, want: &str) {
+    let mut engines = engines_of(rt, alloc, case.name);
+    expect_asked_of(rt, alloc, &mut engines, case, ask, want);
+}
+
+fn expect_asked_of(
     rt: &impl Abort,
+    alloc: Global,
     engines: &mut Engines,
     case: &Case<'_>,
-    want: bool,
-) -> Result<(), Fail> {
-    let [first, second] = engines.are_matches(case.input)?;
-    assert_eq!(rt; first, want, "{} {:?}", case.name, case.input);
-    assert_eq!(rt; second, want, "{} {:?}", case.name, case.input);
-    Ok(())
+    ask: Ask,
+    want: &str,
+) {
+    let slot_len = engines.slot_len();
+    match ask {
+        Ask::AllSlots => expect_slots(rt, alloc, engines, case, slot_len, want),
+        Ask::Slots(slot_len) => expect_slots(rt, alloc, engines, case, slot_len, want),
+        Ask::Match => expect_match(rt, alloc, engines, case, want),
+        Ask::List => expect_list(rt, alloc, engines, case, want),
+    }
 }
 
 /// What is answered in so many slots where there is no match.
-pub fn none_text(alloc: Global, slot_len: usize) -> Result<String, AllocError> {
-    let mut text = String::from_str(alloc, "none")?;
+pub fn none_text(rt: &impl Abort, alloc: Global, slot_len: usize) -> String {
+    let mut text = String::from_str(alloc, "none").expect(rt, "memory");
     for _ in 0..slot_len {
-        text.push_str(" -")?;
+        text.push_str(" -").expect(rt, "memory");
     }
-    Ok(text)
+    text
 }

@@ -2,18 +2,19 @@
 //! both match kinds; by each call that searches, with caches and captures that all of them share.
 
 use super::alike::{expect_backtracked_alike, expect_piked_alike};
+use super::choice::choice_by;
+use super::shapes::nfa_copy;
 use super::sums::{
-    SEED, Shared, fold, sum_backtracked, sum_chosen, sum_of_own_set, sum_of_set, sum_piked,
+    SEED, Shared, expect_sum, fold, sum_backtracked, sum_chosen, sum_of_own_set, sum_of_set,
+    sum_piked,
 };
 use nfa_choice::choose::Choice;
 use nfa_engines::backtrack::{self, BoundedBacktracker};
-use nfa_engines::error::SearchError;
 use nfa_engines::pikevm::{self, PikeVM};
 use regex_search_core::{Input, MatchKind};
 use std::alloc::Global;
 use std::process::Abort;
-use std::test::Fail;
-use test_support::made::{MakeError, nfa_named};
+use test_support::made::nfa_named;
 use test_support::searches::searches_of;
 use thompson_nfa::NFA;
 
@@ -91,15 +92,15 @@ fn fold_search(
     shared: &mut Shared,
     sum: u64,
     input: &Input<'_>,
-) -> Result<u64, Fail> {
+) -> u64 {
     let piked = sum_piked(pair.vm, input, shared);
-    assert_eq!(rt; sum_chosen(choice, input, shared), piked, "{input:?}");
-    let captured = expect_piked_alike(rt, pair.vm, input, shared)?;
+    expect_sum(rt, input, sum_chosen(choice, input, shared), piked);
+    let captured = expect_piked_alike(rt, pair.vm, input, shared);
     if pair.is_leftmost() && !input.get_earliest() {
-        let backtracked = sum_backtracked(pair.back, input, shared)?;
-        assert_eq!(rt; backtracked, piked, "{input:?}");
-        let backtracked = expect_backtracked_alike(rt, pair.back, input, shared)?;
-        assert_eq!(rt; backtracked, captured, "{input:?}");
+        let backtracked = sum_backtracked(rt, pair.back, input, shared);
+        expect_sum(rt, input, backtracked, piked);
+        let backtracked = expect_backtracked_alike(rt, pair.back, input, shared);
+        expect_sum(rt, input, backtracked, captured);
     }
     fold_set(rt, pair, shared, fold(sum, piked), input)
 }
@@ -111,14 +112,15 @@ fn fold_set(
     shared: &mut Shared,
     sum: u64,
     input: &Input<'_>,
-) -> Result<u64, Fail> {
-    let set = sum_of_set(shared.alloc, pair.vm, &mut shared.threads, input)?;
-    let own = sum_of_own_set(shared.alloc, pair.vm, input)?;
-    assert_eq!(rt; set, own, "{input:?}");
+) -> u64 {
+    let set = sum_of_set(rt, shared.alloc, pair.vm, &mut shared.threads, input);
+    let own = sum_of_own_set(rt, shared.alloc, pair.vm, input);
+    expect_sum(rt, input, set, own);
     if pair.is_unlike(input) {
-        return Ok(sum);
+        sum
+    } else {
+        fold(sum, set)
     }
-    Ok(fold(sum, set))
 }
 
 fn fold_searches(
@@ -128,24 +130,12 @@ fn fold_searches(
     shared: &mut Shared,
     sum: u64,
     inputs: &[Input<'_>],
-) -> Result<u64, Fail> {
+) -> u64 {
     let mut sum = sum;
     for input in inputs {
-        sum = fold_search(rt, pair, choice, shared, sum, input)?;
+        sum = fold_search(rt, pair, choice, shared, sum, input);
     }
-    Ok(sum)
-}
-
-fn fold_haystack(
-    rt: &impl Abort,
-    pair: &Pair<'_>,
-    choice: &mut Choice,
-    shared: &mut Shared,
-    sum: u64,
-    haystack: &[u8],
-) -> Result<u64, Fail> {
-    let inputs = searches_of(shared.alloc, haystack)?;
-    fold_searches(rt, pair, choice, shared, sum, &inputs)
+    sum
 }
 
 fn fold_haystacks(
@@ -155,20 +145,21 @@ fn fold_haystacks(
     shared: &mut Shared,
     sum: u64,
     haystacks: &[&[u8]],
-) -> Result<u64, Fail> {
+) -> u64 {
     let mut sum = sum;
     for haystack in haystacks {
-        sum = fold_haystack(rt, pair, choice, shared, sum, haystack)?;
+        let inputs = searches_of(shared.alloc, haystack).expect(rt, "memory");
+        sum = fold_searches(rt, pair, choice, shared, sum, &inputs);
     }
-    Ok(sum)
+    sum
 }
 
 // No marks, or 64 or 128 of them, so that `Choice` asks one engine, or the other, or each for its lengths.
-fn choice_of(alloc: Global, pair: &Pair<'_>) -> Result<Choice, MakeError> {
+fn choice_of(rt: &impl Abort, alloc: Global, pair: &Pair<'_>) -> Choice {
     let nfa = pair.back.get_nfa();
     let bytes = (nfa.states().len() % 3).saturating_mul(8);
     let back = backtrack::Config::new().visited_capacity(bytes);
-    Ok(Choice::new(alloc, nfa.clone()?, back, *pair.vm.get_config())?)
+    choice_by(rt, alloc, nfa_copy(rt, nfa), back, *pair.vm.get_config())
 }
 
 fn fold_pair(
@@ -177,22 +168,23 @@ fn fold_pair(
     shared: &mut Shared,
     sum: u64,
     haystacks: &[&[u8]],
-) -> Result<u64, Fail> {
-    let mut choice = choice_of(shared.alloc, pair)?;
+) -> u64 {
+    let mut choice = choice_of(rt, shared.alloc, pair);
     fold_haystacks(rt, pair, &mut choice, shared, sum, haystacks)
 }
 
-fn pikevm_of(nfa: &NFA, kind: MatchKind) -> Result<PikeVM, MakeError> {
+fn pikevm_of(rt: &impl Abort, nfa: &NFA, kind: MatchKind) -> PikeVM {
     let mut builder = PikeVM::builder();
     builder.configure(pikevm::Config::new().match_kind(kind));
-    Ok(builder.build_from_nfa(nfa.clone()?)?)
+    builder
+        .build_from_nfa(nfa_copy(rt, nfa))
+        .expect(rt, "memory")
 }
 
-fn fit(vm: &PikeVM, threads: &mut pikevm::Cache) -> Result<(), SearchError> {
+fn fit(rt: &impl Abort, vm: &PikeVM, threads: &mut pikevm::Cache) {
     if !threads.fits(vm) {
-        vm.reset_cache(threads)?;
+        vm.reset_cache(threads).expect(rt, "memory");
     }
-    Ok(())
 }
 
 fn fold_kind(
@@ -202,9 +194,9 @@ fn fold_kind(
     shared: &mut Shared,
     sum: u64,
     haystacks: &[&[u8]],
-) -> Result<u64, Fail> {
-    let vm = pikevm_of(back.get_nfa(), kind)?;
-    fit(&vm, &mut shared.threads)?;
+) -> u64 {
+    let vm = pikevm_of(rt, back.get_nfa(), kind);
+    fit(rt, &vm, &mut shared.threads);
     let pair = Pair { back, vm: &vm };
     fold_pair(rt, &pair, shared, sum, haystacks)
 }
@@ -216,24 +208,22 @@ pub fn fold_nfa(
     shared: &mut Shared,
     sum: u64,
     haystacks: &[&[u8]],
-) -> Result<u64, Fail> {
-    let back = BoundedBacktracker::new_from_nfa(nfa)?;
-    let sum = fold_kind(rt, &back, MatchKind::LeftmostFirst, shared, sum, haystacks)?;
+) -> u64 {
+    let back = BoundedBacktracker::new_from_nfa(nfa).expect(rt, "memory");
+    let sum = fold_kind(rt, &back, MatchKind::LeftmostFirst, shared, sum, haystacks);
     fold_kind(rt, &back, MatchKind::All, shared, sum, haystacks)
 }
 
-fn expect_sums(rt: &impl Abort, alloc: Global, shared: &mut Shared) -> Result<(), Fail> {
-    for &(name, want) in SUMS {
-        let nfa = nfa_named(alloc, name)?;
-        let sum = fold_nfa(rt, nfa, shared, SEED, HAYSTACKS)?;
-        assert_eq!(rt; sum, want, "{name}");
-    }
-    Ok(())
+fn expect_sample(rt: &impl Abort, shared: &mut Shared, name: &str, want: u64) {
+    let nfa = nfa_named(shared.alloc, name).expect(rt, "a sample");
+    let sum = fold_nfa(rt, nfa, shared, SEED, HAYSTACKS);
+    assert!(rt; sum == want, "{name}: {sum}, not {want}");
 }
 
 #[test]
-fn all_calls_give_the_answers_of_regex_automata(rt: HostRuntime) -> Result<(), Fail> {
-    let alloc = rt.alloc();
-    let mut shared = Shared::new(alloc)?;
-    expect_sums(&rt, alloc, &mut shared)
+fn all_calls_give_the_answers_of_regex_automata(rt: HostRuntime) {
+    let mut shared = Shared::new(&rt, rt.alloc());
+    for &(name, want) in SUMS {
+        expect_sample(&rt, &mut shared, name, want);
+    }
 }

@@ -4,7 +4,6 @@ use super::grid::fold_nfa;
 use super::sums::{SEED, Shared};
 use std::alloc::Global;
 use std::process::Abort;
-use std::test::Fail;
 use test_support::machine::Machine;
 use test_support::made::MakeError;
 use thompson_nfa::{Look, NFA};
@@ -70,12 +69,12 @@ struct Size {
 }
 
 // An NFA of 3 to 10 states.
-fn made(alloc: Global, chance: &mut Chance) -> Result<NFA, MakeError> {
+fn made(rt: &impl Abort, alloc: Global, chance: &mut Chance) -> NFA {
     let mut machine = Machine::new(alloc);
-    let states = add(&mut machine, chance)?;
+    let states = add(&mut machine, chance).expect(rt, "states");
     let anchored = chance.below(states);
     let unanchored = chance.below(states);
-    machine.build(anchored, unanchored)
+    machine.build(anchored, unanchored).expect(rt, "an NFA")
 }
 
 fn add(machine: &mut Machine, chance: &mut Chance) -> Result<usize, MakeError> {
@@ -181,24 +180,19 @@ fn add_capture(machine: &mut Machine, chance: &mut Chance, size: &Size) -> Resul
     machine.capture(chance.below(size.slots), next)
 }
 
-fn fold_all(rt: &impl Abort, alloc: Global, shared: &mut Shared) -> Result<u64, Fail> {
+fn fold_all(rt: &impl Abort, shared: &mut Shared) -> u64 {
     let mut chance = Chance { state: FIRST_STATE };
     let mut sum = SEED;
     for _ in 0..COUNT {
-        let nfa = made(alloc, &mut chance)?;
-        sum = fold_nfa(rt, nfa, shared, sum, HAYSTACKS)?;
+        let nfa = made(rt, shared.alloc, &mut chance);
+        sum = fold_nfa(rt, nfa, shared, sum, HAYSTACKS);
     }
-    Ok(sum)
-}
-
-fn expect_sum(rt: &impl Abort, alloc: Global, shared: &mut Shared) -> Result<(), Fail> {
-    assert_eq!(rt; fold_all(rt, alloc, shared)?, SUM);
-    Ok(())
+    sum
 }
 
 #[test]
-fn all_calls_search_what_chance_makes(rt: HostRuntime) -> Result<(), Fail> {
-    let alloc = rt.alloc();
-    let mut shared = Shared::new(alloc)?;
-    expect_sum(&rt, alloc, &mut shared)
+fn all_calls_search_what_chance_makes(rt: HostRuntime) {
+    let mut shared = Shared::new(&rt, rt.alloc());
+    let sum = fold_all(&rt, &mut shared);
+    assert!(&rt; sum == SUM, "{sum}");
 }

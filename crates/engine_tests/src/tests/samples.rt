@@ -1,55 +1,35 @@
 //! What both engines answer over the samples.
 
-use super::expected::{Case, expect_is_match, expect_list, expect_match, expect_slots};
+use super::expected::{Ask, Case, engines_of, expect_asked, expect_is_match, expect_slots};
 use nfa_samples::answers::{ALL, FOUND, FOUND_IN_SPAN, OF_ONE_PATTERN, OF_SLOT_LENS, SLOTS};
 use regex_search_core::{Anchored, Input, PatternID};
 use std::alloc::Global;
 use std::process::Abort;
-use std::test::Fail;
 use test_support::engines::Engines;
 use test_support::made::input_in;
 
 #[test]
-fn both_fill_the_slots_of_each_sample(rt: HostRuntime) -> Result<(), Fail> {
+fn both_fill_the_slots_of_each_sample(rt: HostRuntime) {
     for &(name, haystack, want) in SLOTS {
         let input = Input::new(haystack.as_bytes());
-        expect_all_slots(&rt, rt.alloc(), &Case { name, input }, want)?;
+        expect_asked(&rt, rt.alloc(), &Case { name, input }, Ask::AllSlots, want);
     }
-    Ok(())
-}
-
-fn expect_all_slots(
-    rt: &impl Abort,
-    alloc: Global,
-    case: &Case<'_>,
-    want: &str,
-) -> Result<(), Fail> {
-    let mut engines = Engines::of_sample(alloc, case.name)?;
-    let slot_len = engines.slot_len();
-    expect_slots(rt, alloc, &mut engines, case, slot_len, want)
 }
 
 #[test]
-fn both_find_the_first_match(rt: HostRuntime) -> Result<(), Fail> {
+fn both_find_the_first_match(rt: HostRuntime) {
     for &(name, haystack, want) in FOUND {
         let input = Input::new(haystack.as_bytes());
-        expect_found(&rt, rt.alloc(), &Case { name, input }, want)?;
+        expect_asked(&rt, rt.alloc(), &Case { name, input }, Ask::Match, want);
     }
-    Ok(())
 }
 
 #[test]
-fn both_find_the_first_match_in_a_span(rt: HostRuntime) -> Result<(), Fail> {
+fn both_find_the_first_match_in_a_span(rt: HostRuntime) {
     for &(name, haystack, start, end, anchored, want) in FOUND_IN_SPAN {
-        let input = input_in(haystack.as_bytes(), start, end, anchored).ok_or("no span")?;
-        expect_found(&rt, rt.alloc(), &Case { name, input }, want)?;
+        let input = input_in(haystack.as_bytes(), start, end, anchored).expect(&rt, "a span");
+        expect_asked(&rt, rt.alloc(), &Case { name, input }, Ask::Match, want);
     }
-    Ok(())
-}
-
-fn expect_found(rt: &impl Abort, alloc: Global, case: &Case<'_>, want: &str) -> Result<(), Fail> {
-    let mut engines = Engines::of_sample(alloc, case.name)?;
-    expect_match(rt, alloc, &mut engines, case, want)
 }
 
 // A name, a haystack, a span, whether the search may end at the earliest match, and whether there is one.
@@ -64,66 +44,47 @@ const IS_MATCH: &[(&str, &str, usize, usize, bool, bool)] = &[
 ];
 
 #[test]
-fn both_tell_whether_there_is_a_match(rt: HostRuntime) -> Result<(), Fail> {
+fn both_tell_whether_there_is_a_match(rt: HostRuntime) {
     for &(name, haystack, start, end, earliest, want) in IS_MATCH {
-        let input = input_in(haystack.as_bytes(), start, end, false).ok_or("no span")?;
+        let input = input_in(haystack.as_bytes(), start, end, false).expect(&rt, "a span");
         let input = input.earliest(earliest);
-        expect_told(&rt, rt.alloc(), &Case { name, input }, want)?;
+        expect_told(&rt, rt.alloc(), &Case { name, input }, want);
     }
-    Ok(())
 }
 
-fn expect_told(rt: &impl Abort, alloc: Global, case: &Case<'_>, want: bool) -> Result<(), Fail> {
-    let mut engines = Engines::of_sample(alloc, case.name)?;
-    expect_is_match(rt, &mut engines, case, want)
+fn expect_told(rt: &impl Abort, alloc: Global, case: &Case<'_>, want: bool) {
+    let mut engines = engines_of(rt, alloc, case.name);
+    expect_is_match(rt, &mut engines, case, want);
 }
 
 #[test]
-fn both_take_any_number_of_slots(rt: HostRuntime) -> Result<(), Fail> {
+fn both_take_any_number_of_slots(rt: HostRuntime) {
     let alloc = rt.alloc();
-    let mut engines = Engines::of_sample(alloc, "abc")?;
-    expect_slot_lens(&rt, alloc, &mut engines)
+    let mut engines = engines_of(&rt, alloc, "abc");
+    expect_slot_lens(&rt, alloc, &mut engines);
 }
 
-fn expect_slot_lens(rt: &impl Abort, alloc: Global, engines: &mut Engines) -> Result<(), Fail> {
+fn expect_slot_lens(rt: &impl Abort, alloc: Global, engines: &mut Engines) {
     for &(haystack, slot_len, want) in OF_SLOT_LENS {
         let input = Input::new(haystack.as_bytes()).anchored(Anchored::Yes);
         let case = Case { name: "abc", input };
-        expect_slots(rt, alloc, engines, &case, slot_len, want)?;
+        expect_slots(rt, alloc, engines, &case, slot_len, want);
     }
-    Ok(())
 }
 
 #[test]
-fn both_search_for_one_pattern(rt: HostRuntime) -> Result<(), Fail> {
+fn both_search_for_one_pattern(rt: HostRuntime) {
     for &(name, haystack, pattern, want) in OF_ONE_PATTERN {
-        let pattern = PatternID::new(pattern).ok_or("too great a number")?;
+        let pattern = PatternID::new(pattern).expect(&rt, "a pattern's number");
         let input = Input::new(haystack.as_bytes()).anchored(Anchored::Pattern(pattern));
-        expect_four_slots(&rt, rt.alloc(), &Case { name, input }, want)?;
+        expect_asked(&rt, rt.alloc(), &Case { name, input }, Ask::Slots(4), want);
     }
-    Ok(())
-}
-
-fn expect_four_slots(
-    rt: &impl Abort,
-    alloc: Global,
-    case: &Case<'_>,
-    want: &str,
-) -> Result<(), Fail> {
-    let mut engines = Engines::of_sample(alloc, case.name)?;
-    expect_slots(rt, alloc, &mut engines, case, 4, want)
 }
 
 #[test]
-fn both_give_all_matches(rt: HostRuntime) -> Result<(), Fail> {
+fn both_give_all_matches(rt: HostRuntime) {
     for &(name, haystack, want) in ALL {
         let input = Input::new(haystack);
-        expect_all(&rt, rt.alloc(), &Case { name, input }, want)?;
+        expect_asked(&rt, rt.alloc(), &Case { name, input }, Ask::List, want);
     }
-    Ok(())
-}
-
-fn expect_all(rt: &impl Abort, alloc: Global, case: &Case<'_>, want: &str) -> Result<(), Fail> {
-    let mut engines = Engines::of_sample(alloc, case.name)?;
-    expect_list(rt, alloc, &mut engines, case, want)
 }

@@ -1,6 +1,8 @@
 //! NFAs that no regular expression is compiled to.
 
 use std::alloc::Global;
+use std::process::Abort;
+use test_support::engines::Engines;
 use test_support::machine::Machine;
 use test_support::made::MakeError;
 use thompson_nfa::NFA;
@@ -29,6 +31,17 @@ pub fn nfa_of(alloc: Global, shape: Shape) -> Result<NFA, MakeError> {
     let mut machine = Machine::new(alloc);
     add(alloc, &mut machine, shape)?;
     machine.build(0, 0)
+}
+
+/// Both engines of the NFA of that shape.
+pub fn engines_of_shape(rt: &impl Abort, alloc: Global, shape: Shape) -> Engines {
+    let nfa = nfa_of(alloc, shape).expect(rt, "an NFA");
+    Engines::new(alloc, nfa).expect(rt, "memory")
+}
+
+/// The same NFA once more.
+pub fn nfa_copy(rt: &impl Abort, nfa: &NFA) -> NFA {
+    nfa.clone().expect(rt, "memory")
 }
 
 fn add(alloc: Global, machine: &mut Machine, shape: Shape) -> Result<(), MakeError> {

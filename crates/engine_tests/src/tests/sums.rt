@@ -3,11 +3,10 @@
 use super::shapes::{Shape, nfa_of};
 use nfa_choice::choose::Choice;
 use nfa_engines::backtrack::{self, BoundedBacktracker};
-use nfa_engines::error::SearchError;
 use nfa_engines::pikevm::{self, PikeVM};
 use regex_search_core::{Captures, Input, Match, NonMaxUsize, PatternID, PatternSet};
 use std::alloc::Global;
-use test_support::made::MakeError;
+use std::process::Abort;
 
 /// The sum before any answer.
 pub const SEED: u64 = 7;
@@ -17,18 +16,27 @@ pub fn fold(sum: u64, value: u64) -> u64 {
     sum.wrapping_mul(31).wrapping_add(value)
 }
 
+// A pattern as one more than it is.
+fn fold_pattern(sum: u64, pattern: PatternID) -> u64 {
+    fold(sum, (pattern.as_usize() as u64).wrapping_add(1))
+}
+
+// A slot in the same way, none as 0.
+fn fold_slot(sum: u64, slot: Option<NonMaxUsize>) -> u64 {
+    match slot {
+        Some(offset) => fold(sum, (offset.get() as u64).wrapping_add(1)),
+        None => fold(sum, 0),
+    }
+}
+
 /// A pattern as one more than it is, none as 0; then each slot in the same way.
 pub fn fold_slots(sum: u64, pattern: Option<PatternID>, slots: &[Option<NonMaxUsize>]) -> u64 {
-    let number = match pattern {
-        Some(pattern) => (pattern.as_usize() as u64).wrapping_add(1),
-        None => 0,
+    let mut sum = match pattern {
+        Some(pattern) => fold_pattern(sum, pattern),
+        None => fold(sum, 0),
     };
-    let mut sum = fold(sum, number);
     for slot in slots {
-        sum = match slot {
-            Some(offset) => fold(sum, (offset.get() as u64).wrapping_add(1)),
-            None => fold(sum, 0),
-        };
+        sum = fold_slot(sum, *slot);
     }
     sum
 }
@@ -37,7 +45,7 @@ pub fn fold_slots(sum: u64, pattern: Option<PatternID>, slots: &[Option<NonMaxUs
 pub fn fold_match(sum: u64, found: Option<Match>) -> u64 {
     match found {
         Some(found) => {
-            let sum = fold(sum, (found.pattern().as_usize() as u64).wrapping_add(1));
+            let sum = fold_pattern(sum, found.pattern());
             fold(fold(sum, found.start() as u64), found.end() as u64)
         }
         None => fold(sum, 0),
@@ -46,6 +54,16 @@ pub fn fold_match(sum: u64, found: Option<Match>) -> u64 {
 
 fn fold_is_match(sum: u64, is_match: bool) -> u64 {
     fold(sum, if is_match { 1 } else { 0 })
+}
+
+/// It is as it has to be with the answers to the search.
+pub fn expect_on(rt: &impl Abort, input: &Input<'_>, holds: bool) {
+    assert!(rt; holds, "{input:?}");
+}
+
+/// What is made of the answers to the search is this number.
+pub fn expect_sum(rt: &impl Abort, input: &Input<'_>, sum: u64, want: u64) {
+    expect_on(rt, input, sum == want);
 }
 
 /// What all searches write to, whatever it was used for before: a cache for each engine, slots, and captures of
@@ -65,49 +83,53 @@ pub struct Shared {
 
 impl Shared {
     /// Things of an NFA with twelve slots.
-    pub fn new(alloc: Global) -> Result<Shared, MakeError> {
-        let vm = PikeVM::new_from_nfa(nfa_of(alloc, Shape::Captures(9))?)?;
-        Shared::of_pikevm(alloc, &vm)
+    pub fn new(rt: &impl Abort, alloc: Global) -> Shared {
+        let nfa = nfa_of(alloc, Shape::Captures(9)).expect(rt, "an NFA");
+        let vm = PikeVM::new_from_nfa(nfa).expect(rt, "memory");
+        Shared::of_pikevm(rt, alloc, &vm)
     }
 
-    fn of_pikevm(alloc: Global, vm: &PikeVM) -> Result<Shared, MakeError> {
-        let back = BoundedBacktracker::never_match(alloc)?;
-        Shared::of(alloc, &back, vm)
-    }
-
-    fn of(alloc: Global, back: &BoundedBacktracker, vm: &PikeVM) -> Result<Shared, MakeError> {
-        Ok(Shared {
+    fn of_pikevm(rt: &impl Abort, alloc: Global, vm: &PikeVM) -> Shared {
+        let back = BoundedBacktracker::never_match(alloc).expect(rt, "memory");
+        Shared {
             alloc,
             marks: back.create_cache(alloc),
-            threads: vm.create_cache(alloc)?,
-            captures: vm.create_captures(alloc)?,
+            threads: vm.create_cache(alloc).expect(rt, "memory"),
+            captures: vm.create_captures(alloc).expect(rt, "memory"),
             slots: [NonMaxUsize::new(7); 20],
-        })
+        }
     }
 }
 
 /// What the backtracker answers to slots, to a match, to whether there is one, to captures, and as a list.
 pub fn sum_backtracked(
+    rt: &impl Abort,
     engine: &BoundedBacktracker,
     input: &Input<'_>,
     shared: &mut Shared,
-) -> Result<u64, SearchError> {
+) -> u64 {
     let Shared {
         marks,
         captures,
         slots,
         ..
     } = shared;
-    let pattern = engine.try_search_slots(marks, input, slots)?;
+    let pattern = engine
+        .try_search_slots(marks, input, slots)
+        .expect(rt, "an answer");
     let sum = fold_slots(SEED, pattern, slots);
-    let sum = fold_match(sum, engine.try_find(marks, *input)?);
-    let sum = fold_is_match(sum, engine.try_is_match(marks, *input)?);
-    engine.try_search(marks, input, captures)?;
+    let found = engine.try_find(marks, *input).expect(rt, "an answer");
+    let sum = fold_match(sum, found);
+    let is_match = engine.try_is_match(marks, *input).expect(rt, "an answer");
+    let sum = fold_is_match(sum, is_match);
+    engine
+        .try_search(marks, input, captures)
+        .expect(rt, "an answer");
     let mut sum = fold_slots(sum, captures.pattern(), captures.slots());
     for found in engine.try_find_iter(marks, *input) {
-        sum = fold_match(sum, Some(found?));
+        sum = fold_match(sum, Some(found.expect(rt, "an answer")));
     }
-    Ok(sum)
+    sum
 }
 
 /// What the PikeVM answers to the same. 0 where the cache does not fit.
@@ -154,25 +176,31 @@ pub fn sum_chosen(choice: &mut Choice, input: &Input<'_>, shared: &mut Shared) -
 
 /// What an empty set gains in a search for overlapping matches. 0 where the cache does not fit.
 pub fn sum_of_set(
+    rt: &impl Abort,
     alloc: Global,
     vm: &PikeVM,
     threads: &mut pikevm::Cache,
     input: &Input<'_>,
-) -> Result<u64, MakeError> {
-    if !threads.fits(vm) {
-        return Ok(0);
+) -> u64 {
+    let mut set = PatternSet::new(alloc, 4).expect(rt, "memory");
+    if threads.fits(vm) {
+        vm.which_overlapping_matches(threads, input, &mut set);
+        sum_of_patterns(&set)
+    } else {
+        0
     }
-    let mut set = PatternSet::new(alloc, 4)?;
-    vm.which_overlapping_matches(threads, input, &mut set);
+}
+
+fn sum_of_patterns(set: &PatternSet) -> u64 {
     let mut sum = SEED;
     for pattern in set.iter() {
-        sum = fold(sum, (pattern.as_usize() as u64).wrapping_add(1));
+        sum = fold_pattern(sum, pattern);
     }
-    Ok(sum)
+    sum
 }
 
 /// What an empty set gains with a cache that is no larger than it has to be.
-pub fn sum_of_own_set(alloc: Global, vm: &PikeVM, input: &Input<'_>) -> Result<u64, MakeError> {
-    let mut own = vm.create_cache(alloc)?;
-    sum_of_set(alloc, vm, &mut own, input)
+pub fn sum_of_own_set(rt: &impl Abort, alloc: Global, vm: &PikeVM, input: &Input<'_>) -> u64 {
+    let mut own = vm.create_cache(alloc).expect(rt, "memory");
+    sum_of_set(rt, alloc, vm, &mut own, input)
 }

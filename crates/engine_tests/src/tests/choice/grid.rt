@@ -1,14 +1,15 @@
 //! `Choice` beside the PikeVM, over each sample: each span of some haystacks, four ways to search it, and three
 //! capacities.
 
+use super::super::shapes::nfa_copy;
+use super::super::sums::expect_on;
+use super::{choice_by, marks};
 use nfa_choice::choose::Choice;
-use nfa_engines::backtrack;
 use nfa_engines::pikevm::{self, PikeVM};
 use regex_search_core::{Input, NonMaxUsize};
 use std::alloc::Global;
 use std::process::Abort;
-use std::test::Fail;
-use test_support::made::{MakeError, NAMES, pikevm};
+use test_support::made::{NAMES, pikevm};
 use test_support::searches::searches_of;
 use thompson_nfa::NFA;
 
@@ -38,12 +39,9 @@ fn expect_same_slots(
     let mut piked = [NonMaxUsize::new(6); 10];
     let mut chosen = [NonMaxUsize::new(7); 10];
     let pattern = vm.search_slots(threads, input, &mut piked);
-    assert_eq!(rt;
-        choice.search_slots(input, &mut chosen),
-        pattern,
-        "{input:?}"
-    );
-    assert_eq!(rt; chosen.as_slice(), piked.as_slice(), "{input:?}");
+    let chosen_pattern = choice.search_slots(input, &mut chosen);
+    expect_on(rt, input, chosen_pattern == pattern);
+    expect_on(rt, input, chosen.as_slice() == piked.as_slice());
 }
 
 // Both find the same match, and tell the same of whether there is one. The cache fits.
@@ -57,8 +55,8 @@ fn expect_same_match(
     assert!(rt; threads.fits(vm));
     let found = vm.find(threads, *input);
     let is_match = vm.is_match(threads, *input);
-    assert_eq!(rt; choice.find(*input), found, "{input:?}");
-    assert_eq!(rt; choice.is_match(*input), is_match, "{input:?}");
+    expect_on(rt, input, choice.find(*input) == found);
+    expect_on(rt, input, choice.is_match(*input) == is_match);
 }
 
 fn expect_same_on(
@@ -74,26 +72,22 @@ fn expect_same_on(
     }
 }
 
-fn expect_same(
+fn expect_same_on_all(
     rt: &impl Abort,
     alloc: Global,
     vm: &PikeVM,
     threads: &mut pikevm::Cache,
     choice: &mut Choice,
-) -> Result<(), Fail> {
+) {
     for &haystack in HAYSTACKS {
-        let inputs = searches_of(alloc, haystack)?;
+        let inputs = searches_of(alloc, haystack).expect(rt, "memory");
         expect_same_on(rt, vm, threads, choice, &inputs);
     }
-    Ok(())
 }
 
-fn choice_of(alloc: Global, nfa: &NFA, capacity: Option<usize>) -> Result<Choice, MakeError> {
-    let back = match capacity {
-        Some(bytes) => backtrack::Config::new().visited_capacity(bytes),
-        None => backtrack::Config::new(),
-    };
-    Ok(Choice::new(alloc, nfa.clone()?, back, pikevm::Config::new())?)
+fn choice_of(rt: &impl Abort, alloc: Global, nfa: &NFA, capacity: Option<usize>) -> Choice {
+    let copy = nfa_copy(rt, nfa);
+    choice_by(rt, alloc, copy, marks(capacity), pikevm::Config::new())
 }
 
 fn expect_choice(
@@ -102,37 +96,26 @@ fn expect_choice(
     vm: &PikeVM,
     threads: &mut pikevm::Cache,
     capacity: Option<usize>,
-) -> Result<(), Fail> {
-    let mut choice = choice_of(alloc, vm.get_nfa(), capacity)?;
-    expect_same(rt, alloc, vm, threads, &mut choice)
+) {
+    let mut choice = choice_of(rt, alloc, vm.get_nfa(), capacity);
+    expect_same_on_all(rt, alloc, vm, threads, &mut choice);
 }
 
-fn expect_choices(
-    rt: &impl Abort,
-    alloc: Global,
-    vm: &PikeVM,
-    threads: &mut pikevm::Cache,
-) -> Result<(), Fail> {
+fn expect_choices(rt: &impl Abort, alloc: Global, vm: &PikeVM, threads: &mut pikevm::Cache) {
     for &capacity in CAPACITIES {
-        expect_choice(rt, alloc, vm, threads, capacity)?;
+        expect_choice(rt, alloc, vm, threads, capacity);
     }
-    Ok(())
 }
 
-fn expect_pikevm(rt: &impl Abort, alloc: Global, vm: &PikeVM) -> Result<(), Fail> {
-    let mut threads = vm.create_cache(alloc)?;
-    expect_choices(rt, alloc, vm, &mut threads)
-}
-
-fn expect_sample(rt: &impl Abort, alloc: Global, name: &str) -> Result<(), Fail> {
-    let vm = pikevm(alloc, name)?;
-    expect_pikevm(rt, alloc, &vm)
+fn expect_sample(rt: &impl Abort, alloc: Global, name: &str) {
+    let vm = pikevm(alloc, name).expect(rt, "an engine");
+    let mut threads = vm.create_cache(alloc).expect(rt, "memory");
+    expect_choices(rt, alloc, &vm, &mut threads);
 }
 
 #[test]
-fn answers_as_the_pikevm_does(rt: HostRuntime) -> Result<(), Fail> {
+fn answers_as_the_pikevm_does(rt: HostRuntime) {
     for &name in NAMES {
-        expect_sample(&rt, rt.alloc(), name)?;
+        expect_sample(&rt, rt.alloc(), name);
     }
-    Ok(())
 }

@@ -3,4 +3,4 @@ use Rattle.std.proofs.Common.{◌≡◌, Ok, map}
 use Rattle.captures_tests.proofs.tests.callers.tries_looped.Given as goal
 
 abbrev pub invariant-loop-item : goal.invariant-loop-item
-invariant-loop-item l = l.yielded ≡ map Ok l.all.items
+invariant-loop-item g l = l.yielded ≡ map Ok l.all.items
