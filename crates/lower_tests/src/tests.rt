@@ -3,6 +3,7 @@ mod bounds;
 mod bounds_caller;
 mod drafts;
 mod finders;
+mod fixtures;
 mod iteration;
 mod languages;
 mod nfas;

@@ -1,11 +1,10 @@
 //! The sample NFAs, and mistakes by hand.
+use super::fixtures::{id, named, pattern, plain_groups};
 use Row::{Byte, Capture, Either, Match};
 use nfa_bounds::records_bounds;
-use nfa_samples::sample;
-use regex_search_core::{GroupInfo, PatternID, StateID};
+use regex_search_core::StateID;
 use std::alloc::Global;
 use std::process::Abort;
-use std::test::Fail;
 use thompson_nfa::{NFA, State, Transition};
 
 // Whether the tables of the samples write both slots of a pattern on each way to its match. Those of `a` have no
@@ -43,20 +42,15 @@ const SAMPLES: &[(&str, bool)] = &[
 ];
 
 #[test]
-fn samples_that_write_their_bounds(rt: HostRuntime) -> Result<(), Fail> {
+fn samples_that_write_their_bounds(rt: HostRuntime) {
     for &(name, want) in SAMPLES {
-        let found = sample_records(rt.alloc(), name)?;
-        expect_told(&rt, found, want, name);
+        let nfa = named(&rt, rt.alloc(), name);
+        expect_told(&rt, rt.alloc(), &nfa, want, name);
     }
-    Ok(())
 }
 
-fn sample_records(alloc: Global, name: &str) -> Result<bool, Fail> {
-    let nfa = sample(alloc, name)?.ok_or("unknown name")?;
-    Ok(records_bounds(alloc, &nfa)?)
-}
-
-fn expect_told(rt: &impl Abort, found: bool, want: bool, name: &str) {
+fn expect_told(rt: &impl Abort, alloc: Global, nfa: &NFA, want: bool, name: &str) {
+    let found = records_bounds(alloc, nfa).expect(rt, "memory");
     assert_eq!(rt; found, want, "{name}");
 }
 
@@ -70,113 +64,105 @@ enum Row {
 }
 
 impl Row {
-    fn state(self) -> Result<State, Fail> {
+    fn state(self, rt: &impl Abort) -> State {
         match self {
-            Row::Byte(byte, next) => Ok(State::ByteRange {
+            Row::Byte(byte, next) => State::ByteRange {
                 trans: Transition {
                     start: byte,
                     end: byte,
-                    next: id(next)?,
+                    next: id(rt, next),
                 },
-            }),
-            Row::Capture(slot, next) => Ok(State::Capture {
-                next: id(next)?,
+            },
+            Row::Capture(slot, next) => State::Capture {
+                next: id(rt, next),
                 slot,
-            }),
-            Row::Either(alt1, alt2) => Ok(State::BinaryUnion {
-                alt1: id(alt1)?,
-                alt2: id(alt2)?,
-            }),
-            Row::Match(pattern) => Ok(State::Match {
-                pattern_id: PatternID::new(pattern).ok_or("a pattern number is too large")?,
-            }),
+            },
+            Row::Either(alt1, alt2) => State::BinaryUnion {
+                alt1: id(rt, alt1),
+                alt2: id(rt, alt2),
+            },
+            Row::Match(number) => State::Match {
+                pattern_id: pattern(rt, number),
+            },
         }
     }
 }
 
-fn id(number: usize) -> Result<StateID, Fail> {
-    Ok(StateID::new(number).ok_or("a state number is too large")?)
-}
-
-fn states_of(alloc: Global, rows: &[Row]) -> Result<Vec<State>, Fail> {
+fn states_of(rt: &impl Abort, alloc: Global, rows: &[Row]) -> Vec<State> {
     let mut states = Vec::new(alloc);
     for row in rows {
-        states.push(row.state()?)?;
+        states.push(row.state(rt)).expect(rt, "memory");
     }
-    Ok(states)
+    states
 }
 
-fn ids(alloc: Global, numbers: &[usize]) -> Result<Vec<StateID>, Fail> {
+fn ids(rt: &impl Abort, alloc: Global, numbers: &[usize]) -> Vec<StateID> {
     let mut ids = Vec::new(alloc);
     for &number in numbers {
-        ids.push(id(number)?)?;
+        ids.push(id(rt, number)).expect(rt, "memory");
     }
-    Ok(ids)
+    ids
 }
 
-// Groups of so many patterns, with no explicit groups.
-fn plain_groups(alloc: Global, patterns: usize) -> Result<GroupInfo, Fail> {
-    let mut names = Vec::new(alloc);
-    for _ in 0..patterns {
-        names.push(Vec::new(alloc))?;
+// The NFA of these rows; state 0 is the start, and each of `starts` that of a pattern.
+fn nfa_of(rt: &impl Abort, alloc: Global, rows: &[Row], starts: &[usize]) -> NFA {
+    let start = id(rt, 0);
+    let groups = plain_groups(rt, alloc, starts.len());
+    let patterns = ids(rt, alloc, starts);
+    let states = states_of(rt, alloc, rows);
+    NFA::from_states(states, start, start, patterns, groups, false, true).expect(rt, "an NFA")
+}
+
+// What an NFA is, whether it writes its bounds, its states, and the starts of its patterns.
+const BY_HAND: &[(&str, bool, &[Row], &[usize])] = &[
+    (
+        "`a|b`, whose second branch passes over the capture of the end",
+        false,
+        &[
+            Capture(0, 1),
+            Either(2, 3),
+            Byte(b'a', 4),
+            Byte(b'b', 5),
+            Capture(1, 5),
+            Match(0),
+        ],
+        &[0],
+    ),
+    (
+        "`a` and `b`, of which the second has its slots swapped",
+        false,
+        &[
+            Either(1, 5),
+            Capture(0, 2),
+            Byte(b'a', 3),
+            Capture(1, 4),
+            Match(0),
+            Capture(3, 6),
+            Byte(b'b', 7),
+            Capture(2, 8),
+            Match(1),
+        ],
+        &[1, 5],
+    ),
+    (
+        "`a`, with the start written twice before the byte, and a match behind it to which nothing leads",
+        true,
+        &[
+            Capture(0, 1),
+            Capture(0, 2),
+            Byte(b'a', 3),
+            Capture(1, 4),
+            Match(0),
+            Match(0),
+        ],
+        &[0],
+    ),
+];
+
+#[test]
+fn mistakes_by_hand_are_found(rt: HostRuntime) {
+    for &(what, want, rows, starts) in BY_HAND {
+        let nfa = nfa_of(&rt, rt.alloc(), rows, starts);
+        expect_told(&rt, rt.alloc(), &nfa, want, what);
     }
-    Ok(GroupInfo::new(names).ok_or("too many groups")?)
-}
-
-// Whether the NFA of these rows writes its bounds; state 0 is the start, and each of `starts` that of a pattern.
-fn records(alloc: Global, rows: &[Row], starts: &[usize]) -> Result<bool, Fail> {
-    let start = id(0)?;
-    let groups = plain_groups(alloc, starts.len())?;
-    let patterns = ids(alloc, starts)?;
-    let states = states_of(alloc, rows)?;
-    let nfa = NFA::from_states(states, start, start, patterns, groups, false, true)?;
-    Ok(records_bounds(alloc, &nfa)?)
-}
-
-// `a|b`, whose second branch passes over the capture of the end.
-#[test]
-fn skipped_end_is_found(rt: HostRuntime) -> Result<(), Fail> {
-    let rows = [
-        Capture(0, 1),
-        Either(2, 3),
-        Byte(b'a', 4),
-        Byte(b'b', 5),
-        Capture(1, 5),
-        Match(0),
-    ];
-    assert!(rt; !records(rt.alloc(), &rows, &[0])?);
-    Ok(())
-}
-
-// `a` and `b`. The slots of the second pattern are swapped.
-#[test]
-fn swapped_slots_of_second_pattern_are_found(rt: HostRuntime) -> Result<(), Fail> {
-    let rows = [
-        Either(1, 5),
-        Capture(0, 2),
-        Byte(b'a', 3),
-        Capture(1, 4),
-        Match(0),
-        Capture(3, 6),
-        Byte(b'b', 7),
-        Capture(2, 8),
-        Match(1),
-    ];
-    assert!(rt; !records(rt.alloc(), &rows, &[1, 5])?);
-    Ok(())
-}
-
-// `a`, with the start written twice before the byte, and a match behind it to which nothing leads.
-#[test]
-fn start_may_be_written_twice(rt: HostRuntime) -> Result<(), Fail> {
-    let rows = [
-        Capture(0, 1),
-        Capture(0, 2),
-        Byte(b'a', 3),
-        Capture(1, 4),
-        Match(0),
-        Match(0),
-    ];
-    assert!(rt; records(rt.alloc(), &rows, &[0])?);
-    Ok(())
 }

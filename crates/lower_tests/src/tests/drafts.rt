@@ -1,6 +1,6 @@
 //! Tests of drafts: the four examples of the crate's page, the order of preference, the numbers of groups, the bytes of
 //! characters, and each error.
-use super::shown::expect_shown;
+use super::shown::{expect_shown, expect_told};
 use nfa_draft::{Draft, DraftError, Expr};
 use regex_search_core::StateID;
 use std::alloc::Global;
@@ -31,25 +31,31 @@ const MAYBE_A: Expr<'static> = Expr::Repeat {
 #[test]
 fn a_word(rt: HostRuntime) -> Result<(), Fail> {
     let nfa = Draft::new().build(rt.alloc(), &[Expr::Literal(b"foo")])?;
-    expect_word(&rt, &nfa);
+    expect_word(&rt, rt.alloc(), &nfa)
+}
+
+fn expect_word(rt: &impl Abort, alloc: Global, nfa: &NFA) -> Result<(), Fail> {
+    let flags = [
+        nfa.has_empty(),
+        nfa.is_utf8(),
+        nfa.is_always_start_anchored(),
+    ];
+    assert_eq!(rt; flags, [false, true, false]);
     // A Match, two Captures, three bytes, and the two states of the prefix.
-    expect_sizes(&rt, &nfa, [1, 8, 2]);
-    let start = nfa.start_anchored().as_usize();
-    let shown = way(rt.alloc(), &nfa, start)?;
+    expect_sizes(rt, nfa, [1, 8, 2]);
+    let shown = way(alloc, nfa, nfa.start_anchored().as_usize())?;
     assert_eq!(rt; shown.as_str(), "(0 66 6F 6F 1 ) 0");
     Ok(())
 }
 
-fn expect_word(rt: &impl Abort, nfa: &NFA) {
-    assert!(rt; !nfa.has_empty() && nfa.is_utf8() && !nfa.is_always_start_anchored());
-}
-
 /// The NFA has so many patterns, states and slots.
 fn expect_sizes(rt: &impl Abort, nfa: &NFA, sizes: [usize; 3]) {
-    let [patterns, states, slots] = sizes;
-    assert_eq!(rt; nfa.pattern_len(), patterns);
-    assert_eq!(rt; nfa.states().len(), states);
-    assert_eq!(rt; nfa.group_info().slot_len(), slots);
+    let found = [
+        nfa.pattern_len(),
+        nfa.states().len(),
+        nfa.group_info().slot_len(),
+    ];
+    assert_eq!(rt; found, sizes);
 }
 
 #[test]
@@ -79,93 +85,94 @@ fn characters_in_a_choice(rt: HostRuntime) -> Result<(), Fail> {
 }
 
 #[test]
-fn the_order_of_preference(rt: HostRuntime) -> Result<(), Fail> {
+fn the_order_of_preference(rt: HostRuntime) {
     let alloc = rt.alloc();
     let more = Expr::star(&A);
-    // The loop is state 2, behind the Match and the Capture of the end; the byte is state 3.
-    for &(expr, want) in &[
-        (
-            more,
-            "Some(BinaryUnion { alt1: StateID(3), alt2: StateID(1) })",
-        ),
-        (
-            more.lazy(),
-            "Some(BinaryUnion { alt1: StateID(1), alt2: StateID(3) })",
-        ),
-    ] {
-        let nfa = Draft::new().anchored().build(alloc, &[expr])?;
-        expect_shown(&rt, alloc, &nfa.states().get(2), want)?;
-    }
-    Ok(())
+    let want = "Some(BinaryUnion { alt1: StateID(3), alt2: StateID(1) })";
+    expect_loop(&rt, alloc, more, want);
+    let want = "Some(BinaryUnion { alt1: StateID(1), alt2: StateID(3) })";
+    expect_loop(&rt, alloc, more.lazy(), want);
+}
+
+/// The loop is state 2, behind the Match and the Capture of the end; the byte is state 3.
+fn expect_loop(rt: &impl Abort, alloc: Global, expr: Expr<'_>, want: &str) {
+    let nfa = Draft::new()
+        .anchored()
+        .build(alloc, &[expr])
+        .expect(rt, "an NFA");
+    expect_shown(rt, alloc, &nfa.states().get(2), want);
 }
 
 #[test]
 fn no_pattern_matches_nothing(rt: HostRuntime) -> Result<(), Fail> {
     let nfa = Draft::new().anchored().build(rt.alloc(), &[])?;
-    expect_shown(&rt, rt.alloc(), &nfa.states(), "[Fail]")?;
+    expect_shown(&rt, rt.alloc(), &nfa.states(), "[Fail]");
     expect_sizes(&rt, &nfa, [0, 1, 0]);
     Ok(())
 }
 
+/// Whether they may match the empty text.
+const MAY_BE_EMPTY: &[(&[Expr<'static>], bool)] = &[
+    (&[], false),
+    (&[Expr::Empty], true),
+    (&[A], false),
+    (&[Expr::Literal(b"")], true),
+    (&[Expr::Look(Look::Start)], true),
+    (&[DIGIT], false),
+    (&[Expr::Chars(&[('a', 'b')])], false),
+    (&[MAYBE_A], true),
+    (&[Expr::Concat(&[MAYBE_A, A])], false),
+    (&[Expr::Concat(&[MAYBE_A, MAYBE_A])], true),
+    (&[Expr::Concat(&[])], true),
+    (&[Expr::Alternation(&[A, MAYBE_A])], true),
+    (&[Expr::Alternation(&[A, A])], false),
+    (&[Expr::Alternation(&[])], false),
+];
+
 #[test]
-fn says_where_it_may_be_empty(rt: HostRuntime) -> Result<(), Fail> {
-    for &(expr, want) in &[
-        (Expr::Empty, true),
-        (A, false),
-        (Expr::Literal(b""), true),
-        (Expr::Look(Look::Start), true),
-        (DIGIT, false),
-        (Expr::Chars(&[('a', 'b')]), false),
-        (MAYBE_A, true),
-        (Expr::star(&A), true),
-        (Expr::plus(&A), false),
-        (Expr::plus(&MAYBE_A), true),
-        (Expr::group(&MAYBE_A), true),
-        (Expr::Concat(&[MAYBE_A, A]), false),
-        (Expr::Concat(&[MAYBE_A, MAYBE_A]), true),
-        (Expr::Concat(&[]), true),
-        (Expr::Alternation(&[A, MAYBE_A]), true),
-        (Expr::Alternation(&[A, A]), false),
-        (Expr::Alternation(&[]), false),
-    ] {
-        expect_empty(&rt, rt.alloc(), &[expr], want)?;
+fn says_where_it_may_be_empty(rt: HostRuntime) {
+    let alloc = rt.alloc();
+    for (patterns, want) in MAY_BE_EMPTY {
+        expect_empty(&rt, alloc, patterns, *want);
     }
-    expect_empty(&rt, rt.alloc(), &[], false)
+    expect_empty(&rt, alloc, &[Expr::star(&A)], true);
+    expect_empty(&rt, alloc, &[Expr::plus(&A)], false);
+    expect_empty(&rt, alloc, &[Expr::plus(&MAYBE_A)], true);
+    expect_empty(&rt, alloc, &[Expr::group(&MAYBE_A)], true);
+}
+
+fn may_be_empty(rt: &impl Abort, alloc: Global, patterns: &[Expr<'_>]) -> bool {
+    let nfa = Draft::new().build(alloc, patterns).expect(rt, "an NFA");
+    nfa.has_empty()
 }
 
 /// The NFA of these patterns says whether it may match the empty text.
-fn expect_empty(
-    rt: &impl Abort,
-    alloc: Global,
-    patterns: &[Expr<'_>],
-    want: bool,
-) -> Result<(), Fail> {
-    let nfa = Draft::new().build(alloc, patterns)?;
-    let may_be_empty = nfa.has_empty();
-    assert_eq!(rt; may_be_empty, want);
-    Ok(())
+fn expect_empty(rt: &impl Abort, alloc: Global, patterns: &[Expr<'_>], want: bool) {
+    assert_eq!(rt; may_be_empty(rt, alloc, patterns), want);
 }
+
+const SEQUENCES: &[&str] = &[
+    "(00-7F 1 ) 0",
+    "(C2-DF 80-BF 1 ) 0",
+    "(E0 A0-BF 80-BF 1 ) 0",
+    "(E1-EC 80-BF 80-BF 1 ) 0",
+    "(ED 80-9F 80-BF 1 ) 0",
+    "(EE-EF 80-BF 80-BF 1 ) 0",
+    "(F0 90-BF 80-BF 80-BF 1 ) 0",
+    "(F1-F3 80-BF 80-BF 80-BF 1 ) 0",
+    "(F4 80-8F 80-BF 80-BF 1 ) 0",
+];
 
 #[test]
 fn all_characters_are_the_well_formed_sequences(rt: HostRuntime) -> Result<(), Fail> {
-    let alloc = rt.alloc();
     let all = Expr::Chars(&[('\0', '\u{10FFFF}')]);
-    let nfa = Draft::new().anchored().build(alloc, &[all])?;
-    expect_texts(
-        &rt,
-        &ways_of_choices(alloc, &nfa)?,
-        &[
-            "(00-7F 1 ) 0",
-            "(C2-DF 80-BF 1 ) 0",
-            "(E0 A0-BF 80-BF 1 ) 0",
-            "(E1-EC 80-BF 80-BF 1 ) 0",
-            "(ED 80-9F 80-BF 1 ) 0",
-            "(EE-EF 80-BF 80-BF 1 ) 0",
-            "(F0 90-BF 80-BF 80-BF 1 ) 0",
-            "(F1-F3 80-BF 80-BF 80-BF 1 ) 0",
-            "(F4 80-8F 80-BF 80-BF 1 ) 0",
-        ],
-    );
+    let nfa = Draft::new().anchored().build(rt.alloc(), &[all])?;
+    expect_ways(&rt, rt.alloc(), &nfa, SEQUENCES)
+}
+
+fn expect_ways(rt: &impl Abort, alloc: Global, nfa: &NFA, want: &[&str]) -> Result<(), Fail> {
+    let found = ways_of_choices(alloc, nfa)?;
+    expect_texts(rt, &found, want);
     Ok(())
 }
 
@@ -200,59 +207,63 @@ fn expect_texts(rt: &impl Abort, found: &[String], want: &[&str]) {
 }
 
 #[test]
-fn reversed_ranges_are_named(rt: HostRuntime) -> Result<(), Fail> {
-    let alloc = rt.alloc();
+fn reversed_ranges_are_named(rt: HostRuntime) {
     let bytes = Expr::Bytes(&[(b'a', b'b'), (9, 8)]);
-    let error = Draft::new().build(alloc, &[bytes]).err();
-    assert_eq!(rt; error, Some(DraftError::ReversedBytes { start: 9, end: 8 }));
+    let reversed = DraftError::ReversedBytes { start: 9, end: 8 };
+    expect_refused(&rt, rt.alloc(), &[bytes], reversed);
 
     let chars = Expr::Chars(&[('b', 'a')]);
-    let error = Draft::new().build(alloc, &[chars]).err();
     let reversed = DraftError::ReversedChars {
         start: 'b',
         end: 'a',
     };
-    assert_eq!(rt; error, Some(reversed));
-    Ok(())
+    expect_refused(&rt, rt.alloc(), &[chars], reversed);
 }
 
+/// These patterns are refused with this error.
+pub fn expect_refused(rt: &impl Abort, alloc: Global, patterns: &[Expr<'_>], want: DraftError) {
+    let error = Draft::new().build(alloc, patterns).err();
+    assert_eq!(rt; error, Some(want));
+}
+
+const TOLD: &[(DraftError, &str)] = &[
+    (DraftError::Memory, "out of memory"),
+    (
+        DraftError::ReversedBytes { start: 9, end: 8 },
+        "the range of bytes from 9 to 8 ends before it starts",
+    ),
+    (
+        DraftError::ReversedChars {
+            start: 'b',
+            end: 'a',
+        },
+        "the range of characters from 'b' to 'a' ends before it starts",
+    ),
+    (
+        DraftError::ReversedCounts { min: 3, max: 2 },
+        "a repetition of at least 3 and at most 2",
+    ),
+    (
+        DraftError::RepeatedName {
+            pattern: 1,
+            group: 2,
+        },
+        "group 2 of pattern 1 has the name of an earlier group",
+    ),
+    (DraftError::TooManyStates, "too many states"),
+    (DraftError::TooManyPatterns, "too many patterns"),
+    (DraftError::TooManyGroups, "too many groups"),
+    (
+        DraftError::States(BuildError::Empty),
+        "the states were refused: there is no state",
+    ),
+];
+
 #[test]
-fn errors_are_told(rt: HostRuntime) -> Result<(), Fail> {
-    for &(error, want) in &[
-        (DraftError::Memory, "out of memory"),
-        (
-            DraftError::ReversedBytes { start: 9, end: 8 },
-            "the range of bytes from 9 to 8 ends before it starts",
-        ),
-        (
-            DraftError::ReversedChars {
-                start: 'b',
-                end: 'a',
-            },
-            "the range of characters from 'b' to 'a' ends before it starts",
-        ),
-        (
-            DraftError::ReversedCounts { min: 3, max: 2 },
-            "a repetition of at least 3 and at most 2",
-        ),
-        (
-            DraftError::RepeatedName {
-                pattern: 1,
-                group: 2,
-            },
-            "group 2 of pattern 1 has the name of an earlier group",
-        ),
-        (DraftError::TooManyStates, "too many states"),
-        (DraftError::TooManyPatterns, "too many patterns"),
-        (DraftError::TooManyGroups, "too many groups"),
-        (
-            DraftError::States(BuildError::Empty),
-            "the states were refused: there is no state",
-        ),
-    ] {
-        assert_eq!(rt; format!(in rt.alloc(); "{error}")?.as_str(), want);
+fn errors_are_told(rt: HostRuntime) {
+    for (error, want) in TOLD {
+        expect_told(&rt, rt.alloc(), error, want);
     }
-    Ok(())
 }
 
 /// The bytes of a transition in hexadecimal.

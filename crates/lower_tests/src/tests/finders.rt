@@ -8,11 +8,10 @@ ghost use Rattle.nfa_engines.specs.Finders.{answer_by};
 ghost use Rattle.nfa_engines.specs.Lists.{AreAllFound};
 ghost use Rattle.nfa_engines.specs.Walks.{IsSurelyInside, fresh, half_span_of, span_of};
 
+use super::fixtures::{plain_groups, set_slots};
 use nfa_engines::error::SearchError;
 use nfa_engines::iter::Searcher;
-use regex_search_core::{
-    Captures, GroupInfo, HalfMatch, Input, Match, NonMaxUsize, PatternID, Span,
-};
+use regex_search_core::{Captures, HalfMatch, Input, Match, PatternID, Span};
 use std::alloc::{AllocError, Global};
 use std::process::Abort;
 use std::test::Fail;
@@ -136,17 +135,11 @@ fn captures_surely_collected(
 }
 
 // Captures of one pattern, whose slots are the bounds of the first byte.
-fn first_byte(alloc: Global) -> Result<Captures, Fail> {
-    let groups = GroupInfo::new(vec![in alloc; Vec::new(alloc)]?).ok_or("too many slots")?;
-    let mut captures = Captures::matches(alloc, groups)?;
-    mark_first_byte(captures.slots_mut());
-    Ok(captures)
-}
-
-fn mark_first_byte(slots: &mut [Option<NonMaxUsize>]) {
-    for (slot, offset) in slots.iter_mut().zip([0, 1].iter()) {
-        *slot = NonMaxUsize::new(*offset);
-    }
+fn first_byte(rt: &impl Abort, alloc: Global) -> Captures {
+    let groups = plain_groups(rt, alloc, 1);
+    let mut captures = Captures::matches(alloc, groups).expect(rt, "captures");
+    set_slots(captures.slots_mut(), 0, 1);
+    captures
 }
 
 // At each offset of two bytes, and behind them, there is one.
@@ -183,7 +176,7 @@ fn functions_are_finders_of_ends(rt: HostRuntime) -> Result<(), Fail> {
 #[test]
 fn functions_are_finders_of_captures(rt: HostRuntime) -> Result<(), Fail> {
     let alloc = rt.alloc();
-    let all = captures_collected(alloc, b"ab", first_byte(alloc)?)?;
+    let all = captures_collected(alloc, b"ab", first_byte(&rt, alloc))?;
     assert_eq!(rt; all.len(), 1);
     Ok(())
 }
@@ -191,7 +184,7 @@ fn functions_are_finders_of_captures(rt: HostRuntime) -> Result<(), Fail> {
 #[test]
 fn functions_that_never_err_are_finders_of_captures(rt: HostRuntime) -> Result<(), Fail> {
     let alloc = rt.alloc();
-    let all = captures_surely_collected(alloc, b"ab", first_byte(alloc)?)?;
+    let all = captures_surely_collected(alloc, b"ab", first_byte(&rt, alloc))?;
     assert_eq!(rt; all.len(), 1);
     Ok(())
 }

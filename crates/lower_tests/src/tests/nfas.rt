@@ -1,42 +1,19 @@
 //! Tests of NFAs: how they are made, refused and read.
-ghost use Rattle.std.specs.Prelude.{◌≡◌};
-ghost use Rattle.regex_search_core.specs.Patterns.{number_of};
-
-use super::shown::expect_shown;
-use regex_search_core::{GroupInfo, PatternID, StateID};
+use super::fixtures::{id, pattern, plain_groups};
+use super::shown::{expect_shown, expect_told};
 use std::alloc::{AllocError, Global};
 use std::process::Abort;
-use std::test::Fail;
 use thompson_nfa::{BuildError, Holder, Look, NFA, State, Transition, look_matches};
-
-fn id(rt: &impl Abort, number: usize) -> StateID
-    ensures { result ≡ number }
-{
-    StateID::new(number).expect(rt, "a state's number")
-}
-
-fn pattern(rt: &impl Abort, number: usize) -> PatternID
-    ensures { number_of result ≡ number }
-{
-    PatternID::new(number).expect(rt, "a pattern's number")
-}
-
-/// Groups of this many patterns, with no explicit groups.
-fn plain_groups(alloc: Global, patterns: usize) -> Result<GroupInfo, Fail> {
-    let mut names = Vec::new(alloc);
-    for _ in 0..patterns {
-        names.push(Vec::new(alloc))?;
-    }
-    Ok(GroupInfo::new(names).ok_or("too many slots")?)
-}
 
 /// An NFA with a state of each kind, of two patterns that start at 1 and 2 and have no explicit
 /// groups; searches start at 0 and 8.
-fn one_of_each(rt: &impl Abort, alloc: Global) -> Result<NFA, Fail> {
-    let patterns = vec![in alloc; id(rt, 1), id(rt, 2)]?;
-    let groups = plain_groups(alloc, 2)?;
-    let states = states_of_each_kind(rt, alloc)?;
-    Ok(NFA::from_states(states, id(rt, 0), id(rt, 8), patterns, groups, true, false)?)
+fn one_of_each(rt: &impl Abort, alloc: Global) -> NFA {
+    let patterns = vec![in alloc; id(rt, 1), id(rt, 2)].expect(rt, "memory");
+    let groups = plain_groups(rt, alloc, 2);
+    let states = states_of_each_kind(rt, alloc).expect(rt, "memory");
+    NFA::from_states(states, id(rt, 0), id(rt, 8), patterns, groups, true, false).expect(
+        rt, "an NFA",
+    )
 }
 
 fn states_of_each_kind(rt: &impl Abort, alloc: Global) -> Result<Vec<State>, AllocError> {
@@ -76,106 +53,100 @@ fn states_of_each_kind(rt: &impl Abort, alloc: Global) -> Result<Vec<State>, All
     ]?)
 }
 
+// An assertion, a haystack, and whether it holds at each offset and behind them.
+const HOLDS: &[(Look, &[u8], &[bool])] = &[
+    (Look::Start, b"ab", &[true, false, false]),
+    (Look::Start, b"", &[true]),
+    (Look::End, b"ab", &[false, false, true]),
+    (Look::End, b"", &[true]),
+    (Look::WordAscii, b"a ", &[true, true, false]),
+    (Look::WordAscii, b"9_", &[true, false, true]),
+    (Look::WordAscii, b"@[", &[false, false, false]),
+    (Look::WordAscii, b"`{", &[false, false, false]),
+    (Look::WordAscii, b"/:", &[false, false, false]),
+    (Look::WordAscii, b"\xC3\xA9", &[false, false, false]),
+    (Look::WordAsciiNegate, b"a ", &[false, false, true]),
+    (Look::WordAsciiNegate, b"\xC3\xA9", &[true, true, true]),
+    (Look::WordUnicode, b"a ", &[true, true, false]),
+    (Look::WordUnicode, b"9_", &[true, false, true]),
+    // "é", alone and before digits
+    (Look::WordUnicode, b"\xC3\xA9", &[true, false, true]),
+    (
+        Look::WordUnicode,
+        b"\xC3\xA9123",
+        &[true, false, false, false, false, true],
+    ),
+    // "é" cut short, and two continuation bytes
+    (Look::WordUnicode, b"a\xC3", &[true, true, false]),
+    (Look::WordUnicode, b"\xA9a", &[false, true, true]),
+    (Look::WordUnicode, b"\x80\x80", &[false, false, false]),
+    // the letter a in two bytes, which is not UTF-8
+    (Look::WordUnicode, b"\xC1\xA1", &[false, false, false]),
+    // a surrogate's three bytes, and four bytes past the last character, are no characters
+    (
+        Look::WordUnicode,
+        b"\xED\xA0\x80",
+        &[false, false, false, false],
+    ),
+    (
+        Look::WordUnicode,
+        b"\xF4\x90\x80\x80",
+        &[false, false, false, false, false],
+    ),
+    (Look::WordUnicode, b"\xE2\x98", &[false, false, false]),
+    (Look::WordUnicode, b"", &[false]),
+];
+
 #[test]
 fn assertions(rt: HostRuntime) {
-    let e_acute = "é123".as_bytes();
-    for &(look, haystack, places) in &[
-        (Look::Start, b"ab".as_slice(), [true, false, false]),
-        (Look::End, b"ab", [false, false, true]),
-        (Look::WordAscii, b"a ", [true, true, false]),
-        (Look::WordAscii, b"9_", [true, false, true]),
-        (Look::WordAscii, b"@[", [false, false, false]),
-        (Look::WordAscii, b"`{", [false, false, false]),
-        (Look::WordAscii, b"/:", [false, false, false]),
-        (Look::WordAscii, "é".as_bytes(), [false, false, false]),
-        (Look::WordAsciiNegate, b"a ", [false, false, true]),
-        (Look::WordAsciiNegate, "é".as_bytes(), [true, true, true]),
-        (Look::WordUnicode, b"a ", [true, true, false]),
-        (Look::WordUnicode, b"9_", [true, false, true]),
-        (Look::WordUnicode, "é".as_bytes(), [true, false, true]),
-        // "é" cut short, and two continuation bytes
-        (Look::WordUnicode, b"a\xC3", [true, true, false]),
-        (Look::WordUnicode, b"\xA9a", [false, true, true]),
-        (Look::WordUnicode, b"\x80\x80", [false, false, false]),
-        // the letter a in two bytes, which is not UTF-8
-        (Look::WordUnicode, b"\xC1\xA1", [false, false, false]),
-    ] {
-        for at in 0..3 {
-            assert_eq!(rt; haystack.len(), 2);
-            assert_eq!(rt;
-                look_matches(look, haystack, at),
-                places[at],
-                "{look:?} in {haystack:?} at {at}"
-            );
-        }
+    for (look, haystack, places) in HOLDS {
+        assert_eq!(rt; places.len().checked_sub(1), Some(haystack.len()));
+        expect_places(&rt, *look, haystack, places);
     }
-    for &(at, want) in &[
-        (0, true),
-        (1, false),
-        (2, false),
-        (3, false),
-        (4, false),
-        (5, true),
-    ] {
-        assert_eq!(rt; e_acute.len(), 5);
-        assert_eq!(rt;
-            look_matches(Look::WordUnicode, e_acute, at),
-            want,
-            "at {at}"
-        );
-    }
-    assert!(rt; look_matches(Look::Start, b"", 0) && look_matches(Look::End, b"", 0));
 }
+
+fn expect_places(rt: &impl Abort, look: Look, haystack: &[u8], places: &[bool]) {
+    for (at, want) in places.iter().enumerate() {
+        expect_holds(rt, look, haystack, at, *want);
+    }
+}
+
+fn expect_holds(rt: &impl Abort, look: Look, haystack: &[u8], at: usize, want: bool) {
+    assert!(rt; at <= haystack.len());
+    let holds = look_matches(look, haystack, at);
+    assert_eq!(rt; holds, want, "{look:?} in {haystack:?} at {at}");
+}
+
+// Whether a text begins and ends with a character of words.
+const WORDS: &[(&str, bool)] = &[
+    // a letter of four bytes, a mark, a decimal number, connector punctuation, the joiners
+    ("𐐷", true),
+    ("\u{0301}", true),
+    ("\u{20DD}", true),
+    ("٣", true),
+    ("‿", true),
+    ("\u{200C}", true),
+    ("\u{200D}", true),
+    // their neighbors, a number that is no decimal one, a symbol, a dash
+    ("\u{200B}", false),
+    ("\u{200E}", false),
+    ("½", false),
+    ("☃", false),
+    ("😀", false),
+    ("-", false),
+];
 
 #[test]
 fn word_characters(rt: HostRuntime) {
-    for &(text, is_word) in &[
-        // a letter of four bytes, a mark, a decimal number, connector punctuation, the joiners
-        ("𐐷", true),
-        ("\u{0301}", true),
-        ("\u{20DD}", true),
-        ("٣", true),
-        ("‿", true),
-        ("\u{200C}", true),
-        ("\u{200D}", true),
-        // their neighbors, a number that is no decimal one, a symbol, a dash
-        ("\u{200B}", false),
-        ("\u{200E}", false),
-        ("½", false),
-        ("☃", false),
-        ("😀", false),
-        ("-", false),
-    ] {
+    for (text, is_word) in WORDS {
         let bytes = text.as_bytes();
-        assert_eq!(rt;
-            look_matches(Look::WordUnicode, bytes, 0),
-            is_word,
-            "before {text}"
-        );
-        assert_eq!(rt;
-            look_matches(Look::WordUnicode, bytes, bytes.len()),
-            is_word,
-            "after {text}"
-        );
-    }
-    // A surrogate's three bytes, and four bytes past the last character, are no characters.
-    for &bytes in &[
-        b"\xED\xA0\x80".as_slice(),
-        b"\xF4\x90\x80\x80",
-        b"\xE2\x98",
-        b"",
-    ] {
-        for at in 0..=bytes.len() {
-            assert!(rt;
-                !look_matches(Look::WordUnicode, bytes, at),
-                "{bytes:?} at {at}"
-            );
-        }
+        expect_holds(&rt, Look::WordUnicode, bytes, 0, *is_word);
+        expect_holds(&rt, Look::WordUnicode, bytes, bytes.len(), *is_word);
     }
 }
 
 #[test]
-fn refusals(rt: HostRuntime) -> Result<(), Fail> {
+fn refusals(rt: HostRuntime) {
     let start = id(&rt, 0);
     let on_a = Transition {
         start: 0x61,
@@ -183,13 +154,13 @@ fn refusals(rt: HostRuntime) -> Result<(), Fail> {
         next: id(&rt, 1),
     };
     let holder = BuildError::State(Holder::State(0));
-    expect_refusal(&rt, rt.alloc(), State::ByteRange { trans: on_a }, 0, holder)?;
+    expect_refusal(&rt, rt.alloc(), State::ByteRange { trans: on_a }, 0, holder);
     let capture = State::Capture {
         next: start,
         slot: 0,
     };
     let slot = BuildError::Slot { state: 0, slot: 0 };
-    expect_refusal(&rt, rt.alloc(), capture, 0, slot)?;
+    expect_refusal(&rt, rt.alloc(), capture, 0, slot);
     let other = State::Match {
         pattern_id: pattern(&rt, 1),
     };
@@ -197,7 +168,7 @@ fn refusals(rt: HostRuntime) -> Result<(), Fail> {
         state: 0,
         pattern: 1,
     };
-    expect_refusal(&rt, rt.alloc(), other, 0, pattern_one)?;
+    expect_refusal(&rt, rt.alloc(), other, 0, pattern_one);
     let first = State::Match {
         pattern_id: pattern(&rt, 0),
     };
@@ -205,107 +176,94 @@ fn refusals(rt: HostRuntime) -> Result<(), Fail> {
         groups: 2,
         patterns: 1,
     };
-    expect_refusal(&rt, rt.alloc(), first, 2, groups)
+    expect_refusal(&rt, rt.alloc(), first, 2, groups);
 }
 
 #[test]
-fn no_state_is_refused(rt: HostRuntime) -> Result<(), Fail> {
-    let groups = plain_groups(rt.alloc(), 0)?;
-    expect_error(
-        &rt,
-        rt.alloc(),
-        Vec::new(rt.alloc()),
-        groups,
-        BuildError::Empty,
-    )
+fn no_state_is_refused(rt: HostRuntime) {
+    expect_error(&rt, rt.alloc(), Vec::new(rt.alloc()), 0, BuildError::Empty);
 }
 
 // An NFA of this state alone, with groups of so many patterns, is refused with this error.
-fn expect_refusal(
-    rt: &impl Abort,
-    alloc: Global,
-    state: State,
-    groups: usize,
-    want: BuildError,
-) -> Result<(), Fail> {
-    let states = vec![in alloc; state]?;
-    let groups = plain_groups(alloc, groups)?;
-    expect_error(rt, alloc, states, groups, want)
+fn expect_refusal(rt: &impl Abort, alloc: Global, state: State, groups: usize, want: BuildError) {
+    let states = vec![in alloc; state].expect(rt, "memory");
+    expect_error(rt, alloc, states, groups, want);
 }
 
 fn expect_error(
     rt: &impl Abort,
     alloc: Global,
     states: Vec<State>,
-    groups: GroupInfo,
+    groups: usize,
     want: BuildError,
-) -> Result<(), Fail> {
+) {
     let start = id(rt, 0);
-    let patterns = vec![in alloc; start]?;
+    let patterns = vec![in alloc; start].expect(rt, "memory");
+    let groups = plain_groups(rt, alloc, groups);
     let made = NFA::from_states(states, start, start, patterns, groups, false, false);
     assert_eq!(rt; made.err(), Some(want));
-    Ok(())
 }
 
+const TOLD: &[(BuildError, &str)] = &[
+    (BuildError::Memory, "out of memory"),
+    (BuildError::Empty, "there is no state"),
+    (
+        BuildError::State(Holder::Anchored),
+        "the anchored start leads to a state that is not there",
+    ),
+    (
+        BuildError::State(Holder::Unanchored),
+        "the unanchored start leads to a state that is not there",
+    ),
+    (
+        BuildError::State(Holder::Pattern(2)),
+        "the start of pattern 2 leads to a state that is not there",
+    ),
+    (
+        BuildError::State(Holder::State(7)),
+        "state 7 leads to a state that is not there",
+    ),
+    (
+        BuildError::Slot { state: 7, slot: 4 },
+        "state 7 writes slot 4, which no group has",
+    ),
+    (
+        BuildError::Pattern {
+            state: 7,
+            pattern: 1,
+        },
+        "state 7 matches pattern 1, which has no start",
+    ),
+    (
+        BuildError::Groups {
+            groups: 2,
+            patterns: 1,
+        },
+        "there are groups of 2 patterns, and 1 patterns",
+    ),
+];
+
 #[test]
-fn errors_are_told(rt: HostRuntime) -> Result<(), Fail> {
-    for &(error, want) in &[
-        (BuildError::Memory, "out of memory"),
-        (BuildError::Empty, "there is no state"),
-        (
-            BuildError::State(Holder::Anchored),
-            "the anchored start leads to a state that is not there",
-        ),
-        (
-            BuildError::State(Holder::Unanchored),
-            "the unanchored start leads to a state that is not there",
-        ),
-        (
-            BuildError::State(Holder::Pattern(2)),
-            "the start of pattern 2 leads to a state that is not there",
-        ),
-        (
-            BuildError::State(Holder::State(7)),
-            "state 7 leads to a state that is not there",
-        ),
-        (
-            BuildError::Slot { state: 7, slot: 4 },
-            "state 7 writes slot 4, which no group has",
-        ),
-        (
-            BuildError::Pattern {
-                state: 7,
-                pattern: 1,
-            },
-            "state 7 matches pattern 1, which has no start",
-        ),
-        (
-            BuildError::Groups {
-                groups: 2,
-                patterns: 1,
-            },
-            "there are groups of 2 patterns, and 1 patterns",
-        ),
-    ] {
-        assert_eq!(rt; format!(in rt.alloc(); "{error}")?.as_str(), want);
+fn errors_are_told(rt: HostRuntime) {
+    for (error, want) in TOLD {
+        expect_told(&rt, rt.alloc(), error, want);
     }
-    Ok(())
 }
 
 #[test]
-fn reads(rt: HostRuntime) -> Result<(), Fail> {
-    let made = one_of_each(&rt, rt.alloc())?;
-    expect_one_of_each(&rt, rt.alloc(), &made)?;
-    expect_one_of_each(&rt, rt.alloc(), &made.clone()?)
+fn reads(rt: HostRuntime) {
+    let made = one_of_each(&rt, rt.alloc());
+    expect_one_of_each(&rt, rt.alloc(), &made);
+    expect_one_of_each(&rt, rt.alloc(), &made.clone().expect(&rt, "memory"));
 }
 
-fn expect_one_of_each(rt: &impl Abort, alloc: Global, nfa: &NFA) -> Result<(), Fail> {
+fn expect_one_of_each(rt: &impl Abort, alloc: Global, nfa: &NFA) {
     expect_starts(rt, nfa);
     assert!(rt; nfa.has_empty() && !nfa.is_utf8());
     assert_eq!(rt; nfa.group_info().slot_len(), 4);
     let last = nfa.state(nfa.start_unanchored());
     let want = "BinaryUnion { alt1: StateID(0), alt2: StateID(5) }";
-    expect_shown(rt, alloc, last, want)
+    expect_shown(rt, alloc, last, want);
 }
 
 fn expect_starts(rt: &impl Abort, nfa: &NFA) {
@@ -320,28 +278,30 @@ fn expect_starts(rt: &impl Abort, nfa: &NFA) {
     assert_eq!(rt; nfa.start_pattern(pattern(rt, 2)), None);
 }
 
+const ALWAYS: &str = "[Capture { next: StateID(1), slot: 0 }, \
+    Capture { next: StateID(2), slot: 1 }, Match { pattern_id: PatternID { index: 0 } }]";
+
+const NEVER: &str =
+    "NFA { states: [Fail], anchored: StateID(0), unanchored: StateID(0), patterns: [], \
+    groups: GroupInfo { names: [], slot_len: 0 }, has_empty: false, utf8: false }";
+
 #[test]
-fn the_nfa_that_always_matches(rt: HostRuntime) -> Result<(), Fail> {
-    let always = NFA::always_match(rt.alloc())?;
-    let want = "[Capture { next: StateID(1), slot: 0 }, Capture { next: StateID(2), slot: 1 }, \
-        Match { pattern_id: PatternID { index: 0 } }]";
-    expect_shown(&rt, rt.alloc(), &always.states(), want)?;
+fn the_nfa_that_always_matches(rt: HostRuntime) {
+    let always = NFA::always_match(rt.alloc()).expect(&rt, "an NFA");
     expect_simple(&rt, &always, true, 1);
-    Ok(())
+    expect_shown(&rt, rt.alloc(), &always.states(), ALWAYS);
 }
 
 #[test]
-fn the_nfa_that_never_matches(rt: HostRuntime) -> Result<(), Fail> {
-    let never = NFA::never_match(rt.alloc())?;
-    expect_shown(&rt, rt.alloc(), &never.states(), "[Fail]")?;
+fn the_nfa_that_never_matches(rt: HostRuntime) {
+    let never = NFA::never_match(rt.alloc()).expect(&rt, "an NFA");
     expect_simple(&rt, &never, false, 0);
-    expect_shown(
-        &rt,
-        rt.alloc(),
-        &never,
-        "NFA { states: [Fail], anchored: StateID(0), unanchored: StateID(0), patterns: [], \
-        groups: GroupInfo { names: [], slot_len: 0 }, has_empty: false, utf8: false }",
-    )
+    expect_never(&rt, rt.alloc(), &never);
+}
+
+fn expect_never(rt: &impl Abort, alloc: Global, never: &NFA) {
+    expect_shown(rt, alloc, &never.states(), "[Fail]");
+    expect_shown(rt, alloc, never, NEVER);
 }
 
 // An NFA that is anchored and not in UTF-8 mode, with so many patterns of two slots, the first from state 0.
@@ -356,38 +316,44 @@ fn expect_simple(rt: &impl Abort, nfa: &NFA, has_empty: bool, patterns: usize) {
     assert_eq!(rt; nfa.start_pattern(pattern(rt, 0)), first);
 }
 
-#[test]
-fn debug_texts(rt: HostRuntime) -> Result<(), Fail> {
-    for &(look, want) in &[
-        (Look::Start, "Start"),
-        (Look::End, "End"),
-        (Look::WordAscii, "WordAscii"),
-        (Look::WordAsciiNegate, "WordAsciiNegate"),
-        (Look::WordUnicode, "WordUnicode"),
-    ] {
-        expect_shown(&rt, rt.alloc(), &look, want)?;
-    }
-    expect_shown(&rt, rt.alloc(), &BuildError::Empty, "Empty")
-}
+const LOOKS: &[(Look, &str)] = &[
+    (Look::Start, "Start"),
+    (Look::End, "End"),
+    (Look::WordAscii, "WordAscii"),
+    (Look::WordAsciiNegate, "WordAsciiNegate"),
+    (Look::WordUnicode, "WordUnicode"),
+];
 
 #[test]
-fn debug_texts_of_states(rt: HostRuntime) -> Result<(), Fail> {
-    let nfa = one_of_each(&rt, rt.alloc())?;
-    let states = [
-        "Union { alternates: [StateID(1), StateID(2)] }",
-        "ByteRange { trans: Transition { start: 97, end: 122, next: StateID(9) } }",
-        "Sparse([Transition { start: 97, end: 122, next: StateID(9) }])",
-        "Dense([None, Some(StateID(9))])",
-        "Look { look: Start, next: StateID(9) }",
-        "BinaryUnion { alt1: StateID(3), alt2: StateID(4) }",
-        "Capture { next: StateID(9), slot: 3 }",
-        "Fail",
-        "BinaryUnion { alt1: StateID(0), alt2: StateID(5) }",
-        "Match { pattern_id: PatternID { index: 1 } }",
-    ];
-    for (state, want) in nfa.states().iter().zip(states.iter()) {
-        expect_shown(&rt, rt.alloc(), state, want)?;
-        expect_shown(&rt, rt.alloc(), &state.clone()?, want)?;
+fn debug_texts(rt: HostRuntime) {
+    for (look, want) in LOOKS {
+        expect_shown(&rt, rt.alloc(), look, want);
     }
-    Ok(())
+    expect_shown(&rt, rt.alloc(), &BuildError::Empty, "Empty");
+}
+
+const STATES: &[&str] = &[
+    "Union { alternates: [StateID(1), StateID(2)] }",
+    "ByteRange { trans: Transition { start: 97, end: 122, next: StateID(9) } }",
+    "Sparse([Transition { start: 97, end: 122, next: StateID(9) }])",
+    "Dense([None, Some(StateID(9))])",
+    "Look { look: Start, next: StateID(9) }",
+    "BinaryUnion { alt1: StateID(3), alt2: StateID(4) }",
+    "Capture { next: StateID(9), slot: 3 }",
+    "Fail",
+    "BinaryUnion { alt1: StateID(0), alt2: StateID(5) }",
+    "Match { pattern_id: PatternID { index: 1 } }",
+];
+
+#[test]
+fn debug_texts_of_states(rt: HostRuntime) {
+    let nfa = one_of_each(&rt, rt.alloc());
+    expect_states(&rt, rt.alloc(), nfa.states());
+}
+
+fn expect_states(rt: &impl Abort, alloc: Global, states: &[State]) {
+    for (state, want) in states.iter().zip(STATES) {
+        expect_shown(rt, alloc, state, want);
+        expect_shown(rt, alloc, &state.clone().expect(rt, "memory"), want);
+    }
 }

@@ -1,9 +1,10 @@
 //! Tests of the tables of the samples.
+use super::fixtures::named;
+use super::shown::expect_text;
 use nfa_samples::sample;
 use regex_search_core::{PatternID, StateID};
 use std::alloc::{AllocError, Global};
 use std::process::Abort;
-use std::test::Fail;
 use thompson_nfa::{NFA, State, Transition};
 
 // A name, how many states there are, and the names of the explicit groups of each pattern.
@@ -173,17 +174,10 @@ const SHAPES: &[(&str, &str, &str)] = &[
 ];
 
 // The NFA has so many states, and its groups these names.
-fn expect_counts(
-    rt: &impl Abort,
-    alloc: Global,
-    nfa: &NFA,
-    count: usize,
-    groups: &str,
-) -> Result<(), AllocError> {
+fn expect_counts(rt: &impl Abort, alloc: Global, nfa: &NFA, count: usize, groups: &str) {
     assert_eq!(rt; nfa.states().len(), count, "{groups}");
-    let shown = format!(in alloc; "{:?}", nfa.group_info())?;
+    let shown = format!(in alloc; "{:?}", nfa.group_info()).expect(rt, "memory");
     expect_names(rt, &shown, groups);
-    Ok(())
 }
 
 fn expect_names(rt: &impl Abort, shown: &str, groups: &str) {
@@ -194,50 +188,53 @@ fn expect_names(rt: &impl Abort, shown: &str, groups: &str) {
 }
 
 #[test]
-fn each_name_has_so_many_states_and_these_groups(rt: HostRuntime) -> Result<(), Fail> {
+fn each_name_has_so_many_states_and_these_groups(rt: HostRuntime) {
     for &(name, count, groups) in STATE_COUNTS {
-        let nfa = sample(rt.alloc(), name)?.ok_or("unknown name")?;
-        expect_counts(&rt, rt.alloc(), &nfa, count, groups)?;
+        let nfa = named(&rt, rt.alloc(), name);
+        expect_counts(&rt, rt.alloc(), &nfa, count, groups);
     }
-    Ok(())
+}
+
+const UNKNOWN: &[&str] = &["", "nothing", "ABC", "abc ", "ab"];
+
+#[test]
+fn other_names_are_unknown(rt: HostRuntime) {
+    for &name in UNKNOWN {
+        let found = sample(rt.alloc(), name).expect(&rt, "memory");
+        assert!(rt; found.is_none(), "{name}");
+    }
 }
 
 #[test]
-fn other_names_are_unknown(rt: HostRuntime) -> Result<(), Fail> {
-    for &name in &["", "nothing", "ABC", "abc ", "ab"] {
-        assert!(rt; sample(rt.alloc(), name)?.is_none(), "{name}");
-    }
-    Ok(())
-}
-
-#[test]
-fn each_name_has_these_states(rt: HostRuntime) -> Result<(), Fail> {
+fn each_name_has_these_states(rt: HostRuntime) {
     for &(name, head, states) in SHAPES {
-        let nfa = sample(rt.alloc(), name)?.ok_or("unknown name")?;
-        let shown = shown_head(rt.alloc(), &nfa)?;
-        expect_text(&rt, &shown, head, name);
-        let shown = shown_states(rt.alloc(), nfa.states())?;
-        expect_text(&rt, &shown, states, name);
+        let nfa = named(&rt, rt.alloc(), name);
+        expect_shape(&rt, rt.alloc(), &nfa, name, head, states);
     }
-    Ok(())
 }
 
-fn expect_text(rt: &impl Abort, shown: &str, want: &str, name: &str) {
-    assert_eq!(rt; shown, want, "{name}");
+fn expect_shape(rt: &impl Abort, alloc: Global, nfa: &NFA, name: &str, head: &str, states: &str) {
+    let shown = shown_head(alloc, nfa).expect(rt, "memory");
+    expect_text(rt, name, &shown, head);
+    let shown = shown_states(alloc, nfa.states()).expect(rt, "memory");
+    expect_text(rt, name, &shown, states);
 }
 
 #[test]
-fn alnum100_is_a_chain(rt: HostRuntime) -> Result<(), Fail> {
+fn alnum100_is_a_chain(rt: HostRuntime) {
     let alloc = rt.alloc();
-    let nfa = sample(alloc, "alnum100")?.ok_or("unknown name")?;
-    assert_eq!(rt; shown_head(alloc, &nfa)?.as_str(), "0 103 [0] 2 utf8");
-    let mut want = String::from_str(alloc, "c0>1")?;
+    let nfa = named(&rt, alloc, "alnum100");
+    let want = chain(alloc).expect(&rt, "memory");
+    expect_shape(&rt, alloc, &nfa, "alnum100", "0 103 [0] 2 utf8", &want);
+}
+
+fn chain(alloc: Global) -> Result<String, AllocError> {
+    let mut text = String::from_str(alloc, "c0>1")?;
     for next in 2..102 {
-        write!(want, " 30-39>{next}|41-5A>{next}|61-7A>{next}")?;
+        write!(text, " 30-39>{next}|41-5A>{next}|61-7A>{next}")?;
     }
-    want.push_str(" c1>102 m0 e0|104 00-FF>103")?;
-    assert_eq!(rt; shown_states(alloc, nfa.states())?.as_str(), want.as_str());
-    Ok(())
+    text.push_str(" c1>102 m0 e0|104 00-FF>103")?;
+    Ok(text)
 }
 
 fn shown_head(alloc: Global, nfa: &NFA) -> Result<String, AllocError> {

@@ -1,22 +1,19 @@
 //! Tests of the values that every engine speaks of.
+mod texts;
+
 ghost use Rattle.std.specs.Prelude.{◌≡◌, ◌<◌, length, map, slice_set, Some, IfOk};
 ghost use Rattle.regex_search_core.specs.Patterns.{number_of};
 ghost use Rattle.regex_search_core.specs.PatternSets.{patterns_of};
 
-use super::shown::expect_shown;
+use super::fixtures::pattern;
+use super::shown::expect_number;
 use regex_search_core::{
-    Anchored, Captures, GroupInfo, HalfMatch, Input, Match, MatchError, MatchKind, NonMaxUsize,
-    PatternID, PatternSet, Refused, Span, StateID,
+    Anchored, Captures, GroupInfo, HalfMatch, Input, Match, MatchKind, NonMaxUsize, PatternID,
+    PatternSet, Span, StateID,
 };
 use std::alloc::{AllocError, Global};
 use std::process::Abort;
 use std::test::Fail;
-
-fn pattern(rt: &impl Abort, number: usize) -> PatternID
-    ensures { number_of result ≡ number }
-{
-    PatternID::new(number).expect(rt, "a pattern's number")
-}
 
 fn span(start: usize, end: usize) -> Span
     ensures { result ≡ record { start = start; end = end } }
@@ -25,13 +22,17 @@ fn span(start: usize, end: usize) -> Span
 }
 
 /// Two patterns: two explicit groups, the second named; and two of one name.
-fn two_patterns(alloc: Global) -> Result<GroupInfo, Fail> {
-    let first = vec![in alloc; None, Some(String::from_str(alloc, "numbers")?)]?;
-    let second = vec![in alloc;
-        Some(String::from_str(alloc, "a")?),
-        Some(String::from_str(alloc, "a")?),
-    ]?;
-    Ok(GroupInfo::new(vec![in alloc; first, second]?).ok_or("too many slots")?)
+fn two_patterns(rt: &impl Abort, alloc: Global) -> GroupInfo {
+    let first = vec![in alloc; None, Some(text(rt, alloc, "numbers"))].expect(rt, "memory");
+    let second = vec![in alloc; Some(text(rt, alloc, "a")), Some(text(rt, alloc, "a"))].expect(
+        rt, "memory",
+    );
+    let names = vec![in alloc; first, second].expect(rt, "memory");
+    GroupInfo::new(names).expect(rt, "groups")
+}
+
+fn text(rt: &impl Abort, alloc: Global, text: &str) -> String {
+    String::from_str(alloc, text).expect(rt, "memory")
 }
 
 /// Writes through the lent slots.
@@ -61,14 +62,17 @@ fn numbers(alloc: Global, set: &PatternSet) -> Result<Vec<usize>, AllocError>
     Ok(all)
 }
 
+// A number, and whether it is one of a pattern and of a state.
+const NUMBERS: &[(usize, bool)] = &[
+    (0, true),
+    (2147483646, true),
+    (2147483647, false),
+    (usize::MAX, false),
+];
+
 #[test]
 fn numbers_at_their_limits(rt: HostRuntime) {
-    for &(number, fits) in &[
-        (0, true),
-        (2147483646, true),
-        (2147483647, false),
-        (usize::MAX, false),
-    ] {
+    for &(number, fits) in NUMBERS {
         let want = if fits { Some(number) } else { None };
         assert_eq!(rt; PatternID::new(number).map(|p| p.as_usize()), want);
         assert_eq!(rt; StateID::new(number).map(|s| s.as_usize()), want);
@@ -106,51 +110,66 @@ fn inputs(rt: HostRuntime) {
     assert!(rt; !MatchKind::LeftmostFirst.continue_past_first_match());
 }
 
+// A haystack, and which offsets, those behind it among them, are boundaries of characters.
+const BOUNDARIES: &[(&[u8], &[bool])] = &[
+    (
+        b"a\xE2\x98\x83b",
+        &[true, true, false, false, true, true, false],
+    ),
+    (
+        b"\x00\x7F\x80\xBF\xC0\xFF",
+        &[true, true, false, false, true, true, true],
+    ),
+];
+
 #[test]
 fn boundaries(rt: HostRuntime) {
-    let input = Input::new("a☃b".as_bytes());
-    for &(offset, want) in &[
-        (0, true),
-        (1, true),
-        (2, false),
-        (3, false),
-        (4, true),
-        (5, true),
-        (6, false),
-    ] {
-        assert_eq!(rt; input.is_char_boundary(offset), want, "at {offset}");
-    }
-    let input = Input::new(b"\x00\x7F\x80\xBF\xC0\xFF");
-    for &(offset, want) in &[
-        (0, true),
-        (1, true),
-        (2, false),
-        (3, false),
-        (4, true),
-        (5, true),
-        (6, true),
-    ] {
-        assert_eq!(rt; input.is_char_boundary(offset), want, "at {offset}");
+    for (haystack, wants) in BOUNDARIES {
+        expect_boundaries(&rt, &Input::new(haystack), wants);
     }
 }
 
+fn expect_boundaries(rt: &impl Abort, input: &Input<'_>, wants: &[bool]) {
+    for (offset, want) in wants.iter().enumerate() {
+        assert_eq!(rt; input.is_char_boundary(offset), *want, "at {offset}");
+    }
+}
+
+// The slots of four patterns; usize::MAX stands for one that is not set.
+const SLOTS: [usize; 8] = [1, 3, 4, usize::MAX, 6, 5, 2, 2];
+
+// Of each pattern the ends of its match.
+const SLOT_ENDS: &[(usize, Option<(usize, usize)>)] = &[
+    (0, Some((1, 3))),
+    (1, None),
+    (2, None),
+    (3, Some((2, 2))),
+    (4, None),
+    (2147483646, None),
+];
+
 #[test]
 fn matches_of_slots(rt: HostRuntime) {
-    let at = |offset| NonMaxUsize::new(offset);
-    let row = [at(1), at(3), at(4), None, at(6), at(5), at(2), at(2)];
-    for &(number, want) in &[
-        (0, Some(span(1, 3))),
-        (1, None),
-        (2, None),
-        (3, Some(span(2, 2))),
-        (4, None),
-        (2147483646, None),
-    ] {
-        let found = Match::from_slots(pattern(&rt, number), &row);
-        assert_eq!(rt; found.map(|m| m.span()), want, "of {number}");
+    let row = SLOTS.map(|offset| NonMaxUsize::new(offset));
+    for &(number, want) in SLOT_ENDS {
+        expect_slots(&rt, number, &row, want);
     }
-    assert_eq!(rt; Match::from_slots(pattern(&rt, 0), &row[..1]), None);
+    expect_slots(&rt, 0, &row[..1], None);
+}
 
+fn expect_slots(
+    rt: &impl Abort,
+    number: usize,
+    slots: &[Option<NonMaxUsize>],
+    want: Option<(usize, usize)>,
+) {
+    let found = Match::from_slots(pattern(rt, number), slots);
+    let ends = found.map(|found| (found.start(), found.end()));
+    assert_eq!(rt; ends, want, "of {number}");
+}
+
+#[test]
+fn matches_have_their_parts(rt: HostRuntime) {
     let found = Match::new(pattern(&rt, 5), span(2, 4));
     assert_eq!(rt; found.pattern(), pattern(&rt, 5));
     assert_eq!(rt;
@@ -162,85 +181,115 @@ fn matches_of_slots(rt: HostRuntime) {
     assert_eq!(rt; (half.pattern(), half.offset()), (pattern(&rt, 5), 4));
 }
 
+// A pattern, and what its insertion tells.
+const INSERTED: &[(usize, Option<bool>)] = &[
+    (2, Some(true)),
+    (0, Some(true)),
+    (2, Some(false)),
+    (3, None),
+];
+
 #[test]
-fn sets(rt: HostRuntime) -> Result<(), Fail> {
+fn sets(rt: HostRuntime) {
     let alloc = rt.alloc();
-    let mut set = PatternSet::new(alloc, 3)?;
-    assert!(rt; set.is_empty() && !set.is_full());
-    for &(number, want) in &[
-        (2, Some(true)),
-        (0, Some(true)),
-        (2, Some(false)),
-        (3, None),
-    ] {
-        assert_eq!(rt; set.try_insert(pattern(&rt, number)), want, "{number}");
-    }
-    assert_eq!(rt; (set.len(), set.capacity()), (2, 3));
-    assert!(rt; set.contains(pattern(&rt, 2)) && !set.contains(pattern(&rt, 1)));
-    assert!(rt; !set.contains(pattern(&rt, 3)));
-    assert_eq!(rt; numbers(alloc, &set)?.as_slice(), [0, 2].as_slice());
-    assert_eq!(rt;
-        patterns(alloc, &set)?.as_slice(),
-        [pattern(&rt, 0), pattern(&rt, 2)].as_slice()
-    );
-    assert_eq!(rt; set.try_insert(pattern(&rt, 1)), Some(true));
-    assert!(rt; set.is_full() && !set.is_empty());
-    assert_eq!(rt; numbers(alloc, &set)?.as_slice(), [0, 1, 2].as_slice());
-    assert!(rt; PatternSet::new(alloc, 0)?.is_full());
-    Ok(())
+    let mut set = PatternSet::new(alloc, 3).expect(&rt, "memory");
+    expect_insertions(&rt, &mut set);
+    expect_members(&rt, alloc, &set, &[0, 2]);
+    expect_last_insertion(&rt, &mut set);
+    expect_members(&rt, alloc, &set, &[0, 1, 2]);
 }
 
 #[test]
-fn groups(rt: HostRuntime) -> Result<(), Fail> {
-    let made = two_patterns(rt.alloc())?;
-    expect_two_patterns(&rt, &made);
-    expect_two_patterns(&rt, &made.clone()?);
-    Ok(())
+fn a_set_of_no_patterns_is_full(rt: HostRuntime) {
+    let set = PatternSet::new(rt.alloc(), 0).expect(&rt, "memory");
+    assert!(rt; set.is_full());
 }
+
+fn expect_last_insertion(rt: &impl Abort, set: &mut PatternSet) {
+    assert_eq!(rt; set.try_insert(pattern(rt, 1)), Some(true));
+    assert!(rt; set.is_full() && !set.is_empty());
+}
+
+fn expect_insertions(rt: &impl Abort, set: &mut PatternSet) {
+    assert!(rt; set.is_empty() && !set.is_full());
+    for &(number, want) in INSERTED {
+        assert_eq!(rt; set.try_insert(pattern(rt, number)), want, "{number}");
+    }
+    assert_eq!(rt; (set.len(), set.capacity()), (2, 3));
+    assert!(rt; set.contains(pattern(rt, 2)) && !set.contains(pattern(rt, 1)));
+    assert!(rt; !set.contains(pattern(rt, 3)));
+}
+
+// The set has these patterns, by `for` and by `collect`.
+fn expect_members(rt: &impl Abort, alloc: Global, set: &PatternSet, want: &[usize]) {
+    expect_numbers(rt, &numbers(alloc, set).expect(rt, "memory"), want);
+    expect_patterns(rt, &patterns(alloc, set).expect(rt, "memory"), want);
+}
+
+fn expect_numbers(rt: &impl Abort, found: &[usize], want: &[usize]) {
+    assert_eq!(rt; found, want);
+}
+
+fn expect_patterns(rt: &impl Abort, found: &[PatternID], want: &[usize]) {
+    expect_number(rt, found.len(), want.len());
+    for (found, want) in found.iter().zip(want) {
+        expect_number(rt, found.as_usize(), *want);
+    }
+}
+
+#[test]
+fn groups(rt: HostRuntime) {
+    let made = two_patterns(&rt, rt.alloc());
+    expect_two_patterns(&rt, &made);
+    expect_two_patterns(&rt, &made.clone().expect(&rt, "memory"));
+}
+
+// A pattern, a group, and the slot of its start.
+const GROUP_SLOTS: &[(usize, usize, Option<usize>)] = &[
+    (0, 0, Some(0)),
+    (1, 0, Some(2)),
+    (0, 1, Some(4)),
+    (0, 2, Some(6)),
+    (1, 1, Some(8)),
+    (1, 2, Some(10)),
+    (0, 3, None),
+    (1, usize::MAX, None),
+    (2, 0, None),
+];
+
+// A pattern, a name, and the group that has it.
+const NAMED: &[(usize, &str, Option<usize>)] = &[
+    (0, "numbers", Some(2)),
+    (1, "a", Some(1)),
+    (0, "a", None),
+    (0, "number", None),
+    (2, "a", None),
+];
 
 fn expect_two_patterns(rt: &impl Abort, groups: &GroupInfo) {
     assert_eq!(rt; groups.pattern_len(), 2);
     assert_eq!(rt; groups.implicit_slot_len(), 4);
     assert_eq!(rt; groups.slot_len(), 12);
-    for &(number, group, want) in &[
-        (0, 0, Some(0)),
-        (1, 0, Some(2)),
-        (0, 1, Some(4)),
-        (0, 2, Some(6)),
-        (1, 1, Some(8)),
-        (1, 2, Some(10)),
-        (0, 3, None),
-        (1, usize::MAX, None),
-        (2, 0, None),
-    ] {
-        assert_eq!(rt;
-            groups.slot(pattern(rt, number), group),
-            want,
-            "{number}, {group}"
-        );
+    for &(number, group, want) in GROUP_SLOTS {
+        let slot = groups.slot(pattern(rt, number), group);
+        assert_eq!(rt; slot, want, "{number}, {group}");
     }
-    for &(number, name, want) in &[
-        (0, "numbers", Some(2)),
-        (1, "a", Some(1)),
-        (0, "a", None),
-        (0, "number", None),
-        (2, "a", None),
-    ] {
-        assert_eq!(rt;
-            groups.to_index(pattern(rt, number), name),
-            want,
-            "{number}, {name}"
-        );
+    for &(number, name, want) in NAMED {
+        let group = groups.to_index(pattern(rt, number), name);
+        assert_eq!(rt; group, want, "{number}, {name}");
     }
 }
 
 #[test]
 fn captures_have_their_slots(rt: HostRuntime) -> Result<(), Fail> {
-    let alloc = rt.alloc();
-    let groups = two_patterns(alloc)?;
+    let groups = two_patterns(&rt, rt.alloc());
+    expect_slot_lens(&rt, rt.alloc(), &groups)
+}
+
+fn expect_slot_lens(rt: &impl Abort, alloc: Global, groups: &GroupInfo) -> Result<(), Fail> {
     assert_eq!(rt; Captures::matches(alloc, groups.clone()?)?.slots().len(), 4);
     assert_eq!(rt; Captures::empty(alloc, groups.clone()?)?.slots().len(), 0);
-    expect_blank(&rt, &Captures::all(alloc, groups)?);
+    expect_blank(rt, &Captures::all(alloc, groups.clone()?)?);
     Ok(())
 }
 
@@ -253,19 +302,20 @@ fn expect_blank(rt: &impl Abort, captures: &Captures) {
 }
 
 #[test]
-fn captures_tell_what_was_written(rt: HostRuntime) -> Result<(), Fail> {
-    let groups = two_patterns(rt.alloc())?;
-    let mut captures = Captures::all(rt.alloc(), groups)?;
+fn captures_tell_what_was_written(rt: HostRuntime) {
+    let groups = two_patterns(&rt, rt.alloc());
+    let mut captures = Captures::all(rt.alloc(), groups).expect(&rt, "memory");
     write_match(&rt, &mut captures);
-    expect_match(&rt, &mut captures.clone()?);
+    expect_match(&rt, &mut captures.clone().expect(&rt, "memory"));
     expect_match(&rt, &mut captures);
-    Ok(())
 }
+
+const WRITTEN: &[(usize, usize)] = &[(0, 1), (1, 8), (6, 2), (7, 4)];
 
 // A match of the first pattern from 1 to 8, with its second group from 2 to 4.
 fn write_match(rt: &impl Abort, captures: &mut Captures) {
     captures.set_pattern(Some(pattern(rt, 0)));
-    for &(slot, offset) in &[(0, 1), (1, 8), (6, 2), (7, 4)] {
+    for &(slot, offset) in WRITTEN {
         let slots = captures.slots_mut();
         assert!(rt; slot < slots.len());
         slots[slot] = NonMaxUsize::new(offset);
@@ -295,114 +345,4 @@ fn expect_groups(rt: &impl Abort, captures: &Captures) {
     assert_eq!(rt; captures.get_group(2), Some(span(2, 4)));
     assert_eq!(rt; captures.get_group_by_name("numbers"), Some(span(2, 4)));
     assert_eq!(rt; captures.get_group_by_name("a"), None);
-}
-
-#[test]
-fn debug_texts_of_numbers(rt: HostRuntime) -> Result<(), Fail> {
-    let alloc = rt.alloc();
-    expect_shown(&rt, alloc, &pattern(&rt, 1), "PatternID { index: 1 }")?;
-    expect_shown(&rt, alloc, &StateID::new(2), "Some(StateID(2))")?;
-    expect_shown(&rt, alloc, &NonMaxUsize::new(3), "Some(NonMaxUsize(3))")?;
-    expect_shown(&rt, alloc, &Refused, "Refused")?;
-    expect_shown(&rt, alloc, &MatchKind::LeftmostFirst, "LeftmostFirst")?;
-    let quit = MatchError::Quit {
-        byte: 255,
-        offset: 4,
-    };
-    expect_shown(&rt, alloc, &quit, "Quit { byte: 255, offset: 4 }")?;
-    Ok(())
-}
-
-#[test]
-fn debug_texts_of_searches(rt: HostRuntime) -> Result<(), Fail> {
-    let alloc = rt.alloc();
-    let one = pattern(&rt, 1);
-    expect_shown(
-        &rt,
-        alloc,
-        &Input::new(b"a").anchored(Anchored::Pattern(one)),
-        "Input { haystack: [97], span: Span { start: 0, end: 1 }, \
-        anchored: Pattern(PatternID { index: 1 }), earliest: false }",
-    )?;
-    expect_shown(
-        &rt,
-        alloc,
-        &HalfMatch::new(one, 4),
-        "HalfMatch { pattern: PatternID { index: 1 }, offset: 4 }",
-    )?;
-    expect_shown(
-        &rt,
-        alloc,
-        &Match::new(one, span(2, 4)),
-        "Match { pattern: PatternID { index: 1 }, span: Span { start: 2, end: 4 } }",
-    )?;
-    Ok(())
-}
-
-#[test]
-fn debug_texts_of_sets(rt: HostRuntime) -> Result<(), Fail> {
-    let alloc = rt.alloc();
-    let mut set = PatternSet::new(alloc, 1)?;
-    set.try_insert(pattern(&rt, 0));
-    expect_shown(&rt, alloc, &set, "PatternSet { which: [true], len: 1 }")?;
-    expect_shown(
-        &rt,
-        alloc,
-        &set.iter(),
-        "PatternSetIter { which: [true], next: 0 }",
-    )?;
-    Ok(())
-}
-
-#[test]
-fn debug_texts_of_groups(rt: HostRuntime) -> Result<(), Fail> {
-    let alloc = rt.alloc();
-    let names = vec![in alloc; Some(String::from_str(alloc, "n")?)]?;
-    let groups = GroupInfo::new(vec![in alloc; names]?).ok_or("too many slots")?;
-    expect_shown(
-        &rt,
-        alloc,
-        &groups,
-        "GroupInfo { names: [[Some(\"n\")]], slot_len: 4 }",
-    )?;
-    expect_shown(
-        &rt,
-        alloc,
-        &Captures::matches(alloc, groups)?,
-        "Captures { group_info: GroupInfo { names: [[Some(\"n\")]], slot_len: 4 }, pattern: None, \
-        slots: [None, None] }",
-    )?;
-    Ok(())
-}
-
-#[test]
-fn errors_are_told(rt: HostRuntime) -> Result<(), Fail> {
-    let alloc = rt.alloc();
-    assert_eq!(rt; format!(in alloc; "{Refused}")?.as_str(), "out of memory");
-    for &(error, want) in &[
-        (
-            MatchError::Quit {
-                byte: 255,
-                offset: 4,
-            },
-            "the search may not go on at the byte 255 at offset 4",
-        ),
-        (
-            MatchError::GaveUp { offset: 7 },
-            "the search gave up at offset 7",
-        ),
-        (
-            MatchError::HaystackTooLong { len: 32 },
-            "the haystack of 32 bytes is too long to search",
-        ),
-        (
-            MatchError::UnsupportedAnchored {
-                mode: Anchored::Yes,
-            },
-            "the search does not offer matches that are bound by Yes",
-        ),
-    ] {
-        assert_eq!(rt; format!(in alloc; "{error}")?.as_str(), want);
-    }
-    Ok(())
 }

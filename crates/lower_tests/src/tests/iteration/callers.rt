@@ -12,12 +12,15 @@ ghost use Rattle.nfa_search_base.specs.Searchers.{walk_of};
 ghost use Rattle.nfa_search_base.specs.StoredRuns.{MayAnswer, MayAnswerRow};
 ghost use Rattle.nfa_search_base.specs.Walks.{AnswerIsInside, IsSurelyInside, fresh, half_span_of, span_of};
 
+use crate::tests::fixtures::{plain_groups, set_slots};
+use crate::tests::shown::expect_shown;
 use nfa_search_base::error::SearchError;
 use nfa_search_base::iter::Searcher;
 use regex_search_core::{
-    Captures, GroupInfo, HalfMatch, Input, Match, MatchError, NonMaxUsize, PatternID, Span,
+    Captures, HalfMatch, Input, Match, MatchError, NonMaxUsize, PatternID, Span,
 };
 use std::alloc::{AllocError, Global};
+use std::process::Abort;
 use std::test::Fail;
 
 // An empty match of the first pattern at the start of the span.
@@ -220,18 +223,18 @@ fn outcome(item: Option<Result<Captures, SearchError>>) -> &'static str {
 }
 
 // What five calls give.
-fn outcomes(alloc: Global, captures: Captures) -> Result<String, AllocError> {
+fn outcomes(rt: &impl Abort, alloc: Global, captures: Captures) -> String {
     let searcher = Searcher::new(Input::new(b"ab"));
     let mut items = searcher.into_captures_iter(captures, captured_or_error);
     let mut text = String::new(alloc);
     for _ in 0..5 {
-        text.push_str(outcome(items.next()))?;
+        text.push_str(outcome(items.next())).expect(rt, "memory");
     }
-    Ok(text)
+    text
 }
 
 // What five calls give of the first byte alone, up to an error where a span starts at `fails`.
-fn outcomes_of_byte(alloc: Global, captures: Captures, fails: usize) -> Result<String, AllocError> {
+fn outcomes_of_byte(rt: &impl Abort, alloc: Global, captures: Captures, fails: usize) -> String {
     let searcher = Searcher::new(Input::new(b"ab"));
     let mut items = searcher.into_captures_iter(
         captures,
@@ -239,9 +242,9 @@ fn outcomes_of_byte(alloc: Global, captures: Captures, fails: usize) -> Result<S
     );
     let mut text = String::new(alloc);
     for _ in 0..5 {
-        text.push_str(outcome(items.next()))?;
+        text.push_str(outcome(items.next())).expect(rt, "memory");
     }
-    Ok(text)
+    text
 }
 
 // All items of an iterator over captures: the greedy list of that finder, up to a refusal.
@@ -261,11 +264,9 @@ fn collected_captures(
 }
 
 #[test]
-fn an_error_ends_captures(rt: HostRuntime) -> Result<(), Fail> {
-    let alloc = rt.alloc();
-    let text = outcomes(alloc, no_captures(alloc)?)?;
+fn an_error_ends_captures(rt: HostRuntime) {
+    let text = outcomes(&rt, rt.alloc(), no_captures(&rt, rt.alloc()));
     assert_eq!(rt; text.as_str(), "match, error, none, none, none, ");
-    Ok(())
 }
 
 // Where a span starts that no search answers, and what five calls give: the error of the first call, of the second
@@ -277,13 +278,12 @@ const ERRORS: &[(usize, &str)] = &[
 ];
 
 #[test]
-fn an_error_of_each_call_ends_captures(rt: HostRuntime) -> Result<(), Fail> {
-    let alloc = rt.alloc();
+fn an_error_of_each_call_ends_captures(rt: HostRuntime) {
     for &(fails, want) in ERRORS {
-        let text = outcomes_of_byte(alloc, captures_at(alloc, 0, 1)?, fails)?;
+        let captures = captures_at(&rt, rt.alloc(), 0, 1);
+        let text = outcomes_of_byte(&rt, rt.alloc(), captures, fails);
         assert_eq!(rt; text.as_str(), want);
     }
-    Ok(())
 }
 
 const TRIES: &str = concat!(
@@ -292,52 +292,46 @@ const TRIES: &str = concat!(
     "{ names: [[]], slot_len: 2 }, pattern: None, slots: [None, None] }, done: false, .. }"
 );
 
+const TRIES_OF_SURE: &str = concat!(
+    "CapturesIter { tries: TryCapturesIter { searcher: Searcher { input: Input { haystack: [97], ",
+    "span: Span { start: 0, end: 1 }, anchored: No, earliest: false }, last_match_end: None }, ",
+    "captures: Captures { group_info: GroupInfo { names: [[]], slot_len: 2 }, pattern: None, ",
+    "slots: [None, None] }, done: false, .. } }"
+);
+
 // How an iterator over captures is shown.
-fn shown(alloc: Global, captures: Captures) -> Result<String, AllocError> {
+fn expect_tries(rt: &impl Abort, alloc: Global, captures: Captures) {
     let items = Searcher::new(Input::new(b"a")).into_captures_iter(captures, captured_or_error);
-    format!(in alloc; "{items:?}")
+    expect_shown(rt, alloc, &items, TRIES);
 }
 
-// How one is shown whose finder never errs, and how many items it gives.
-fn shown_sure(alloc: Global, captures: Captures) -> Result<(String, usize), AllocError> {
+// How one is shown whose finder never errs, and that it gives no item.
+fn expect_sure(rt: &impl Abort, alloc: Global, captures: Captures) {
     let items = Searcher::new(Input::new(b"a")).into_captures_iter(captures, |input, captures| {
         captures.set_pattern(None);
         Ok(())
     });
     let items = items.infallible();
-    let text = format!(in alloc; "{items:?}")?;
-    Ok((text, items.count()))
+    expect_shown(rt, alloc, &items, TRIES_OF_SURE);
+    assert_eq!(rt; items.count(), 0);
 }
 
-fn no_captures(alloc: Global) -> Result<Captures, Fail> {
-    let mut names = Vec::new(alloc);
-    names.push(Vec::new(alloc))?;
-    let groups = GroupInfo::new(names).ok_or("too many slots")?;
-    Ok(Captures::matches(alloc, groups)?)
+fn no_captures(rt: &impl Abort, alloc: Global) -> Captures {
+    Captures::matches(alloc, plain_groups(rt, alloc, 1)).expect(rt, "captures")
 }
 
 // Captures of one pattern without a match, whose slots are these two.
-fn captures_at(alloc: Global, start: usize, end: usize) -> Result<Captures, Fail> {
-    let mut captures = no_captures(alloc)?;
-    set_slots(&mut captures, start, end);
-    Ok(captures)
-}
-
-fn set_slots(captures: &mut Captures, start: usize, end: usize) {
-    for (slot, offset) in captures.slots_mut().iter_mut().zip([start, end].iter()) {
-        *slot = NonMaxUsize::new(*offset);
-    }
+fn captures_at(rt: &impl Abort, alloc: Global, start: usize, end: usize) -> Captures {
+    let mut captures = no_captures(rt, alloc);
+    set_slots(captures.slots_mut(), start, end);
+    captures
 }
 
 #[test]
-fn captures_come(rt: HostRuntime) -> Result<(), Fail> {
+fn captures_come(rt: HostRuntime) {
     let alloc = rt.alloc();
-    assert_eq!(rt; shown(alloc, no_captures(alloc)?)?.as_str(), TRIES);
-    let (text, count) = shown_sure(alloc, no_captures(alloc)?)?;
-    let want = format!(in alloc; "CapturesIter {{ tries: {TRIES} }}")?;
-    assert_eq!(rt; text.as_str(), want.as_str());
-    assert_eq!(rt; count, 0);
-    Ok(())
+    expect_tries(&rt, alloc, no_captures(&rt, alloc));
+    expect_sure(&rt, alloc, no_captures(&rt, alloc));
 }
 
 #[test]
@@ -365,7 +359,7 @@ fn are_zeros(captures: &Captures) -> bool
 #[test]
 fn a_list_of_captures_is_collected(rt: HostRuntime) -> Result<(), Fail> {
     let alloc = rt.alloc();
-    let captures = captures_at(alloc, 0, 0)?;
+    let captures = captures_at(&rt, alloc, 0, 0);
     assert!(rt; are_zeros(&captures));
     assert_eq!(rt; collected_captures(alloc, b"ab", captures)?.len(), 1);
     Ok(())
@@ -377,14 +371,14 @@ fn captures_that_a_finder_leaves_are_collected(rt: HostRuntime) -> Result<(), Fa
     let some = captures_collected_by(
         alloc,
         Searcher::new(Input::new(b"ab")),
-        captures_at(alloc, 0, 1)?,
+        captures_at(&rt, alloc, 0, 1),
         |input, captures| captured_or_fails(input, captures, 1),
     )?;
     assert_eq!(rt; some.len(), 2);
     let all = captures_surely_collected_by(
         alloc,
         Searcher::new(Input::new(b"ab")),
-        no_captures(alloc)?,
+        no_captures(&rt, alloc),
         |input, captures| {
             captures.set_pattern(None);
             Ok(())

@@ -1,32 +1,16 @@
 //! Tests of the texts of errors.
+use crate::tests::shown::expect_told;
 use nfa_search_base::error::SearchError;
 use regex_search_core::MatchError;
-use std::alloc::Global;
-use std::process::Abort;
-use std::test::Fail;
-
-fn expect_text(rt: &impl Abort, alloc: Global, error: SearchError, want: &str) -> Result<(), Fail> {
-    let text = format!(in alloc; "{error}")?;
-    assert_eq!(rt; text.as_str(), want);
-    Ok(())
-}
 
 #[test]
-fn errors_are_told(rt: HostRuntime) -> Result<(), Fail> {
+fn errors_are_told(rt: HostRuntime) {
     let alloc = rt.alloc();
     let too_long = SearchError::HaystackTooLong { len: 32 };
-    expect_text(
-        &rt,
-        alloc,
-        too_long,
-        "the span of 32 bytes is too long to search",
-    )?;
-    expect_text(&rt, alloc, SearchError::Memory, "out of memory")?;
+    let want = "the span of 32 bytes is too long to search";
+    expect_told(&rt, alloc, &too_long, want);
+    expect_told(&rt, alloc, &SearchError::Memory, "out of memory");
     let gave_up = SearchError::Finder(MatchError::GaveUp { offset: 7 });
-    expect_text(
-        &rt,
-        alloc,
-        gave_up,
-        "the finder failed: the search gave up at offset 7",
-    )
+    let want = "the finder failed: the search gave up at offset 7";
+    expect_told(&rt, alloc, &gave_up, want);
 }

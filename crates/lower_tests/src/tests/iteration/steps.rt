@@ -6,6 +6,7 @@ ghost use Rattle.nfa_search_base.specs.Finders.{answer_by, match_place, half_pla
 ghost use Rattle.nfa_search_base.specs.Walks.{IsSurelyInside, LiesIn, half_span_of, span_of};
 
 use super::callers::{collected_by, halves_collected_by, surely_collected_by};
+use crate::tests::shown::expect_shown;
 use nfa_search_base::error::SearchError;
 use nfa_search_base::iter::{Offered, Searcher};
 use regex_search_core::{HalfMatch, Input, Match, MatchError, PatternID, Span};
@@ -386,21 +387,18 @@ fn matches_text(alloc: Global, searcher: Searcher<'_>) -> Result<String, AllocEr
     format!(in alloc; "{items:?}")
 }
 
+fn expect_start(rt: &impl Abort, text: &str, start: &str) {
+    assert!(rt; text.starts_with(start));
+}
+
 #[test]
-fn offers_and_texts(rt: HostRuntime) -> Result<(), Fail> {
+fn offers_and_texts(rt: HostRuntime) {
     let alloc = rt.alloc();
     let mut searcher = Searcher::new(Input::new(b"a"));
     expect_offers(&rt, &mut searcher);
-    let copy = searcher.clone()?;
-    assert_eq!(rt; format!(in alloc; "{copy:?}")?.as_str(), AFTER_OFFERS);
-    let text = matches_text(alloc, copy)?;
-    assert!(rt;
-        text.as_str()
-            .starts_with("TryMatchesIter { searcher: Searcher {")
-    );
-    assert_eq!(rt;
-        format!(in alloc; "{:?}", Offered::Again)?.as_str(),
-        "Again"
-    );
-    Ok(())
+    let copy = searcher.clone().expect(&rt, "memory");
+    expect_shown(&rt, alloc, &copy, AFTER_OFFERS);
+    let text = matches_text(alloc, copy).expect(&rt, "memory");
+    expect_start(&rt, &text, "TryMatchesIter { searcher: Searcher {");
+    expect_shown(&rt, alloc, &Offered::Again, "Again");
 }
