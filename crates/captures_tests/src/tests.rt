@@ -1,6 +1,6 @@
 //! Tests of searches that fill captures, and of the iterators over captures: lists, refusals, and callers that use what
-//! is promised of them. What is asserted in many places is asserted by one function: a check takes some seconds for each
-//! assertion, and less for a call.
+//! is promised of them. What is asserted in many places is asserted by one function: a check takes some seconds for
+//! each assertion, and less for a call.
 ghost use Rattle.nfa_pikevm.specs.Engines.{Fits};
 
 mod callers;

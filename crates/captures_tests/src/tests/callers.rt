@@ -198,18 +198,18 @@ pub(crate) fn looped_twice(
 // The captures of one text by both engines, which hold the same.
 pub(crate) fn looped_by_both(
     rt: &impl Abort,
-    vm: &PikeVM,
-    engine: &BoundedBacktracker,
+    engines: (&PikeVM, &BoundedBacktracker),
     alloc: Global,
     cache: &mut pikevm::Cache,
     other: &mut backtrack::Cache,
     text: &[u8],
 ) -> (Vec<Captures>, Vec<Captures>)
-    requires fits { Fits cache.old vm.now.nfa }
-    requires same { vm.now.nfa ≡ engine.now.nfa }
-    requires kind { kind_of vm.now ≡ LeftmostFirst }
+    requires fits { Fits cache.old engines.0.now.nfa }
+    requires same { engines.0.now.nfa ≡ engines.1.now.nfa }
+    requires kind { kind_of engines.0.now ≡ LeftmostFirst }
     ensures { map row_of result.0.items ≡ map row_of result.1.items }
 {
+    let (vm, engine) = engines;
     one_list_of_captures();
     let first = looped(rt, vm, alloc, cache, text);
     let second = tries_looped(rt, engine, alloc, other, text);

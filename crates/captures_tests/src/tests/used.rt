@@ -117,7 +117,7 @@ fn expect_both(rt: &impl Abort, alloc: Global, vm: &PikeVM, engine: &BoundedBack
 {
     let mut cache = threads(rt, alloc, vm);
     let mut other = engine.create_cache(alloc);
-    let (first, second) = looped_by_both(rt, vm, engine, alloc, &mut cache, &mut other, TEXT);
+    let (first, second) = looped_by_both(rt, (vm, engine), alloc, &mut cache, &mut other, TEXT);
     expect_spans(rt, &first, SPANS);
     expect_spans(rt, &second, SPANS);
 }

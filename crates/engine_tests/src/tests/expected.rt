@@ -1,5 +1,5 @@
-//! What both engines have to answer. What owns an engine only makes it and lends it to one of these. What is asserted in
-//! many places is asserted by one function: a check takes some seconds for each assertion, and less for a call.
+//! What both engines have to answer. What owns an engine only makes it and lends it to one of these. What is asserted
+//! in many places is asserted by one function: a check takes some seconds for each assertion, and less for a call.
 
 use regex_search_core::Input;
 use std::alloc::Global;
