@@ -5,6 +5,7 @@ mod choice;
 mod engines;
 mod iteration;
 mod makers;
+mod pikevms;
 mod searches;
 
 use std::alloc::Global;
@@ -56,6 +57,12 @@ impl Seen {
         self.refused = true;
         expect(is_refusal, "another error than the refusal")
     }
+
+    /// Notes an error in place of a value, which has to be a refusal: there is no value, so `false`.
+    pub fn is_refusal(&mut self, is_refusal: bool) -> Result<bool, Wrong> {
+        self.note(is_refusal)?;
+        Ok(false)
+    }
 }
 
 /// What is not as it has to be.
@@ -72,6 +79,12 @@ impl Wrong {
 /// What has to hold, and what is wrong where it does not.
 pub fn expect(holds: bool, wrong: &'static str) -> Result<(), Wrong> {
     if holds { Ok(()) } else { Err(Wrong(wrong)) }
+}
+
+/// `true` where it holds, and what is wrong where it does not. Where something is owned that is asked for, the answer is
+/// given at once, with no way out.
+pub fn is_right(holds: bool, wrong: &'static str) -> Result<bool, Wrong> {
+    if holds { Ok(true) } else { Err(Wrong(wrong)) }
 }
 
 // What the expression makes. Where that was refused memory, which is this error, it is made once more. It stands alone
@@ -98,8 +111,8 @@ pub fn run(alloc: Global, seen: &mut Seen) -> Result<(), Wrong> {
     searches::slots(alloc, seen)?;
     searches::matches(alloc, seen)?;
     searches::captures(alloc, seen)?;
-    searches::resets(alloc, seen)?;
-    searches::pikevms(alloc, seen)?;
+    pikevms::resets(alloc, seen)?;
+    pikevms::searches(alloc, seen)?;
     iteration::lists(alloc, seen)?;
     captures::lists(alloc, seen)?;
     makers::samples(alloc, seen)?;

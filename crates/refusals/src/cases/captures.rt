@@ -4,7 +4,7 @@ ghost use Rattle.regex_search_core.specs.Search.{search_of};
 ghost use Rattle.nfa_search_base.specs.Catching.{caught_by, row_span};
 ghost use Rattle.nfa_search_base.specs.Walks.{AnswerIsInside};
 
-use super::{Seen, Wrong, engines, expect, searches};
+use super::{Seen, Wrong, engines, expect, is_right, searches};
 use nfa_engines::backtrack::{self, BoundedBacktracker, TryCapturesMatches};
 use nfa_engines::error::SearchError;
 use nfa_engines::iter::Searcher;
@@ -28,8 +28,12 @@ fn tries(alloc: Global, seen: &mut Seen) -> Result<(), Wrong> {
 
 fn sure_lists(alloc: Global, seen: &mut Seen) -> Result<(), Wrong> {
     let vm = engines::pikevm(alloc, seen, "foo_num")?;
-    let mut cache = engines::threads(alloc, seen, &vm)?;
-    sure(alloc, seen, &vm, &mut cache)
+    sure_lists_of(alloc, seen, &vm)
+}
+
+fn sure_lists_of(alloc: Global, seen: &mut Seen, vm: &PikeVM) -> Result<(), Wrong> {
+    let mut cache = engines::threads(alloc, seen, vm)?;
+    sure(alloc, seen, vm, &mut cache)
 }
 
 const HAYSTACK: &[u8] = b"foo1 foo12 foo123";
@@ -53,14 +57,8 @@ fn is_item(
     want: &[usize; 4],
 ) -> Result<bool, Wrong> {
     match item {
-        Some(Ok(captures)) => {
-            expect(is_row(&captures, want), "the captures of an item")?;
-            Ok(true)
-        }
-        Some(Err(error)) => {
-            seen.note(error == SearchError::Memory)?;
-            Ok(false)
-        }
+        Some(Ok(captures)) => is_right(is_row(&captures, want), "the captures of an item"),
+        Some(Err(error)) => seen.is_refusal(error == SearchError::Memory),
         None => Err(Wrong("a list of captures that ends too early")),
     }
 }
@@ -166,6 +164,10 @@ fn expect_sures(
 
 fn stored(alloc: Global, seen: &mut Seen) -> Result<(), Wrong> {
     let vm = engines::pikevm(alloc, seen, "abc")?;
+    stored_of(alloc, seen, &vm)
+}
+
+fn stored_of(alloc: Global, seen: &mut Seen, vm: &PikeVM) -> Result<(), Wrong> {
     let captures = engines::captures(alloc, seen, vm.get_nfa().group_info())?;
     expect_stored(seen, captures)
 }
@@ -213,19 +215,11 @@ fn is_byte(
 ) -> Result<bool, Wrong> {
     match item {
         Some(Ok(captures)) => {
-            let found = captures
-                .get_match()
-                .map(|found| (found.start(), found.end()));
-            expect(
-                found == Some((start, start.saturating_add(1))),
-                "the captures of a finder",
-            )?;
-            Ok(true)
+            let found = captures.get_match().map(parts);
+            let want = (0, start, start.saturating_add(1));
+            is_right(found == Some(want), "the captures of a finder")
         }
-        Some(Err(error)) => {
-            seen.note(error == SearchError::Memory)?;
-            Ok(false)
-        }
+        Some(Err(error)) => seen.is_refusal(error == SearchError::Memory),
         None => Err(Wrong("a list of a finder that ends too early")),
     }
 }

@@ -42,12 +42,12 @@ fn expect_groups(choice: &mut Choice, wrong: &'static str) -> Result<(), Wrong> 
 
 fn catches(alloc: Global, seen: &mut Seen) -> Result<(), Wrong> {
     let mut choice = engines::choice(alloc, seen, "groups")?;
-    let mut captures = captures_of(alloc, seen, &choice)?;
-    expect_caught(&mut choice, &mut captures)
+    expect_catch(alloc, seen, &mut choice)
 }
 
-fn captures_of(alloc: Global, seen: &mut Seen, choice: &Choice) -> Result<Captures, Wrong> {
-    engines::captures(alloc, seen, choice.get_nfa().group_info())
+fn expect_catch(alloc: Global, seen: &mut Seen, choice: &mut Choice) -> Result<(), Wrong> {
+    let mut captures = engines::captures(alloc, seen, choice.get_nfa().group_info())?;
+    expect_caught(choice, &mut captures)
 }
 
 fn expect_caught(choice: &mut Choice, captures: &mut Captures) -> Result<(), Wrong> {

@@ -5,7 +5,7 @@ use super::{Seen, Wrong, engines, expect, made, searches};
 use nfa_engines::backtrack::{BoundedBacktracker, Cache, TryFindMatches};
 use nfa_engines::error::SearchError;
 use nfa_engines::iter::Searcher;
-use regex_search_core::Input;
+use regex_search_core::{Input, Match};
 use std::alloc::Global;
 use test_support::text::parts;
 
@@ -43,9 +43,13 @@ const A_LONG_WORD: &str = "a 1 abcdefghijklmnopqrstuvwxyzabcdefghijklmnopqrstuvw
 
 /// Lists of a text whose words are short, and of one that ends in a long one.
 pub fn lists(alloc: Global, seen: &mut Seen) -> Result<(), Wrong> {
-    let engine = engines::backtracker(alloc, seen, "words_numbers")?;
-    expect_lists(alloc, seen, &engine)?;
+    lists_of_words(alloc, seen)?;
     expect_searcher()
+}
+
+fn lists_of_words(alloc: Global, seen: &mut Seen) -> Result<(), Wrong> {
+    let engine = engines::backtracker(alloc, seen, "words_numbers")?;
+    expect_lists(alloc, seen, &engine)
 }
 
 // A copy of a searcher takes no memory.
@@ -73,9 +77,19 @@ fn expect_list(
     haystack: &str,
     all: &[(usize, usize, usize)],
 ) -> Result<(), Wrong> {
+    expect_new_items(alloc, seen, engine, haystack.as_bytes(), all)?;
+    expect_listed(alloc, seen, engine, haystack.as_bytes(), all)
+}
+
+fn expect_new_items(
+    alloc: Global,
+    seen: &mut Seen,
+    engine: &BoundedBacktracker,
+    haystack: &[u8],
+    all: &[(usize, usize, usize)],
+) -> Result<(), Wrong> {
     let mut cache = engine.create_cache(alloc);
-    expect_items(seen, engine, &mut cache, haystack.as_bytes(), all)?;
-    expect_listed(alloc, seen, engine, haystack, all)
+    expect_items(seen, engine, &mut cache, haystack, all)
 }
 
 // The items, and then the first match once more by a search with the same cache.
@@ -100,16 +114,40 @@ fn expect_listed(
     alloc: Global,
     seen: &mut Seen,
     engine: &BoundedBacktracker,
-    haystack: &str,
+    haystack: &[u8],
     all: &[(usize, usize, usize)],
 ) -> Result<(), Wrong> {
     let mut cache = engine.create_cache(alloc);
-    let input = Input::new(haystack.as_bytes());
-    let listed = made!(
+    expect_listed_with(alloc, seen, engine, &mut cache, haystack, all)
+}
+
+fn expect_listed_with(
+    alloc: Global,
+    seen: &mut Seen,
+    engine: &BoundedBacktracker,
+    cache: &mut Cache,
+    haystack: &[u8],
+    all: &[(usize, usize, usize)],
+) -> Result<(), Wrong> {
+    let listed = listed(alloc, seen, engine, cache, haystack)?;
+    expect_matches(&listed, all)
+}
+
+fn listed(
+    alloc: Global,
+    seen: &mut Seen,
+    engine: &BoundedBacktracker,
+    cache: &mut Cache,
+    haystack: &[u8],
+) -> Result<Vec<Match>, Wrong> {
+    made!(
         seen,
         SearchError::Memory,
-        engine.try_find_all(alloc, &mut cache, input)
-    )?;
+        engine.try_find_all(alloc, cache, Input::new(haystack))
+    )
+}
+
+fn expect_matches(listed: &[Match], all: &[(usize, usize, usize)]) -> Result<(), Wrong> {
     expect(listed.len() == all.len(), "the number of all matches")?;
     for (found, want) in listed.iter().zip(all) {
         expect(parts(*found) == *want, "one of all matches")?;

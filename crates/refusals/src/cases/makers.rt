@@ -26,10 +26,20 @@ const SAMPLES: &[(&str, usize, usize)] = &[
 /// Samples and their copies.
 pub fn samples(alloc: Global, seen: &mut Seen) -> Result<(), Wrong> {
     for &(name, states, slots) in SAMPLES {
-        let nfa = made_sample(alloc, seen, name)?;
-        expect_copy(seen, &nfa, states, slots)?;
+        expect_made(alloc, seen, name, states, slots)?;
     }
     Ok(())
+}
+
+fn expect_made(
+    alloc: Global,
+    seen: &mut Seen,
+    name: &str,
+    states: usize,
+    slots: usize,
+) -> Result<(), Wrong> {
+    let nfa = made_sample(alloc, seen, name)?;
+    expect_copy(seen, &nfa, states, slots)
 }
 
 fn expect_copy(seen: &mut Seen, nfa: &NFA, states: usize, slots: usize) -> Result<(), Wrong> {
@@ -56,12 +66,24 @@ fn expect_sample(nfa: &NFA, states: usize, slots: usize) -> Result<(), Wrong> {
 
 /// NFAs and engines that match always or never.
 pub fn trivial_engines(alloc: Global, seen: &mut Seen) -> Result<(), Wrong> {
+    trivial_nfas(alloc, seen)?;
+    trivial_backtrackers(alloc, seen)?;
+    trivial_pikevms(alloc, seen)
+}
+
+fn trivial_nfas(alloc: Global, seen: &mut Seen) -> Result<(), Wrong> {
     let always = always_nfa(alloc, seen)?.pattern_len();
     let never = never_nfa(alloc, seen)?.pattern_len();
-    expect((always, never) == (1, 0), "NFAs")?;
+    expect((always, never) == (1, 0), "NFAs")
+}
+
+fn trivial_backtrackers(alloc: Global, seen: &mut Seen) -> Result<(), Wrong> {
     let always = always_backtracker(alloc, seen)?.pattern_len();
     let never = never_backtracker(alloc, seen)?.pattern_len();
-    expect((always, never) == (1, 0), "backtrackers")?;
+    expect((always, never) == (1, 0), "backtrackers")
+}
+
+fn trivial_pikevms(alloc: Global, seen: &mut Seen) -> Result<(), Wrong> {
     let always = always_pikevm(alloc, seen)?.pattern_len();
     let never = never_pikevm(alloc, seen)?.pattern_len();
     expect((always, never) == (1, 0), "PikeVMs")
@@ -102,26 +124,50 @@ fn never_pikevm(alloc: Global, seen: &mut Seen) -> Result<PikeVM, Wrong> {
 /// Copies of a backtracker and of its cache, and its captures.
 pub fn backtrackers(alloc: Global, seen: &mut Seen) -> Result<(), Wrong> {
     let engine = engines::backtracker(alloc, seen, "abc_a")?;
-    expect_marks(alloc, seen, &engine)?;
-    let captures = engines::backtracker_captures(alloc, seen, &engine)?;
+    expect_backtracker(alloc, seen, &engine)
+}
+
+fn expect_backtracker(
+    alloc: Global,
+    seen: &mut Seen,
+    engine: &BoundedBacktracker,
+) -> Result<(), Wrong> {
+    expect_marks(alloc, seen, engine)?;
+    let captures = engines::backtracker_captures(alloc, seen, engine)?;
     expect(captures.slots().len() == 2, "the captures of a backtracker")
 }
 
 fn expect_marks(alloc: Global, seen: &mut Seen, engine: &BoundedBacktracker) -> Result<(), Wrong> {
     let mut cache = engine.create_cache(alloc);
-    expect_found(seen, engine, &mut cache, "the match before a copy")?;
-    expect_copies(seen, engine, &mut cache)?;
-    expect_found(seen, engine, &mut cache, "the match after a copy")
+    expect_marks_of(seen, engine, &mut cache)
+}
+
+fn expect_marks_of(
+    seen: &mut Seen,
+    engine: &BoundedBacktracker,
+    cache: &mut backtrack::Cache,
+) -> Result<(), Wrong> {
+    expect_found(seen, engine, cache, "the match before a copy")?;
+    expect_copies(seen, engine, cache)?;
+    expect_found(seen, engine, cache, "the match after a copy")
 }
 
 fn expect_copies(
     seen: &mut Seen,
     engine: &BoundedBacktracker,
-    cache: &mut backtrack::Cache,
+    cache: &backtrack::Cache,
 ) -> Result<(), Wrong> {
     let mut copy = marks_copy(seen, cache)?;
+    expect_engine_copy(seen, engine, &mut copy)
+}
+
+fn expect_engine_copy(
+    seen: &mut Seen,
+    engine: &BoundedBacktracker,
+    copy: &mut backtrack::Cache,
+) -> Result<(), Wrong> {
     let same = backtracker_copy(seen, engine)?;
-    expect_found(seen, &same, &mut copy, "the match of a copy")
+    expect_found(seen, &same, copy, "the match of a copy")
 }
 
 fn marks_copy(seen: &mut Seen, cache: &backtrack::Cache) -> Result<backtrack::Cache, Wrong> {
@@ -148,8 +194,12 @@ fn expect_found(
 /// Copies of a PikeVM and of its cache, and its captures.
 pub fn pikevms(alloc: Global, seen: &mut Seen) -> Result<(), Wrong> {
     let vm = engines::pikevm(alloc, seen, "abc_a")?;
-    expect_threads(alloc, seen, &vm)?;
-    let captures = pikevm_captures(alloc, seen, &vm)?;
+    expect_pikevm(alloc, seen, &vm)
+}
+
+fn expect_pikevm(alloc: Global, seen: &mut Seen, vm: &PikeVM) -> Result<(), Wrong> {
+    expect_threads(alloc, seen, vm)?;
+    let captures = pikevm_captures(alloc, seen, vm)?;
     expect(captures.slots().len() == 2, "the captures of a PikeVM")
 }
 
@@ -159,14 +209,22 @@ fn pikevm_captures(alloc: Global, seen: &mut Seen, vm: &PikeVM) -> Result<Captur
 
 fn expect_threads(alloc: Global, seen: &mut Seen, vm: &PikeVM) -> Result<(), Wrong> {
     let mut cache = engines::threads(alloc, seen, vm)?;
-    expect_piked_copies(seen, vm, &cache)?;
-    expect_piked(vm, &mut cache)
+    expect_threads_of(seen, vm, &mut cache)
+}
+
+fn expect_threads_of(seen: &mut Seen, vm: &PikeVM, cache: &mut pikevm::Cache) -> Result<(), Wrong> {
+    expect_piked_copies(seen, vm, cache)?;
+    expect_piked(vm, cache)
 }
 
 fn expect_piked_copies(seen: &mut Seen, vm: &PikeVM, cache: &pikevm::Cache) -> Result<(), Wrong> {
     let mut copy = threads_copy(seen, cache)?;
+    expect_piked_copy(seen, vm, &mut copy)
+}
+
+fn expect_piked_copy(seen: &mut Seen, vm: &PikeVM, copy: &mut pikevm::Cache) -> Result<(), Wrong> {
     let same = pikevm_copy(seen, vm)?;
-    expect_piked(&same, &mut copy)
+    expect_piked(&same, copy)
 }
 
 fn threads_copy(seen: &mut Seen, cache: &pikevm::Cache) -> Result<pikevm::Cache, Wrong> {
@@ -196,10 +254,20 @@ pub fn captures(alloc: Global, seen: &mut Seen) -> Result<(), Wrong> {
 
 fn expect_captures(alloc: Global, seen: &mut Seen, groups: &GroupInfo) -> Result<(), Wrong> {
     for &(size, slots) in &[(0, 6), (1, 2), (2, 0)] {
-        let captures = made_captures(alloc, seen, groups, size)?;
-        expect_slots(seen, &captures, slots)?;
+        expect_captures_of(alloc, seen, groups, size, slots)?;
     }
     Ok(())
+}
+
+fn expect_captures_of(
+    alloc: Global,
+    seen: &mut Seen,
+    groups: &GroupInfo,
+    size: usize,
+    slots: usize,
+) -> Result<(), Wrong> {
+    let captures = made_captures(alloc, seen, groups, size)?;
+    expect_slots(seen, &captures, slots)
 }
 
 fn expect_slots(seen: &mut Seen, captures: &Captures, slots: usize) -> Result<(), Wrong> {
@@ -233,9 +301,13 @@ fn captures_copy(seen: &mut Seen, captures: &Captures) -> Result<Captures, Wrong
 
 // One pattern with two explicit groups.
 fn two_groups(alloc: Global) -> Result<Vec<Vec<Option<String>>>, MakeError> {
-    let mut patterns = Vec::new(alloc);
-    patterns.push(vec![in alloc; None, Some(String::from_str(alloc, "year")?)]?)?;
-    Ok(patterns)
+    let names = names(alloc)?;
+    Ok(vec![in alloc; names]?)
+}
+
+fn names(alloc: Global) -> Result<Vec<Option<String>>, MakeError> {
+    let year = String::from_str(alloc, "year")?;
+    Ok(vec![in alloc; None, Some(year)]?)
 }
 
 /// A set of patterns, and groups from their names.
@@ -249,8 +321,14 @@ pub fn sets(alloc: Global, seen: &mut Seen) -> Result<(), Wrong> {
 fn expect_groups(seen: &mut Seen, groups: &GroupInfo) -> Result<(), Wrong> {
     expect(groups.slot_len() == 6, "the slots of groups")?;
     let copy = groups_copy(seen, groups)?;
-    let index = PatternID::new(0).and_then(|pattern| copy.to_index(pattern, "year"));
-    expect(index == Some(2), "the name of a group")
+    expect(has_year(&copy), "the name of a group")
+}
+
+fn has_year(groups: &GroupInfo) -> bool {
+    match PatternID::new(0) {
+        Some(first) => groups.to_index(first, "year") == Some(2),
+        None => false,
+    }
 }
 
 fn made_set(alloc: Global, seen: &mut Seen) -> Result<PatternSet, Wrong> {

@@ -1,0 +1,193 @@
+//! Resets of caches that were refused memory, and searches of the PikeVM, which ask for none.
+
+use super::searches::are_groups;
+use super::{Edge, Seen, Wrong, engines, expect, is_right, made};
+use nfa_engines::error::SearchError;
+use nfa_engines::pikevm::{self, PikeVM};
+use regex_search_core::{Captures, Input, NonMaxUsize, PatternSet, Refused};
+use std::alloc::{AllocError, Global};
+use test_support::text::parts;
+
+// What `groups` answers with a cache that fits.
+fn expect_piked(groups: &PikeVM, cache: &mut pikevm::Cache) -> Result<(), Wrong> {
+    let mut slots = [NonMaxUsize::new(7); 6];
+    if !cache.fits(groups) {
+        return Err(Wrong("a cache that does not fit"));
+    }
+    let pattern = groups.search_slots(cache, &Input::new(b"ab"), &mut slots);
+    expect(are_groups(pattern, &slots), "the slots of a PikeVM")
+}
+
+/// A refused reset leaves a cache that fits what it fitted.
+pub fn resets(alloc: Global, seen: &mut Seen) -> Result<(), Wrong> {
+    let groups = engines::pikevm(alloc, seen, "groups")?;
+    expect_reset_to_larger(alloc, seen, &groups)
+}
+
+fn expect_reset_to_larger(alloc: Global, seen: &mut Seen, groups: &PikeVM) -> Result<(), Wrong> {
+    let larger = engines::pikevm(alloc, seen, "foo_bar")?;
+    expect_reset(alloc, seen, groups, &larger)
+}
+
+fn expect_reset(
+    alloc: Global,
+    seen: &mut Seen,
+    groups: &PikeVM,
+    larger: &PikeVM,
+) -> Result<(), Wrong> {
+    let mut cache = engines::threads(alloc, seen, groups)?;
+    expect_reset_of(seen, groups, larger, &mut cache)
+}
+
+fn expect_reset_of(
+    seen: &mut Seen,
+    groups: &PikeVM,
+    larger: &PikeVM,
+    cache: &mut pikevm::Cache,
+) -> Result<(), Wrong> {
+    if let Err(error) = cache.reset(larger) {
+        seen.note(error == SearchError::Memory)?;
+        expect_piked(groups, cache)?;
+        expect(cache.reset(larger).is_ok(), "two refusals of a reset")?;
+    }
+    expect(cache.fits(larger), "a cache after its reset")
+}
+
+/// A PikeVM asks for no memory while it searches, so the requests before and behind its searches follow one another.
+pub fn searches(alloc: Global, seen: &mut Seen) -> Result<(), Wrong> {
+    let vm = engines::pikevm(alloc, seen, "groups")?;
+    expect_pikevm(alloc, seen, &vm)
+}
+
+fn expect_pikevm(alloc: Global, seen: &mut Seen, vm: &PikeVM) -> Result<(), Wrong> {
+    let mut cache = engines::threads(alloc, seen, vm)?;
+    expect_pikevm_with(alloc, seen, vm, &mut cache)
+}
+
+fn expect_pikevm_with(
+    alloc: Global,
+    seen: &mut Seen,
+    vm: &PikeVM,
+    cache: &mut pikevm::Cache,
+) -> Result<(), Wrong> {
+    expect_quiet(alloc, seen, vm, cache)?;
+    expect_piked_list(alloc, seen, vm, cache)
+}
+
+// What the searches write to is made before the first edge: captures, and then a set.
+fn expect_quiet(
+    alloc: Global,
+    seen: &mut Seen,
+    vm: &PikeVM,
+    cache: &mut pikevm::Cache,
+) -> Result<(), Wrong> {
+    let mut captures = engines::captures(alloc, seen, vm.get_nfa().group_info())?;
+    expect_quiet_with(alloc, seen, vm, cache, &mut captures)
+}
+
+fn expect_quiet_with(
+    alloc: Global,
+    seen: &mut Seen,
+    vm: &PikeVM,
+    cache: &mut pikevm::Cache,
+    captures: &mut Captures,
+) -> Result<(), Wrong> {
+    let mut set = made_set(alloc, seen)?;
+    seen.mark(alloc, Edge::Opening);
+    let searched = expect_searches(vm, cache, captures, &mut set);
+    seen.mark(alloc, Edge::Closing);
+    searched
+}
+
+// Each search of a PikeVM that takes no memory.
+fn expect_searches(
+    vm: &PikeVM,
+    cache: &mut pikevm::Cache,
+    captures: &mut Captures,
+    set: &mut PatternSet,
+) -> Result<(), Wrong> {
+    expect_piked(vm, cache)?;
+    expect_piked_matches(vm, cache)?;
+    expect_piked_captures(vm, cache, captures)?;
+    expect_piked_set(vm, cache, set)
+}
+
+fn expect_piked_matches(vm: &PikeVM, cache: &mut pikevm::Cache) -> Result<(), Wrong> {
+    let input = Input::new(b"ab ab");
+    if !cache.fits(vm) {
+        return Err(Wrong("a cache that fits no more"));
+    }
+    let found = vm.find(cache, input);
+    expect(found.map(parts) == Some((0, 0, 2)), "the match of a PikeVM")?;
+    if !cache.fits(vm) || !vm.is_match(cache, input) || !cache.fits(vm) {
+        return Err(Wrong("whether a PikeVM finds a match"));
+    }
+    let count = vm.find_iter(cache, input).count();
+    expect(count == 2, "the list of a PikeVM")
+}
+
+fn expect_piked_captures(
+    vm: &PikeVM,
+    cache: &mut pikevm::Cache,
+    captures: &mut Captures,
+) -> Result<(), Wrong> {
+    if !cache.fits(vm) {
+        return Err(Wrong("a cache that fits no more"));
+    }
+    vm.search(cache, &Input::new(b"ab"), captures);
+    expect_caught(captures, "the captures of a search by a PikeVM")?;
+    if !cache.fits(vm) {
+        return Err(Wrong("a cache that fits no more"));
+    }
+    vm.captures(cache, Input::new(b"ab"), captures);
+    expect_caught(captures, "the captures of a PikeVM")
+}
+
+fn expect_caught(captures: &Captures, wrong: &'static str) -> Result<(), Wrong> {
+    expect(are_groups(captures.pattern(), captures.slots()), wrong)
+}
+
+fn expect_piked_set(
+    vm: &PikeVM,
+    cache: &mut pikevm::Cache,
+    set: &mut PatternSet,
+) -> Result<(), Wrong> {
+    if !cache.fits(vm) {
+        return Err(Wrong("a cache that fits no more"));
+    }
+    vm.which_overlapping_matches(cache, &Input::new(b"ab"), set);
+    expect(set.is_full(), "the set of a PikeVM")
+}
+
+fn made_set(alloc: Global, seen: &mut Seen) -> Result<PatternSet, Wrong> {
+    made!(seen, Refused, PatternSet::new(alloc, 1))
+}
+
+// A list of all matches is a growth, and so may be refused.
+fn expect_piked_list(
+    alloc: Global,
+    seen: &mut Seen,
+    vm: &PikeVM,
+    cache: &mut pikevm::Cache,
+) -> Result<(), Wrong> {
+    if !is_listed(alloc, seen, vm, cache)? {
+        let again = is_listed(alloc, seen, vm, cache)?;
+        expect(again, "two refusals of a list")?;
+    }
+    Ok(())
+}
+
+fn is_listed(
+    alloc: Global,
+    seen: &mut Seen,
+    vm: &PikeVM,
+    cache: &mut pikevm::Cache,
+) -> Result<bool, Wrong> {
+    if !cache.fits(vm) {
+        return Err(Wrong("a cache that fits no more"));
+    }
+    match vm.find_all(alloc, cache, Input::new(b"ab ab")) {
+        Ok(all) => is_right(all.len() == 2, "all matches of a PikeVM"),
+        Err(AllocError) => seen.is_refusal(true),
+    }
+}
