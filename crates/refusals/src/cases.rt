@@ -81,8 +81,8 @@ pub fn expect(holds: bool, wrong: &'static str) -> Result<(), Wrong> {
     if holds { Ok(()) } else { Err(Wrong(wrong)) }
 }
 
-/// `true` where it holds, and what is wrong where it does not. Where something is owned that is asked for, the answer is
-/// given at once, with no way out.
+/// `true` where it holds, and what is wrong where it does not. Where something is owned that is asked for, the answer
+/// is given at once, with no way out.
 pub fn is_right(holds: bool, wrong: &'static str) -> Result<bool, Wrong> {
     if holds { Ok(true) } else { Err(Wrong(wrong)) }
 }
