@@ -1,0 +1,10 @@
+pub mod LookLemmas
+pub mod WriteLemmas
+pub mod BlockLemmas
+pub mod StartLemmas
+pub mod SearchLemmas
+pub mod AddLemmas
+pub mod CompiledLemmas
+pub mod CharLemmas
+pub mod MeantLemmas
+pub mod TextLemmas

@@ -1,0 +1,269 @@
+-- What a leftmost first search of a compiled NFA answers is the hit that is to be found.
+use Rattle.std.proofs.Common.{◌≡◌, ℕ, zero, suc, ◌+◌, ◌*◌, ◌-◌, ◌≤◌, ◌<◌, ◌⊎◌, inl, inr, Bool, true, false, List, [], ◌∷◌, map, length, refl, sym, ap, ap₂, ◌∙◌, subst, arith, le-leb}
+use Rattle.std.specs.Prelude.{Option, None, Some, is_some, All, slice_get, slice_index, slice_index_or, option_map, option_and_then, if◌then◌else◌, ◌==◌, ◌||◌}
+use Rattle.std.specs.List.{range_with_len}
+use Rattle.std.specs.Option.{option_or, option_map_or}
+use Rattle.std.proofs.lemmas.Bool.{cases_lt, lt-ltb, le-ltb}
+use Rattle.std.proofs.lemmas.Option.{slice_get_past, slice_get-get_or}
+use Rattle.std.proofs.lemmas.List.FromFn.{get_or-map-range_with_len, length-map-range_with_len}
+use Rattle.regex_search_core.specs.Found.{Found}
+use Rattle.regex_search_core.specs.Groups.{slot_count}
+use Rattle.regex_search_core.specs.Patterns.{number_of}
+use Rattle.regex_search_core.specs.Search.{Search, is_anchored}
+use Rattle.regex_search_core.specs.Slots.{match_of, offset_at}
+use Rattle.regex_search_core.specs.declared.search.Anchored.{Anchored}
+use Rattle.regex_search_core.specs.declared.search.Anchored.TheVariants.{No, Yes, Pattern}
+use Rattle.regex_search_core.specs.declared.search.MatchKind.TheVariants.{LeftmostFirst}
+use Rattle.regex_hir.specs.Re.{Re, empty}
+use Rattle.regex_hir.specs.Find.{last_write}
+use Rattle.thompson_nfa.specs.Automaton.{Automaton, Union, Fail}
+use Rattle.nfa_paths.specs.Graphs.{Pair, IsFirstPath}
+use Rattle.nfa_paths.specs.FirstPaths.{IsFirst, FirstAmong, IsLeast}
+use Rattle.nfa_paths.specs.Paths.{pattern_of, slot_of, node_at, is_match, IsMatch, edges_of, edges, pairs_from, start_state, starts, slot_among, slot_row, path_pattern, is_utf8_empty, IsScanAnswer, IsSearchAnswer, IsAnswer, IsMatchAnswer, IsFoundAnswer}
+use Rattle.nfa_paths.proofs.PathLemmas.{IsFirst-step, IsFirstOfAll-from_among, IsLeast-from_first}
+use Rattle.nfa_paths.proofs.PathToLemmas.{EndsWith-last, IsLeast-none, IsLeast-first, IsFirstPath-unique}
+use Rattle.nfa_paths.proofs.StartLemmas.{IsMatch-edges, starts-increase}
+use Rattle.nfa_compiler.specs.Compiled.{IsPattern, IsNfaOf}
+use Rattle.nfa_compiler.specs.Patterns.{Hit, pick, pick_one, first_hit, hit_at_start, expected, writes_of, slots_of, found_in}
+use Rattle.nfa_compiler.proofs.BlockLemmas.{among-one, among-cons}
+use Rattle.nfa_compiler.proofs.StartLemmas.{TellsHit, TellsHit-or, TellsHit-cons, IsBehind, pattern-first, patterns-among}
+
+-- the first of a list of one is that of its pair
+from-one : (edges : Pair → List Pair) (target : Pair → Bool) (marks : List Pair) (w : Pair) (r : Option (List Pair))
+    → FirstAmong edges target marks (w ∷ []) r → IsFirst edges target marks w r
+from-one edges target marks w r (inl h) = rw h.2 h.1
+from-one edges target marks w r (inr h) = rw h.1 h.0
+
+module _ (res : List Re) (a : Automaton) (made : IsNfaOf res a) where
+  -- whether each search is bound to its start
+  abbrev pub is_bound : Bool
+  is_bound = a.anchored == a.unanchored
+
+  module _ (x : Search) (whole : x.end ≡ length x.haystack) where
+    -- from the anchored start the first path is the pick
+    chosen : (i : ℕ) → i ≤ x.end → (r : Option (List Pair)) × TellsHit a (pick x.haystack res 0 i) r
+        × IsFirst (edges a x) (is_match a) [] (a.anchored, i) r
+    unfolding edges_of node_at
+    chosen i within = elim made.chooses [ inl h ↦ only h | inr h ↦ union h ]
+      where
+        each : (j : ℕ) → j < length res
+            → IsPattern a.states a.groups (0 + j) (slice_index a.patterns j) (slice_index_or res j empty)
+        each j less = let same : j ≡ 0 + j = omega arith in
+            subst (λ n. IsPattern a.states a.groups n (slice_index a.patterns j) (slice_index_or res j empty)) same
+            (made.each j less)
+
+        among : (marks : List Pair)
+            → ((j : ℕ) → j < length a.patterns → IsBehind a x whole (slice_index a.patterns j) marks)
+            → (r : Option (List Pair)) × TellsHit a (pick x.haystack res 0 i) r
+            × FirstAmong (edges a x) (is_match a) marks (map (λ state. (state, i)) a.patterns) r
+        among marks behind = patterns-among a x whole i within res a.patterns 0 made.patterns
+            (omega (arith, made.groups)) each marks behind
+
+        only : a.patterns ≡ a.anchored ∷ [] → (r : Option (List Pair)) × TellsHit a (pick x.haystack res 0 i) r
+            × IsFirst (edges a x) (is_match a) [] (a.anchored, i) r
+        only one =
+            let w = among [] (λ j less v member. absurd member) in (
+              w.0,
+              w.1,
+              from-one (edges a x) (is_match a) [] (a.anchored, i) w.0
+                  (subst (λ ss. FirstAmong (edges a x) (is_match a) [] (map (λ state. (state, i)) ss) w.0) one w.2),
+            )
+
+        union : (slice_index_or a.states a.anchored Fail ≡ Union a.patterns) × All (λ s. s < a.anchored) a.patterns
+            → (r : Option (List Pair)) × TellsHit a (pick x.haystack res 0 i) r
+            × IsFirst (edges a x) (is_match a) [] (a.anchored, i) r
+        union h =
+            let w = among ((a.anchored, i) ∷ []) (λ j less v member. elim member [
+              | inl e ↦ let at : v.0 ≡ a.anchored = ap (λ (z : Pair). z.0) e in
+                  let under : slice_index a.patterns j < a.anchored = h.1 j 0 less in omega arith
+              | inr never ↦ absurd never
+            ]) in (
+              option_map (λ p. (a.anchored, i) ∷ p) w.0,
+              TellsHit-cons a (a.anchored, i) (pick x.haystack res 0 i) w.0 (ap slot_of h.0) w.1,
+              IsFirst-step (edges a x) (is_match a) [] (a.anchored, i) (λ member. member)
+                  (ap (λ n. is_some (pattern_of n)) h.0) w.0
+                  (subst (λ es. FirstAmong (edges a x) (is_match a) ((a.anchored, i) ∷ []) es w.0)
+                  (sym (ap (λ n. edges_of x n i) h.0)) w.2),
+            )
+
+    -- from n positions on, in turn
+    run-first : (n i : ℕ) → i + n ≤ x.end + 1 → (r : Option (List Pair))
+        × TellsHit a (first_hit (pick x.haystack res 0) n i) r
+        × FirstAmong (edges a x) (is_match a) [] (pairs_from a.anchored i n) r
+    run-first zero i room = (None, tt, refl)
+    run-first (suc n) i room =
+        let here = chosen i (omega arith) in
+        let rest = run-first n (i + 1) (omega arith) in (
+          option_or here.0 rest.0,
+          TellsHit-or a (pick x.haystack res 0 i) (first_hit (pick x.haystack res 0) n (i + 1))
+              here.0 rest.0 here.1 rest.1,
+          among-cons (edges a x) (is_match a) [] (a.anchored, i) (pairs_from a.anchored (i + 1) n)
+              here.0 rest.0 here.2 rest.2,
+        )
+
+    -- the first path of the search is the expected hit
+    abbrev Finds : Option Hit → List Pair → Type 0
+    Finds h es = (r : Option (List Pair)) × TellsHit a h r × FirstAmong (edges a x) (is_match a) [] es r
+
+    one-position : x.start ≤ x.end → Finds (pick x.haystack res 0 x.start) (pairs_from a.anchored x.start 1)
+    one-position inside =
+        let here = chosen x.start inside in
+        (here.0, here.1, among-one (edges a x) (is_match a) [] (a.anchored, x.start) here.0 here.2)
+
+    finds-at : x.start ≤ x.end → (mode : Anchored)
+        → Finds (hit_at_start res is_bound x mode)
+        (option_map_or (λ state. pairs_from state x.start
+        (if is_anchored mode || is_bound then 1 else (x.end - x.start + 1))) (start_state a mode) [])
+    finds-at inside No = by_bound is_bound
+      where
+        by_bound : (b : Bool)
+            → Finds (first_hit (pick x.haystack res 0) (if b then 1 else (x.end - x.start + 1)) x.start)
+            (pairs_from a.anchored x.start (if b then 1 else (x.end - x.start + 1)))
+        by_bound true = run-first 1 x.start (omega arith)
+        by_bound false = run-first (x.end - x.start + 1) x.start (omega arith)
+    finds-at inside Yes = one-position inside
+    finds-at inside (Pattern pattern) = by_known (cases_lt (number_of pattern) (length res))
+      where
+        by_known : (number_of pattern < length res) ⊎ (length res ≤ number_of pattern)
+            → Finds (pick_one x.haystack res (number_of pattern) x.start)
+            (option_map_or (λ state. pairs_from state x.start 1) (slice_get a.patterns (number_of pattern)) [])
+        by_known (inl known) =
+            let first = pattern-first a x whole (number_of pattern) (slice_index a.patterns (number_of pattern))
+            (slice_index_or res (number_of pattern) empty) (made.each (number_of pattern) known)
+            (omega (arith, made.groups)) x.start inside in
+            rw (
+              slice_get-get_or res (number_of pattern) empty known,
+              slice_get-get_or a.patterns (number_of pattern) 0 (omega (arith, made.patterns)),
+            ) (
+              first.0,
+              first.1,
+              among-one (edges a x) (is_match a) [] (slice_index a.patterns (number_of pattern), x.start) first.0
+                  (first.2 [] (λ v member. absurd member)),
+            )
+        by_known (inr past) =
+            rw (
+              slice_get_past res (number_of pattern) past,
+              slice_get_past a.patterns (number_of pattern)
+                  (omega (arith, made.patterns)),
+            )
+            (None, tt, refl)
+
+    finds : Finds (expected res is_bound x) (starts a x)
+    unfolding expected
+    finds = elim (cases_lt x.end x.start) [ inl past ↦ behind past | inr inside ↦ ahead inside ]
+      where
+        nowhere : (o : Option ℕ) → option_map_or (λ state. pairs_from state x.start 0) o [] ≡ []
+        nowhere None = refl
+        nowhere (Some state) = refl
+
+        behind : x.end < x.start → Finds (expected res is_bound x) (starts a x)
+        behind past = rw (lt-ltb x.end x.start past) (rw (nowhere (start_state a x.anchored)) (None, tt, refl))
+
+        ahead : x.start ≤ x.end → Finds (expected res is_bound x) (starts a x)
+        ahead inside = rw (le-ltb x.end x.start inside) (finds-at inside x.anchored)
+
+    -- the scan's answer
+    scan : (r : Option (List Pair)) × TellsHit a (expected res is_bound x) r × IsScanAnswer a x LeftmostFirst false r
+    scan = let f = finds in (
+      f.0,
+      f.1,
+      of f.0
+          (IsLeast-from_first (edges a x) (is_match a) (starts a x) (starts-increase a x) f.0
+          (IsFirstOfAll-from_among (edges a x) (is_match a) [] (starts a x) f.0 f.2)),
+    )
+      where
+        of : (r : Option (List Pair)) → IsLeast (edges a x) (is_match a) (starts a x) r
+            → IsFirstPath (edges a x) (starts a x) (IsMatch a) r
+        of None least = IsLeast-none (edges a x) (starts a x) (is_match a) (IsMatch-edges a x) least
+        of (Some p) least = IsLeast-first (edges a x) (starts a x) (is_match a) (IsMatch-edges a x) p least
+
+    -- the pattern of a hit is one of the patterns
+    pub expected-known : (h : Hit) → expected res is_bound x ≡ Some h → h.pattern < length a.groups
+    expected-known h e = let f = finds in of f.0 (subst (λ o. TellsHit a o f.0) e f.1)
+      where
+        of : (r : Option (List Pair)) → TellsHit a (Some h) r → h.pattern < length a.groups
+        of None t = absurd t
+        of (Some p) t = t.known
+
+    module _ (anywhere : is_utf8_empty a ≡ false) where
+      -- the search's answer, and there is no other
+      told : (restarts : ℕ) (path : Option (List Pair)) → IsSearchAnswer a LeftmostFirst false x restarts path
+          → TellsHit a (expected res is_bound x) path
+      told restarts path answers =
+          let own : (restarts ≡ 0) × IsScanAnswer a x LeftmostFirst false path = rw anywhere at answers in
+          let s = scan in
+          subst (TellsHit a (expected res is_bound x))
+          (IsFirstPath-unique (edges a x) (starts a x) (IsMatch a) s.0 path s.2 own.1) s.1
+
+      told-pattern : (h : Option Hit) (path : Option (List Pair)) → TellsHit a h path
+          → option_and_then (path_pattern a) path ≡ option_map (λ (g : Hit). g.pattern) h
+      told-pattern None None t = refl
+      told-pattern None (Some p) t = absurd t
+      told-pattern (Some h) None t = absurd t
+      told-pattern (Some h) (Some p) t =
+          ap (option_and_then (λ (v : Pair). pattern_of (node_at a v.0))) (EndsWith-last None t.end p t.ends)
+          ∙ t.pattern_is
+
+      same-map : (f g : ℕ → Option ℕ) → ((k : ℕ) → f k ≡ g k) → (ks : List ℕ) → map f ks ≡ map g ks
+      same-map f g same [] = refl
+      same-map f g same (k ∷ ks) = ap₂ (λ y ys. y ∷ ys) (same k) (same-map f g same ks)
+
+      told-slots : (count : ℕ) (h : Option Hit) (path : Option (List Pair)) → TellsHit a h path
+          → slot_row a count path ≡ slots_of a.groups count h
+      unfolding slot_row slots_of
+      told-slots count None None t = refl
+      told-slots count None (Some p) t = absurd t
+      told-slots count (Some h) None t = absurd t
+      told-slots count (Some h) (Some p) t =
+          same-map (slot_among a p) (last_write (writes_of a.groups h)) t.slots (range_with_len 0 count)
+
+      -- a row of slots at one of them
+      row-at : (count slot : ℕ) (p : List Pair) → slot < count
+          → offset_at (slot_row a count (Some p)) slot ≡ slot_among a p slot
+      unfolding slot_row
+      row-at count slot p less =
+          let long : slot < length (map (slot_among a p) (range_with_len 0 count)) =
+          omega (arith, length-map-range_with_len (slot_among a p) 0 count) in
+          rw (slice_get-get_or (map (slot_among a p) (range_with_len 0 count)) slot None long)
+          (get_or-map-range_with_len (slot_among a p) 0 count slot slot None less (omega arith))
+
+      told-match : (h : Option Hit) (path : Option (List Pair)) → TellsHit a h path
+          → match_of (option_and_then (path_pattern a) path) (slot_row a (slot_count a.groups) path) ≡ found_in h
+      told-match None None t = refl
+      told-match None (Some p) t = absurd t
+      told-match (Some h) None t = absurd t
+      told-match (Some h) (Some p) t =
+          let known : h.pattern < length a.groups = t.known in
+          rw (
+            told-pattern (Some h) (Some p) t,
+            row-at (slot_count a.groups) (2 * h.pattern) p (omega arith) ∙ t.start_slot,
+            row-at (slot_count a.groups) (2 * h.pattern + 1) p (omega arith) ∙ t.end_slot,
+            le-leb h.start h.trace.end t.onward,
+          ) refl
+
+      told-found : (h : Option Hit) (path : Option (List Pair)) → TellsHit a h path → is_some path ≡ is_some h
+      told-found None None t = refl
+      told-found None (Some p) t = absurd t
+      told-found (Some h) None t = absurd t
+      told-found (Some h) (Some p) t = refl
+
+      pub answer-is : (pattern : Option ℕ) (slots : List (Option ℕ)) → IsAnswer a LeftmostFirst false x pattern slots
+          → (pattern ≡ option_map (λ (h : Hit). h.pattern) (expected res is_bound x))
+          × (slots ≡ slots_of a.groups (length slots) (expected res is_bound x))
+      answer-is pattern slots answer =
+          let t = told answer.restarts answer.path answer.answers in (
+            answer.pattern_is ∙ told-pattern (expected res is_bound x) answer.path t,
+            answer.slots_are ∙ told-slots (length slots) (expected res is_bound x) answer.path t,
+          )
+
+      pub match-is : (found : Option Found) → IsMatchAnswer a LeftmostFirst false x found
+          → found ≡ found_in (expected res is_bound x)
+      match-is found answer =
+          answer.found_is ∙ told-match (expected res is_bound x) answer.path
+          (told answer.restarts answer.path answer.answers)
+
+      pub found-is : (found : Bool) → IsFoundAnswer a LeftmostFirst false x found
+          → found ≡ is_some (expected res is_bound x)
+      found-is found answer =
+          answer.found_is ∙ told-found (expected res is_bound x) answer.path
+          (told answer.restarts answer.path answer.answers)

@@ -1,0 +1,9 @@
+-- the states so far stand for those of the pattern's NFA
+use Rattle.std.proofs.Common.{map}
+use Rattle.thompson_nfa.specs.Automaton.{node_of}
+use Rattle.nfa_compiler.specs.Added.{HoldsStates}
+use Rattle.nfa_compiler.proofs.block.Site.add_states.Given as goal
+
+abbrev pub invariant-loop-id : goal.invariant-loop-id
+invariant-loop-id l =
+    HoldsStates (map node_of l.initial.states.items) (map node_of l.states.items) l.nfa l.self l.id

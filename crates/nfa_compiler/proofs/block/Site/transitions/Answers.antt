@@ -1,0 +1,13 @@
+-- one more transition is moved
+use Rattle.std.proofs.Common.{arith, ◌<◌}
+use Rattle.std.proofs.lemmas.Grind.{common_steps}
+use Rattle.std.proofs.lemmas.List.Elements.{All-more}
+use Rattle.nfa_compiler.proofs.block.Site.transitions.Goals as goal
+
+pub loop-transition-preserved : goal.loop-transition-preserved
+loop-transition-preserved c = record {
+  inside =
+      All-more (λ t. t.next < c.args.self.size) _ _ _ c.loop-transition-test.true c.loop-transition.invariant.inside
+      c.in_ok-transition.ensures.0;
+  moved = grind (arith, common_steps);
+}

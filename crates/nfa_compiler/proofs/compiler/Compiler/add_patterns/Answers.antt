@@ -1,0 +1,34 @@
+-- one pattern more stands
+use Rattle.std.proofs.Common.{◌+◌, ◌∙◌, ap, arith, length, vec_len}
+use Rattle.std.proofs.lemmas.List.{length_push}
+use Rattle.nfa_compiler.proofs.AddLemmas.{adds-length, nodes-length}
+use Rattle.nfa_compiler.proofs.CompiledLemmas.{made-more, inside-more, slots-more}
+use Rattle.nfa_compiler.proofs.compiler.Compiler.add_patterns.Goals as goal
+
+pub loop-index-preserved : goal.loop-index-preserved
+loop-index-preserved c = record {
+  count = ap length c.in_ok-push.ensures.items ∙ length_push _ _ ∙ ap (λ k. k + 1) c.loop-index.invariant.count;
+  slots_are =
+      omega (
+        arith,
+        c.in_ok-slots-2.ensures,
+        c.loop-index.invariant.slots_are,
+        slots-more c.args.patterns.now c.loop-index.index c.index-patterns-index.result c.loop-index-test.true
+            c.index-patterns-index.is,
+      );
+  made =
+      made-more _ _ c.args.patterns.now c.loop-index.starts.items _ c.loop-index.slots c.loop-index.index
+      c.in_ok-add_pattern.field-0 c.index-patterns-index.result c.loop-index-test.true c.index-patterns-index.is
+      c.in_ok-add_pattern.ensures.added c.loop-index.invariant.made c.loop-index.invariant.count
+      c.in_ok-push.ensures.items c.loop-index.invariant.slots_are c.in_ok-add_pattern.ensures.made;
+  inside =
+      inside-more (vec_len c.loop-index.states) (vec_len c.add_pattern.new.states) c.loop-index.starts.items _
+      c.in_ok-add_pattern.field-0
+      (omega (
+        arith,
+        nodes-length c.loop-index.states,
+        nodes-length c.add_pattern.new.states,
+        adds-length _ _ c.in_ok-add_pattern.ensures.added,
+      ))
+      c.loop-index.invariant.inside c.in_ok-add_pattern.ensures.inside c.in_ok-push.ensures.items;
+}

@@ -1,0 +1,14 @@
+-- the patterns so far stand where they start
+use Rattle.std.proofs.Common.{◌≡◌, ◌<◌, map, length, vec_len}
+use Rattle.std.specs.Prelude.{All}
+use Rattle.thompson_nfa.specs.Automaton.{node_of}
+use Rattle.nfa_compiler.specs.Compiled.{ArePatterns, first_slot, groups_of, res_of}
+use Rattle.nfa_compiler.proofs.compiler.Compiler.add_patterns.Given as goal
+
+abbrev pub invariant-loop-index : goal.invariant-loop-index
+invariant-loop-index l = record {
+  count : length l.starts.items ≡ l.index;
+  slots_are : l.slots ≡ first_slot (groups_of l.patterns) l.index;
+  made : ArePatterns (map node_of l.states.items) (groups_of l.patterns) l.starts.items (res_of l.patterns) l.index;
+  inside : All (λ s. s < vec_len l.states) l.starts.items;
+}

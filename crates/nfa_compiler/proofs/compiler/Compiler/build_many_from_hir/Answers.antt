@@ -1,0 +1,19 @@
+-- what was made of the patterns is the NFA
+use Rattle.std.proofs.Common.{◌∙◌, ap, arith}
+use Rattle.std.proofs.lemmas.Bool.{and_right}
+use Rattle.thompson_nfa.specs.Automaton.{Automaton}
+use Rattle.nfa_compiler.proofs.AddLemmas.{nodes-length}
+use Rattle.nfa_compiler.proofs.CompiledLemmas.{nfa-made}
+use Rattle.nfa_compiler.proofs.compiler.Compiler.build_many_from_hir.Goals as goal
+
+pub returns-clause-made : goal.returns-clause-made
+returns-clause-made c =
+    nfa-made _ _ _ c.args.patterns.now c.in_ok-starts.starts.items c.in_ok-anchored.anchored _ _ _ _ _
+    c.in_ok-starts.ensures.count c.in_ok-groups.ensures c.in_ok-starts.ensures.made c.in_ok-anchored.ensures.added
+    (rw c.deref.ensures.value at c.in_ok-anchored.ensures.chooses)
+    (omega (arith, c.in_ok-anchored.ensures.within, nodes-length c.choice.new.states))
+    c.in_ok-unanchored.ensures.added c.in_ok-from_states.ensures.1
+
+pub returns-clause-anywhere : goal.returns-clause-anywhere
+returns-clause-anywhere c =
+    λ off. and_right _ _ (ap (λ (n : Automaton). n.utf8) c.in_ok-from_states.ensures.1 ∙ off)

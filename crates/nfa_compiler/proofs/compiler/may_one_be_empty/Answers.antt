@@ -1,0 +1,15 @@
+-- a match of one pattern more has a byte
+use Rattle.std.proofs.Common.{arith, subst}
+use Rattle.std.specs.Prelude.{All}
+use Rattle.std.proofs.lemmas.List.{take_all}
+use Rattle.thompson_nfa.proofs.Tested.{all-take-suc}
+use Rattle.nfa_compiler.specs.Compiled.{AlwaysReads}
+use Rattle.nfa_compiler.proofs.compiler.may_one_be_empty.Goals as goal
+
+pub loop-pattern-preserved : goal.loop-pattern-preserved
+loop-pattern-preserved c =
+    all-take-suc AlwaysReads _ _ _ c.loop-pattern-test.true c.pattern-item.is c.loop-pattern.invariant
+    (c.min_len.ensures.reads (omega (arith, c.if-min_len-eq0.false)))
+
+pub returns : goal.returns
+returns c = λ none. subst (All AlwaysReads) (take_all _ _ c.loop-pattern-test.false) c.loop-pattern.invariant

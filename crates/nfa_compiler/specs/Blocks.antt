@@ -1,0 +1,72 @@
+-- The states of one pattern among those of an NFA: those of an NFA of `regex_nfa`, moved.
+use Rattle.std.specs.Prelude.{◌≡◌, ℕ, ◌+◌, ◌-◌, ◌*◌, ◌<◌, ◌≤◌, List, length, map, All, Option, Some, None, if◌then◌else◌, nat_lt, slice_range, slice_index_or}
+use Rattle.regex_search_core.specs.Patterns.{number_of}
+use Rattle.regex_hir.specs.declared.look.Look as theirs
+use Rattle.regex_hir.specs.declared.look.Look.TheVariants as their_look
+use Rattle.regex_nfa.specs.States.{state_at}
+use Rattle.regex_nfa.specs.declared.state.Transition as their_transition
+use Rattle.regex_nfa.specs.declared.state.State as their_state
+use Rattle.regex_nfa.specs.declared.state.State.TheVariants as their
+use Rattle.regex_nfa.specs.declared.nfa.Nfa.{Nfa}
+use Rattle.thompson_nfa.specs.declared.look.Look as ours
+use Rattle.thompson_nfa.specs.declared.look.Look.TheVariants as our_look
+use Rattle.thompson_nfa.specs.declared.state.Transition.{Transition}
+use Rattle.thompson_nfa.specs.Automaton.{Node}
+use Rattle.thompson_nfa.specs.Automaton.Node.{ByteRange, Sparse, Look, BinaryUnion, Capture, Fail, Match}
+use Rattle.nfa_compiler.specs.declared.block.Site.{Site}
+
+-- the assertion of this crate's NFAs that is meant, if there is one
+abbrev pub look_of : theirs.Look → Option ours.Look
+look_of their_look.Start = Some our_look.Start
+look_of their_look.End = Some our_look.End
+look_of their_look.WordAscii = Some our_look.WordAscii
+look_of their_look.WordAsciiNegate = Some our_look.WordAsciiNegate
+look_of their_look.WordUnicode = Some our_look.WordUnicode
+look_of their_look.StartLf = None
+look_of their_look.EndLf = None
+look_of their_look.StartCrlf = None
+look_of their_look.EndCrlf = None
+look_of their_look.WordUnicodeNegate = None
+look_of their_look.WordStartAscii = None
+look_of their_look.WordEndAscii = None
+look_of their_look.WordStartUnicode = None
+look_of their_look.WordEndUnicode = None
+look_of their_look.WordStartHalfAscii = None
+look_of their_look.WordEndHalfAscii = None
+look_of their_look.WordStartHalfUnicode = None
+look_of their_look.WordEndHalfUnicode = None
+
+-- where the Match of the pattern stands: behind the states that were moved
+abbrev pub match_at : Site → ℕ
+match_at s = s.base + s.size
+
+-- where the slot of the pattern stands
+abbrev pub slot_in : Site → ℕ → ℕ
+slot_in s slot = if nat_lt slot 2 then (2 * number_of s.pattern + slot) else (s.slots + (slot - 2))
+
+-- the transition, moved
+abbrev pub moved : Site → their_transition.Transition → Transition
+moved s t = record { start = t.start; end = t.end; next = s.base + t.next }
+
+-- this node stands for that state, whose targets are moved too; where theirs matches, ours writes the end first
+abbrev pub Stands : List their_transition.Transition → Site → their_state.State → Node → Type 0
+Stands ts s (their.ByteRange t) node = (t.next < s.size) × (node ≡ ByteRange (moved s t))
+Stands ts s (their.Sparse from to) node =
+    All (λ t. t.next < s.size) (slice_range ts from to) × (node ≡ Sparse (map (moved s) (slice_range ts from to)))
+Stands ts s (their.Split first second) node =
+    (first < s.size) × (second < s.size) × (node ≡ BinaryUnion (s.base + first) (s.base + second))
+Stands ts s (their.Save slot next) node =
+    (2 ≤ slot) × (next < s.size) × (node ≡ Capture (s.base + next) (slot_in s slot))
+Stands ts s (their.Look l next) node =
+    (next < s.size) × ((k : ours.Look) × (look_of l ≡ Some k) × (node ≡ Look k (s.base + next)))
+Stands ts s their.Match node = node ≡ Capture (match_at s) (slot_in s 1)
+Stands ts s their.Fail node = node ≡ Fail
+
+-- the states of the pattern: from `base` on the moved ones, then its Match, then its start, which writes slot 0
+pub record IsBlock (nodes : List Node) (nfa : Nfa) (s : Site) : Type 0 where
+  pub states : (q : ℕ) → q < s.size
+      → Stands nfa.transitions.items s (state_at nfa.states.items q) (slice_index_or nodes (s.base + q) Fail)
+  pub match : slice_index_or nodes (match_at s) Fail ≡ Match (number_of s.pattern)
+  pub start : slice_index_or nodes (match_at s + 1) Fail ≡ Capture (s.base + nfa.start) (slot_in s 0)
+  pub start_in : nfa.start < s.size
+  pub within : match_at s + 1 < length nodes

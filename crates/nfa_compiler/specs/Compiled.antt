@@ -1,0 +1,87 @@
+-- What an NFA of patterns is made of.
+use Rattle.std.specs.Prelude.{◌≡◌, ℕ, ◌+◌, ◌*◌, ◌<◌, ◌⊎◌, List, [], ◌∷◌, length, map, drop, take, All, Option, IsSomeAnd, IsTrue, chars, option_map, string_bytes, slice_index, slice_index_or}
+use Rattle.std.specs.List.{AllZip, sum_by}
+use Rattle.regex_search_core.specs.Patterns.{number_of}
+use Rattle.regex_hir.specs.Re.{Re, empty}
+use Rattle.regex_hir.specs.Meaning.{meaning}
+use Rattle.regex_hir.specs.Reads.{always_reads}
+use Rattle.regex_syntax.specs.Grammar.{read}
+use Rattle.regex_syntax.specs.Verdict.{Reads}
+use Rattle.regex_syntax.specs.declared.Config.{Config}
+use Rattle.regex_syntax.specs.declared.Parsed.{Parsed}
+use Rattle.regex_nfa.specs.declared.nfa.Nfa.{Nfa}
+use Rattle.regex_compile.specs.Implements.{Implements}
+use Rattle.thompson_nfa.specs.Automaton.{Automaton, Node, Fail, Union}
+use Rattle.nfa_compiler.specs.declared.block.Site.{Site}
+use Rattle.nfa_compiler.specs.Blocks.{match_at, IsBlock}
+
+-- the names of the pattern's explicit groups: all but group 0
+abbrev pub explicit_names : Parsed → List (Option (List ℕ))
+explicit_names pattern = drop 1 (map (option_map string_bytes) pattern.names.items)
+
+-- the groups of these patterns
+abbrev pub groups_of : List Parsed → List (List (Option (List ℕ)))
+groups_of patterns = map explicit_names patterns
+
+-- what these patterns mean
+abbrev pub res_of : List Parsed → List Re
+res_of patterns = map (λ p. meaning p.hir) patterns
+
+-- the first slot of the explicit groups of pattern k
+abbrev pub first_slot : List (List (Option (List ℕ))) → ℕ → ℕ
+first_slot groups k = 2 * length groups + 2 * sum_by length (take k groups)
+
+-- The states of pattern k, which means re, stand among the nodes, and begin at `start`. Its explicit groups have the
+-- slots from `slots` on.
+pub record IsPatternAt (nodes : List Node) (slots k start : ℕ) (re : Re) : Type 0 where
+  pub nfa : Nfa
+  pub site : Site
+  pub implements : Implements nfa re
+  pub block : IsBlock nodes nfa site
+  pub pattern_is : number_of site.pattern ≡ k
+  pub slots_are : site.slots ≡ slots
+  pub start_is : start ≡ match_at site + 1
+
+-- the same, of pattern k of these groups
+abbrev pub IsPattern : List Node → List (List (Option (List ℕ))) → ℕ → ℕ → Re → Type 0
+IsPattern nodes groups k start re = IsPatternAt nodes (first_slot groups k) k start re
+
+-- each of these patterns stands among the nodes
+abbrev pub ArePatterns : List Node → List (List (Option (List ℕ))) → List ℕ → List Re → ℕ → Type 0
+ArePatterns nodes groups starts res count =
+    (k : ℕ) → k < count → IsPattern nodes groups k (slice_index starts k) (slice_index_or res k empty)
+
+-- the state chooses between these starts, in order: it is the only one, or stands behind all of them
+abbrev pub Chooses : List Node → ℕ → List ℕ → Type 0
+Chooses nodes state starts =
+    (starts ≡ state ∷ []) ⊎ ((slice_index_or nodes state Fail ≡ Union starts) × All (λ s. s < state) starts)
+
+-- the NFA is made of these patterns
+pub record IsNfaOf (res : List Re) (nfa : Automaton) : Type 0 where
+  pub patterns : length nfa.patterns ≡ length res
+  pub groups : length nfa.groups ≡ length res
+  pub each : ArePatterns nfa.states nfa.groups nfa.patterns res (length res)
+  pub chooses : Chooses nfa.states nfa.anchored nfa.patterns
+
+-- the tree and the names are what the grammar reads in the text
+abbrev pub IsRead : Config → List ℕ → Parsed → Type 0
+IsRead syntax text tree = Reads syntax text tree.hir (map (option_map string_bytes) tree.names.items)
+
+-- each way through the pattern has a part that reads a byte
+abbrev pub AlwaysReads : Parsed → Type 0
+AlwaysReads tree = IsTrue (always_reads (meaning tree.hir))
+
+-- the NFA is made of trees that are read from these texts
+pub record IsCompiled (syntax : Config) (texts : List (List ℕ)) (nfa : Automaton) : Type 0 where
+  pub trees : List Parsed
+  pub read : AllZip (IsRead syntax) texts trees
+  pub made : IsNfaOf (res_of trees) nfa
+  pub groups : nfa.groups ≡ groups_of trees
+
+-- the grammar reads this pattern in the text
+abbrev pub IsMeant : Config → List ℕ → Re → Type 0
+IsMeant syntax text re = IsSomeAnd (read syntax (chars text)) (λ (found, names). found.value ≡ re)
+
+-- in each of these texts that of its place
+abbrev pub AreMeant : Config → List (List ℕ) → List Re → Type 0
+AreMeant syntax texts res = AllZip (IsMeant syntax) texts res

@@ -1,0 +1,83 @@
+-- What searches of a compiled NFA find: the hits that its patterns mean.
+use Rattle.std.specs.Prelude.{◌≡◌, ℕ, ◌≤◌, ◌<◌, All, Bool, false, List, [], ◌∷◌, length, Option, Some, is_some, option_map, ◌==◌}
+use Rattle.regex_hir.specs.Looks.{holds}
+use Rattle.regex_hir.specs.Re.{Re}
+use Rattle.regex_hir.specs.declared.look.Look as theirs
+use Rattle.regex_search_core.specs.Found.{Found}
+use Rattle.regex_search_core.specs.Search.{Search}
+use Rattle.regex_search_core.specs.declared.search.MatchKind.{MatchKind}
+use Rattle.regex_search_core.specs.declared.search.MatchKind.TheVariants.{LeftmostFirst}
+use Rattle.thompson_nfa.specs.Automaton.{Automaton}
+use Rattle.thompson_nfa.specs.Looks.{look_holds}
+use Rattle.thompson_nfa.specs.declared.look.Look as ours
+use Rattle.nfa_paths.specs.Paths.{is_utf8_empty, IsAnswer, IsMatchAnswer, IsFoundAnswer}
+use Rattle.nfa_compiler.specs.Blocks.{look_of}
+use Rattle.nfa_compiler.specs.Compiled.{AreMeant, IsCompiled, IsNfaOf}
+use Rattle.regex_hir.specs.Find.{Match, find}
+use Rattle.regex_search_core.specs.declared.search.Anchored.TheVariants.{No}
+use Rattle.regex_syntax.specs.declared.Config.{Config}
+use Rattle.nfa_compiler.specs.Patterns.{Hit, expected, slots_of, found_in}
+
+-- an assertion holds where the one that stands for it does
+abbrev pub LooksAgree : Type 0
+LooksAgree = (l : theirs.Look) (k : ours.Look) (hay : List ℕ) (i : ℕ) → look_of l ≡ Some k → i ≤ length hay
+    → look_holds k hay i ≡ holds l hay i
+
+-- what a search is to find in the rest of a haystack
+abbrev pub hit : List Re → Automaton → Search → Option Hit
+hit res nfa x = expected res (nfa.anchored == nfa.unanchored) x
+
+-- a leftmost first search that goes on to the end of the haystack, and is not asked for the earliest match
+pub record IsLeftmostToTheEnd (kind : MatchKind) (earliest : Bool) (x : Search) : Type 0 where
+  pub leftmost : kind ≡ LeftmostFirst
+  pub latest : earliest ≡ false
+  pub whole : x.end ≡ length x.haystack
+
+-- the pattern and the slots of a search are those of the hit
+abbrev pub AnswersAreHits : Type 0
+AnswersAreHits =
+    (res : List Re) (nfa : Automaton) (kind : MatchKind) (earliest : Bool) (x : Search) (pattern : Option ℕ)
+    (slots : List (Option ℕ)) → IsNfaOf res nfa → is_utf8_empty nfa ≡ false → IsLeftmostToTheEnd kind earliest x
+    → IsAnswer nfa kind earliest x pattern slots
+    → (pattern ≡ option_map (λ (h : Hit). h.pattern) (hit res nfa x))
+    × (slots ≡ slots_of nfa.groups (length slots) (hit res nfa x))
+
+-- its match is that of the hit
+abbrev pub MatchesAreHits : Type 0
+MatchesAreHits =
+    (res : List Re) (nfa : Automaton) (kind : MatchKind) (earliest : Bool) (x : Search) (found : Option Found)
+    → IsNfaOf res nfa → is_utf8_empty nfa ≡ false → IsLeftmostToTheEnd kind earliest x
+    → IsMatchAnswer nfa kind earliest x found → found ≡ found_in (hit res nfa x)
+
+-- it finds something exactly where there is a hit
+abbrev pub FindsHits : Type 0
+FindsHits =
+    (res : List Re) (nfa : Automaton) (kind : MatchKind) (earliest : Bool) (x : Search) (found : Bool)
+    → IsNfaOf res nfa → is_utf8_empty nfa ≡ false → IsLeftmostToTheEnd kind earliest x
+    → IsFoundAnswer nfa kind earliest x found → found ≡ is_some (hit res nfa x)
+
+-- The same of texts: what is found is what the grammar reads in them. The haystack is of bytes.
+abbrev pub TextsAreAnswered : Type 0
+TextsAreAnswered =
+    (syntax : Config) (texts : List (List ℕ)) (res : List Re) (nfa : Automaton) (kind : MatchKind) (earliest : Bool)
+    (x : Search) (pattern : Option ℕ) (slots : List (Option ℕ)) → IsCompiled syntax texts nfa
+    → AreMeant syntax texts res → is_utf8_empty nfa ≡ false → IsLeftmostToTheEnd kind earliest x
+    → All (λ b. b < 256) x.haystack
+    → IsAnswer nfa kind earliest x pattern slots
+    → (pattern ≡ option_map (λ (h : Hit). h.pattern) (hit res nfa x))
+    × (slots ≡ slots_of nfa.groups (length slots) (hit res nfa x))
+
+abbrev pub TextsAreMatched : Type 0
+TextsAreMatched =
+    (syntax : Config) (texts : List (List ℕ)) (res : List Re) (nfa : Automaton) (kind : MatchKind) (earliest : Bool)
+    (x : Search) (found : Option Found) → IsCompiled syntax texts nfa → AreMeant syntax texts res
+    → is_utf8_empty nfa ≡ false → IsLeftmostToTheEnd kind earliest x → All (λ b. b < 256) x.haystack
+    → IsMatchAnswer nfa kind earliest x found → found ≡ found_in (hit res nfa x)
+
+-- The hit of one pattern in a search that is not bound to its start is what `find` of `regex_hir` gives.
+abbrev pub OneHitIsFind : Type 0
+OneHitIsFind =
+    (re : Re) (nfa : Automaton) (x : Search) → (nfa.anchored == nfa.unanchored) ≡ false → x.anchored ≡ No
+    → x.end ≡ length x.haystack
+    → hit (re ∷ []) nfa x ≡ option_map (λ (m : Match). record { pattern = 0; start = m.start; trace = m.trace })
+    (find re x.haystack x.start)

@@ -1,0 +1,64 @@
+//! States that are added behind others.
+ghost use Rattle.std.specs.Prelude.{◌≡◌, ◌<◌, ◌++◌, ◌∷◌, [], All, IfOk, OnOk, map, vec_len};
+ghost use Rattle.thompson_nfa.specs.Automaton.{node_of};
+ghost use Rattle.nfa_compiler.specs.Added.{Adds};
+ghost use Rattle.nfa_compiler.specs.Compiled.{Chooses};
+
+use crate::error::CompileError;
+use regex_search_core::StateID;
+use std::alloc::Global;
+use thompson_nfa::{State, Transition};
+
+/// Adds the state, and gives its number.
+pub(crate) fn push(states: &mut Vec<State>, state: State) -> Result<StateID, CompileError>
+    ensures number { IfOk result (λ number. number ≡ vec_len states.old) }
+    ensures nodes { OnOk result (map node_of states.new.items ≡ map node_of states.old.items ++ node_of state ∷ []) }
+{
+    let id = StateID::new(states.len()).ok_or(CompileError::TooManyStates)?;
+    states.push(state)?;
+    Ok(id)
+}
+
+/// Where any of these is chosen, the earlier ones preferred.
+pub(crate) fn choice(
+    alloc: Global,
+    states: &mut Vec<State>,
+    starts: &[StateID],
+) -> Result<StateID, CompileError>
+    requires { All (λ s. s < vec_len states.old) starts.now }
+    ensures chooses { IfOk result (λ state. Chooses (map node_of states.new.items) state starts.now) }
+    ensures within { IfOk result (λ state. state < vec_len states.new) }
+    ensures added { OnOk result (Adds (map node_of states.old.items) (map node_of states.new.items)) }
+{
+    if let [one] = starts {
+        return Ok(*one);
+    }
+    let alternates = Vec::from_slice(alloc, starts)?;
+    push(states, State::Union { alternates })
+}
+
+/// Where a search starts that may skip bytes before `start`.
+pub(crate) fn prefix(states: &mut Vec<State>, start: StateID) -> Result<StateID, CompileError>
+    ensures { OnOk result (Adds (map node_of states.old.items) (map node_of states.new.items)) }
+{
+    let prefix = StateID::new(states.len()).ok_or(CompileError::TooManyStates)?;
+    let skip = StateID::new(states.len().saturating_add(1)).ok_or(CompileError::TooManyStates)?;
+    push(
+        states,
+        State::BinaryUnion {
+            alt1: start,
+            alt2: skip,
+        },
+    )?;
+    push(
+        states,
+        State::ByteRange {
+            trans: Transition {
+                start: 0x00,
+                end: 0xFF,
+                next: prefix,
+            },
+        },
+    )?;
+    Ok(prefix)
+}
