@@ -1,10 +1,10 @@
 -- The first and the last match pair of a front.
-use Rattle.std.proofs.Common.{◌≡◌, ◌⊎◌, inl, inr, Bool, true, List, [], ◌∷◌, ◌++◌, refl, ap}
-use Rattle.std.specs.Prelude.{None, Some}
+use Rattle.std.proofs.Common.{◌≡◌, ◌⊎◌, inl, inr, Bool, true, false, List, [], ◌∷◌, ◌++◌, refl, ap, sym}
+use Rattle.std.specs.Prelude.{None, Some, cond}
 use Rattle.std.proofs.lemmas.Bool.{cases_Bool}
 use Rattle.nfa_paths.specs.Graphs.{Pair, In}
 use Rattle.nfa_paths.specs.Exploring.{Slots, Hit}
-use Rattle.nfa_paths.specs.Kinds.{NoMatch, first_match, last_match}
+use Rattle.nfa_paths.specs.Kinds.{NoMatch, first_match, before_match, last_match}
 use Rattle.nfa_paths.proofs.TestLemmas.{is_plain}
 
 module _ (is_match : Pair → Bool) where
@@ -109,3 +109,68 @@ module _ (is_match : Pair → Bool) where
         plain = h.plain;
         matches = h.matches;
       }
+
+  -- no match pair stands before the first
+  pub before_match-plain : (front : List (Pair × Slots)) → NoMatch is_match (before_match is_match front)
+  before_match-plain [] = λ b i t. i
+  before_match-plain (a ∷ front) = of (is_match a.0) refl (before_match-plain front)
+    where
+      plain : (c : Bool) → c ≡ false → c ≡ true → ⊥
+      plain c f g = cc
+
+      of : (c : Bool) → is_match a.0 ≡ c → NoMatch is_match (before_match is_match front)
+          → NoMatch is_match (cond c [] (a ∷ before_match is_match front))
+      of true e rest b i t = i
+      of false e rest b i t = elim i [ inl here ↦ plain (is_match a.0) e (rw (← here) t) | inr later ↦ rest b later t ]
+
+  -- what stands before it stands in the front
+  pub before_match-among : (front : List (Pair × Slots)) (b : Pair × Slots) → In b (before_match is_match front)
+      → In b front
+  before_match-among [] b = λ i. i
+  before_match-among (a ∷ front) b = of (is_match a.0) (before_match-among front b)
+    where
+      of : (c : Bool) → (In b (before_match is_match front) → In b front)
+          → In b (cond c [] (a ∷ before_match is_match front)) → In b (a ∷ front)
+      of true rest i = absurd i
+      of false rest i = elim i [ inl here ↦ inl here | inr later ↦ inr (rest later) ]
+
+  -- the items before the first match pair, that pair, and those behind it
+  pub record FirstCut (front : List (Pair × Slots)) (a : Pair × Slots) : Type 0 where
+    pub after : List (Pair × Slots)
+    pub split : front ≡ before_match is_match front ++ a ∷ after
+    pub among : In a front
+    pub matches : is_match a.0 ≡ true
+
+  pub first_match-cut : (front : List (Pair × Slots)) (a : Pair × Slots) → first_match is_match front ≡ Some a
+      → FirstCut front a
+  first_match-cut [] a e = cc
+  first_match-cut (b ∷ front) a e =
+      elim (cases_Bool (is_match b.0)) [
+        | inl t ↦
+            let first : Some b ≡ Some a = rw t at e in
+            let same : b ≡ a = cc in
+            record {
+              after = front;
+              split = rw t (ap (λ (c : Pair × Slots). c ∷ front) same);
+              among = inl (sym same);
+              matches = rw (← same) t;
+            }
+        | inr f ↦
+            let h = first_match-cut front a (rw f at e) in
+            record {
+              after = h.after;
+              split = rw f (ap (λ (ys : List (Pair × Slots)). b ∷ ys) h.split);
+              among = inr h.among;
+              matches = h.matches;
+            }
+      ]
+
+  -- where there is no match pair, all stand before the first
+  pub before_match-all : (front : List (Pair × Slots)) → first_match is_match front ≡ None
+      → before_match is_match front ≡ front
+  before_match-all [] e = refl
+  before_match-all (a ∷ front) e =
+      elim (cases_Bool (is_match a.0)) [
+        | inl t ↦ let some : Some a ≡ None = rw t at e in cc
+        | inr f ↦ rw f (ap (λ ys. a ∷ ys) (before_match-all front (rw f at e)))
+      ]

@@ -1,17 +1,15 @@
 -- The steps of a scan, as a loop takes them: each is the step of the search for every set of match pairs at once.
-use Rattle.std.proofs.Common.{◌≡◌, ℕ, suc, ◌+◌, ◌≤◌, ◌<◌, ◌⊎◌, inl, inr, Bool, true, false, List, [], ◌∷◌, ◌++◌, map, length, refl, ap, subst, arith}
-use Rattle.std.specs.Prelude.{None, Some, cond}
-use Rattle.std.specs.Option.{option_or}
-use Rattle.std.proofs.lemmas.Bool.{cases_Bool}
+use Rattle.std.proofs.Common.{◌≡◌, ℕ, suc, ◌+◌, ◌≤◌, ◌<◌, ◌⊎◌, inl, inr, Bool, true, List, [], ◌∷◌, ◌++◌, map, length, refl, arith}
+use Rattle.std.specs.Prelude.{None, Some}
 use Rattle.nfa_paths.specs.Graphs.{Pair, Space, In, NoRepeats}
 use Rattle.nfa_paths.specs.Exploring.{Slots, Hit, Item, round, found, Searching, ExploresTo, ExploresBehind}
 use Rattle.nfa_paths.specs.Exploring.Item.{Explore, Load}
-use Rattle.nfa_paths.specs.Kinds.{NoMatch, first_match, before_match, behind_match, IsFront, IsOver, Scanning}
+use Rattle.nfa_paths.specs.Kinds.{before_match, IsFront, IsOver, Scanning}
+use Rattle.nfa_paths.proofs.FrontMatchLemmas.{before_match-plain, before_match-among}
 use Rattle.nfa_paths.proofs.PathLemmas.{IsFirst-target}
 use Rattle.nfa_paths.proofs.PathToLemmas.{is_false}
 use Rattle.nfa_paths.proofs.SearchLemmas.{AnswerBehind-along}
 use Rattle.nfa_paths.proofs.SearchingLemmas.{Searching-load, Searching-round, Searching-done}
-use Rattle.nfa_paths.proofs.MemberLemmas.{In-middle}
 
 module _ (space : Space) (is_match : Pair → Bool) (slots : Slots) where
   module _ {e : ℕ} {Seen : Pair → Type 0} {spent : ℕ} {front : List (Pair × Slots)} {rest : List Item}
@@ -129,102 +127,26 @@ module _ (space : Space) (target : Pair → Bool) where
         (Load old ∷ []) [] slots slots g (λ k. k) h);
   }
 
-  -- the items of a front before its first match pair, and that pair, if there is one
-  record Cut (front : List (Pair × Slots)) (a : Pair × Slots) : Type 0 where
-    after : List (Pair × Slots)
-    first : first_match target front ≡ Some a
-    split : front ≡ before_match target front ++ a ∷ after
-    matches : target a.0 ≡ true
-
-  -- no match pair stands before the first
-  before_match-plain : (front : List (Pair × Slots)) → NoMatch target (before_match target front)
-  before_match-plain [] = λ b i t. i
-  before_match-plain (a ∷ front) = of (target a.0) refl (before_match-plain front)
-    where
-      plain : (c : Bool) → c ≡ false → c ≡ true → ⊥
-      plain c f g = cc
-
-      of : (c : Bool) → target a.0 ≡ c → NoMatch target (before_match target front)
-          → NoMatch target (cond c [] (a ∷ before_match target front))
-      of true e rest b i t = i
-      of false e rest b i t = elim i [ inl here ↦ plain (target a.0) e (rw (← here) t) | inr later ↦ rest b later t ]
-
-  -- what stands before the first match pair stands in the front
-  before_match-among : (front : List (Pair × Slots)) (b : Pair × Slots) → In b (before_match target front) → In b front
-  before_match-among [] b = λ i. i
-  before_match-among (a ∷ front) b = of (target a.0) (before_match-among front b)
-    where
-      of : (c : Bool) → (In b (before_match target front) → In b front)
-          → In b (cond c [] (a ∷ before_match target front)) → In b (a ∷ front)
-      of true rest i = absurd i
-      of false rest i = elim i [ inl here ↦ inl here | inr later ↦ inr (rest later) ]
-
-  -- a front has a first match pair, or none
-  front_cases : (front : List (Pair × Slots))
-      → ((first_match target front ≡ None) × (before_match target front ≡ front)) ⊎ ((a : Pair × Slots) × Cut front a)
-  front_cases [] = inl (refl, refl)
-  front_cases (a ∷ front) =
-      elim (cases_Bool (target a.0)) [
-        | inl t ↦ inr (a, record { after = front; first = rw t refl; split = rw t refl; matches = t })
-        | inr f ↦
-            elim (front_cases front) [
-              | inl n ↦ inl (rw f n.0, rw f (ap (λ x. a ∷ x) n.1))
-              | inr h ↦ inr (
-                h.0,
-                record {
-                  after = h.1.after;
-                  first = rw f h.1.first;
-                  split =
-                      rw f (ap (λ x. a ∷ x) h.1.split);
-                  matches = h.1.matches;
-                },
-              )
-            ]
-      ]
-
   -- The next position of the search that drops what stands behind a match pair: the items before the front's first
-  -- match pair go on,
-  -- and that pair becomes the answer otherwise.
-  pub Searching-cut_round : {goal : Hit → ℕ → Type 0} {e : ℕ} {Seen After : Pair → Type 0} {spent : ℕ}
-      {front : List (Pair × Slots)} {otherwise : Hit} {waiting : List Item} {slots old : Slots}
-      → Searching space target goal Seen spent front otherwise (Load old ∷ waiting) slots
+  -- match pair go on.
+  pub Searching-before_round : {goal : Hit → ℕ → Type 0} {e : ℕ} {Seen After : Pair → Type 0} {spent : ℕ}
+      {otherwise : Hit} {waiting : List Item} {slots old : Slots} (front : List (Pair × Slots))
+      → Searching space target goal Seen spent (before_match target front) otherwise (Load old ∷ waiting) slots
       → ((x y : Pair) → In y (space.edges x) → x.1 ≤ y.1)
       → ((a : Pair × Slots) → In a front → (space.capture a.0 ≡ None) × (a.0.1 ≡ e)
       × ((w : Pair) → In w (space.edges a.0) → e < w.1))
       → ((k : Pair) → In (Explore k) waiting → e < k.1) → ((x : Pair) → Seen x → x.1 ≤ e) → ((x : Pair) → After x → ⊥)
       → (after : Slots)
-      → Searching space target goal After spent [] (option_or (first_match target front) otherwise)
-      (round space.edges (before_match target front) (Load old ∷ behind_match (first_match target front) waiting)) after
-  Searching-cut_round {goal} {e} {Seen} {After} {spent} {front} {otherwise} {waiting} {slots} {old} s onward rests comes
-      past fresh after =
-      elim (front_cases front) [
-        | inl n ↦
-            let go_on : Searching space target goal Seen spent (before_match target front) otherwise
-            (Load old ∷ waiting) slots = rw n.1 s in
-            rw n.0 (next otherwise waiting go_on comes)
-        | inr h ↦
-            let split : Searching space target goal Seen spent (before_match target front ++ h.0 ∷ h.1.after)
-            otherwise (Load old ∷ waiting) slots =
-            subst (λ f. Searching space target goal Seen spent f otherwise (Load old ∷ waiting) slots) h.1.split
-            s in
-            let here : In h.0 front = rw h.1.split (In-middle (before_match target front) h.0 h.1.after) in
-            let cut = Searching-cut (before_match target front) h.0 h.1.after split h.1.matches (rests h.0 here).0 in
-            rw h.1.first (next (Some h.0) [] (Searching-wait old cut) (λ k i. absurd i))
-      ]
-    where
-      next : (other : Hit) (waits : List Item)
-          → Searching space target goal Seen spent (before_match target front) other (Load old ∷ waits) slots
-          → ((k : Pair) → In (Explore k) waits → e < k.1)
-          → Searching space target goal After spent [] other
-          (round space.edges (before_match target front) (Load old ∷ waits)) after
-      next other waits t waiting_later =
-          Searching-round space target t (λ x. e < x.1)
-          (λ x y a i. let k : x.1 ≤ y.1 = onward x y i in let l : e < x.1 = a in omega arith)
-          (λ a i.
-          let r = rests a (before_match-among front a i) in (
-            is_false (target a.0) (before_match-plain front a i),
-            r.0,
-            λ h. let k : e < a.0.1 = h in let l : a.0.1 ≡ e = r.1 in omega arith,
-            r.2,
-          ))
-          waiting_later (λ x h a. let k : x.1 ≤ e = past x h in let l : e < x.1 = a in omega arith) fresh after
+      → Searching space target goal After spent [] otherwise
+      (round space.edges (before_match target front) (Load old ∷ waiting)) after
+  Searching-before_round {e = e} front s onward rests comes past fresh after =
+      Searching-round space target s (λ x. e < x.1)
+      (λ x y a i. let k : x.1 ≤ y.1 = onward x y i in let l : e < x.1 = a in omega arith)
+      (λ a i.
+      let r = rests a (before_match-among target front a i) in (
+        is_false (target a.0) (before_match-plain target front a i),
+        r.0,
+        λ h. let k : e < a.0.1 = h in let l : a.0.1 ≡ e = r.1 in omega arith,
+        r.2,
+      ))
+      comes (λ x h a. let k : x.1 ≤ e = past x h in let l : e < x.1 = a in omega arith) fresh after

@@ -1,5 +1,5 @@
 -- From one position to the next of a scan for all sets of matches.
-use Rattle.std.proofs.Common.{◌≡◌, ℕ, ◌+◌, ◌-◌, ◌<◌, ◌≤◌, ◌⊎◌, inl, inr, List, [], ◌∷◌, length, replicate, refl, ap, sym, ◌∙◌, arith, subst, Bool, true, false}
+use Rattle.std.proofs.Common.{◌≡◌, ℕ, ◌+◌, ◌-◌, ◌≤◌, ◌⊎◌, inl, inr, List, [], ◌∷◌, length, replicate, refl, ap, sym, ◌∙◌, arith, subst, Bool, true, false}
 use Rattle.std.specs.Prelude.{Option, Some, None, cond, option_map, is_some}
 use Rattle.std.specs.Option.{option_or}
 use Rattle.regex_search_core.specs.Search.{Search}
@@ -10,19 +10,20 @@ use Rattle.regex_search_core.specs.declared.search.HalfMatch.{HalfMatch}
 use Rattle.regex_search_core.specs.declared.search.MatchKind.TheVariants.{All as AllMatches, LeftmostFirst}
 use Rattle.thompson_nfa.specs.Automaton.{Automaton}
 use Rattle.nfa_paths.specs.Graphs.{Pair, In}
-use Rattle.nfa_paths.specs.Exploring.{Item, Slots, Hit, round}
-use Rattle.nfa_paths.specs.Exploring.Item.{Explore, Load}
+use Rattle.nfa_paths.specs.Exploring.{Slots, Hit}
+use Rattle.nfa_paths.specs.Exploring.Item.{Load}
 use Rattle.nfa_paths.specs.Kinds.{is_resting, NoMatch, IsFoundBy, NoneBefore, LastBefore, last_match, IsFront, Scanning}
-use Rattle.nfa_paths.specs.Paths.{node_at, pattern_of, edges, is_match, capture, starts, IsScanAnswer, space}
-use Rattle.nfa_paths.proofs.FrontMatchLemmas.{first_match-is, last_match-is}
+use Rattle.nfa_paths.specs.Paths.{node_at, pattern_of, is_match, capture, starts, IsScanAnswer, space}
+use Rattle.nfa_paths.proofs.FrontMatchLemmas.{first_match-is, first_match-cut, last_match-is}
 use Rattle.nfa_paths.proofs.ScanLemmas.{NoneBefore-step, LastBefore-step}
 use Rattle.nfa_paths.proofs.ScanAnswerLemmas.{edges-onward, seeds-later, Scanned-matches, scan_earliest-cut, scan_earliest_last-found}
-use Rattle.nfa_paths.proofs.ScanningLemmas.{Scanning-front, Scanning-round}
+use Rattle.nfa_paths.proofs.ScanningLemmas.{Scanning-load, Scanning-front, Scanning-round}
 use Rattle.nfa_scanning.specs.Marks.{Marks}
-use Rattle.nfa_pikevm_scan.specs.States.{Front, tasks, unmarked, meant, GoesOn, SeenAt, Crosses}
+use Rattle.nfa_pikevm_scan.specs.States.{Front, tasks, unmarked, meant, AreMatchPairs, GoesOn, SeenAt, Crosses}
 use Rattle.nfa_pikevm_scan.specs.Scans.{blank, starts_from, half_found, IsSoFar, ScansAll}
-use Rattle.nfa_pikevm_scan.proofs.TaskLemmas.{AnswersFor, AnswersFor-round, Searching-for}
-use Rattle.nfa_pikevm_scan.proofs.FrontLemmas.{Formed-rests, Formed-resting, Formed-next, first_match-cut, last_match-or, SeenAt-none}
+use Rattle.nfa_pikevm_scan.proofs.TaskLemmas.{AnswersFor-round, Searching-for}
+use Rattle.nfa_pikevm_scan.proofs.FrontLemmas.{Formed-rests, Formed-resting, Formed-next, last_match-or, SeenAt-none}
+use Rattle.nfa_pikevm_scan.proofs.ScanLemmas.{Crossed, search-crossed}
 
 -- what is found last stands in the front, or was found before
 last_match-among : (is : Pair → Bool) (g : Hit) (front : Front) (a : Pair × Slots) → last_match is g front ≡ Some a
@@ -56,72 +57,63 @@ pub record HasLast (nfa : Automaton) (x : Search) (at width : ℕ) (found : Opti
   pub is_so_far : IsSoFar nfa x found slots so_far
   pub last : LastBefore (space nfa x) (is_match nfa) (blank width) at turns so_far
 
+module _ (wanted : Pair → Bool) {nfa : Automaton} (sub : AreMatchPairs nfa wanted) {x : Search}
+    {at width state limit : ℕ} {met after : Marks} {items kept : List (ℕ × Slots)} {front : Front} {goes : Type 0}
+    (c : Crossed nfa x at width state limit met items goes after kept front)
+    (s : Scanning (space nfa x) wanted (blank width) at (SeenAt at (unmarked met).bits) met.turns []
+    (tasks at items (Load (blank width) ∷ starts_from width state (at + 1) limit)) (blank width)) where
+  -- what was met and put aside, wherever the position ended
+  pub all-left : Scanning (space nfa x) wanted (blank width) at (SeenAt at after.bits) after.turns front c.leads.left
+      c.leads.written
+  all-left = record {
+    searching = λ target m. c.leads.follows.leads target (λ v t. sub v (m v t).0) (starts nfa x) (blank width) None
+        (s.searching target m);
+  }
+
+  -- where it went on to the end of its work
+  all-whole : goes → Scanning (space nfa x) wanted (blank width) at (SeenAt at after.bits) after.turns front
+      (Load (blank width) ∷ starts_from width state (at + 1) limit) c.leads.written
+  all-whole goes_on = rw (c.leads.whole goes_on) at all-left
+
+  -- its front is complete
+  pub all-front : goes → IsFront (space nfa x) (is_resting nfa) wanted (blank width) after.turns front at
+  all-front goes_on =
+      Scanning-front (space nfa x) wanted (blank width)
+      (Scanning-load (space nfa x) wanted (blank width) (all-whole goes_on))
+      (Formed-resting nfa x at after.bits front c.formed) c.formed.once
+      (seeds-later (blank width) state at (limit - (at + 1)))
+
+  -- the next position
+  pub ScansAll-next : goes → ScansAll nfa x wanted (at + 1) width state limit after kept
+  ScansAll-next goes_on =
+      let next = Scanning-round (space nfa x) wanted (blank width)
+      {After = SeenAt (at + 1) (replicate (length after.bits) false)} (all-whole goes_on) (edges-onward nfa x)
+      (Formed-rests nfa x at after.bits front c.formed) (seeds-later (blank width) state at (limit - (at + 1)))
+      (λ v seen. let h : v.1 ≡ at = seen.here in omega arith) (SeenAt-none (at + 1) (length after.bits))
+      (blank width) in
+      rw c.added (record {
+        scanning = record {
+          searching = λ target m.
+              Searching-for (space nfa x) target (next.searching target m)
+              (AnswersFor-round (space nfa x) target at front (blank width) (starts_from width state (at + 1) limit)
+              (Formed-next nfa x at after.bits front c.formed))
+              (blank width);
+        };
+      })
+
 module _ (nfa : Automaton) (x : Search) (at width state limit : ℕ) where
   module _ {past : Bool} {met : Marks} {items : List (ℕ × Slots)} {slots : Slots} {hit : Option PatternID}
       {after : Marks} {kept : List (ℕ × Slots)} {written : Slots}
       (c : Crosses nfa x at past met items slots hit after kept written)
       (s : Scanning (space nfa x) (is_match nfa) (blank width) at (SeenAt at (unmarked met).bits) met.turns []
       (tasks at items (Load (blank width) ∷ starts_from width state (at + 1) limit)) (blank width)) where
-    -- what was met and put aside, wherever the position ended
-    all-left : (work : List Item) → (c.leads (blank width) (blank width) (starts_from width state (at + 1) limit)).left
-        ≡ work
-        → Scanning (space nfa x) (is_match nfa) (blank width) at (SeenAt at after.bits)
-        after.turns c.front
-        work (c.leads (blank width) (blank width) (starts_from width state (at + 1) limit)).written
-    all-left work is =
-        let l = c.leads (blank width) (blank width) (starts_from width state (at + 1) limit) in
-        rw (← is) (record {
-          searching = λ target m. l.follows.leads target (λ v t. (m v t).0) (starts nfa x)
-              (blank width) None (s.searching target m);
-        })
+    -- the same of a search, where each match is wanted
+    cross-front : GoesOn past hit → IsFront (space nfa x) (is_resting nfa) (is_match nfa) (blank width) after.turns
+        c.front at
+    cross-front = all-front (is_match nfa) (λ v t. t) (search-crossed width state limit c) s
 
-    -- where it went on to the end of its work
-    all-whole : GoesOn past hit
-        → Scanning (space nfa x) (is_match nfa) (blank width) at (SeenAt at after.bits)
-        after.turns c.front
-        (Load (blank width) ∷ starts_from width state (at + 1) limit)
-        (c.leads (blank width) (blank width) (starts_from width state (at + 1) limit)).written
-    all-whole goes_on =
-        all-left (Load (blank width) ∷ starts_from width state (at + 1) limit)
-        ((c.leads (blank width) (blank width) (starts_from width state (at + 1) limit)).whole goes_on)
-
-    -- its front is complete
-    all-front : GoesOn past hit → IsFront (space nfa x) (is_resting nfa) (is_match nfa)
-        (blank width) after.turns c.front at
-    all-front goes_on =
-        Scanning-front (space nfa x) (is_match nfa) (blank width) (all-whole goes_on)
-        (Formed-resting nfa x at after.bits c.front c.formed) c.formed.once
-        (λ k i. later k i)
-      where
-        no_load : (k : Pair) (old : Slots) → Explore k ≡ Load old → ⊥
-        no_load k old e = cc
-
-        later : (k : Pair) → In (Explore k) (Load (blank width) ∷ starts_from width state (at + 1) limit) → at < k.1
-        later k i = elim i [
-          | inl e ↦ absurd (no_load k (blank width) e)
-          | inr j ↦ seeds-later (blank width) state at (limit - (at + 1)) k j
-        ]
-
-    -- the next position
-    pub ScansAll-cross : GoesOn past hit → ScansAll nfa x (at + 1) width state limit after kept
-    ScansAll-cross goes_on =
-        let next = Scanning-round (space nfa x) (is_match nfa) (blank width)
-        {After = SeenAt (at + 1) (replicate (length after.bits) false)} (all-whole goes_on) (edges-onward nfa x)
-        (Formed-rests nfa x at after.bits c.front c.formed) (seeds-later (blank width) state at (limit - (at + 1)))
-        (λ v seen. let h : v.1 ≡ at = seen.here in omega arith) (SeenAt-none (at + 1) (length after.bits))
-        (blank width) in
-        record {
-          scanning = record {
-            searching = λ target m.
-                Searching-for (space nfa x) target (next.searching target m)
-                (subst (λ (ks : List (ℕ × Slots)). AnswersFor (space nfa x) target
-                (round (edges nfa x) c.front (Load (blank width) ∷ starts_from width state (at + 1) limit))
-                (tasks (at + 1) ks (Load (blank width) ∷ starts_from width state (at + 1) limit))) (sym c.added)
-                (AnswersFor-round (space nfa x) target at c.front (blank width) (starts_from width state (at + 1) limit)
-                (Formed-next nfa x at after.bits c.front c.formed)))
-                (blank width);
-          };
-        }
+    pub ScansAll-cross : GoesOn past hit → ScansAll nfa x (is_match nfa) (at + 1) width state limit after kept
+    ScansAll-cross = ScansAll-next (is_match nfa) (λ v t. t) (search-crossed width state limit c) s
 
     -- no path ended before the position, and none ends at it
     pub NoneBefore-cross : hit ≡ None → NoneBefore (space nfa x) (is_match nfa) at
@@ -129,7 +121,7 @@ module _ (nfa : Automaton) (x : Search) (at width state limit : ℕ) where
     NoneBefore-cross none before =
         NoneBefore-step (space nfa x) (is_resting nfa) (is_match nfa) (blank width)
         (Scanned-matches nfa x (is_match nfa) (λ v t. t)) before
-        (all-front (inr none)) (no_match past (rw none at c.is_hit).0)
+        (cross-front (inr none)) (no_match past (rw none at c.is_hit).0)
       where
         never : {b : Pair × Slots} → Some b ≡ None → ⊥
         never e = cc
@@ -155,8 +147,8 @@ module _ (nfa : Automaton) (x : Search) (at width state limit : ℕ) where
       → NoneBefore (space nfa x) (is_match nfa) at → (a : Pair × Slots) → meant false (is_match nfa) c.front ≡ Some a
       → IsFoundBy (capture nfa) (blank width) (IsScanAnswer nfa x LeftmostFirst true) after.turns (Some a)
   earliest-first {after = after} c s none a first =
-      scan_earliest-cut nfa x (blank width) none (all-left c s
-      (c.leads (blank width) (blank width) (starts_from width state (at + 1) limit)).left refl)
+      scan_earliest-cut nfa x (blank width) none
+      (all-left (is_match nfa) (λ v t. t) (search-crossed width state limit c) s)
       (Formed-resting nfa x at after.bits c.front c.formed) first
 
   -- and where it went on, the last match is the earliest last path's
@@ -167,7 +159,7 @@ module _ (nfa : Automaton) (x : Search) (at width state limit : ℕ) where
       (tasks at items (Load (blank width) ∷ starts_from width state (at + 1) limit)) (blank width)
       → NoneBefore (space nfa x) (is_match nfa) at → (a : Pair × Slots) → meant true (is_match nfa) c.front ≡ Some a
       → IsFoundBy (capture nfa) (blank width) (IsScanAnswer nfa x AllMatches true) after.turns (Some a)
-  earliest-last c s none a last = scan_earliest_last-found nfa x (blank width) none (all-front c s (inl refl)) a last
+  earliest-last c s none a last = scan_earliest_last-found nfa x (blank width) none (cross-front c s (inl refl)) a last
 
   -- a match is the half match that was made of it
   pub half-so_far : {past : Bool} {met : Marks} {items : List (ℕ × Slots)} {slots : Slots} {hit : Option PatternID}
@@ -207,7 +199,7 @@ module _ (nfa : Automaton) (x : Search) (at width state limit : ℕ) where
         is_so_far = subst (λ (g : Hit). IsSoFar nfa x (option_or half found) written g)
             (sym (last_match-or (is_match nfa) h.so_far c.front)) (of hit refl half is);
         last = LastBefore-step (space nfa x) (is_resting nfa) (is_match nfa) (blank width)
-            (Scanned-matches nfa x (is_match nfa) (λ v t. t)) grows h.last (all-front c s (inl refl));
+            (Scanned-matches nfa x (is_match nfa) (λ v t. t)) grows h.last (cross-front c s (inl refl));
       }
     where
       of : (o : Option PatternID) → hit ≡ o → (m : Option HalfMatch) → EndsAt at o m

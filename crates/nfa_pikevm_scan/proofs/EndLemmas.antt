@@ -22,11 +22,12 @@ use Rattle.nfa_paths.proofs.ScanLemmas.{IsFoundBy-more, NoneBefore-start, LastBe
 use Rattle.nfa_paths.proofs.ScanningLemmas.{Scanning-load, Scanning-over}
 use Rattle.nfa_scanning.specs.FirstBytes.{IsFirstBytes}
 use Rattle.nfa_scanning.specs.Marks.{Marks}
-use Rattle.nfa_pikevm_scan.specs.States.{tasks, unmarked, SeenAt, SearchingAt, Crosses}
+use Rattle.nfa_pikevm_scan.specs.States.{tasks, unmarked, AreMatchPairs, SeenAt, SearchingAt, Crosses}
 use Rattle.nfa_pikevm_scan.specs.Scans.{blank, starts_from, with_start, half_found, IsPassed, Joins, AreStarts, IsSoFar, SearchesFirst, ScansAll}
 use Rattle.nfa_pikevm_scan.specs.declared.scan.Starts.{Starts}
 use Rattle.nfa_pikevm_scan.proofs.TaskLemmas.{tasks-joins, tasks-alone, tasks-joined, starts_from-end, AnswersFor, AnswersFor-same, AnswersFor-then, AnswersFor-tasks, AnswersFor-pass, AnswersFor-skip, Searching-for, Searching-seen, Searching-begin}
 use Rattle.nfa_pikevm_scan.proofs.FrontLemmas.{SeenAt-none}
+use Rattle.nfa_pikevm_scan.proofs.RoomLemmas.{over-joined}
 use Rattle.nfa_pikevm_scan.proofs.ScanLemmas.{SearchesFirst-hit}
 use Rattle.nfa_pikevm_scan.proofs.AllLemmas.{HasLast, EndsAt, half-so_far, earliest-first, earliest-last}
 
@@ -58,8 +59,9 @@ module _ (nfa : Automaton) (x : Search) where
     SearchesFirst-begin unset =
         record { so_far = None; is_so_far = (refl, unset); searching = SearchingAt-begin (is_match nfa) }
 
-    pub ScansAll-begin : ScansAll nfa x x.start (length slots) begins.state begins.limit met []
-    ScansAll-begin = record { scanning = record { searching = λ target m. SearchingAt-begin target } }
+    pub ScansAll-begin : (wanted : Pair → Bool)
+        → ScansAll nfa x wanted x.start (length slots) begins.state begins.limit met []
+    ScansAll-begin wanted = record { scanning = record { searching = λ target m. SearchingAt-begin target } }
 
     pub HasLast-begin : slots ≡ blank (length slots) → HasLast nfa x x.start (length slots) None slots met.turns
     HasLast-begin unset = record {
@@ -78,21 +80,21 @@ module _ (nfa : Automaton) (x : Search) where
 
   -- the starts join
 
-  -- all sets of matches at once
-  pub ScansAll-joined : (begins : Starts) (at width : ℕ) {met : Marks} {items : List (ℕ × Slots)}
-      → ScansAll nfa x at width begins.state begins.limit met items
-      → Scanning (space nfa x) (is_match nfa) (blank width) at (SeenAt at (unmarked met).bits) met.turns []
+  -- all sets of wanted pairs at once
+  pub ScansAll-joined : (begins : Starts) (at width : ℕ) {wanted : Pair → Bool} {met : Marks} {items : List (ℕ × Slots)}
+      → ScansAll nfa x wanted at width begins.state begins.limit met items
+      → Scanning (space nfa x) wanted (blank width) at (SeenAt at (unmarked met).bits) met.turns []
       (tasks at (with_start begins width at items)
       (Load (blank width) ∷ starts_from width begins.state (at + 1) begins.limit)) (blank width)
-  ScansAll-joined begins at width {met} {items} s =
-      subst (λ (w : List Item). Scanning (space nfa x) (is_match nfa) (blank width) at
+  ScansAll-joined begins at width {wanted} {met} {items} s =
+      subst (λ (w : List Item). Scanning (space nfa x) wanted (blank width) at
       (SeenAt at (unmarked met).bits) met.turns [] w (blank width)) (tasks-joined begins width at items) s.scanning
 
   -- the same by what the join gives
-  pub ScansAll-join : (begins : Starts) (at width : ℕ) (met now : Marks) → now ≡ met → (items kept : List (ℕ × Slots))
-      → kept ≡ with_start begins width at items
-      → ScansAll nfa x at width begins.state begins.limit met items
-      → Scanning (space nfa x) (is_match nfa) (blank width) at (SeenAt at (unmarked now).bits) now.turns []
+  pub ScansAll-join : (begins : Starts) (at width : ℕ) {wanted : Pair → Bool} (met now : Marks) → now ≡ met
+      → (items kept : List (ℕ × Slots)) → kept ≡ with_start begins width at items
+      → ScansAll nfa x wanted at width begins.state begins.limit met items
+      → Scanning (space nfa x) wanted (blank width) at (SeenAt at (unmarked now).bits) now.turns []
       (tasks at kept (Load (blank width) ∷ starts_from width begins.state (at + 1) begins.limit)) (blank width)
   ScansAll-join begins at width met now same items kept e s = rw (same, e) (ScansAll-joined begins at width s)
 
@@ -214,19 +216,18 @@ module _ (nfa : Automaton) (x : Search) where
       Scans-so_far LeftmostFirst false width met.turns found slots so_far is
       (scan_first-found nfa x (blank width) met.turns so_far answer) size
 
-  -- nothing is left to explore: every path has ended
-  pub all-over : (at next width state limit : ℕ) (met : Marks) (items : List (ℕ × Slots)) → limit ≤ next → items ≡ []
-      → Scanning (space nfa x) (is_match nfa) (blank width) at (SeenAt at (unmarked met).bits) met.turns []
-      (tasks at items (Load (blank width) ∷ starts_from width state next limit)) (blank width)
-      → EndsBefore (space nfa x) (is_match nfa) at
-  all-over at next width state limit met items past none s =
-      let alone : Scanning (space nfa x) (is_match nfa) (blank width) at
+  -- no state and no start is left: every path has ended
+  pub ScansAll-over : (begins : Starts) (at width : ℕ) {wanted : Pair → Bool} {met : Marks} {items : List (ℕ × Slots)}
+      → ScansAll nfa x wanted at width begins.state begins.limit met items → with_start begins width at items ≡ []
+      → AreMatchPairs nfa wanted → EndsBefore (space nfa x) wanted at
+  ScansAll-over begins at width {wanted} {met} {items} s none sub =
+      let past : begins.limit ≤ at = over-joined begins width at items none in
+      let later : begins.limit ≤ at + 1 = omega arith in
+      let alone : Scanning (space nfa x) wanted (blank width) at
       (SeenAt at (unmarked met).bits) met.turns [] (Load (blank width) ∷ []) (blank width) =
-      rw (none, starts_from-end width state past) at s in
-      EndsBefore-over (space nfa x) (is_resting nfa) (is_match nfa) (blank width)
-      (Scanned-matches nfa x (is_match nfa) (λ v t. t)) at
-      (Scanning-over (space nfa x) (is_match nfa) (blank width)
-      (Scanning-load (space nfa x) (is_match nfa) (blank width) alone))
+      rw (none, starts_from-end width begins.state later) at (ScansAll-joined begins at width s) in
+      EndsBefore-over (space nfa x) (is_resting nfa) wanted (blank width) (Scanned-matches nfa x wanted sub) at
+      (Scanning-over (space nfa x) wanted (blank width) (Scanning-load (space nfa x) wanted (blank width) alone))
 
   -- what was found last
   pub last-over : (at width : ℕ) (found : Option HalfMatch) (slots : Slots) (turns : ℕ)
@@ -237,11 +238,8 @@ module _ (nfa : Automaton) (x : Search) where
       (scan_last-found nfa x (blank width) h.last ends) size
 
   -- every path ends within the span
-  pub ends-span : EndsBefore (space nfa x) (is_match nfa) (x.end + 1)
-  ends-span = EndsBefore-span nfa x (is_match nfa)
-
   pub ends-at : (at : ℕ) → at ≡ x.end + 1 → EndsBefore (space nfa x) (is_match nfa) at
-  ends-at at e = rw e ends-span
+  ends-at at e = rw e (EndsBefore-span nfa x (is_match nfa))
 
   -- a position with a match, of the search for the first path
   pub SearchesFirst-some : (at width state limit : ℕ) {met : Marks} {items : List (ℕ × Slots)} {slots : Slots}

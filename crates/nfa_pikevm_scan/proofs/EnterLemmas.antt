@@ -5,7 +5,7 @@ use Rattle.std.specs.List.{slice_get, sum_by}
 use Rattle.std.proofs.lemmas.Option.{slice_get-map, get_or_from_slice_get}
 use Rattle.std.proofs.lemmas.List.{length-append, map_push, get_or_default}
 use Rattle.std.proofs.lemmas.List.Elements.{All-push, All-head, All-tail, All-weaker}
-use Rattle.std.proofs.lemmas.List.Sums.{sum_by_push, sum-map, sum_by-cons}
+use Rattle.std.proofs.lemmas.List.Sums.{sum_by_push, sum-map}
 use Rattle.std.proofs.lemmas.Grind.{reverse_onto}
 use Rattle.regex_search_core.specs.Search.{Search}
 use Rattle.regex_search_core.specs.Patterns.{number_of}
@@ -36,6 +36,7 @@ use Rattle.nfa_pikevm_scan.specs.declared.frame.FollowEpsilon.TheVariants.{Explo
 use Rattle.nfa_pikevm_scan.proofs.EdgeLemmas.{node_at-get, edges-some, edges-none, moves-one}
 use Rattle.nfa_pikevm_scan.proofs.FollowLemmas.{Follows-then, Follows-marked, Follows-plain, Follows-write, Follows-unkept, Follows-keep, Follows-unrestored}
 use Rattle.nfa_pikevm_scan.proofs.UnwindLemmas.{work_onto-push}
+use Rattle.nfa_pikevm_scan.proofs.FrontLemmas.{sum-ones}
 
 -- the turn marked the state
 pub record Entered (nfa : Automaton) (s : ℕ) (node : Node) (m n : Marks) : Type 0 where
@@ -61,9 +62,6 @@ Entered-made m n same is node state room counted fresh =
     }
 
 -- each state counts once
-sum-ones : (states : List Node) → sum_by one_of states ≡ length states
-sum-ones [] = refl
-sum-ones (s ∷ states) = sum_by-cons one_of s states ∙ (let k = sum-ones states in omega arith)
 
 -- what becomes of the set of kept states where a byte leads to this target
 abbrev pub IsKept : Option ℕ → Slots → Active → Active → Type 0

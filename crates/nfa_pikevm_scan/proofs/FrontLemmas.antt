@@ -1,10 +1,9 @@
 -- What the front of a position leads on to, and what it costs.
-use Rattle.std.proofs.Common.{◌≡◌, ℕ, suc, zero, ◌+◌, ◌-◌, ◌*◌, ◌<◌, ◌≤◌, ◌⊎◌, inl, inr, List, [], ◌∷◌, ◌++◌, length, get_or, map, replicate, refl, ap, sym, ◌∙◌, arith, subst, Bool, true, false}
+use Rattle.std.proofs.Common.{◌≡◌, ℕ, suc, zero, ◌+◌, ◌-◌, ◌*◌, ◌<◌, ◌≤◌, ◌⊎◌, inl, inr, List, [], ◌∷◌, length, get_or, map, replicate, refl, ap, sym, ◌∙◌, arith, subst, Bool, true, false}
 use Rattle.std.specs.Prelude.{Option, Some, None, All, cond, option_map, option_and_then, option_to_list}
 use Rattle.std.specs.List.{sum_by}
 use Rattle.std.specs.Option.{option_or}
 use Rattle.std.proofs.Math.Nat.{mul-le-mul_right}
-use Rattle.std.proofs.lemmas.Bool.{cases_Bool}
 use Rattle.std.proofs.lemmas.List.Elements.{All-head, All-tail, All-cons, All-nil}
 use Rattle.std.proofs.lemmas.List.Sums.{sum-map, sum_by-cons}
 use Rattle.regex_search_core.specs.Search.{Search}
@@ -12,9 +11,10 @@ use Rattle.thompson_nfa.specs.Automaton.{Automaton, Node, LeadsBelow}
 use Rattle.thompson_nfa.specs.Automaton.Node.{ByteRange, Sparse, Dense, Look, Union, BinaryUnion, Capture, Fail, Match}
 use Rattle.nfa_paths.specs.Graphs.{Pair, In}
 use Rattle.nfa_paths.specs.Exploring.{Slots, Hit}
-use Rattle.nfa_paths.specs.Kinds.{rests, is_resting, NoMatch, first_match, before_match, last_match}
-use Rattle.nfa_paths.specs.Paths.{degree, node_at, slot_of, edges, edges_of, byte_at, target_on, capture, turn_weight, span_len}
+use Rattle.nfa_paths.specs.Kinds.{rests, is_resting, last_match}
+use Rattle.nfa_paths.specs.Paths.{degree, node_at, edges, edges_of, byte_at, target_on, capture, turn_weight, span_len}
 use Rattle.nfa_paths.proofs.ScanAnswerLemmas.{edges-rise}
+use Rattle.nfa_paths.proofs.StartLemmas.{resting-capture}
 use Rattle.nfa_paths.proofs.TurnLemmas.{marked_sum-le}
 use Rattle.nfa_scanning.proofs.TargetLemmas.{target-below, byte_at-within}
 use Rattle.nfa_scanning.specs.Marks.{Marks}
@@ -22,7 +22,7 @@ use Rattle.nfa_pikevm_scan.specs.States.{Front, moves, unmarked, one_of, SeenAt,
 use Rattle.nfa_pikevm_scan.specs.Scans.{IsPaidAt, scan_turns}
 
 -- what holds of all holds of each
-pub All-In : {A : Type 0} (P : A → Type 0) (xs : List A) → All P xs → (a : A) → In a xs → P a
+All-In : {A : Type 0} (P : A → Type 0) (xs : List A) → All P xs → (a : A) → In a xs → P a
 All-In P [] h a i = absurd i
 All-In P (x ∷ xs) h a i = elim i [
   | inl e ↦ subst P (sym e) (All-head P x xs h)
@@ -62,18 +62,6 @@ rests-leads x (Capture next slot) p r = cc
 rests-leads x Fail p r = inl refl
 rests-leads x (Match pattern) p r = inl refl
 
--- it writes nothing
-rests-slot : (node : Node) → rests node ≡ true → slot_of node ≡ None
-rests-slot (ByteRange trans) r = refl
-rests-slot (Sparse ts) r = refl
-rests-slot (Dense targets) r = refl
-rests-slot (Look look next) r = refl
-rests-slot (Union alternates) r = refl
-rests-slot (BinaryUnion alt1 alt2) r = refl
-rests-slot (Capture next slot) r = cc
-rests-slot Fail r = refl
-rests-slot (Match pattern) r = refl
-
 -- a state of the NFA leads to its states
 node-leads : (nfa : Automaton) (s : ℕ) → s < length nfa.states → All (LeadsBelow (length nfa.states)) nfa.states
     → LeadsBelow (length nfa.states) (node_at nfa s)
@@ -81,24 +69,22 @@ unfolding node_at
 node-leads nfa s h leads = leads s Fail h
 
 module _ (nfa : Automaton) (x : Search) (at : ℕ) (bits : List Bool) where
-  -- the same of what was put aside
-  pub Formed-rests : (front : Front) → Formed nfa at bits front → (a : Pair × Slots) → In a front
-      → (capture nfa a.0 ≡ None) × (a.0.1 ≡ at) × ((w : Pair) → In w (edges nfa x a.0) → at < w.1)
-  Formed-rests front f a i =
-      let here : a.0.1 ≡ at = All-In (λ (b : Pair × Slots). b.0.1 ≡ at) front f.here a i in
-      let rest : rests (node_at nfa a.0.0) ≡ true =
-      All-In (λ (b : Pair × Slots). rests (node_at nfa b.0.0) ≡ true) front f.resting a i in (
-        rests-slot (node_at nfa a.0.0) rest,
-        here,
-        λ w j. let k : a.0.1 < w.1 = edges-rise nfa x a.0 w rest j in omega arith,
-      )
-
   pub Formed-resting : (front : Front) → Formed nfa at bits front → (a : Pair × Slots) → In a front
       → (is_resting nfa a.0 ≡ true) × (a.0.1 ≡ at)
   Formed-resting front f a i = (
     All-In (λ (b : Pair × Slots). rests (node_at nfa b.0.0) ≡ true) front f.resting a i,
     All-In (λ (b : Pair × Slots). b.0.1 ≡ at) front f.here a i,
   )
+
+  -- it writes nothing, and leads to later positions
+  pub Formed-rests : (front : Front) → Formed nfa at bits front → (a : Pair × Slots) → In a front
+      → (capture nfa a.0 ≡ None) × (a.0.1 ≡ at) × ((w : Pair) → In w (edges nfa x a.0) → at < w.1)
+  Formed-rests front f a i =
+      let r = Formed-resting front f a i in (
+        resting-capture nfa a.0 r.0,
+        r.1,
+        λ w j. let k : a.0.1 < w.1 = edges-rise nfa x a.0 w r.0 j in let here : a.0.1 ≡ at = r.1 in omega arith,
+      )
 
   -- each pair of it leads to one state or none
   Formed-one : (front : Front) → Formed nfa at bits front → (a : Pair × Slots) → In a front
@@ -147,59 +133,6 @@ module _ (nfa : Automaton) (x : Search) (at : ℕ) (bits : List Bool) where
 -- the matches of a front
 
 module _ (target : Pair → Bool) where
-  -- no match pair stands before the first
-  pub before_match-plain : (front : Front) → NoMatch target (before_match target front)
-  before_match-plain [] = λ b i t. i
-  before_match-plain (a ∷ front) = of (target a.0) refl (before_match-plain front)
-    where
-      plain : (c : Bool) → c ≡ false → c ≡ true → ⊥
-      plain c f g = cc
-
-      of : (c : Bool) → target a.0 ≡ c → NoMatch target (before_match target front)
-          → NoMatch target (cond c [] (a ∷ before_match target front))
-      of true e rest b i t = i
-      of false e rest b i t = elim i [ inl here ↦ plain (target a.0) e (rw (← here) t) | inr later ↦ rest b later t ]
-
-  -- what stands before it stands in the front
-  pub before_match-among : (front : Front) (b : Pair × Slots) → In b (before_match target front) → In b front
-  before_match-among [] b = λ i. i
-  before_match-among (a ∷ front) b = of (target a.0) (before_match-among front b)
-    where
-      of : (c : Bool) → (In b (before_match target front) → In b front)
-          → In b (cond c [] (a ∷ before_match target front)) → In b (a ∷ front)
-      of true rest i = absurd i
-      of false rest i = elim i [ inl here ↦ inl here | inr later ↦ inr (rest later) ]
-
-  -- the items before the first match pair, that pair, and those behind it
-  pub record FirstCut (front : Front) (a : Pair × Slots) : Type 0 where
-    pub after : Front
-    pub split : front ≡ before_match target front ++ a ∷ after
-    pub among : In a front
-    pub matches : target a.0 ≡ true
-
-  pub first_match-cut : (front : Front) (a : Pair × Slots) → first_match target front ≡ Some a → FirstCut front a
-  first_match-cut [] a e = cc
-  first_match-cut (b ∷ front) a e =
-      elim (cases_Bool (target b.0)) [
-        | inl t ↦
-            let first : Some b ≡ Some a = rw t at e in
-            let same : b ≡ a = cc in
-            record {
-              after = front;
-              split = rw t (ap (λ (c : Pair × Slots). c ∷ front) same);
-              among = inl (sym same);
-              matches = rw (← same) t;
-            }
-        | inr f ↦
-            let h = first_match-cut front a (rw f at e) in
-            record {
-              after = h.after;
-              split = rw f (ap (λ (ys : Front). b ∷ ys) h.split);
-              among = inr h.among;
-              matches = h.matches;
-            }
-      ]
-
   -- the last match pair, or what was found before
   pub last_match-or : (g : Hit) (front : Front)
       → last_match target g front ≡ option_or (last_match target None front) g
@@ -229,7 +162,7 @@ SeenAt-none at n v s = never n v.0 s.set
 
 -- turns
 
-sum-ones : (states : List Node) → sum_by one_of states ≡ length states
+pub sum-ones : (states : List Node) → sum_by one_of states ≡ length states
 sum-ones [] = refl
 sum-ones (s ∷ states) = omega (arith, sum_by-cons one_of s states, sum-ones states)
 

@@ -17,6 +17,5 @@ pub mod RoomLemmas
 pub mod SizeLemmas
 pub mod OverlapFirstLemmas
 pub mod OverlapLoopLemmas
-pub mod OverlapScanLemmas
 pub mod OverlapSetLemmas
 pub mod GathererLemmas

@@ -1,8 +1,8 @@
 -- The positions of the scan for the first match: what stands behind a match is dropped.
-use Rattle.std.proofs.Common.{◌≡◌, ℕ, ◌+◌, ◌-◌, ◌<◌, ◌≤◌, inl, inr, Bool, true, false, List, [], ◌∷◌, ◌++◌, length, map, refl, sym, ap, ◌∙◌, subst, arith}
-use Rattle.std.specs.Prelude.{None, Some, All, cond}
-use Rattle.std.proofs.lemmas.Bool.{cases_Bool, cases_lt, lt-ltb, le-ltb}
-use Rattle.std.proofs.lemmas.List.Elements.{All-nil, All-head, All-tail}
+use Rattle.std.proofs.Common.{◌≡◌, ℕ, ◌+◌, ◌-◌, ◌≤◌, ◌⊎◌, ◌↔◌, inl, inr, Bool, true, false, List, [], ◌∷◌, ◌++◌, length, refl, sym, ap, ◌∙◌, subst, arith}
+use Rattle.std.specs.Prelude.{None, Some, All}
+use Rattle.std.proofs.lemmas.Bool.{cases_lt, lt-ltb, le-ltb}
+use Rattle.std.proofs.lemmas.List.Elements.{All-head, All-tail}
 use Rattle.regex_search_core.specs.PatternSets.{size_of_set}
 use Rattle.regex_search_core.specs.Search.{Search}
 use Rattle.regex_search_core.specs.declared.search.MatchKind.TheVariants.{LeftmostFirst}
@@ -11,27 +11,25 @@ use Rattle.nfa_paths.specs.Graphs.{Pair, In}
 use Rattle.nfa_paths.specs.Paths.{edges, starts, pairs_from, space}
 use Rattle.nfa_paths.specs.Exploring.{Slots, Hit, Item, round, seeds}
 use Rattle.nfa_paths.specs.Exploring.Item.{Explore as ToExplore, Load as ToLoad}
-use Rattle.nfa_paths.specs.Kinds.{first_match, before_match}
-use Rattle.nfa_paths.specs.Overlaps.{IsOverlapResult}
-use Rattle.nfa_paths.proofs.MemberLemmas.{In-middle}
-use Rattle.nfa_paths.proofs.FrontMatchLemmas.{first_match-is}
+use Rattle.nfa_paths.specs.Kinds.{before_match}
+use Rattle.nfa_paths.specs.Overlaps.{IsHeld, IsOverlapResult}
+use Rattle.nfa_paths.proofs.FrontMatchLemmas.{first_match-is, before_match-among}
 use Rattle.nfa_paths.proofs.StartLemmas.{pairs_from-step, pairs_from-end}
 use Rattle.nfa_paths.proofs.SoundLemmas.{heads, Sound, Sound-start, Sound-hit, Sound-round, Sound-cut, Searched}
 use Rattle.nfa_paths.proofs.UpToLemmas.{UpTo, UpTo-next, UpTo-match, UpTo-end}
-use Rattle.nfa_paths.proofs.ScanAnswerLemmas.{edges-onward, seeds-later}
-use Rattle.nfa_paths.proofs.SearchingLemmas.{Searching-load, Searching-round, Searching-done}
-use Rattle.nfa_paths.proofs.ScanningLemmas.{Searching-cut, Searching-wait}
-use Rattle.nfa_paths.proofs.PathToLemmas.{is_false}
+use Rattle.nfa_paths.proofs.ScanAnswerLemmas.{seeds-later}
+use Rattle.nfa_paths.proofs.SearchingLemmas.{Searching-load, Searching-done}
 use Rattle.nfa_scanning.specs.Marks.{Marks}
 use Rattle.nfa_pikevm_scan.specs.Scans.{starts_from, with_start, AreStarts, AreAt, IsPaidAt}
-use Rattle.nfa_pikevm_scan.specs.States.{Front, moves, tasks, unmarked, SearchingAt, Leads}
+use Rattle.nfa_pikevm_scan.specs.States.{Front, moves, tasks, unmarked, SeenAt, SearchingAt}
 use Rattle.nfa_pikevm_scan.specs.Overlapping.{wants, Gathers, GathersFirst, GoesPast, CrossesInSet}
 use Rattle.nfa_pikevm_scan.specs.declared.scan.Starts.{Starts}
-use Rattle.nfa_pikevm_scan.proofs.FrontLemmas.{SeenAt-none}
+use Rattle.nfa_pikevm_scan.proofs.RoomLemmas.{AreAt-none, few-joined, over-joined}
+use Rattle.nfa_pikevm_scan.proofs.TaskLemmas.{starts_from-end, tasks-joined, Searching-begin}
+use Rattle.nfa_pikevm_scan.proofs.FrontLemmas.{Formed-resting, Formed-next, SeenAt-none}
+use Rattle.nfa_pikevm_scan.proofs.ScanLemmas.{Crossed, set-crossed, AreAt-cross, IsPaidAt-crossed, first-miss, first-hit}
 use Rattle.nfa_pikevm_scan.proofs.EndLemmas.{SearchingAt-begin}
 use Rattle.nfa_pikevm_scan.proofs.OverlapSetLemmas.{wants-tells, wants-match}
-use Rattle.nfa_pikevm_scan.proofs.OverlapScanLemmas.{joined-work, round-tasks, fresh-search, front-rests, front-edges, front-leaves, next-at, next-paid}
-use Rattle.nfa_pikevm_scan.proofs.OverlapLoopLemmas.{paid-start, paid-joined}
 
 -- the pairs of the states at a position, and of the starts that wait
 pub pairs_at : ℕ → List (ℕ × Slots) → List Pair → List Pair
@@ -77,47 +75,55 @@ unfolding heads seeds
 heads-seeds slots [] = refl
 heads-seeds slots (v ∷ later) = ap (λ l. v ∷ l) (heads-seeds slots later)
 
-module _ (edges : Pair → List Pair) (at : ℕ) where
-  heads-edges : (vs : List Pair) (s : Slots) (items : List (ℕ × Slots)) (rest : List Item) (later : List Pair)
-      → ((v : Pair) → In v vs → v.1 ≡ at) → heads rest ≡ pairs_at at items later
-      → heads (map ToExplore vs ++ rest) ≡ pairs_at at (map (λ v. (v.0, s)) vs ++ items) later
-  unfolding heads pairs_at
-  heads-edges [] s items rest later here e = e
-  heads-edges (v ∷ vs) s items rest later here e =
-      let at_v : v.1 ≡ at = here v (inl refl) in
-      let same : v ≡ (v.0, at) = ap (λ n. (let w : Pair = (v.0, n) in w)) at_v in
-      ap (λ w. w ∷ heads (map ToExplore vs ++ rest)) same
-      ∙ ap (λ l. (v.0, at) ∷ l) (heads-edges vs s items rest later (λ w i. here w (inr i)) e)
+-- what was put aside, as the states of the next position
+heads-round : (edges : Pair → List Pair) (at : ℕ) (front : Front) (old : Slots) (waiting : List Item)
+    (later : List Pair)
+    → ((a : Pair × Slots) → In a front → (edges a.0 ≡ []) ⊎ ((t : ℕ) × (edges a.0 ≡ (t, at + 1) ∷ [])))
+    → heads waiting ≡ later
+    → heads (round edges front (ToLoad old ∷ waiting)) ≡ pairs_at (at + 1) (moves edges front) later
+unfolding heads pairs_at round
+heads-round edges at [] old waiting later one e = e
+heads-round edges at (a ∷ front) old waiting later one e =
+    let rest = heads-round edges at front old waiting later (λ b i. one b (inr i)) e in
+    elim (one a (inl refl)) [
+      | inl none ↦ rw none rest
+      | inr some ↦ rw some.1 (ap (λ l. (some.0, at + 1) ∷ l) rest)
+    ]
 
-  heads-round : (front : Front) (old : Slots) (waiting : List Item) (later : List Pair)
-      → ((a : Pair × Slots) → In a front → (v : Pair) → In v (edges a.0) → v.1 ≡ at) → heads waiting ≡ later
-      → heads (round edges front (ToLoad old ∷ waiting)) ≡ pairs_at at (moves edges front) later
-  unfolding heads pairs_at round
-  heads-round [] old waiting later here e = e
-  heads-round (a ∷ front) old waiting later here e =
-      heads-edges (edges a.0) a.1 (moves edges front) (round edges front (ToLoad old ∷ waiting)) later
-      (here a (inl refl)) (heads-round front old waiting later (λ b i. here b (inr i)) e)
+-- a search from some starts, after as many turns as were taken before it
+fresh-search : (nfa : Automaton) (x : Search) (target : Pair → Bool) (at : ℕ) (met : Marks) (from : List Pair)
+    → SearchingAt nfa x at target from [] None (unmarked met) [] (ToLoad [] ∷ seeds [] from) []
+fresh-search nfa x target at met from =
+    Searching-begin (space nfa x) target (SeenAt at (unmarked met).bits) met.turns None from [] []
+    (SeenAt-none at (length met.bits))
 
 -- `old` is the set as the scan began.
 module _ (nfa : Automaton) (x : Search) (old : List Bool) where
+  -- the pairs that the set has room for
+  abbrev pub wanted : Pair → Bool
+  wanted = wants nfa x (length old)
+
+  abbrev pub tells : (v : Pair) → (wanted v ≡ true) ↔ IsHeld nfa x (length old) v
+  tells = wants-tells nfa x (length old)
+
   -- what the scan keeps at a position: the match that was found, what it put into the set, and what is left to do
   pub record FirstWay (from : Starts) (at before : ℕ) (met : Marks) (items : List (ℕ × Slots))
       (new : List Bool) : Type 0 where
     pub states : AreAt nfa items
     pub paid : IsPaidAt nfa x at before met.turns (length items)
     pub so_far : Hit
-    pub searching : SearchingAt nfa x at (wants nfa x (length old)) (starts nfa x) [] so_far (unmarked met) []
+    pub searching : SearchingAt nfa x at wanted (starts nfa x) [] so_far (unmarked met) []
         (tasks at items (ToLoad [] ∷ starts_from 0 from.state at from.limit)) []
-    pub sound : Sound nfa x old (wants nfa x (length old)) (wants-tells nfa x (length old)) at
+    pub sound : Sound nfa x old wanted tells at
         (pairs_at at items (pairs_from from.state at (from.limit - at)))
-    pub holds : UpTo nfa x old (wants nfa x (length old)) (wants-tells nfa x (length old)) at so_far new
+    pub holds : UpTo nfa x old wanted tells at so_far new
 
   -- the set keeps its capacity
   pub FirstWay-capacity : {from : Starts} {at before : ℕ} {met : Marks} {items : List (ℕ × Slots)} {new : List Bool}
       → FirstWay from at before met items new → length new ≡ length old
   FirstWay-capacity {at = at} {new = new} w = of w.so_far w.holds
     where
-      of : (g : Hit) → UpTo nfa x old (wants nfa x (length old)) (wants-tells nfa x (length old)) at g new
+      of : (g : Hit) → UpTo nfa x old wanted tells at g new
           → length new ≡ length old
       of None h = ap (λ (l : List Bool). length l) h
       of (Some a) h = h.capacity
@@ -127,47 +133,34 @@ module _ (nfa : Automaton) (x : Search) (old : List Bool) where
   unfolding pairs_at
   FirstWay-start from are met items none =
       rw none (record {
-        states = record { states = All-nil _; few = omega arith };
-        paid = paid-start nfa x met.turns [] refl;
+        states = AreAt-none nfa;
+        paid = record { bound = omega arith };
         so_far = None;
-        searching = SearchingAt-begin nfa x from are [] met (wants nfa x (length old));
-        sound = rw (← are.all) (Sound-start nfa x old (wants nfa x (length old))
-            (wants-tells nfa x (length old)) x.start);
+        searching = SearchingAt-begin nfa x from are [] met wanted;
+        sound = rw (← are.all) (Sound-start nfa x old wanted tells x.start);
         holds = refl;
       })
+
+  -- the search, with the start that joined
+  joined-search : {from : Starts} {at before : ℕ} {met : Marks} {items : List (ℕ × Slots)} {new : List Bool}
+      (w : FirstWay from at before met items new)
+      → SearchingAt nfa x at wanted (starts nfa x) [] w.so_far (unmarked met) []
+      (tasks at (with_start from 0 at items) (ToLoad [] ∷ starts_from 0 from.state (at + 1) from.limit)) []
+  joined-search {from} {at} {met = met} {items} w =
+      subst (λ z. SearchingAt nfa x at wanted (starts nfa x) [] w.so_far (unmarked met) [] z [])
+      (tasks-joined from 0 at items) w.searching
 
   -- no state and no start is left
   pub FirstWay-over : IsAutomaton nfa → {from : Starts} {at before : ℕ} {met : Marks} {items : List (ℕ × Slots)}
       {new : List Bool} → size_of_set old ≡ 0
       → FirstWay from at before met items new → with_start from 0 at items ≡ []
       → IsOverlapResult nfa x LeftmostFirst false old new
-  unfolding seeds
   FirstWay-over good {from} {at} {before} {met} {items} {new} empty w none =
-      let work : tasks at items (ToLoad [] ∷ starts_from 0 from.state at from.limit) ≡ ToLoad []
-      ∷ starts_from 0 from.state (at + 1) from.limit =
-      sym (joined-work from at items) ∙ ap (λ i. tasks at i (ToLoad [] ∷ starts_from 0 from.state (at + 1) from.limit))
-      none in
-      let past : from.limit ≤ at + 1 = over none in
-      let left : SearchingAt nfa x at (wants nfa x (length old)) (starts nfa x) [] w.so_far (unmarked met) []
-      (ToLoad [] ∷ []) [] =
-      subst (λ l. SearchingAt nfa x at (wants nfa x (length old)) (starts nfa x) [] w.so_far (unmarked met) [] l [])
-      (work ∙ ap (λ ps. ToLoad [] ∷ seeds [] ps) (pairs_from-end from.state past)) w.searching in
-      UpTo-end nfa x old (wants nfa x (length old)) (wants-tells nfa x (length old)) at met.turns [] w.so_far
-      new empty w.holds
-      (Searching-done (space nfa x) (wants nfa x (length old))
-      (Searching-load (space nfa x) (wants nfa x (length old)) left))
-    where
-      over : with_start from 0 at items ≡ [] → from.limit ≤ at + 1
-      over e =
-          elim (cases_lt at from.limit) [
-            | inl less ↦ let never : items ++ (from.state, []) ∷ [] ≡ [] = rw (lt-ltb at from.limit less) at e in
-                absurd (some items never)
-            | inr past ↦ omega arith
-          ]
-        where
-          some : (xs : List (ℕ × Slots)) → xs ++ (from.state, []) ∷ [] ≡ [] → ⊥
-          some [] e = cc
-          some (y ∷ xs) e = cc
+      let past : from.limit ≤ at + 1 = (let h = over-joined from 0 at items none in omega (arith, h)) in
+      let left : SearchingAt nfa x at wanted (starts nfa x) [] w.so_far (unmarked met) [] (ToLoad [] ∷ []) [] =
+      rw (none, starts_from-end 0 from.state past) at (joined-search w) in
+      UpTo-end nfa x old wanted tells at met.turns [] w.so_far new empty w.holds (Searching-done (space nfa x) wanted
+      (Searching-load (space nfa x) wanted left))
 
   -- behind the last position nothing is left
   pub FirstWay-end : IsAutomaton nfa → {from : Starts} {at before : ℕ} {met : Marks} {items : List (ℕ × Slots)}
@@ -181,34 +174,15 @@ module _ (nfa : Automaton) (x : Search) (old : List Bool) where
       {after : Marks} {kept : List (ℕ × Slots)} {new : List Bool}
       (good : IsAutomaton nfa) (low : x.start ≤ at) (w : FirstWay from at before met items mid)
       (c : CrossesInSet nfa x at false (length old) met (with_start from 0 at items) mid hit after kept new) where
-    later : List Item
-    later = starts_from 0 from.state (at + 1) from.limit
-
-    lead : Leads nfa x at (unmarked met) [] (tasks at (with_start from 0 at items)
-        (ToLoad [] ∷ starts_from 0 from.state (at + 1) from.limit)) [] (GoesPast false hit) after c.front
-        (ToLoad [] ∷ starts_from 0 from.state (at + 1) from.limit)
-    lead = c.leads [] (starts_from 0 from.state (at + 1) from.limit)
-
-    -- the search at the front
-    front-search : (l : Leads nfa x at (unmarked met) []
-        (tasks at (with_start from 0 at items) (ToLoad [] ∷ starts_from 0 from.state (at + 1) from.limit)) []
-        (GoesPast false hit) after c.front
-        (ToLoad [] ∷ starts_from 0 from.state (at + 1) from.limit))
-        → SearchingAt nfa x at (wants nfa x (length old)) (starts nfa x) [] w.so_far after c.front l.left l.written
-    front-search l =
-        l.follows.leads (wants nfa x (length old)) (λ v t. wants-match nfa x (length old) v t)
-        (starts nfa x) [] w.so_far
-        (subst (λ z. SearchingAt nfa x at (wants nfa x (length old)) (starts nfa x) [] w.so_far (unmarked met) [] z [])
-        (sym (joined-work from at items)) w.searching)
+    crossed : Crossed nfa x at 0 from.state from.limit met (with_start from 0 at items) (GoesPast false hit) after kept
+        c.front
+    crossed = set-crossed from.state from.limit c
 
     -- the search for any wanted pairs from the states at the position
-    front-searched : (l : Leads nfa x at (unmarked met) []
-        (tasks at (with_start from 0 at items) (ToLoad [] ∷ starts_from 0 from.state (at + 1) from.limit)) []
-        (GoesPast false hit) after c.front
-        (ToLoad [] ∷ starts_from 0 from.state (at + 1) from.limit))
-        → Searched nfa x old (wants nfa x (length old)) (wants-tells nfa x (length old)) at
-        (pairs_at at items (pairs_from from.state at (from.limit - at))) c.front l.left l.written
-    front-searched l = record {
+    front-searched : Searched nfa x old wanted tells at
+        (pairs_at at items (pairs_from from.state at (from.limit - at))) c.front crossed.leads.left
+        crossed.leads.written
+    front-searched = record {
       leads = λ target sub.
           let pairs = pairs_at at (with_start from 0 at items)
           (pairs_from from.state (at + 1) (from.limit - (at + 1))) in
@@ -219,7 +193,7 @@ module _ (nfa : Automaton) (x : Search) (old : List Bool) where
           (pairs_from from.state (at + 1) (from.limit - (at + 1))) c.rows))
           (fresh-search nfa x target at met (pairs_at at (with_start from 0 at items)
           (pairs_from from.state (at + 1) (from.limit - (at + 1))))) in
-          let s = l.follows.leads target (λ v t. wants-match nfa x (length old) v (sub v t))
+          let s = crossed.leads.follows.leads target (λ v t. wants-match nfa x (length old) v (sub v t))
           (pairs_at at (with_start from 0 at items) (pairs_from from.state (at + 1) (from.limit - (at + 1)))) []
           None begin in (
             s.marks,
@@ -235,137 +209,71 @@ module _ (nfa : Automaton) (x : Search) (old : List Bool) where
     -- no match: the next position
     pub FirstWay-next : hit ≡ false → FirstWay from (at + 1) before after kept new
     FirstWay-next off =
-        let l = lead in
-        let whole : l.left ≡ ToLoad [] ∷ starts_from 0 from.state (at + 1) from.limit = l.whole (inr off) in
-        elim (first_match-is (wants nfa x (length old)) c.front) [
+        let whole : crossed.leads.left ≡ ToLoad [] ∷ starts_from 0 from.state (at + 1) from.limit =
+        crossed.leads.whole (inr off) in
+        elim (first_match-is wanted c.front) [
           | inl lacks ↦
               let still : GathersFirst nfa None mid false new =
-              rw lacks.0 at (subst (λ h. Gathers nfa false (wants nfa x (length old)) c.front mid h new)
+              rw lacks.0 at (subst (λ h. Gathers nfa false wanted c.front mid h new)
               off c.gathers) in
-              let search = subst (λ z. SearchingAt nfa x at (wants nfa x (length old)) (starts nfa x) [] w.so_far after
-              c.front z l.written) whole (front-search l) in
-              let searched = subst (λ z. Searched nfa x old (wants nfa x (length old)) (wants-tells nfa x (length old))
-              at (pairs_at at items (pairs_from from.state at (from.limit - at))) c.front z l.written) whole
-              (front-searched l) in
-              let next = Searching-round (space nfa x) (wants nfa x (length old)) search (λ v. at < v.1)
-              (λ v y a i. let k : v.1 ≤ y.1 = edges-onward nfa x v y i in let m : at < v.1 = a in omega arith)
-              (λ a i.
-              let r = front-leaves nfa x old c a i in (
-                is_false (wants nfa x (length old) a.0) (λ t. lacks.1 a i t),
-                r.0,
-                λ h. let k : at < a.0.1 = h in let m : a.0.1 ≡ at = r.1 in omega arith,
-                r.2,
-              ))
-              (λ k i. seeds-later [] from.state at (from.limit - (at + 1)) k i)
-              (λ v h a. let k : v.1 ≡ at = h.here in let m : at < v.1 = a in omega arith)
-              (SeenAt-none (at + 1) (length after.bits)) [] in
+              let searched = subst (λ z. Searched nfa x old wanted tells
+              at (pairs_at at items (pairs_from from.state at (from.limit - at))) c.front z crossed.leads.written) whole
+              front-searched in
               record {
-                states = next-at nfa x old c good;
-                paid = next-paid nfa x old c refl low (paid-joined nfa x items from w.paid);
+                states = AreAt-cross crossed good.numbered.targets_in;
+                paid = IsPaidAt-crossed crossed low w.paid (few-joined from 0 at items);
                 so_far = w.so_far;
-                searching = rw c.added (round-tasks nfa x (wants nfa x (length old)) (at + 1) c.front []
-                    (starts_from 0 from.state (at + 1) from.limit) [] [] (front-edges nfa x old c) next);
+                searching = first-miss wanted (wants-match nfa x (length old)) crossed
+                    (c.cut refl) (joined-search w) lacks.0 (inr off);
                 sound = rw c.added
-                    (subst (λ ps. Sound nfa x old (wants nfa x (length old))
-                    (wants-tells nfa x (length old)) (at + 1) ps)
-                    (heads-round (edges nfa x) (at + 1) c.front [] (starts_from 0 from.state (at + 1) from.limit)
-                    (pairs_from from.state (at + 1) (from.limit - (at + 1))) (front-edges nfa x old c)
+                    (subst (λ ps. Sound nfa x old wanted tells (at + 1) ps)
+                    (heads-round (edges nfa x) at c.front [] (starts_from 0 from.state (at + 1) from.limit)
+                    (pairs_from from.state (at + 1) (from.limit - (at + 1)))
+                    (Formed-next nfa x at after.bits c.front c.formed)
                     (heads-seeds [] (pairs_from from.state (at + 1) (from.limit - (at + 1)))))
-                    (Sound-round nfa x old (wants nfa x (length old)) (wants-tells nfa x (length old)) w.sound searched
-                    (front-rests nfa x old c) (λ k i. seeds-later [] from.state at (from.limit - (at + 1)) k i)));
-                holds = rw still.1 (UpTo-next nfa x old (wants nfa x (length old)) (wants-tells nfa x (length old)) at
-                    w.so_far mid w.holds);
+                    (Sound-round nfa x old wanted tells w.sound searched
+                    (Formed-resting nfa x at after.bits c.front c.formed)
+                    (λ k i. seeds-later [] from.state at (from.limit - (at + 1)) k i)));
+                holds = rw still.1 (UpTo-next nfa x old wanted tells at w.so_far mid w.holds);
               }
           | inr has ↦
               let put : GathersFirst nfa (Some has.0) mid false new =
-              rw has.1 at (subst (λ h. Gathers nfa false (wants nfa x (length old)) c.front mid h new)
+              rw has.1 at (subst (λ h. Gathers nfa false wanted c.front mid h new)
               off c.gathers) in
               let never : false ≡ true = put.0 in cc
         ]
-
-    -- what stands before the first wanted pair of a front
-    before-split : (front : Front) (a : Pair × Slots) → first_match (wants nfa x (length old)) front ≡ Some a
-        → (behind : Front) × (front ≡ before_match (wants nfa x (length old)) front ++ a ∷ behind)
-        × (wants nfa x (length old) a.0 ≡ true)
-    before-split [] a is = cc
-    before-split (b ∷ front) a is =
-        elim (cases_Bool (wants nfa x (length old) b.0)) [
-          | inl t ↦ let here : Some b ≡ Some a = rw t at is in let same : b ≡ a = cc in
-              (front, rw t (ap (λ z. z ∷ front) same), rw (← same) t)
-          | inr f ↦ let rest : first_match (wants nfa x (length old)) front ≡ Some a = rw f at is in let r =
-              before-split front a rest in (r.0, rw f (ap (λ l. b ∷ l) r.1), r.2)
-        ]
-
-    in-before : (front : Front) (b : Pair × Slots) → In b (before_match (wants nfa x (length old)) front)
-        → In b front × (wants nfa x (length old) b.0 ≡ false)
-    in-before [] b i = absurd i
-    in-before (d ∷ front) b i = of (wants nfa x (length old) d.0) refl (in-before front b) i
-      where
-        of : (t : Bool) → wants nfa x (length old) d.0 ≡ t
-            → (In b (before_match (wants nfa x (length old)) front)
-            → In b front × (wants nfa x (length old) b.0 ≡ false))
-            → In b (cond t [] (d ∷ before_match (wants nfa x (length old)) front)) → In b (d ∷ front)
-            × (wants nfa x (length old) b.0 ≡ false)
-        of true e rest i = absurd i
-        of false e rest i = elim i [ inl here ↦ (inl here, rw here e) | inr j ↦ let r = rest j in (inr r.0, r.1) ]
 
     -- a match: what stands behind it is dropped, and no later start joins
     pub FirstWay-cut : size_of_set old ≡ 0 → hit ≡ true
         → FirstWay (record from { limit = 0 }) (at + 1) before after kept new
     unfolding seeds
     FirstWay-cut empty on =
-        let l = lead in
-        elim (first_match-is (wants nfa x (length old)) c.front) [
+        elim (first_match-is wanted c.front) [
           | inl lacks ↦
               let still : GathersFirst nfa None mid true new =
-              rw lacks.0 at (subst (λ h. Gathers nfa false (wants nfa x (length old)) c.front mid h new)
-              on c.gathers) in
+              rw lacks.0 at (subst (λ h. Gathers nfa false wanted c.front mid h new) on c.gathers) in
               let never : true ≡ false = still.0 in cc
           | inr has ↦
               let put : GathersFirst nfa (Some has.0) mid true new =
-              rw has.1 at (subst (λ h. Gathers nfa false (wants nfa x (length old)) c.front mid h new) on c.gathers)
+              rw has.1 at (subst (λ h. Gathers nfa false wanted c.front mid h new) on c.gathers)
               in
-              let parts = before-split c.front has.0 has.1 in
-              let before_it = before_match (wants nfa x (length old)) c.front in
-              let split = subst (λ f. SearchingAt nfa x at (wants nfa x (length old)) (starts nfa x) [] w.so_far after f
-              l.left l.written) parts.1 (front-search l) in
-              let among : In has.0 c.front = rw has.2.split (In-middle has.2.before has.0 has.2.after) in
-              let cut = Searching-cut (space nfa x) (wants nfa x (length old)) before_it has.0 parts.0
-              split parts.2 (front-leaves nfa x old c has.0 among).0 in
-              let next = Searching-round (space nfa x) (wants nfa x (length old))
-              (Searching-wait (space nfa x) (wants nfa x (length old)) [] cut) (λ v. at < v.1)
-              (λ v y a i. let k : v.1 ≤ y.1 = edges-onward nfa x v y i in let m : at < v.1 = a in omega arith)
-              (λ a i.
-              let j = in-before c.front a i in
-              let r = front-leaves nfa x old c a j.0 in (
-                j.1,
-                r.0,
-                λ h. let k : at < a.0.1 = h in let m : a.0.1 ≡ at = r.1 in omega arith,
-                r.2,
-              ))
-              (λ k i. absurd i) (λ v h a. let k : v.1 ≡ at = h.here in let m : at < v.1 = a in omega arith)
-              (SeenAt-none (at + 1) (length after.bits)) [] in
-              let moved : kept ≡ moves (edges nfa x) (before_match (wants nfa x (length old)) c.front) = c.added
+              let moved : kept ≡ moves (edges nfa x) (before_match wanted c.front) = c.added
               ∙ sym (c.cut refl) in
               let none : pairs_from from.state (at + 1) (0 - (at + 1)) ≡ [] = pairs_from-end from.state (omega arith) in
-              let edges_before = λ (a : Pair × Slots) (i : In a (before_match (wants nfa x (length old)) c.front)).
-              front-edges nfa x old c a (in-before c.front a i).0 in
+              let rests = Formed-resting nfa x at after.bits c.front c.formed in
               record {
-                states = next-at nfa x old c good;
-                paid = next-paid nfa x old c refl low (paid-joined nfa x items from w.paid);
+                states = AreAt-cross crossed good.numbered.targets_in;
+                paid = IsPaidAt-crossed crossed low w.paid (few-joined from 0 at items);
                 so_far = Some has.0;
-                searching = rw (moved, none) (round-tasks nfa x (wants nfa x (length old)) (at + 1)
-                    (before_match (wants nfa x (length old)) c.front) [] [] [] [] edges_before next);
+                searching = rw none (first-hit wanted (wants-match nfa x (length old)) crossed
+                    (c.cut refl) (joined-search w) has.0 has.1);
                 sound = rw (moved, none)
-                    (subst (λ ps. Sound nfa x old (wants nfa x (length old))
-                    (wants-tells nfa x (length old)) (at + 1) ps)
-                    (heads-round (edges nfa x) (at + 1) (before_match (wants nfa x (length old)) c.front) [] [] []
-                    edges_before (heads-seeds [] []))
-                    (Sound-cut nfa x old (wants nfa x (length old)) (wants-tells nfa x (length old)) [] w.sound
-                    (front-searched l) (front-rests nfa x old c)));
-                holds = UpTo-match nfa x old (wants nfa x (length old)) (wants-tells nfa x (length old)) at w.so_far
-                    has.0 mid new empty w.holds
-                    (Sound-hit nfa x old (wants nfa x (length old)) (wants-tells nfa x (length old)) w.sound
-                    (front-searched l) (front-rests nfa x old c) has.0 has.1) put.1.1 put.1.2;
+                    (subst (λ ps. Sound nfa x old wanted tells (at + 1) ps)
+                    (heads-round (edges nfa x) at (before_match wanted c.front) [] [] []
+                    (λ a i. Formed-next nfa x at after.bits c.front c.formed a
+                    (before_match-among wanted c.front a i)) (heads-seeds [] []))
+                    (Sound-cut nfa x old wanted tells [] w.sound front-searched rests));
+                holds = UpTo-match nfa x old wanted tells at w.so_far has.0 mid new empty w.holds
+                    (Sound-hit nfa x old wanted tells w.sound front-searched rests has.0 has.1) put.1.1 put.1.2;
               }
         ]

@@ -1,19 +1,17 @@
 -- What the loops over the positions keep.
-use Rattle.std.proofs.Common.{◌≡◌, ℕ, ◌+◌, ◌-◌, ◌*◌, ◌≤◌, ◌↔◌, inl, inr, Bool, true, false, List, [], length, refl, sym, ap, subst, arith, get_or}
+use Rattle.std.proofs.Common.{◌≡◌, ℕ, ◌+◌, ◌≤◌, ◌↔◌, inl, inr, Bool, true, false, List, [], length, refl, sym, subst, arith, get_or}
 use Rattle.std.specs.Prelude.{None, Some, cond}
 use Rattle.std.proofs.lemmas.List.{ext_get_or}
-use Rattle.std.proofs.lemmas.List.Elements.{All-nil}
-use Rattle.std.proofs.Math.Nat.{mul-le-mul_right}
 use Rattle.regex_search_core.specs.PatternSets.{size_of_set}
 use Rattle.regex_search_core.specs.Search.{Search}
 use Rattle.regex_search_core.specs.declared.search.MatchKind.{MatchKind}
 use Rattle.regex_search_core.specs.declared.search.MatchKind.TheVariants.{All as AllMatches, LeftmostFirst}
 use Rattle.thompson_nfa.specs.Automaton.{Automaton, IsAutomaton}
 use Rattle.nfa_paths.specs.Graphs.{Pair}
-use Rattle.nfa_paths.specs.Paths.{span_len, turn_weight, space}
+use Rattle.nfa_paths.specs.Paths.{space}
 use Rattle.nfa_paths.specs.Exploring.{Slots}
 use Rattle.nfa_paths.specs.Kinds.{is_resting, NoneBefore, EndsBefore, IsFront}
-use Rattle.nfa_paths.specs.Overlaps.{HoldsPattern, IsOverlapResult}
+use Rattle.nfa_paths.specs.Overlaps.{HoldsPattern, IsHeld, IsOverlapResult}
 use Rattle.nfa_paths.proofs.ScanAnswerLemmas.{EndsBefore-span, starts-from}
 use Rattle.nfa_paths.proofs.FrontMatchLemmas.{first_match-is}
 use Rattle.nfa_paths.proofs.ScanLemmas.{NoneBefore-start, NoneBefore-step, NoneBefore-end}
@@ -22,33 +20,15 @@ use Rattle.nfa_paths.proofs.GainLemmas.{wanted-shape, GainsBefore, GainsBefore-s
 use Rattle.nfa_paths.proofs.SoundLemmas.{FirstAt-front}
 use Rattle.nfa_paths.proofs.UpToLemmas.{FirstAt-found, First-none}
 use Rattle.nfa_scanning.specs.Marks.{Marks}
-use Rattle.nfa_pikevm_scan.specs.Scans.{with_start, AreStarts, AreAt, IsPaidAt, scan_turns}
+use Rattle.nfa_pikevm_scan.specs.Scans.{with_start, AreStarts, AreAt, IsPaidAt, ScansAll, scan_turns}
 use Rattle.nfa_pikevm_scan.specs.Overlapping.{wants, Gathers, GathersAll, GathersFirst, GoesPast, CrossesInSet}
 use Rattle.nfa_pikevm_scan.specs.declared.scan.Starts.{Starts}
-use Rattle.nfa_pikevm_scan.proofs.RoomLemmas.{few-joined}
-use Rattle.nfa_pikevm_scan.proofs.OverlapSetLemmas.{wants-tells}
-use Rattle.nfa_pikevm_scan.proofs.OverlapScanLemmas.{ScansAt, ScansAt-start, ScansAt-join, ScansAt-over, ScansAt-next, front-rests, lead-scan, whole-front, next-at, next-paid}
-
--- the turns at a position, up to the next one
-module _ (nfa : Automaton) (x : Search) where
-  pub paid-start : (turns : ℕ) (items : List (ℕ × Slots)) → items ≡ []
-      → IsPaidAt nfa x x.start turns turns (length items)
-  paid-start turns items none = record {
-    bound = let l : length items ≡ 0 =
-        ap (λ (i : List (ℕ × Slots)). length i) none in omega arith;
-  }
-
-  pub paid-joined : {at before turns : ℕ} (items : List (ℕ × Slots)) (from : Starts)
-      → IsPaidAt nfa x at before turns (length items)
-      → turns + length (with_start from 0 at items) ≤ before + (at - x.start) * (1 + turn_weight nfa) + 1
-  paid-joined {at} {before} {turns} items from p = omega (arith, p.bound, few-joined from 0 at items)
-
-  pub paid-within : {at before turns kept : ℕ} → IsPaidAt nfa x at before turns kept → at ≤ x.end + 1 → x.start ≤ x.end
-      → turns ≤ before + scan_turns nfa x
-  paid-within {at} {before} {turns} {kept} p inside span =
-      let less : at - x.start ≤ span_len x + 1 = omega arith in
-      let more = mul-le-mul_right (1 + turn_weight nfa) less in
-      omega (arith, p.bound)
+use Rattle.nfa_pikevm_scan.proofs.RoomLemmas.{AreAt-none, few-joined}
+use Rattle.nfa_pikevm_scan.proofs.FrontLemmas.{Formed-resting, IsPaidAt-end}
+use Rattle.nfa_pikevm_scan.proofs.ScanLemmas.{set-crossed, AreAt-cross, IsPaidAt-crossed}
+use Rattle.nfa_pikevm_scan.proofs.AllLemmas.{all-left, all-front, ScansAll-next}
+use Rattle.nfa_pikevm_scan.proofs.EndLemmas.{ScansAll-begin, ScansAll-joined, ScansAll-over}
+use Rattle.nfa_pikevm_scan.proofs.OverlapSetLemmas.{wants-tells, wants-match}
 
 -- sets that hold the same patterns are one
 sets-same : (old new : List Bool) → length new ≡ length old
@@ -63,19 +43,27 @@ sets-same old new size same = ext_get_or false new old size
 
 -- Of a scan, `old` is the set as it began.
 module _ (nfa : Automaton) (x : Search) (old : List Bool) where
+  -- the pairs that the set has room for
+  abbrev pub wanted : Pair → Bool
+  wanted = wants nfa x (length old)
+
+  abbrev pub tells : (v : Pair) → (wanted v ≡ true) ↔ IsHeld nfa x (length old) v
+  tells = wants-tells nfa x (length old)
+
   -- the states and the turns at a position
   pub record Stands (from : Starts) (at before : ℕ) (met : Marks) (items : List (ℕ × Slots)) : Type 0 where
     pub states : AreAt nfa items
     pub paid : IsPaidAt nfa x at before met.turns (length items)
-    pub scans : ScansAt nfa x old at from.state from.limit met items
+    pub scans : ScansAll nfa x wanted at 0 from.state from.limit met items
 
   pub Stands-start : (from : Starts) → AreStarts nfa x from → (met : Marks) (items : List (ℕ × Slots)) → items ≡ []
       → Stands from x.start met.turns met items
-  Stands-start from are met items none = record {
-    states = rw none (record { states = All-nil _; few = omega arith });
-    paid = paid-start nfa x met.turns items none;
-    scans = ScansAt-start nfa x old from are met items none;
-  }
+  Stands-start from are met items none =
+      rw none (record {
+        states = AreAt-none nfa;
+        paid = record { bound = omega arith };
+        scans = ScansAll-begin nfa x from are [] met wanted;
+      })
 
   pub Stands-next : {from : Starts} {at before : ℕ} {past : Bool} {met : Marks} {items : List (ℕ × Slots)}
       {set : List Bool} {hit : Bool} {after : Marks} {kept : List (ℕ × Slots)} {new : List Bool}
@@ -83,11 +71,13 @@ module _ (nfa : Automaton) (x : Search) (old : List Bool) where
       → CrossesInSet nfa x at past (length old) met (with_start from 0 at items) set hit after kept new
       → GoesPast past hit
       → Stands from (at + 1) before after kept
-  Stands-next {from} {at} {before} {past} {met} {items} good low s c goes = record {
-    states = next-at nfa x old c good;
-    paid = next-paid nfa x old c refl low (paid-joined nfa x items from s.paid);
-    scans = ScansAt-next nfa x old c from.state from.limit (ScansAt-join nfa x old from at met items s.scans) goes;
-  }
+  Stands-next {from} {at} {items = items} good low s c goes =
+      let k = set-crossed from.state from.limit c in
+      record {
+        states = AreAt-cross k good.numbered.targets_in;
+        paid = IsPaidAt-crossed k low s.paid (few-joined from 0 at items);
+        scans = ScansAll-next wanted (wants-match nfa x (length old)) k (ScansAll-joined nfa x from at 0 s.scans) goes;
+      }
 
   -- the turns and the states after the last position
   pub Stands-turns : {from : Starts} {at before : ℕ} {past : Bool} {met : Marks} {items : List (ℕ × Slots)}
@@ -95,26 +85,26 @@ module _ (nfa : Automaton) (x : Search) (old : List Bool) where
       → x.start ≤ at → at ≤ x.end → Stands from at before met items
       → CrossesInSet nfa x at past (length old) met (with_start from 0 at items) set hit after kept new
       → after.turns ≤ before + scan_turns nfa x
-  Stands-turns {from} {at} {before} {past} {met} {items} low high s c =
-      paid-within nfa x (next-paid nfa x old c refl low (paid-joined nfa x items from s.paid))
-      (omega arith) (omega arith)
+  Stands-turns {from} {at} {before} {items = items} {after = after} {kept} low high s c =
+      IsPaidAt-end nfa x (at + 1) before after.turns (length kept) (omega arith) (omega arith)
+      (IsPaidAt-crossed (set-crossed from.state from.limit c) low s.paid (few-joined from 0 at items))
 
   -- the front of a position that was followed whole
   stands-front : {from : Starts} {at before : ℕ} {past : Bool} {met : Marks} {items : List (ℕ × Slots)}
       {set : List Bool} {hit : Bool} {after : Marks} {kept : List (ℕ × Slots)} {new : List Bool}
       → Stands from at before met items → (c : CrossesInSet nfa x at past (length old) met (with_start from 0 at items)
       set hit after kept new) → GoesPast past hit
-      → IsFront (space nfa x) (is_resting nfa) (wants nfa x (length old)) []
-      after.turns c.front at
-  stands-front {from} {at} {before} {past} {met} {items} s c goes =
-      whole-front nfa x old c from.state from.limit (ScansAt-join nfa x old from at met items s.scans) goes
+      → IsFront (space nfa x) (is_resting nfa) wanted [] after.turns c.front at
+  stands-front {from} {at} s c goes =
+      all-front wanted (wants-match nfa x (length old)) (set-crossed from.state from.limit c)
+      (ScansAll-joined nfa x from at 0 s.scans) goes
 
   -- all patterns
 
   pub record AllAt (from : Starts) (at before : ℕ) (met : Marks) (items : List (ℕ × Slots))
       (new : List Bool) : Type 0 where
     pub stands : Stands from at before met items
-    pub gains : GainsBefore nfa x old (wants nfa x (length old)) (wants-tells nfa x (length old)) at new
+    pub gains : GainsBefore nfa x old wanted tells at new
 
   pub All-next : {from : Starts} {at before : ℕ} {met : Marks} {items : List (ℕ × Slots)} {mid : List Bool} {hit : Bool}
       {after : Marks} {kept : List (ℕ × Slots)} {new : List Bool}
@@ -123,35 +113,34 @@ module _ (nfa : Automaton) (x : Search) (old : List Bool) where
       → AllAt from (at + 1) before after kept new
   All-next good low a c = record {
     stands = Stands-next good low a.stands c (inl refl);
-    gains = GainsBefore-step nfa x old (wants nfa x (length old)) (wants-tells nfa x (length old))
+    gains = GainsBefore-step nfa x old wanted tells
         (stands-front a.stands c (inl refl)) a.gains c.gathers.capacity c.gathers.gained;
   }
 
   pub All-over : {from : Starts} {at before : ℕ} {met : Marks} {items : List (ℕ × Slots)} {new : List Bool}
       → AllAt from at before met items new → with_start from 0 at items ≡ []
       → IsOverlapResult nfa x AllMatches false old new
-  All-over {from} {at} {before} {met} {items} a none =
-      GainsBefore-end nfa x old (wants nfa x (length old)) (wants-tells nfa x (length old)) a.gains
-      (ScansAt-over nfa x old from at met items a.stands.scans none)
+  All-over {from} {at} a none =
+      GainsBefore-end nfa x old wanted tells a.gains
+      (ScansAll-over nfa x from at 0 a.stands.scans none (wants-match nfa x (length old)))
 
   pub All-end : {from : Starts} {at before : ℕ} {met : Marks} {items : List (ℕ × Slots)} {new : List Bool}
       → AllAt from at before met items new → at ≡ x.end + 1 → IsOverlapResult nfa x AllMatches false old new
   All-end {at = at} a last =
-      GainsBefore-end nfa x old (wants nfa x (length old)) (wants-tells nfa x (length old)) a.gains
-      (rw last (EndsBefore-span nfa x (wants nfa x (length old))))
+      GainsBefore-end nfa x old wanted tells a.gains (rw last (EndsBefore-span nfa x wanted))
 
   -- a full set gains no more
   pub All-full : {from : Starts} {at before : ℕ} {met : Marks} {items : List (ℕ × Slots)} {new : List Bool}
       → AllAt from at before met items new → size_of_set new ≡ length new
       → IsOverlapResult nfa x AllMatches false old new
-  All-full a full = GainsBefore-full nfa x old (wants nfa x (length old)) (wants-tells nfa x (length old)) a.gains full
+  All-full a full = GainsBefore-full nfa x old wanted tells a.gains full
 
   -- the least end
 
   -- no match was met yet: with `past` none of a pattern below the capacity
   abbrev pub NoneMet : Bool → ℕ → Type 0
-  NoneMet true at = NoneHeld nfa x old (wants nfa x (length old)) (wants-tells nfa x (length old)) at
-  NoneMet false at = NoneBefore (space nfa x) (wants nfa x (length old)) at
+  NoneMet true at = NoneHeld nfa x old wanted tells at
+  NoneMet false at = NoneBefore (space nfa x) wanted at
 
   pub record EarliestAt (past : Bool) (from : Starts) (at before : ℕ) (met : Marks) (items : List (ℕ × Slots))
       (new : List Bool) : Type 0 where
@@ -166,15 +155,14 @@ module _ (nfa : Automaton) (x : Search) (old : List Bool) where
       record { stands = Stands-start from are met items none; still = refl; none = of past }
     where
       of : (past : Bool) → NoneMet past x.start
-      of true = NoneHeld-start nfa x old (wants nfa x (length old)) (wants-tells nfa x (length old))
-      of false = NoneBefore-start (space nfa x) (is_resting nfa) (wants nfa x (length old))
-          [] (wanted-shape nfa x old (wants nfa x (length old)) (wants-tells nfa x (length old))) x.start
-          (starts-from nfa x)
+      of true = NoneHeld-start nfa x old wanted tells
+      of false = NoneBefore-start (space nfa x) (is_resting nfa) wanted
+          [] (wanted-shape nfa x old wanted tells) x.start (starts-from nfa x)
 
   -- what was not met at a position
   unmet : (past : Bool) {at : ℕ} {front : List (Pair × Slots)} {turns : ℕ} (new : List Bool) → NoneMet past at
-      → IsFront (space nfa x) (is_resting nfa) (wants nfa x (length old)) [] turns front at
-      → Gathers nfa past (wants nfa x (length old)) front old false new
+      → IsFront (space nfa x) (is_resting nfa) wanted [] turns front at
+      → Gathers nfa past wanted front old false new
       → (new ≡ old) × NoneMet past (at + 1)
   unmet true new none f g = (
     sets-same old new g.capacity (λ k. (
@@ -184,16 +172,15 @@ module _ (nfa : Automaton) (x : Search) (old : List Bool) where
       ],
       λ o. (g.gained k).1 (inl o),
     )),
-    NoneHeld-step nfa x old (wants nfa x (length old)) (wants-tells nfa x (length old)) f none
-        (λ k less h. g.none refl k less h),
+    NoneHeld-step nfa x old wanted tells f none (λ k less h. g.none refl k less h),
   )
   unmet false {at} {front} new none f g =
-      elim (first_match-is (wants nfa x (length old)) front) [
+      elim (first_match-is wanted front) [
         | inl lacks ↦
             let still : GathersFirst nfa None old false new = rw lacks.0 at g in (
               still.1,
-              NoneBefore-step (space nfa x) (is_resting nfa) (wants nfa x (length old)) []
-                  (wanted-shape nfa x old (wants nfa x (length old)) (wants-tells nfa x (length old))) none f lacks.1,
+              NoneBefore-step (space nfa x) (is_resting nfa) wanted []
+                  (wanted-shape nfa x old wanted tells) none f lacks.1,
             )
         | inr has ↦ let met : GathersFirst nfa (Some has.0) old false new = rw has.1 at g in
             let never : false ≡ true = met.0 in cc
@@ -207,9 +194,9 @@ module _ (nfa : Automaton) (x : Search) (old : List Bool) where
       → EarliestAt past from (at + 1) before after kept new
   Earliest-next past {at = at} {mid = mid} {hit = hit} {new = new} good low a c off =
       let f = stands-front a.stands c (inr off) in
-      let g : Gathers nfa past (wants nfa x (length old)) c.front old false new =
-      subst (λ s. Gathers nfa past (wants nfa x (length old)) c.front s false new) a.still
-      (subst (λ h. Gathers nfa past (wants nfa x (length old)) c.front mid h new) off c.gathers) in
+      let g : Gathers nfa past wanted c.front old false new =
+      subst (λ s. Gathers nfa past wanted c.front s false new) a.still
+      (subst (λ h. Gathers nfa past wanted c.front mid h new) off c.gathers) in
       let u = unmet past new a.none f g in
       record { stands = Stands-next good low a.stands c (inr off); still = u.0; none = u.1 }
 
@@ -221,42 +208,38 @@ module _ (nfa : Automaton) (x : Search) (old : List Bool) where
       → IsOverlapResult nfa x (cond past AllMatches LeftmostFirst) true old new
   Earliest-found true {mid = mid} {new = new} good empty a c on =
       let f = stands-front a.stands c (inl refl) in
-      let g : GathersAll nfa (wants nfa x (length old)) c.front old true new =
-      subst (λ s. GathersAll nfa (wants nfa x (length old)) c.front s true new) a.still
-      (subst (λ h. GathersAll nfa (wants nfa x (length old)) c.front mid h new) on c.gathers) in
+      let g : GathersAll nfa wanted c.front old true new =
+      subst (λ s. GathersAll nfa wanted c.front s true new) a.still
+      (subst (λ h. GathersAll nfa wanted c.front mid h new) on c.gathers) in
       let held = g.some refl in
-      NoneHeld-found nfa x old (wants nfa x (length old)) (wants-tells nfa x (length old)) f a.none held.0 held.1 held.2
-      g.capacity g.gained
+      NoneHeld-found nfa x old wanted tells f a.none held.0 held.1 held.2 g.capacity g.gained
   Earliest-found false {from} {at} {before} {met} {items} {mid} {hit} {after} {kept} {new} good empty a c on =
-      let g : Gathers nfa false (wants nfa x (length old)) c.front old true new =
-      subst (λ s. Gathers nfa false (wants nfa x (length old)) c.front s true new) a.still
-      (subst (λ h. Gathers nfa false (wants nfa x (length old)) c.front mid h new) on c.gathers) in
-      elim (first_match-is (wants nfa x (length old)) c.front) [
+      let g : Gathers nfa false wanted c.front old true new =
+      subst (λ s. Gathers nfa false wanted c.front s true new) a.still
+      (subst (λ h. Gathers nfa false wanted c.front mid h new) on c.gathers) in
+      elim (first_match-is wanted c.front) [
         | inl lacks ↦ let still : GathersFirst nfa None old true new = rw lacks.0 at g in
             let never : true ≡ false = still.0 in cc
         | inr has ↦
             let put : GathersFirst nfa (Some has.0) old true new = rw has.1 at g in
-            let s = lead-scan nfa x old c from.state from.limit
-            (ScansAt-join nfa x old from at met items a.stands.scans) in
-            let first = FirstAt-front nfa x old (wants nfa x (length old)) (wants-tells nfa x (length old)) s.1
-            (front-rests nfa x old c) has.0 has.1 in
-            FirstAt-found nfa x old (wants nfa x (length old)) (wants-tells nfa x (length old)) a.none first put.1.1
-            (empty refl) put.1.2
+            let s = all-left wanted (wants-match nfa x (length old))
+            (set-crossed from.state from.limit c) (ScansAll-joined nfa x from at 0 a.stands.scans) in
+            let first = FirstAt-front nfa x old wanted tells s
+            (Formed-resting nfa x at after.bits c.front c.formed) has.0 has.1 in
+            FirstAt-found nfa x old wanted tells a.none first put.1.1 (empty refl) put.1.2
       ]
 
   pub Earliest-end : (past : Bool) {from : Starts} {at before : ℕ} {met : Marks} {items : List (ℕ × Slots)}
       {new : List Bool}
       → (past ≡ false → size_of_set old ≡ 0) → EarliestAt past from at before met items new
-      → EndsBefore (space nfa x) (wants nfa x (length old)) at
+      → EndsBefore (space nfa x) wanted at
       → IsOverlapResult nfa x (cond past AllMatches LeftmostFirst) true old new
   Earliest-end true empty a ends = rw a.still
-      (NoneHeld-end nfa x old (wants nfa x (length old)) (wants-tells nfa x (length old)) a.none ends)
+      (NoneHeld-end nfa x old wanted tells a.none ends)
   Earliest-end false empty a ends =
       rw a.still
-      (First-none nfa x old (wants nfa x (length old)) (wants-tells nfa x (length old))
-      (NoneBefore-end (space nfa x) (is_resting nfa) (wants nfa x (length old)) []
-      (wanted-shape nfa x old (wants nfa x (length old)) (wants-tells nfa x (length old))) a.none ends)
-      true (empty refl))
+      (First-none nfa x old wanted tells (NoneBefore-end (space nfa x) (is_resting nfa) wanted []
+      (wanted-shape nfa x old wanted tells) a.none ends) true (empty refl))
 
 -- what the position came to, from the items before the start joined
 pub crosses-joined : {nfa : Automaton} {x : Search} {at : ℕ} {past : Bool} {m : ℕ} {met1 : Marks}

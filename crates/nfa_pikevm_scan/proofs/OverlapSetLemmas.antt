@@ -7,11 +7,12 @@ use Rattle.regex_search_core.specs.Boundary.{IsBoundary}
 use Rattle.regex_search_core.specs.PatternSets.{with_pattern}
 use Rattle.regex_search_core.specs.Search.{Search}
 use Rattle.thompson_nfa.specs.Automaton.{Automaton}
-use Rattle.nfa_paths.specs.Graphs.{Pair, In}
+use Rattle.nfa_paths.specs.Graphs.{Pair}
 use Rattle.nfa_paths.specs.Paths.{node_at, pattern_of, is_match, is_utf8_empty}
 use Rattle.nfa_paths.specs.Exploring.{Slots, Hit}
 use Rattle.nfa_paths.specs.Kinds.{HoldsMatch, NoMatch, first_match}
 use Rattle.nfa_paths.specs.Overlaps.{pattern_at, IsPermittedEnd, IsHeld}
+use Rattle.nfa_paths.proofs.MemberLemmas.{In-append_left, In-append_right, In-append}
 use Rattle.nfa_paths.proofs.SetLemmas.{holds-with, length-with}
 use Rattle.nfa_pikevm_scan.specs.States.{Front}
 use Rattle.nfa_pikevm_scan.specs.Overlapping.{is_boundary, permits, is_below, wants, GathersFirst, Gathers}
@@ -134,22 +135,6 @@ module _ (nfa : Automaton) (wanted : Pair → Bool) where
           ]
   Gathers-one false a k set t is room = rw t (refl, (k, is, refl))
 
-  -- a pair that stands in two lists
-  in-left : (b : Pair × Slots) (f g : Front) → In b f → In b (f ++ g)
-  in-left b [] g i = absurd i
-  in-left b (c ∷ f) g i = elim i [ inl h ↦ inl h | inr j ↦ inr (in-left b f g j) ]
-
-  in-right : (b : Pair × Slots) (f g : Front) → In b g → In b (f ++ g)
-  in-right b [] g i = i
-  in-right b (c ∷ f) g i = inr (in-right b f g i)
-
-  in-either : (b : Pair × Slots) (f g : Front) → In b (f ++ g) → In b f ⊎ In b g
-  in-either b [] g i = inr i
-  in-either b (c ∷ f) g i = elim i [
-    | inl h ↦ inl (inl h)
-    | inr j ↦ elim (in-either b f g j) [ inl h ↦ inl (inr h) | inr h ↦ inr h ]
-  ]
-
   -- where none is wanted in the first front, the first of both is that of the second
   first-append : (f g : Front) → first_match wanted f ≡ None → first_match wanted (f ++ g) ≡ first_match wanted g
   first-append [] g none = refl
@@ -207,7 +192,7 @@ module _ (nfa : Automaton) (wanted : Pair → Bool) where
       left : (j : ℕ) → HoldsMatch wanted (pattern_at nfa) j f → HoldsMatch wanted (pattern_at nfa) j (f ++ g)
       left j w = record {
         item = w.item;
-        among = in-left w.item f g w.among;
+        among = In-append_left w.item f g w.among;
         matches = w.matches;
         pattern_is = w.pattern_is;
       }
@@ -215,7 +200,7 @@ module _ (nfa : Automaton) (wanted : Pair → Bool) where
       right : (j : ℕ) → HoldsMatch wanted (pattern_at nfa) j g → HoldsMatch wanted (pattern_at nfa) j (f ++ g)
       right j w = record {
         item = w.item;
-        among = in-right w.item f g w.among;
+        among = In-append_right w.item f g w.among;
         matches = w.matches;
         pattern_is = w.pattern_is;
       }
@@ -223,7 +208,7 @@ module _ (nfa : Automaton) (wanted : Pair → Bool) where
       either : (j : ℕ) → HoldsMatch wanted (pattern_at nfa) j (f ++ g) → HoldsMatch wanted (pattern_at nfa) j f
           ⊎ HoldsMatch wanted (pattern_at nfa) j g
       either j w =
-          elim (in-either w.item f g w.among) [
+          elim (In-append w.item f g w.among) [
             | inl i ↦ inl (record { item = w.item; among = i; matches = w.matches; pattern_is = w.pattern_is })
             | inr i ↦ inr (record { item = w.item; among = i; matches = w.matches; pattern_is = w.pattern_is })
           ]

@@ -12,102 +12,129 @@ use Rattle.nfa_paths.specs.Exploring.{Item, Slots, Hit, round}
 use Rattle.nfa_paths.specs.Exploring.Item.{Explore, Load}
 use Rattle.nfa_paths.specs.Kinds.{first_match, before_match}
 use Rattle.nfa_paths.specs.Paths.{edges, is_match, starts, space}
+use Rattle.nfa_paths.proofs.FrontMatchLemmas.{before_match-among, before_match-all, first_match-cut}
 use Rattle.nfa_paths.proofs.StartLemmas.{IsMatch-capture}
 use Rattle.nfa_paths.proofs.ScanAnswerLemmas.{edges-onward, seeds-later}
-use Rattle.nfa_paths.proofs.ScanningLemmas.{Searching-cut, Searching-wait, Searching-cut_round}
-use Rattle.nfa_paths.proofs.SearchingLemmas.{Searching-round}
-use Rattle.nfa_paths.proofs.PathToLemmas.{is_false}
+use Rattle.nfa_paths.proofs.ScanningLemmas.{Searching-cut, Searching-wait, Searching-before_round}
 use Rattle.nfa_scanning.specs.Marks.{Marks}
-use Rattle.nfa_pikevm_scan.specs.States.{Front, moves, tasks, unmarked, GoesOn, SeenAt, SearchingAt, Crosses}
-use Rattle.nfa_pikevm_scan.specs.Scans.{blank, starts_from, half_found, AreAt, IsSoFar, SearchesFirst}
+use Rattle.nfa_pikevm_scan.specs.States.{Front, moves, tasks, unmarked, AreMatchPairs, GoesOn, Formed, Paid, SeenAt, SearchingAt, Leads, Crosses}
+use Rattle.nfa_pikevm_scan.specs.Overlapping.{GoesPast, CrossesInSet}
+use Rattle.nfa_pikevm_scan.specs.Scans.{blank, starts_from, half_found, AreAt, IsSoFar, IsPaidAt, SearchesFirst}
 use Rattle.nfa_pikevm_scan.proofs.TaskLemmas.{starts_from-end, AnswersFor, AnswersFor-round, Searching-for}
-use Rattle.nfa_pikevm_scan.proofs.FrontLemmas.{Formed-rests, Formed-next, Formed-below, Formed-over, before_match-plain, before_match-among, first_match-cut, SeenAt-none, Paid-few}
+use Rattle.nfa_pikevm_scan.proofs.FrontLemmas.{Formed-rests, Formed-next, Formed-below, Formed-over, SeenAt-none, Paid-few, Paid-next, IsPaidAt-cross}
 
-module _ (nfa : Automaton) (x : Search) (at width state limit : ℕ) where
-  -- the starts that wait behind a position
-  waits-later : (k : Pair) → In (Explore k) (starts_from width state (at + 1) limit) → at < k.1
-  waits-later = seeds-later (blank width) state at (limit - (at + 1))
+-- What comes of the states at a position, with the start that joined, be it of a search or of a scan for a set: a
+-- front, of which memory holds the moves. All that waits is followed where it `goes` on.
+pub record Crossed (nfa : Automaton) (x : Search) (at width state limit : ℕ) (met : Marks) (items : List (ℕ × Slots))
+    (goes : Type 0) (after : Marks) (kept : List (ℕ × Slots)) (front : Front) : Type 0 where
+  pub added : kept ≡ moves (edges nfa x) front
+  pub formed : Formed nfa at after.bits front
+  pub paid : Paid nfa (unmarked met) 0 [] (length items) after (length kept) [] 0
+  pub leads : Leads nfa x at (unmarked met) []
+      (tasks at items (Load (blank width) ∷ starts_from width state (at + 1) limit)) (blank width) goes after front
+      (Load (blank width) ∷ starts_from width state (at + 1) limit)
 
+pub search-crossed : {nfa : Automaton} {x : Search} {at : ℕ} (width state limit : ℕ) {past : Bool} {met : Marks}
+    {items : List (ℕ × Slots)} {slots : Slots} {hit : Option PatternID} {after : Marks} {kept : List (ℕ × Slots)}
+    {written : Slots} (c : Crosses nfa x at past met items slots hit after kept written)
+    → Crossed nfa x at width state limit met items (GoesOn past hit) after kept c.front
+search-crossed {at = at} width state limit c = record {
+  added = c.added;
+  formed = c.formed;
+  paid = c.paid;
+  leads = c.leads (blank width) (blank width) (starts_from width state (at + 1) limit);
+}
+
+pub set-crossed : {nfa : Automaton} {x : Search} {at n : ℕ} (state limit : ℕ) {past : Bool} {met : Marks}
+    {items : List (ℕ × Slots)} {set : List Bool} {hit : Bool} {after : Marks} {kept : List (ℕ × Slots)}
+    {new : List Bool}
+    (c : CrossesInSet nfa x at past n met items set hit after kept new)
+    → Crossed nfa x at 0 state limit met items (GoesPast past hit) after kept c.front
+set-crossed {at = at} state limit c = record {
+  added = c.added;
+  formed = c.formed;
+  paid = c.paid;
+  leads = c.leads [] (starts_from 0 state (at + 1) limit);
+}
+
+module _ {nfa : Automaton} {x : Search} {at width state limit : ℕ} {met after : Marks} {items kept : List (ℕ × Slots)}
+    {front : Front} {goes : Type 0} (c : Crossed nfa x at width state limit met items goes after kept front) where
   -- what is kept for the next position
-  pub AreAt-cross : {past : Bool} {met : Marks} {items : List (ℕ × Slots)} {slots : Slots} {hit : Option PatternID}
-      {after : Marks} {kept : List (ℕ × Slots)} {written : Slots}
-      → All (LeadsBelow (length nfa.states)) nfa.states → Crosses nfa x at past met items slots hit after kept written
-      → AreAt nfa kept
-  AreAt-cross {met = met} {items} {after = after} {kept} leads c = record {
-    states = rw c.added (Formed-below nfa x at after.bits leads c.front c.formed);
+  pub AreAt-cross : All (LeadsBelow (length nfa.states)) nfa.states → AreAt nfa kept
+  AreAt-cross leads = record {
+    states = rw c.added (Formed-below nfa x at after.bits leads front c.formed);
     few = Paid-few nfa x met (length items) after (length kept) c.paid;
   }
 
+  -- the turns, where one start at most joined
+  pub IsPaidAt-crossed : {before stood : ℕ} → x.start ≤ at → IsPaidAt nfa x at before met.turns stood
+      → length items ≤ stood + 1 → IsPaidAt nfa x (at + 1) before after.turns (length kept)
+  IsPaidAt-crossed {before} {stood} low paid one =
+      IsPaidAt-cross nfa x at before met.turns stood (length items) after.turns (length kept) low paid one
+      (Paid-next nfa x met (length items) after (length kept) c.paid)
+
   -- at the end nothing is
-  pub over-cross : {past : Bool} {met : Marks} {items : List (ℕ × Slots)} {slots : Slots} {hit : Option PatternID}
-      {after : Marks} {kept : List (ℕ × Slots)} {written : Slots}
-      → x.end ≤ at → Crosses nfa x at past met items slots hit after kept written → kept ≡ []
-  over-cross {after = after} past c = c.added ∙ Formed-over nfa x at after.bits past c.front c.formed
+  pub over-cross : x.end ≤ at → kept ≡ []
+  over-cross past = c.added ∙ Formed-over nfa x at after.bits past front c.formed
 
-  -- the first path
+-- the first path
 
-  module _ {met : Marks} {items : List (ℕ × Slots)} {slots : Slots} {hit : Option PatternID} {after : Marks}
-      {kept : List (ℕ × Slots)} {written : Slots} {so_far : Hit}
-      (c : Crosses nfa x at false met items slots hit after kept written)
-      (s : SearchingAt nfa x at (is_match nfa) (starts nfa x) (blank width) so_far (unmarked met) []
-      (tasks at items (Load (blank width) ∷ starts_from width state (at + 1) limit)) (blank width)) where
-    -- the next position's work is that of what is kept
-    kept-work : (waiting : List Item) → AnswersFor (space nfa x) (is_match nfa)
-        (round (edges nfa x) (before_match (is_match nfa) c.front) (Load (blank width) ∷ waiting))
-        (tasks (at + 1) kept (Load (blank width) ∷ waiting))
-    kept-work waiting =
-        let same : moves (edges nfa x) (before_match (is_match nfa) c.front) ≡ kept = c.cut refl ∙ sym c.added in
-        subst (λ (ks : List (ℕ × Slots)). AnswersFor (space nfa x) (is_match nfa)
-        (round (edges nfa x) (before_match (is_match nfa) c.front) (Load (blank width) ∷ waiting))
-        (tasks (at + 1) ks (Load (blank width) ∷ waiting))) same
-        (AnswersFor-round (space nfa x) (is_match nfa) at (before_match (is_match nfa) c.front) (blank width) waiting
-        (λ a i. Formed-next nfa x at after.bits c.front c.formed a (before_match-among (is_match nfa) c.front a i)))
+module _ (wanted : Pair → Bool) {nfa : Automaton} (sub : AreMatchPairs nfa wanted) {x : Search}
+    {at width state limit : ℕ} {met after : Marks} {items kept : List (ℕ × Slots)} {front : Front} {goes : Type 0}
+    {so_far : Hit} (c : Crossed nfa x at width state limit met items goes after kept front)
+    (ends : moves (edges nfa x) (before_match wanted front) ≡ moves (edges nfa x) front)
+    (s : SearchingAt nfa x at wanted (starts nfa x) (blank width) so_far (unmarked met) []
+    (tasks at items (Load (blank width) ∷ starts_from width state (at + 1) limit)) (blank width)) where
+  -- the next position's work is that of what is kept
+  kept-work : (waiting : List Item) → AnswersFor (space nfa x) wanted
+      (round (edges nfa x) (before_match wanted front) (Load (blank width) ∷ waiting))
+      (tasks (at + 1) kept (Load (blank width) ∷ waiting))
+  kept-work waiting =
+      subst (λ (ks : List (ℕ × Slots)). AnswersFor (space nfa x) wanted
+      (round (edges nfa x) (before_match wanted front) (Load (blank width) ∷ waiting))
+      (tasks (at + 1) ks (Load (blank width) ∷ waiting))) (ends ∙ sym c.added)
+      (AnswersFor-round (space nfa x) wanted at (before_match wanted front) (blank width) waiting
+      (λ a i. Formed-next nfa x at after.bits front c.formed a (before_match-among wanted front a i)))
 
-    -- no match at the position
-    first-miss : first_match (is_match nfa) c.front ≡ None → GoesOn false hit
-        → SearchingAt nfa x (at + 1) (is_match nfa) (starts nfa x) (blank width) so_far (unmarked after) []
-        (tasks (at + 1) kept (Load (blank width) ∷ starts_from width state (at + 1) limit)) (blank width)
-    first-miss none goes_on =
-        let l = c.leads (blank width) (blank width) (starts_from width state (at + 1) limit) in
-        let left = l.follows.leads (is_match nfa) (λ v t. t) (starts nfa x) (blank width) so_far s in
-        let whole = rw (l.whole goes_on) at left in
-        let next = Searching-cut_round (space nfa x) (is_match nfa) {e = at}
-        {After = SeenAt (at + 1) (replicate (length after.bits) false)} whole (edges-onward nfa x)
-        (Formed-rests nfa x at after.bits c.front c.formed) waits-later
-        (λ v seen. let h : v.1 ≡ at = seen.here in omega arith) (SeenAt-none (at + 1) (length after.bits))
-        (blank width) in
-        Searching-for (space nfa x) (is_match nfa) (rw none at next)
-        (kept-work (starts_from width state (at + 1) limit)) (blank width)
+  -- the search at the front
+  front-search : SearchingAt nfa x at wanted (starts nfa x) (blank width) so_far after front c.leads.left
+      c.leads.written
+  front-search = c.leads.follows.leads wanted sub (starts nfa x) (blank width) so_far s
 
-    -- a match at the position
-    first-hit : (a : Pair × Slots) → first_match (is_match nfa) c.front ≡ Some a
-        → SearchingAt nfa x (at + 1) (is_match nfa) (starts nfa x) (blank width) (Some a) (unmarked after) []
-        (tasks (at + 1) kept (Load (blank width) ∷ [])) (blank width)
-    first-hit a some =
-        let l = c.leads (blank width) (blank width) (starts_from width state (at + 1) limit) in
-        let left = l.follows.leads (is_match nfa) (λ v t. t) (starts nfa x) (blank width) so_far s in
-        let h = first_match-cut (is_match nfa) c.front a some in
-        let split = subst (λ (f : Front). SearchingAt nfa x at (is_match nfa) (starts nfa x) (blank width) so_far after
-        f l.left l.written) h.split left in
-        let cut = Searching-cut (space nfa x) (is_match nfa) (before_match (is_match nfa) c.front) a
-        h.after split h.matches (IsMatch-capture nfa a.0 h.matches) in
-        let next = Searching-round (space nfa x) (is_match nfa)
-        {After = SeenAt (at + 1) (replicate (length after.bits) false)}
-        (Searching-wait (space nfa x) (is_match nfa) (blank width) cut) (λ v. at < v.1)
-        (λ v w k i. let m : v.1 ≤ w.1 = edges-onward nfa x v w i in let n : at < v.1 = k in omega arith)
-        (λ b i.
-        let r = Formed-rests nfa x at after.bits c.front c.formed b (before_match-among (is_match nfa) c.front b i) in (
-          is_false (is_match nfa b.0) (before_match-plain (is_match nfa) c.front b i),
-          r.0,
-          λ k. let m : at < b.0.1 = k in let n : b.0.1 ≡ at = r.1 in omega arith,
-          r.2,
-        ))
-        (λ k i. absurd (none_waits k i)) (λ v seen k. let m : v.1 ≡ at = seen.here in let n : at < v.1 = k in
-        omega arith) (SeenAt-none (at + 1) (length after.bits)) (blank width) in
-        Searching-for (space nfa x) (is_match nfa) next (kept-work []) (blank width)
-      where
-        none_waits : (k : Pair) → In (Explore k) [] → ⊥
-        none_waits k i = i
+  -- what stands before the first wanted pair goes on
+  goes-on : {other : Hit} {slots : Slots} (waiting : List Item)
+      → SearchingAt nfa x at wanted (starts nfa x) (blank width) other after (before_match wanted front)
+      (Load (blank width) ∷ waiting) slots
+      → ((k : Pair) → In (Explore k) waiting → at < k.1)
+      → SearchingAt nfa x (at + 1) wanted (starts nfa x) (blank width) other (unmarked after) []
+      (tasks (at + 1) kept (Load (blank width) ∷ waiting)) (blank width)
+  goes-on waiting before later =
+      Searching-for (space nfa x) wanted
+      (Searching-before_round (space nfa x) wanted {After = SeenAt (at + 1) (replicate (length after.bits) false)} front
+      before (edges-onward nfa x) (Formed-rests nfa x at after.bits front c.formed) later
+      (λ v seen. let h : v.1 ≡ at = seen.here in omega arith) (SeenAt-none (at + 1) (length after.bits)) (blank width))
+      (kept-work waiting) (blank width)
+
+  -- no match at the position
+  pub first-miss : first_match wanted front ≡ None → goes
+      → SearchingAt nfa x (at + 1) wanted (starts nfa x) (blank width) so_far (unmarked after) []
+      (tasks (at + 1) kept (Load (blank width) ∷ starts_from width state (at + 1) limit)) (blank width)
+  first-miss none goes_on =
+      goes-on {slots = c.leads.written} (starts_from width state (at + 1) limit)
+      (rw (before_match-all wanted front none) (rw (c.leads.whole goes_on) at front-search))
+      (seeds-later (blank width) state at (limit - (at + 1)))
+
+  -- a match at the position
+  pub first-hit : (a : Pair × Slots) → first_match wanted front ≡ Some a
+      → SearchingAt nfa x (at + 1) wanted (starts nfa x) (blank width) (Some a) (unmarked after) []
+      (tasks (at + 1) kept (Load (blank width) ∷ [])) (blank width)
+  first-hit a some =
+      let h = first_match-cut wanted front a some in
+      let split = subst (λ (f : Front). SearchingAt nfa x at wanted (starts nfa x) (blank width) so_far after
+      f c.leads.left c.leads.written) h.split front-search in
+      let cut = Searching-cut (space nfa x) wanted (before_match wanted front) a
+      h.after split h.matches (IsMatch-capture nfa a.0 (sub a.0 h.matches)) in
+      goes-on [] (Searching-wait (space nfa x) wanted (blank width) cut) (λ k i. absurd i)
 
 module _ (nfa : Automaton) (x : Search) (at width state limit : ℕ) where
   -- a position with no match
@@ -123,7 +150,8 @@ module _ (nfa : Automaton) (x : Search) (at width state limit : ℕ) where
       record {
         so_far = so_far;
         is_so_far = subst (λ (k : Slots). IsSoFar nfa x found k so_far) (sym h.1) is_so_far;
-        searching = first-miss nfa x at width state limit c s h.0 (inr none);
+        searching = first-miss (is_match nfa) (λ v t. t) (search-crossed width state limit c) (c.cut refl) s h.0
+            (inr none);
       }
 
   -- a position with a match: no start is left
@@ -147,5 +175,6 @@ module _ (nfa : Automaton) (x : Search) (at width state limit : ℕ) where
       record {
         so_far = Some (v, written);
         is_so_far = (v.0, ap (λ (n : ℕ). Some ((v.0, n), written)) (here ∙ sym offset), h.2 ∙ ap Some (sym number));
-        searching = rw (starts_from-end width state later) (first-hit nfa x at width state limit c s (v, written) h.1);
+        searching = rw (starts_from-end width state later) (first-hit (is_match nfa) (λ v t. t)
+            (search-crossed width state limit c) (c.cut refl) s (v, written) h.1);
       }

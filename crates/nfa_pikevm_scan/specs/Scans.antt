@@ -5,6 +5,7 @@ use Rattle.regex_search_core.specs.Found.{HalfFound, half_found_of}
 use Rattle.regex_search_core.specs.Search.{Search}
 use Rattle.regex_search_core.specs.declared.search.HalfMatch.{HalfMatch}
 use Rattle.thompson_nfa.specs.Automaton.{Automaton, LeadsBelow}
+use Rattle.nfa_paths.specs.Graphs.{Pair}
 use Rattle.nfa_paths.specs.Paths.{node_at, pattern_of, is_match, starts, pairs_from, turn_weight, space}
 use Rattle.nfa_paths.specs.Exploring.{Slots, Hit, Item, seeds}
 use Rattle.nfa_paths.specs.Exploring.Item.{Load}
@@ -135,7 +136,8 @@ module _ (nfa : Automaton) (x : Search) where
     pub searching : SearchingAt nfa x at (is_match nfa) (starts nfa x) (blank width) so_far (unmarked met) []
         (tasks at items (Load (blank width) ∷ starts_from width start at limit)) (blank width)
 
-  -- The scan for each match, at a position where it has followed no state yet.
-  pub record ScansAll (at width start limit : ℕ) (met : Marks) (items : List (ℕ × Slots)) : Type 0 where
-    pub scanning : Scanning (space nfa x) (is_match nfa) (blank width) at (SeenAt at (unmarked met).bits) met.turns []
+  -- The scan for each wanted pair, at a position where it has followed no state yet.
+  pub record ScansAll (wanted : Pair → Bool) (at width start limit : ℕ) (met : Marks)
+      (items : List (ℕ × Slots)) : Type 0 where
+    pub scanning : Scanning (space nfa x) wanted (blank width) at (SeenAt at (unmarked met).bits) met.turns []
         (tasks at items (Load (blank width) ∷ starts_from width start at limit)) (blank width)

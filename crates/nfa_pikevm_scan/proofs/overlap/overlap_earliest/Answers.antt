@@ -3,7 +3,8 @@ use Rattle.std.proofs.Common.{◌≡◌, ◌∙◌, ◌+◌, Bool, List, ap, sym
 use Rattle.regex_search_core.specs.Search.{search_of}
 use Rattle.nfa_paths.proofs.ScanAnswerLemmas.{EndsBefore-span}
 use Rattle.nfa_pikevm_scan.specs.Overlapping.{wants}
-use Rattle.nfa_pikevm_scan.proofs.OverlapScanLemmas.{ScansAt-over}
+use Rattle.nfa_pikevm_scan.proofs.EndLemmas.{ScansAll-over}
+use Rattle.nfa_pikevm_scan.proofs.OverlapSetLemmas.{wants-match}
 use Rattle.nfa_pikevm_scan.proofs.OverlapLoopLemmas.{crosses-joined, Stands-turns, Earliest-start, Earliest-next, Earliest-found, Earliest-end}
 use Rattle.nfa_pikevm_scan.proofs.RoomLemmas.{none_of, below-joined}
 use Rattle.nfa_pikevm_scan.proofs.overlap.overlap_earliest.Goals as goal
@@ -26,9 +27,10 @@ returns-then-is_empty-clause-gains c =
     let items = rw c.loop-at.invariant.width at c.join.ensures.curr in
     Earliest-end c.args.nfa.now (search_of c.args.input.now) c.args.patterns.now c.args.past_match c.requires.empty
     c.loop-at.invariant.so_far
-    (ScansAt-over c.args.nfa.now (search_of c.args.input.now) c.args.patterns.now c.args.starts.now c.loop-at.at
-    c.loop-at.threads.reached.seen c.loop-at.threads.curr.items c.loop-at.invariant.so_far.stands.scans
-    (sym items ∙ none_of c.join.new.threads.curr.items (c.is_empty.ensures.0 c.if-is_empty.true)))
+    (ScansAll-over c.args.nfa.now (search_of c.args.input.now) c.args.starts.now c.loop-at.at 0
+    c.loop-at.invariant.so_far.stands.scans
+    (sym items ∙ none_of c.join.new.threads.curr.items (c.is_empty.ensures.0 c.if-is_empty.true))
+    (wants-match c.args.nfa.now (search_of c.args.input.now) (length c.args.patterns.now)))
 
 pub cross_to_set-met-requires-clause-states : goal.cross_to_set-met-requires-clause-states
 cross_to_set-met-requires-clause-states c =

@@ -1,7 +1,7 @@
 -- The set gains the pattern of the first match, and those that were met on the way to its end.
 use Rattle.std.proofs.Common.{◌∙◌, sym, arith, length, refl}
 use Rattle.regex_search_core.specs.Search.{search_of}
-use Rattle.nfa_pikevm_scan.proofs.OverlapScanLemmas.{kept-none}
+use Rattle.nfa_pikevm_scan.proofs.ScanLemmas.{set-crossed, over-cross}
 use Rattle.nfa_pikevm_scan.proofs.OverlapLoopLemmas.{crosses-joined}
 use Rattle.nfa_pikevm_scan.proofs.OverlapFirstLemmas.{FirstWay-capacity, FirstWay-start, FirstWay-next, FirstWay-cut, FirstWay-over, FirstWay-end}
 use Rattle.nfa_pikevm_scan.proofs.RoomLemmas.{none_of, below-joined}
@@ -55,7 +55,7 @@ loop-at-preserved c =
         | else-met w ↦ rw w.joining-is c.loop-at.invariant.limit
       ];
       last = λ past. rw c.move_on.ensures.curr
-          (kept-none c.args.nfa.now (search_of c.args.input.now) c.args.patterns.now crosses (omega arith));
+          (over-cross (set-crossed c.loop-at.joining.state c.loop-at.joining.limit crosses) (omega arith));
       sizes = c.move_on.ensures.sizes ∙ c.cross_to_set-met.ensures.sizes ∙ c.join.ensures.sizes
           ∙ c.loop-at.invariant.sizes;
       width = c.move_on.ensures.width ∙ c.cross_to_set-met.ensures.width ∙ c.join.ensures.width

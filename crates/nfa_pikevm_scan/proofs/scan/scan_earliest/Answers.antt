@@ -1,13 +1,14 @@
 -- A scan that ends at the first match that is seen answers the path with the least end.
 use Rattle.std.proofs.Common.{◌≡◌, ◌∙◌, ◌+◌, ◌≤◌, length, arith, refl, sym, inr, true, cond}
 use Rattle.regex_search_core.specs.Search.{search_of}
+use Rattle.nfa_paths.specs.Paths.{is_match}
 use Rattle.nfa_paths.proofs.ScanAnswerLemmas.{scan_answer-none}
 use Rattle.regex_search_core.specs.declared.search.MatchKind.TheVariants.{All, LeftmostFirst}
 use Rattle.nfa_pikevm_scan.proofs.AllLemmas.{ScansAll-cross, NoneBefore-cross, EndsAt-none}
-use Rattle.nfa_pikevm_scan.proofs.EndLemmas.{ScansAll-begin, NoneBefore-begin, ScansAll-join, all-over, earliest-over, ends-at}
-use Rattle.nfa_pikevm_scan.proofs.FrontLemmas.{Paid-next, IsPaidAt-cross, IsPaidAt-end}
-use Rattle.nfa_pikevm_scan.proofs.RoomLemmas.{AreAt-none, none_of, below-joined, few-joined, over-joined}
-use Rattle.nfa_pikevm_scan.proofs.ScanLemmas.{AreAt-cross}
+use Rattle.nfa_pikevm_scan.proofs.EndLemmas.{ScansAll-begin, NoneBefore-begin, ScansAll-join, ScansAll-over, earliest-over, ends-at}
+use Rattle.nfa_pikevm_scan.proofs.FrontLemmas.{IsPaidAt-end}
+use Rattle.nfa_pikevm_scan.proofs.RoomLemmas.{AreAt-none, none_of, below-joined, few-joined}
+use Rattle.nfa_pikevm_scan.proofs.ScanLemmas.{search-crossed, AreAt-cross, IsPaidAt-crossed}
 use Rattle.nfa_pikevm_scan.proofs.scan.scan_earliest.Goals as goal
 
 pub loop-at-init : goal.loop-at-init
@@ -21,7 +22,8 @@ loop-at-init c =
       items = rw c.requires.ready.curr (AreAt-none c.args.nfa.now);
       paid = rw (start, c.requires.ready.curr) (record { bound = omega arith });
       scans = rw (start, c.requires.ready.curr) (ScansAll-begin c.args.nfa.now (search_of c.args.input.now)
-          c.args.starts.now c.requires.ready.starts c.args.slots.now c.args.threads.now.reached.seen);
+          c.args.starts.now c.requires.ready.starts c.args.slots.now c.args.threads.now.reached.seen
+          (is_match c.args.nfa.now));
       none = rw start (NoneBefore-begin c.args.nfa.now (search_of c.args.input.now));
       same = refl;
     }
@@ -29,18 +31,11 @@ loop-at-init c =
 pub returns-then-is_empty-clause-answer : goal.returns-then-is_empty-clause-answer
 returns-then-is_empty-clause-answer c =
     let none = none_of c.join.new.threads.curr.items (c.is_empty.ensures.0 c.if-is_empty.true) in
-    let items = rw c.loop-at.invariant.width at c.join.ensures.curr in
-    let past : c.args.starts.now.limit ≤ c.loop-at.at =
-    over-joined c.args.starts.now (length c.args.slots.now) c.loop-at.at c.loop-at.threads.curr.items
-    (sym items ∙ none) in
-    let s = ScansAll-join c.args.nfa.now (search_of c.args.input.now) c.args.starts.now c.loop-at.at
-    (length c.args.slots.now) c.loop-at.threads.reached.seen c.join.new.threads.reached.seen c.join.ensures.seen
-    c.loop-at.threads.curr.items c.join.new.threads.curr.items items c.loop-at.invariant.scans in (
+    let items = rw c.loop-at.invariant.width at c.join.ensures.curr in (
       scan_answer-none c.args.nfa.now (search_of c.args.input.now) (cond c.args.past_match All LeftmostFirst) true
           c.loop-at.invariant.none
-          (all-over c.args.nfa.now (search_of c.args.input.now) c.loop-at.at (c.loop-at.at + 1)
-          (length c.args.slots.now) c.args.starts.now.state c.args.starts.now.limit c.join.new.threads.reached.seen
-          c.join.new.threads.curr.items (omega arith) none s),
+          (ScansAll-over c.args.nfa.now (search_of c.args.input.now) c.args.starts.now c.loop-at.at
+          (length c.args.slots.now) c.loop-at.invariant.scans (sym items ∙ none) (λ v t. t)),
       rw c.loop-at.invariant.same c.requires.unset,
     )
 
@@ -66,15 +61,8 @@ returns-then-is_some-clause-turns c =
     c.move_on.new.threads.reached.seen.turns
     (length c.move_on.new.threads.curr.items) within c.requires.ready.span
     (rw (c.move_on.ensures.seen, kept)
-    (IsPaidAt-cross c.args.nfa.now x c.loop-at.at c.args.threads.now.reached.seen.turns
-    c.loop-at.threads.reached.seen.turns
-    (length c.loop-at.threads.curr.items) (length c.join.new.threads.curr.items)
-    c.cross.new.threads.reached.seen.turns (length c.cross.new.threads.reached.next.items) low c.loop-at.invariant.paid
-    few
-    (rw c.join.ensures.seen at (Paid-next c.args.nfa.now x c.join.new.threads.reached.seen
-    (length c.join.new.threads.curr.items) c.cross.new.threads.reached.seen (length
-    c.cross.new.threads.reached.next.items)
-    crosses.paid))))
+    (IsPaidAt-crossed (search-crossed width c.args.starts.now.state c.args.starts.now.limit crosses) low
+    (rw c.join.ensures.seen c.loop-at.invariant.paid) few))
 
 pub returns-then-is_some-clause-answer : goal.returns-then-is_some-clause-answer
 returns-then-is_some-clause-answer c =
@@ -112,18 +100,11 @@ loop-at-preserved c =
       sizes = c.move_on.ensures.sizes ∙ c.cross.ensures.sizes ∙ c.join.ensures.sizes ∙ c.loop-at.invariant.sizes;
       width = c.move_on.ensures.width ∙ c.cross.ensures.width ∙ c.join.ensures.width ∙ c.loop-at.invariant.width;
       next = c.move_on.ensures.next;
-      items = rw kept (AreAt-cross c.args.nfa.now x c.loop-at.at width c.args.starts.now.state c.args.starts.now.limit
-          c.requires.ready.starts.leads crosses);
+      items = rw kept (AreAt-cross (search-crossed width c.args.starts.now.state c.args.starts.now.limit crosses)
+          c.requires.ready.starts.leads);
       paid = rw (c.move_on.ensures.seen, kept)
-          (IsPaidAt-cross c.args.nfa.now x c.loop-at.at c.args.threads.now.reached.seen.turns
-          c.loop-at.threads.reached.seen.turns
-          (length c.loop-at.threads.curr.items) (length c.join.new.threads.curr.items)
-          c.cross.new.threads.reached.seen.turns (length c.cross.new.threads.reached.next.items) low
-          c.loop-at.invariant.paid few
-          (rw c.join.ensures.seen at (Paid-next c.args.nfa.now x c.join.new.threads.reached.seen
-          (length c.join.new.threads.curr.items) c.cross.new.threads.reached.seen (length
-          c.cross.new.threads.reached.next.items)
-          crosses.paid)));
+          (IsPaidAt-crossed (search-crossed width c.args.starts.now.state c.args.starts.now.limit crosses) low
+          (rw c.join.ensures.seen c.loop-at.invariant.paid) few);
       scans = rw (c.move_on.ensures.seen, kept)
           (ScansAll-cross c.args.nfa.now x c.loop-at.at width c.args.starts.now.state c.args.starts.now.limit crosses
           s (inr no_hit));

@@ -14,9 +14,8 @@ invariant-loop-at l = record {
   items : AreAt l.nfa l.threads.curr.items;
   paid : IsPaidAt l.nfa (search_of l.input) l.at l.fn.threads.reached.seen.turns l.threads.reached.seen.turns
       (length l.threads.curr.items);
-  scans : ScansAll l.nfa (search_of l.input) l.at (length l.fn.slots) l.starts.state l.starts.limit
-      l.threads.reached.seen
-      l.threads.curr.items;
+  scans : ScansAll l.nfa (search_of l.input) (is_match l.nfa) l.at (length l.fn.slots) l.starts.state l.starts.limit
+      l.threads.reached.seen l.threads.curr.items;
   none : NoneBefore (space l.nfa (search_of l.input)) (is_match l.nfa) l.at;
   same : l.slots ≡ l.fn.slots;
   counted : l.threads.scans ≡ l.fn.threads.scans;

@@ -3,9 +3,9 @@ use Rattle.std.proofs.Common.{◌≡◌, ◌∙◌, ◌+◌, ◌<◌, ◌≤◌,
 use Rattle.regex_search_core.specs.Search.{search_of}
 use Rattle.nfa_pikevm_scan.proofs.AllLemmas.{EndsAt-none}
 use Rattle.nfa_pikevm_scan.proofs.EndLemmas.{SearchesFirst-begin, SearchesFirst-joins, SearchesFirst-some, first-over}
-use Rattle.nfa_pikevm_scan.proofs.FrontLemmas.{Paid-next, IsPaidAt-cross, IsPaidAt-later}
+use Rattle.nfa_pikevm_scan.proofs.FrontLemmas.{IsPaidAt-later}
 use Rattle.nfa_pikevm_scan.proofs.RoomLemmas.{AreAt-none, none_of, below-joins, few-joins, over-joins}
-use Rattle.nfa_pikevm_scan.proofs.ScanLemmas.{AreAt-cross, over-cross, SearchesFirst-miss}
+use Rattle.nfa_pikevm_scan.proofs.ScanLemmas.{search-crossed, AreAt-cross, IsPaidAt-crossed, over-cross, SearchesFirst-miss}
 use Rattle.nfa_pikevm_scan.proofs.scan.scan_first.Goals as goal
 use Rattle.nfa_pikevm_scan.proofs.scan.scan_first.Goals.{then-is_some, else-is_some}
 
@@ -78,8 +78,8 @@ loop-at-preserved c =
       width = c.move_on.ensures.width ∙ c.cross.ensures.width ∙ c.join_or_skip-at.ensures.width
           ∙ c.loop-at.invariant.width;
       next = c.move_on.ensures.next;
-      items = rw kept (AreAt-cross c.args.nfa.now x to width state c.loop-at.limit
-          c.requires.ready.starts.leads crosses);
+      items = rw kept (AreAt-cross (search-crossed width state c.loop-at.limit crosses)
+          c.requires.ready.starts.leads);
       low = omega arith;
       high = omega arith;
       limits = elim c.if-is_some.branch [
@@ -89,19 +89,14 @@ loop-at-preserved c =
           | inr e ↦ inr (w.limit-is ∙ e)
         ]
       ];
-      over = λ past. kept ∙ over-cross c.args.nfa.now x to width state c.loop-at.limit
-          (let h : x.end ≤ to = omega arith in h) crosses;
+      over = λ past. kept ∙ over-cross (search-crossed width state c.loop-at.limit crosses)
+          (let h : x.end ≤ to = omega arith in h);
       paid = rw (c.move_on.ensures.seen, kept)
-          (IsPaidAt-cross c.args.nfa.now x to c.args.threads.now.reached.seen.turns c.loop-at.threads.reached.seen.turns
-          (length c.loop-at.threads.curr.items) (length c.join_or_skip-at.new.threads.curr.items)
-          c.cross.new.threads.reached.seen.turns (length c.cross.new.threads.reached.next.items) from
+          (IsPaidAt-crossed (search-crossed width state c.loop-at.limit crosses) from
+          (rw c.join_or_skip-at.ensures.seen
           (IsPaidAt-later c.args.nfa.now x c.loop-at.at to c.args.threads.now.reached.seen.turns
           c.loop-at.threads.reached.seen.turns
-          (length c.loop-at.threads.curr.items) ahead c.loop-at.invariant.paid) few
-          (rw c.join_or_skip-at.ensures.seen at
-          (Paid-next c.args.nfa.now x c.join_or_skip-at.new.threads.reached.seen
-          (length c.join_or_skip-at.new.threads.curr.items) c.cross.new.threads.reached.seen
-          (length c.cross.new.threads.reached.next.items) crosses.paid)));
+          (length c.loop-at.threads.curr.items) ahead c.loop-at.invariant.paid)) few);
       searches = rw (c.move_on.ensures.seen, kept)
           (elim c.if-is_some.branch [
             | then-is_some w ↦
