@@ -7,6 +7,7 @@ ghost use Rattle.nfa_paths.specs.Paths.{span_len, turn_weight, scan_limit, IsAns
 ghost use Rattle.nfa_backtrack.specs.Backtrack.{IsTooLong, AddsWork, CountsAnswer, CountsRefusal, GrowsBlocks};
 ghost use Rattle.nfa_backtrack.specs.Backtrack.{refused_early};
 ghost use Rattle.nfa_search_base.specs.Lists.{IsSlotInside};
+ghost use Rattle.nfa_search_base.specs.Spans.{SpansInside};
 
 use crate::cache::Cache;
 use crate::engine::BoundedBacktracker;
@@ -35,6 +36,7 @@ impl BoundedBacktracker {
         ensures count { length captures.new.slots ≡ length captures.old.slots }
         ensures pattern { IfSome captures.new.pattern (λ p. p < length self.now.nfa.patterns) }
         ensures inside { All (IsSlotInside (search_of input.now)) captures.new.slots }
+        ensures spans { SpansInside (search_of input.now) captures.new }
 
         ensures too_long { IsErrOf result (SearchError.HaystackTooLong (span_len (search_of input.now)))
             ↔ IsTooLong self.now (search_of input.now) }
@@ -78,6 +80,7 @@ impl BoundedBacktracker {
         ensures count { length captures.new.slots ≡ length captures.old.slots }
         ensures pattern { IfSome captures.new.pattern (λ p. p < length self.now.nfa.patterns) }
         ensures inside { All (IsSlotInside (search_of input.entry)) captures.new.slots }
+        ensures spans { SpansInside (search_of input.entry) captures.new }
 
         ensures too_long { IsErrOf result (SearchError.HaystackTooLong (span_len (search_of input.entry)))
             ↔ IsTooLong self.now (search_of input.entry) }

@@ -14,6 +14,7 @@ ghost use Rattle.nfa_paths.specs.Restarts.{scan_turns};
 ghost use Rattle.nfa_backtrack.specs.Backtrack.{IsTooLong, AddsWork, CountsAnswer, CountsRefusal, GrowsBlocks};
 ghost use Rattle.nfa_backtrack.specs.Backtrack.{refused_early, unused, capacity_of, rounded_bits, max_haystack_len_of};
 ghost use Rattle.nfa_backtrack.specs.Backtrack.{min_capacity_of};
+ghost use Rattle.nfa_search_base.specs.Finds.{finds};
 ghost use Rattle.nfa_search_base.specs.Lists.{IsInside, IsSlotInside};
 
 use crate::cache::Cache;
@@ -375,6 +376,7 @@ impl BoundedBacktracker {
     pub fn try_is_match<'h>(&self, cache: &mut Cache, input: Input<'h>) -> Result<bool, SearchError>
         ensures answer { IfOk result (λ found. IsFoundAnswer self.now.nfa LeftmostFirst false (search_of input.entry)
             found) }
+        ensures finds { IfOk result (λ found. found ≡ finds self.now.nfa LeftmostFirst false (search_of input.entry)) }
 
         ensures too_long { IsErrOf result (SearchError.HaystackTooLong (span_len (search_of input.entry)))
             ↔ IsTooLong self.now (search_of input.entry) }

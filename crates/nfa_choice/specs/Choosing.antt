@@ -7,6 +7,7 @@ use Rattle.thompson_nfa.specs.Automaton.{Automaton}
 use Rattle.nfa_paths.specs.Paths.{span_len, scan_limit, turn_weight, IsWork, IsWithinScans}
 use Rattle.nfa_backtrack.specs.Backtrack.{Backtracker, Work, AddsWork, CountsAnswer, CountsRefusal, GrowsBlocks}
 use Rattle.nfa_backtrack.specs.Backtrack.{max_haystack_len_of}
+use Rattle.nfa_search_base.specs.Finds.{finds}
 use Rattle.nfa_pikevm.specs.Engines.{Pike, PikeCache, AddsPikeWork, Fits, SameNumbers, kind_of, refitted}
 use Rattle.nfa_choice.specs.declared.choose.Engine.{Engine}
 use Rattle.nfa_choice.specs.declared.choose.Engine.TheVariants as engine
@@ -31,6 +32,10 @@ pike_of c = record { nfa = c.nfa; match_kind = c.match_kind }
 -- which of several matches is meant
 abbrev pub kind_in : Choosing → MatchKind
 kind_in c = kind_of (pike_of c)
+
+-- whether a search without `earliest` finds a match
+abbrev pub finds_in : Choosing → Search → Bool
+finds_in c x = finds c.nfa (kind_in c) false x
 
 abbrev pub is_leftmost_first : MatchKind → Bool
 is_leftmost_first LeftmostFirst = true

@@ -16,9 +16,10 @@ ghost use Rattle.regex_search_core.specs.Patterns.{number_of};
 ghost use Rattle.regex_search_core.specs.Found.{found_of};
 ghost use Rattle.nfa_paths.specs.Paths.{IsAnswer, IsMatchAnswer, IsFoundAnswer, is_utf8_empty};
 ghost use Rattle.nfa_search_base.specs.Lists.{IsInside, IsSlotInside};
+ghost use Rattle.nfa_search_base.specs.Spans.{SpansInside};
 ghost use Rattle.nfa_backtrack.specs.Backtrack.{unused};
 ghost use Rattle.nfa_pikevm.specs.Engines.{cache_for};
-ghost use Rattle.nfa_choice.specs.Choosing.{is_for_backtracker, kind_in, IsRefitted, KeepsEngines, RunsByRule};
+ghost use Rattle.nfa_choice.specs.Choosing.{finds_in, is_for_backtracker, kind_in, IsRefitted, KeepsEngines, RunsByRule};
 
 mod find_iter;
 
@@ -208,6 +209,7 @@ impl Choice {
             (captures.new.slots ≡ replicate (length captures.old.slots) None) }
         ensures pattern { IfSome captures.new.pattern (λ p. p < length self.old.nfa.patterns) }
         ensures inside { All (IsSlotInside (search_of input.now)) captures.new.slots }
+        ensures spans { SpansInside (search_of input.now) captures.new }
         ensures runs { RunsByRule self.old (search_of input.now) (search_of input.now).earliest self.new }
         ensures keeps { KeepsEngines self.old self.new }
     {
@@ -244,6 +246,7 @@ impl Choice {
     /// Whether a search of the input without `earliest` finds a match.
     pub fn is_match<'h>(&mut self, input: Input<'h>) -> bool
         ensures answer { IsFoundAnswer self.old.nfa (kind_in self.old) false (search_of input.entry) result }
+        ensures finds { result ≡ finds_in self.old (search_of input.entry) }
         ensures runs { RunsByRule self.old (search_of input.entry) (not (is_utf8_empty self.old.nfa)) self.new }
         ensures keeps { KeepsEngines self.old self.new }
     {

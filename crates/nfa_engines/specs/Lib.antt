@@ -27,6 +27,7 @@ pub use Rattle.nfa_search_base.specs.CaughtRuns
 pub use Rattle.nfa_search_base.specs.CaughtSteps
 pub use Rattle.nfa_search_base.specs.EngineSearches
 pub use Rattle.nfa_search_base.specs.Finders
+pub use Rattle.nfa_search_base.specs.Finds
 pub use Rattle.nfa_search_base.specs.Items
 pub use Rattle.nfa_search_base.specs.Lent
 pub use Rattle.nfa_search_base.specs.Lists
@@ -35,6 +36,7 @@ pub use Rattle.nfa_search_base.specs.Runs
 pub use Rattle.nfa_search_base.specs.Searchers
 pub use Rattle.nfa_search_base.specs.Serving
 pub use Rattle.nfa_search_base.specs.Skipping
+pub use Rattle.nfa_search_base.specs.Spans
 pub use Rattle.nfa_search_base.specs.Steps
 pub use Rattle.nfa_search_base.specs.Stored
 pub use Rattle.nfa_search_base.specs.StoredRuns

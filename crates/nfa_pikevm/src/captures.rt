@@ -3,6 +3,7 @@ ghost use Rattle.std.specs.Prelude.{◌≡◌, ◌+◌, ◌*◌, ◌<◌, ◌≤
 ghost use Rattle.regex_search_core.specs.Search.{search_of};
 ghost use Rattle.nfa_paths.specs.Paths.{span_len, turn_weight, scan_limit, IsAnswer, IsWork};
 ghost use Rattle.nfa_search_base.specs.Lists.{IsSlotInside};
+ghost use Rattle.nfa_search_base.specs.Spans.{SpansInside};
 ghost use Rattle.nfa_pikevm.specs.Engines.{AddsPikeWork, Fits, SameNumbers, kind_of};
 
 use crate::cache::Cache;
@@ -25,6 +26,7 @@ impl PikeVM {
             (captures.new.slots ≡ replicate (length captures.old.slots) None) }
         ensures pattern { IfSome captures.new.pattern (λ p. p < length self.now.nfa.patterns) }
         ensures inside { All (IsSlotInside (search_of input.now)) captures.new.slots }
+        ensures spans { SpansInside (search_of input.now) captures.new }
 
         ensures numbers { SameNumbers cache.old cache.new }
         ensures total { AddsPikeWork cache.old cache.new }
@@ -53,6 +55,7 @@ impl PikeVM {
             (captures.new.slots ≡ replicate (length captures.old.slots) None) }
         ensures pattern { IfSome captures.new.pattern (λ p. p < length self.now.nfa.patterns) }
         ensures inside { All (IsSlotInside (search_of input.entry)) captures.new.slots }
+        ensures spans { SpansInside (search_of input.entry) captures.new }
 
         ensures numbers { SameNumbers cache.old cache.new }
         ensures total { AddsPikeWork cache.old cache.new }

@@ -10,6 +10,7 @@ ghost use Rattle.nfa_paths.specs.Paths.{span_len, turn_weight, scan_limit, is_ut
 ghost use Rattle.nfa_pikevm.specs.Engines.{AddsPikeWork, Fits, SameNumbers, kind_of, cache_for, refitted};
 ghost use Rattle.nfa_pikevm_scan.specs.Needs.{overlap_scans};
 ghost use Rattle.nfa_pikevm_scan.specs.Scans.{HaveRoom, SameSizes, scan_turns};
+ghost use Rattle.nfa_search_base.specs.Finds.{finds};
 ghost use Rattle.nfa_search_base.specs.Lists.{IsInside, IsSlotInside};
 
 use crate::cache::Cache;
@@ -307,6 +308,7 @@ impl PikeVM {
     pub fn is_match<'h>(&self, cache: &mut Cache, input: Input<'h>) -> bool
         requires { Fits cache.old self.now.nfa }
         ensures answer { IsFoundAnswer self.now.nfa (kind_of self.now) false (search_of input.entry) result }
+        ensures finds { result ≡ finds self.now.nfa (kind_of self.now) false (search_of input.entry) }
 
         ensures numbers { SameNumbers cache.old cache.new }
         ensures total { AddsPikeWork cache.old cache.new }

@@ -31,6 +31,7 @@ use Rattle.nfa_search_base.proofs.CaughtLemmas.{row-lies, rows-first_matches, ro
 use Rattle.nfa_search_base.proofs.ListLemmas.{matches-apart, step-lies}
 use Rattle.nfa_search_base.proofs.MatchRunLemmas.{yields-inner}
 use Rattle.nfa_search_base.proofs.RunLemmas.{Says, gives-first, gives-all, runs-give, yields-more}
+use Rattle.nfa_search_base.proofs.SpanLemmas.{spans-inside}
 use Rattle.nfa_search_base.proofs.StepLemmas.{chosen}
 
 abbrev Caught : Type 0
@@ -176,12 +177,15 @@ module _ (nfa : Automaton) (kind : MatchKind) (earliest : Bool) (tells : Search 
       let step = ok-step w (Some (row_of c)) h.0 in
       let has = step-row x w (row_of c) from to step in
       let k = step-lies row_span Rows (row-lies nfa kind earliest) w (row_of c) step in
-      let slots = slots-within nfa kind earliest has.at c.pattern c.slots has.is_row.answer in
+      let slots : All (IsSlotInside x) c.slots
+          = All-weaker (IsSlotInside has.at) (IsSlotInside x) (wider x has.at has.from has.to) c.slots
+          (slots-within nfa kind earliest has.at c.pattern c.slots has.is_row.answer) in
       All-cons (λ item. IfOk item (CapturesInside x)) (Ok c) xs
       (record {
         is_match = has.is_row.is_match;
         inside = record { from = omega (arith, k.0); ordered = k.1; to = omega (arith, k.2) };
-        slots = All-weaker (IsSlotInside has.at) (IsSlotInside x) (wider x has.at has.from has.to) c.slots slots;
+        slots = slots;
+        spans = spans-inside x c slots;
       })
       (items-inside x xs (after w (Some (row_span (row_of c)))) (omega (arith, k.0, k.1)) to h.1)
   items-inside x (Err r ∷ xs) w from to h =

@@ -3,8 +3,10 @@ pub mod AskingLemmas
 pub mod CatchingLemmas
 pub mod DrainedLemmas
 pub mod EngineLemmas
+pub mod FindsLemmas
 pub mod GreedyLemmas
 pub mod SkipLemmas
+pub mod SpanLemmas
 pub mod StepLemmas
 pub mod StoredLemmas
 pub mod WalkLemmas

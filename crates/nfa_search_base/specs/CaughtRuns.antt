@@ -12,6 +12,7 @@ use Rattle.nfa_search_base.specs.Catching.{Row, row_found, row_of}
 use Rattle.nfa_search_base.specs.CaughtLists.{AreFirstCaptures, AreAllCaptures, AreFirstRows, AreRows, HasGroups}
 use Rattle.nfa_search_base.specs.Lists.{AreFirstMatches, AreMatches, AreApart, IsInside, IsSlotInside}
 use Rattle.nfa_search_base.specs.Runs.{RunsGive, GivesFirst, GivesNext}
+use Rattle.nfa_search_base.specs.Spans.{SpansInside}
 use Rattle.nfa_search_base.specs.Walks.{Answer}
 use Rattle.nfa_search_base.specs.declared.error.SearchError.{SearchError}
 use Rattle.nfa_search_base.specs.declared.error.SearchError.TheVariants.{Memory}
@@ -20,11 +21,12 @@ use Rattle.nfa_search_base.specs.declared.error.SearchError.TheVariants.{Memory}
 abbrev pub match_in : Captured → Found
 match_in c = row_found (row_of c)
 
--- captures whose match and slots lie in the span
+-- captures whose match, slots and spans of groups lie in the span
 pub record CapturesInside (x : Search) (c : Captured) : Type 0 where
   pub is_match : match_of c.pattern c.slots ≡ Some (match_in c)
   pub inside : IsInside x (match_in c)
   pub slots : All (IsSlotInside x) c.slots
+  pub spans : SpansInside x c
 
 -- A call of the iterator `steps`.
 module _ {T : Type 0} (steps : T → Option (Result Captured SearchError) → T → Type 0) where

@@ -9,6 +9,7 @@ pub mod CapturesGiven
 pub mod Drained
 pub mod EngineSearches
 pub mod Finders
+pub mod Finds
 pub mod Items
 pub mod Lending
 pub mod Lent
@@ -19,6 +20,7 @@ pub mod Runs
 pub mod Searchers
 pub mod Serving
 pub mod Skipping
+pub mod Spans
 pub mod Steps
 pub mod Stored
 pub mod StoredRuns

@@ -1,9 +1,11 @@
--- After no match no slot is set.
-use Rattle.std.proofs.Common.{◌∙◌, ap, length}
+-- After no match no slot is set; and where the slots lie in the span, so do the spans.
+use Rattle.std.proofs.Common.{◌∙◌, ap, arith, length}
+use Rattle.std.proofs.lemmas.Grind.{common_steps}
 use Rattle.std.specs.Prelude.{option_map}
 use Rattle.regex_search_core.specs.Patterns.{number_of}
 use Rattle.regex_search_core.specs.Search.{search_of}
 use Rattle.regex_search_core.specs.Slots.{Captured}
+use Rattle.nfa_search_base.proofs.SpanLemmas.{spans-inside}
 use Rattle.nfa_backtrack.proofs.EngineLemmas.{unmatched-slots}
 use Rattle.nfa_backtrack.proofs.engine.BoundedBacktracker.try_search.Goals as goal
 
@@ -14,3 +16,7 @@ returns-clause-unmatched c =
     c.set_pattern.new.self.slots c.try_search_slots.new.slots (length c.args.captures.now.slots)
     (ap (λ (k : Captured). length k.slots) c.set_pattern.ensures)
     (c.try_search_slots.auto.slots ∙ ap length c.slots_mut.ensures.value) c.in_ok-pattern.ensures.answer)
+
+pub returns-clause-spans : goal.returns-clause-spans
+returns-clause-spans c =
+    spans-inside (search_of c.args.input.now) c.set_pattern-2.new.self (grind (arith, common_steps))

@@ -1,10 +1,11 @@
 -- There is a match exactly where a search with no slots finds a pattern.
 use Rattle.std.proofs.Common.{◌≡◌, ap, refl}
-use Rattle.std.specs.Prelude.{Option, None, Some, not, is_some, option_map}
+use Rattle.std.specs.Prelude.{Option, None, Some, false, not, is_some, option_map}
 use Rattle.regex_search_core.specs.Search.{search_of}
 use Rattle.regex_search_core.specs.Patterns.{number_of}
 use Rattle.regex_search_core.specs.declared.primitives.PatternID.{PatternID}
 use Rattle.nfa_paths.specs.Paths.{is_utf8_empty}
+use Rattle.nfa_search_base.proofs.FindsLemmas.{found-finds}
 use Rattle.nfa_pikevm.specs.Engines.{kind_of}
 use Rattle.nfa_pikevm.proofs.IsMatchLemmas.{found-free, work-free}
 use Rattle.nfa_pikevm.proofs.engine.PikeVM.is_match.Goals as goal
@@ -28,3 +29,7 @@ returns-clause-work c =
     rw (← c.self.view_is) c.is_utf8_empty-earliest.ensures in
     work-free c.args.self.now.nfa (kind_of c.args.self.now) (search_of c.args.input) (search_of c.earliest-input.result)
     _ (ap not mode) c.earliest-input.ensures _ _ c.search_slots.ensures.work
+
+pub returns-clause-finds : goal.returns-clause-finds
+returns-clause-finds c =
+    found-finds c.args.self.now.nfa (kind_of c.args.self.now) false (search_of c.args.input) _ (returns-clause-answer c)

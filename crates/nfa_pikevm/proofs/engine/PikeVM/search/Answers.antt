@@ -1,7 +1,8 @@
--- After no match no slot of the captures is set.
+-- After no match no slot of the captures is set; and where the slots lie in the span, so do the spans.
 use Rattle.std.proofs.Common.{arith, length}
 use Rattle.std.proofs.lemmas.Grind.{common_steps}
 use Rattle.regex_search_core.specs.Search.{search_of}
+use Rattle.nfa_search_base.proofs.SpanLemmas.{spans-inside}
 use Rattle.nfa_pikevm.specs.Engines.{kind_of}
 use Rattle.nfa_pikevm.proofs.EngineLemmas.{slots-none}
 use Rattle.nfa_pikevm.proofs.engine.PikeVM.search.Goals as goal
@@ -18,3 +19,7 @@ returns-clause-unmatched c =
     let x = search_of c.args.input.now in
     slots-none vm.nfa (kind_of vm) x.earliest x (length c.args.captures.now.slots) _ _ (returns-clause-answer c)
     (returns-clause-count c)
+
+pub returns-clause-spans : goal.returns-clause-spans
+returns-clause-spans c =
+    spans-inside (search_of c.args.input.now) c.set_pattern.new.self (grind (arith, common_steps))
