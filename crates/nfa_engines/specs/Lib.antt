@@ -51,5 +51,7 @@ pub use Rattle.regex_search_core.specs.Slots
 pub use Rattle.regex_search_core.specs.declared.search.Anchored
 pub use Rattle.regex_search_core.specs.declared.search.MatchKind
 pub use Rattle.thompson_nfa.specs.Automaton
+pub use Rattle.thompson_nfa.specs.Built
+pub use Rattle.thompson_nfa.specs.Flaws
 pub use Rattle.thompson_nfa.specs.Looks
 pub use Rattle.thompson_nfa.specs.Simple

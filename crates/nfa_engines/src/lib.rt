@@ -25,4 +25,4 @@ pub use regex_search_core::{
     Anchored, Captures, GroupInfo, HalfMatch, Input, Match, MatchError, MatchKind, NonMaxUsize,
     PatternID, PatternSet, PatternSetIter, Refused, Span, StateID,
 };
-pub use thompson_nfa::{BuildError, Look, NFA, State, Transition};
+pub use thompson_nfa::{BuildError, Flaw, Holder, Look, NFA, State, Transition, first_flaw};

@@ -16,7 +16,7 @@ use Rattle.thompson_nfa.specs.declared.state.Transition.{Transition}
 use Rattle.thompson_nfa.specs.Automaton.{Automaton, Node}
 use Rattle.thompson_nfa.specs.Automaton.Node.{ByteRange, Sparse, Dense, Look, Union, BinaryUnion, Capture, Fail, Match}
 use Rattle.thompson_nfa.specs.Looks.{look_holds}
-pub use Rattle.thompson_nfa.specs.Built.{pattern_of, slot_of}
+pub use Rattle.thompson_nfa.specs.Flaws.{pattern_of, slot_of}
 use Rattle.nfa_paths.specs.Graphs.{Pair, Space, IsFirstPath, IsEarliestPath, IsLastPath, IsEarliestLastPath}
 
 -- the transition holds the byte

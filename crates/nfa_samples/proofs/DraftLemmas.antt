@@ -1,7 +1,7 @@
 -- A draft that is sound makes an NFA.
 use Rattle.std.proofs.Common.{◌≡◌, ◌⊎◌, inl, inr, ℕ, ◌+◌, ◌<◌, ◌≤◌, Bool, true, false, ◌&&◌, ◌||◌, nat_lt, nat_le, nat_eq}
 use Rattle.std.proofs.Common.{List, [], ◌∷◌, ◌++◌, map, length, Result, Ok, Err, refl, subst, sym, ap, arith, append-nil, append_assoc}
-use Rattle.std.specs.Prelude.{All, IsOkUnless, IsTrue, slice_index_or}
+use Rattle.std.specs.Prelude.{All, IsOkUnless, IsTrue, Some, slice_index_or}
 use Rattle.std.specs.List.{list_all}
 use Rattle.std.proofs.lemmas.List.Elements.{All-append, All-cons, All-map}
 use Rattle.std.proofs.lemmas.List.Sums.{AllPass-from_list_all}
@@ -10,11 +10,14 @@ use Rattle.std.proofs.lemmas.List.{length-append, length-map, map-append, get_or
 use Rattle.regex_search_core.specs.Groups.{slot_count}
 use Rattle.thompson_nfa.specs.declared.nfa.BuildError.{BuildError}
 use Rattle.thompson_nfa.specs.declared.nfa.BuildError.TheVariants as error
-use Rattle.thompson_nfa.specs.declared.nfa.Holder.TheVariants as holder
+use Rattle.thompson_nfa.specs.declared.flaw.Flaw.{Flaw}
+use Rattle.thompson_nfa.specs.declared.flaw.Flaw.TheVariants as flaw
+use Rattle.thompson_nfa.specs.declared.flaw.Holder.TheVariants as holder
 use Rattle.thompson_nfa.specs.declared.state.State.{State}
 use Rattle.thompson_nfa.specs.Automaton as nfa
 use Rattle.thompson_nfa.specs.Automaton.{Node, node_of, Automaton, IsAutomaton, LeadsBelow, SlotBelow, PatternBelow}
 use Rattle.thompson_nfa.specs.Built.{IsBuilt}
+use Rattle.thompson_nfa.specs.Flaws.{IsFirstFlaw}
 use Rattle.nfa_samples.specs.declared.draft.Row.{Row}
 use Rattle.nfa_samples.specs.declared.draft.Row.TheVariants.{Byte, Range, Ranges, Either, Union, Capture, Assert, Match}
 use Rattle.nfa_samples.specs.declared.draft.Draft.{Draft}
@@ -149,22 +152,25 @@ at-place P xs i x all default = elim (cases_lt i (length xs)) [
   | inr past ↦ subst P (sym (get_or_past xs i x past)) default
 ]
 
--- an NFA that has all that an NFA keeps is made
+-- an NFA that has all that an NFA keeps has no flaw
+no-flaw : (a : Automaton) (f : Flaw) → IsAutomaton a → IsFirstFlaw a (Some f) → ⊥
+no-flaw a flaw.Empty is first = let filled = is.filled in omega arith
+no-flaw a (flaw.State holder.Anchored) is first = first.1 is.numbered.anchored_in
+no-flaw a (flaw.State holder.Unanchored) is first = first.1.1 is.numbered.unanchored_in
+no-flaw a (flaw.State (holder.Pattern i)) is first =
+    first.1.2.1 (at-place (λ s. s < length a.states) a.patterns i 0 is.numbered.patterns_in is.filled)
+no-flaw a (flaw.State (holder.State i)) is first =
+    first.1.3.1 (at-place (LeadsBelow (length a.states)) a.states i nfa.Fail is.numbered.targets_in tt)
+no-flaw a (flaw.Slot state slot) is first =
+    first.1.0.1 (at-place (SlotBelow (slot_count a.groups)) a.states state nfa.Fail is.slots tt)
+no-flaw a (flaw.Pattern state pattern) is first =
+    first.2.0.1 (at-place (PatternBelow (length a.patterns)) a.states state nfa.Fail is.patterns tt)
+no-flaw a (flaw.Groups groups patterns) is first = first.3 is.groups
+
+-- so it is made
 pub IsBuilt-made : (a : Automaton) (r : Result Automaton BuildError) → IsAutomaton a → IsBuilt a r → r ≡ Ok a
 IsBuilt-made a (Ok made) is built = ap Ok built.1
-IsBuilt-made a (Err error.Memory) is built = absurd built
-IsBuilt-made a (Err error.Empty) is built = let filled = is.filled in absurd (omega arith)
-IsBuilt-made a (Err (error.State holder.Anchored)) is built = absurd (built.1 is.numbered.anchored_in)
-IsBuilt-made a (Err (error.State holder.Unanchored)) is built = absurd (built.1.1 is.numbered.unanchored_in)
-IsBuilt-made a (Err (error.State (holder.Pattern i))) is built =
-    absurd (built.1.2.1 (at-place (λ s. s < length a.states) a.patterns i 0 is.numbered.patterns_in is.filled))
-IsBuilt-made a (Err (error.State (holder.State i))) is built =
-    absurd (built.1.3.1 (at-place (LeadsBelow (length a.states)) a.states i nfa.Fail is.numbered.targets_in tt))
-IsBuilt-made a (Err (error.Slot state slot)) is built =
-    absurd (built.1.0.1 (at-place (SlotBelow (slot_count a.groups)) a.states state nfa.Fail is.slots tt))
-IsBuilt-made a (Err (error.Pattern state pattern)) is built =
-    absurd (built.2.0.1 (at-place (PatternBelow (length a.patterns)) a.states state nfa.Fail is.patterns tt))
-IsBuilt-made a (Err (error.Groups groups patterns)) is built = absurd (built.3 is.groups)
+IsBuilt-made a (Err e) is built = absurd (no-flaw a built.0 is built.1)
 
 -- so the error, if there is one, is that of memory
 pub memory-alone : (a : Automaton) (r : Result Automaton BuildError) → IsAutomaton a → IsBuilt a r

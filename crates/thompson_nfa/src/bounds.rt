@@ -1,10 +1,10 @@
 //! Whether the numbers in an NFA are in range.
 ghost use Rattle.std.specs.Prelude.{◌≡◌, ◌<◌, ◌↔◌, map, All, IsTrue, IsNone, IfSome, Some};
 ghost use Rattle.thompson_nfa.specs.Automaton.{LeadsBelow, SlotBelow, PatternBelow, Fail, node_of};
-ghost use Rattle.thompson_nfa.specs.Built.{IsFirstFailing, NamesFirstHolder, NamesFirstSlot, NamesFirstPattern};
-ghost use Rattle.thompson_nfa.specs.Built.{slot_of, pattern_of};
+ghost use Rattle.thompson_nfa.specs.Flaws.{IsFirstFailing, NamesFirstHolder, NamesFirstSlot, NamesFirstPattern};
+ghost use Rattle.thompson_nfa.specs.Flaws.{slot_of, pattern_of};
 
-use crate::nfa::Holder;
+use crate::flaw::Holder;
 use crate::state::{State, Transition};
 use regex_search_core::StateID;
 

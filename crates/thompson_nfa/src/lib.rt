@@ -25,10 +25,12 @@
 
 mod bounds;
 mod characters;
+mod flaw;
 mod look;
 mod nfa;
 mod state;
 
+pub use flaw::{Flaw, Holder, first_flaw};
 pub use look::{Look, look_matches};
-pub use nfa::{BuildError, Holder, NFA};
+pub use nfa::{BuildError, NFA};
 pub use state::{State, Transition};

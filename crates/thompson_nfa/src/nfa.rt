@@ -4,7 +4,7 @@ ghost use Rattle.regex_search_core.specs.Groups.{names_of, slot_count};
 ghost use Rattle.regex_search_core.specs.Patterns.{number_of};
 ghost use Rattle.thompson_nfa.specs.Automaton.{Automaton, IsAutomaton, LeadsBelow, SlotBelow, PatternBelow, node_of};
 
-use crate::bounds::{first_pattern_outside, first_slot_outside, first_unnumbered};
+use crate::flaw::{Flaw, first_flaw};
 use crate::state::State;
 use regex_search_core::{GroupInfo, PatternID, Refused, StateID};
 use std::alloc::{AllocError, AllocFailed, Global};
@@ -12,51 +12,44 @@ use std::fmt;
 use std::marker::Model;
 use thiserror::Error;
 
-/// What has the number of a state: a start, or a state that leads on.
-#[derive(Clone, Copy, Debug, PartialEq, Eq, Hash)]
-pub enum Holder {
-    /// The start of searches that are bound to their start.
-    Anchored,
-    /// The start of all others.
-    Unanchored,
-    /// The start of the pattern of this number.
-    Pattern(usize),
-    /// The state of this number.
-    State(usize),
-}
-
-impl fmt::Display for Holder {
-    fn fmt<W: fmt::Write>(&self, f: &mut fmt::Formatter<W>) -> fmt::Result {
-        match self {
-            Holder::Anchored => f.write_str("the anchored start"),
-            Holder::Unanchored => f.write_str("the unanchored start"),
-            Holder::Pattern(pattern) => write!(f, "the start of pattern {pattern}"),
-            Holder::State(state) => write!(f, "state {state}"),
-        }
-    }
-}
-
-/// Why an NFA was not made.
+/// Why an NFA was not made: no memory, or the kind of its first flaw. [`first_flaw`] says which one it is.
 #[derive(Clone, Copy, Debug, PartialEq, Eq, Hash, Error)]
 pub enum BuildError {
-    /// A growth was refused.
+    /// Memory was refused.
     #[error("out of memory")]
     Memory,
-    /// There is no state.
-    #[error("there is no state")]
+    /// There are no states.
+    #[error("the NFA has no states")]
     Empty,
-    /// The holder has a state number that is out of range.
-    #[error("{0} leads to a state that is not there")]
-    State(Holder),
-    /// The state of this number is a `Capture` of a slot that no group has.
-    #[error("state {state} writes slot {slot}, which no group has")]
-    Slot { state: usize, slot: usize },
-    /// The state of this number is a `Match` of a pattern that has no start.
-    #[error("state {state} matches pattern {pattern}, which has no start")]
-    Pattern { state: usize, pattern: usize },
-    /// The groups are of another number of patterns than have a start, and not of none.
-    #[error("there are groups of {groups} patterns, and {patterns} patterns")]
-    Groups { groups: usize, patterns: usize },
+    /// A start or a state refers to a state that does not exist.
+    #[error("a start or a state refers to a state that does not exist")]
+    State,
+    /// A `Capture` writes a slot that belongs to no group.
+    #[error("a state writes a slot that belongs to no group")]
+    Slot,
+    /// A `Match` is of a pattern that has no start state.
+    #[error("a state matches a pattern that has no start state")]
+    Pattern,
+    /// Groups are given for another number of patterns than start states, and not for none.
+    #[error("groups and start states are given for different numbers of patterns")]
+    Groups,
+}
+
+impl From<Flaw> for BuildError {
+    ghost use Rattle.std.specs.Prelude.{◌≡◌};
+    ghost use Rattle.thompson_nfa.specs.Built.{error_of};
+
+    ghost from_gives = { λ flaw e. e ≡ error_of flaw };
+
+    fn from(flaw: Flaw) -> BuildError {
+        match flaw {
+            Flaw::Empty => BuildError::Empty,
+            Flaw::State(_) => BuildError::State,
+            Flaw::Slot { .. } => BuildError::Slot,
+            Flaw::Pattern { .. } => BuildError::Pattern,
+            Flaw::Groups { .. } => BuildError::Groups,
+        }
+    }
 }
 
 impl From<Refused> for BuildError {
@@ -131,12 +124,8 @@ impl NFA {
     /// that is bound to its start, and `unanchored` where any other does; `patterns` has the start of
     /// each pattern.
     ///
-    /// It is refused by the first of these that applies, in this order: `Empty`, where there is no
-    /// state; `State`, where a state number is out of range, in a start, a pattern's start, or a state;
-    /// `Slot`, where a `Capture`'s slot is not below the number of slots; `Pattern`, where a `Match`'s
-    /// pattern is not below the number of patterns; `Groups`, where the groups are of another number of
-    /// patterns, and not of none. Each names the first that is wrong. It takes no memory, so the error is
-    /// never `Memory`.
+    /// The states are refused exactly if [`first_flaw`] finds a flaw in them, and the error is the flaw's variant.
+    /// No memory is taken, so the error is never `Memory`.
     pub fn from_states(
         states: Vec<State>,
         anchored: StateID,
@@ -156,24 +145,8 @@ impl NFA {
           utf8 = utf8;
         } in IsBuilt made result }
     {
-        if states.is_empty() {
-            return Err(BuildError::Empty);
-        }
-        if let Some(holder) = first_unnumbered(&states, anchored, unanchored, &patterns) {
-            return Err(BuildError::State(holder));
-        }
-        if let Some((state, slot)) = first_slot_outside(&states, groups.slot_len()) {
-            return Err(BuildError::Slot { state, slot });
-        }
-        if let Some((state, pattern)) = first_pattern_outside(&states, patterns.len()) {
-            return Err(BuildError::Pattern { state, pattern });
-        }
-        let (groups_of, with_start) = (groups.pattern_len(), patterns.len());
-        if groups_of != with_start && groups_of != 0 {
-            return Err(BuildError::Groups {
-                groups: groups_of,
-                patterns: with_start,
-            });
+        if let Some(flaw) = first_flaw(&states, anchored, unanchored, &patterns, &groups) {
+            return Err(BuildError::from(flaw));
         }
         Ok(NFA {
             states,

@@ -255,7 +255,7 @@ const TOLD: &[(DraftError, &str)] = &[
     (DraftError::TooManyGroups, "too many groups"),
     (
         DraftError::States(BuildError::Empty),
-        "the states were refused: there is no state",
+        "the states were refused: the NFA has no states",
     ),
 ];
 

@@ -1,7 +1,7 @@
 -- the first state that matches a pattern outside, and that pattern
 use Rattle.std.proofs.Common.{◌∙◌, ap, refl}
 use Rattle.thompson_nfa.specs.Automaton.{node_of, PatternBelow, Fail}
-use Rattle.thompson_nfa.specs.Built.{pattern_of}
+use Rattle.thompson_nfa.specs.Flaws.{pattern_of}
 use Rattle.thompson_nfa.proofs.Tested.{all-take-suc, all-map-from_take, image-at, first-fails}
 use Rattle.thompson_nfa.proofs.bounds.first_pattern_outside.Goals as goal
 

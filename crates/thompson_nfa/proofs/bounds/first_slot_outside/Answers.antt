@@ -1,7 +1,7 @@
 -- the first state that writes a slot outside, and that slot
 use Rattle.std.proofs.Common.{◌∙◌, ap, refl}
 use Rattle.thompson_nfa.specs.Automaton.{node_of, SlotBelow, Fail}
-use Rattle.thompson_nfa.specs.Built.{slot_of}
+use Rattle.thompson_nfa.specs.Flaws.{slot_of}
 use Rattle.thompson_nfa.proofs.Tested.{all-take-suc, all-map-from_take, image-at, first-fails}
 use Rattle.thompson_nfa.proofs.bounds.first_slot_outside.Goals as goal
 

@@ -1,0 +1,195 @@
+//! Tests of what refuses an NFA.
+use super::fixtures::{id, pattern, plain_groups};
+use super::shown::expect_told;
+use std::alloc::Global;
+use std::process::Abort;
+use thompson_nfa::{BuildError, Flaw, Holder, NFA, State, Transition, first_flaw};
+
+/// A state by the one number that matters.
+enum One {
+    Fail,
+    /// A `ByteRange` to this state.
+    Byte(usize),
+    /// A `Capture` of this slot.
+    Capture(usize),
+    /// A `Match` of this pattern.
+    Match(usize),
+}
+
+/// The parts of an NFA of one pattern: its states, the anchored start, the unanchored one and that of the pattern, and
+/// of how many patterns the groups are.
+struct Parts {
+    states: &'static [One],
+    starts: [usize; 3],
+    groups: usize,
+}
+
+const fn parts(states: &'static [One], starts: [usize; 3], groups: usize) -> Parts {
+    Parts {
+        states,
+        starts,
+        groups,
+    }
+}
+
+// Parts of an NFA, the error that refuses them, their first flaw, and its text.
+const REFUSALS: &[(Parts, BuildError, Flaw, &str)] = &[
+    (
+        parts(&[], [0, 0, 0], 0),
+        BuildError::Empty,
+        Flaw::Empty,
+        "the NFA has no states",
+    ),
+    (
+        parts(&[One::Fail], [1, 1, 1], 2),
+        BuildError::State,
+        Flaw::State(Holder::Anchored),
+        "the anchored start refers to a state that does not exist",
+    ),
+    (
+        parts(&[One::Fail], [0, 1, 1], 0),
+        BuildError::State,
+        Flaw::State(Holder::Unanchored),
+        "the unanchored start refers to a state that does not exist",
+    ),
+    (
+        parts(&[One::Byte(1)], [0, 0, 1], 0),
+        BuildError::State,
+        Flaw::State(Holder::Pattern(0)),
+        "the start of pattern 0 refers to a state that does not exist",
+    ),
+    // The slot of the first state is out of range too, but the numbers of all states come first.
+    (
+        parts(&[One::Capture(4), One::Byte(2)], [0, 0, 0], 1),
+        BuildError::State,
+        Flaw::State(Holder::State(1)),
+        "state 1 refers to a state that does not exist",
+    ),
+    (
+        parts(&[One::Match(1), One::Capture(2)], [0, 0, 0], 1),
+        BuildError::Slot,
+        Flaw::Slot { state: 1, slot: 2 },
+        "state 1 writes slot 2, which belongs to no group",
+    ),
+    (
+        parts(&[One::Capture(0)], [0, 0, 0], 0),
+        BuildError::Slot,
+        Flaw::Slot { state: 0, slot: 0 },
+        "state 0 writes slot 0, which belongs to no group",
+    ),
+    (
+        parts(&[One::Match(0), One::Match(1)], [0, 0, 0], 2),
+        BuildError::Pattern,
+        Flaw::Pattern {
+            state: 1,
+            pattern: 1,
+        },
+        "state 1 matches pattern 1, which has no start state",
+    ),
+    (
+        parts(&[One::Match(0)], [0, 0, 0], 2),
+        BuildError::Groups,
+        Flaw::Groups {
+            groups: 2,
+            patterns: 1,
+        },
+        "groups are given for 2 patterns, but start states for 1",
+    ),
+];
+
+#[test]
+fn refusals(rt: HostRuntime) {
+    for (parts, error, flaw, want) in REFUSALS {
+        expect_made(&rt, rt.alloc(), parts, Some(*error), Some(*flaw));
+        expect_told(&rt, rt.alloc(), flaw, want);
+    }
+}
+
+const FLAWLESS: &[Parts] = &[
+    parts(&[One::Match(0)], [0, 0, 0], 0),
+    parts(&[One::Capture(1), One::Byte(0)], [0, 1, 1], 1),
+];
+
+#[test]
+fn no_flaw(rt: HostRuntime) {
+    for parts in FLAWLESS {
+        expect_made(&rt, rt.alloc(), parts, None, None);
+    }
+}
+
+fn state_of(rt: &impl Abort, one: &One) -> State {
+    let next = id(rt, 0);
+    match one {
+        One::Fail => State::Fail,
+        One::Byte(to) => {
+            let next = id(rt, *to);
+            State::ByteRange {
+                trans: Transition {
+                    start: 0x61,
+                    end: 0x61,
+                    next,
+                },
+            }
+        }
+        One::Capture(slot) => State::Capture { next, slot: *slot },
+        One::Match(number) => State::Match {
+            pattern_id: pattern(rt, *number),
+        },
+    }
+}
+
+fn states_of(rt: &impl Abort, alloc: Global, ones: &[One]) -> Vec<State> {
+    let mut states = Vec::new(alloc);
+    for one in ones {
+        states.push(state_of(rt, one)).expect(rt, "memory");
+    }
+    states
+}
+
+// What comes of making an NFA of these parts, and their first flaw.
+fn expect_made(
+    rt: &impl Abort,
+    alloc: Global,
+    parts: &Parts,
+    error: Option<BuildError>,
+    flaw: Option<Flaw>,
+) {
+    let states = states_of(rt, alloc, parts.states);
+    let (anchored, unanchored) = (id(rt, parts.starts[0]), id(rt, parts.starts[1]));
+    let patterns = vec![in alloc; id(rt, parts.starts[2])].expect(rt, "memory");
+    let groups = plain_groups(rt, alloc, parts.groups);
+    let found = first_flaw(&states, anchored, unanchored, &patterns, &groups);
+    assert_eq!(rt; found, flaw);
+    let made = NFA::from_states(
+        states, anchored, unanchored, patterns, groups, false, false,
+    );
+    assert_eq!(rt; made.err(), error);
+}
+
+const TOLD: &[(BuildError, &str)] = &[
+    (BuildError::Memory, "out of memory"),
+    (BuildError::Empty, "the NFA has no states"),
+    (
+        BuildError::State,
+        "a start or a state refers to a state that does not exist",
+    ),
+    (
+        BuildError::Slot,
+        "a state writes a slot that belongs to no group",
+    ),
+    (
+        BuildError::Pattern,
+        "a state matches a pattern that has no start state",
+    ),
+    (
+        BuildError::Groups,
+        "groups and start states are given for different numbers of patterns",
+    ),
+];
+
+#[test]
+fn errors_are_told(rt: HostRuntime) {
+    for (error, want) in TOLD {
+        expect_told(&rt, rt.alloc(), error, want);
+    }
+}

@@ -1,0 +1,95 @@
+//! Tests of where assertions hold.
+use std::process::Abort;
+use thompson_nfa::{Look, look_matches};
+
+// An assertion, a haystack, and whether it holds at each offset and behind them.
+const HOLDS: &[(Look, &[u8], &[bool])] = &[
+    (Look::Start, b"ab", &[true, false, false]),
+    (Look::Start, b"", &[true]),
+    (Look::End, b"ab", &[false, false, true]),
+    (Look::End, b"", &[true]),
+    (Look::WordAscii, b"a ", &[true, true, false]),
+    (Look::WordAscii, b"9_", &[true, false, true]),
+    (Look::WordAscii, b"@[", &[false, false, false]),
+    (Look::WordAscii, b"`{", &[false, false, false]),
+    (Look::WordAscii, b"/:", &[false, false, false]),
+    (Look::WordAscii, b"\xC3\xA9", &[false, false, false]),
+    (Look::WordAsciiNegate, b"a ", &[false, false, true]),
+    (Look::WordAsciiNegate, b"\xC3\xA9", &[true, true, true]),
+    (Look::WordUnicode, b"a ", &[true, true, false]),
+    (Look::WordUnicode, b"9_", &[true, false, true]),
+    // "é", alone and before digits
+    (Look::WordUnicode, b"\xC3\xA9", &[true, false, true]),
+    (
+        Look::WordUnicode,
+        b"\xC3\xA9123",
+        &[true, false, false, false, false, true],
+    ),
+    // "é" cut short, and two continuation bytes
+    (Look::WordUnicode, b"a\xC3", &[true, true, false]),
+    (Look::WordUnicode, b"\xA9a", &[false, true, true]),
+    (Look::WordUnicode, b"\x80\x80", &[false, false, false]),
+    // the letter a in two bytes, which is not UTF-8
+    (Look::WordUnicode, b"\xC1\xA1", &[false, false, false]),
+    // a surrogate's three bytes, and four bytes past the last character, are no characters
+    (
+        Look::WordUnicode,
+        b"\xED\xA0\x80",
+        &[false, false, false, false],
+    ),
+    (
+        Look::WordUnicode,
+        b"\xF4\x90\x80\x80",
+        &[false, false, false, false, false],
+    ),
+    (Look::WordUnicode, b"\xE2\x98", &[false, false, false]),
+    (Look::WordUnicode, b"", &[false]),
+];
+
+#[test]
+fn assertions(rt: HostRuntime) {
+    for (look, haystack, places) in HOLDS {
+        assert_eq!(rt; places.len().checked_sub(1), Some(haystack.len()));
+        expect_places(&rt, *look, haystack, places);
+    }
+}
+
+fn expect_places(rt: &impl Abort, look: Look, haystack: &[u8], places: &[bool]) {
+    for (at, want) in places.iter().enumerate() {
+        expect_holds(rt, look, haystack, at, *want);
+    }
+}
+
+fn expect_holds(rt: &impl Abort, look: Look, haystack: &[u8], at: usize, want: bool) {
+    assert!(rt; at <= haystack.len());
+    let holds = look_matches(look, haystack, at);
+    assert_eq!(rt; holds, want, "{look:?} in {haystack:?} at {at}");
+}
+
+// Whether a text begins and ends with a character of words.
+const WORDS: &[(&str, bool)] = &[
+    // a letter of four bytes, a mark, a decimal number, connector punctuation, the joiners
+    ("𐐷", true),
+    ("\u{0301}", true),
+    ("\u{20DD}", true),
+    ("٣", true),
+    ("‿", true),
+    ("\u{200C}", true),
+    ("\u{200D}", true),
+    // their neighbors, a number that is no decimal one, a symbol, a dash
+    ("\u{200B}", false),
+    ("\u{200E}", false),
+    ("½", false),
+    ("☃", false),
+    ("😀", false),
+    ("-", false),
+];
+
+#[test]
+fn word_characters(rt: HostRuntime) {
+    for (text, is_word) in WORDS {
+        let bytes = text.as_bytes();
+        expect_holds(&rt, Look::WordUnicode, bytes, 0, *is_word);
+        expect_holds(&rt, Look::WordUnicode, bytes, bytes.len(), *is_word);
+    }
+}

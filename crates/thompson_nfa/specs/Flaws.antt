@@ -1,0 +1,65 @@
+-- the first flaw in the parts of an NFA
+use Rattle.std.specs.Prelude.{◌≡◌, ℕ, ◌<◌, List, length, take, All, slice_index_or}
+use Rattle.std.specs.Prelude.{Option, None, Some}
+use Rattle.regex_search_core.specs.Groups.{slot_count}
+use Rattle.thompson_nfa.specs.Automaton.{Node, Capture, Match, Fail, LeadsBelow, SlotBelow, PatternBelow}
+use Rattle.thompson_nfa.specs.Automaton.{Automaton, IsAutomaton, AreStatesNumbered, IsNumbered}
+use Rattle.thompson_nfa.specs.Automaton.{AreSlotsWithin, ArePatternsWithin, AreGroupsOfPatterns}
+use Rattle.thompson_nfa.specs.declared.flaw.Holder.{Holder}
+use Rattle.thompson_nfa.specs.declared.flaw.Holder.TheVariants as holder
+use Rattle.thompson_nfa.specs.declared.flaw.Flaw.{Flaw}
+use Rattle.thompson_nfa.specs.declared.flaw.Flaw.TheVariants.{Empty, State, Slot, Pattern, Groups}
+
+-- the first place whose element fails; past the last one is x, which passes
+abbrev pub IsFirstFailing : {X : Type 0} → (X → Type 0) → X → List X → Option ℕ → Type 0
+IsFirstFailing P x xs None = All P xs
+IsFirstFailing P x xs (Some i) = All P (take i xs) × (¬ P (slice_index_or xs i x))
+
+-- the slot that a Capture writes
+abbrev pub slot_of : Node → Option ℕ
+slot_of (Capture next slot) = Some slot
+slot_of _ = None
+
+-- the pattern that a Match is of
+abbrev pub pattern_of : Node → Option ℕ
+pattern_of (Match pattern) = Some pattern
+pattern_of _ = None
+
+-- the first state that writes a slot from n on, and that slot
+abbrev pub NamesFirstSlot : ℕ → List Node → Option (ℕ × ℕ) → Type 0
+NamesFirstSlot n states None = All (SlotBelow n) states
+NamesFirstSlot n states (Some (i, slot)) =
+    IsFirstFailing (SlotBelow n) Fail states (Some i) × (slot_of (slice_index_or states i Fail) ≡ Some slot)
+
+-- the first state that matches a pattern from n on, and that pattern
+abbrev pub NamesFirstPattern : ℕ → List Node → Option (ℕ × ℕ) → Type 0
+NamesFirstPattern n states None = All (PatternBelow n) states
+NamesFirstPattern n states (Some (i, pattern)) =
+    IsFirstFailing (PatternBelow n) Fail states (Some i) × (pattern_of (slice_index_or states i Fail) ≡ Some pattern)
+
+-- what first has a number that names no state: the starts, those of the patterns, then the states
+abbrev pub NamesFirstHolder : List Node → ℕ → ℕ → List ℕ → Option Holder → Type 0
+NamesFirstHolder states anchored unanchored patterns None = AreStatesNumbered states anchored unanchored patterns
+NamesFirstHolder states anchored unanchored patterns (Some holder.Anchored) = ¬ (anchored < length states)
+NamesFirstHolder states anchored unanchored patterns (Some holder.Unanchored) =
+    (anchored < length states) × (¬ (unanchored < length states))
+NamesFirstHolder states anchored unanchored patterns (Some (holder.Pattern i)) =
+    (anchored < length states) × (unanchored < length states)
+    × IsFirstFailing (λ s. s < length states) 0 patterns (Some i)
+NamesFirstHolder states anchored unanchored patterns (Some (holder.State i)) =
+    (anchored < length states) × (unanchored < length states) × All (λ s. s < length states) patterns
+    × IsFirstFailing (LeadsBelow (length states)) Fail states (Some i)
+
+-- the first of the tests of an NFA that fails, with what fails it first; none where it is one
+abbrev pub IsFirstFlaw : Automaton → Option Flaw → Type 0
+IsFirstFlaw a None = IsAutomaton a
+IsFirstFlaw a (Some Empty) = length a.states ≡ 0
+IsFirstFlaw a (Some (State h)) =
+    (0 < length a.states) × NamesFirstHolder a.states a.anchored a.unanchored a.patterns (Some h)
+IsFirstFlaw a (Some (Slot state slot)) =
+    IsNumbered a × NamesFirstSlot (slot_count a.groups) a.states (Some (state, slot))
+IsFirstFlaw a (Some (Pattern state pattern)) =
+    IsNumbered a × AreSlotsWithin a × NamesFirstPattern (length a.patterns) a.states (Some (state, pattern))
+IsFirstFlaw a (Some (Groups groups patterns)) =
+    IsNumbered a × AreSlotsWithin a × ArePatternsWithin a × (¬ AreGroupsOfPatterns a)
+    × (groups ≡ length a.groups) × (patterns ≡ length a.patterns)
