@@ -9,17 +9,21 @@ use std::io::BufWriter;
 use std::process::ExitCode;
 use std::{env, io};
 
+// Where memory is refused for the words or for the buffer, the program says so as its searches do.
 fn main(rt: HostRuntime) -> io::Result<ExitCode> {
-    let arguments: Vec<String> = env::args(&rt)?.skip(1).collect(rt.alloc())?;
-    let words: Vec<&str> = arguments
-        .iter()
-        .map(|word| word.as_str())
-        .collect(rt.alloc())?;
-    answer(&rt, &words)
+    let status = match answer(&rt) {
+        Err(error) if error.kind() == io::ErrorKind::OutOfMemory => {
+            run::refuse(&mut io::writer(&rt))
+        }
+        answered => answered?,
+    };
+    Ok(ExitCode::from(status))
 }
 
-fn answer(rt: &HostRuntime, words: &[&str]) -> io::Result<ExitCode> {
-    let mut out = BufWriter::new(rt.alloc(), io::writer(rt))?;
-    let status = run::run(rt.alloc(), words, &mut out);
-    Ok(ExitCode::from(status))
+fn answer(rt: &HostRuntime) -> io::Result<u8> {
+    let alloc = rt.alloc();
+    let arguments: Vec<String> = env::args(rt)?.skip(1).collect(alloc)?;
+    let words: Vec<&str> = arguments.iter().map(|word| word.as_str()).collect(alloc)?;
+    let mut out = BufWriter::new(alloc, io::writer(rt))?;
+    Ok(run::run(alloc, &words, &mut out))
 }

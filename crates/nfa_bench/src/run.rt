@@ -31,6 +31,13 @@ pub fn run<W: Write>(alloc: Global, words: &[&str], out: &mut W) -> u8
     print(alloc, words, out).unwrap_or(FAILED)
 }
 
+/// Says that memory was refused before there were words, as [`run`] says it of a search, and answers the status.
+pub fn refuse<W: Write>(out: &mut W) -> u8
+    ensures { result ≤ 2 }
+{
+    print_end(Err(Stop::Memory), out).unwrap_or(FAILED)
+}
+
 fn print<W: Write>(alloc: Global, words: &[&str], out: &mut W) -> io::Result<u8>
     ensures { IfOk result (λ status. status ≤ 2) }
 {
