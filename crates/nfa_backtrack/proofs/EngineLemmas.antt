@@ -4,7 +4,9 @@ use Rattle.std.specs.Prelude.{Option, Some, None, Result, Ok, Err, false, option
 use Rattle.std.specs.Prelude.{IfNone}
 use Rattle.std.specs.List.{refill}
 use Rattle.regex_search_core.specs.Found.{half_found_of, found_of}
+use Rattle.regex_search_core.specs.Patterns.{number_of}
 use Rattle.regex_search_core.specs.Search.{Search}
+use Rattle.regex_search_core.specs.declared.primitives.PatternID.{PatternID}
 use Rattle.regex_search_core.specs.declared.refused.Refused.{Refused}
 use Rattle.regex_search_core.specs.declared.search.HalfMatch.{HalfMatch}
 use Rattle.regex_search_core.specs.declared.search.Match.{Match}
@@ -44,6 +46,14 @@ unmatched-slots nfa x (Some p) slots written n size whole a = tt
 
 -- what callers learn of the numbers in a match
 module _ (nfa : Automaton) (x : Search) where
+  -- after no match no slot is set
+  pub slots-none : (n : ℕ) (r : Option PatternID) (slots : Slots)
+      → IsAnswer nfa LeftmostFirst false x (option_map number_of r) slots → length slots ≡ n
+      → IfNone r (slots ≡ replicate n None)
+  slots-none n None slots a size =
+      slots-unset nfa LeftmostFirst false x slots a ∙ ap (λ k. replicate k None) size
+  slots-none n (Some p) slots a size = tt
+
   pub slots-inside : (pattern : Option ℕ) (slots : Slots) → IsAnswer nfa LeftmostFirst false x pattern slots
       → All (IsSlotInside x) slots
   slots-inside pattern slots a = slots-within nfa LeftmostFirst false x pattern slots a

@@ -57,6 +57,12 @@ pub record GrowsBlocks (nfa : Automaton) (x : Search) (old new : ℕ) : Type 0 w
   pub kept : old ≤ new
   pub needed : new ≤ max old ((length nfa.states * (span_len x + 1) + 63) / 64)
 
+-- The cache holds no frame that it did not hold before, keeps its slots, and takes no more of them than are needed.
+pub record HoldsNoMore (needed : ℕ) (old new : Work) : Type 0 where
+  pub frames : new.frames ≤ old.frames
+  pub slots_kept : old.slots ≤ new.slots
+  pub slots : new.slots ≤ max old.slots needed
+
 -- the cache after a search that was refused before it began
 abbrev pub refused_early : Work → Work
 refused_early w = record w { scans = 0; turns = 0; refused = w.refused + 1 }

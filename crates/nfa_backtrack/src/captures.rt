@@ -4,7 +4,7 @@ ghost use Rattle.std.specs.Prelude.{IfSome, IfNone, IsErrOf, OnErr, OnOk};
 ghost use Rattle.regex_search_core.specs.Search.{search_of};
 ghost use Rattle.regex_search_core.specs.declared.search.MatchKind.TheVariants.{LeftmostFirst};
 ghost use Rattle.nfa_paths.specs.Paths.{span_len, turn_weight, scan_limit, IsAnswer, IsWork, IsWithinScans};
-ghost use Rattle.nfa_backtrack.specs.Backtrack.{IsTooLong, AddsWork, CountsAnswer, CountsRefusal, GrowsBlocks};
+ghost use Rattle.nfa_backtrack.specs.Backtrack.{IsTooLong, AddsWork, CountsAnswer, CountsRefusal, GrowsBlocks, HoldsNoMore};
 ghost use Rattle.nfa_backtrack.specs.Backtrack.{refused_early};
 ghost use Rattle.nfa_search_base.specs.Lists.{IsSlotInside};
 ghost use Rattle.nfa_search_base.specs.Spans.{SpansInside};
@@ -56,6 +56,7 @@ impl BoundedBacktracker {
         ensures refused { OnErr result (CountsRefusal cache.old cache.new) }
         ensures total { AddsWork cache.old cache.new }
         ensures blocks { GrowsBlocks self.now.nfa (search_of input.now) cache.old.blocks cache.new.blocks }
+        ensures holds { HoldsNoMore 0 cache.old cache.new }
         ensures early { IsTooLong self.now (search_of input.now) → cache.new ≡ refused_early cache.old }
     {
         captures.set_pattern(None);
@@ -100,6 +101,7 @@ impl BoundedBacktracker {
         ensures refused { OnErr result (CountsRefusal cache.old cache.new) }
         ensures total { AddsWork cache.old cache.new }
         ensures blocks { GrowsBlocks self.now.nfa (search_of input.entry) cache.old.blocks cache.new.blocks }
+        ensures holds { HoldsNoMore 0 cache.old cache.new }
         ensures early { IsTooLong self.now (search_of input.entry) → cache.new ≡ refused_early cache.old }
     {
         self.try_search(cache, &input, captures)

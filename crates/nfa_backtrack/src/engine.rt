@@ -1,7 +1,7 @@
 //! The backtracker: its makers, what it shows, and its searches.
-ghost use Rattle.std.specs.Prelude.{◌≡◌, ◌↔◌, ◌⊎◌, ◌+◌, ◌*◌, ◌/◌, ◌<◌, ◌≤◌, ◌^◌, None, Ok, length, vec_len, replicate};
+ghost use Rattle.std.specs.Prelude.{◌≡◌, ◌↔◌, ◌⊎◌, ◌+◌, ◌*◌, ◌/◌, ◌<◌, ◌≤◌, ◌^◌, None, Ok, length, max, vec_len, replicate};
 ghost use Rattle.std.specs.Prelude.{option_map, All, IfOk, OnOk, IfErr, OnErr, IsErrOf, IsOkUnless, IsTrue, false};
-ghost use Rattle.std.specs.Prelude.{IfSome};
+ghost use Rattle.std.specs.Prelude.{IfNone, IfSome};
 ghost use Rattle.regex_search_core.specs.Search.{search_of};
 ghost use Rattle.regex_search_core.specs.Groups.{slot_count};
 ghost use Rattle.regex_search_core.specs.Patterns.{number_of};
@@ -11,7 +11,7 @@ ghost use Rattle.thompson_nfa.specs.Simple.{always, never};
 ghost use Rattle.nfa_paths.specs.Paths.{span_len, turn_weight, scan_limit, IsAnswer, IsMatchAnswer, IsFoundAnswer};
 ghost use Rattle.nfa_paths.specs.Paths.{IsWork, IsWithinScans};
 ghost use Rattle.nfa_paths.specs.Restarts.{scan_turns};
-ghost use Rattle.nfa_backtrack.specs.Backtrack.{IsTooLong, AddsWork, CountsAnswer, CountsRefusal, GrowsBlocks};
+ghost use Rattle.nfa_backtrack.specs.Backtrack.{IsTooLong, AddsWork, CountsAnswer, CountsRefusal, GrowsBlocks, HoldsNoMore};
 ghost use Rattle.nfa_backtrack.specs.Backtrack.{refused_early, unused, capacity_of, rounded_bits, max_haystack_len_of};
 ghost use Rattle.nfa_backtrack.specs.Backtrack.{min_capacity_of};
 ghost use Rattle.nfa_search_base.specs.Finds.{finds};
@@ -67,9 +67,11 @@ fn rounded_bits(bytes: usize) -> usize
     bytes.saturating_mul(8).div_ceil(64).saturating_mul(64)
 }
 
-/// Makes room for so many slots.
+/// Makes room for so many slots, and for no more.
 fn grow(slots: &mut Vec<Option<NonMaxUsize>>, len: usize) -> Result<(), Refused>
-    ensures { OnOk result (len ≤ vec_len slots.new) }
+    ensures room { OnOk result (len ≤ vec_len slots.new) }
+    ensures kept { vec_len slots.old ≤ vec_len slots.new }
+    ensures needed { vec_len slots.new ≤ max (vec_len slots.old) len }
 {
     if slots.len() < len {
         slots.resize(len, None)?;
@@ -231,6 +233,7 @@ impl BoundedBacktracker {
     ) -> Result<Option<PatternID>, SearchError>
         ensures answer { IfOk result (λ pattern. IsAnswer self.now.nfa LeftmostFirst false (search_of input.now)
             (option_map number_of pattern) slots.new) }
+        ensures unmatched { IfOk result (λ pattern. IfNone pattern (slots.new ≡ replicate (length slots.old) None)) }
         ensures cleared { OnErr result (slots.new ≡ replicate (length slots.old) None) }
         ensures pattern { IfOk result (λ pattern. IfSome pattern (λ p. number_of p < length self.now.nfa.patterns)) }
         ensures inside { All (IsSlotInside (search_of input.now)) slots.new }
@@ -253,6 +256,7 @@ impl BoundedBacktracker {
         ensures refused { OnErr result (CountsRefusal cache.old cache.new) }
         ensures total { AddsWork cache.old cache.new }
         ensures blocks { GrowsBlocks self.now.nfa (search_of input.now) cache.old.blocks cache.new.blocks }
+        ensures holds { HoldsNoMore 0 cache.old cache.new }
         ensures early { IsTooLong self.now (search_of input.now) → cache.new ≡ refused_early cache.old }
     {
         let Cache {
@@ -312,6 +316,7 @@ impl BoundedBacktracker {
         ensures refused { OnErr result (CountsRefusal cache.old cache.new) }
         ensures total { AddsWork cache.old cache.new }
         ensures blocks { GrowsBlocks self.now.nfa (search_of input.entry) cache.old.blocks cache.new.blocks }
+        ensures holds { HoldsNoMore (2 * length self.now.nfa.groups) cache.old cache.new }
         ensures early { IsTooLong self.now (search_of input.entry) → cache.new ≡ refused_early cache.old }
     {
         let Cache {
@@ -358,6 +363,10 @@ impl BoundedBacktracker {
         ensures within { IsWithinScans self.now.nfa LeftmostFirst false (search_of input.now) scratch.new.scans }
         ensures blocks { GrowsBlocks self.now.nfa (search_of input.now) (length scratch.old.visited.bits / 64)
             (length scratch.new.visited.bits / 64) }
+        ensures stack { length scratch.new.stack.items ≤ length scratch.old.stack.items }
+        // Two slots for each pattern are enough.
+        ensures slots { vec_len slots.old ≤ vec_len slots.new }
+        ensures few { vec_len slots.new ≤ max (vec_len slots.old) (2 * length self.now.nfa.groups) }
         ensures scans { scratch.new.scans ≤ scan_limit self.now.nfa (search_of input.now) }
         ensures turns { scratch.new.visited.turns ≤ scratch.new.scans * scan_turns self.now.nfa (search_of input.now) }
     {
@@ -395,6 +404,7 @@ impl BoundedBacktracker {
         ensures refused { OnErr result (CountsRefusal cache.old cache.new) }
         ensures total { AddsWork cache.old cache.new }
         ensures blocks { GrowsBlocks self.now.nfa (search_of input.entry) cache.old.blocks cache.new.blocks }
+        ensures holds { HoldsNoMore 0 cache.old cache.new }
         ensures early { IsTooLong self.now (search_of input.entry) → cache.new ≡ refused_early cache.old }
     {
         match self.try_search_slots(cache, &input, &mut [])? {

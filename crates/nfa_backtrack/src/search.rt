@@ -1,5 +1,5 @@
 //! A search: a scan and, while its answer ends inside a character, further scans.
-ghost use Rattle.std.specs.Prelude.{◌≡◌, ◌+◌, ◌-◌, ◌*◌, ◌/◌, ◌^◌, ◌<◌, ◌≤◌, None, Some, false, length};
+ghost use Rattle.std.specs.Prelude.{◌≡◌, ◌+◌, ◌-◌, ◌*◌, ◌/◌, ◌^◌, ◌<◌, ◌≤◌, [], None, Some, false, length};
 ghost use Rattle.std.specs.Prelude.{replicate};
 ghost use Rattle.std.specs.Prelude.{IfOk, IfSome, OnErr};
 ghost use Rattle.regex_search_core.specs.Found.{half_found_of};
@@ -33,6 +33,7 @@ impl BoundedBacktracker {
         ensures answer { IfOk result (λ half. ScanGives self.now.nfa LeftmostFirst false (search_of input.now) half
             slots.new (scratch.new.visited.turns - scratch.old.visited.turns)) }
         ensures refused { OnErr result (slots.new ≡ replicate (length slots.old) None) }
+        ensures stack { scratch.new.stack.items ≡ [] }
     {
         scan(&self.nfa, &self.first, input, scratch, slots)
     }
@@ -52,6 +53,7 @@ impl BoundedBacktracker {
         ensures answer { IfOk result (λ half. SearchGives self.now.nfa LeftmostFirst false (search_of input.now) half
             slots.new scratch.new.scans scratch.new.visited.turns) }
         ensures refused { OnErr result (slots.new ≡ replicate (length slots.old) None) }
+        ensures stack { scratch.new.stack.items ≡ [] }
         ensures within { IsWithinScans self.now.nfa LeftmostFirst false (search_of input.now) scratch.new.scans }
         ensures size { length scratch.new.visited.bits ≡ length scratch.old.visited.bits }
         ensures scans { scratch.new.scans ≤ scan_limit self.now.nfa (search_of input.now) }
@@ -90,6 +92,7 @@ impl BoundedBacktracker {
         ensures refused { OnErr result (slots.new ≡ replicate (length slots.old) None) }
         ensures pattern { IfOk result (λ half. IfSome half (λ h.
             (half_found_of h).pattern < length self.now.nfa.patterns)) }
+        ensures stack { length scratch.new.stack.items ≤ length scratch.old.stack.items }
         ensures within { IsWithinScans self.now.nfa LeftmostFirst false (search_of input.now) scratch.new.scans }
         ensures blocks { GrowsBlocks self.now.nfa (search_of input.now) (length scratch.old.visited.bits / 64)
             (length scratch.new.visited.bits / 64) }

@@ -73,7 +73,7 @@ fn try_starts(
     Ok(None)
 }
 
-/// One scan, from a clean slate: the first accepting path, its slots, or no slot set.
+/// One scan, from a clean slate: the first accepting path, its slots, or no slot set. The stack is empty afterwards.
 pub fn scan(
     nfa: &NFA,
     first: &FirstBytes,
@@ -89,12 +89,15 @@ pub fn scan(
     ensures answer { IfOk result (λ half. ScanGives nfa.now LeftmostFirst false (search_of input.now) half slots.new
         (scratch.new.visited.turns - scratch.old.visited.turns)) }
     ensures refused { OnErr result (slots.new ≡ replicate (length slots.old) None) }
+    ensures stack { scratch.new.stack.items ≡ [] }
 {
     scratch.scans.tick();
     unset(slots);
     scratch.stack.clear();
     scratch.visited.clear();
-    match try_starts(nfa, first, input, scratch, slots) {
+    let found = try_starts(nfa, first, input, scratch, slots);
+    scratch.stack.clear();
+    match found {
         Ok(Some(half)) => Ok(Some(half)),
         Ok(None) => {
             unset(slots);

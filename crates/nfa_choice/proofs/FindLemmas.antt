@@ -14,7 +14,6 @@ use Rattle.nfa_search_base.specs.Walks.{Answer, span_of, IsSurelyInside}
 use Rattle.nfa_search_base.specs.declared.iter.steps.Steps.{Steps}
 use Rattle.nfa_search_base.proofs.AskingLemmas.{same_start-self, same_start-then, ServesOnAlong-by}
 use Rattle.nfa_search_base.proofs.EngineLemmas.{calls-kept, find-lies}
-use Rattle.nfa_pikevm.proofs.FindLemmas.{same_numbers, same_numbers-then}
 use Rattle.nfa_choice.specs.Choosing.{Choosing, KeepsEngines, kind_in}
 use Rattle.nfa_choice.specs.Matches.{AsksByRule, ChoiceGivesKept, choice_finds, choice_finds_next, may_ask}
 use Rattle.nfa_choice.specs.declared.choose.find_iter.ByRule.{ByRule}
@@ -53,7 +52,7 @@ keeps-self c = record {
   nfa = refl;
   visited_capacity = refl;
   match_kind = refl;
-  numbers = same_numbers c.pike;
+  numbers = record { states = refl; slots = refl; patterns = refl; places = refl };
 }
 
 keeps-then : (a b c : Choosing) → KeepsEngines a b → KeepsEngines b c → KeepsEngines a c
@@ -61,7 +60,12 @@ keeps-then a b c f g = record {
   nfa = g.nfa ∙ f.nfa;
   visited_capacity = g.visited_capacity ∙ f.visited_capacity;
   match_kind = g.match_kind ∙ f.match_kind;
-  numbers = same_numbers-then a.pike b.pike c.pike f.numbers g.numbers;
+  numbers = record {
+    states = g.numbers.states ∙ f.numbers.states;
+    slots = g.numbers.slots ∙ f.numbers.slots;
+    patterns = g.numbers.patterns ∙ f.numbers.patterns;
+    places = g.numbers.places ∙ f.numbers.places;
+  };
 }
 
 -- all calls keep the choice

@@ -179,6 +179,7 @@ impl Choice {
     ) -> Option<PatternID>
         ensures answer { IsAnswer self.old.nfa (kind_in self.old) (search_of input.now).earliest (search_of input.now)
             (option_map number_of result) slots.new }
+        ensures unmatched { IfNone result (slots.new ≡ replicate (length slots.old) None) }
         ensures pattern { IfSome result (λ p. number_of p < length self.old.nfa.patterns) }
         ensures inside { All (IsSlotInside (search_of input.now)) slots.new }
         ensures runs { RunsByRule self.old (search_of input.now) (search_of input.now).earliest self.new }

@@ -72,3 +72,9 @@ module _ (nfa : Automaton) (kind : MatchKind) (earliest : Bool) (x : Search) whe
       → length slots ≡ n → IfNone pattern (slots ≡ blank n)
   slots-none n None slots a size = slots-unset nfa kind earliest x slots a ∙ ap blank size
   slots-none n (Some p) slots a size = tt
+
+  -- the same of a pattern that is no number yet
+  pub slots-none_of : (n : ℕ) (r : Option PatternID) (slots : List (Option ℕ))
+      → IsAnswer nfa kind earliest x (option_map number_of r) slots → length slots ≡ n → IfNone r (slots ≡ blank n)
+  slots-none_of n None slots a size = slots-none n None slots a size
+  slots-none_of n (Some p) slots a size = tt

@@ -1,5 +1,5 @@
 //! The PikeVM and its searches.
-ghost use Rattle.std.specs.Prelude.{◌≡◌, ◌+◌, ◌*◌, ◌≤◌, None, Ok, false, not, length, min, replicate, option_map, IfOk, IfSome, All, ◌<◌, OnOk, OnErr, IsOkUnless};
+ghost use Rattle.std.specs.Prelude.{◌≡◌, ◌+◌, ◌*◌, ◌≤◌, None, Ok, false, not, length, min, replicate, option_map, IfOk, IfNone, IfSome, All, ◌<◌, OnOk, OnErr, IsOkUnless};
 ghost use Rattle.regex_search_core.specs.Search.{search_of};
 ghost use Rattle.regex_search_core.specs.Groups.{slot_count};
 ghost use Rattle.regex_search_core.specs.Patterns.{number_of};
@@ -172,6 +172,7 @@ impl PikeVM {
         requires { Fits cache.old self.now.nfa }
         ensures answer { IsAnswer self.now.nfa (kind_of self.now) (search_of input.now).earliest (search_of input.now)
             (option_map number_of result) slots.new }
+        ensures unmatched { IfNone result (slots.new ≡ replicate (length slots.old) None) }
         ensures pattern { IfSome result (λ p. number_of p < length self.now.nfa.patterns) }
         ensures inside { All (IsSlotInside (search_of input.now)) slots.new }
 

@@ -1,6 +1,5 @@
 -- What the scans and the search of a PikeVM come to, over the theory of paths.
 use Rattle.std.specs.Prelude.{◌≡◌, ◌⊎◌, ℕ, ◌++◌, ◌+◌, ◌-◌, ◌*◌, ◌<◌, ◌≤◌, Bool, List, [], ◌∷◌, Option, None, Some, length, replicate, nat_lt, if◌then◌else◌, All}
-use Rattle.std.specs.List.{sum_by}
 use Rattle.regex_search_core.specs.Found.{HalfFound, half_found_of}
 use Rattle.regex_search_core.specs.Search.{Search}
 use Rattle.regex_search_core.specs.declared.search.HalfMatch.{HalfMatch}
@@ -13,7 +12,7 @@ use Rattle.nfa_paths.specs.Kinds.{Scanning}
 pub use Rattle.nfa_paths.specs.Restarts.{scan_turns}
 use Rattle.nfa_scanning.specs.FirstBytes.{IsRefused}
 use Rattle.nfa_scanning.specs.Marks.{Marks}
-use Rattle.nfa_pikevm_scan.specs.Needs.{room_of}
+use Rattle.nfa_pikevm_scan.specs.Needs.{stack_places}
 use Rattle.nfa_pikevm_scan.specs.declared.scan.Starts.{Starts}
 use Rattle.nfa_pikevm_scan.specs.declared.scratch.Threads.{Threads}
 use Rattle.nfa_pikevm_scan.specs.States.{tasks, unmarked, SeenAt, SearchingAt}
@@ -48,7 +47,7 @@ pub record Serves (nfa : Automaton) (width : ℕ) (size : Sizes) : Type 0 where
   pub marks : length nfa.states ≤ size.states
   pub places : length nfa.states < size.places
   pub cells : size.places * width ≤ size.cells
-  pub frames_fit : sum_by room_of nfa.states ≤ size.frames
+  pub stack : stack_places nfa ≤ size.frames
 
 -- the threads have room for a search of the NFA, with rows of this width
 abbrev pub HaveRoom : Automaton → ℕ → Threads → Type 0

@@ -13,7 +13,7 @@ use Rattle.nfa_paths.specs.Exploring.Item.{Explore as ToExplore, Restore as ToRe
 use Rattle.nfa_paths.specs.Kinds.{rests, first_match, before_match, last_match, NoMatch}
 use Rattle.nfa_paths.specs.Turns.{marked_sum}
 use Rattle.nfa_scanning.specs.Marks.{Marks}
-use Rattle.nfa_pikevm_scan.specs.Needs.{room_of}
+use Rattle.nfa_pikevm_scan.specs.Needs.{room_of, stack_places}
 use Rattle.nfa_pikevm_scan.specs.declared.closure.Here.{Here}
 use Rattle.nfa_pikevm_scan.specs.declared.closure.Move.{Move}
 use Rattle.nfa_pikevm_scan.specs.declared.closure.Move.TheVariants.{On, Matched, Over}
@@ -239,9 +239,10 @@ module _ (nfa : Automaton) (x : Search) where
 
 -- The same of what is reached from where a scan stands.
 
-abbrev pub HasRoomHere : Here → Reached → ℕ → ℕ → Type 0
-HasRoomHere here old top frames =
-    HasRoom here.nfa.now old.seen.bits top frames (length old.next.items) old.next.places
+-- There is room, though no more places of the stack are taken than the NFA needs.
+pub record HasRoomHere (here : Here) (old : Reached) (top frames : ℕ) : Type 0 where
+  pub room : HasRoom here.nfa.now old.seen.bits top (stack_places here.nfa.now) (length old.next.items) old.next.places
+  pub stack : stack_places here.nfa.now ≤ frames
 
 abbrev pub AreWithinHere : Here → ℕ → List FollowEpsilon → Type 0
 AreWithinHere here count stack = All (IsWithin (length here.nfa.now.states) count) stack

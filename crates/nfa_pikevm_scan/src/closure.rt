@@ -5,6 +5,7 @@ ghost use Rattle.regex_search_core.specs.Search.{Search, search_of};
 ghost use Rattle.thompson_nfa.specs.Automaton.{Automaton};
 ghost use Rattle.nfa_paths.specs.Exploring.{Item};
 ghost use Rattle.nfa_scanning.specs.Marks.{Marks};
+ghost use Rattle.nfa_pikevm_scan.specs.Needs.{stack_places};
 ghost use Rattle.nfa_pikevm_scan.specs.States.{Front, work_onto, with_state, tries, tries_of, state_on, undone, state_of, HasSlot, IsBelow, IsWithin, Follows, IsHere, KeepsRoom, HasRoomHere, AreWithinHere, PaidHere, EntersHere, FindsHere};
 ghost use Rattle.nfa_pikevm_scan.specs.Taking.{Arrives};
 ghost use Rattle.nfa_pikevm_scan.specs.declared.frame.FollowEpsilon.TheVariants.{Explore, Restore};
@@ -109,7 +110,7 @@ fn keep(target: Option<StateID>, next: &mut ActiveStates, slots: &[Slot])
 }
 
 /// One turn: tries to enter the state, and says where it leads. Of a state that waits for a byte, the state that the
-/// byte leads to is kept.
+/// byte leads to is kept. However long the stack is, no more of its places are taken than the NFA needs.
 #[inline(always)]
 pub fn enter(
     here: &Here<'_, '_>,
@@ -121,13 +122,13 @@ pub fn enter(
 ) -> Move
     requires here { IsHere here.now }
     requires state { sid < length here.now.nfa.now.states }
-    requires top { top.old ≤ length frames.old }
+    requires top { top.old ≤ stack_places here.now.nfa.now }
     requires room { HasRoomHere here.now reached.old top.old (length frames.old) }
     requires width { length row.old ≡ reached.old.next.width }
     requires within { AreWithinHere here.now (length row.old) (take top.old frames.old) }
     ensures turns { reached.new.seen.turns ≡ reached.old.seen.turns + 1 }
     ensures keeps { KeepsRoom reached.old reached.new }
-    ensures top { top.new ≤ length frames.new }
+    ensures top { top.new ≤ stack_places here.now.nfa.now }
     ensures state { IsBelow (length here.now.nfa.now.states) (state_on result) }
     ensures within { AreWithinHere here.now (length row.old) (take top.new frames.new) }
     ensures paid { PaidHere here.now reached.old (take top.old frames.old) reached.new (take top.new frames.new)
@@ -237,13 +238,13 @@ pub fn next_match(
 ) -> Option<PatternID>
     requires here { IsHere here.now }
     requires state { from < length here.now.nfa.now.states }
-    requires top { top.old ≤ length frames.old }
+    requires top { top.old ≤ stack_places here.now.nfa.now }
     requires room { HasRoomHere here.now reached.old top.old (length frames.old) }
     requires width { length row.old ≡ reached.old.next.width }
     requires within { AreWithinHere here.now (length row.old) (take top.old frames.old) }
     ensures turns { reached.old.seen.turns < reached.new.seen.turns }
     ensures keeps { KeepsRoom reached.old reached.new }
-    ensures top { top.new ≤ length frames.new }
+    ensures top { top.new ≤ stack_places here.now.nfa.now }
     ensures over { result ≡ None → top.new ≡ 0 }
     ensures within { AreWithinHere here.now (length row.old) (take top.new frames.new) }
     ensures paid { PaidHere here.now reached.old (take top.old frames.old) reached.new (take top.new frames.new) 0 }

@@ -69,6 +69,7 @@ fn cross_to_set(
     requires place { at ≤ (search_of input.now).end }
     requires states { All (λ i. i.0 < length nfa.now.states) threads.old.curr.items }
     requires room { HaveRows nfa.now 0 threads.old }
+    requires some { 0 < length threads.old.curr.items }
     requires empty { threads.old.reached.next.items ≡ [] }
     ensures width { threads.new.curr.width ≡ threads.old.curr.width }
     ensures sizes { SameSizes threads.old threads.new }

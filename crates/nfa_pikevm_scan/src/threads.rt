@@ -1,6 +1,7 @@
 //! All states side by side, from one position to the next.
 ghost use Rattle.std.specs.Prelude.{◌≡◌, ◌*◌, ◌<◌, ◌≤◌, [], false, length, replicate, All};
 ghost use Rattle.regex_search_core.specs.Search.{search_of};
+ghost use Rattle.nfa_pikevm_scan.specs.Needs.{stack_places};
 ghost use Rattle.nfa_pikevm_scan.specs.Rows.{items_of};
 ghost use Rattle.nfa_pikevm_scan.specs.States.{HasRoom, IsHere, KeepsRoom, Crosses};
 ghost use Rattle.nfa_pikevm_scan.specs.Taking.{ArriveAll};
@@ -59,7 +60,9 @@ fn cross_states<T: Taker>(
 )
     requires here { IsHere here.now }
     requires states { All (λ s. s < length here.now.nfa.now.states) kept.now }
-    requires room { HasRoom here.now.nfa.now reached.old.seen.bits 0 (length frames.old) 0 reached.old.next.places }
+    requires room { HasRoom here.now.nfa.now reached.old.seen.bits 0 (stack_places here.now.nfa.now) 0
+        reached.old.next.places }
+    requires stack { stack_places here.now.nfa.now ≤ length frames.old }
     requires clear { reached.old.seen.bits ≡ replicate (length reached.old.seen.bits) false }
     requires empty { reached.old.next.items ≡ [] }
     requires width { T.row_width taker.old ≡ reached.old.next.width }
@@ -96,6 +99,7 @@ pub fn cross_with<T: Taker>(
     requires place { at ≤ (search_of input.now).end }
     requires states { All (λ i. i.0 < length nfa.now.states) threads.old.curr.items }
     requires room { HaveRows nfa.now (T.row_width taker.old) threads.old }
+    requires some { 0 < length threads.old.curr.items }
     requires empty { threads.old.reached.next.items ≡ [] }
     ensures width { threads.new.curr.width ≡ threads.old.curr.width }
     ensures sizes { SameSizes threads.old threads.new }
@@ -155,6 +159,7 @@ pub fn cross(
     requires place { at ≤ (search_of input.now).end }
     requires states { All (λ i. i.0 < length nfa.now.states) threads.old.curr.items }
     requires room { HaveRows nfa.now (length slots.old) threads.old }
+    requires some { 0 < length threads.old.curr.items }
     requires empty { threads.old.reached.next.items ≡ [] }
     ensures width { threads.new.curr.width ≡ threads.old.curr.width }
     ensures sizes { SameSizes threads.old threads.new }

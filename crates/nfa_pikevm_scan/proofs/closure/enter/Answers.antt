@@ -17,9 +17,9 @@ returns-then-not-insert-clause-enters c =
 pub keep-requires-clause-room : goal.keep-requires-clause-room
 keep-requires-clause-room c =
     let e = Entered-made c.args.reached.now.seen c.insert.new.self c.as_usize.ensures.value c.state.ensures.node
-    c.in-ByteRange.is c.requires.state c.requires.room c.insert.ensures.turns
+    c.in-ByteRange.is c.requires.state c.requires.room.room c.insert.ensures.turns
     (c.insert.ensures.fresh c.if-not-insert.false) in
-    states-entered e c.requires.room
+    states-entered e c.requires.room.room
 
 pub returns-in-ByteRange-clause-keeps : goal.returns-in-ByteRange-clause-keeps
 returns-in-ByteRange-clause-keeps c =
@@ -35,7 +35,7 @@ returns-in-ByteRange-clause-keeps c =
 pub returns-in-ByteRange-clause-paid : goal.returns-in-ByteRange-clause-paid
 returns-in-ByteRange-clause-paid c =
     let e = Entered-made c.args.reached.now.seen c.insert.new.self c.as_usize.ensures.value c.state.ensures.node
-    c.in-ByteRange.is c.requires.state c.requires.room c.insert.ensures.turns
+    c.in-ByteRange.is c.requires.state c.requires.room.room c.insert.ensures.turns
     (c.insert.ensures.fresh c.if-not-insert.false) in
     Paid-kept e c.args.here.now.byte c.args.row.now c.args.reached.now.next c.keep.new.next (take c.args.top.now
     c.args.frames.now)
@@ -45,7 +45,7 @@ returns-in-ByteRange-clause-paid c =
 pub returns-in-ByteRange-clause-enters : goal.returns-in-ByteRange-clause-enters
 returns-in-ByteRange-clause-enters c =
     let e = Entered-made c.args.reached.now.seen c.insert.new.self c.as_usize.ensures.value c.state.ensures.node
-    c.in-ByteRange.is c.requires.state c.requires.room c.insert.ensures.turns
+    c.in-ByteRange.is c.requires.state c.requires.room.room c.insert.ensures.turns
     (c.insert.ensures.fresh c.if-not-insert.false) in
     Enters-kept e (search_of c.args.here.now.input.now) c.args.here.now.at c.args.reached.now.next.items (take
     c.args.top.now c.args.frames.now)
@@ -57,8 +57,8 @@ pub keep-requires-in-Sparse-clause-room : goal.keep-requires-in-Sparse-clause-ro
 keep-requires-in-Sparse-clause-room c =
     let e = Entered-made c.args.reached.now.seen c.insert.new.self c.as_usize.ensures.value c.state.ensures.node
     c.in-Sparse.is
-    c.requires.state c.requires.room c.insert.ensures.turns (c.insert.ensures.fresh c.if-not-insert.false) in
-    states-entered e c.requires.room
+    c.requires.state c.requires.room.room c.insert.ensures.turns (c.insert.ensures.fresh c.if-not-insert.false) in
+    states-entered e c.requires.room.room
 
 pub returns-in-Sparse-clause-keeps : goal.returns-in-Sparse-clause-keeps
 returns-in-Sparse-clause-keeps c =
@@ -75,7 +75,7 @@ pub returns-in-Sparse-clause-paid : goal.returns-in-Sparse-clause-paid
 returns-in-Sparse-clause-paid c =
     let e = Entered-made c.args.reached.now.seen c.insert.new.self c.as_usize.ensures.value c.state.ensures.node
     c.in-Sparse.is
-    c.requires.state c.requires.room c.insert.ensures.turns (c.insert.ensures.fresh c.if-not-insert.false) in
+    c.requires.state c.requires.room.room c.insert.ensures.turns (c.insert.ensures.fresh c.if-not-insert.false) in
     Paid-kept e c.args.here.now.byte c.args.row.now c.args.reached.now.next c.keep-in-Sparse.new.next
     (take c.args.top.now c.args.frames.now) (IsKept-made _ c.sparse_target.result c.args.row.now c.args.reached.now.next
     c.keep-in-Sparse.new.next (rw c.deref.ensures.value at c.sparse_target.ensures) c.keep-in-Sparse.ensures.none
@@ -85,7 +85,7 @@ pub returns-in-Sparse-clause-enters : goal.returns-in-Sparse-clause-enters
 returns-in-Sparse-clause-enters c =
     let e = Entered-made c.args.reached.now.seen c.insert.new.self c.as_usize.ensures.value c.state.ensures.node
     c.in-Sparse.is
-    c.requires.state c.requires.room c.insert.ensures.turns (c.insert.ensures.fresh c.if-not-insert.false) in
+    c.requires.state c.requires.room.room c.insert.ensures.turns (c.insert.ensures.fresh c.if-not-insert.false) in
     Enters-kept e (search_of c.args.here.now.input.now) c.args.here.now.at c.args.reached.now.next.items (take
     c.args.top.now c.args.frames.now)
     c.args.row.now refl c.args.here.now.byte c.args.reached.now.next c.keep-in-Sparse.new.next refl c.requires.here.byte
@@ -97,8 +97,8 @@ pub keep-requires-in-Dense-clause-room : goal.keep-requires-in-Dense-clause-room
 keep-requires-in-Dense-clause-room c =
     let e = Entered-made c.args.reached.now.seen c.insert.new.self c.as_usize.ensures.value c.state.ensures.node
     c.in-Dense.is
-    c.requires.state c.requires.room c.insert.ensures.turns (c.insert.ensures.fresh c.if-not-insert.false) in
-    states-entered e c.requires.room
+    c.requires.state c.requires.room.room c.insert.ensures.turns (c.insert.ensures.fresh c.if-not-insert.false) in
+    states-entered e c.requires.room.room
 
 pub returns-in-Dense-clause-keeps : goal.returns-in-Dense-clause-keeps
 returns-in-Dense-clause-keeps c =
@@ -115,7 +115,7 @@ pub returns-in-Dense-clause-paid : goal.returns-in-Dense-clause-paid
 returns-in-Dense-clause-paid c =
     let e = Entered-made c.args.reached.now.seen c.insert.new.self c.as_usize.ensures.value c.state.ensures.node
     c.in-Dense.is
-    c.requires.state c.requires.room c.insert.ensures.turns (c.insert.ensures.fresh c.if-not-insert.false) in
+    c.requires.state c.requires.room.room c.insert.ensures.turns (c.insert.ensures.fresh c.if-not-insert.false) in
     Paid-kept e c.args.here.now.byte c.args.row.now c.args.reached.now.next c.keep-in-Dense.new.next
     (take c.args.top.now c.args.frames.now) (IsKept-made _ c.dense_target.result c.args.row.now c.args.reached.now.next
     c.keep-in-Dense.new.next (rw c.deref-in-Dense.ensures.value at c.dense_target.ensures)
@@ -125,7 +125,7 @@ pub returns-in-Dense-clause-enters : goal.returns-in-Dense-clause-enters
 returns-in-Dense-clause-enters c =
     let e = Entered-made c.args.reached.now.seen c.insert.new.self c.as_usize.ensures.value c.state.ensures.node
     c.in-Dense.is
-    c.requires.state c.requires.room c.insert.ensures.turns (c.insert.ensures.fresh c.if-not-insert.false) in
+    c.requires.state c.requires.room.room c.insert.ensures.turns (c.insert.ensures.fresh c.if-not-insert.false) in
     Enters-kept e (search_of c.args.here.now.input.now) c.args.here.now.at c.args.reached.now.next.items (take
     c.args.top.now c.args.frames.now)
     c.args.row.now refl c.args.here.now.byte c.args.reached.now.next c.keep-in-Dense.new.next refl c.requires.here.byte
@@ -137,14 +137,14 @@ pub returns-then-look_matches-clause-paid : goal.returns-then-look_matches-claus
 returns-then-look_matches-clause-paid c =
     let e = Entered-made c.args.reached.now.seen c.insert.new.self c.as_usize.ensures.value c.state.ensures.node
     c.in-Look.is
-    c.requires.state c.requires.room c.insert.ensures.turns (c.insert.ensures.fresh c.if-not-insert.false) in
+    c.requires.state c.requires.room.room c.insert.ensures.turns (c.insert.ensures.fresh c.if-not-insert.false) in
     Paid-same e _ _ 1 (omega arith)
 
 pub returns-then-look_matches-clause-enters : goal.returns-then-look_matches-clause-enters
 returns-then-look_matches-clause-enters c =
     let e = Entered-made c.args.reached.now.seen c.insert.new.self c.as_usize.ensures.value c.state.ensures.node
     c.in-Look.is
-    c.requires.state c.requires.room c.insert.ensures.turns (c.insert.ensures.fresh c.if-not-insert.false) in
+    c.requires.state c.requires.room.room c.insert.ensures.turns (c.insert.ensures.fresh c.if-not-insert.false) in
     let holds = sym (rw c.haystack.ensures at c.look_matches.ensures) ∙ c.if-look_matches.true in
     Enters-look (search_of c.args.here.now.input.now) c.args.here.now.at c.args.reached.now.next.items (take
     c.args.top.now c.args.frames.now)
@@ -154,14 +154,14 @@ pub returns-else-look_matches-clause-paid : goal.returns-else-look_matches-claus
 returns-else-look_matches-clause-paid c =
     let e = Entered-made c.args.reached.now.seen c.insert.new.self c.as_usize.ensures.value c.state.ensures.node
     c.in-Look.is
-    c.requires.state c.requires.room c.insert.ensures.turns (c.insert.ensures.fresh c.if-not-insert.false) in
+    c.requires.state c.requires.room.room c.insert.ensures.turns (c.insert.ensures.fresh c.if-not-insert.false) in
     Paid-same e _ _ 0 (omega arith)
 
 pub returns-else-look_matches-clause-enters : goal.returns-else-look_matches-clause-enters
 returns-else-look_matches-clause-enters c =
     let e = Entered-made c.args.reached.now.seen c.insert.new.self c.as_usize.ensures.value c.state.ensures.node
     c.in-Look.is
-    c.requires.state c.requires.room c.insert.ensures.turns (c.insert.ensures.fresh c.if-not-insert.false) in
+    c.requires.state c.requires.room.room c.insert.ensures.turns (c.insert.ensures.fresh c.if-not-insert.false) in
     let fails = sym (rw c.haystack.ensures at c.look_matches.ensures) ∙ c.if-look_matches.false in
     Enters-no_look (search_of c.args.here.now.input.now) c.args.here.now.at c.args.reached.now.next.items (take
     c.args.top.now c.args.frames.now)
@@ -171,14 +171,14 @@ pub returns-in_default-clause-paid : goal.returns-in_default-clause-paid
 returns-in_default-clause-paid c =
     let e = Entered-made c.args.reached.now.seen c.insert.new.self c.as_usize.ensures.value c.state.ensures.node
     c.in-Union.is
-    c.requires.state c.requires.room c.insert.ensures.turns (c.insert.ensures.fresh c.if-not-insert.false) in
+    c.requires.state c.requires.room.room c.insert.ensures.turns (c.insert.ensures.fresh c.if-not-insert.false) in
     Paid-same e _ _ 0 (omega arith)
 
 pub returns-in_default-clause-enters : goal.returns-in_default-clause-enters
 returns-in_default-clause-enters c =
     let e = Entered-made c.args.reached.now.seen c.insert.new.self c.as_usize.ensures.value c.state.ensures.node
     c.in-Union.is
-    c.requires.state c.requires.room c.insert.ensures.turns (c.insert.ensures.fresh c.if-not-insert.false) in
+    c.requires.state c.requires.room.room c.insert.ensures.turns (c.insert.ensures.fresh c.if-not-insert.false) in
     let none = sym (rw c.deref-in-Union.ensures.value at c.in_default.ensures.value) in
     Enters-no_union (search_of c.args.here.now.input.now) c.args.here.now.at c.args.reached.now.next.items (take
     c.args.top.now c.args.frames.now)
@@ -188,9 +188,18 @@ pub put_off-requires : goal.put_off-requires
 put_off-requires c =
     let e = Entered-made c.args.reached.now.seen c.insert.new.self c.as_usize.ensures.value c.state.ensures.node
     c.in-Union.is
-    c.requires.state c.requires.room c.insert.ensures.turns (c.insert.ensures.fresh c.if-not-insert.false) in
-    let room = frames-entered e c.requires.room in
-    rw c.deref-in-Union-2.ensures.value (omega (arith, room, length-drop 1 c.in-Union.alternates.items))
+    c.requires.state c.requires.room.room c.insert.ensures.turns (c.insert.ensures.fresh c.if-not-insert.false) in
+    let room = frames-entered e c.requires.room.room in
+    rw c.deref-in-Union-2.ensures.value (omega (arith, room, c.requires.room.stack, length-drop 1 c.in-Union.alternates.items))
+
+pub returns-in-Some-clause-top : goal.returns-in-Some-clause-top
+returns-in-Some-clause-top c =
+    let e = Entered-made c.args.reached.now.seen c.insert.new.self c.as_usize.ensures.value c.state.ensures.node
+    c.in-Union.is
+    c.requires.state c.requires.room.room c.insert.ensures.turns (c.insert.ensures.fresh c.if-not-insert.false) in
+    let room = frames-entered e c.requires.room.room in
+    let top = rw c.deref-in-Union-2.ensures.value at c.put_off.ensures.top in
+    omega (arith, room, top, length-drop 1 c.in-Union.alternates.items)
 
 pub returns-in-Some-clause-within : goal.returns-in-Some-clause-within
 returns-in-Some-clause-within c =
@@ -203,7 +212,7 @@ pub returns-in-Some-clause-paid : goal.returns-in-Some-clause-paid
 returns-in-Some-clause-paid c =
     let e = Entered-made c.args.reached.now.seen c.insert.new.self c.as_usize.ensures.value c.state.ensures.node
     c.in-Union.is
-    c.requires.state c.requires.room c.insert.ensures.turns (c.insert.ensures.fresh c.if-not-insert.false) in
+    c.requires.state c.requires.room.room c.insert.ensures.turns (c.insert.ensures.fresh c.if-not-insert.false) in
     let first = sym (rw c.deref-in-Union.ensures.value at c.in-Some.ensures.value) in
     let stack = rw c.deref-in-Union-2.ensures.value at c.put_off.ensures.stack in
     Paid-union (search_of c.args.here.now.input.now) c.args.here.now.at c.args.reached.now.next.items (take
@@ -214,7 +223,7 @@ pub returns-in-Some-clause-enters : goal.returns-in-Some-clause-enters
 returns-in-Some-clause-enters c =
     let e = Entered-made c.args.reached.now.seen c.insert.new.self c.as_usize.ensures.value c.state.ensures.node
     c.in-Union.is
-    c.requires.state c.requires.room c.insert.ensures.turns (c.insert.ensures.fresh c.if-not-insert.false) in
+    c.requires.state c.requires.room.room c.insert.ensures.turns (c.insert.ensures.fresh c.if-not-insert.false) in
     let first = sym (rw c.deref-in-Union.ensures.value at c.in-Some.ensures.value) in
     let stack = rw c.deref-in-Union-2.ensures.value at c.put_off.ensures.stack in
     Enters-union (search_of c.args.here.now.input.now) c.args.here.now.at c.args.reached.now.next.items (take
@@ -224,21 +233,28 @@ returns-in-Some-clause-enters c =
 pub push-requires : goal.push-requires
 push-requires c =
     let e = Entered-made c.args.reached.now.seen c.insert.new.self c.as_usize.ensures.value c.state.ensures.node
-    c.in-BinaryUnion.is c.requires.state c.requires.room c.insert.ensures.turns
+    c.in-BinaryUnion.is c.requires.state c.requires.room.room c.insert.ensures.turns
     (c.insert.ensures.fresh c.if-not-insert.false) in
-    let room = frames-entered e c.requires.room in omega (arith, room)
+    let room = frames-entered e c.requires.room.room in omega (arith, room, c.requires.room.stack)
+
+pub returns-in-BinaryUnion-clause-top : goal.returns-in-BinaryUnion-clause-top
+returns-in-BinaryUnion-clause-top c =
+    let e = Entered-made c.args.reached.now.seen c.insert.new.self c.as_usize.ensures.value c.state.ensures.node
+    c.in-BinaryUnion.is c.requires.state c.requires.room.room c.insert.ensures.turns
+    (c.insert.ensures.fresh c.if-not-insert.false) in
+    let room = frames-entered e c.requires.room.room in omega (arith, room, c.push.ensures.top)
 
 pub returns-in-BinaryUnion-clause-paid : goal.returns-in-BinaryUnion-clause-paid
 returns-in-BinaryUnion-clause-paid c =
     let e = Entered-made c.args.reached.now.seen c.insert.new.self c.as_usize.ensures.value c.state.ensures.node
-    c.in-BinaryUnion.is c.requires.state c.requires.room c.insert.ensures.turns
+    c.in-BinaryUnion.is c.requires.state c.requires.room.room c.insert.ensures.turns
     (c.insert.ensures.fresh c.if-not-insert.false) in
     Paid-push e _ _ (Explore c.in-BinaryUnion.alt2) _ 1 c.push.ensures.stack (omega arith) (omega arith)
 
 pub returns-in-BinaryUnion-clause-enters : goal.returns-in-BinaryUnion-clause-enters
 returns-in-BinaryUnion-clause-enters c =
     let e = Entered-made c.args.reached.now.seen c.insert.new.self c.as_usize.ensures.value c.state.ensures.node
-    c.in-BinaryUnion.is c.requires.state c.requires.room c.insert.ensures.turns
+    c.in-BinaryUnion.is c.requires.state c.requires.room.room c.insert.ensures.turns
     (c.insert.ensures.fresh c.if-not-insert.false) in
     Enters-both (search_of c.args.here.now.input.now) c.args.here.now.at c.args.reached.now.next.items (take
     c.args.top.now c.args.frames.now)
@@ -248,15 +264,15 @@ pub keep_old-requires-clause-room : goal.keep_old-requires-clause-room
 keep_old-requires-clause-room c =
     let e = Entered-made c.args.reached.now.seen c.insert.new.self c.as_usize.ensures.value c.state.ensures.node
     c.in-Capture.is
-    c.requires.state c.requires.room c.insert.ensures.turns (c.insert.ensures.fresh c.if-not-insert.false) in
-    let room = frames-entered e c.requires.room in omega (arith, room)
+    c.requires.state c.requires.room.room c.insert.ensures.turns (c.insert.ensures.fresh c.if-not-insert.false) in
+    let room = frames-entered e c.requires.room.room in omega (arith, room, c.requires.room.stack)
 
 pub returns-after-slot-row-clause-top : goal.returns-after-slot-row-clause-top
 returns-after-slot-row-clause-top c =
     let e = Entered-made c.args.reached.now.seen c.insert.new.self c.as_usize.ensures.value c.state.ensures.node
     c.in-Capture.is
-    c.requires.state c.requires.room c.insert.ensures.turns (c.insert.ensures.fresh c.if-not-insert.false) in
-    let room = frames-entered e c.requires.room in
+    c.requires.state c.requires.room.room c.insert.ensures.turns (c.insert.ensures.fresh c.if-not-insert.false) in
+    let room = frames-entered e c.requires.room.room in
     let same = c.if-slot-row.auto.frames in
     elim c.if-slot-row.branch [
       | then-slot-row w ↦ let put = top-put c.args.top.now w.keep_old.new.top w.keep_old.ensures.empty
@@ -290,14 +306,14 @@ pub returns-after-slot-row-clause-paid : goal.returns-after-slot-row-clause-paid
 returns-after-slot-row-clause-paid c =
     let e = Entered-made c.args.reached.now.seen c.insert.new.self c.as_usize.ensures.value c.state.ensures.node
     c.in-Capture.is
-    c.requires.state c.requires.room c.insert.ensures.turns (c.insert.ensures.fresh c.if-not-insert.false) in
+    c.requires.state c.requires.room.room c.insert.ensures.turns (c.insert.ensures.fresh c.if-not-insert.false) in
     Paid-capture e c.args.here.now.at (take c.args.top.now c.args.frames.now) c.args.row.now _ _ (written c) _
 
 pub returns-after-slot-row-clause-enters : goal.returns-after-slot-row-clause-enters
 returns-after-slot-row-clause-enters c =
     let e = Entered-made c.args.reached.now.seen c.insert.new.self c.as_usize.ensures.value c.state.ensures.node
     c.in-Capture.is
-    c.requires.state c.requires.room c.insert.ensures.turns (c.insert.ensures.fresh c.if-not-insert.false) in
+    c.requires.state c.requires.room.room c.insert.ensures.turns (c.insert.ensures.fresh c.if-not-insert.false) in
     Enters-capture e c.args.here.now.at (take c.args.top.now c.args.frames.now) c.args.row.now _ _ (written c)
     (search_of c.args.here.now.input.now) c.args.reached.now.next.items
 
@@ -305,14 +321,14 @@ pub returns-in-Fail-clause-paid : goal.returns-in-Fail-clause-paid
 returns-in-Fail-clause-paid c =
     let e = Entered-made c.args.reached.now.seen c.insert.new.self c.as_usize.ensures.value c.state.ensures.node
     c.in-Fail.is
-    c.requires.state c.requires.room c.insert.ensures.turns (c.insert.ensures.fresh c.if-not-insert.false) in
+    c.requires.state c.requires.room.room c.insert.ensures.turns (c.insert.ensures.fresh c.if-not-insert.false) in
     Paid-same e _ _ 0 (omega arith)
 
 pub returns-in-Fail-clause-enters : goal.returns-in-Fail-clause-enters
 returns-in-Fail-clause-enters c =
     let e = Entered-made c.args.reached.now.seen c.insert.new.self c.as_usize.ensures.value c.state.ensures.node
     c.in-Fail.is
-    c.requires.state c.requires.room c.insert.ensures.turns (c.insert.ensures.fresh c.if-not-insert.false) in
+    c.requires.state c.requires.room.room c.insert.ensures.turns (c.insert.ensures.fresh c.if-not-insert.false) in
     Enters-fail (search_of c.args.here.now.input.now) c.args.here.now.at c.args.reached.now.next.items (take
     c.args.top.now c.args.frames.now)
     c.args.row.now e
@@ -321,14 +337,14 @@ pub returns-in-Match-clause-paid : goal.returns-in-Match-clause-paid
 returns-in-Match-clause-paid c =
     let e = Entered-made c.args.reached.now.seen c.insert.new.self c.as_usize.ensures.value c.state.ensures.node
     c.in-Match.is
-    c.requires.state c.requires.room c.insert.ensures.turns (c.insert.ensures.fresh c.if-not-insert.false) in
+    c.requires.state c.requires.room.room c.insert.ensures.turns (c.insert.ensures.fresh c.if-not-insert.false) in
     Paid-same e _ _ 0 (omega arith)
 
 pub returns-in-Match-clause-enters : goal.returns-in-Match-clause-enters
 returns-in-Match-clause-enters c =
     let e = Entered-made c.args.reached.now.seen c.insert.new.self c.as_usize.ensures.value c.state.ensures.node
     c.in-Match.is
-    c.requires.state c.requires.room c.insert.ensures.turns (c.insert.ensures.fresh c.if-not-insert.false) in
+    c.requires.state c.requires.room.room c.insert.ensures.turns (c.insert.ensures.fresh c.if-not-insert.false) in
     Enters-match (search_of c.args.here.now.input.now) c.args.here.now.at c.args.reached.now.next.items (take
     c.args.top.now c.args.frames.now)
     c.args.row.now c.in-Match.pattern_id e

@@ -24,10 +24,14 @@ loop-on-init c =
 pub enter-requires-clause-room : goal.enter-requires-clause-room
 enter-requires-clause-room c =
     let i = c.loop-on.invariant in
+    let stack = c.requires.room.stack in
     let frames = c.loop-on.auto.frames in
-    rw (i.keeps.same, frames)
-    (HasRoom-paid c.args.top.now c.loop-on.top c.args.frames.now c.loop-on.frames c.requires.room i.paid i.keeps.size
-    c.requires.top i.inside)
+    record {
+      room = rw i.keeps.same
+          (HasRoom-paid c.args.top.now c.loop-on.top c.args.frames.now c.loop-on.frames c.requires.room.room i.paid
+          i.keeps.size (omega (arith, c.requires.top)) (omega (arith, i.inside)));
+      stack = omega arith;
+    }
 
 pub loop-on-smaller-in-On : goal.loop-on-smaller-in-On
 loop-on-smaller-in-On c =

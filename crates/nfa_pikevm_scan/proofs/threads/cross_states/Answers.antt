@@ -19,11 +19,13 @@ loop-sid-init g c = record {
 }
 
 pub follow-requires-clause-room : goal.follow-requires-clause-room
-follow-requires-clause-room g c =
-    HasRoom-next c.args.here.now.nfa.now (search_of c.args.here.now.input.now) g.T.Taker.takes c.args.here.now.at
-    c.args.reached.now.seen _ c.args.taker.now _ _ _ _ _ _ _ _
-    c.requires.clear c.requires.room c.loop-sid.invariant.keeps.size c.loop-sid.auto.frames
-    (ap (λ (z : Active). z.places) c.loop-sid.invariant.keeps.same) c.loop-sid.invariant.crosses
+follow-requires-clause-room g c = record {
+  room = HasRoom-next c.args.here.now.nfa.now (search_of c.args.here.now.input.now) g.T.Taker.takes c.args.here.now.at
+      c.args.reached.now.seen _ c.args.taker.now _ _ _ _ _ _ _ _
+      c.requires.clear c.requires.room c.loop-sid.invariant.keeps.size refl
+      (ap (λ (z : Active). z.places) c.loop-sid.invariant.keeps.same) c.loop-sid.invariant.crosses;
+  stack = omega (arith, c.loop-sid.auto.frames, c.requires.stack);
+}
 
 pub follow-requires-clause-width : goal.follow-requires-clause-width
 follow-requires-clause-width g c =

@@ -1,8 +1,12 @@
--- The answer is that of the search, and the cache keeps its numbers.
+-- The answer is that of the search: after no match no slot is set, and each that is set lies in the span.
 use Rattle.regex_search_core.specs.Search.{search_of}
 use Rattle.nfa_pikevm.specs.Engines.{kind_of}
-use Rattle.nfa_pikevm.proofs.EngineLemmas.{slots-inside}
+use Rattle.nfa_pikevm.proofs.EngineLemmas.{slots-inside, slots-none_of}
 use Rattle.nfa_pikevm.proofs.engine.PikeVM.search_slots.Goals as goal
+
+pub returns-clause-unmatched : goal.returns-clause-unmatched
+returns-clause-unmatched c = slots-none_of c.args.self.now.nfa (kind_of c.args.self.now) _ (search_of c.args.input.now)
+    _ _ _ c.search_with.ensures.answer c.search_with.auto.slots
 
 pub returns-clause-inside : goal.returns-clause-inside
 returns-clause-inside c = slots-inside c.args.self.now.nfa (kind_of c.args.self.now) _ (search_of c.args.input.now) _ _
