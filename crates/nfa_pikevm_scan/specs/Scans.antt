@@ -95,7 +95,7 @@ abbrev pub IsPassed : List Bool → Search → Starts → ℕ → Type 0
 IsPassed table x starts_at k = (k < starts_at.stop) × IsRefused table x k
 
 -- The position that a scan goes on at, where the start has joined the states, or no match begins there. While starts
--- are left some state is there.
+-- are left some state is there. A start that may be passed over does not join.
 pub record Joins (table : List Bool) (x : Search) (starts_at : Starts) (limit width at : ℕ) (items : List (ℕ × Slots))
     (to : ℕ) (now : List (ℕ × Slots)) : Type 0 where
   pub ahead : at ≤ to
@@ -103,6 +103,7 @@ pub record Joins (table : List Bool) (x : Search) (starts_at : Starts) (limit wi
   pub stays : 0 < length items → to ≡ at
   pub passed : (k : ℕ) → at ≤ k → k < to → IsPassed table x starts_at k
   pub some : at < limit → 0 < length now
+  pub passes : IsPassed table x starts_at to → now ≡ items
   pub last : ((to < limit) × (now ≡ items ++ (starts_at.state, blank width) ∷ []))
       ⊎ ((now ≡ items) × ((limit ≤ to) ⊎ IsPassed table x starts_at to))
 

@@ -26,6 +26,7 @@ returns-then-is_empty-clause-joins c =
       );
       some = λ less. rw same (some-push c.args.threads.now.curr.items
           (c.args.starts.now.state, blank c.args.threads.now.curr.width));
+      passes = λ p. absurd (next.least p.0 p.1);
       last = inl (
         skip-less c.args.at c.pass_over-next.result c.args.starts.now.stop c.args.limit next.stays next.near
             order c.if-at-limit.false,
@@ -49,5 +50,6 @@ returns-else-not-refuses-clause-joins c =
       passed = λ k h l. absurd (omega arith);
       some = λ less. some_of c.args.threads.now.curr.items
           (λ none. absurd (cc (c.if-is_empty.false, c.is_empty.ensures.1 none)));
+      passes = λ p. refl;
       last = inr (refl, inr (c.if-at-starts.false, here));
     }
