@@ -1,6 +1,6 @@
 //! Tests of NFAs: how they are made, refused and read.
 use super::fixtures::{id, pattern, plain_groups};
-use super::shown::{expect_shown, expect_told};
+use super::shown::{expect_number, expect_shown, expect_told};
 use std::alloc::{AllocError, Global};
 use std::process::Abort;
 use thompson_nfa::{BuildError, Holder, Look, NFA, State, Transition, look_matches};
@@ -352,6 +352,7 @@ fn debug_texts_of_states(rt: HostRuntime) {
 }
 
 fn expect_states(rt: &impl Abort, alloc: Global, states: &[State]) {
+    expect_number(rt, states.len(), STATES.len());
     for (state, want) in states.iter().zip(STATES) {
         expect_shown(rt, alloc, state, want);
         expect_shown(rt, alloc, &state.clone().expect(rt, "memory"), want);
