@@ -64,7 +64,7 @@ loop-pattern-preserved g c =
       within = rw (c.resume.auto.row, c.next_match.auto.row)
           (within-lower _ _ _ _ _ c.in-Some-resume.ensures.top c.in-Some.ensures.within);
       paid = Paid-resumed c.next_match.new.top c.resume.new.top c.next_match.new.frames 1 c.in-Some-resume.ensures.top
-          c.in-Some.ensures.top c.in-Some-resume.ensures.tried
+          (omega (arith, c.in-Some.ensures.top, c.requires.room.stack)) c.in-Some-resume.ensures.tried
           (Paid-then c.loop-pattern.invariant.paid c.in-Some.ensures.paid);
       width = c.take.ensures.width ∙ c.loop-pattern.invariant.width;
       same_reference = c.take.ensures.same_reference ∙ c.loop-pattern.invariant.same_reference;

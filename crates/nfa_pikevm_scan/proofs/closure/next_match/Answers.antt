@@ -80,6 +80,7 @@ loop-on-smaller c =
 
 pub loop-on-preserved : goal.loop-on-preserved
 loop-on-preserved c =
+    let stack = c.requires.room.stack in
     let turned = Passed-plain c.loop-on.invariant.passed c.in-Over.ensures.enters c.in-Over.ensures.enters.is_met in
     record {
       state = c.in-Some.ensures.state (length c.args.here.now.nfa.now.states)
@@ -90,7 +91,8 @@ loop-on-preserved c =
       within = rw (c.resume.auto.row, c.enter.auto.row)
           (within-lower _ _ _ _ _ c.in-Some.ensures.top c.enter.ensures.within);
       paid = Paid-resumed c.enter.new.top c.resume.new.top c.enter.new.frames 1 c.in-Some.ensures.top
-          c.enter.ensures.top c.in-Some.ensures.tried (Paid-then c.loop-on.invariant.paid c.in-Over.ensures.paid);
+          (omega (arith, c.enter.ensures.top, stack)) c.in-Some.ensures.tried
+          (Paid-then c.loop-on.invariant.paid c.in-Over.ensures.paid);
       passed = Passed-resumed _ _ _ (λ front work. c.in-Some.ensures.follows c.args.here.now.nfa.now
           (search_of c.args.here.now.input.now) c.args.here.now.at c.enter.new.reached.seen front work) turned;
     }
@@ -103,8 +105,9 @@ returns-in-None-clause-keeps c = KeepsRoom-then c.loop-on.invariant.keeps c.ente
 
 pub returns-in-None-clause-paid : goal.returns-in-None-clause-paid
 returns-in-None-clause-paid c =
+    let stack = c.requires.room.stack in
     Paid-resumed c.enter.new.top c.resume.new.top c.enter.new.frames 0 c.in-None.ensures.top
-    c.enter.ensures.top c.in-None.ensures.tried (Paid-then c.loop-on.invariant.paid c.in-Over.ensures.paid)
+    (omega (arith, c.enter.ensures.top, stack)) c.in-None.ensures.tried (Paid-then c.loop-on.invariant.paid c.in-Over.ensures.paid)
 
 pub returns-in-None-clause-finds : goal.returns-in-None-clause-finds
 returns-in-None-clause-finds c =
