@@ -4,6 +4,7 @@ pub mod SearchLemmas
 pub mod SearchingLemmas
 pub mod MemberLemmas
 pub mod TestLemmas
+pub mod FlagSetLemmas
 pub mod FrontMatchLemmas
 pub mod KindsLemmas
 pub mod ScanLemmas
@@ -23,6 +24,7 @@ pub mod KnownLemmas
 pub mod SetLemmas
 pub mod GainLemmas
 pub mod SoundLemmas
+pub mod MetLemmas
 pub mod UpToLemmas
 pub mod TurnLemmas
 pub mod RestartLemmas

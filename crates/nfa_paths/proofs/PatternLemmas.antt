@@ -116,7 +116,8 @@ module _ (nfa : Automaton) where
       ∙ ap (λ l. map (slot_among nfa p) (range_with_len 0 width) ++ l)
       (replicate-append-replicate more 1 None ∙ ap (λ n. replicate n None) one)
 
-  pattern-within : IsAutomaton nfa → (p : List Pair) (k : ℕ) → path_pattern nfa p ≡ Some k → k < length nfa.patterns
+  -- a path's pattern is one of the NFA's
+  pub pattern-within : IsAutomaton nfa → (p : List Pair) (k : ℕ) → path_pattern nfa p ≡ Some k → k < length nfa.patterns
   pattern-within valid p k =
       elim (last_of p) as (λ o. option_and_then (λ v. pattern_of (node_at nfa v.0)) o ≡ Some k
       → k < length nfa.patterns) [

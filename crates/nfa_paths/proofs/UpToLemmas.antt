@@ -11,7 +11,7 @@ use Rattle.nfa_paths.specs.Exploring.{Slots, Hit, apply, ExploresTo}
 use Rattle.nfa_paths.specs.Exploring.Item.{Explore}
 use Rattle.nfa_paths.specs.Kinds.{Passes, WantedBefore, NoneBefore, found_along, is_resting}
 use Rattle.nfa_paths.specs.Paths.{space, capture, edges, starts}
-use Rattle.nfa_paths.specs.Overlaps.{HoldsPattern, pattern_at, IsPermitted, IsHeld, IsPatternOf, IsMeantPath, HoldsPath, IsOverlapResult}
+use Rattle.nfa_paths.specs.Overlaps.{HoldsPattern, pattern_at, IsPermitted, IsHeld, IsPatternOf, IsMeantPath, HoldsPath, IsFirstBefore, IsOverlapResult}
 use Rattle.nfa_paths.proofs.AnswerLemmas.{same_parts}
 use Rattle.nfa_paths.proofs.ScanLemmas.{IsFirstPath-found}
 use Rattle.nfa_paths.proofs.ReachedLemmas.{IsReached-along}
@@ -207,9 +207,10 @@ module _ (nfa : Automaton) (x : Search) (old : List Bool) (wants : Pair → Bool
 
   -- what the search comes to in the end
   pub UpTo-end : (e turns : ℕ) (slots : Slots) (g : Hit) (new : List Bool) → size_of_set old ≡ 0 → UpTo e g new
+      → ((k : ℕ) → HoldsPattern new k ↔ IsFirstBefore nfa x (length new) k)
       → ExploresTo (space nfa x) wants turns None [] (map Explore (starts nfa x)) slots g
       → IsOverlapResult nfa x LeftmostFirst false old new
-  UpTo-end e turns slots g new empty so_far answer =
+  UpTo-end e turns slots g new empty so_far exact answer =
       let h = IsFirstPath-found (space nfa x) (is_resting nfa) wants slots (wanted-shape nfa x old wants tells)
       turns g answer in
       of g so_far h.path h.meant h.leads
@@ -263,6 +264,7 @@ module _ (nfa : Automaton) (x : Search) (old : List Bool) (wants : Pair → Bool
                   pattern_is = at;
                   holds = u.holds below;
                   others = λ j h. rw here (u.others j h);
+                  exact = exact;
                 };
               };
             };

@@ -6,9 +6,9 @@ use Rattle.regex_search_core.specs.Search.{Search}
 use Rattle.regex_search_core.specs.declared.search.MatchKind.{MatchKind}
 use Rattle.regex_search_core.specs.declared.search.MatchKind.TheVariants.{All, LeftmostFirst}
 use Rattle.thompson_nfa.specs.Automaton.{Automaton}
-use Rattle.nfa_paths.specs.Graphs.{Pair, WantedAt, IsLeastEnd, IsFirstPath, IsEarliestPath}
+use Rattle.nfa_paths.specs.Graphs.{Pair, WantedAt, IsFirstTo, IsLeastEnd, IsFirstPath, IsEarliestPath}
 use Rattle.nfa_paths.specs.Kinds.{IsReached, WantedBefore}
-use Rattle.nfa_paths.specs.Paths.{node_at, pattern_of, is_utf8_empty, IsMatch, edges, starts, last_of}
+use Rattle.nfa_paths.specs.Paths.{node_at, pattern_of, is_utf8_empty, IsMatch, edges, starts, last_of, path_pattern}
 
 -- the set holds the pattern
 abbrev pub HoldsPattern : List Bool → ℕ → Type 0
@@ -55,8 +55,16 @@ module _ (nfa : Automaton) (x : Search) where
   IsMeantByAll true capacity pattern = (e : ℕ) × IsLeastEnd (edges nfa x) (starts nfa x) (IsHeld capacity) e
       × IsPatternOf (WantedAt IsPermitted e) pattern
 
-  -- the set holds the pattern of the path, and else only patterns of accepting paths with a permitted end before that
-  -- of the path
+  -- The pattern of the first accepting path with a permitted end before some limit, of those of patterns below the
+  -- capacity: what a search that ends at the limit would answer.
+  pub record IsFirstBefore (capacity pattern : ℕ) : Type 0 where
+    pub limit : ℕ
+    pub along : List Pair
+    pub first : IsFirstTo (edges nfa x) (starts nfa x) (WantedBefore (IsHeld capacity) limit) along
+    pub pattern_is : path_pattern nfa along ≡ Some pattern
+
+  -- The set holds the pattern of the path, and else only patterns of accepting paths with a permitted end before that
+  -- of the path. They are those of the first paths before any limit.
   pub record HoldsUpTo (path : List Pair) (set : List Bool) : Type 0 where
     pub end : Pair
     pub ends : last_of path ≡ Some end
@@ -64,6 +72,7 @@ module _ (nfa : Automaton) (x : Search) where
     pub pattern_is : pattern_at nfa end ≡ Some pattern
     pub holds : HoldsPattern set pattern
     pub others : (k : ℕ) → HoldsPattern set k → (k ≡ pattern) ⊎ IsPatternOf (WantedBefore IsPermitted end.1) k
+    pub exact : (k : ℕ) → HoldsPattern set k ↔ IsFirstBefore (length set) k
 
   -- the set holds the pattern of the path, and no other
   pub record HoldsOnly (path : List Pair) (set : List Bool) : Type 0 where

@@ -1,5 +1,5 @@
 -- The positions of the scan for the first match: what stands behind a match is dropped.
-use Rattle.std.proofs.Common.{◌≡◌, ℕ, ◌+◌, ◌-◌, ◌≤◌, ◌⊎◌, ◌↔◌, inl, inr, Bool, true, false, List, [], ◌∷◌, ◌++◌, length, refl, sym, ap, ◌∙◌, subst, arith}
+use Rattle.std.proofs.Common.{◌≡◌, ℕ, ◌+◌, ◌-◌, ◌<◌, ◌≤◌, ◌⊎◌, ◌↔◌, inl, inr, Bool, true, false, List, [], ◌∷◌, ◌++◌, length, map, refl, sym, ap, ◌∙◌, subst, arith}
 use Rattle.std.specs.Prelude.{None, Some, All}
 use Rattle.std.proofs.lemmas.Bool.{cases_lt, lt-ltb, le-ltb}
 use Rattle.std.proofs.lemmas.List.Elements.{All-head, All-tail}
@@ -9,15 +9,18 @@ use Rattle.regex_search_core.specs.declared.search.MatchKind.TheVariants.{Leftmo
 use Rattle.thompson_nfa.specs.Automaton.{Automaton, IsAutomaton}
 use Rattle.nfa_paths.specs.Graphs.{Pair, In}
 use Rattle.nfa_paths.specs.Paths.{edges, starts, pairs_from, space}
-use Rattle.nfa_paths.specs.Exploring.{Slots, Hit, Item, round, seeds}
+use Rattle.nfa_paths.specs.Exploring.{Slots, Hit, Item, round, seeds, ExploresTo, ExploresBehind}
 use Rattle.nfa_paths.specs.Exploring.Item.{Explore as ToExplore, Load as ToLoad}
-use Rattle.nfa_paths.specs.Kinds.{before_match}
-use Rattle.nfa_paths.specs.Overlaps.{IsHeld, IsOverlapResult}
+use Rattle.nfa_paths.specs.Kinds.{before_match, first_match, is_resting}
+use Rattle.nfa_paths.specs.Overlaps.{IsHeld, IsOverlapResult, pattern_at}
 use Rattle.nfa_paths.proofs.FrontMatchLemmas.{first_match-is, before_match-among}
 use Rattle.nfa_paths.proofs.StartLemmas.{pairs_from-step, pairs_from-end}
 use Rattle.nfa_paths.proofs.SoundLemmas.{heads, Sound, Sound-start, Sound-hit, Sound-round, Sound-cut, Searched}
+use Rattle.nfa_paths.proofs.MetLemmas.{Between, Between-all, Between-before, Between-less, Between-same}
+use Rattle.nfa_paths.proofs.MetLemmas.{Best, Best-found, Exact, Exact-start, Exact-next, Exact-match, Exact-end}
+use Rattle.nfa_paths.proofs.MetLemmas.{Answer-ahead, before_target, before_is, before_match-same, first_match-same}
 use Rattle.nfa_paths.proofs.UpToLemmas.{UpTo, UpTo-next, UpTo-match, UpTo-end}
-use Rattle.nfa_paths.proofs.ScanAnswerLemmas.{seeds-later}
+use Rattle.nfa_paths.proofs.ScanAnswerLemmas.{edges-onward, seeds-later}
 use Rattle.nfa_paths.proofs.SearchingLemmas.{Searching-load, Searching-done}
 use Rattle.nfa_scanning.specs.Marks.{Marks}
 use Rattle.nfa_pikevm_scan.specs.Scans.{starts_from, with_start, AreStarts, AreAt, IsPaidAt}
@@ -97,6 +100,26 @@ fresh-search nfa x target at met from =
     Searching-begin (space nfa x) target (SeenAt at (unmarked met).bits) met.turns None from [] []
     (SeenAt-none at (length met.bits))
 
+-- the states at a position, and what waits behind it, lie there or behind it
+tasks-ahead : (at : ℕ) (items : List (ℕ × Slots)) (waiting : List Item)
+    → ((k : Pair) → In (ToExplore k) waiting → at ≤ k.1)
+    → (k : Pair) → In (ToExplore k) (tasks at items (ToLoad [] ∷ waiting)) → at ≤ k.1
+tasks-ahead at [] waiting later k i = elim i [ inl e ↦ cc | inr j ↦ later k j ]
+tasks-ahead at (a ∷ items) waiting later k i =
+    elim i [
+      | inl e ↦ cc
+      | inr j ↦ elim j [
+        | inl e ↦ let here : k.1 ≡ at = ap (λ (v : Pair). v.1) (explore-same k (a.0, at) e) in omega arith
+        | inr l ↦ tasks-ahead at items waiting later k l
+      ]
+    ]
+  where
+    explore-same : (v w : Pair) → ToExplore v ≡ ToExplore w → v ≡ w
+    explore-same v w e = cc
+
+same_number : (m n : ℕ) → Some m ≡ Some n → m ≡ n
+same_number m n e = cc
+
 -- `old` is the set as the scan began.
 module _ (nfa : Automaton) (x : Search) (old : List Bool) where
   -- the pairs that the set has room for
@@ -112,11 +135,14 @@ module _ (nfa : Automaton) (x : Search) (old : List Bool) where
     pub states : AreAt nfa items
     pub paid : IsPaidAt nfa x at before met.turns (length items)
     pub so_far : Hit
-    pub searching : SearchingAt nfa x at wanted (starts nfa x) [] so_far (unmarked met) []
+    -- the search for all that is wanted, and for what is wanted before a limit that was not passed yet
+    pub searching : (target : Pair → Bool) → Between wanted at target
+        → SearchingAt nfa x at target (starts nfa x) [] so_far (unmarked met) []
         (tasks at items (ToLoad [] ∷ starts_from 0 from.state at from.limit)) []
     pub sound : Sound nfa x old wanted tells at
         (pairs_at at items (pairs_from from.state at (from.limit - at)))
     pub holds : UpTo nfa x old wanted tells at so_far new
+    pub exact : Exact nfa x old wanted tells at so_far new
 
   -- the set keeps its capacity
   pub FirstWay-capacity : {from : Starts} {at before : ℕ} {met : Marks} {items : List (ℕ × Slots)} {new : List Bool}
@@ -128,27 +154,44 @@ module _ (nfa : Automaton) (x : Search) (old : List Bool) where
       of None h = ap (λ (l : List Bool). length l) h
       of (Some a) h = h.capacity
 
-  pub FirstWay-start : (from : Starts) → AreStarts nfa x from → (met : Marks) (items : List (ℕ × Slots)) → items ≡ []
+  pub FirstWay-start : (from : Starts) → AreStarts nfa x from → size_of_set old ≡ 0 → (met : Marks)
+      (items : List (ℕ × Slots)) → items ≡ []
       → FirstWay from x.start met.turns met items old
   unfolding pairs_at
-  FirstWay-start from are met items none =
+  FirstWay-start from are empty met items none =
       rw none (record {
         states = AreAt-none nfa;
         paid = record { bound = omega arith };
         so_far = None;
-        searching = SearchingAt-begin nfa x from are [] met wanted;
+        searching = λ target b. SearchingAt-begin nfa x from are [] met target;
         sound = rw (← are.all) (Sound-start nfa x old wanted tells x.start);
         holds = refl;
+        exact = Exact-start nfa x old wanted tells empty;
       })
 
   -- the search, with the start that joined
   joined-search : {from : Starts} {at before : ℕ} {met : Marks} {items : List (ℕ × Slots)} {new : List Bool}
-      (w : FirstWay from at before met items new)
-      → SearchingAt nfa x at wanted (starts nfa x) [] w.so_far (unmarked met) []
+      (w : FirstWay from at before met items new) (target : Pair → Bool) → Between wanted at target
+      → SearchingAt nfa x at target (starts nfa x) [] w.so_far (unmarked met) []
       (tasks at (with_start from 0 at items) (ToLoad [] ∷ starts_from 0 from.state (at + 1) from.limit)) []
-  joined-search {from} {at} {met = met} {items} w =
-      subst (λ z. SearchingAt nfa x at wanted (starts nfa x) [] w.so_far (unmarked met) [] z [])
-      (tasks-joined from 0 at items) w.searching
+  joined-search {from} {at} {met = met} {items} w target b =
+      subst (λ z. SearchingAt nfa x at target (starts nfa x) [] w.so_far (unmarked met) [] z [])
+      (tasks-joined from 0 at items) (w.searching target b)
+
+  -- what is left lies at the position or behind it, so the search for what is wanted before has been made
+  best-ahead : {at : ℕ} {met : Marks} (items : List (ℕ × Slots)) (waiting : List Item) (so_far : Hit)
+      → ((k : Pair) → In (ToExplore k) waiting → at ≤ k.1)
+      → ((target : Pair → Bool) → Between wanted at target → SearchingAt nfa x at target (starts nfa x) [] so_far met []
+      (tasks at items (ToLoad [] ∷ waiting)) [])
+      → Best nfa x old wanted tells at so_far
+  unfolding ExploresBehind
+  best-ahead {at} {met} items waiting so_far later searching =
+      let before = before_target wanted at in
+      let s = searching before (Between-before wanted at at (omega arith)) in
+      Best-found nfa x old wanted tells at met.turns [] so_far
+      (s.leads so_far 0 met.turns (omega arith)
+      (Answer-ahead (space nfa x) before at (edges-onward nfa x) (λ v t. (before_is wanted at v t).before) 0 so_far
+      s.marks (tasks at items (ToLoad [] ∷ waiting)) [] (tasks-ahead at items waiting later)))
 
   -- no state and no start is left
   pub FirstWay-over : IsAutomaton nfa → {from : Starts} {at before : ℕ} {met : Marks} {items : List (ℕ × Slots)}
@@ -157,10 +200,18 @@ module _ (nfa : Automaton) (x : Search) (old : List Bool) where
       → IsOverlapResult nfa x LeftmostFirst false old new
   FirstWay-over good {from} {at} {before} {met} {items} {new} empty w none =
       let past : from.limit ≤ at + 1 = (let h = over-joined from 0 at items none in omega (arith, h)) in
-      let left : SearchingAt nfa x at wanted (starts nfa x) [] w.so_far (unmarked met) [] (ToLoad [] ∷ []) [] =
-      rw (none, starts_from-end 0 from.state past) at (joined-search w) in
-      UpTo-end nfa x old wanted tells at met.turns [] w.so_far new empty w.holds (Searching-done (space nfa x) wanted
-      (Searching-load (space nfa x) wanted left))
+      UpTo-end nfa x old wanted tells at met.turns [] w.so_far new empty w.holds
+      (Exact-end nfa x old wanted tells w.exact (FirstWay-capacity w) (λ limit behind.
+      Best-found nfa x old wanted tells limit met.turns [] w.so_far
+      (done past (before_target wanted limit) (Between-before wanted limit at behind))))
+      (done past wanted (Between-all wanted at))
+    where
+      done : from.limit ≤ at + 1 → (target : Pair → Bool) → Between wanted at target
+          → ExploresTo (space nfa x) target met.turns None [] (map ToExplore (starts nfa x)) [] w.so_far
+      done past target b =
+          let left : SearchingAt nfa x at target (starts nfa x) [] w.so_far (unmarked met) [] (ToLoad [] ∷ []) [] =
+          rw (none, starts_from-end 0 from.state past) at (joined-search w target b) in
+          Searching-done (space nfa x) target (Searching-load (space nfa x) target left)
 
   -- behind the last position nothing is left
   pub FirstWay-end : IsAutomaton nfa → {from : Starts} {at before : ℕ} {met : Marks} {items : List (ℕ × Slots)}
@@ -206,6 +257,45 @@ module _ (nfa : Automaton) (x : Search) (old : List Bool) where
           );
     }
 
+    rests : (a : Pair × Slots) → In a c.front → (is_resting nfa a.0 ≡ true) × (a.0.1 ≡ at)
+    rests = Formed-resting nfa x at after.bits c.front c.formed
+
+    -- a search for what is wanted before the next position, or for more, wants the same here
+    agree : (target : Pair → Bool) → Between wanted (at + 1) target → (a : Pair × Slots) → In a c.front
+        → target a.0 ≡ wanted a.0
+    agree target b a i = Between-same b a.0 (rests a i).1
+
+    cut-for : (target : Pair → Bool) → Between wanted (at + 1) target
+        → moves (edges nfa x) (before_match target c.front) ≡ moves (edges nfa x) c.front
+    cut-for target b =
+        ap (moves (edges nfa x)) (before_match-same target wanted c.front (agree target b)) ∙ c.cut refl
+
+    next-searching : hit ≡ false → first_match wanted c.front ≡ None → (target : Pair → Bool)
+        → Between wanted (at + 1) target
+        → SearchingAt nfa x (at + 1) target (starts nfa x) [] w.so_far (unmarked after) []
+        (tasks (at + 1) kept (ToLoad [] ∷ starts_from 0 from.state (at + 1) from.limit)) []
+    next-searching off lacks target b =
+        first-miss target (λ v t. wants-match nfa x (length old) v (b.sub v t)) crossed (cut-for target b)
+        (joined-search w target (Between-less b)) (first_match-same target wanted c.front (agree target b) ∙ lacks)
+        (inr off)
+
+    cut-searching : (a : Pair × Slots) → first_match wanted c.front ≡ Some a → (target : Pair → Bool)
+        → Between wanted (at + 1) target
+        → SearchingAt nfa x (at + 1) target (starts nfa x) [] (Some a) (unmarked after) []
+        (tasks (at + 1) kept (ToLoad [] ∷ [])) []
+    cut-searching a has target b =
+        first-hit target (λ v t. wants-match nfa x (length old) v (b.sub v t)) crossed (cut-for target b)
+        (joined-search w target (Between-less b)) a (first_match-same target wanted c.front (agree target b) ∙ has)
+
+    -- the set has room for the pattern of a match that is wanted
+    has_room : (a : Pair × Slots) (k : ℕ) → wanted a.0 ≡ true → pattern_at nfa a.0 ≡ Some k → k < length mid
+    has_room a k wants_it is =
+        let held : IsHeld nfa x (length old) a.0 = (tells a.0).0 wants_it in
+        let same : held.pattern ≡ k = same_number held.pattern k (sym held.pattern_is ∙ is) in
+        let below : held.pattern < length old = held.below in
+        let size : length mid ≡ length old = FirstWay-capacity w in
+        omega arith
+
     -- no match: the next position
     pub FirstWay-next : hit ≡ false → FirstWay from (at + 1) before after kept new
     FirstWay-next off =
@@ -223,18 +313,20 @@ module _ (nfa : Automaton) (x : Search) (old : List Bool) where
                 states = AreAt-cross crossed good.numbered.targets_in;
                 paid = IsPaidAt-crossed crossed low w.paid (few-joined from 0 at items);
                 so_far = w.so_far;
-                searching = first-miss wanted (wants-match nfa x (length old)) crossed
-                    (c.cut refl) (joined-search w) lacks.0 (inr off);
+                searching = next-searching off lacks.0;
                 sound = rw c.added
                     (subst (λ ps. Sound nfa x old wanted tells (at + 1) ps)
                     (heads-round (edges nfa x) at c.front [] (starts_from 0 from.state (at + 1) from.limit)
                     (pairs_from from.state (at + 1) (from.limit - (at + 1)))
                     (Formed-next nfa x at after.bits c.front c.formed)
                     (heads-seeds [] (pairs_from from.state (at + 1) (from.limit - (at + 1)))))
-                    (Sound-round nfa x old wanted tells w.sound searched
-                    (Formed-resting nfa x at after.bits c.front c.formed)
+                    (Sound-round nfa x old wanted tells w.sound searched rests
                     (λ k i. seeds-later [] from.state at (from.limit - (at + 1)) k i)));
                 holds = rw still.1 (UpTo-next nfa x old wanted tells at w.so_far mid w.holds);
+                exact = rw still.1 (Exact-next nfa x old wanted tells
+                    (best-ahead kept (starts_from 0 from.state (at + 1) from.limit) w.so_far
+                    (λ k i. let l = seeds-later [] from.state at (from.limit - (at + 1)) k i in omega arith)
+                    (next-searching off lacks.0)) w.exact);
               }
           | inr has ↦
               let put : GathersFirst nfa (Some has.0) mid false new =
@@ -260,13 +352,11 @@ module _ (nfa : Automaton) (x : Search) (old : List Bool) where
               let moved : kept ≡ moves (edges nfa x) (before_match wanted c.front) = c.added
               ∙ sym (c.cut refl) in
               let none : pairs_from from.state (at + 1) (0 - (at + 1)) ≡ [] = pairs_from-end from.state (omega arith) in
-              let rests = Formed-resting nfa x at after.bits c.front c.formed in
               record {
                 states = AreAt-cross crossed good.numbered.targets_in;
                 paid = IsPaidAt-crossed crossed low w.paid (few-joined from 0 at items);
                 so_far = Some has.0;
-                searching = rw none (first-hit wanted (wants-match nfa x (length old)) crossed
-                    (c.cut refl) (joined-search w) has.0 has.1);
+                searching = rw none (cut-searching has.0 has.1);
                 sound = rw (moved, none)
                     (subst (λ ps. Sound nfa x old wanted tells (at + 1) ps)
                     (heads-round (edges nfa x) at (before_match wanted c.front) [] [] []
@@ -275,5 +365,8 @@ module _ (nfa : Automaton) (x : Search) (old : List Bool) where
                     (Sound-cut nfa x old wanted tells [] w.sound front-searched rests));
                 holds = UpTo-match nfa x old wanted tells at w.so_far has.0 mid new empty w.holds
                     (Sound-hit nfa x old wanted tells w.sound front-searched rests has.0 has.1) put.1.1 put.1.2;
+                exact = Exact-match nfa x old wanted tells has.0
+                    (best-ahead kept [] (Some has.0) (λ k i. absurd i) (cut-searching has.0 has.1)) w.exact put.1.1
+                    (has_room has.0 put.1.0 has.2.matches put.1.1) put.1.2;
               }
         ]

@@ -14,7 +14,7 @@ use Rattle.nfa_paths.specs.Graphs.{Pair, In}
 use Rattle.nfa_paths.specs.FirstPaths.{Path}
 use Rattle.nfa_paths.specs.FirstPaths.Path.{stop, go}
 use Rattle.nfa_paths.specs.Paths.{node_at, pattern_of, edges, edges_of, is_match, byte_at, target_on, first_target, holds_byte}
-use Rattle.nfa_scanning.specs.FirstBytes.{Admits, Grows, WasReached, Extends, Covers, IsRefused, IsFirstBytes}
+use Rattle.nfa_scanning.specs.FirstBytes.{Admits, Grows, WasReached, Extends, Covers, IsRefused, MayBegin, IsFirstBytes}
 use Rattle.nfa_scanning.specs.declared.first_bytes.Reached.{Reached}
 
 -- tables
@@ -36,6 +36,7 @@ admits-first table (t ∷ ts) all b u e =
 
 pub Extends-then : {a b c : Reached} → Extends a b → Extends b c → Extends a c
 Extends-then f g = record {
+  size = g.size ∙ f.size;
   more = omega (arith, f.more, g.more);
   same = λ k h. g.same k (omega (arith, f.more)) ∙ f.same k h;
 }
@@ -163,12 +164,19 @@ module _ (nfa : Automaton) (table : List Bool) where
 
   pub IsFirstBytes-covered : (r : Reached) → WasReached r nfa.anchored
       → ((s : ℕ) → WasReached r s → Covers r table (node_at nfa s))
+      → ((b : ℕ) → b < 256 → Admits table b → MayBegin nfa b)
       → IsFirstBytes nfa table
-  IsFirstBytes-covered r start covers = record { none = λ x at f marks p a. no-path r covers x a.path start f }
+  IsFirstBytes-covered r start covers least = record {
+    none = λ x at f marks p a. no-path r covers x a.path start f;
+    least = least;
+  }
 
   -- a table that lets all through
-  pub IsFirstBytes-all : (n : ℕ) → table ≡ replicate n true → IsFirstBytes nfa table
-  IsFirstBytes-all n all = record { none = λ x at f marks p a. never n f.byte (rw all at f.refused) }
+  pub IsFirstBytes-all : (n : ℕ) → table ≡ replicate n true → ((b : ℕ) → MayBegin nfa b) → IsFirstBytes nfa table
+  IsFirstBytes-all n all may = record {
+    none = λ x at f marks p a. never n f.byte (rw all at f.refused);
+    least = λ b less admits. may b;
+  }
     where
       never : (n b : ℕ) → get_or (replicate n true) b true ≡ false → ⊥
       never zero b e = cc

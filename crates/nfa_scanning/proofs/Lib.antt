@@ -1,4 +1,5 @@
 -- The lemmas on bytes, targets and counters.
 mod Made
 pub mod FirstLemmas
+pub mod LeastLemmas
 pub mod TargetLemmas

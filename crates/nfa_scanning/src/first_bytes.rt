@@ -2,11 +2,12 @@
 //!
 //! From where an anchored search starts, some states are reached before a byte is read. Where none of them is a match
 //! and none reads the byte at a position, no match begins there, and a search passes the position over.
-ghost use Rattle.std.specs.Prelude.{◌≡◌, ℕ, ◌<◌, ◌≤◌, Some, true, false, slice_index_or, All, IfSome};
+ghost use Rattle.std.specs.Prelude.{◌≡◌, ℕ, ◌<◌, ◌≤◌, [], ◌∷◌, Some, true, false, slice_index_or, All, IfSome, IfNone};
 ghost use Rattle.thompson_nfa.specs.Automaton.{LeadsBelow, node_of};
-ghost use Rattle.thompson_nfa.specs.Automaton.Node.{Sparse, Dense};
+ghost use Rattle.thompson_nfa.specs.Automaton.Node.{ByteRange, Sparse, Dense};
 ghost use Rattle.nfa_paths.specs.Paths.{holds_byte, target_on};
 ghost use Rattle.nfa_scanning.specs.FirstBytes.{Admits, Grows, WasReached, Extends, AreBelow, Covers, IsFirstBytes};
+ghost use Rattle.nfa_scanning.specs.FirstBytes.{AddsOnly, Differ, LacksRoom, GrowsBy, Stops, MayBegin, epsilon_targets};
 
 use regex_search_core::StateID;
 use std::fmt;
@@ -64,7 +65,8 @@ impl Reached {
     /// Whether the state was reached.
     fn has(&self, sid: StateID) -> bool
         requires { self.now.len ≤ 64 }
-        ensures { result ≡ true → WasReached self.now sid }
+        ensures reached { result ≡ true → WasReached self.now sid }
+        ensures other { result ≡ false → WasReached self.now sid → ⊥ }
     {
         for place in 0..self.len {
             if self.states[place] == sid {
@@ -81,6 +83,9 @@ impl Reached {
         ensures extends { Extends self.old self.new }
         ensures added { result ≡ true → WasReached self.new sid }
         ensures below { (n : ℕ) → sid < n → AreBelow n self.old → AreBelow n self.new }
+        ensures only { AddsOnly self.old self.new (sid ∷ []) }
+        ensures differ { Differ self.old → Differ self.new }
+        ensures full { result ≡ false → LacksRoom self.new (sid ∷ []) }
     {
         if self.has(sid) {
             return true;
@@ -100,6 +105,9 @@ impl Reached {
         ensures extends { Extends self.old self.new }
         ensures added { result ≡ true → All (WasReached self.new) sids.now }
         ensures below { (n : ℕ) → All (λ s. s < n) sids.now → AreBelow n self.old → AreBelow n self.new }
+        ensures only { AddsOnly self.old self.new sids.now }
+        ensures differ { Differ self.old → Differ self.new }
+        ensures full { result ≡ false → LacksRoom self.new sids.now }
     {
         for i in 0..sids.len() {
             if !self.add(sids[i]) {
@@ -114,6 +122,7 @@ impl Reached {
 fn admit(table: &mut [bool; 256], trans: &Transition)
     ensures grows { Grows table.old table.new }
     ensures admits { (b : ℕ) → holds_byte trans.now b ≡ true → Admits table.new b }
+    ensures only { GrowsBy table.old table.new (ByteRange trans.now) }
 {
     for byte in trans.start as usize..trans.end as usize + 1 {
         table[byte] = true;
@@ -124,6 +133,7 @@ fn admit(table: &mut [bool; 256], trans: &Transition)
 fn admit_all(table: &mut [bool; 256], transitions: &[Transition])
     ensures grows { Grows table.old table.new }
     ensures admits { (b t : ℕ) → target_on (Sparse transitions.now) b ≡ Some t → Admits table.new b }
+    ensures only { GrowsBy table.old table.new (Sparse transitions.now) }
 {
     for i in 0..transitions.len() {
         admit(table, &transitions[i]);
@@ -134,6 +144,7 @@ fn admit_all(table: &mut [bool; 256], transitions: &[Transition])
 fn admit_targets(table: &mut [bool; 256], targets: &[Option<StateID>])
     ensures grows { Grows table.old table.new }
     ensures admits { (b t : ℕ) → target_on (Dense targets.now) b ≡ Some t → Admits table.new b }
+    ensures only { GrowsBy table.old table.new (Dense targets.now) }
 {
     for byte in 0..256 {
         if let Some(Some(_)) = targets.get(byte) {
@@ -151,6 +162,10 @@ fn follow(state: &State, reached: &mut Reached, table: &mut [bool; 256]) -> bool
     ensures grows { Grows table.old table.new }
     ensures covers { result ≡ true → Covers reached.new table.new (node_of state.now) }
     ensures below { (n : ℕ) → LeadsBelow n (node_of state.now) → AreBelow n reached.old → AreBelow n reached.new }
+    ensures adds { AddsOnly reached.old reached.new (epsilon_targets (node_of state.now)) }
+    ensures differ { Differ reached.old → Differ reached.new }
+    ensures only { GrowsBy table.old table.new (node_of state.now) }
+    ensures stops { result ≡ false → Stops reached.new (node_of state.now) }
 {
     match state {
         State::ByteRange { trans } => {
@@ -176,7 +191,8 @@ fn follow(state: &State, reached: &mut Reached, table: &mut [bool; 256]) -> bool
 
 /// Follows all that is reached before a byte is read: none where a match is reached, or where there is no room.
 fn follow_all(nfa: &NFA) -> Option<FirstBytes>
-    ensures { IfSome result (λ first. IsFirstBytes nfa.now first.may_begin) }
+    ensures some { IfSome result (λ first. IsFirstBytes nfa.now first.may_begin) }
+    ensures none { IfNone result ((b : ℕ) → MayBegin nfa.now b) }
 {
     let mut reached = Reached {
         states: [nfa.start_anchored(); LIMIT],

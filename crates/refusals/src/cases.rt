@@ -6,17 +6,18 @@ mod engines;
 mod iteration;
 mod makers;
 mod pikevms;
+mod quiet;
 mod searches;
 
 use std::alloc::Global;
 
-/// A request that stands directly before or behind calls that are to make none.
-#[derive(Clone, Copy, Debug, PartialEq, Eq)]
+/// A request that stands directly before or behind calls whose requests are counted: their name, and where it stands.
+#[derive(Clone, Copy, Debug)]
 pub enum Edge {
     /// The one before.
-    Opening,
+    Opening(&'static str),
     /// The one behind.
-    Closing,
+    Closing(&'static str),
 }
 
 /// Whether a call has said that it was refused memory, and which edge was.
@@ -45,8 +46,18 @@ impl Seen {
         self.edge
     }
 
-    /// Makes one request for memory, gives it back, and notes where it was refused.
-    pub fn mark(&mut self, alloc: Global, edge: Edge) {
+    /// Makes the request before the calls of that name.
+    pub fn opens(&mut self, alloc: Global, calls: &'static str) {
+        self.mark(alloc, Edge::Opening(calls));
+    }
+
+    /// Makes the request behind them.
+    pub fn closes(&mut self, alloc: Global, calls: &'static str) {
+        self.mark(alloc, Edge::Closing(calls));
+    }
+
+    // Makes one request for memory, gives it back, and notes where it was refused.
+    fn mark(&mut self, alloc: Global, edge: Edge) {
         if Vec::<u8>::with_capacity(alloc, 1).is_err() {
             self.edge = Some(edge);
         }
@@ -113,6 +124,7 @@ pub fn run(alloc: Global, seen: &mut Seen) -> Result<(), Wrong> {
     searches::captures(alloc, seen)?;
     pikevms::resets(alloc, seen)?;
     pikevms::searches(alloc, seen)?;
+    quiet::stretches(alloc, seen)?;
     iteration::lists(alloc, seen)?;
     captures::lists(alloc, seen)?;
     makers::samples(alloc, seen)?;

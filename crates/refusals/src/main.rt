@@ -11,7 +11,7 @@ use std::process::ExitCode;
 use std::{io, str};
 
 /// How many requests come after all cases. The script refuses a request with a smaller number.
-const REST: usize = 1000;
+const REST: usize = 2000;
 
 // Makes so many requests for memory, and gives each one back.
 fn spend(alloc: Global, count: usize) -> Result<(), AllocError> {
@@ -31,7 +31,7 @@ fn number_in(text: &[u8]) -> usize {
 
 /// Reads how many requests to make before all cases, runs these, and says what came of them: `wrong` and the case, or
 /// `ok`; whether a call said that it was refused; and which request was refused: one before all cases, the one before
-/// or behind the PikeVM's searches, one behind all cases, which shows that no earlier one was, or another.
+/// or behind calls whose requests are counted, one behind all cases, which shows that no earlier one was, or another.
 fn main(rt: HostRuntime) -> io::Result<ExitCode> {
     let mut text = [0; 16];
     let mut input = rt.stdin();
@@ -52,21 +52,24 @@ fn main(rt: HostRuntime) -> io::Result<ExitCode> {
     } else {
         b" granted"
     })?;
-    out.write_all(which(before.is_ok(), &seen, behind.is_ok()).as_bytes())?;
+    for word in which(before.is_ok(), &seen, behind.is_ok()) {
+        out.write_all(word.as_bytes())?;
+    }
+    out.write_all(b"\n")?;
     Ok(ExitCode::from(if ended.is_ok() { 0 } else { 1 }))
 }
 
 // Which request was refused, in words.
-fn which(before: bool, seen: &cases::Seen, behind: bool) -> &'static str {
+fn which(before: bool, seen: &cases::Seen, behind: bool) -> [&'static str; 2] {
     if !before {
-        return " before\n";
+        return [" before", ""];
     }
     if !behind {
-        return " rest-refused\n";
+        return [" rest-refused", ""];
     }
     match seen.edge() {
-        Some(cases::Edge::Opening) => " opening\n",
-        Some(cases::Edge::Closing) => " closing\n",
-        None => " all\n",
+        Some(cases::Edge::Opening(calls)) => [" opening ", calls],
+        Some(cases::Edge::Closing(calls)) => [" closing ", calls],
+        None => [" all", ""],
     }
 }

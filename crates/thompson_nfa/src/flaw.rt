@@ -74,14 +74,14 @@ pub fn first_flaw(
 ) -> Option<Flaw>
     // Whatever the two flags say.
     ensures { (has_empty utf8 : Bool) → IsFirstFlaw (record {
-          states = map node_of states.now;
-          anchored = anchored;
-          unanchored = unanchored;
-          patterns = patterns.now;
-          groups = groups.now;
-          has_empty = has_empty;
-          utf8 = utf8;
-        }) result }
+      states = map node_of states.now;
+      anchored = anchored;
+      unanchored = unanchored;
+      patterns = patterns.now;
+      groups = groups.now;
+      has_empty = has_empty;
+      utf8 = utf8;
+    }) result }
 {
     if states.is_empty() {
         return Some(Flaw::Empty);

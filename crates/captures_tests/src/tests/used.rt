@@ -68,8 +68,15 @@ fn expect_numbers(rt: &impl Abort, alloc: Global, vm: &PikeVM) {
     expect_each_numbered(rt, &all);
 }
 
+// The same of a backtracker.
+fn expect_tries_numbers(rt: &impl Abort, alloc: Global, engine: &BoundedBacktracker) {
+    let mut cache = engine.create_cache(alloc);
+    let all = tries_looped(rt, engine, alloc, &mut cache, b"foo1 foo12 foo123");
+    expect_each_numbered(rt, &all);
+}
+
 fn expect_each_numbered(rt: &impl Abort, all: &[Captures]) {
-    expect_len(rt, all.len(), 3, "numbers");
+    expect_len(rt, all.len(), NUMBERS.len(), "numbers");
     for (captures, want) in all.iter().zip(NUMBERS) {
         expect(rt, is_numbered(captures, want), "a number");
     }
@@ -97,6 +104,7 @@ fn expect_twice(rt: &impl Abort, alloc: Global, vm: &PikeVM) {
 }
 
 fn expect_matches(rt: &impl Abort, matches: &[Match]) {
+    expect_len(rt, matches.len(), SPANS.len(), "matches");
     for (found, span) in matches.iter().zip(SPANS) {
         expect(rt, (found.start(), found.end()) == *span, "a match");
     }
@@ -144,6 +152,50 @@ fn items_have_named_groups(rt: HostRuntime) {
     let alloc = rt.alloc();
     let vm = pikevm(&rt, alloc, "foo_num");
     expect_numbers(&rt, alloc, &vm);
+    let engine = backtracker(&rt, alloc, "foo_num");
+    expect_tries_numbers(&rt, alloc, &engine);
+}
+
+const DATE: &[u8] = b"2010-03-14";
+
+// The groups of `date` there: the whole, the year, the month and the day, and no more.
+const DATE_GROUPS: &[Option<(usize, usize)>] = &[Some((0, 10)), Some((0, 4)), Some((5, 7)), Some((8, 10)), None];
+
+fn group_span(captures: &Captures, index: usize) -> Option<(usize, usize)> {
+    match captures.get_group(index) {
+        Some(span) => Some((span.start, span.end)),
+        None => None,
+    }
+}
+
+fn expect_date(rt: &impl Abort, all: &[Captures]) {
+    expect_len(rt, all.len(), 1, "dates");
+    for captures in all {
+        for (index, want) in DATE_GROUPS.iter().enumerate() {
+            expect(rt, group_span(captures, index) == *want, "a group of the date");
+        }
+    }
+}
+
+fn expect_piked_date(rt: &impl Abort, alloc: Global, vm: &PikeVM) {
+    let mut cache = threads(rt, alloc, vm);
+    let all = looped(rt, vm, alloc, &mut cache, DATE);
+    expect_date(rt, &all);
+}
+
+fn expect_backtracked_date(rt: &impl Abort, alloc: Global, engine: &BoundedBacktracker) {
+    let mut cache = engine.create_cache(alloc);
+    let all = tries_looped(rt, engine, alloc, &mut cache, DATE);
+    expect_date(rt, &all);
+}
+
+#[test]
+fn items_have_numbered_groups(rt: HostRuntime) {
+    let alloc = rt.alloc();
+    let vm = pikevm(&rt, alloc, "date");
+    expect_piked_date(&rt, alloc, &vm);
+    let engine = backtracker(&rt, alloc, "date");
+    expect_backtracked_date(&rt, alloc, &engine);
 }
 
 #[test]

@@ -220,10 +220,35 @@ fn expect_sample(rt: &impl Abort, shared: &mut Shared, name: &str, want: u64) {
     assert!(rt; sum == want, "{name}: {sum}, not {want}");
 }
 
-#[test]
-fn all_calls_give_the_answers_of_regex_automata(rt: HostRuntime) {
-    let mut shared = Shared::new(&rt, rt.alloc());
-    for &(name, want) in SUMS {
-        expect_sample(&rt, &mut shared, name, want);
+fn expect_samples(rt: &impl Abort, alloc: Global, sums: &[(&str, u64)]) {
+    let mut shared = Shared::new(rt, alloc);
+    for &(name, want) in sums {
+        expect_sample(rt, &mut shared, name, want);
     }
+}
+
+// The samples in five parts: a test has a minute.
+#[test]
+fn all_calls_answer_as_upstream_over_words(rt: HostRuntime) {
+    expect_samples(&rt, rt.alloc(), &SUMS[..6]);
+}
+
+#[test]
+fn all_calls_answer_as_upstream_over_small_words(rt: HostRuntime) {
+    expect_samples(&rt, rt.alloc(), &SUMS[6..12]);
+}
+
+#[test]
+fn all_calls_answer_as_upstream_over_empty_matches(rt: HostRuntime) {
+    expect_samples(&rt, rt.alloc(), &SUMS[12..17]);
+}
+
+#[test]
+fn all_calls_answer_as_upstream_over_slots(rt: HostRuntime) {
+    expect_samples(&rt, rt.alloc(), &SUMS[17..22]);
+}
+
+#[test]
+fn all_calls_answer_as_upstream_over_long_matches(rt: HostRuntime) {
+    expect_samples(&rt, rt.alloc(), &SUMS[22..]);
 }

@@ -10,7 +10,7 @@ use regex_search_core::{Anchored, Input, PatternID, PatternSet};
 use std::alloc::Global;
 use std::process::Abort;
 use test_support::engines::Engines;
-use test_support::made::{NAMES, input_in};
+use test_support::made::NAMES;
 
 // Which pattern alone the search is anchored for; a number above the patterns is for none.
 fn mode(pattern: Option<usize>) -> Anchored {
@@ -105,17 +105,15 @@ fn expect_overlap(rt: &impl Abort, alloc: Global, vm: &PikeVM) {
 #[test]
 fn a_done_input_has_no_match(rt: HostRuntime) {
     for &name in NAMES {
-        expect_none(&rt, rt.alloc(), name);
+        expect_none(&rt, rt.alloc(), name, b"aa");
+        expect_none(&rt, rt.alloc(), name, b"\xE2\x98\x83");
     }
 }
 
-fn expect_none(rt: &impl Abort, alloc: Global, name: &str) {
+fn expect_none(rt: &impl Abort, alloc: Global, name: &str, haystack: &[u8]) {
     let mut engines = engines_of(rt, alloc, name);
-    let case = Case {
-        name,
-        input: Input::new(b"aa").range(2..1),
-    };
-    expect_none_of(rt, alloc, &mut engines, &case);
+    let input = Input::new(haystack).range(2..1);
+    expect_none_of(rt, alloc, &mut engines, &Case { name, input });
 }
 
 fn expect_none_of(rt: &impl Abort, alloc: Global, engines: &mut Engines, case: &Case<'_>) {
@@ -123,25 +121,46 @@ fn expect_none_of(rt: &impl Abort, alloc: Global, engines: &mut Engines, case: &
     let none = none_text(rt, alloc, slot_len);
     expect_slots(rt, alloc, engines, case, slot_len, none.as_str());
     expect_slots(rt, alloc, engines, case, 0, "none");
+    expect_match(rt, alloc, engines, case, "none");
+    expect_list(rt, alloc, engines, case, "");
     expect_is_match(rt, engines, case, false);
 }
 
-// A name, a haystack, whether the search is anchored, and the pattern and ten slots.
-const TEN_SLOTS: &[(&str, &[u8], bool, &str)] = &[
-    ("groups", b"ab", false, "0 0 2 - - 0 2 - - - -"),
-    ("loop", b"", false, "0 0 0 - - - - - - - -"),
-    ("a_bare", b"a", false, "0 - - - - - - - - - -"),
-    ("backwards", b"a", false, "0 1 0 - - - - - - - -"),
-    ("abc", b"abc", true, "0 0 3 - - - - - - - -"),
-    ("abc", b"abx", true, "none - - - - - - - - - -"),
-    ("empty", b"\x80\x80", false, "0 2 2 - - - - - - - -"),
+// Where a search may start: anywhere, or at the start of the span, for every pattern or for one.
+#[derive(Clone, Copy, Debug)]
+enum Bound {
+    Anywhere,
+    Start,
+    Pattern(usize),
+}
+
+// A name, a haystack, where the search may start, and the pattern and ten slots.
+const TEN_SLOTS: &[(&str, &[u8], Bound, &str)] = &[
+    ("groups", b"ab", Bound::Anywhere, "0 0 2 - - 0 2 - - - -"),
+    ("loop", b"", Bound::Anywhere, "0 0 0 - - - - - - - -"),
+    ("a_bare", b"a", Bound::Anywhere, "0 - - - - - - - - - -"),
+    ("backwards", b"a", Bound::Anywhere, "0 1 0 - - - - - - - -"),
+    ("abc", b"abc", Bound::Start, "0 0 3 - - - - - - - -"),
+    ("abc", b"abx", Bound::Start, "none - - - - - - - - - -"),
+    ("abc", b"abc", Bound::Pattern(0), "0 0 3 - - - - - - - -"),
+    ("abc", b"abc", Bound::Pattern(5), "none - - - - - - - - - -"),
+    ("groups", b"ab", Bound::Pattern(5), "none - - - - - - - - - -"),
+    ("empty", b"\x80\x80", Bound::Anywhere, "0 2 2 - - - - - - - -"),
 ];
 
 #[test]
 fn each_number_of_slots_cuts_the_same_answer(rt: HostRuntime) {
-    for &(name, haystack, anchored, want) in TEN_SLOTS {
-        let input = input_in(haystack, 0, haystack.len(), anchored).expect(&rt, "a span");
+    for &(name, haystack, bound, want) in TEN_SLOTS {
+        let input = bound_to(Input::new(haystack), bound);
         expect_cuts(&rt, rt.alloc(), &Case { name, input }, want);
+    }
+}
+
+fn bound_to<'h>(input: Input<'h>, bound: Bound) -> Input<'h> {
+    match bound {
+        Bound::Anywhere => input,
+        Bound::Start => input.anchored(Anchored::Yes),
+        Bound::Pattern(pattern) => input.anchored(mode(Some(pattern))),
     }
 }
 

@@ -10,13 +10,23 @@ use thompson_nfa::{Look, NFA};
 
 const HAYSTACKS: &[&[u8]] = &[b"", b"ab", b"abca", b"a\xE2\x98\x83", b"\x80b a"];
 
-const COUNT: usize = 100;
+// There are five parts of so many NFAs.
+const PART: usize = 20;
 
 const FIRST_STATE: u64 = 2010;
 
-// The number that is made of the answers of all searches of all NFAs. It was made of the answers of regex-automata
-// 0.4.18 to single searches, over the NFAs that the same generator made in another language.
-const SUM: u64 = 10572554243172587508;
+// The number that is made of the answers of all searches of all NFAs is the last. It was made of the answers of
+// regex-automata 0.4.18 to single searches, over the NFAs that the same generator made in another language. Those before
+// it are what that number comes from, behind each part: each answer goes into all numbers behind it, so where one of them
+// were wrong, the last would not be that of regex-automata.
+const SUMS: &[u64] = &[
+    SEED,
+    11814896079961035759,
+    3112159056568369119,
+    10809539617642526514,
+    4228821444749841996,
+    10572554243172587508,
+];
 
 // A linear congruential generator.
 #[derive(Clone, Copy, Debug)]
@@ -180,19 +190,62 @@ fn add_capture(machine: &mut Machine, chance: &mut Chance, size: &Size) -> Resul
     machine.capture(chance.below(size.slots), next)
 }
 
-fn fold_all(rt: &impl Abort, shared: &mut Shared) -> u64 {
-    let mut chance = Chance { state: FIRST_STATE };
-    let mut sum = SEED;
-    for _ in 0..COUNT {
-        let nfa = made(rt, shared.alloc, &mut chance);
+// The sum behind the NFAs of one part, which are the next so many.
+fn fold_part(rt: &impl Abort, shared: &mut Shared, chance: &mut Chance, sum: u64) -> u64 {
+    let mut sum = sum;
+    for _ in 0..PART {
+        let nfa = made(rt, shared.alloc, chance);
         sum = fold_nfa(rt, nfa, shared, sum, HAYSTACKS);
     }
     sum
 }
 
+// Makes the NFAs of the parts before this one, and searches none.
+fn skip_parts(rt: &impl Abort, alloc: Global, chance: &mut Chance, part: usize) {
+    for _ in 0..part.saturating_mul(PART) {
+        made(rt, alloc, chance);
+    }
+}
+
+fn expect_part(rt: &impl Abort, alloc: Global, part: usize) {
+    let mut chance = Chance { state: FIRST_STATE };
+    skip_parts(rt, alloc, &mut chance, part);
+    let mut shared = Shared::new(rt, alloc);
+    expect_sums(rt, &mut shared, &mut chance, part);
+}
+
+fn expect_sums(rt: &impl Abort, shared: &mut Shared, chance: &mut Chance, part: usize) {
+    let before = SUMS.get(part).copied().expect(rt, "a part");
+    let want = SUMS
+        .get(part.saturating_add(1))
+        .copied()
+        .expect(rt, "a part");
+    let sum = fold_part(rt, shared, chance, before);
+    assert!(rt; sum == want, "{part}: {sum}");
+}
+
+// The NFAs in five parts: a test has a minute.
 #[test]
-fn all_calls_search_what_chance_makes(rt: HostRuntime) {
-    let mut shared = Shared::new(&rt, rt.alloc());
-    let sum = fold_all(&rt, &mut shared);
-    assert!(&rt; sum == SUM, "{sum}");
+fn all_calls_search_what_chance_makes_first(rt: HostRuntime) {
+    expect_part(&rt, rt.alloc(), 0);
+}
+
+#[test]
+fn all_calls_search_what_chance_makes_second(rt: HostRuntime) {
+    expect_part(&rt, rt.alloc(), 1);
+}
+
+#[test]
+fn all_calls_search_what_chance_makes_third(rt: HostRuntime) {
+    expect_part(&rt, rt.alloc(), 2);
+}
+
+#[test]
+fn all_calls_search_what_chance_makes_fourth(rt: HostRuntime) {
+    expect_part(&rt, rt.alloc(), 3);
+}
+
+#[test]
+fn all_calls_search_what_chance_makes_last(rt: HostRuntime) {
+    expect_part(&rt, rt.alloc(), 4);
 }

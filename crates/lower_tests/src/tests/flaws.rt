@@ -16,69 +16,57 @@ enum One {
     Match(usize),
 }
 
-/// The parts of an NFA of one pattern: its states, the anchored start, the unanchored one and that of the pattern, and
+/// The parts of an NFA of one pattern: its states; the anchored start, the unanchored one and that of the pattern; and
 /// of how many patterns the groups are.
-struct Parts {
-    states: &'static [One],
-    starts: [usize; 3],
-    groups: usize,
-}
-
-const fn parts(states: &'static [One], starts: [usize; 3], groups: usize) -> Parts {
-    Parts {
-        states,
-        starts,
-        groups,
-    }
-}
+type Parts = (&'static [One], [usize; 3], usize);
 
 // Parts of an NFA, the error that refuses them, their first flaw, and its text.
 const REFUSALS: &[(Parts, BuildError, Flaw, &str)] = &[
     (
-        parts(&[], [0, 0, 0], 0),
+        (&[], [0, 0, 0], 0),
         BuildError::Empty,
         Flaw::Empty,
         "the NFA has no states",
     ),
     (
-        parts(&[One::Fail], [1, 1, 1], 2),
+        (&[One::Fail], [1, 1, 1], 2),
         BuildError::State,
         Flaw::State(Holder::Anchored),
         "the anchored start refers to a state that does not exist",
     ),
     (
-        parts(&[One::Fail], [0, 1, 1], 0),
+        (&[One::Fail], [0, 1, 1], 0),
         BuildError::State,
         Flaw::State(Holder::Unanchored),
         "the unanchored start refers to a state that does not exist",
     ),
     (
-        parts(&[One::Byte(1)], [0, 0, 1], 0),
+        (&[One::Byte(1)], [0, 0, 1], 0),
         BuildError::State,
         Flaw::State(Holder::Pattern(0)),
         "the start of pattern 0 refers to a state that does not exist",
     ),
     // The slot of the first state is out of range too, but the numbers of all states come first.
     (
-        parts(&[One::Capture(4), One::Byte(2)], [0, 0, 0], 1),
+        (&[One::Capture(4), One::Byte(2)], [0, 0, 0], 1),
         BuildError::State,
         Flaw::State(Holder::State(1)),
         "state 1 refers to a state that does not exist",
     ),
     (
-        parts(&[One::Match(1), One::Capture(2)], [0, 0, 0], 1),
+        (&[One::Match(1), One::Capture(2)], [0, 0, 0], 1),
         BuildError::Slot,
         Flaw::Slot { state: 1, slot: 2 },
         "state 1 writes slot 2, which belongs to no group",
     ),
     (
-        parts(&[One::Capture(0)], [0, 0, 0], 0),
+        (&[One::Capture(0)], [0, 0, 0], 0),
         BuildError::Slot,
         Flaw::Slot { state: 0, slot: 0 },
         "state 0 writes slot 0, which belongs to no group",
     ),
     (
-        parts(&[One::Match(0), One::Match(1)], [0, 0, 0], 2),
+        (&[One::Match(0), One::Match(1)], [0, 0, 0], 2),
         BuildError::Pattern,
         Flaw::Pattern {
             state: 1,
@@ -87,7 +75,7 @@ const REFUSALS: &[(Parts, BuildError, Flaw, &str)] = &[
         "state 1 matches pattern 1, which has no start state",
     ),
     (
-        parts(&[One::Match(0)], [0, 0, 0], 2),
+        (&[One::Match(0)], [0, 0, 0], 2),
         BuildError::Groups,
         Flaw::Groups {
             groups: 2,
@@ -106,8 +94,8 @@ fn refusals(rt: HostRuntime) {
 }
 
 const FLAWLESS: &[Parts] = &[
-    parts(&[One::Match(0)], [0, 0, 0], 0),
-    parts(&[One::Capture(1), One::Byte(0)], [0, 1, 1], 1),
+    (&[One::Match(0)], [0, 0, 0], 0),
+    (&[One::Capture(1), One::Byte(0)], [0, 1, 1], 1),
 ];
 
 #[test]
@@ -154,10 +142,11 @@ fn expect_made(
     error: Option<BuildError>,
     flaw: Option<Flaw>,
 ) {
-    let states = states_of(rt, alloc, parts.states);
-    let (anchored, unanchored) = (id(rt, parts.starts[0]), id(rt, parts.starts[1]));
-    let patterns = vec![in alloc; id(rt, parts.starts[2])].expect(rt, "memory");
-    let groups = plain_groups(rt, alloc, parts.groups);
+    let (ones, [anchored, unanchored, start], groups) = parts;
+    let states = states_of(rt, alloc, ones);
+    let (anchored, unanchored) = (id(rt, *anchored), id(rt, *unanchored));
+    let patterns = vec![in alloc; id(rt, *start)].expect(rt, "memory");
+    let groups = plain_groups(rt, alloc, *groups);
     let found = first_flaw(&states, anchored, unanchored, &patterns, &groups);
     assert_eq!(rt; found, flaw);
     let made = NFA::from_states(

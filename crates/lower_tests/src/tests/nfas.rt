@@ -1,6 +1,6 @@
 //! Tests of NFAs: how they are made and read.
 use super::fixtures::{id, pattern, plain_groups};
-use super::shown::expect_shown;
+use super::shown::{expect_number, expect_shown};
 use std::alloc::{AllocError, Global};
 use std::process::Abort;
 use thompson_nfa::{BuildError, Look, NFA, State, Transition};
@@ -155,6 +155,7 @@ fn debug_texts_of_states(rt: HostRuntime) {
 }
 
 fn expect_states(rt: &impl Abort, alloc: Global, states: &[State]) {
+    expect_number(rt, states.len(), STATES.len());
     for (state, want) in states.iter().zip(STATES) {
         expect_shown(rt, alloc, state, want);
         expect_shown(rt, alloc, &state.clone().expect(rt, "memory"), want);

@@ -182,8 +182,16 @@ fn expect_counts(rt: &impl Abort, alloc: Global, nfa: &NFA, count: usize, groups
 
 fn expect_names(rt: &impl Abort, shown: &str, groups: &str) {
     match shown.strip_prefix("GroupInfo { names: ") {
-        Some(names) => assert!(rt; names.starts_with(groups), "{groups}"),
+        Some(names) => expect_text(rt, groups, first_part(names), groups),
         None => panic!(rt; "{shown}"),
+    }
+}
+
+// What stands before the number of slots.
+fn first_part(names: &str) -> &str {
+    match names.split_once(", slot_len: ") {
+        Some((names, _)) => names,
+        None => names,
     }
 }
 

@@ -1,6 +1,6 @@
 //! The engine that chooses never fails, whatever memory is refused.
 
-use super::iteration::WORDS_AND_NUMBERS;
+use super::iteration::{A_LONG_WORD, LONG_WORD_LAST, WORDS_AND_NUMBERS};
 use super::searches::are_groups;
 use super::{Seen, Wrong, engines, expect};
 use nfa_choice::choose::Choice;
@@ -58,34 +58,83 @@ fn expect_caught(choice: &mut Choice, captures: &mut Captures) -> Result<(), Wro
     )
 }
 
-/// The list is whole, whatever is refused.
+/// The list is whole, whatever is refused: before its first match, or behind one.
 pub fn lists(alloc: Global, seen: &mut Seen) -> Result<(), Wrong> {
-    let mut choice = engines::choice(alloc, seen, "words_numbers")?;
-    expect_list(&mut choice)
+    expect_new_list(alloc, seen, b"abc 1 foo 4567 0 quux", WORDS_AND_NUMBERS)?;
+    expect_new_list(alloc, seen, A_LONG_WORD.as_bytes(), LONG_WORD_LAST)
 }
 
-fn expect_list(choice: &mut Choice) -> Result<(), Wrong> {
-    let mut wants = WORDS_AND_NUMBERS.iter();
-    for found in choice.find_iter(Input::new(b"abc 1 foo 4567 0 quux")) {
+fn expect_new_list(
+    alloc: Global,
+    seen: &mut Seen,
+    text: &[u8],
+    all: &[(usize, usize, usize)],
+) -> Result<(), Wrong> {
+    let mut choice = engines::choice(alloc, seen, "words_numbers")?;
+    expect_list(&mut choice, text, all)
+}
+
+fn expect_list(
+    choice: &mut Choice,
+    text: &[u8],
+    all: &[(usize, usize, usize)],
+) -> Result<(), Wrong> {
+    let mut wants = all.iter();
+    for found in choice.find_iter(Input::new(text)) {
         expect(wants.next() == Some(&parts(found)), "a chosen item")?;
     }
     expect(wants.next().is_none(), "the length of the chosen list")
 }
 
-/// A refused replacement changes nothing.
+/// A refused replacement changes nothing: by an NFA of more slots, and by one of more states, slots and patterns, so that
+/// the cache of the PikeVM fits neither.
 pub fn replacements(alloc: Global, seen: &mut Seen) -> Result<(), Wrong> {
-    let mut choice = engines::choice(alloc, seen, "abc")?;
-    expect_replacement(alloc, seen, &mut choice)
+    replaced_by_groups(alloc, seen)?;
+    replaced_by_foo_bar(alloc, seen)
 }
 
-fn expect_replacement(alloc: Global, seen: &mut Seen, choice: &mut Choice) -> Result<(), Wrong> {
+fn replaced_by_groups(alloc: Global, seen: &mut Seen) -> Result<(), Wrong> {
+    let mut choice = engines::choice(alloc, seen, "abc")?;
+    expect_groups_after(alloc, seen, &mut choice)
+}
+
+fn expect_groups_after(alloc: Global, seen: &mut Seen, choice: &mut Choice) -> Result<(), Wrong> {
+    expect_replacement(alloc, seen, choice, "groups")?;
+    expect_groups(choice, "the new slots")
+}
+
+fn replaced_by_foo_bar(alloc: Global, seen: &mut Seen) -> Result<(), Wrong> {
+    let mut choice = engines::choice(alloc, seen, "abc")?;
+    expect_foo_after(alloc, seen, &mut choice)
+}
+
+fn expect_foo_after(alloc: Global, seen: &mut Seen, choice: &mut Choice) -> Result<(), Wrong> {
+    expect_replacement(alloc, seen, choice, "foo_bar")?;
+    expect_foo(choice)
+}
+
+fn expect_replacement(
+    alloc: Global,
+    seen: &mut Seen,
+    choice: &mut Choice,
+    name: &str,
+) -> Result<(), Wrong> {
     expect_abc(choice, "the old match")?;
-    if is_refused(alloc, seen, choice)? {
+    if is_refused(alloc, seen, choice, name)? {
         expect_abc(choice, "the old match after a refusal")?;
-        let again = is_refused(alloc, seen, choice)?;
+        let again = is_refused(alloc, seen, choice, name)?;
         expect(!again, "two refusals of a replacement")?;
     }
-    expect_groups(choice, "the new slots")
+    Ok(())
+}
+
+// By both engines, of which the PikeVM looks for the earliest match.
+fn expect_foo(choice: &mut Choice) -> Result<(), Wrong> {
+    let input = Input::new(b"xbarfoo");
+    let found = choice.find(input).map(parts);
+    expect(found == Some((1, 1, 4)), "the new match")?;
+    let found = choice.find(Input::new(b"foobar").earliest(true)).map(parts);
+    expect(found == Some((0, 0, 3)), "the new earliest match")
 }
 
 fn expect_abc(choice: &mut Choice, wrong: &'static str) -> Result<(), Wrong> {
@@ -93,10 +142,15 @@ fn expect_abc(choice: &mut Choice, wrong: &'static str) -> Result<(), Wrong> {
     expect(found == Some((0, 0, 3)), wrong)
 }
 
-// Whether the replacement by `groups` was refused memory.
-fn is_refused(alloc: Global, seen: &mut Seen, choice: &mut Choice) -> Result<bool, Wrong> {
-    let groups = engines::nfa(alloc, seen, "groups")?;
-    match choice.replace(groups) {
+// Whether the replacement by the sample was refused memory.
+fn is_refused(
+    alloc: Global,
+    seen: &mut Seen,
+    choice: &mut Choice,
+    name: &str,
+) -> Result<bool, Wrong> {
+    let nfa = engines::nfa(alloc, seen, name)?;
+    match choice.replace(nfa) {
         Ok(()) => Ok(false),
         Err(error) => {
             seen.note(error == SearchError::Memory)?;

@@ -5,7 +5,7 @@ use nfa_choice::choose::Choice;
 use nfa_engines::backtrack::{self, BoundedBacktracker};
 use nfa_engines::error::SearchError;
 use nfa_engines::pikevm::{self, PikeVM};
-use regex_search_core::{Captures, GroupInfo, Refused};
+use regex_search_core::{Captures, GroupInfo, MatchKind, PatternSet, Refused};
 use std::alloc::Global;
 use test_support::made as samples;
 use test_support::made::MakeError;
@@ -51,6 +51,21 @@ pub fn pikevm(alloc: Global, seen: &mut Seen, name: &str) -> Result<PikeVM, Wron
 /// A cache for the PikeVM.
 pub fn threads(alloc: Global, seen: &mut Seen, vm: &PikeVM) -> Result<pikevm::Cache, Wrong> {
     made!(seen, SearchError::Memory, vm.create_cache(alloc))
+}
+
+/// A PikeVM of the sample, of this kind.
+pub fn pikevm_of_kind(
+    alloc: Global,
+    seen: &mut Seen,
+    name: &str,
+    kind: MatchKind,
+) -> Result<PikeVM, Wrong> {
+    made!(seen, MakeError::Memory, samples::of_kind(alloc, name, kind))
+}
+
+/// An empty set of so many patterns.
+pub fn set(alloc: Global, seen: &mut Seen, capacity: usize) -> Result<PatternSet, Wrong> {
+    made!(seen, Refused, PatternSet::new(alloc, capacity))
 }
 
 fn choice_of(alloc: Global, name: &str) -> Result<Choice, MakeError> {

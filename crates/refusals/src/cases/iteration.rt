@@ -38,8 +38,11 @@ fn expect_beginning(
     expect(ended, "an item behind the end")
 }
 
-// The last word takes more memory than what comes before it, so a refusal may also come after a match.
-const A_LONG_WORD: &str = "a 1 abcdefghijklmnopqrstuvwxyzabcdefghijklmnopqrstuvwxyz";
+/// The last word takes more memory than what comes before it, so a refusal may also come after a match.
+pub const A_LONG_WORD: &str = "a 1 abcdefghijklmnopqrstuvwxyzabcdefghijklmnopqrstuvwxyz";
+
+/// Its matches.
+pub const LONG_WORD_LAST: &[(usize, usize, usize)] = &[(0, 0, 1), (1, 2, 3), (0, 4, 56)];
 
 /// Lists of a text whose words are short, and of one that ends in a long one.
 pub fn lists(alloc: Global, seen: &mut Seen) -> Result<(), Wrong> {
@@ -66,8 +69,7 @@ fn expect_lists(alloc: Global, seen: &mut Seen, engine: &BoundedBacktracker) -> 
         "abc 1 foo 4567 0 quux",
         WORDS_AND_NUMBERS,
     )?;
-    let all = &[(0, 0, 1), (1, 2, 3), (0, 4, 56)];
-    expect_list(alloc, seen, engine, A_LONG_WORD, all)
+    expect_list(alloc, seen, engine, A_LONG_WORD, LONG_WORD_LAST)
 }
 
 fn expect_list(

@@ -6,7 +6,7 @@ use nfa_engines::backtrack::{self, BoundedBacktracker};
 use nfa_engines::error::SearchError;
 use nfa_engines::pikevm::{self, PikeVM};
 use nfa_samples::sample;
-use regex_search_core::{Captures, GroupInfo, Input, PatternID, PatternSet, Refused};
+use regex_search_core::{Captures, GroupInfo, Input, PatternID, Refused};
 use std::alloc::Global;
 use test_support::made::MakeError;
 use test_support::text::parts;
@@ -312,7 +312,7 @@ fn names(alloc: Global) -> Result<Vec<Option<String>>, MakeError> {
 
 /// A set of patterns, and groups from their names.
 pub fn sets(alloc: Global, seen: &mut Seen) -> Result<(), Wrong> {
-    let capacity = made_set(alloc, seen)?.capacity();
+    let capacity = engines::set(alloc, seen, 1000)?.capacity();
     expect(capacity == 1000, "the capacity of a set")?;
     let groups = made_groups(alloc, seen)?;
     expect_groups(seen, &groups)
@@ -329,10 +329,6 @@ fn has_year(groups: &GroupInfo) -> bool {
         Some(first) => groups.to_index(first, "year") == Some(2),
         None => false,
     }
-}
-
-fn made_set(alloc: Global, seen: &mut Seen) -> Result<PatternSet, Wrong> {
-    made!(seen, Refused, PatternSet::new(alloc, 1000))
 }
 
 fn made_names(alloc: Global, seen: &mut Seen) -> Result<Vec<Vec<Option<String>>>, Wrong> {

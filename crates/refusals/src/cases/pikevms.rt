@@ -1,10 +1,10 @@
 //! Resets of caches that were refused memory, and searches of the PikeVM, which ask for none.
 
 use super::searches::are_groups;
-use super::{Edge, Seen, Wrong, engines, expect, is_right, made};
+use super::{Seen, Wrong, engines, expect, is_right};
 use nfa_engines::error::SearchError;
 use nfa_engines::pikevm::{self, PikeVM};
-use regex_search_core::{Captures, Input, NonMaxUsize, PatternSet, Refused};
+use regex_search_core::{Captures, Input, NonMaxUsize, PatternSet};
 use std::alloc::{AllocError, Global};
 use test_support::text::parts;
 
@@ -18,39 +18,51 @@ fn expect_piked(groups: &PikeVM, cache: &mut pikevm::Cache) -> Result<(), Wrong>
     expect(are_groups(pattern, &slots), "the slots of a PikeVM")
 }
 
-/// A refused reset leaves a cache that fits what it fitted.
+/// A refused reset leaves a cache that fits what it fitted: a reset to an engine all of whose numbers are larger, and to
+/// one that has more states and fewer slots.
 pub fn resets(alloc: Global, seen: &mut Seen) -> Result<(), Wrong> {
     let groups = engines::pikevm(alloc, seen, "groups")?;
-    expect_reset_to_larger(alloc, seen, &groups)
+    expect_reset_to(alloc, seen, &groups, "foo_bar", true)?;
+    expect_reset_to(alloc, seen, &groups, "alnum100", false)
 }
 
-fn expect_reset_to_larger(alloc: Global, seen: &mut Seen, groups: &PikeVM) -> Result<(), Wrong> {
-    let larger = engines::pikevm(alloc, seen, "foo_bar")?;
-    expect_reset(alloc, seen, groups, &larger)
+fn expect_reset_to(
+    alloc: Global,
+    seen: &mut Seen,
+    groups: &PikeVM,
+    name: &str,
+    is_larger: bool,
+) -> Result<(), Wrong> {
+    let other = engines::pikevm(alloc, seen, name)?;
+    let still_fits = expect_reset(alloc, seen, groups, &other)?;
+    expect(still_fits == is_larger, "the numbers of a cache after its reset")
 }
 
+// Whether a cache of `groups` fits it still after the reset to the other engine.
 fn expect_reset(
     alloc: Global,
     seen: &mut Seen,
     groups: &PikeVM,
-    larger: &PikeVM,
-) -> Result<(), Wrong> {
+    other: &PikeVM,
+) -> Result<bool, Wrong> {
     let mut cache = engines::threads(alloc, seen, groups)?;
-    expect_reset_of(seen, groups, larger, &mut cache)
+    expect_reset_of(seen, groups, other, &mut cache)
 }
 
 fn expect_reset_of(
     seen: &mut Seen,
     groups: &PikeVM,
-    larger: &PikeVM,
+    other: &PikeVM,
     cache: &mut pikevm::Cache,
-) -> Result<(), Wrong> {
-    if let Err(error) = cache.reset(larger) {
+) -> Result<bool, Wrong> {
+    expect_piked(groups, cache)?;
+    if let Err(error) = cache.reset(other) {
         seen.note(error == SearchError::Memory)?;
         expect_piked(groups, cache)?;
-        expect(cache.reset(larger).is_ok(), "two refusals of a reset")?;
+        expect(cache.reset(other).is_ok(), "two refusals of a reset")?;
     }
-    expect(cache.fits(larger), "a cache after its reset")
+    expect(cache.fits(other), "a cache after its reset")?;
+    Ok(cache.fits(groups))
 }
 
 /// A PikeVM asks for no memory while it searches, so the requests before and behind its searches follow one another.
@@ -92,10 +104,10 @@ fn expect_quiet_with(
     cache: &mut pikevm::Cache,
     captures: &mut Captures,
 ) -> Result<(), Wrong> {
-    let mut set = made_set(alloc, seen)?;
-    seen.mark(alloc, Edge::Opening);
+    let mut set = engines::set(alloc, seen, 1)?;
+    seen.opens(alloc, "searches of a PikeVM");
     let searched = expect_searches(vm, cache, captures, &mut set);
-    seen.mark(alloc, Edge::Closing);
+    seen.closes(alloc, "searches of a PikeVM");
     searched
 }
 
@@ -157,10 +169,6 @@ fn expect_piked_set(
     }
     vm.which_overlapping_matches(cache, &Input::new(b"ab"), set);
     expect(set.is_full(), "the set of a PikeVM")
-}
-
-fn made_set(alloc: Global, seen: &mut Seen) -> Result<PatternSet, Wrong> {
-    made!(seen, Refused, PatternSet::new(alloc, 1))
 }
 
 // A list of all matches is a growth, and so may be refused.

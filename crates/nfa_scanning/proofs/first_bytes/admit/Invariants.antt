@@ -1,10 +1,12 @@
 -- The bytes so far are let through.
 use Rattle.std.proofs.Common.{ℕ, ◌<◌, ◌≤◌}
-use Rattle.nfa_scanning.specs.FirstBytes.{Admits, Grows}
+use Rattle.thompson_nfa.specs.Automaton.Node.{ByteRange}
+use Rattle.nfa_scanning.specs.FirstBytes.{Admits, Grows, GrowsBy}
 use Rattle.nfa_scanning.proofs.first_bytes.admit.Given as goal
 
 abbrev pub invariant-loop-byte : goal.invariant-loop-byte
 invariant-loop-byte l = record {
   grows : Grows l.fn.table l.table;
   done : (b : ℕ) → l.trans.start ≤ b → b < l.byte → Admits l.table b;
+  only : GrowsBy l.fn.table l.table (ByteRange l.trans);
 }

@@ -3,7 +3,7 @@ use Rattle.std.proofs.Common.{◌≡◌, ℕ, ◌<◌, length}
 use Rattle.std.specs.Prelude.{Some}
 use Rattle.thompson_nfa.specs.Automaton.Node.{Dense}
 use Rattle.nfa_paths.specs.Paths.{target_on}
-use Rattle.nfa_scanning.specs.FirstBytes.{Admits, Grows}
+use Rattle.nfa_scanning.specs.FirstBytes.{Admits, Grows, GrowsBy}
 use Rattle.nfa_scanning.proofs.first_bytes.admit_targets.Given as goal
 
 abbrev pub invariant-loop-byte : goal.invariant-loop-byte
@@ -11,4 +11,5 @@ invariant-loop-byte l = record {
   size : length l.table ≡ 256;
   grows : Grows l.fn.table l.table;
   done : (b : ℕ) → b < l.byte → (t : ℕ) → target_on (Dense l.targets) b ≡ Some t → Admits l.table b;
+  only : GrowsBy l.fn.table l.table (Dense l.targets);
 }

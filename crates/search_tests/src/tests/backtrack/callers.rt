@@ -314,10 +314,28 @@ fn expect_halves(rt: &impl Abort, engine: &BoundedBacktracker, cache: &mut Cache
     expect_offset(rt, halves.next(), None);
 }
 
+// The same, step by step: what the next step of the searcher gives.
+fn half_step(
+    engine: &BoundedBacktracker,
+    cache: &mut Cache,
+    searcher: &mut Searcher<'_>,
+) -> Result<Option<HalfMatch>, SearchError> {
+    searcher.try_advance_half(|input: &Input<'_>| half_found(engine, cache, input))
+}
+
+fn expect_half_steps(rt: &impl Abort, engine: &BoundedBacktracker, cache: &mut Cache) {
+    let mut searcher = Searcher::new(Input::new(b"abba"));
+    for &want in &[Some(1), Some(2), Some(4), None, None] {
+        let half = half_step(engine, cache, &mut searcher).expect(rt, "an answer");
+        expect_offset(rt, half.map(|half| Ok(half)), want);
+    }
+}
+
 #[test]
 fn gives_all_half_matches(rt: HostRuntime) {
     let alloc = rt.alloc();
     let engine = backtracker(alloc, "a_or_empty").expect(&rt, "an engine");
     let mut cache = engine.create_cache(alloc);
     expect_halves(&rt, &engine, &mut cache);
+    expect_half_steps(&rt, &engine, &mut cache);
 }

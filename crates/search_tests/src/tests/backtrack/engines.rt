@@ -1,12 +1,13 @@
 //! Engines that match always or never, captures, and copies.
 
 use super::{expect_match, expect_slots};
-use crate::tests::{expect_number, expect_six_unset};
+use crate::tests::{expect_number, expect_six_unset, expect_text};
 use nfa_engines::backtrack::{BoundedBacktracker, Cache};
 use regex_search_core::Input;
 use std::alloc::Global;
 use std::process::Abort;
 use test_support::made::{backtracker, with_capacity};
+use test_support::text::match_text;
 
 // The engine has so many patterns, and finds this in any text.
 fn expect_everywhere(
@@ -18,8 +19,27 @@ fn expect_everywhere(
 ) {
     expect_number(rt, engine.pattern_len(), pattern_len);
     let mut cache = engine.create_cache(alloc);
-    expect_match(rt, alloc, engine, &mut cache, Input::new(b""), want);
-    expect_match(rt, alloc, engine, &mut cache, Input::new(b"foo"), want);
+    for haystack in &["", "foo"] {
+        let input = Input::new(haystack.as_bytes());
+        expect_match(rt, alloc, engine, &mut cache, input, want);
+        expect_first_item(rt, alloc, engine, &mut cache, input, want);
+    }
+}
+
+// The first item of an iteration is the first match.
+fn expect_first_item(
+    rt: &impl Abort,
+    alloc: Global,
+    engine: &BoundedBacktracker,
+    cache: &mut Cache,
+    input: Input<'_>,
+    want: &str,
+) {
+    let first = match engine.try_find_iter(cache, input).next() {
+        Some(item) => Some(item.expect(rt, "an answer")),
+        None => None,
+    };
+    expect_text(rt, &input, match_text(alloc, first), want);
 }
 
 #[test]

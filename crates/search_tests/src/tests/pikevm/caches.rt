@@ -7,8 +7,10 @@ use nfa_samples::answers::OF_SLOT_LENS;
 use regex_search_core::{Anchored, Input, PatternID};
 use std::alloc::Global;
 use std::process::Abort;
-use test_support::made::pikevm;
+use test_support::machine::Machine;
+use test_support::made::{MakeError, pikevm};
 use test_support::text::{piked_match, piked_slots};
+use thompson_nfa::NFA;
 
 // What an engine answers with this cache, in so many slots.
 fn expect_slots(
@@ -79,7 +81,7 @@ const FITS: &[(&str, &str, bool)] = &[
     ("snowman", "three_digits", true),
     ("abc_a", "snowman", true),
     ("abc", "groups", false),
-    // Short of patterns, of places on the stack, and of states alone.
+    // Short of patterns, of places on the stack, and of states alone; of slots alone no sample is.
     ("date", "b_a", false),
     ("alnum100", "a_star", false),
     ("loop", "abc", false),
@@ -96,6 +98,38 @@ fn each_number_of_a_cache_counts(rt: HostRuntime) {
     let alloc = rt.alloc();
     for &(made_for, used_with, want) in FITS {
         let fits = fits(&rt, alloc, made_for, used_with);
+        assert_eq!(rt; fits, want, "{made_for} {used_with}");
+    }
+}
+
+// Three states, and a pattern with so many explicit groups.
+fn nfa_with_groups(alloc: Global, explicit: usize) -> Result<NFA, MakeError> {
+    let mut machine = Machine::new(alloc);
+    machine.capture(0, 1)?;
+    machine.capture(1, 2)?;
+    machine.accept(0)?;
+    machine.pattern(0)?;
+    machine.groups(explicit)?;
+    machine.build(0, 0)
+}
+
+fn with_groups(rt: &impl Abort, alloc: Global, explicit: usize) -> PikeVM {
+    let nfa = nfa_with_groups(alloc, explicit).expect(rt, "an NFA");
+    PikeVM::new_from_nfa(nfa).expect(rt, "memory")
+}
+
+// Whether a cache for an engine with so many explicit groups fits one with so many.
+fn fits_groups(rt: &impl Abort, alloc: Global, made_for: usize, used_with: usize) -> bool {
+    let made_for = with_groups(rt, alloc, made_for);
+    let cache = made_for.create_cache(alloc).expect(rt, "a cache");
+    cache.fits(&with_groups(rt, alloc, used_with))
+}
+
+#[test]
+fn the_number_of_slots_alone_counts(rt: HostRuntime) {
+    let alloc = rt.alloc();
+    for &(made_for, used_with, want) in &[(0, 0, true), (1, 0, true), (0, 1, false), (1, 2, false)] {
+        let fits = fits_groups(&rt, alloc, made_for, used_with);
         assert_eq!(rt; fits, want, "{made_for} {used_with}");
     }
 }

@@ -7,7 +7,7 @@ use regex_search_core::{Input, Match, MatchKind};
 use std::alloc::Global;
 use std::process::Abort;
 use test_support::made::{nfa_named, of_kind, pikevm};
-use test_support::text::piked_match;
+use test_support::text::{match_text, piked_match};
 
 // The match that an engine finds, with a new cache.
 fn expect_match(rt: &impl Abort, alloc: Global, vm: &PikeVM, input: Input<'_>, want: &str) {
@@ -54,7 +54,7 @@ fn expect_of_kind(
 }
 
 // The first match of each kind.
-fn expect_kinds(rt: &impl Abort, alloc: Global, name: &str, haystack: &str, wants: &[&str]) {
+fn expect_kinds(rt: &impl Abort, alloc: Global, name: &str, haystack: &str, wants: &[&str; 4]) {
     for (&(kind, earliest), want) in SEARCHES.iter().zip(wants) {
         let input = Input::new(haystack.as_bytes()).earliest(earliest);
         expect_of_kind(rt, alloc, name, kind, input, want);
@@ -93,8 +93,18 @@ fn ends_for_good(rt: HostRuntime) {
 // The engine has so many patterns, and finds this in any text.
 fn expect_everywhere(rt: &impl Abort, alloc: Global, vm: &PikeVM, pattern_len: usize, want: &str) {
     expect_number(rt, vm.pattern_len(), pattern_len);
-    expect_match(rt, alloc, vm, Input::new(b""), want);
-    expect_match(rt, alloc, vm, Input::new(b"foo"), want);
+    for haystack in &["", "foo"] {
+        let input = Input::new(haystack.as_bytes());
+        expect_match(rt, alloc, vm, input, want);
+        expect_first_item(rt, alloc, vm, input, want);
+    }
+}
+
+// The first item of an iteration is the first match.
+fn expect_first_item(rt: &impl Abort, alloc: Global, vm: &PikeVM, input: Input<'_>, want: &str) {
+    let mut cache = vm.create_cache(alloc).expect(rt, "a cache");
+    let first = vm.find_iter(&mut cache, input).next();
+    expect_text(rt, &input, match_text(alloc, first), want);
 }
 
 #[test]

@@ -1,7 +1,7 @@
 -- The states so far were reached.
 use Rattle.std.proofs.Common.{ℕ, ◌<◌, ◌≤◌, get_or}
 use Rattle.std.specs.Prelude.{All}
-use Rattle.nfa_scanning.specs.FirstBytes.{WasReached, Extends, AreBelow}
+use Rattle.nfa_scanning.specs.FirstBytes.{WasReached, Extends, AreBelow, AddsOnly, Differ}
 use Rattle.nfa_scanning.proofs.first_bytes.Reached.add_all.Given as goal
 
 abbrev pub invariant-loop-i : goal.invariant-loop-i
@@ -10,4 +10,6 @@ invariant-loop-i l = record {
   extends : Extends l.fn.self l.self;
   added : (k d : ℕ) → k < l.i → WasReached l.self (get_or l.sids k d);
   below : (n : ℕ) → All (λ s. s < n) l.sids → AreBelow n l.fn.self → AreBelow n l.self;
+  only : AddsOnly l.fn.self l.self l.sids;
+  differ : Differ l.fn.self → Differ l.self;
 }

@@ -6,7 +6,7 @@ pub returns-in-Some : goal.returns-in-Some
 returns-in-Some c = (
   c.in-Some.flaw,
   rw (c.deref.ensures.value, c.deref-2.ensures.value, c.in-Some.is)
-  at (c.first_flaw.ensures c.args.has_empty c.args.utf8),
+      at (c.first_flaw.ensures c.args.has_empty c.args.utf8),
   c.from.ensures,
 )
 
@@ -18,6 +18,6 @@ invariant_of-result c =
 pub returns : goal.returns
 returns c = (
   rw (c.deref.ensures.value, c.deref-2.ensures.value, c.in_default.is)
-  at (c.first_flaw.ensures c.args.has_empty c.args.utf8),
+      at (c.first_flaw.ensures c.args.has_empty c.args.utf8),
   refl,
 )

@@ -1,0 +1,177 @@
+-- Nor does what an overlapping search makes of a set read the flag `earliest` of its input.
+use Rattle.std.proofs.Common.{◌≡◌, ℕ, ◌≤◌, inl, inr, Bool, true, false, List, length, subst}
+use Rattle.std.specs.Prelude.{Option, None, Some}
+use Rattle.regex_search_core.specs.PatternSets.{size_of_set}
+use Rattle.regex_search_core.specs.Search.{Search}
+use Rattle.regex_search_core.specs.declared.search.MatchKind.{MatchKind}
+use Rattle.regex_search_core.specs.declared.search.MatchKind.TheVariants.{All, LeftmostFirst}
+use Rattle.thompson_nfa.specs.Automaton.{Automaton}
+use Rattle.nfa_paths.specs.Graphs.{Pair, WantedAt, NoPath, IsFirstTo, IsLeastEnd}
+use Rattle.nfa_paths.specs.Kinds.{IsReached, WantedBefore}
+use Rattle.nfa_paths.specs.Overlaps.{IsPermitted, IsHeld, IsPatternOf, IsMeantByAll, IsMeantPath, HoldsPath, Gains, IsFirstBefore}
+use Rattle.nfa_paths.specs.Overlaps.{IsOverlapResult, pattern_at}
+use Rattle.nfa_paths.specs.Paths.{edges, starts}
+use Rattle.nfa_paths.proofs.EarliestLemmas.{asked, edges-asked}
+use Rattle.nfa_paths.proofs.PathToLemmas.{IsFirstTo-along}
+use Rattle.nfa_paths.proofs.ReachedLemmas.{IsReached-along}
+
+module _ (nfa : Automaton) where
+  module _ (x : Search) (flag : Bool) where
+    all : edges nfa (asked x flag) ≡ edges nfa x
+    all = λ i v. edges-asked nfa x flag v i
+
+    permitted-asked : (v : Pair) → IsPermitted nfa (asked x flag) v → IsPermitted nfa x v
+    permitted-asked v h = record { matches = h.matches; ends = h.ends }
+
+    held-asked : (capacity : ℕ) (v : Pair) → IsHeld nfa (asked x flag) capacity v → IsHeld nfa x capacity v
+    held-asked capacity v h = record {
+      permitted = permitted-asked v h.permitted;
+      pattern = h.pattern;
+      pattern_is = h.pattern_is;
+      below = h.below;
+    }
+
+    -- the same patterns are reached
+    pattern-asked : (P Q : Pair → Type 0) → ((v : Pair) → P v → Q v) → (k : ℕ) → IsPatternOf nfa (asked x flag) P k
+        → IsPatternOf nfa x Q k
+    pattern-asked P Q to k h =
+        IsReached-along to (subst (λ es. IsReached es (starts nfa x) P (pattern_at nfa) k) all h)
+
+    -- the same ends are the least
+    least-asked : (P Q : Pair → Type 0) → ((v : Pair) → P v → Q v) → ((v : Pair) → Q v → P v) → (e : ℕ)
+        → IsLeastEnd (edges nfa (asked x flag)) (starts nfa x) P e → IsLeastEnd (edges nfa x) (starts nfa x) Q e
+    least-asked P Q to back e h =
+        let k = subst (λ es. IsLeastEnd es (starts nfa x) P e) all h in
+        record {
+          is_end = record {
+            end = k.is_end.end;
+            along = k.is_end.along;
+            path = k.is_end.path;
+            wanted = to k.is_end.end k.is_end.wanted;
+            at = k.is_end.at;
+          };
+          least = λ m p w q. k.least m p w (back m q);
+        }
+
+    -- the same paths come first
+    first-asked : (P Q : Pair → Type 0) → ((v : Pair) → P v → Q v) → ((v : Pair) → Q v → P v) → (p : List Pair)
+        → IsFirstTo (edges nfa (asked x flag)) (starts nfa x) P p → IsFirstTo (edges nfa x) (starts nfa x) Q p
+    first-asked P Q to back p h =
+        IsFirstTo-along (edges nfa x) (starts nfa x) P Q to back
+        (subst (λ es. IsFirstTo es (starts nfa x) P p) all h)
+
+    none-asked : (P Q : Pair → Type 0) → ((v : Pair) → Q v → P v) → NoPath (edges nfa (asked x flag)) (starts nfa x) P
+        → NoPath (edges nfa x) (starts nfa x) Q
+    none-asked P Q back h = λ m p w q. subst (λ es. NoPath es (starts nfa x) P) all h m p w (back m q)
+
+  module _ (x : Search) (flag : Bool) where
+    held-unasked : (capacity : ℕ) (v : Pair) → IsHeld nfa x capacity v → IsHeld nfa (asked x flag) capacity v
+    held-unasked = held-asked (asked x flag) x.earliest
+
+    at-asked : (P Q : Pair → Type 0) → ((v : Pair) → P v → Q v) → (e : ℕ) (v : Pair) → WantedAt P e v → WantedAt Q e v
+    at-asked P Q to e v h = record { wanted = to v h.wanted; at = h.at }
+
+    before-asked : (P Q : Pair → Type 0) → ((v : Pair) → P v → Q v) → (e : ℕ) (v : Pair) → WantedBefore P e v
+        → WantedBefore Q e v
+    before-asked P Q to e v h = record { wanted = to v h.wanted; before = h.before }
+
+    -- what is meant by All
+    meant-asked : (earliest : Bool) (capacity k : ℕ) → IsMeantByAll nfa (asked x flag) earliest capacity k
+        → IsMeantByAll nfa x earliest capacity k
+    meant-asked false capacity k h = pattern-asked x flag _ _ (permitted-asked x flag) k h
+    meant-asked true capacity k h = (
+      h.0,
+      least-asked x flag _ _ (held-asked x flag capacity) (held-unasked capacity) h.0 h.1,
+      pattern-asked x flag _ _ (at-asked _ _ (permitted-asked x flag) h.0) k h.2,
+    )
+
+    -- the path that is meant by LeftmostFirst
+    path-asked : (earliest : Bool) (capacity : ℕ) (path : Option (List Pair))
+        → IsMeantPath nfa (asked x flag) earliest capacity path → IsMeantPath nfa x earliest capacity path
+    path-asked false capacity None h = none-asked x flag _ _ (held-unasked capacity) h
+    path-asked false capacity (Some p) h =
+        first-asked x flag _ _ (held-asked x flag capacity) (held-unasked capacity) p h
+    path-asked true capacity None h = none-asked x flag _ _ (held-unasked capacity) h
+    path-asked true capacity (Some p) h = (
+      h.0,
+      least-asked x flag _ _ (held-asked x flag capacity) (held-unasked capacity) h.0 h.1,
+      first-asked x flag _ _ (at-asked _ _ (held-asked x flag capacity) h.0)
+          (at-asked _ _ (held-unasked capacity) h.0) p h.2,
+    )
+
+    met-asked : (capacity k : ℕ) → IsFirstBefore nfa (asked x flag) capacity k → IsFirstBefore nfa x capacity k
+    met-asked capacity k h = record {
+      limit = h.limit;
+      along = h.along;
+      first = first-asked x flag _ _ (before-asked _ _ (held-asked x flag capacity) h.limit)
+          (before-asked _ _ (held-unasked capacity) h.limit) h.along h.first;
+      pattern_is = h.pattern_is;
+    }
+
+  module _ (x : Search) (flag : Bool) where
+    -- what the empty set becomes
+    holds-asked : (earliest : Bool) (path : Option (List Pair)) (set : List Bool)
+        → HoldsPath nfa (asked x flag) earliest path set → HoldsPath nfa x earliest path set
+    holds-asked false None set h = h
+    holds-asked true None set h = h
+    holds-asked false (Some p) set h = record {
+      end = h.end;
+      ends = h.ends;
+      pattern = h.pattern;
+      pattern_is = h.pattern_is;
+      holds = h.holds;
+      others = λ k held. elim (h.others k held) [
+        | inl same ↦ inl same
+        | inr earlier ↦
+            inr (pattern-asked x flag _ _ (before-asked x flag _ _ (permitted-asked x flag) h.end.1) k earlier)
+      ];
+      exact = λ k. (
+        λ held. met-asked x flag (length set) k ((h.exact k).0 held),
+        λ met. (h.exact k).1 (met-asked (asked x flag) x.earliest (length set) k met),
+      );
+    }
+    holds-asked true (Some p) set h = record {
+      end = h.end;
+      ends = h.ends;
+      pattern = h.pattern;
+      pattern_is = h.pattern_is;
+      holds = h.holds;
+    }
+
+    gains-asked : (kind : MatchKind) (earliest : Bool) (old new : List Bool)
+        → Gains nfa (asked x flag) kind earliest old new → Gains nfa x kind earliest old new
+    gains-asked All earliest old new h = record {
+      gained = λ k. (
+        λ held. elim ((h.gained k).0 held) [
+          | inl had ↦ inl had
+          | inr meant ↦ inr (meant.0, meant-asked x flag earliest (length old) k meant.1)
+        ],
+        λ s. (h.gained k).1 (elim s [
+          | inl had ↦ inl had
+          | inr meant ↦ inr (meant.0, meant-asked (asked x flag) x.earliest earliest (length old) k meant.1)
+        ]),
+      );
+    }
+    gains-asked LeftmostFirst earliest old new h = record {
+      full = h.full;
+      empty = λ e.
+          let m = h.empty e in
+          record {
+            path = m.path;
+            meant = path-asked x flag earliest (length old) m.path m.meant;
+            holds = holds-asked earliest m.path new m.holds;
+          };
+    }
+
+    -- what a search makes of a set
+    pub set-asked : (kind : MatchKind) (earliest : Bool) (old new : List Bool)
+        → IsOverlapResult nfa (asked x flag) kind earliest old new → IsOverlapResult nfa x kind earliest old new
+    set-asked kind earliest old new h = record {
+      capacity = h.capacity;
+      keeps = h.keeps;
+      sound = λ k held. elim (h.sound k held) [
+        | inl had ↦ inl had
+        | inr of ↦ inr (of.0, pattern-asked x flag _ _ (permitted-asked x flag) k of.1)
+      ];
+      gains = gains-asked kind earliest old new h.gains;
+    }

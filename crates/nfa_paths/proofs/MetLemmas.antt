@@ -1,0 +1,255 @@
+-- The first path that ends before a limit, as a search that drops what is behind a match finds it, and the set of the
+-- patterns of such paths.
+use Rattle.std.proofs.Common.{◌≡◌, ℕ, ◌+◌, ◌<◌, ◌≤◌, ◌⊎◌, ◌↔◌, ◌∙◌, inl, inr, Bool, true, false, List, [], ◌∷◌, map, length, refl, sym, ap, subst, arith}
+use Rattle.std.specs.Prelude.{Option, None, Some, cond, option_and_then}
+use Rattle.std.proofs.lemmas.Bool.{cases_Bool, cases_lt}
+use Rattle.regex_search_core.specs.PatternSets.{with_pattern, size_of_set}
+use Rattle.regex_search_core.specs.Search.{Search}
+use Rattle.thompson_nfa.specs.Automaton.{Automaton}
+use Rattle.nfa_paths.specs.Graphs.{Pair, In, Space, NoPath, IsFirstTo, IsFirstPath}
+use Rattle.nfa_paths.specs.FirstPaths.{Path, IsFirst}
+use Rattle.nfa_paths.specs.FirstPaths.Path.{stop, go}
+use Rattle.nfa_paths.specs.Exploring.{Slots, Hit, Item, apply, ExploresTo}
+use Rattle.nfa_paths.specs.Exploring.Item.{Explore, Restore, Load}
+use Rattle.nfa_paths.specs.Kinds.{Passes, WantedBefore, found_along, first_match, before_match, is_resting}
+use Rattle.nfa_paths.specs.Paths.{space, capture, edges, starts, last_of, node_at, path_pattern, pattern_of}
+use Rattle.nfa_paths.specs.Overlaps.{HoldsPattern, IsFirstBefore, IsHeld, pattern_at}
+use Rattle.nfa_paths.proofs.AnswerLemmas.{same_parts}
+use Rattle.nfa_paths.proofs.GainLemmas.{wanted-shape}
+use Rattle.nfa_paths.proofs.PathToLemmas.{EndsWith-last, found-end, IsFirstTo-along, IsFirstTo-unique}
+use Rattle.nfa_paths.proofs.ScanAnswerLemmas.{edges-onward, Scanned-matches, starts-from}
+use Rattle.nfa_paths.proofs.ScanLemmas.{IsFirstPath-found, NoneBefore-start}
+use Rattle.nfa_paths.proofs.SetLemmas.{holds-with, size-none}
+use Rattle.nfa_paths.proofs.TestLemmas.{Tested, is_plain, test, test-true, true-test}
+
+-- work ahead of all targets finds nothing
+module _ (space : Space) (target : Pair → Bool) (e : ℕ)
+    (onward : (x y : Pair) → In y (space.edges x) → x.1 ≤ y.1) (before : (x : Pair) → target x ≡ true → x.1 < e) where
+  Path-ahead : {v : Pair} {p : List Pair} → Path space.edges target v p → e ≤ v.1 → ⊥
+  Path-ahead (stop {v = v} t) l = let k : v.1 < e = before v t in omega arith
+  Path-ahead (go {v = v} {w = w} t i n h) l = let k : v.1 ≤ w.1 = onward v w i in Path-ahead h (omega arith)
+
+  pub Answer-ahead : (left : ℕ) (otherwise : Hit) (marks : List Pair) (work : List Item) (slots : Slots)
+      → ((k : Pair) → In (Explore k) work → e ≤ k.1) → ExploresTo space target left otherwise marks work slots otherwise
+  unfolding ExploresTo
+  Answer-ahead left otherwise marks [] slots ahead = refl
+  Answer-ahead left otherwise marks (Explore v ∷ rest) slots ahead =
+      inr (λ p a. Path-ahead a.path (ahead v (inl refl)),
+          Answer-ahead left otherwise marks rest slots (λ k i. ahead k (inr i)))
+  Answer-ahead left otherwise marks (Restore k old ∷ rest) slots ahead =
+      Answer-ahead left otherwise marks rest _ (λ k i. ahead k (inr i))
+  Answer-ahead left otherwise marks (Load old ∷ rest) slots ahead =
+      Answer-ahead left otherwise marks rest old (λ k i. ahead k (inr i))
+
+-- tests that say the same of a front
+
+same_bits : (a b : Bool) → (a ≡ true → b ≡ true) → (b ≡ true → a ≡ true) → a ≡ b
+same_bits true b f g = sym (f refl)
+same_bits false true f g = g refl
+same_bits false false f g = refl
+
+pub first_match-same : (t u : Pair → Bool) (front : List (Pair × Slots))
+    → ((a : Pair × Slots) → In a front → t a.0 ≡ u a.0) → first_match t front ≡ first_match u front
+first_match-same t u [] same = refl
+first_match-same t u (a ∷ front) same =
+    rw (same a (inl refl), first_match-same t u front (λ b i. same b (inr i))) refl
+
+pub before_match-same : (t u : Pair → Bool) (front : List (Pair × Slots))
+    → ((a : Pair × Slots) → In a front → t a.0 ≡ u a.0) → before_match t front ≡ before_match u front
+before_match-same t u [] same = refl
+before_match-same t u (a ∷ front) same =
+    rw (same a (inl refl), before_match-same t u front (λ b i. same b (inr i))) refl
+
+-- a test that wants nothing else, and whatever is wanted before e
+pub record Between (wants : Pair → Bool) (e : ℕ) (target : Pair → Bool) : Type 0 where
+  pub sub : (v : Pair) → target v ≡ true → wants v ≡ true
+  pub all : (v : Pair) → wants v ≡ true → v.1 < e → target v ≡ true
+
+pub Between-all : (wants : Pair → Bool) (e : ℕ) → Between wants e wants
+Between-all wants e = record { sub = λ v t. t; all = λ v t l. t }
+
+pub Between-less : {wants target : Pair → Bool} {e : ℕ} → Between wants (e + 1) target → Between wants e target
+Between-less {wants} {target} {e} b = record { sub = b.sub; all = λ v t l. b.all v t (omega arith) }
+
+pub Between-same : {wants target : Pair → Bool} {e : ℕ} → Between wants (e + 1) target → (v : Pair) → v.1 ≡ e
+    → target v ≡ wants v
+Between-same {wants} {target} {e} b v at = same_bits (target v) (wants v) (b.sub v) (λ t. b.all v t (omega arith))
+
+-- what is wanted before e, as a test
+module _ (wants : Pair → Bool) (e : ℕ) where
+  tell_before : Tested (WantedBefore (Passes wants) e)
+  tell_before v =
+      elim (cases_Bool (wants v)) [
+        | inl t ↦ elim (cases_lt v.1 e) [
+          | inl less ↦ inl (record { wanted = t; before = less })
+          | inr more ↦ inr (λ h. let k : v.1 < e = h.before in omega arith)
+        ]
+        | inr f ↦ inr (λ h. is_plain (wants v) f h.wanted)
+      ]
+
+  pub before_target : Pair → Bool
+  before_target v = test (tell_before v)
+
+  pub before_is : (v : Pair) → before_target v ≡ true → WantedBefore (Passes wants) e v
+  unfolding before_target
+  before_is v = test-true (tell_before v)
+
+  pub is_before : (v : Pair) → WantedBefore (Passes wants) e v → before_target v ≡ true
+  unfolding before_target
+  is_before v = true-test (tell_before v)
+
+  pub Between-before : (d : ℕ) → d ≤ e → Between wants d before_target
+  Between-before d less = record {
+    sub = λ v t. (before_is v t).wanted;
+    all = λ v t l. is_before v (record { wanted = t; before = omega arith });
+  }
+
+-- The set before is `old`: wanted is what it has room for.
+module _ (nfa : Automaton) (x : Search) (old : List Bool) (wants : Pair → Bool)
+    (tells : (v : Pair) → (wants v ≡ true) ↔ IsHeld nfa x (length old) v) where
+  -- a first path before the limit
+  abbrev First : ℕ → List Pair → Type 0
+  First limit p = IsFirstTo (edges nfa x) (starts nfa x) (WantedBefore (Passes wants) limit) p
+
+  First-held : (limit : ℕ) (p : List Pair) → First limit p
+      → IsFirstTo (edges nfa x) (starts nfa x) (WantedBefore (IsHeld nfa x (length old)) limit) p
+  First-held limit p = IsFirstTo-along (edges nfa x) (starts nfa x) _ _
+      (λ v w. record { wanted = (tells v).0 w.wanted; before = w.before })
+      (λ v w. record { wanted = (tells v).1 w.wanted; before = w.before })
+
+  held-First : (limit : ℕ) (p : List Pair)
+      → IsFirstTo (edges nfa x) (starts nfa x) (WantedBefore (IsHeld nfa x (length old)) limit) p → First limit p
+  held-First limit p = IsFirstTo-along (edges nfa x) (starts nfa x) _ _
+      (λ v w. record { wanted = (tells v).1 w.wanted; before = w.before })
+      (λ v w. record { wanted = (tells v).0 w.wanted; before = w.before })
+
+  -- what was found is the end of the first path before the limit, or there is none
+  abbrev pub Best : ℕ → Hit → Type 0
+  Best limit None = NoPath (edges nfa x) (starts nfa x) (WantedBefore (Passes wants) limit)
+  Best limit (Some a) = (p : List Pair) × First limit p × (last_of p ≡ Some a.0)
+
+  -- the search for what is wanted before the limit finds it
+  pub Best-found : (limit turns : ℕ) (slots : Slots) (g : Hit)
+      → ExploresTo (space nfa x) (before_target wants limit) turns None [] (map Explore (starts nfa x)) slots g
+      → Best limit g
+  Best-found limit turns slots g answer =
+      let h = IsFirstPath-found (space nfa x) (is_resting nfa) (before_target wants limit) slots
+      (Scanned-matches nfa x (before_target wants limit)
+      (λ v t. ((tells v).0 (before_is wants limit v t).wanted).permitted.matches)) turns g answer in
+      of g h.path h.meant h.leads
+    where
+      of : (g : Hit) (o : Option (List Pair))
+          → IsFirstPath (edges nfa x) (starts nfa x) (Passes (before_target wants limit)) o
+          → found_along (capture nfa) o slots ≡ g → Best limit g
+      of None None none is = λ m p w h. none m p w (is_before wants limit m h)
+      of (Some a) None none is = cc
+      of None (Some p) first is =
+          let end = found-end (capture nfa) first.end p slots first.path.ends in
+          let never : Some (first.end, apply (capture nfa) p slots) ≡ None = sym end ∙ is in cc
+      of (Some a) (Some p) first is =
+          let end = found-end (capture nfa) first.end p slots first.path.ends in
+          let here : first.end ≡ a.0 = (same_parts (first.end, apply (capture nfa) p slots) a (sym end ∙ is)).0 in
+          (p,
+              IsFirstTo-along (edges nfa x) (starts nfa x) (Passes (before_target wants limit))
+              (WantedBefore (Passes wants) limit) (before_is wants limit) (is_before wants limit) first,
+              EndsWith-last None first.end p first.path.ends ∙ ap Some here)
+
+  Best-start : Best x.start None
+  Best-start = NoneBefore-start (space nfa x) (is_resting nfa) wants [] (wanted-shape nfa x old wants tells) x.start
+      (starts-from nfa x)
+
+  -- the pattern of a path that ends with the pair
+  ends-pattern : (p : List Pair) (v : Pair) → last_of p ≡ Some v → path_pattern nfa p ≡ pattern_at nfa v
+  ends-pattern p v last = ap (λ o. option_and_then (λ (w : Pair). pattern_of (node_at nfa w.0)) o) last
+
+  -- so the first path before the limit has the pattern of what was found
+  Best-pattern : (limit : ℕ) (a : Pair × Slots) → Best limit (Some a) → (p : List Pair) → First limit p
+      → path_pattern nfa p ≡ pattern_at nfa a.0
+  Best-pattern limit a best p first =
+      let same : best.0 ≡ p = IsFirstTo-unique (edges nfa x) (starts nfa x) (WantedBefore (Passes wants) limit) best.0 p
+      best.1 first in
+      ap (path_pattern nfa) (sym same) ∙ ends-pattern best.0 a.0 best.2
+
+  -- The set holds the patterns of the first paths before each limit up to e, of which the last is what was found.
+  pub record Exact (e : ℕ) (g : Hit) (new : List Bool) : Type 0 where
+    pub best : Best e g
+    pub sound : (k : ℕ) → HoldsPattern new k → IsFirstBefore nfa x (length old) k
+    pub complete : (limit : ℕ) → limit ≤ e → (p : List Pair) → First limit p → (k : ℕ) → path_pattern nfa p ≡ Some k
+        → HoldsPattern new k
+
+  pub Exact-start : size_of_set old ≡ 0 → Exact x.start None old
+  Exact-start empty = record {
+    best = Best-start;
+    sound = λ k h. absurd (size-none old empty k h);
+    complete = λ limit below p first k is.
+        absurd (Best-start first.end p first.path
+        (record { wanted = first.wanted.wanted; before = let l : first.end.1 < limit =
+            first.wanted.before in omega arith }));
+  }
+
+  -- as long as nothing else is found
+  Exact-later : {e : ℕ} {g : Hit} {new : List Bool} → Exact e g new → (limit : ℕ) → Best limit g → (p : List Pair)
+      → First limit p → (k : ℕ) → path_pattern nfa p ≡ Some k → HoldsPattern new k
+  Exact-later {e} {g = None} h limit best p first k is = absurd (best first.end p first.path first.wanted)
+  Exact-later {e} {g = Some a} h limit best p first k is =
+      let before = h.best in
+      h.complete e (omega arith) before.0 before.1 k
+      (Best-pattern e a before before.0 before.1 ∙ sym (Best-pattern limit a best p first) ∙ is)
+
+  pub Exact-next : {e : ℕ} {g : Hit} {new : List Bool} → Best (e + 1) g → Exact e g new → Exact (e + 1) g new
+  Exact-next {e} {g} best h = record {
+    best = best;
+    sound = h.sound;
+    complete = λ limit below p first k is.
+        elim (cases_lt limit (e + 1)) [
+          | inl less ↦ h.complete limit (omega arith) p first k is
+          | inr more ↦
+              let at : limit ≡ e + 1 = omega arith in
+              Exact-later h (e + 1) best p (subst (λ n. First n p) at first) k is
+        ];
+  }
+
+  -- one more match
+  pub Exact-match : {e k : ℕ} {g : Hit} {mid new : List Bool} (a : Pair × Slots) → Best (e + 1) (Some a)
+      → Exact e g mid → pattern_at nfa a.0 ≡ Some k → k < length mid → new ≡ with_pattern mid k
+      → Exact (e + 1) (Some a) new
+  Exact-match {e} {k} {g} {mid} {new} a best h pattern_is below put = record {
+    best = best;
+    sound = λ j held.
+        elim ((holds-with mid k j).0 (rw put at held)) [
+          | inl had ↦ h.sound j had
+          | inr here ↦ record {
+            limit = e + 1;
+            along = best.0;
+            first = First-held (e + 1) best.0 best.1;
+            pattern_is = Best-pattern (e + 1) a best best.0 best.1 ∙ pattern_is ∙ ap Some here.1;
+          }
+        ];
+    complete = λ limit up_to p first j is.
+        rw put ((holds-with mid k j).1 (elim (cases_lt limit (e + 1)) [
+          | inl less ↦ inl (h.complete limit (omega arith) p first j is)
+          | inr more ↦
+              let at : limit ≡ e + 1 = omega arith in
+              let both : Some k ≡ Some j =
+              sym pattern_is ∙ sym (Best-pattern (e + 1) a best p (subst (λ n. First n p) at first)) ∙ is in
+              let same : k ≡ j = same_number k j both in
+              inr (subst (λ n. n < length mid) same below, same)
+        ]));
+  }
+    where
+      same_number : (m n : ℕ) → Some m ≡ Some n → m ≡ n
+      same_number m n both = cc
+
+  -- in the end
+  pub Exact-end : {e : ℕ} {g : Hit} {new : List Bool} → Exact e g new → length new ≡ length old
+      → ((limit : ℕ) → e ≤ limit → Best limit g) → (k : ℕ) → HoldsPattern new k ↔ IsFirstBefore nfa x (length new) k
+  Exact-end {e} {g} {new} h size over k = (
+    λ held. rw size (h.sound k held),
+    λ met.
+        let first : IsFirstBefore nfa x (length old) k = rw size at met in
+        let p = held-First first.limit first.along first.first in
+        elim (cases_lt first.limit e) [
+          | inl less ↦ h.complete first.limit (omega arith) first.along p k first.pattern_is
+          | inr more ↦ Exact-later h first.limit (over first.limit more) first.along p k first.pattern_is
+        ],
+  )

@@ -1,0 +1,338 @@
+//! Calls that make no request for memory, or a number of them that is known. Each stretch of such calls stands between
+//! two requests of its own; `.ci/refusals` has the numbers of those that lie between them.
+
+use super::searches::{are_groups, found};
+use super::{Seen, Wrong, engines, expect};
+use nfa_choice::choose::Choice;
+use nfa_engines::backtrack::{self, BoundedBacktracker};
+use nfa_engines::error::SearchError;
+use nfa_engines::pikevm::{self, PikeVM};
+use regex_search_core::MatchKind::All;
+use regex_search_core::{Captures, Input, NonMaxUsize, PatternSet};
+use std::alloc::Global;
+use test_support::text::parts;
+
+/// All stretches but that of the PikeVM's searches leftmost first.
+pub fn stretches(alloc: Global, seen: &mut Seen) -> Result<(), Wrong> {
+    warm_backtracker(alloc, seen)?;
+    warm_choice(alloc, seen)?;
+    piked_in_all(alloc, seen)?;
+    new_caches(alloc, seen)?;
+    iterators(alloc, seen)
+}
+
+// What is searched: the first match and its slots are those of "ab".
+const TWICE: &[u8] = b"ab ab";
+
+const REFUSED: &str = "a refusal of what takes no memory";
+
+fn granted<T: Drop>(answer: Result<T, SearchError>) -> Result<T, Wrong> {
+    match answer {
+        Ok(answer) => Ok(answer),
+        Err(_) => Err(Wrong(REFUSED)),
+    }
+}
+
+// The first search makes room, and the others take what there is.
+fn warm_backtracker(alloc: Global, seen: &mut Seen) -> Result<(), Wrong> {
+    let engine = engines::backtracker(alloc, seen, "groups")?;
+    let mut cache = engine.create_cache(alloc);
+    expect_warm(alloc, seen, &engine, &mut cache)
+}
+
+fn expect_warm(
+    alloc: Global,
+    seen: &mut Seen,
+    engine: &BoundedBacktracker,
+    cache: &mut backtrack::Cache,
+) -> Result<(), Wrong> {
+    let mut captures = engines::backtracker_captures(alloc, seen, engine)?;
+    expect_warm_with(alloc, seen, engine, cache, &mut captures)
+}
+
+fn expect_warm_with(
+    alloc: Global,
+    seen: &mut Seen,
+    engine: &BoundedBacktracker,
+    cache: &mut backtrack::Cache,
+    captures: &mut Captures,
+) -> Result<(), Wrong> {
+    let first = found(seen, engine, cache, TWICE)?;
+    expect(first.map(parts) == Some((0, 0, 2)), "the first match")?;
+    seen.opens(alloc, "warm searches of the backtracker");
+    let searched = expect_tries(engine, cache, captures);
+    seen.closes(alloc, "warm searches of the backtracker");
+    searched
+}
+
+fn expect_tries(
+    engine: &BoundedBacktracker,
+    cache: &mut backtrack::Cache,
+    captures: &mut Captures,
+) -> Result<(), Wrong> {
+    let input = Input::new(TWICE);
+    let mut slots = [NonMaxUsize::new(7); 6];
+    let pattern = granted(engine.try_search_slots(cache, &input, &mut slots))?;
+    expect(are_groups(pattern, &slots), "the slots of a warm search")?;
+    let found = granted(engine.try_find(cache, input))?;
+    expect(found.map(parts) == Some((0, 0, 2)), "the warm match")?;
+    let is_match = granted(engine.try_is_match(cache, input))?;
+    expect(is_match, "whether there is a warm match")?;
+    granted(engine.try_search(cache, &input, captures))?;
+    granted(engine.try_captures(cache, input, captures))?;
+    let caught = are_groups(captures.pattern(), captures.slots());
+    expect(caught, "the captures of a warm search")?;
+    expect(count_tries(engine, cache) == 2, "the list of a warm cache")
+}
+
+// How many matches there are, up to an error.
+fn count_tries(engine: &BoundedBacktracker, cache: &mut backtrack::Cache) -> usize {
+    let mut count = 0;
+    for found in engine.try_find_iter(cache, Input::new(TWICE)) {
+        if found.is_ok() {
+            count = usize::saturating_add(count, 1);
+        }
+    }
+    count
+}
+
+fn warm_choice(alloc: Global, seen: &mut Seen) -> Result<(), Wrong> {
+    let mut choice = engines::choice(alloc, seen, "groups")?;
+    expect_warm_choice(alloc, seen, &mut choice)
+}
+
+fn expect_warm_choice(alloc: Global, seen: &mut Seen, choice: &mut Choice) -> Result<(), Wrong> {
+    let mut captures = engines::captures(alloc, seen, choice.get_nfa().group_info())?;
+    let first = choice.find(Input::new(TWICE)).map(parts);
+    expect(first == Some((0, 0, 2)), "the first chosen match")?;
+    seen.opens(alloc, "warm searches of the choice");
+    let searched = expect_chosen(choice, &mut captures);
+    seen.closes(alloc, "warm searches of the choice");
+    searched
+}
+
+fn expect_chosen(choice: &mut Choice, captures: &mut Captures) -> Result<(), Wrong> {
+    let input = Input::new(TWICE);
+    let mut slots = [NonMaxUsize::new(7); 6];
+    let pattern = choice.search_slots(&input, &mut slots);
+    expect(are_groups(pattern, &slots), "the slots of a warm choice")?;
+    let found = choice.find(input).map(parts);
+    expect(found == Some((0, 0, 2)), "the match of a warm choice")?;
+    expect(choice.is_match(input), "whether a warm choice matches")?;
+    choice.search(&input, captures);
+    let caught = are_groups(captures.pattern(), captures.slots());
+    expect(caught, "the captures of a warm choice")?;
+    let earliest = choice.find(input.earliest(true)).is_some();
+    expect(earliest, "the earliest match of a warm choice")?;
+    expect(choice.find_iter(input).count() == 2, "the list of a warm choice")
+}
+
+// Searches of the other kind, over a text that is longer than any other here, and sets of several patterns.
+fn piked_in_all(alloc: Global, seen: &mut Seen) -> Result<(), Wrong> {
+    let vm = engines::pikevm_of_kind(alloc, seen, "foo_bar", All)?;
+    expect_all(alloc, seen, &vm)
+}
+
+fn expect_all(alloc: Global, seen: &mut Seen, vm: &PikeVM) -> Result<(), Wrong> {
+    let mut cache = engines::threads(alloc, seen, vm)?;
+    expect_all_with(alloc, seen, vm, &mut cache)
+}
+
+fn expect_all_with(
+    alloc: Global,
+    seen: &mut Seen,
+    vm: &PikeVM,
+    cache: &mut pikevm::Cache,
+) -> Result<(), Wrong> {
+    let mut set = engines::set(alloc, seen, 4)?;
+    seen.opens(alloc, "searches of a PikeVM for all");
+    let searched = expect_long(vm, cache);
+    let found = expect_set(vm, cache, &mut set);
+    seen.closes(alloc, "searches of a PikeVM for all");
+    searched?;
+    found
+}
+
+const LONG: &[u8] = &[b'.'; 1500];
+
+fn expect_long(vm: &PikeVM, cache: &mut pikevm::Cache) -> Result<(), Wrong> {
+    let mut slots = [NonMaxUsize::new(7); 8];
+    if !cache.fits(vm) {
+        return Err(Wrong("a cache that does not fit"));
+    }
+    let pattern = vm.search_slots(cache, &Input::new(LONG), &mut slots);
+    expect(pattern.is_none(), "a pattern in a long text")?;
+    if !cache.fits(vm) {
+        return Err(Wrong("a cache that fits no more"));
+    }
+    expect(vm.find_iter(cache, Input::new(LONG)).count() == 0, "matches in a long text")
+}
+
+// The patterns 0, 1 and 3 match somewhere in the text, and the long one has none.
+fn expect_set(vm: &PikeVM, cache: &mut pikevm::Cache, set: &mut PatternSet) -> Result<(), Wrong> {
+    for &(text, len) in &[(LONG, 0), (b"foobar".as_slice(), 3)] {
+        if !cache.fits(vm) {
+            return Err(Wrong("a cache that fits no more"));
+        }
+        vm.which_overlapping_matches(cache, &Input::new(text), set);
+        expect(set.len() == len, "a set of overlapping matches")?;
+    }
+    Ok(())
+}
+
+// A cache of a PikeVM has seven tables; one of a backtracker has none before a search. A reset for the same engine takes
+// no memory.
+fn new_caches(alloc: Global, seen: &mut Seen) -> Result<(), Wrong> {
+    let vm = engines::pikevm(alloc, seen, "groups")?;
+    expect_threads(alloc, seen, &vm)?;
+    let engine = engines::backtracker(alloc, seen, "groups")?;
+    expect_marks(alloc, seen, &engine)
+}
+
+fn expect_threads(alloc: Global, seen: &mut Seen, vm: &PikeVM) -> Result<(), Wrong> {
+    seen.opens(alloc, "a cache of a PikeVM");
+    let made = vm.create_cache(alloc);
+    seen.closes(alloc, "a cache of a PikeVM");
+    match made {
+        Ok(mut cache) => expect_reset(alloc, seen, vm, &mut cache),
+        Err(error) => seen.note(error == SearchError::Memory),
+    }
+}
+
+fn expect_reset(
+    alloc: Global,
+    seen: &mut Seen,
+    vm: &PikeVM,
+    cache: &mut pikevm::Cache,
+) -> Result<(), Wrong> {
+    seen.opens(alloc, "a second reset");
+    let reset = vm.reset_cache(cache);
+    seen.closes(alloc, "a second reset");
+    granted(reset)?;
+    expect(cache.fits(vm), "a cache after a second reset")
+}
+
+// The first search takes marks and a stack.
+fn expect_marks(alloc: Global, seen: &mut Seen, engine: &BoundedBacktracker) -> Result<(), Wrong> {
+    seen.opens(alloc, "a cache of a backtracker");
+    let mut cache = engine.create_cache(alloc);
+    engine.reset_cache(&mut cache);
+    seen.closes(alloc, "a cache of a backtracker");
+    expect_first(alloc, seen, engine, &mut cache)
+}
+
+fn expect_first(
+    alloc: Global,
+    seen: &mut Seen,
+    engine: &BoundedBacktracker,
+    cache: &mut backtrack::Cache,
+) -> Result<(), Wrong> {
+    seen.opens(alloc, "the first search of the backtracker");
+    let is_match = engine.try_is_match(cache, Input::new(TWICE));
+    seen.closes(alloc, "the first search of the backtracker");
+    match is_match {
+        Ok(is_match) => expect(is_match, "whether there is a first match"),
+        Err(error) => seen.note(error == SearchError::Memory),
+    }
+}
+
+// An iterator that is made has searched nothing, and takes no memory but that of captures that it makes.
+fn iterators(alloc: Global, seen: &mut Seen) -> Result<(), Wrong> {
+    let vm = engines::pikevm(alloc, seen, "groups")?;
+    make_piked(alloc, seen, &vm)?;
+    let engine = engines::backtracker(alloc, seen, "groups")?;
+    make_backtracked(alloc, seen, &engine)?;
+    chosen_iterators(alloc, seen)
+}
+
+fn chosen_iterators(alloc: Global, seen: &mut Seen) -> Result<(), Wrong> {
+    let mut choice = engines::choice(alloc, seen, "groups")?;
+    make_chosen(alloc, seen, &mut choice);
+    Ok(())
+}
+
+fn make_piked(alloc: Global, seen: &mut Seen, vm: &PikeVM) -> Result<(), Wrong> {
+    let mut cache = engines::threads(alloc, seen, vm)?;
+    make_piked_with(alloc, seen, vm, &mut cache)
+}
+
+fn make_piked_with(
+    alloc: Global,
+    seen: &mut Seen,
+    vm: &PikeVM,
+    cache: &mut pikevm::Cache,
+) -> Result<(), Wrong> {
+    if !cache.fits(vm) {
+        return Err(Wrong("a cache that does not fit"));
+    }
+    seen.opens(alloc, "iterators of a PikeVM");
+    let _matches = vm.find_iter(cache, Input::new(TWICE));
+    seen.closes(alloc, "iterators of a PikeVM");
+    make_piked_captures(alloc, seen, vm, cache)
+}
+
+// Captures have names, those of one pattern, and slots. An iterator makes as much where it makes them.
+fn make_piked_captures(
+    alloc: Global,
+    seen: &mut Seen,
+    vm: &PikeVM,
+    cache: &mut pikevm::Cache,
+) -> Result<(), Wrong> {
+    if !cache.fits(vm) {
+        return Err(Wrong("a cache that fits no more"));
+    }
+    seen.opens(alloc, "captures of a PikeVM");
+    let made = vm.create_captures(alloc);
+    seen.closes(alloc, "captures of a PikeVM");
+    match made {
+        Ok(captures) => {
+            seen.opens(alloc, "an iterator with captures");
+            let _items = vm.captures_iter_with(cache, Input::new(TWICE), captures);
+            seen.closes(alloc, "an iterator with captures");
+            Ok(())
+        }
+        Err(error) => seen.note(error == SearchError::Memory),
+    }
+}
+
+fn make_backtracked(
+    alloc: Global,
+    seen: &mut Seen,
+    engine: &BoundedBacktracker,
+) -> Result<(), Wrong> {
+    let mut cache = engine.create_cache(alloc);
+    make_backtracked_with(alloc, seen, engine, &mut cache)
+}
+
+fn make_backtracked_with(
+    alloc: Global,
+    seen: &mut Seen,
+    engine: &BoundedBacktracker,
+    cache: &mut backtrack::Cache,
+) -> Result<(), Wrong> {
+    seen.opens(alloc, "iterators of a backtracker");
+    let _matches = engine.try_find_iter(cache, Input::new(TWICE));
+    seen.closes(alloc, "iterators of a backtracker");
+    make_backtracked_captures(alloc, seen, engine, cache)
+}
+
+fn make_backtracked_captures(
+    alloc: Global,
+    seen: &mut Seen,
+    engine: &BoundedBacktracker,
+    cache: &mut backtrack::Cache,
+) -> Result<(), Wrong> {
+    seen.opens(alloc, "an iterator that makes captures");
+    let made = engine.try_captures_iter(alloc, cache, Input::new(TWICE));
+    seen.closes(alloc, "an iterator that makes captures");
+    match made {
+        Ok(_items) => Ok(()),
+        Err(error) => seen.note(error == SearchError::Memory),
+    }
+}
+
+fn make_chosen(alloc: Global, seen: &mut Seen, choice: &mut Choice) {
+    seen.opens(alloc, "iterators of a choice");
+    let _matches = choice.find_iter(Input::new(TWICE));
+    seen.closes(alloc, "iterators of a choice");
+}
