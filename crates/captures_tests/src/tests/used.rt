@@ -159,7 +159,13 @@ fn items_have_named_groups(rt: HostRuntime) {
 const DATE: &[u8] = b"2010-03-14";
 
 // The groups of `date` there: the whole, the year, the month and the day, and no more.
-const DATE_GROUPS: &[Option<(usize, usize)>] = &[Some((0, 10)), Some((0, 4)), Some((5, 7)), Some((8, 10)), None];
+const DATE_GROUPS: &[Option<(usize, usize)>] = &[
+    Some((0, 10)),
+    Some((0, 4)),
+    Some((5, 7)),
+    Some((8, 10)),
+    None,
+];
 
 fn group_span(captures: &Captures, index: usize) -> Option<(usize, usize)> {
     match captures.get_group(index) {
@@ -172,7 +178,11 @@ fn expect_date(rt: &impl Abort, all: &[Captures]) {
     expect_len(rt, all.len(), 1, "dates");
     for captures in all {
         for (index, want) in DATE_GROUPS.iter().enumerate() {
-            expect(rt, group_span(captures, index) == *want, "a group of the date");
+            expect(
+                rt,
+                group_span(captures, index) == *want,
+                "a group of the date",
+            );
         }
     }
 }

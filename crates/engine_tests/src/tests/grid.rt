@@ -227,28 +227,43 @@ fn expect_samples(rt: &impl Abort, alloc: Global, sums: &[(&str, u64)]) {
     }
 }
 
-// The samples in five parts: a test has a minute.
+// The samples in parts: a test has a minute.
 #[test]
 fn all_calls_answer_as_upstream_over_words(rt: HostRuntime) {
-    expect_samples(&rt, rt.alloc(), &SUMS[..6]);
+    expect_samples(&rt, rt.alloc(), &SUMS[..4]);
 }
 
 #[test]
-fn all_calls_answer_as_upstream_over_small_words(rt: HostRuntime) {
-    expect_samples(&rt, rt.alloc(), &SUMS[6..12]);
+fn all_calls_answer_as_upstream_over_more_words(rt: HostRuntime) {
+    expect_samples(&rt, rt.alloc(), &SUMS[4..8]);
 }
 
 #[test]
 fn all_calls_answer_as_upstream_over_empty_matches(rt: HostRuntime) {
-    expect_samples(&rt, rt.alloc(), &SUMS[12..17]);
+    expect_samples(&rt, rt.alloc(), &SUMS[8..12]);
+}
+
+#[test]
+fn all_calls_answer_as_upstream_over_more_empty_matches(rt: HostRuntime) {
+    expect_samples(&rt, rt.alloc(), &SUMS[12..15]);
 }
 
 #[test]
 fn all_calls_answer_as_upstream_over_slots(rt: HostRuntime) {
-    expect_samples(&rt, rt.alloc(), &SUMS[17..22]);
+    expect_samples(&rt, rt.alloc(), &SUMS[15..18]);
+}
+
+#[test]
+fn all_calls_answer_as_upstream_over_odd_slots(rt: HostRuntime) {
+    expect_samples(&rt, rt.alloc(), &SUMS[18..22]);
 }
 
 #[test]
 fn all_calls_answer_as_upstream_over_long_matches(rt: HostRuntime) {
-    expect_samples(&rt, rt.alloc(), &SUMS[22..]);
+    expect_samples(&rt, rt.alloc(), &SUMS[22..25]);
+}
+
+#[test]
+fn all_calls_answer_as_upstream_over_the_last(rt: HostRuntime) {
+    expect_samples(&rt, rt.alloc(), &SUMS[25..]);
 }

@@ -144,8 +144,18 @@ const TEN_SLOTS: &[(&str, &[u8], Bound, &str)] = &[
     ("abc", b"abx", Bound::Start, "none - - - - - - - - - -"),
     ("abc", b"abc", Bound::Pattern(0), "0 0 3 - - - - - - - -"),
     ("abc", b"abc", Bound::Pattern(5), "none - - - - - - - - - -"),
-    ("groups", b"ab", Bound::Pattern(5), "none - - - - - - - - - -"),
-    ("empty", b"\x80\x80", Bound::Anywhere, "0 2 2 - - - - - - - -"),
+    (
+        "groups",
+        b"ab",
+        Bound::Pattern(5),
+        "none - - - - - - - - - -",
+    ),
+    (
+        "empty",
+        b"\x80\x80",
+        Bound::Anywhere,
+        "0 2 2 - - - - - - - -",
+    ),
 ];
 
 #[test]

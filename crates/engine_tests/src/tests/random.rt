@@ -10,21 +10,24 @@ use thompson_nfa::{Look, NFA};
 
 const HAYSTACKS: &[&[u8]] = &[b"", b"ab", b"abca", b"a\xE2\x98\x83", b"\x80b a"];
 
-// There are five parts of so many NFAs.
-const PART: usize = 20;
+// There are ten parts of so many NFAs.
+const PART: usize = 10;
 
 const FIRST_STATE: u64 = 2010;
 
-// The number that is made of the answers of all searches of all NFAs is the last. It was made of the answers of
-// regex-automata 0.4.18 to single searches, over the NFAs that the same generator made in another language. Those before
-// it are what that number comes from, behind each part: each answer goes into all numbers behind it, so where one of them
-// were wrong, the last would not be that of regex-automata.
+// The numbers that are made of the answers of all searches of all NFAs, behind each part. They were made of the answers of
+// regex-automata 0.4.18 to single searches, over the NFAs that the same generator made in another language.
 const SUMS: &[u64] = &[
     SEED,
+    1861892410165724649,
     11814896079961035759,
+    8700693527630378015,
     3112159056568369119,
+    11662113091756313425,
     10809539617642526514,
+    1613264790971867764,
     4228821444749841996,
+    16601322010708163812,
     10572554243172587508,
 ];
 
@@ -224,28 +227,53 @@ fn expect_sums(rt: &impl Abort, shared: &mut Shared, chance: &mut Chance, part: 
     assert!(rt; sum == want, "{part}: {sum}");
 }
 
-// The NFAs in five parts: a test has a minute.
+// The NFAs in ten parts: a test has a minute.
 #[test]
-fn all_calls_search_what_chance_makes_first(rt: HostRuntime) {
+fn all_calls_search_what_chance_makes_from_0(rt: HostRuntime) {
     expect_part(&rt, rt.alloc(), 0);
 }
 
 #[test]
-fn all_calls_search_what_chance_makes_second(rt: HostRuntime) {
+fn all_calls_search_what_chance_makes_from_10(rt: HostRuntime) {
     expect_part(&rt, rt.alloc(), 1);
 }
 
 #[test]
-fn all_calls_search_what_chance_makes_third(rt: HostRuntime) {
+fn all_calls_search_what_chance_makes_from_20(rt: HostRuntime) {
     expect_part(&rt, rt.alloc(), 2);
 }
 
 #[test]
-fn all_calls_search_what_chance_makes_fourth(rt: HostRuntime) {
+fn all_calls_search_what_chance_makes_from_30(rt: HostRuntime) {
     expect_part(&rt, rt.alloc(), 3);
 }
 
 #[test]
-fn all_calls_search_what_chance_makes_last(rt: HostRuntime) {
+fn all_calls_search_what_chance_makes_from_40(rt: HostRuntime) {
     expect_part(&rt, rt.alloc(), 4);
+}
+
+#[test]
+fn all_calls_search_what_chance_makes_from_50(rt: HostRuntime) {
+    expect_part(&rt, rt.alloc(), 5);
+}
+
+#[test]
+fn all_calls_search_what_chance_makes_from_60(rt: HostRuntime) {
+    expect_part(&rt, rt.alloc(), 6);
+}
+
+#[test]
+fn all_calls_search_what_chance_makes_from_70(rt: HostRuntime) {
+    expect_part(&rt, rt.alloc(), 7);
+}
+
+#[test]
+fn all_calls_search_what_chance_makes_from_80(rt: HostRuntime) {
+    expect_part(&rt, rt.alloc(), 8);
+}
+
+#[test]
+fn all_calls_search_what_chance_makes_from_90(rt: HostRuntime) {
+    expect_part(&rt, rt.alloc(), 9);
 }

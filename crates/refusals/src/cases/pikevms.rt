@@ -35,7 +35,10 @@ fn expect_reset_to(
 ) -> Result<(), Wrong> {
     let other = engines::pikevm(alloc, seen, name)?;
     let still_fits = expect_reset(alloc, seen, groups, &other)?;
-    expect(still_fits == is_larger, "the numbers of a cache after its reset")
+    expect(
+        still_fits == is_larger,
+        "the numbers of a cache after its reset",
+    )
 }
 
 // Whether a cache of `groups` fits it still after the reset to the other engine.

@@ -124,7 +124,10 @@ fn expect_chosen(choice: &mut Choice, captures: &mut Captures) -> Result<(), Wro
     expect(caught, "the captures of a warm choice")?;
     let earliest = choice.find(input.earliest(true)).is_some();
     expect(earliest, "the earliest match of a warm choice")?;
-    expect(choice.find_iter(input).count() == 2, "the list of a warm choice")
+    expect(
+        choice.find_iter(input).count() == 2,
+        "the list of a warm choice",
+    )
 }
 
 // Searches of the other kind, over a text that is longer than any other here, and sets of several patterns.
@@ -165,7 +168,10 @@ fn expect_long(vm: &PikeVM, cache: &mut pikevm::Cache) -> Result<(), Wrong> {
     if !cache.fits(vm) {
         return Err(Wrong("a cache that fits no more"));
     }
-    expect(vm.find_iter(cache, Input::new(LONG)).count() == 0, "matches in a long text")
+    expect(
+        vm.find_iter(cache, Input::new(LONG)).count() == 0,
+        "matches in a long text",
+    )
 }
 
 // The patterns 0, 1 and 3 match somewhere in the text, and the long one has none.

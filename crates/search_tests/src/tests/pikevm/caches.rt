@@ -128,7 +128,12 @@ fn fits_groups(rt: &impl Abort, alloc: Global, made_for: usize, used_with: usize
 #[test]
 fn the_number_of_slots_alone_counts(rt: HostRuntime) {
     let alloc = rt.alloc();
-    for &(made_for, used_with, want) in &[(0, 0, true), (1, 0, true), (0, 1, false), (1, 2, false)] {
+    for &(made_for, used_with, want) in &[
+        (0, 0, true),
+        (1, 0, true),
+        (0, 1, false),
+        (1, 2, false),
+    ] {
         let fits = fits_groups(&rt, alloc, made_for, used_with);
         assert_eq!(rt; fits, want, "{made_for} {used_with}");
     }
