@@ -4,12 +4,9 @@ use Rattle.regex_search_core.specs.Found.{Found}
 use Rattle.regex_search_core.specs.Search.{Search}
 use Rattle.regex_search_core.specs.declared.search.MatchKind.{MatchKind}
 use Rattle.thompson_nfa.specs.Automaton.{Automaton}
-use Rattle.nfa_paths.specs.Graphs.{Pair, EndsWith, PathTo, NoPath}
+use Rattle.nfa_paths.specs.Graphs.{Pair, EndsWith, PathTo}
 use Rattle.nfa_paths.specs.Paths.{edges, starts, is_utf8_empty, path_pattern, IsMatch, IsSearchAnswer}
-
--- The search has no accepting path. (A record, so that what concludes it shows the NFA and the search.)
-pub record MatchesNothing (nfa : Automaton) (x : Search) : Type 0 where
-  pub no_path : NoPath (edges nfa x) (starts nfa x) (IsMatch nfa)
+pub use Rattle.nfa_engines.specs.Accepting.{MatchesNothing}
 
 -- the match is that of this accepting path: its pattern, where it starts and where it ends
 pub record IsMatchOfPath (nfa : Automaton) (x : Search) (p : List Pair) (m : Found) : Type 0 where

@@ -5,7 +5,9 @@ use Rattle.std.specs.Prelude.{Option, None, Some}
 use Rattle.regex_search_core.specs.Search.{Search}
 use Rattle.regex_search_core.specs.declared.search.Span.{Span}
 use Rattle.nfa_paths.specs.Paths.{span_len}
-use Rattle.nfa_search_base.specs.Walks.{Walk, fresh, ends_left}
+use Rattle.nfa_search_base.specs.Walks.{Advances, Answer, ComesAfter, LeavesFewer, Walk, fresh, ends_left, place_of}
+use Rattle.nfa_search_base.specs.Walks.{repeats}
+use Rattle.nfa_search_base.proofs.StepLemmas.{chosen}
 use Rattle.nfa_engines.specs.IterationLaws.{IsCall, AreCalls, places_of, EndsRise}
 
 -- a call that gave a match leaves its end as the last one
@@ -41,3 +43,16 @@ few-matches w ((None, w') ∷ calls) are =
 -- before the first call there are as many as the span has bytes, and one more
 pub first-ends : (x : Search) → ends_left (fresh x) ≤ span_len x + 1
 first-ends x = omega arith
+
+-- a step of a `Searcher` is a call
+pub step-call : {X S : Type 0} (span : X → Span) (asks : S → Search → Answer X → S → Type 0) (s : S) (w : Walk)
+    (r : Answer X) (s' : S) (w' : Walk) → Advances span asks s w r s' w' → ComesAfter w (place_of span r)
+    → LeavesFewer w (place_of span r) w' → IsCall w (place_of span r) w'
+step-call span asks s w r s' w' step rises fewer = record {
+  rises = rises;
+  fewer = fewer;
+  moves = elim (chosen (repeats w (place_of span step.answer)) step.rest) [
+    | inl again ↦ inr again.1.1
+    | inr first ↦ inl first.1.2
+  ];
+}

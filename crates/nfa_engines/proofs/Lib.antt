@@ -1,6 +1,9 @@
 pub mod CapacityLemmas
+pub mod FirstSetLemmas
+pub mod FlagLemmas
 pub mod GapLemmas
 pub mod IterationLemmas
 pub mod LawLemmas
 pub mod OneLemmas
 pub mod ListOfMatchesLemmas
+pub mod MatchLemmas

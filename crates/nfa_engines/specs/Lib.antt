@@ -1,5 +1,8 @@
+pub mod Accepting
+pub mod AnswerLaws
 pub mod CapacityLaws
 pub mod CapturesLaws
+pub mod FlagLaws
 pub mod GapLaws
 pub mod IterationLaws
 pub mod Laws

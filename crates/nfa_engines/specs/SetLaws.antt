@@ -1,10 +1,14 @@
 -- Laws of the sets of patterns that overlapping searches fill, over the definitions alone.
-use Rattle.std.specs.Prelude.{◌≡◌, ◌↔◌, ◌⊎◌, ℕ, ◌<◌, ◌≤◌, Bool, List, length}
+use Rattle.std.specs.Prelude.{◌≡◌, ◌↔◌, ◌⊎◌, ℕ, ◌<◌, ◌≤◌, Bool, false, true, List, length, Option, Some}
+use Rattle.regex_search_core.specs.PatternSets.{size_of_set}
 use Rattle.regex_search_core.specs.Search.{Search}
 use Rattle.regex_search_core.specs.declared.search.MatchKind.{MatchKind}
-use Rattle.regex_search_core.specs.declared.search.MatchKind.TheVariants.{All}
+use Rattle.regex_search_core.specs.declared.search.MatchKind.TheVariants.{All, LeftmostFirst}
 use Rattle.thompson_nfa.specs.Automaton.{Automaton, IsAutomaton}
-use Rattle.nfa_paths.specs.Overlaps.{HoldsPattern, IsPermitted, IsPatternOf, IsOverlapResult}
+use Rattle.nfa_paths.specs.Graphs.{Pair, IsFirstPath, IsEarliestPath}
+use Rattle.nfa_paths.specs.Overlaps.{HoldsPattern, IsEarliestHeld, IsFirstBefore, IsFirstHeld, IsPermitted}
+use Rattle.nfa_paths.specs.Overlaps.{IsPatternOf, IsOverlapResult}
+use Rattle.nfa_paths.specs.Paths.{edges, starts, path_pattern}
 
 -- one search of the kind makes one set of a set
 abbrev pub OneSet : MatchKind → Type 0
@@ -25,3 +29,42 @@ SetHoldsEachPattern earliest =
     (nfa : Automaton) (x : Search) (old new : List Bool) → IsAutomaton nfa → length nfa.patterns ≤ length old
     → IsOverlapResult nfa x All earliest old new
     → (k : ℕ) → HoldsPattern new k ↔ (HoldsPattern old k ⊎ IsPatternOf nfa x (IsPermitted nfa x) k)
+
+-- under leftmost first a set that holds a pattern stays as it is
+abbrev pub FullSetStays : Type 0
+FullSetStays =
+    (nfa : Automaton) (x : Search) (earliest : Bool) (old new : List Bool) → 0 < size_of_set old
+    → IsOverlapResult nfa x LeftmostFirst earliest old new → new ≡ old
+
+-- an empty one comes to hold the patterns of the first paths before any limit, and no other
+abbrev pub SetIsOfFirsts : Type 0
+SetIsOfFirsts =
+    (nfa : Automaton) (x : Search) (old new : List Bool) → size_of_set old ≡ 0
+    → IsOverlapResult nfa x LeftmostFirst false old new
+    → (k : ℕ) → HoldsPattern new k ↔ IsFirstBefore nfa x (length old) k
+
+-- the pattern of the first of the paths with the least end, of those that count
+abbrev pub IsPatternOfEarliest : Automaton → Search → ℕ → ℕ → Type 0
+IsPatternOfEarliest nfa x capacity k =
+    (p : List Pair) × IsEarliestHeld nfa x capacity (Some p) × (path_pattern nfa p ≡ Some k)
+
+-- with `earliest` it comes to hold that pattern alone
+abbrev pub SetIsOfEarliest : Type 0
+SetIsOfEarliest =
+    (nfa : Automaton) (x : Search) (old new : List Bool) → size_of_set old ≡ 0
+    → IsOverlapResult nfa x LeftmostFirst true old new
+    → (k : ℕ) → HoldsPattern new k ↔ IsPatternOfEarliest nfa x (length old) k
+
+-- where the set has room for each pattern, the first path that counts is that of all paths with a permitted end
+abbrev pub FirstOfAllPaths : Type 0
+FirstOfAllPaths =
+    (nfa : Automaton) (x : Search) (capacity : ℕ) (path : Option (List Pair)) → IsAutomaton nfa
+    → length nfa.patterns ≤ capacity
+    → IsFirstHeld nfa x capacity path ↔ IsFirstPath (edges nfa x) (starts nfa x) (IsPermitted nfa x) path
+
+-- and so is the earliest
+abbrev pub EarliestOfAllPaths : Type 0
+EarliestOfAllPaths =
+    (nfa : Automaton) (x : Search) (capacity : ℕ) (path : Option (List Pair)) → IsAutomaton nfa
+    → length nfa.patterns ≤ capacity
+    → IsEarliestHeld nfa x capacity path ↔ IsEarliestPath (edges nfa x) (starts nfa x) (IsPermitted nfa x) path

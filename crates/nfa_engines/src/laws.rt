@@ -10,9 +10,15 @@
 //! ```
 ghost use Rattle.regex_search_core.specs.declared.search.MatchKind.TheVariants.{All, LeftmostFirst};
 ghost use Rattle.std.specs.Prelude.{false};
+ghost use Rattle.nfa_engines.specs.AnswerLaws.{AllSlotsGiveTheMatch, FoundIsSomething, NoPatternIsNothing, NotBoth};
+ghost use Rattle.nfa_engines.specs.AnswerLaws.{NotFoundIsNothing, PatternIsMatched, PatternIsSomething};
+ghost use Rattle.nfa_engines.specs.AnswerLaws.{TwoSlotsGiveTheMatch};
 ghost use Rattle.nfa_engines.specs.CapacityLaws.{LeastCapacityIsEnough, LongerIsRefused, LongestLengthFits};
 ghost use Rattle.nfa_engines.specs.CapturesLaws.{CapturesUpToRefusal, EverySearchHasRows, FirstRowsAreMatches};
 ghost use Rattle.nfa_engines.specs.CapturesLaws.{OneRowList, RowsAreMatches, RowsAsLeftmost};
+ghost use Rattle.nfa_engines.specs.FlagLaws.{AnswerReadsNoFlag, AnswersUnderAnyFlag, FoundReadsNoFlag};
+ghost use Rattle.nfa_engines.specs.FlagLaws.{FoundUnderAnyFlag, MatchReadsNoFlag, MatchUnderAnyFlag};
+ghost use Rattle.nfa_engines.specs.FlagLaws.{MatchesReadNoFlag, PathReadsNoFlag, RowsReadNoFlag, SetReadsNoFlag};
 ghost use Rattle.nfa_engines.specs.GapLaws.{NoneIsNoPath, NoneStartsBefore};
 ghost use Rattle.nfa_engines.specs.IterationLaws.{AtMostMatches, EndsIncrease};
 ghost use Rattle.nfa_engines.specs.Laws.{AnswersAgree, EveryScanHasAnAnswer, EverySearchHasAnAnswer, FewerSlots};
@@ -21,7 +27,8 @@ ghost use Rattle.nfa_engines.specs.Laws.{OneSearchAnswer, PathsAreOrdered, Paths
 ghost use Rattle.nfa_engines.specs.Laws.{SearchesAgree, SlotsPastAreNone};
 ghost use Rattle.nfa_engines.specs.ListLaws.{AtMostInList, EverySearchHasAList, ListAsLeftmost, MatchesAreApart};
 ghost use Rattle.nfa_engines.specs.ListLaws.{OneList};
-ghost use Rattle.nfa_engines.specs.SetLaws.{OneSet, SetHoldsEachPattern, SetIsComplete};
+ghost use Rattle.nfa_engines.specs.SetLaws.{EarliestOfAllPaths, FirstOfAllPaths, FullSetStays, OneSet};
+ghost use Rattle.nfa_engines.specs.SetLaws.{SetHoldsEachPattern, SetIsComplete, SetIsOfEarliest, SetIsOfFirsts};
 
 /// A scan has one answer at most, of each match kind and `earliest`.
 pub fn one_scan_answer()
@@ -71,22 +78,40 @@ pub fn fewer_slots()
     ensures past { SlotsPastAreNone }
 {}
 
-/// A search has one match at most, and either finds something or does not. Under `All` an overlapping search makes one
-/// set of the set that it is handed, with `earliest` and without.
+/// A search has one match at most, and either finds something or does not. An overlapping search makes one set of the
+/// set that it is handed, of each kind, with `earliest` and without.
 pub fn one_match()
     ensures matches { OneMatch }
     ensures found { OneFound }
     ensures sets { OneSet All }
+    ensures first_sets { OneSet LeftmostFirst }
 {}
 
 /// What a cache did before does not show. The contracts of the searches speak of the NFA, the kind and the input alone,
 /// and what they say has one answer: two calls on one input, with whatever caches, give one pattern and one row of
-/// slots, one match, one `is_match`, and under `All` one set of each set.
+/// slots, one match, one `is_match`, and one set of each set.
 pub fn cache_history_is_invisible()
     ensures slots { AnswersAgree }
     ensures matches { OneMatch }
     ensures found { OneFound }
     ensures patterns { OneSet All }
+    ensures first_patterns { OneSet LeftmostFirst }
+{}
+
+/// What an overlapping search that is leftmost first makes of a set, exactly. One that holds a pattern stays as it is.
+/// An empty one comes to hold the patterns of the first accepting paths that end before any limit (each is what the
+/// search would answer up to there), and no other; with `earliest` the pattern of the earliest path alone.
+pub fn leftmost_sets_are_exact()
+    ensures stays { FullSetStays }
+    ensures firsts { SetIsOfFirsts }
+    ensures earliest { SetIsOfEarliest }
+{}
+
+/// Where the set has room for each pattern of the NFA, the first and the earliest path that count are those of all
+/// accepting paths with a permitted end.
+pub fn room_leaves_no_path_out()
+    ensures first { FirstOfAllPaths }
+    ensures earliest { EarliestOfAllPaths }
 {}
 
 /// Under `All`, without `earliest`, an overlapping search puts into the set each pattern below its capacity that has an
@@ -147,4 +172,44 @@ pub fn one_list_of_captures()
     ensures matches { RowsAreMatches }
     ensures first { FirstRowsAreMatches }
     ensures refused { CapturesUpToRefusal }
+{}
+
+/// The flag `earliest` that an input carries is not read by what is said with an `earliest` of its own: the answer of a
+/// search, its match, whether there is one, its lists and the set that it makes are those of the same input under any
+/// flag.
+pub fn earliest_flag_is_not_read()
+    ensures path { PathReadsNoFlag }
+    ensures answer { AnswerReadsNoFlag }
+    ensures found { FoundReadsNoFlag }
+    ensures match_of { MatchReadsNoFlag }
+    ensures matches { MatchesReadNoFlag }
+    ensures rows { RowsReadNoFlag }
+    ensures set { SetReadsNoFlag }
+{}
+
+/// So calls that ignore the flag say of an input, under any flag, what a PikeVM says that is asked without it.
+/// `is_match` is whether `search_slots` has a pattern; and where the kind is leftmost first a backtracker over the same
+/// NFA gives the same pattern and slots, and the same match.
+pub fn answers_agree_under_any_flag()
+    ensures found { FoundUnderAnyFlag }
+    ensures answers { AnswersUnderAnyFlag }
+    ensures matches { MatchUnderAnyFlag }
+{}
+
+/// The slots of an answer give the match of its search: captures of all groups, or of the two slots of each pattern,
+/// have the match that `find` gives.
+pub fn slots_give_the_match()
+    ensures all { AllSlotsGiveTheMatch }
+    ensures two { TwoSlotsGiveTheMatch }
+{}
+
+/// Where a match may end anywhere, a search of each match kind, `earliest` or not, says exactly whether there is an
+/// accepting path: it finds something, or has a pattern, where there is one (of that pattern), and there alone.
+pub fn found_is_an_accepting_path()
+    ensures something { FoundIsSomething }
+    ensures nothing { NotFoundIsNothing }
+    ensures pattern { PatternIsMatched }
+    ensures no_pattern { NoPatternIsNothing }
+    ensures weaker { PatternIsSomething }
+    ensures not_both { NotBoth }
 {}

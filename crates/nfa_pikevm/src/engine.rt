@@ -330,9 +330,9 @@ impl PikeVM {
     ///
     /// With the kind `All` it gains every pattern that matches somewhere in the span; with `earliest`, those whose
     /// matches end where the first of them does. With `LeftmostFirst` a set that holds a pattern gains nothing; an
-    /// empty one gains the pattern of the first match, and maybe some of matches that end before it; with `earliest`,
-    /// that of the first match that ends alone. A match ends on a boundary where the NFA asks for it; matches of
-    /// patterns that the set has no room for do not count.
+    /// empty one gains the pattern of the first match, and of each that is the first of those that end before some
+    /// limit; with `earliest`, that of the first match that ends alone. A match ends on a boundary where the NFA asks
+    /// for it; matches of patterns that the set has no room for do not count.
     ///
     /// The caller owes a cache that fits. A search leaves its numbers as they are.
     pub fn which_overlapping_matches(

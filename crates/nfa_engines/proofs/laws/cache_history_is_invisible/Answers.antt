@@ -1,5 +1,6 @@
 -- Two answers to one search are equal, whatever the caches did before.
 use Rattle.nfa_paths.proofs.KnownLemmas.{match-unique}
+use Rattle.nfa_engines.proofs.FirstSetLemmas.{first_set-unique}
 use Rattle.nfa_engines.proofs.LawLemmas.{same-slots}
 use Rattle.nfa_engines.proofs.OneLemmas.{found-unique, set-unique}
 use Rattle.nfa_engines.proofs.laws.cache_history_is_invisible.Goals as goal
@@ -15,3 +16,6 @@ returns-clause-found c = found-unique
 
 pub returns-clause-patterns : goal.returns-clause-patterns
 returns-clause-patterns c = set-unique
+
+pub returns-clause-first_patterns : goal.returns-clause-first_patterns
+returns-clause-first_patterns c = first_set-unique

@@ -1,5 +1,6 @@
--- A match answer, a found answer and the set of all patterns that match are each one.
+-- A match answer, a found answer and the set that comes of a set are each one.
 use Rattle.nfa_paths.proofs.KnownLemmas.{match-unique}
+use Rattle.nfa_engines.proofs.FirstSetLemmas.{first_set-unique}
 use Rattle.nfa_engines.proofs.OneLemmas.{found-unique, set-unique}
 use Rattle.nfa_engines.proofs.laws.one_match.Goals as goal
 
@@ -11,3 +12,6 @@ returns-clause-found c = found-unique
 
 pub returns-clause-sets : goal.returns-clause-sets
 returns-clause-sets c = set-unique
+
+pub returns-clause-first_sets : goal.returns-clause-first_sets
+returns-clause-first_sets c = first_set-unique

@@ -1,0 +1,145 @@
+-- What is asked with an `earliest` of its own is the same of searches that carry other flags.
+use Rattle.std.proofs.Common.{◌≡◌, ℕ, Bool, true, false, MatchBool, Option, None, Some, Ok, Err, List, [], ◌∷◌, map}
+use Rattle.std.proofs.Common.{length, refl, subst}
+use Rattle.std.specs.Prelude.{is_some}
+use Rattle.regex_search_core.specs.Found.{Found}
+use Rattle.regex_search_core.specs.Search.{Search}
+use Rattle.regex_search_core.specs.declared.search.MatchKind.{MatchKind}
+use Rattle.regex_search_core.specs.declared.search.MatchKind.TheVariants.{LeftmostFirst}
+use Rattle.regex_search_core.specs.declared.search.Span.{Span}
+use Rattle.thompson_nfa.specs.Automaton.{Automaton}
+use Rattle.nfa_paths.specs.Paths.{IsAnswer, IsFoundAnswer, IsMatchAnswer}
+use Rattle.nfa_paths.proofs.EarliestLemmas.{asked, search_answer-asked}
+use Rattle.nfa_paths.proofs.KnownLemmas.{match-unique}
+use Rattle.nfa_search_base.specs.Catching.{Row, row_span}
+use Rattle.nfa_search_base.specs.CaughtLists.{AreRows, IsRow, TellsRow}
+use Rattle.nfa_search_base.specs.Items.{Item}
+use Rattle.nfa_search_base.specs.Lists.{AreMatches, Fails, IsStep, ItemsLast, TellsMatch}
+use Rattle.nfa_search_base.specs.Walks.{Answer, Walk, after, fresh, place_of, repeats, shifted, span_of}
+use Rattle.nfa_engines.proofs.LawLemmas.{same-slots}
+use Rattle.nfa_engines.proofs.OneLemmas.{found-pattern}
+
+-- the walk whose search carries this flag
+abbrev flagged : Walk → Bool → Walk
+flagged w flag = record w { at = asked w.at flag }
+
+repeats-flagged : (w : Walk) (flag : Bool) (place : Option Span) → repeats (flagged w flag) place ≡ repeats w place
+repeats-flagged w flag None = refl
+repeats-flagged w flag (Some p) = refl
+
+-- Where what a search tells does not read the flag, neither does the list of an iteration.
+module _ {X : Type 0} (span : X → Span) (tells : Search → Answer X → Type 0)
+    (free : (t : Search) (flag : Bool) (a : Answer X) → tells (asked t flag) a → tells t a) where
+  step-flagged : (w : Walk) (flag : Bool) (a : Answer X) → IsStep span tells (flagged w flag) a → IsStep span tells w a
+  step-flagged w flag a h = record {
+    first = h.first;
+    is_first = free w.at flag h.first h.is_first;
+    rest = of (repeats w (place_of span h.first))
+        (subst (λ (b : Bool). MatchBool b (tells (asked (shifted w).at flag) a) (a ≡ h.first))
+        (repeats-flagged w flag (place_of span h.first)) h.rest);
+  }
+    where
+      of : (again : Bool) → MatchBool again (tells (asked (shifted w).at flag) a) (a ≡ h.first)
+          → MatchBool again (tells (shifted w).at a) (a ≡ h.first)
+      of true k = free (shifted w).at flag a k
+      of false k = k
+
+  last-flagged : (w : Walk) (flag : Bool) (items : List (Item X))
+      → ItemsLast span tells (Fails span tells) (flagged w flag) items → ItemsLast span tells (Fails span tells) w items
+  last-flagged w flag [] h = step-flagged w flag (Ok None) h
+  last-flagged w flag (Ok x ∷ items) h =
+      (step-flagged w flag (Ok (Some x)) h.0, last-flagged (after w (Some (span x))) flag items h.1)
+  last-flagged w flag (Err e ∷ items) h = (step-flagged w flag (Err e) h.0, h.1)
+
+module _ (nfa : Automaton) (kind : MatchKind) (earliest : Bool) where
+  -- pattern and slots
+  pub answer-asked : (x : Search) (flag : Bool) (pattern : Option ℕ) (slots : List (Option ℕ))
+      → IsAnswer nfa kind earliest (asked x flag) pattern slots → IsAnswer nfa kind earliest x pattern slots
+  answer-asked x flag pattern slots h = record {
+    restarts = h.restarts;
+    path = h.path;
+    answers = search_answer-asked nfa kind earliest x flag h.restarts h.path h.answers;
+    pattern_is = h.pattern_is;
+    slots_are = h.slots_are;
+  }
+
+  -- whether there is a match
+  pub found-asked : (x : Search) (flag found : Bool) → IsFoundAnswer nfa kind earliest (asked x flag) found
+      → IsFoundAnswer nfa kind earliest x found
+  found-asked x flag found h = record {
+    restarts = h.restarts;
+    path = h.path;
+    answers = search_answer-asked nfa kind earliest x flag h.restarts h.path h.answers;
+    found_is = h.found_is;
+  }
+
+  -- the match
+  pub match-asked : (x : Search) (flag : Bool) (found : Option Found)
+      → IsMatchAnswer nfa kind earliest (asked x flag) found → IsMatchAnswer nfa kind earliest x found
+  match-asked x flag found h = record {
+    restarts = h.restarts;
+    path = h.path;
+    answers = search_answer-asked nfa kind earliest x flag h.restarts h.path h.answers;
+    found_is = h.found_is;
+  }
+
+  tells_match-asked : (t : Search) (flag : Bool) (a : Answer Found) → TellsMatch nfa kind earliest (asked t flag) a
+      → TellsMatch nfa kind earliest t a
+  tells_match-asked t flag (Ok found) h = match-asked t flag found h
+  tells_match-asked t flag (Err e) h = h
+
+  tells_row-asked : (t : Search) (flag : Bool) (a : Answer Row) → TellsRow nfa kind earliest (asked t flag) a
+      → TellsRow nfa kind earliest t a
+  tells_row-asked t flag (Ok None) h = match-asked t flag None h
+  tells_row-asked t flag (Ok (Some row)) h = record {
+    answer = answer-asked t flag row.pattern row.slots h.answer;
+    count = h.count;
+    is_match = h.is_match;
+  }
+  tells_row-asked t flag (Err e) h = h
+
+  -- the list of matches
+  pub matches-asked : (x : Search) (flag : Bool) (ms : List Found) → AreMatches nfa kind earliest (asked x flag) ms
+      → AreMatches nfa kind earliest x ms
+  matches-asked x flag ms h = record {
+    come = last-flagged span_of (TellsMatch nfa kind earliest) tells_match-asked (fresh x) flag (map (λ m. Ok m) ms)
+        h.come;
+  }
+
+  -- the list of rows
+  pub rows-asked : (x : Search) (flag : Bool) (rows : List Row) → AreRows nfa kind earliest (asked x flag) rows
+      → AreRows nfa kind earliest x rows
+  rows-asked x flag rows h = record {
+    come = last-flagged row_span (TellsRow nfa kind earliest) tells_row-asked (fresh x) flag (map (λ r. Ok r) rows)
+        h.come;
+  }
+
+-- Where the flag is off, what ignores it says under any flag what is asked for without one.
+module _ (nfa : Automaton) (x y : Search) (flag : Bool) (same : y ≡ asked x flag) (off : x.earliest ≡ false) where
+  pub found-under : (kind : MatchKind) (found : Bool) (pattern : Option ℕ) (slots : List (Option ℕ))
+      → IsFoundAnswer nfa kind false y found → IsAnswer nfa kind x.earliest x pattern slots → found ≡ is_some pattern
+  found-under kind found pattern slots h k =
+      found-pattern nfa x kind false pattern slots found
+      (subst (λ (b : Bool). IsAnswer nfa kind b x pattern slots) off k)
+      (found-asked nfa kind false x flag found (subst (λ (z : Search). IsFoundAnswer nfa kind false z found) same h))
+
+  module _ (other : Automaton) (is_nfa : other ≡ nfa) (kind : MatchKind) (leftmost : kind ≡ LeftmostFirst) where
+    pub answers-under : (p q : Option ℕ) (s t : List (Option ℕ)) → IsAnswer nfa kind x.earliest x p s
+        → IsAnswer other LeftmostFirst false y q t → length s ≡ length t → (p ≡ q) × (s ≡ t)
+    answers-under p q s t h k =
+        same-slots nfa x LeftmostFirst false p q s t
+        (subst (λ (b : Bool). IsAnswer nfa LeftmostFirst b x p s) off
+        (subst (λ (n : MatchKind). IsAnswer nfa n x.earliest x p s) leftmost h))
+        (answer-asked nfa LeftmostFirst false x flag q t
+        (subst (λ (z : Search). IsAnswer nfa LeftmostFirst false z q t) same
+        (subst (λ (n : Automaton). IsAnswer n LeftmostFirst false y q t) is_nfa k)))
+
+    pub match-under : (a b : Option Found) → IsMatchAnswer nfa kind x.earliest x a
+        → IsMatchAnswer other LeftmostFirst false y b → a ≡ b
+    match-under a b h k =
+        match-unique nfa LeftmostFirst false x a b
+        (subst (λ (e : Bool). IsMatchAnswer nfa LeftmostFirst e x a) off
+        (subst (λ (n : MatchKind). IsMatchAnswer nfa n x.earliest x a) leftmost h))
+        (match-asked nfa LeftmostFirst false x flag b
+        (subst (λ (z : Search). IsMatchAnswer nfa LeftmostFirst false z b) same
+        (subst (λ (n : Automaton). IsMatchAnswer n LeftmostFirst false y b) is_nfa k)))

@@ -1,0 +1,25 @@
+-- Whether a search has an accepting path. (Records, so that what concludes them shows the NFA and the search.)
+use Rattle.std.specs.Prelude.{◌≡◌, ℕ, List, Some}
+use Rattle.regex_search_core.specs.Search.{Search}
+use Rattle.thompson_nfa.specs.Automaton.{Automaton}
+use Rattle.nfa_paths.specs.Graphs.{Pair, PathTo, NoPath}
+use Rattle.nfa_paths.specs.Paths.{edges, starts, path_pattern, IsMatch}
+
+-- the search has no accepting path
+pub record MatchesNothing (nfa : Automaton) (x : Search) : Type 0 where
+  pub no_path : NoPath (edges nfa x) (starts nfa x) (IsMatch nfa)
+
+-- it has one
+pub record MatchesSomething (nfa : Automaton) (x : Search) : Type 0 where
+  pub end : Pair
+  pub along : List Pair
+  pub path : PathTo (edges nfa x) (starts nfa x) end along
+  pub accepts : IsMatch nfa end
+
+-- it has one of the pattern
+pub record MatchesPattern (nfa : Automaton) (x : Search) (pattern : ℕ) : Type 0 where
+  pub end : Pair
+  pub along : List Pair
+  pub path : PathTo (edges nfa x) (starts nfa x) end along
+  pub accepts : IsMatch nfa end
+  pub pattern_is : path_pattern nfa along ≡ Some pattern

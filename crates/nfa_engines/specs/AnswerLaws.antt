@@ -1,0 +1,58 @@
+-- Laws of what one answer tells: of the match that its slots give, and of whether there is an accepting path.
+use Rattle.std.specs.Prelude.{◌≡◌, ℕ, ◌*◌, ◌≤◌, Bool, false, true, List, Option, None, Some, length}
+use Rattle.regex_search_core.specs.Found.{Found}
+use Rattle.regex_search_core.specs.Groups.{slot_count}
+use Rattle.regex_search_core.specs.Search.{Search}
+use Rattle.regex_search_core.specs.Slots.{match_of}
+use Rattle.regex_search_core.specs.declared.search.MatchKind.{MatchKind}
+use Rattle.thompson_nfa.specs.Automaton.{Automaton, IsAutomaton}
+use Rattle.nfa_paths.specs.Paths.{is_utf8_empty, IsAnswer, IsFoundAnswer, IsMatchAnswer}
+use Rattle.nfa_engines.specs.Accepting.{MatchesNothing, MatchesPattern, MatchesSomething}
+
+-- the match that pattern and slots of an answer give is that of the search, where all slots of the NFA were handed in
+abbrev pub AllSlotsGiveTheMatch : Type 0
+AllSlotsGiveTheMatch =
+    (nfa : Automaton) (x : Search) (kind : MatchKind) (earliest : Bool) (pattern : Option ℕ) (slots : List (Option ℕ))
+    (found : Option Found) → length slots ≡ slot_count nfa.groups
+    → IsAnswer nfa kind earliest x pattern slots → IsMatchAnswer nfa kind earliest x found
+    → match_of pattern slots ≡ found
+
+-- so it is with any number of slots, where each pattern that has groups has its two
+abbrev pub TwoSlotsGiveTheMatch : Type 0
+TwoSlotsGiveTheMatch =
+    (nfa : Automaton) (x : Search) (kind : MatchKind) (earliest : Bool) (pattern : Option ℕ) (slots : List (Option ℕ))
+    (found : Option Found) → IsAutomaton nfa → 2 * length nfa.groups ≤ length slots
+    → IsAnswer nfa kind earliest x pattern slots → IsMatchAnswer nfa kind earliest x found
+    → match_of pattern slots ≡ found
+
+-- Where a match may end anywhere, a search finds something where there is an accepting path,
+abbrev pub FoundIsSomething : Type 0
+FoundIsSomething =
+    (nfa : Automaton) (x : Search) (kind : MatchKind) (earliest found : Bool) → is_utf8_empty nfa ≡ false
+    → found ≡ true → IsFoundAnswer nfa kind earliest x found → MatchesSomething nfa x
+
+-- and there alone;
+abbrev pub NotFoundIsNothing : Type 0
+NotFoundIsNothing =
+    (nfa : Automaton) (x : Search) (kind : MatchKind) (earliest found : Bool) → is_utf8_empty nfa ≡ false
+    → found ≡ false → IsFoundAnswer nfa kind earliest x found → MatchesNothing nfa x
+
+-- its pattern is one of an accepting path,
+abbrev pub PatternIsMatched : Type 0
+PatternIsMatched =
+    (nfa : Automaton) (x : Search) (kind : MatchKind) (earliest : Bool) (pattern : ℕ) (slots : List (Option ℕ))
+    → is_utf8_empty nfa ≡ false → IsAnswer nfa kind earliest x (Some pattern) slots → MatchesPattern nfa x pattern
+
+-- and it has none where there is no such path
+abbrev pub NoPatternIsNothing : Type 0
+NoPatternIsNothing =
+    (nfa : Automaton) (x : Search) (kind : MatchKind) (earliest : Bool) (slots : List (Option ℕ))
+    → is_utf8_empty nfa ≡ false → IsAnswer nfa kind earliest x None slots → MatchesNothing nfa x
+
+-- a search that matches a pattern matches something
+abbrev pub PatternIsSomething : Type 0
+PatternIsSomething = (nfa : Automaton) (x : Search) (pattern : ℕ) → MatchesPattern nfa x pattern → MatchesSomething nfa x
+
+-- and no search matches something and nothing
+abbrev pub NotBoth : Type 0
+NotBoth = (nfa : Automaton) (x : Search) → MatchesSomething nfa x → ¬ (MatchesNothing nfa x)

@@ -1,0 +1,89 @@
+-- Laws of the flag `earliest` that an input carries. What is said with an `earliest` of its own does not read that flag:
+-- it holds of a search exactly where it holds of the same search with the flag set to this.
+use Rattle.std.specs.Prelude.{◌≡◌, ◌↔◌, ℕ, Bool, false, List, Option, is_some, length}
+use Rattle.regex_search_core.specs.Found.{Found}
+use Rattle.regex_search_core.specs.Search.{Search}
+use Rattle.regex_search_core.specs.declared.search.MatchKind.{MatchKind}
+use Rattle.regex_search_core.specs.declared.search.MatchKind.TheVariants.{LeftmostFirst}
+use Rattle.thompson_nfa.specs.Automaton.{Automaton}
+use Rattle.nfa_paths.specs.Graphs.{Pair}
+use Rattle.nfa_paths.specs.Overlaps.{IsOverlapResult}
+use Rattle.nfa_paths.specs.Paths.{IsSearchAnswer, IsAnswer, IsFoundAnswer, IsMatchAnswer}
+use Rattle.nfa_search_base.specs.Catching.{Row}
+use Rattle.nfa_search_base.specs.CaughtLists.{AreRows}
+use Rattle.nfa_search_base.specs.Lists.{AreMatches}
+
+-- the path that a search answers
+abbrev pub PathReadsNoFlag : Type 0
+PathReadsNoFlag =
+    (nfa : Automaton) (x : Search) (flag : Bool) (kind : MatchKind) (earliest : Bool)
+    (restarts : ℕ) (path : Option (List Pair))
+    → IsSearchAnswer nfa kind earliest (record x { earliest = flag }) restarts path
+    ↔ IsSearchAnswer nfa kind earliest x restarts path
+
+-- its pattern and slots
+abbrev pub AnswerReadsNoFlag : Type 0
+AnswerReadsNoFlag =
+    (nfa : Automaton) (x : Search) (flag : Bool) (kind : MatchKind) (earliest : Bool)
+    (pattern : Option ℕ) (slots : List (Option ℕ))
+    → IsAnswer nfa kind earliest (record x { earliest = flag }) pattern slots
+    ↔ IsAnswer nfa kind earliest x pattern slots
+
+-- whether there is a match
+abbrev pub FoundReadsNoFlag : Type 0
+FoundReadsNoFlag =
+    (nfa : Automaton) (x : Search) (flag : Bool) (kind : MatchKind) (earliest found : Bool)
+    → IsFoundAnswer nfa kind earliest (record x { earliest = flag }) found
+    ↔ IsFoundAnswer nfa kind earliest x found
+
+-- the match
+abbrev pub MatchReadsNoFlag : Type 0
+MatchReadsNoFlag =
+    (nfa : Automaton) (x : Search) (flag : Bool) (kind : MatchKind) (earliest : Bool) (found : Option Found)
+    → IsMatchAnswer nfa kind earliest (record x { earliest = flag }) found
+    ↔ IsMatchAnswer nfa kind earliest x found
+
+-- the list of the matches
+abbrev pub MatchesReadNoFlag : Type 0
+MatchesReadNoFlag =
+    (nfa : Automaton) (x : Search) (flag : Bool) (kind : MatchKind) (earliest : Bool) (ms : List Found)
+    → AreMatches nfa kind earliest (record x { earliest = flag }) ms
+    ↔ AreMatches nfa kind earliest x ms
+
+-- the list of the rows
+abbrev pub RowsReadNoFlag : Type 0
+RowsReadNoFlag =
+    (nfa : Automaton) (x : Search) (flag : Bool) (kind : MatchKind) (earliest : Bool) (rows : List Row)
+    → AreRows nfa kind earliest (record x { earliest = flag }) rows
+    ↔ AreRows nfa kind earliest x rows
+
+-- the set of patterns that comes of a set
+abbrev pub SetReadsNoFlag : Type 0
+SetReadsNoFlag =
+    (nfa : Automaton) (x : Search) (flag : Bool) (kind : MatchKind) (earliest : Bool) (old new : List Bool)
+    → IsOverlapResult nfa (record x { earliest = flag }) kind earliest old new
+    ↔ IsOverlapResult nfa x kind earliest old new
+
+-- So whether there is a match, which no flag is asked for, is whether a search of the same input without the flag has
+-- a pattern.
+abbrev pub FoundUnderAnyFlag : Type 0
+FoundUnderAnyFlag =
+    (nfa : Automaton) (x y : Search) (flag : Bool) (kind : MatchKind) (found : Bool)
+    (pattern : Option ℕ) (slots : List (Option ℕ))
+    → y ≡ record x { earliest = flag } → x.earliest ≡ false
+    → IsFoundAnswer nfa kind false y found → IsAnswer nfa kind x.earliest x pattern slots → found ≡ is_some pattern
+
+-- And an engine that ignores the flag gives, under any flag, the answer of one that is asked without it.
+abbrev pub AnswersUnderAnyFlag : Type 0
+AnswersUnderAnyFlag =
+    (nfa other : Automaton) (x y : Search) (flag : Bool) (kind : MatchKind) (p q : Option ℕ) (s t : List (Option ℕ))
+    → other ≡ nfa → kind ≡ LeftmostFirst → y ≡ record x { earliest = flag } → x.earliest ≡ false
+    → IsAnswer nfa kind x.earliest x p s → IsAnswer other LeftmostFirst false y q t → length s ≡ length t
+    → (p ≡ q) × (s ≡ t)
+
+-- the same of matches
+abbrev pub MatchUnderAnyFlag : Type 0
+MatchUnderAnyFlag =
+    (nfa other : Automaton) (x y : Search) (flag : Bool) (kind : MatchKind) (a b : Option Found)
+    → other ≡ nfa → kind ≡ LeftmostFirst → y ≡ record x { earliest = flag } → x.earliest ≡ false
+    → IsMatchAnswer nfa kind x.earliest x a → IsMatchAnswer other LeftmostFirst false y b → a ≡ b
