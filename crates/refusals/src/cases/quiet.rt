@@ -186,8 +186,8 @@ fn expect_set(vm: &PikeVM, cache: &mut pikevm::Cache, set: &mut PatternSet) -> R
     Ok(())
 }
 
-// A cache of a PikeVM has seven tables; one of a backtracker has none before a search. A reset for the same engine takes
-// no memory.
+// A cache of a PikeVM has seven tables and two boxes; one of a backtracker has nothing before a search. A reset for the
+// same engine takes no memory.
 fn new_caches(alloc: Global, seen: &mut Seen) -> Result<(), Wrong> {
     let vm = engines::pikevm(alloc, seen, "groups")?;
     expect_threads(alloc, seen, &vm)?;
