@@ -1,5 +1,5 @@
 -- A table lets no more bytes through than a match may begin with.
-use Rattle.std.proofs.Common.{◌≡◌, ℕ, suc, zero, ◌+◌, ◌<◌, ◌≤◌, inl, inr, ◌⊎◌, List, [], ◌∷◌, length, get_or, replicate, refl, sym, arith}
+use Rattle.std.proofs.Common.{◌≡◌, ℕ, suc, zero, ◌+◌, ◌<◌, ◌≤◌, inl, inr, List, [], ◌∷◌, length, get_or, replicate, refl, sym, arith}
 use Rattle.std.specs.Prelude.{Some, None, true, false, Bool, All, is_some, if◌then◌else◌}
 use Rattle.std.specs.List.{slice_get}
 use Rattle.std.proofs.lemmas.Bool.{cases_lt}
@@ -55,9 +55,9 @@ pub AddsOnly-then : {a b c : Reached} {s t u : List ℕ} → AddsOnly a b s → 
     → ((x : ℕ) → In x s → In x u) → ((x : ℕ) → In x t → In x u) → AddsOnly a c u
 AddsOnly-then {b = b} f g e of_s of_t = record {
   among = λ k from less. elim (cases_lt k b.len) [
-      | inl early ↦ rw (e.same k early) (of_s _ (f.among k from early))
-      | inr late ↦ of_t _ (g.among k late less)
-    ];
+    | inl early ↦ rw (e.same k early) (of_s _ (f.among k from early))
+    | inr late ↦ of_t _ (g.among k late less)
+  ];
 }
 
 pub LacksRoom-among : {r : Reached} {s t : List ℕ} → LacksRoom r s → ((x : ℕ) → In x s → In x t) → LacksRoom r t
@@ -68,9 +68,9 @@ pub each-added : (P : ℕ → Type 0) {a b : Reached} {s : List ℕ} → Extends
     → ((x : ℕ) → In x s → P x) → ((k : ℕ) → k < a.len → P (get_or a.states k 0))
     → (k : ℕ) → k < b.len → P (get_or b.states k 0)
 each-added P {a = a} e g new old k less = elim (cases_lt k a.len) [
-    | inl early ↦ rw (e.same k early) (old k early)
-    | inr late ↦ new _ (g.among k late less)
-  ]
+  | inl early ↦ rw (e.same k early) (old k early)
+  | inr late ↦ new _ (g.among k late less)
+]
 
 -- what holds of one state holds of the first of many places that have it
 pub each-first : (P : ℕ → Type 0) (n s : ℕ) → P s → (k : ℕ) → k < 1 → P (get_or (replicate (n + 1) s) k 0)
@@ -126,9 +126,9 @@ module _ (nfa : Automaton) where
     pub least-step : (t u : List Bool) → GrowsBy t u node → ((x : ℕ) → x < 256 → Admits t x → IsRead nfa x)
         → (x : ℕ) → x < 256 → Admits u x → IsRead nfa x
     least-step t u g before x small admits = elim (g.only x admits) [
-        | inl old ↦ before x small old
-        | inr r ↦ record { state = get_or a.states done 0; at_start = all done less; by = rw is-here r }
-      ]
+      | inl old ↦ before x small old
+      | inr r ↦ record { state = get_or a.states done 0; at_start = all done less; by = rw is-here r }
+    ]
 
     pub stops-step : Extends a b → AddsOnly a b (epsilon_targets node) → Differ b → Stops b node
         → (x : ℕ) → MayBegin nfa x

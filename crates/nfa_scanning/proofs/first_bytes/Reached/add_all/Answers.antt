@@ -23,7 +23,7 @@ loop-i-preserved c =
           (c.loop-i.invariant.below n all prior);
       only = AddsOnly-then c.loop-i.invariant.only c.add.ensures.only c.add.ensures.extends (λ x i. i)
           (In-one c.index-sids-i.result c.args.sids.now
-    (rw c.index-sids-i.is (In-at c.args.sids.now c.loop-i.i _ inside)));
+          (rw c.index-sids-i.is (In-at c.args.sids.now c.loop-i.i _ inside)));
       differ = λ prior. c.add.ensures.differ (c.loop-i.invariant.differ prior);
     }
 
