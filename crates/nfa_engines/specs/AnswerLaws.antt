@@ -51,7 +51,8 @@ NoPatternIsNothing =
 
 -- a search that matches a pattern matches something
 abbrev pub PatternIsSomething : Type 0
-PatternIsSomething = (nfa : Automaton) (x : Search) (pattern : ℕ) → MatchesPattern nfa x pattern → MatchesSomething nfa x
+PatternIsSomething =
+    (nfa : Automaton) (x : Search) (pattern : ℕ) → MatchesPattern nfa x pattern → MatchesSomething nfa x
 
 -- and no search matches something and nothing
 abbrev pub NotBoth : Type 0

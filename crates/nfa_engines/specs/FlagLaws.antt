@@ -1,5 +1,5 @@
--- Laws of the flag `earliest` that an input carries. What is said with an `earliest` of its own does not read that flag:
--- it holds of a search exactly where it holds of the same search with the flag set to this.
+-- Laws of the flag `earliest` that an input carries. What is said with an `earliest` of its own does not read it: it
+-- holds of a search exactly where it holds of the same search with the flag set to this.
 use Rattle.std.specs.Prelude.{◌≡◌, ◌↔◌, ℕ, Bool, false, List, Option, is_some, length}
 use Rattle.regex_search_core.specs.Found.{Found}
 use Rattle.regex_search_core.specs.Search.{Search}

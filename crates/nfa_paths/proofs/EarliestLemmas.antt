@@ -17,7 +17,8 @@ abbrev pub asked : Search → Bool → Search
 asked x sooner = record x { earliest = sooner }
 
 -- the edges are the same
-pub edges-asked : (nfa : Automaton) (x : Search) (sooner : Bool) (v : Pair) → edges nfa (asked x sooner) v ≡ edges nfa x v
+pub edges-asked : (nfa : Automaton) (x : Search) (sooner : Bool) (v : Pair)
+    → edges nfa (asked x sooner) v ≡ edges nfa x v
 unfolding edges_of
 edges-asked nfa x sooner v = of (node_at nfa v.0)
   where

@@ -34,8 +34,10 @@ module _ (space : Space) (target : Pair → Bool) (e : ℕ)
   unfolding ExploresTo
   Answer-ahead left otherwise marks [] slots ahead = refl
   Answer-ahead left otherwise marks (Explore v ∷ rest) slots ahead =
-      inr (λ p a. Path-ahead a.path (ahead v (inl refl)),
-          Answer-ahead left otherwise marks rest slots (λ k i. ahead k (inr i)))
+      inr (
+        λ p a. Path-ahead a.path (ahead v (inl refl)),
+        Answer-ahead left otherwise marks rest slots (λ k i. ahead k (inr i)),
+      )
   Answer-ahead left otherwise marks (Restore k old ∷ rest) slots ahead =
       Answer-ahead left otherwise marks rest _ (λ k i. ahead k (inr i))
   Answer-ahead left otherwise marks (Load old ∷ rest) slots ahead =
@@ -148,11 +150,12 @@ module _ (nfa : Automaton) (x : Search) (old : List Bool) (wants : Pair → Bool
           let never : Some (first.end, apply (capture nfa) p slots) ≡ None = sym end ∙ is in cc
       of (Some a) (Some p) first is =
           let end = found-end (capture nfa) first.end p slots first.path.ends in
-          let here : first.end ≡ a.0 = (same_parts (first.end, apply (capture nfa) p slots) a (sym end ∙ is)).0 in
-          (p,
-              IsFirstTo-along (edges nfa x) (starts nfa x) (Passes (before_target wants limit))
-              (WantedBefore (Passes wants) limit) (before_is wants limit) (is_before wants limit) first,
-              EndsWith-last None first.end p first.path.ends ∙ ap Some here)
+          let here : first.end ≡ a.0 = (same_parts (first.end, apply (capture nfa) p slots) a (sym end ∙ is)).0 in (
+            p,
+            IsFirstTo-along (edges nfa x) (starts nfa x) (Passes (before_target wants limit))
+                (WantedBefore (Passes wants) limit) (before_is wants limit) (is_before wants limit) first,
+            EndsWith-last None first.end p first.path.ends ∙ ap Some here,
+          )
 
   Best-start : Best x.start None
   Best-start = NoneBefore-start (space nfa x) (is_resting nfa) wants [] (wanted-shape nfa x old wants tells) x.start
@@ -183,8 +186,11 @@ module _ (nfa : Automaton) (x : Search) (old : List Bool) (wants : Pair → Bool
     sound = λ k h. absurd (size-none old empty k h);
     complete = λ limit below p first k is.
         absurd (Best-start first.end p first.path
-        (record { wanted = first.wanted.wanted; before = let l : first.end.1 < limit =
-            first.wanted.before in omega arith }));
+        (record {
+          wanted = first.wanted.wanted;
+          before = let l : first.end.1 < limit =
+              first.wanted.before in omega arith;
+        }));
   }
 
   -- as long as nothing else is found
