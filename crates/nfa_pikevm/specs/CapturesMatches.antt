@@ -13,7 +13,7 @@ use Rattle.nfa_search_base.specs.Walks.{Answer, Walk}
 use Rattle.nfa_search_base.specs.declared.error.SearchError.{SearchError}
 use Rattle.nfa_pikevm.specs.Engines.{Pike, PikeCache, SameNumbers}
 use Rattle.nfa_pikevm.specs.FindMatches.{fits_pike}
-use Rattle.nfa_pikevm.specs.Finding.{PikeSearches, PikeTellsRow}
+use Rattle.nfa_pikevm.specs.Finding.{PikeCatchesOn, PikeSearches, PikeTellsRow}
 use Rattle.nfa_pikevm.specs.declared.captures_iter.CapturesMatches.{CapturesMatches}
 
 -- the steps of the iterator, and the cache that it is lent
@@ -51,10 +51,12 @@ pub record PikeCatchesNext (s : CapturesMatches) (r : Option (Result Captured Se
 abbrev pub pike_catches_next : CapturesMatches → Option (Result Captured SearchError) → CapturesMatches → Type 0
 pike_catches_next s r t = PikeCatchesNext s r t
 
--- the calls keep the cache, and its numbers
-pub record CatchesKeepCache (s t : CapturesMatches) : Type 0 where
-  pub cache : t.cache.ghost_name ≡ s.cache.ghost_name
-  pub numbers : SameNumbers s.cache.now t.cache.now
+module _ (vm : Pike) (x : Search) where
+  -- the calls keep the cache, and its numbers, and change it by the searches of an iteration over x alone
+  pub record CatchesKeepCache (s t : CapturesMatches) : Type 0 where
+    pub cache : t.cache.ghost_name ≡ s.cache.ghost_name
+    pub numbers : SameNumbers s.cache.now t.cache.now
+    pub searches : PikeCatchesOn vm x s.cache.now t.cache.now
 
-abbrev pub CatchesGiveCache : CapturesMatches → Type 0
-CatchesGiveCache s = GivesKept pike_catches_next CatchesKeepCache s
+  abbrev pub CatchesGiveCache : CapturesMatches → Type 0
+  CatchesGiveCache s = GivesKept pike_catches_next CatchesKeepCache s

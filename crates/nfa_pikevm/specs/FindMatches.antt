@@ -1,6 +1,7 @@
 -- The iterator over the matches of a PikeVM.
-use Rattle.std.specs.Prelude.{◌≡◌, Option, Ok, option_map, Bool}
+use Rattle.std.specs.Prelude.{◌≡◌, List, map, Option, None, Ok, option_map, Bool}
 use Rattle.std.specs.Borrow.{MutBor}
+use Rattle.std.specs.Iterator.{Yields}
 use Rattle.regex_search_core.specs.Found.{Found, found_of}
 use Rattle.regex_search_core.specs.Search.{Search}
 use Rattle.regex_search_core.specs.declared.search.Match.{Match}
@@ -12,7 +13,7 @@ use Rattle.nfa_search_base.specs.Steps.{GivesItem}
 use Rattle.nfa_search_base.specs.Searchers.{walk_of}
 use Rattle.nfa_search_base.specs.Walks.{Answer, Walk, span_of}
 use Rattle.nfa_pikevm.specs.Engines.{Fits, Pike, PikeCache, SameNumbers}
-use Rattle.nfa_pikevm.specs.Finding.{IsSureOf, PikeSearches, PikeTells}
+use Rattle.nfa_pikevm.specs.Finding.{IsSureOf, PikeFindsOn, PikeFindsToEnd, PikeSearches, PikeTells}
 use Rattle.nfa_pikevm.specs.declared.find_iter.FindMatches.{FindMatches}
 use Rattle.nfa_pikevm.specs.declared.find_iter.Finder.{Finder}
 
@@ -59,10 +60,21 @@ pub record PikeFindsNext (s : FindMatches) (r : Option Match) (t : FindMatches) 
 abbrev pub pike_finds_next : FindMatches → Option Match → FindMatches → Type 0
 pike_finds_next s r t = PikeFindsNext s r t
 
--- the calls keep the cache, and its numbers
-pub record KeepsCache (s t : FindMatches) : Type 0 where
-  pub cache : t.cache.ghost_name ≡ s.cache.ghost_name
-  pub numbers : SameNumbers s.cache.now t.cache.now
+-- what is known of its next search
+abbrev pub pike_finds_known : FindMatches → Option Found
+pike_finds_known s = option_map found_of s.steps.asker.known
 
-abbrev pub GivesCache : FindMatches → Type 0
-GivesCache s = GivesKept pike_finds_next KeepsCache s
+module _ (vm : Pike) (x : Search) where
+  -- the calls keep the cache, and its numbers, and change it by the searches of an iteration over x alone
+  pub record KeepsCache (s t : FindMatches) : Type 0 where
+    pub cache : t.cache.ghost_name ≡ s.cache.ghost_name
+    pub numbers : SameNumbers s.cache.now t.cache.now
+    pub searches : PikeFindsOn vm x s.cache.now t.cache.now
+
+  abbrev pub GivesCache : FindMatches → Type 0
+  GivesCache s = GivesKept pike_finds_next KeepsCache s
+
+  -- at `None` the iteration went to its end, past the matches so far
+  abbrev pub GivesCacheAtEnd : FindMatches → Type 0
+  GivesCacheAtEnd s = (xs : List Match) (t u : FindMatches) → Yields pike_finds_next s xs t → pike_finds_next t None u
+      → PikeFindsToEnd vm x (map found_of xs) s.cache.now u.cache.now

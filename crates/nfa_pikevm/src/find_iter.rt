@@ -12,7 +12,7 @@ use nfa_search_base::error::SearchError;
 use nfa_search_base::iter::finding::{ending_at, found_item, found_span};
 use nfa_search_base::iter::{Searcher, Searches, Steps};
 use regex_search_core::{Input, Match, Span};
-use std::alloc::{AllocError, Global};
+use std::alloc::Global;
 
 /// The matches of an input that do not overlap, from left to right: what [`PikeVM::find_iter`] gives.
 ///
@@ -35,13 +35,15 @@ struct Finder<'r> {
 }
 
 impl PikeVM {
-    ghost use Rattle.std.specs.Prelude.{false, All, IfOk, None, map};
+    ghost use Rattle.std.specs.Prelude.{false, All, IfOk, IsOkUnless, None, map};
     ghost use Rattle.regex_search_core.specs.Found.{found_of};
     ghost use Rattle.nfa_search_base.specs.Lists.{AreMatches, AreApart, IsInside};
     ghost use Rattle.nfa_search_base.specs.Walks.{fresh};
     ghost use Rattle.nfa_pikevm.specs.Engines.{SameNumbers, kind_of};
-    ghost use Rattle.nfa_pikevm.specs.FindMatches.{GivesCache, pike_finds_cache, pike_finds_done};
-    ghost use Rattle.nfa_pikevm.specs.FindMatches.{pike_finds_engine, pike_finds_next, pike_finds_walk};
+    ghost use Rattle.nfa_pikevm.specs.Finding.{PikeFindsOn, PikeFindsToEnd};
+    ghost use Rattle.nfa_pikevm.specs.FindMatches.{GivesCache, GivesCacheAtEnd, pike_finds_cache, pike_finds_done};
+    ghost use Rattle.nfa_pikevm.specs.FindMatches.{pike_finds_engine, pike_finds_known, pike_finds_next};
+    ghost use Rattle.nfa_pikevm.specs.FindMatches.{pike_finds_walk};
     ghost use Rattle.nfa_search_base.specs.MatchRuns.{MatchesRun, MatchesAre, MatchesApart, MatchesFirst, MatchesNext};
 
     /// The matches of the input that do not overlap, from left to right. To make this takes no memory. The caller owes
@@ -61,13 +63,16 @@ impl PikeVM {
         ensures engine { pike_finds_engine result ≡ self.now }
         ensures walk { pike_finds_walk result ≡ fresh (search_of input.entry) }
         ensures going { pike_finds_done result ≡ false }
+        ensures known { pike_finds_known result ≡ None }
         // Each run of calls gives the first matches of the input, and all of them where it goes on to `None`.
         ensures runs { MatchesRun self.now.nfa (kind_of self.now) (search_of input.entry) pike_finds_next result }
         ensures are { MatchesAre self.now.nfa (kind_of self.now) (search_of input.entry) pike_finds_next result }
         ensures apart { MatchesApart self.now.nfa (kind_of self.now) (search_of input.entry) pike_finds_next result }
         ensures first { MatchesFirst self.now.nfa (kind_of self.now) (search_of input.entry) pike_finds_next result }
         ensures next { MatchesNext self.now.nfa (kind_of self.now) (search_of input.entry) pike_finds_next result }
-        ensures keeps { GivesCache result }
+        // The cache changes by the searches of the steps alone.
+        ensures keeps { GivesCache self.now (search_of input.entry) result }
+        ensures to_end { GivesCacheAtEnd self.now (search_of input.entry) result }
     {
         FindMatches {
             cache,
@@ -82,20 +87,26 @@ impl PikeVM {
         }
     }
 
-    /// All matches of the input that do not overlap, from left to right. The error is that a growth was refused.
+    /// All matches of the input that do not overlap, from left to right. The error is that there was no memory:
+    /// [`SearchError::Memory`] alone.
     pub fn find_all(
         &self,
         alloc: Global,
         cache: &mut Cache,
         input: Input<'_>,
-    ) -> Result<Vec<Match>, AllocError>
+    ) -> Result<Vec<Match>, SearchError>
         requires { Fits cache.old self.now.nfa }
+        ensures memory { IsOkUnless result SearchError.Memory }
         ensures all { IfOk result (λ found.
             AreMatches self.now.nfa (kind_of self.now) (search_of input.entry).earliest (search_of input.entry)
             (map found_of found.items)) }
         ensures apart { IfOk result (λ found. AreApart (search_of input.entry) None (map found_of found.items)) }
         ensures inside { IfOk result (λ found. All (λ m. IsInside (search_of input.entry) (found_of m)) found.items) }
         ensures numbers { SameNumbers cache.old cache.new }
+        // The cache changes by the searches of an iteration alone, and where all matches come these go to its end.
+        ensures searches { PikeFindsOn self.now (search_of input.entry) cache.old cache.new }
+        ensures to_end { IfOk result (λ found.
+            PikeFindsToEnd self.now (search_of input.entry) (map found_of found.items) cache.old cache.new) }
     {
         let mut found = Vec::new(alloc);
         for item in self.find_iter(cache, input) {

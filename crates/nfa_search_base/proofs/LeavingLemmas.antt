@@ -25,6 +25,7 @@ use Rattle.nfa_search_base.specs.declared.error.SearchError.{SearchError}
 use Rattle.nfa_search_base.specs.declared.error.SearchError.TheVariants.{Memory}
 use Rattle.nfa_search_base.specs.declared.iter.steps.Steps.{Steps}
 use Rattle.nfa_search_base.proofs.CaughtRunLemmas.{copy-says}
+use Rattle.nfa_search_base.proofs.MatchRunLemmas.{yields-inner}
 use Rattle.nfa_search_base.proofs.RunLemmas.{Says, item-says}
 use Rattle.nfa_search_base.proofs.StepLemmas.{chosen}
 
@@ -105,24 +106,26 @@ module _ {S X Y K : Type 0} (span : X → Span) (asks : S → Search → Answer 
   -- what calls leave of an iterator that goes on
   pub calls-leave : (xs : List (Result Y SearchError)) (s t u : Steps S) (r : Option (Result Y SearchError))
       → s.done ≡ false → Good s.asker → Yields steps s xs t → steps t r u
-      → (answers : List (Answer X)) × Leads (steps_walk s) (seen s.asker) answers (seen u.asker)
+      → (first : Answer X) × (rest : List (Answer X)) × Leads (steps_walk s) (seen s.asker) (first ∷ rest)
+      (seen u.asker)
   calls-leave [] s t u r going good ran st =
       let one = turn s r u going (subst (λ (q : Steps S). steps q r u) (sym ran) st) in
       let k = advance-seen s.asker (steps_walk s) one.answer u.asker (steps_walk u) good one.step in
-      (one.answer ∷ [], only (steps_walk s) one.answer (seen s.asker) (seen u.asker) (steps_walk u) k.0)
+      (one.answer, [], only (steps_walk s) one.answer (seen s.asker) (seen u.asker) (steps_walk u) k.0)
   calls-leave (Ok y ∷ xs) s t u r going good ran st =
       let q = ran.0 in
       let one = turn s (Some (Ok y)) q going ran.1 in
       let k = advance-seen s.asker (steps_walk s) one.answer q.asker (steps_walk q) good one.step in
       let rest = calls-leave xs q t u r one.ends k.1 ran.2 st in
       let is : one.answer ≡ Ok (Some (view y)) = says q.asker one.answer (Some (Ok y)) one.item in (
-        Ok (Some (view y)) ∷ rest.0,
+        Ok (Some (view y)),
+        rest.0 ∷ rest.1,
         (
           seen q.asker,
           steps_walk q,
           subst (λ (a : Answer X). Advances span looks (seen s.asker) (steps_walk s) a (seen q.asker) (steps_walk q))
               is k.0,
-          rest.1,
+          rest.2,
         ),
       )
   calls-leave (Err e ∷ xs) s t u r going good ran st =
@@ -130,7 +133,8 @@ module _ {S X Y K : Type 0} (span : X → Span) (asks : S → Search → Answer 
       let one = turn s (Some (Err e)) q going ran.1 in
       let k = advance-seen s.asker (steps_walk s) one.answer q.asker (steps_walk q) good one.step in
       let same : u ≡ q = all-still xs q t u r one.ends ran.2 st in (
-        one.answer ∷ [],
+        one.answer,
+        [],
         subst (λ (v : Steps S). Leads (steps_walk s) (seen s.asker) (one.answer ∷ []) (seen v.asker)) (sym same)
             (only (steps_walk s) one.answer (seen s.asker) (seen q.asker) (steps_walk q) k.0),
       )
@@ -178,6 +182,20 @@ pub same-items : {R : Type 0} (xs : List R) → map (λ (i : R). i) xs ≡ xs
 same-items [] = refl
 same-items {R} (x ∷ xs) = ap (λ (l : List R). x ∷ l) (same-items xs)
 
+-- the calls of a shell led where those of the iterator in it do
+pub calls-lead : {T U Y : Type 0} (outer : T → Option (Result Y SearchError) → T → Type 0)
+    (steps : U → Option (Result Y SearchError) → U → Type 0) (inner : T → U)
+    → ((s : T) (r : Option (Result Y SearchError)) (t : T) → outer s r t → steps (inner s) r (inner t))
+    → (xs : List (Result Y SearchError)) (s t : T) (r : Option (Result Y SearchError)) (u : T) → Yields outer s xs t
+    → outer t r u → CallsLead steps (inner s) (inner u)
+calls-lead outer steps inner is xs s t r u ran st = record {
+  items = xs;
+  last = inner t;
+  item = r;
+  ran = yields-inner outer steps inner is xs s t ran;
+  over = is t r u st;
+}
+
 -- ---- matches
 
 -- The iterator of an engine e over matches, around steps and a cache.
@@ -220,16 +238,24 @@ module _ {E A C : Type 0} (Sure : E → Search → Found → Type 0) (shown : A 
         calls-in span_of Asks (λ q. GivesItem found_of) found_of says (λ q. keeping shown q) Looks Is looks calls
         (λ q. lent_state (inner q)) item (λ p r q st. (is p r q st).step) xs s t ran
 
-    -- its calls lead from cache to cache by the searches of their steps
-    pub finds-leave : (xs : List R) (t : T) (r : Option R) (u : T) → Yields calls s xs t → calls t r u
-        → FindsLeave (Tells e) (Work e) x (inner s).cache.now (inner u).cache.now
-    finds-leave xs t r u ran st =
+    -- its calls lead from cache to cache by the searches of their steps, and make one at least
+    pub first-leaves : (xs : List R) (t : T) (r : Option R) (u : T) → Yields calls s xs t → calls t r u
+        → (first : Answer Found) × (rest : List (Answer Found))
+        × StepsLead span_of Looks (fresh x) (record { cache = (inner s).cache.now; known = None }) (first ∷ rest)
+        (keeping shown (lent_state (inner u)).asker)
+    first-leaves xs t r u ran st =
         let k = calls-leave span_of Asks (λ q. GivesItem found_of) found_of says (λ q. keeping shown q) Looks Is looks
         (map item xs) (lent_state (inner s)) (lent_state (inner t)) (lent_state (inner u)) (option_map item r) going
         engine (in-steps xs t ran) (is t r u st).step in
+        rw (known, walk) at k
+
+    pub finds-leave : (xs : List R) (t : T) (r : Option R) (u : T) → Yields calls s xs t → calls t r u
+        → FindsLeave (Tells e) (Work e) x (inner s).cache.now (inner u).cache.now
+    finds-leave xs t r u ran st =
+        let k = first-leaves xs t r u ran st in
         record {
           known = option_map found_of (shown (inner u).steps.asker).known;
-          left = record { answers = k.0; steps = rw (known, walk) at k.1 };
+          left = record { answers = k.0 ∷ k.1; steps = k.2 };
         }
 
     -- and past all matches where they go on to none
@@ -290,7 +316,7 @@ module _ {E C : Type 0} (nfa : E → Automaton) (Tells : E → Search → Answer
     catches-leave t lead =
         let k = calls-leave row_span AsksRow (λ q. GivesCaptures q.asker) row_of says-row (λ q. q.cache) LooksRow
         (λ q. q.asker.finder ≡ e) looks-row lead.items s lead.last t lead.item going engine lead.ran lead.over in
-        record { answers = k.0; steps = rw walk at k.1 }
+        record { answers = k.0 ∷ k.1; steps = rw walk at k.2 }
 
     -- and past all matches where they go on to none
     pub catches-to_end : (cs : List Captured) (t : Steps (With (Catching E) C)) → DrainsAll Calls s cs t

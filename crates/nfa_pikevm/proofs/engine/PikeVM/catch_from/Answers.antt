@@ -11,4 +11,4 @@ pub returns-clause-errors : goal.returns-clause-errors
 returns-clause-errors c = catches-memory c.args.self.now (search_of c.args.input) _ refl c.new.ensures refl
 
 pub returns-clause-keeps : goal.returns-clause-keeps
-returns-clause-keeps c = catches-cache _
+returns-clause-keeps c = catches-cache c.args.self.now (search_of c.args.input) _ refl c.new.ensures refl
