@@ -23,11 +23,10 @@ use Rattle.nfa_search_base.specs.declared.iter.steps.Steps.{Steps}
 use Rattle.nfa_search_base.proofs.CaughtLemmas.{caught-tells, row-lies}
 use Rattle.nfa_search_base.proofs.CaughtRunLemmas.{captures-memory, only-item}
 use Rattle.nfa_search_base.proofs.DrainedLemmas.{all-drained, error-drained}
-use Rattle.nfa_search_base.proofs.EngineLemmas.{calls-kept, captures-given, catcher-acts, catcher-goes}
-use Rattle.nfa_search_base.proofs.EngineLemmas.{catcher-serves}
+use Rattle.nfa_search_base.proofs.EngineLemmas.{captures-given, catcher-acts, catcher-goes, catcher-serves}
 use Rattle.nfa_search_base.proofs.LeavingLemmas.{all-to_end, calls-lead, catches-leave}
 use Rattle.nfa_backtrack.specs.Backtrack.{Backtracker, CountsAnswer, CountsRefusal, IsTooLong, Work}
-use Rattle.nfa_backtrack.specs.CapturesMatches.{AsksBacktrackerRow, BacktrackerCatchesGiveCache}
+use Rattle.nfa_backtrack.specs.CapturesMatches.{AsksBacktrackerRow, CatchesBySearches}
 use Rattle.nfa_backtrack.specs.CapturesMatches.{CatchesRefused, MayCatchByBacktracker}
 use Rattle.nfa_backtrack.specs.CapturesMatches.{backtracker_catches, backtracker_catches_next}
 use Rattle.nfa_backtrack.specs.FindMatches.{fits_always}
@@ -145,19 +144,15 @@ module _ (e : Backtracker) (x : Search) (s : TryCapturesMatches)
         | inr memory ↦ absurd (memory.0 long)
       ]
 
-  -- they keep the cache, and change it by their searches alone
-  pub catches-cache : BacktrackerCatchesGiveCache e x s
-  catches-cache = λ xs t r u ran st.
-      let k = calls-kept row_span AsksBacktrackerRow GivesCaptures (λ c d. Unit {0}) (λ c. tt) (λ a b c f g. tt)
-      (λ p y a q asked. tt) backtracker_catches_next backtracker_catches (λ i. i) (λ p i q h. h.takes) s xs t r u ran
-      st in
-      record {
-        cache = k.cache;
-        searches = catches-leave (λ b. b.nfa) IsCatchOf (λ b y a. SearchesOnce b y a) e x
-            (lent_state (backtracker_catches s)) engine walk going (lent_state (backtracker_catches u))
-            (calls-lead backtracker_catches_next BacktrackerSteps (λ q. lent_state (backtracker_catches q))
-            (λ p i q h. h.takes.step) xs s t r u ran st);
-      }
+  -- they change the cache by their searches alone
+  pub catches-searches : CatchesBySearches e x s
+  catches-searches = record {
+    on = λ xs t r u ran st.
+        catches-leave (λ b. b.nfa) IsCatchOf (λ b y a. SearchesOnce b y a) e x (lent_state (backtracker_catches s))
+        engine walk going (lent_state (backtracker_catches u))
+        (calls-lead backtracker_catches_next BacktrackerSteps (λ q. lent_state (backtracker_catches q))
+        (λ p i q h. h.takes.step) xs s t r u ran st);
+  }
 
 -- ---- all captures
 

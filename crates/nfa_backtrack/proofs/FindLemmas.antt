@@ -28,7 +28,7 @@ use Rattle.nfa_search_base.proofs.ListLemmas.{match-lies}
 use Rattle.nfa_search_base.proofs.WalkLemmas.{IsOrdered}
 use Rattle.nfa_backtrack.specs.Backtrack.{Backtracker, CountsAnswer, CountsRefusal, IsTooLong, Work}
 use Rattle.nfa_backtrack.specs.Backtrack.{refused_early}
-use Rattle.nfa_backtrack.specs.FindMatches.{AsksBacktracker, BacktrackerGivesCache, BacktrackerGivesCacheAtEnd}
+use Rattle.nfa_backtrack.specs.FindMatches.{AsksBacktracker, FindsBySearches}
 use Rattle.nfa_backtrack.specs.FindMatches.{MayFindByBacktracker, backtracker_finds, backtracker_finds_next}
 use Rattle.nfa_backtrack.specs.FindMatches.{backtracker_knowing, fits_always}
 use Rattle.nfa_backtrack.specs.Finding.{Counts, DoesWork, IsFindOf, IsSureAt, SearchesOnce}
@@ -140,23 +140,21 @@ module _ (e : Backtracker) (x : Search) (s : TryFindMatches) (engine : s.steps.a
   step-is p r q st = subst (λ (o : Option (Result Match SearchError)). TakesLentStep span_of AsksBacktracker
       (λ _. GivesItem found_of) (backtracker_finds p) o (backtracker_finds q)) (sym (same-item r)) st.takes
 
-  -- the calls keep the cache, and change it by their searches alone
-  pub gives-cache : BacktrackerGivesCache e x s
-  gives-cache = λ xs t r u ran st.
-      let k = calls-kept span_of AsksBacktracker (λ _. GivesItem found_of) (λ c d. Unit {0}) (λ c. tt)
-      (λ a b c f g. tt) (λ q y a p asked. tt) backtracker_finds_next backtracker_finds (λ i. i) (λ p i q h. h.takes) s
-      xs t r u ran st in
-      let on = first-leaves IsSureAt backtracker_knowing IsFindOf (λ b y a. SearchesOnce b y a) e
-      backtracker_finds_next backtracker_finds (λ i. i) step-is x s engine known walk going xs t r u ran st in
-      record {
-        cache = k.cache;
-        searches = finds-leave IsSureAt backtracker_knowing IsFindOf (λ b y a. SearchesOnce b y a) e
-            backtracker_finds_next backtracker_finds (λ i. i) step-is x s engine known walk going xs t r u ran st;
-        early = λ long. steps-early e x long s.cache.now on.0 on.1 _ on.2;
-      }
-
-  -- to its end, where none comes
-  pub gives-cache-at_end : BacktrackerGivesCacheAtEnd e x s
-  gives-cache-at_end = λ xs t u ms ran st is.
-      finds-to_end IsSureAt backtracker_knowing IsFindOf (λ b y a. SearchesOnce b y a) e backtracker_finds_next
-      backtracker_finds (λ i. i) step-is x s engine known walk going xs ms t u (same-items xs ∙ is) ran st
+  -- the calls change the cache by their searches alone
+  pub finds-searches : FindsBySearches e x s
+  finds-searches = record {
+    keeps = λ xs t r u ran st. record {
+      cache = (calls-kept span_of AsksBacktracker (λ _. GivesItem found_of) (λ c d. Unit {0}) (λ c. tt)
+          (λ a b c f g. tt) (λ q y a p asked. tt) backtracker_finds_next backtracker_finds (λ i. i)
+          (λ p i q h. h.takes) s xs t r u ran st).cache;
+    };
+    on = λ xs t r u ran st. finds-leave IsSureAt backtracker_knowing IsFindOf (λ b y a. SearchesOnce b y a) e
+        backtracker_finds_next backtracker_finds (λ i. i) step-is x s engine known walk going xs t r u ran st;
+    early = λ xs t r u ran st long.
+        let first = first-leaves IsSureAt backtracker_knowing IsFindOf (λ b y a. SearchesOnce b y a) e
+        backtracker_finds_next backtracker_finds (λ i. i) step-is x s engine known walk going xs t r u ran st in
+        steps-early e x long s.cache.now first.0 first.1 _ first.2;
+    to_end = λ xs t u ms ran st is. finds-to_end IsSureAt backtracker_knowing IsFindOf (λ b y a. SearchesOnce b y a) e
+        backtracker_finds_next backtracker_finds (λ i. i) step-is x s engine known walk going xs ms t u
+        (same-items xs ∙ is) ran st;
+  }

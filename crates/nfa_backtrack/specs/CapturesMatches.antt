@@ -55,14 +55,9 @@ abbrev pub backtracker_catches_next : TryCapturesMatches → Option (Result Capt
     → TryCapturesMatches → Type 0
 backtracker_catches_next s r t = BacktrackerCatchesNext s r t
 
-module _ (e : Backtracker) (x : Search) where
-  -- the calls keep the cache, and change it by the searches of an iteration over x alone
-  pub record BacktrackerCatchesKeepCache (s t : TryCapturesMatches) : Type 0 where
-    pub cache : t.cache.ghost_name ≡ s.cache.ghost_name
-    pub searches : BacktrackerCatchesOn e x s.cache.now t.cache.now
-
-  abbrev pub BacktrackerCatchesGiveCache : TryCapturesMatches → Type 0
-  BacktrackerCatchesGiveCache s = GivesKept backtracker_catches_next BacktrackerCatchesKeepCache s
+-- the calls change the cache by the searches of an iteration over x alone
+pub record CatchesBySearches (e : Backtracker) (x : Search) (s : TryCapturesMatches) : Type 0 where
+  pub on : GivesKept backtracker_catches_next (λ p q. BacktrackerCatchesOn e x p.cache.now q.cache.now) s
 
 -- in each run errors come by the rule of refusals
 abbrev pub CatchesRefused : Backtracker → Search → TryCapturesMatches → Type 0

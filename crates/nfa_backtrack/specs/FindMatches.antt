@@ -66,19 +66,17 @@ backtracker_finds_next s r t = BacktrackerFindsNext s r t
 abbrev pub backtracker_finds_known : TryFindMatches → Option Found
 backtracker_finds_known s = option_map found_of s.steps.asker.known
 
-module _ (e : Backtracker) (x : Search) where
-  -- the calls keep the cache, and change it by the searches of an iteration over x alone; a search that is too long
-  -- changes nothing but the count of refusals
-  pub record BacktrackerKeepsCache (s t : TryFindMatches) : Type 0 where
-    pub cache : t.cache.ghost_name ≡ s.cache.ghost_name
-    pub searches : BacktrackerFindsOn e x s.cache.now t.cache.now
-    pub early : IsTooLong e x → t.cache.now ≡ refused_early s.cache.now
+-- the calls keep the cache
+pub record KeepsLentCache (s t : TryFindMatches) : Type 0 where
+  pub cache : t.cache.ghost_name ≡ s.cache.ghost_name
 
-  abbrev pub BacktrackerGivesCache : TryFindMatches → Type 0
-  BacktrackerGivesCache s = GivesKept backtracker_finds_next BacktrackerKeepsCache s
-
-  -- at `None` the iteration went to its end, past the matches so far
-  abbrev pub BacktrackerGivesCacheAtEnd : TryFindMatches → Type 0
-  BacktrackerGivesCacheAtEnd s = (xs : List (Result Match SearchError)) (t u : TryFindMatches) (ms : List Match)
+-- The calls keep the cache, and change it by the searches of an iteration over x alone. A search that is too long
+-- changes nothing but the count of refusals. At `None` the iteration went to its end, past the matches so far.
+pub record FindsBySearches (e : Backtracker) (x : Search) (s : TryFindMatches) : Type 0 where
+  pub keeps : GivesKept backtracker_finds_next KeepsLentCache s
+  pub on : GivesKept backtracker_finds_next (λ p q. BacktrackerFindsOn e x p.cache.now q.cache.now) s
+  pub early : GivesKept backtracker_finds_next
+      (λ p q. IsTooLong e x → q.cache.now ≡ refused_early p.cache.now) s
+  pub to_end : (xs : List (Result Match SearchError)) (t u : TryFindMatches) (ms : List Match)
       → Yields backtracker_finds_next s xs t → backtracker_finds_next t None u → xs ≡ map Ok ms
       → BacktrackerFindsToEnd e x (map found_of ms) s.cache.now u.cache.now

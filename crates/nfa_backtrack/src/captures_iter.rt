@@ -52,7 +52,7 @@ impl BoundedBacktracker {
     ghost use Rattle.nfa_search_base.specs.CaughtRuns.{CapturesInside, RowsRun, match_in};
     ghost use Rattle.nfa_search_base.specs.Lists.{AreApart, AreMatches};
     ghost use Rattle.nfa_search_base.specs.Walks.{fresh};
-    ghost use Rattle.nfa_backtrack.specs.CapturesMatches.{BacktrackerCatchesGiveCache, CatchesRefused};
+    ghost use Rattle.nfa_backtrack.specs.CapturesMatches.{CatchesBySearches, CatchesRefused};
     ghost use Rattle.nfa_backtrack.specs.CapturesMatches.{backtracker_catches_cache};
     ghost use Rattle.nfa_backtrack.specs.CapturesMatches.{backtracker_catches_done, backtracker_catches_engine};
     ghost use Rattle.nfa_backtrack.specs.CapturesMatches.{backtracker_catches_next, backtracker_catches_walk};
@@ -110,7 +110,7 @@ impl BoundedBacktracker {
         ensures inside { IfOk result (CapturesWithin backtracker_catches_next (search_of input.entry)) }
         ensures apart { IfOk result (CapturesApart backtracker_catches_next (search_of input.entry)) }
         // The cache changes by the searches of the steps alone.
-        ensures keeps { IfOk result (BacktrackerCatchesGiveCache self.now (search_of input.entry)) }
+        ensures searches { IfOk result (CatchesBySearches self.now (search_of input.entry)) }
     {
         let captures = self.create_captures(alloc)?;
         Ok(self.try_captures_iter_with(cache, input, captures))
@@ -157,7 +157,7 @@ impl BoundedBacktracker {
         ensures inside { CapturesWithin backtracker_catches_next (search_of input.entry) result }
         ensures apart { CapturesApart backtracker_catches_next (search_of input.entry) result }
         // The cache changes by the searches of the steps alone.
-        ensures keeps { BacktrackerCatchesGiveCache self.now (search_of input.entry) result }
+        ensures searches { CatchesBySearches self.now (search_of input.entry) result }
     {
         self.catch_from(cache, input, captures)
     }
@@ -218,7 +218,7 @@ impl BoundedBacktracker {
         ensures given { CapturesGiven backtracker_catches_next self.now.nfa LeftmostFirst false (IsCatchOf self.now)
             (search_of input.entry) result }
         ensures refused { CatchesRefused self.now (search_of input.entry) result }
-        ensures keeps { BacktrackerCatchesGiveCache self.now (search_of input.entry) result }
+        ensures searches { CatchesBySearches self.now (search_of input.entry) result }
     {
         TryCapturesMatches {
             cache,

@@ -42,15 +42,13 @@ impl BoundedBacktracker {
     ghost use Rattle.regex_search_core.specs.declared.search.MatchKind.TheVariants.{LeftmostFirst};
     ghost use Rattle.nfa_search_base.specs.Finders.{answer_by};
     ghost use Rattle.nfa_search_base.specs.Lists.{AreMatches, AreApart, IsInside};
-    ghost use Rattle.nfa_backtrack.specs.Backtrack.{IsTooLong, refused_early};
-    ghost use Rattle.nfa_backtrack.specs.Finding.{AnswersByLength, BacktrackerFindsOn, BacktrackerFindsToEnd};
-    ghost use Rattle.nfa_backtrack.specs.Finding.{IsFindOf, SearchesOnce};
+    ghost use Rattle.nfa_backtrack.specs.Finding.{AnswersByLength, IsFindOf, SearchesOnce};
     ghost use Rattle.nfa_search_base.specs.Runs.{GivesFirst, GivesNext, RunsGive};
     ghost use Rattle.nfa_search_base.specs.Walks.{fresh};
     ghost use Rattle.nfa_backtrack.specs.FindMatches.{backtracker_finds_cache, backtracker_finds_done};
     ghost use Rattle.nfa_backtrack.specs.FindMatches.{backtracker_finds_engine, backtracker_finds_next};
     ghost use Rattle.nfa_backtrack.specs.FindMatches.{backtracker_finds_known, backtracker_finds_walk};
-    ghost use Rattle.nfa_backtrack.specs.FindMatches.{BacktrackerGivesCache, BacktrackerGivesCacheAtEnd};
+    ghost use Rattle.nfa_backtrack.specs.FindMatches.{FindsBySearches};
     ghost use Rattle.nfa_backtrack.specs.Runs.{AreAllItems, AreFirstItems, GivesAllMatches, GivesFirstMatches, GivesNextMatch};
     ghost use Rattle.nfa_backtrack.specs.Runs.{RunsApart, RunsInside, RunsMatch, RunsRefused};
     ghost use Rattle.nfa_backtrack.specs.Runs.{GivesByLength, EndsByLength};
@@ -87,8 +85,7 @@ impl BoundedBacktracker {
         ensures by_length { GivesByLength self.now (search_of input.entry) result }
         ensures end { EndsByLength self.now (search_of input.entry) result }
         // The cache changes by the searches of the steps alone.
-        ensures keeps { BacktrackerGivesCache self.now (search_of input.entry) result }
-        ensures to_end { BacktrackerGivesCacheAtEnd self.now (search_of input.entry) result }
+        ensures searches { FindsBySearches self.now (search_of input.entry) result }
     {
         TryFindMatches {
             cache,
@@ -119,12 +116,6 @@ impl BoundedBacktracker {
         ensures apart { IfOk result (λ found. AreApart (search_of input.entry) None (map found_of found.items)) }
         ensures inside { IfOk result (λ found. All (λ m. IsInside (search_of input.entry) (found_of m)) found.items) }
         ensures by_length { AnswersByLength self.now (search_of input.entry) result }
-        // The cache changes by the searches of an iteration alone, and where all matches come these go to its end.
-        ensures searches { BacktrackerFindsOn self.now (search_of input.entry) cache.old cache.new }
-        ensures to_end { IfOk result (λ found.
-            BacktrackerFindsToEnd self.now (search_of input.entry) (map found_of found.items) cache.old cache.new) }
-        // Where the span is too long it changes by the count of refusals alone.
-        ensures early { IsTooLong self.now (search_of input.entry) → cache.new ≡ refused_early cache.old }
     {
         let mut found = Vec::new(alloc);
         for item in self.try_find_iter(cache, input) {

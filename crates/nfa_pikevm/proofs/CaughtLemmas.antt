@@ -22,7 +22,7 @@ use Rattle.nfa_search_base.proofs.CaughtRunLemmas.{captures-memory}
 use Rattle.nfa_search_base.proofs.DrainedLemmas.{all-drained, calls-cache, error-drained}
 use Rattle.nfa_search_base.proofs.EngineLemmas.{calls-kept, captures-given, catcher-acts, catcher-goes, catcher-serves}
 use Rattle.nfa_search_base.proofs.LeavingLemmas.{all-to_end, calls-lead, catches-leave}
-use Rattle.nfa_pikevm.specs.CapturesMatches.{AsksPikeRow, CatchesGiveCache, MayCatchByPike}
+use Rattle.nfa_pikevm.specs.CapturesMatches.{AsksPikeRow, CatchesBySearches, CatchesGiveCache, MayCatchByPike}
 use Rattle.nfa_pikevm.specs.CapturesMatches.{pike_catches, pike_catches_next}
 use Rattle.nfa_pikevm.specs.Engines.{Pike, PikeCache, SameNumbers, kind_of}
 use Rattle.nfa_pikevm.specs.FindMatches.{fits_pike}
@@ -87,20 +87,23 @@ module _ (vm : Pike) (x : Search) (s : CapturesMatches) (engine : (pike_catches 
       pike_catches_next (λ q. lent_state (pike_catches q)) (λ a r b st. st.takes.step) s walk going engine
       (λ t e from to never. absurd never)
 
-  -- they keep the cache, and its numbers, and change it by their searches alone
-  pub catches-cache : CatchesGiveCache vm x s
-  catches-cache = λ xs t r u ran st.
-      let k = calls-kept row_span AsksPikeRow GivesCaptures SameNumbers same_numbers same_numbers-then
-      (λ p y a q asked. asked.work.numbers) pike_catches_next pike_catches (λ i. i) (λ p i q h. h.takes) s xs t r u ran
-      st in
-      record {
-        cache = k.cache;
-        numbers = k.keeps;
-        searches = catches-leave (λ e. e.nfa) PikeTellsRow (λ e y a. PikeSearches e y) vm x
-            (lent_state (pike_catches s)) engine walk going (lent_state (pike_catches u))
-            (calls-lead pike_catches_next PikeSteps (λ q. lent_state (pike_catches q)) (λ p i q h. h.takes.step) xs s t
-            r u ran st);
-      }
+  -- they change the cache by their searches alone
+  pub catches-searches : CatchesBySearches vm x s
+  catches-searches = record {
+    on = λ xs t r u ran st.
+        catches-leave (λ e. e.nfa) PikeTellsRow (λ e y a. PikeSearches e y) vm x (lent_state (pike_catches s)) engine
+        walk going (lent_state (pike_catches u))
+        (calls-lead pike_catches_next PikeSteps (λ q. lent_state (pike_catches q)) (λ p i q h. h.takes.step) xs s t r u
+        ran st);
+  }
+
+-- the calls keep the cache, and its numbers
+pub catches-cache : (s : CapturesMatches) → CatchesGiveCache s
+catches-cache s = λ xs t r u ran st.
+    let k = calls-kept row_span AsksPikeRow GivesCaptures SameNumbers same_numbers same_numbers-then
+    (λ p x a q asked. asked.work.numbers) pike_catches_next pike_catches (λ i. i) (λ p i q h. h.takes) s xs t r u ran
+    st in
+    record { cache = k.cache; numbers = k.keeps }
 
 -- ---- all captures
 

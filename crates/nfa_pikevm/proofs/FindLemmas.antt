@@ -19,7 +19,7 @@ use Rattle.nfa_search_base.proofs.EngineLemmas.{calls-kept, find-lies, finder-ac
 use Rattle.nfa_search_base.proofs.EngineLemmas.{same-or-made}
 use Rattle.nfa_search_base.proofs.LeavingLemmas.{finds-leave, finds-to_end}
 use Rattle.nfa_pikevm.specs.Engines.{Fits, Pike, PikeCache, SameNumbers, kind_of}
-use Rattle.nfa_pikevm.specs.FindMatches.{AsksPike, MayFindByPike, GivesCache, GivesCacheAtEnd, fits_pike, pike_finds}
+use Rattle.nfa_pikevm.specs.FindMatches.{AsksPike, FindsBySearches, GivesCache, MayFindByPike, fits_pike, pike_finds}
 use Rattle.nfa_pikevm.specs.FindMatches.{pike_finds_next, pike_knowing}
 use Rattle.nfa_pikevm.specs.Finding.{IsSureOf, PikeSearches, PikeTells}
 use Rattle.nfa_pikevm.specs.declared.find_iter.FindMatches.{FindMatches}
@@ -94,24 +94,22 @@ asked-numbers s x a t asked = elim (same-or-made (λ y b. PikeSearches s.asker.e
   | inr work ↦ work.numbers
 ]
 
+-- the calls keep the cache, and its numbers
+pub gives-cache : (s : FindMatches) → GivesCache s
+gives-cache s = λ xs t r u ran st.
+    let k = calls-kept span_of AsksPike (λ _. GivesItem found_of) SameNumbers same_numbers same_numbers-then
+    asked-numbers pike_finds_next pike_finds (option_map (λ m. Ok m)) (λ p i q h. h.takes) s xs t r u ran st in
+    record { cache = k.cache; numbers = k.keeps }
+
 -- An iterator of vm that begins at x.
 module _ (vm : Pike) (x : Search) (s : FindMatches) (engine : s.steps.asker.engine.now ≡ vm)
     (known : s.steps.asker.known ≡ None) (walk : lent_walk (pike_finds s) ≡ fresh x)
     (going : s.steps.done ≡ false) where
-  -- the calls keep the cache, and its numbers, and change it by their searches alone
-  pub gives-cache : GivesCache vm x s
-  gives-cache = λ xs t r u ran st.
-      let k = calls-kept span_of AsksPike (λ _. GivesItem found_of) SameNumbers same_numbers same_numbers-then
-      asked-numbers pike_finds_next pike_finds (option_map (λ m. Ok m)) (λ p i q h. h.takes) s xs t r u ran st in
-      record {
-        cache = k.cache;
-        numbers = k.keeps;
-        searches = finds-leave IsSureOf pike_knowing PikeTells (λ e y a. PikeSearches e y) vm pike_finds_next pike_finds
-            (λ m. Ok m) (λ p i q h. h.takes) x s engine known walk going xs t r u ran st;
-      }
-
-  -- to its end, where none comes
-  pub gives-cache-at_end : GivesCacheAtEnd vm x s
-  gives-cache-at_end = λ xs t u ran st.
-      finds-to_end IsSureOf pike_knowing PikeTells (λ e y a. PikeSearches e y) vm pike_finds_next pike_finds
-      (λ m. Ok m) (λ p i q h. h.takes) x s engine known walk going xs xs t u refl ran st
+  -- the calls change the cache by their searches alone
+  pub finds-searches : FindsBySearches vm x s
+  finds-searches = record {
+    on = λ xs t r u ran st. finds-leave IsSureOf pike_knowing PikeTells (λ e y a. PikeSearches e y) vm pike_finds_next
+        pike_finds (λ m. Ok m) (λ p i q h. h.takes) x s engine known walk going xs t r u ran st;
+    to_end = λ xs t u ran st. finds-to_end IsSureOf pike_knowing PikeTells (λ e y a. PikeSearches e y) vm
+        pike_finds_next pike_finds (λ m. Ok m) (λ p i q h. h.takes) x s engine known walk going xs xs t u refl ran st;
+  }

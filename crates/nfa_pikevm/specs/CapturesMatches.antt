@@ -51,12 +51,14 @@ pub record PikeCatchesNext (s : CapturesMatches) (r : Option (Result Captured Se
 abbrev pub pike_catches_next : CapturesMatches → Option (Result Captured SearchError) → CapturesMatches → Type 0
 pike_catches_next s r t = PikeCatchesNext s r t
 
-module _ (vm : Pike) (x : Search) where
-  -- the calls keep the cache, and its numbers, and change it by the searches of an iteration over x alone
-  pub record CatchesKeepCache (s t : CapturesMatches) : Type 0 where
-    pub cache : t.cache.ghost_name ≡ s.cache.ghost_name
-    pub numbers : SameNumbers s.cache.now t.cache.now
-    pub searches : PikeCatchesOn vm x s.cache.now t.cache.now
+-- the calls keep the cache, and its numbers
+pub record CatchesKeepCache (s t : CapturesMatches) : Type 0 where
+  pub cache : t.cache.ghost_name ≡ s.cache.ghost_name
+  pub numbers : SameNumbers s.cache.now t.cache.now
 
-  abbrev pub CatchesGiveCache : CapturesMatches → Type 0
-  CatchesGiveCache s = GivesKept pike_catches_next CatchesKeepCache s
+abbrev pub CatchesGiveCache : CapturesMatches → Type 0
+CatchesGiveCache s = GivesKept pike_catches_next CatchesKeepCache s
+
+-- the calls change the cache by the searches of an iteration over x alone
+pub record CatchesBySearches (vm : Pike) (x : Search) (s : CapturesMatches) : Type 0 where
+  pub on : GivesKept pike_catches_next (λ p q. PikeCatchesOn vm x p.cache.now q.cache.now) s

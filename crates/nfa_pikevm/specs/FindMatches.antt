@@ -64,17 +64,17 @@ pike_finds_next s r t = PikeFindsNext s r t
 abbrev pub pike_finds_known : FindMatches → Option Found
 pike_finds_known s = option_map found_of s.steps.asker.known
 
-module _ (vm : Pike) (x : Search) where
-  -- the calls keep the cache, and its numbers, and change it by the searches of an iteration over x alone
-  pub record KeepsCache (s t : FindMatches) : Type 0 where
-    pub cache : t.cache.ghost_name ≡ s.cache.ghost_name
-    pub numbers : SameNumbers s.cache.now t.cache.now
-    pub searches : PikeFindsOn vm x s.cache.now t.cache.now
+-- the calls keep the cache, and its numbers
+pub record KeepsCache (s t : FindMatches) : Type 0 where
+  pub cache : t.cache.ghost_name ≡ s.cache.ghost_name
+  pub numbers : SameNumbers s.cache.now t.cache.now
 
-  abbrev pub GivesCache : FindMatches → Type 0
-  GivesCache s = GivesKept pike_finds_next KeepsCache s
+abbrev pub GivesCache : FindMatches → Type 0
+GivesCache s = GivesKept pike_finds_next KeepsCache s
 
-  -- at `None` the iteration went to its end, past the matches so far
-  abbrev pub GivesCacheAtEnd : FindMatches → Type 0
-  GivesCacheAtEnd s = (xs : List Match) (t u : FindMatches) → Yields pike_finds_next s xs t → pike_finds_next t None u
+-- The calls change the cache by the searches of an iteration over x alone; at `None` it went to its end, past the
+-- matches so far.
+pub record FindsBySearches (vm : Pike) (x : Search) (s : FindMatches) : Type 0 where
+  pub on : GivesKept pike_finds_next (λ p q. PikeFindsOn vm x p.cache.now q.cache.now) s
+  pub to_end : (xs : List Match) (t u : FindMatches) → Yields pike_finds_next s xs t → pike_finds_next t None u
       → PikeFindsToEnd vm x (map found_of xs) s.cache.now u.cache.now

@@ -53,7 +53,8 @@ impl PikeVM {
     ghost use Rattle.nfa_search_base.specs.CaughtRuns.{CapturesInside, RowsFirst, RowsNext, RowsRun, match_in};
     ghost use Rattle.nfa_search_base.specs.Lists.{AreApart, AreMatches};
     ghost use Rattle.nfa_search_base.specs.Walks.{fresh};
-    ghost use Rattle.nfa_pikevm.specs.CapturesMatches.{CatchesGiveCache, pike_catches_cache, pike_catches_done};
+    ghost use Rattle.nfa_pikevm.specs.CapturesMatches.{CatchesBySearches, CatchesGiveCache};
+    ghost use Rattle.nfa_pikevm.specs.CapturesMatches.{pike_catches_cache, pike_catches_done};
     ghost use Rattle.nfa_pikevm.specs.CapturesMatches.{pike_catches_engine, pike_catches_next, pike_catches_walk};
     ghost use Rattle.nfa_pikevm.specs.Engines.{SameNumbers, kind_of};
     ghost use Rattle.nfa_pikevm.specs.Finding.{PikeCatchesOn, PikeCatchesToEnd};
@@ -108,7 +109,8 @@ impl PikeVM {
         ensures inside { IfOk result (CapturesWithin pike_catches_next (search_of input.entry)) }
         ensures apart { IfOk result (CapturesApart pike_catches_next (search_of input.entry)) }
         // The cache changes by the searches of the steps alone.
-        ensures keeps { IfOk result (CatchesGiveCache self.now (search_of input.entry)) }
+        ensures searches { IfOk result (CatchesBySearches self.now (search_of input.entry)) }
+        ensures keeps { IfOk result CatchesGiveCache }
     {
         let captures = self.create_captures(alloc)?;
         Ok(self.captures_iter_with(cache, input, captures))
@@ -159,7 +161,8 @@ impl PikeVM {
         ensures inside { CapturesWithin pike_catches_next (search_of input.entry) result }
         ensures apart { CapturesApart pike_catches_next (search_of input.entry) result }
         // The cache changes by the searches of the steps alone.
-        ensures keeps { CatchesGiveCache self.now (search_of input.entry) result }
+        ensures searches { CatchesBySearches self.now (search_of input.entry) result }
+        ensures keeps { CatchesGiveCache result }
     {
         self.catch_from(cache, input, captures)
     }
@@ -212,7 +215,8 @@ impl PikeVM {
         ensures given { CapturesGiven pike_catches_next self.now.nfa (kind_of self.now) (search_of input.entry).earliest
             (TellsRow self.now.nfa (kind_of self.now) (search_of input.entry).earliest) (search_of input.entry) result }
         ensures errors { CapturesMemory pike_catches_next result }
-        ensures keeps { CatchesGiveCache self.now (search_of input.entry) result }
+        ensures searches { CatchesBySearches self.now (search_of input.entry) result }
+        ensures keeps { CatchesGiveCache result }
     {
         CapturesMatches {
             cache,
