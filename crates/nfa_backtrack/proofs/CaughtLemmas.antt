@@ -11,7 +11,7 @@ use Rattle.nfa_search_base.specs.CapturesGiven.{CapturesGiven}
 use Rattle.nfa_search_base.specs.Catching.{Catching, GivesCaptures, Row, caught_by, row_of, row_span}
 use Rattle.nfa_search_base.specs.CaughtLists.{AreRows, HasGroups}
 use Rattle.nfa_search_base.specs.CaughtRuns.{CapturesInside, match_in}
-use Rattle.nfa_search_base.specs.Drained.{DrainsAll, DrainsToError}
+use Rattle.nfa_search_base.specs.Drained.{CallsLead, DrainsAll, DrainsToError}
 use Rattle.nfa_search_base.specs.Lending.{With}
 use Rattle.nfa_search_base.specs.Lent.{lent_state, lent_walk}
 use Rattle.nfa_search_base.specs.Lists.{AreApart, AreMatches}
@@ -24,13 +24,21 @@ use Rattle.nfa_search_base.proofs.CaughtLemmas.{caught-tells, row-lies}
 use Rattle.nfa_search_base.proofs.CaughtRunLemmas.{captures-memory, only-item}
 use Rattle.nfa_search_base.proofs.DrainedLemmas.{all-drained, error-drained}
 use Rattle.nfa_search_base.proofs.EngineLemmas.{captures-given, catcher-acts, catcher-goes, catcher-serves}
+use Rattle.nfa_search_base.proofs.LeavingLemmas.{all-to_end, calls-lead, catches-leave}
 use Rattle.nfa_backtrack.specs.Backtrack.{Backtracker, CountsAnswer, CountsRefusal, IsTooLong, Work}
-use Rattle.nfa_backtrack.specs.CapturesMatches.{AsksBacktrackerRow, CatchesRefused, MayCatchByBacktracker}
+use Rattle.nfa_backtrack.specs.CapturesMatches.{AsksBacktrackerRow, CatchesBySearches}
+use Rattle.nfa_backtrack.specs.CapturesMatches.{CatchesRefused, MayCatchByBacktracker}
 use Rattle.nfa_backtrack.specs.CapturesMatches.{backtracker_catches, backtracker_catches_next}
 use Rattle.nfa_backtrack.specs.FindMatches.{fits_always}
-use Rattle.nfa_backtrack.specs.Finding.{AnswersByLength, Counts, DoesWork, IsCatchOf, SearchesOnce}
+use Rattle.nfa_backtrack.specs.Finding.{AnswersByLength, BacktrackerCatchesOn, BacktrackerCatchesToEnd, Counts}
+use Rattle.nfa_backtrack.specs.Finding.{DoesWork, IsCatchOf, SearchesOnce}
 use Rattle.nfa_backtrack.specs.declared.captures_iter.TryCapturesMatches.{TryCapturesMatches}
 use Rattle.nfa_backtrack.proofs.FindLemmas.{still-fits}
+
+-- a call of a backtracker's steps
+abbrev pub BacktrackerSteps : Steps (With (Catching Backtracker) Work) → Option (Result Captured SearchError)
+    → Steps (With (Catching Backtracker) Work) → Type 0
+BacktrackerSteps = takes_steps row_span AsksBacktrackerRow (λ q. GivesCaptures q.asker)
 
 err-same : (a b : SearchError)
     → (let x : Result (Unit {0}) SearchError = Err a in let y : Result (Unit {0}) SearchError = Err b in x ≡ y) → a ≡ b
@@ -136,16 +144,32 @@ module _ (e : Backtracker) (x : Search) (s : TryCapturesMatches)
         | inr memory ↦ absurd (memory.0 long)
       ]
 
--- ---- all captures
+  -- they change the cache by their searches alone
+  pub catches-searches : CatchesBySearches e x s
+  catches-searches = record {
+    on = λ xs t r u ran st.
+        catches-leave (λ b. b.nfa) IsCatchOf (λ b y a. SearchesOnce b y a) e x (lent_state (backtracker_catches s))
+        engine walk going (lent_state (backtracker_catches u))
+        (calls-lead backtracker_catches_next BacktrackerSteps (λ q. lent_state (backtracker_catches q))
+        (λ p i q h. h.takes.step) xs s t r u ran st);
+  }
 
--- a call of a backtracker's steps
-abbrev pub BacktrackerSteps : Steps (With (Catching Backtracker) Work) → Option (Result Captured SearchError)
-    → Steps (With (Catching Backtracker) Work) → Type 0
-BacktrackerSteps = takes_steps row_span AsksBacktrackerRow (λ q. GivesCaptures q.asker)
+-- ---- all captures
 
 module _ (e : Backtracker) (x : Search) (s : Steps (With (Catching Backtracker) Work))
     (may : MayCatchByBacktracker s.asker) (engine : s.asker.asker.finder ≡ e) (walk : steps_walk s ≡ fresh x)
     (going : s.done ≡ false) where
+  -- the cache changes by the searches of its steps alone
+  pub caught-on : (t : Steps (With (Catching Backtracker) Work)) → CallsLead BacktrackerSteps s t
+      → BacktrackerCatchesOn e x s.asker.cache t.asker.cache
+  caught-on = catches-leave (λ e. e.nfa) IsCatchOf (λ b y a. SearchesOnce b y a) e x s engine walk going
+
+  -- to their end, where all captures come
+  pub caught-to_end : {V : Type 0} (r : Result V SearchError) (items : V → List Captured)
+      (t : Steps (With (Catching Backtracker) Work)) → IfOk r (λ v. DrainsAll BacktrackerSteps s (items v) t)
+      → IfOk r (λ v. BacktrackerCatchesToEnd e x (map row_of (items v)) s.asker.cache t.asker.cache)
+  caught-to_end = all-to_end (λ e. e.nfa) IsCatchOf (λ b y a. SearchesOnce b y a) e x s engine walk going
+
   -- its steps give all captures of the NFA
   pub all-caught : {V : Type 0} (r : Result V SearchError) (items : V → List Captured)
       (t : Steps (With (Catching Backtracker) Work)) → IfOk r (λ v. DrainsAll BacktrackerSteps s (items v) t)

@@ -1,5 +1,7 @@
 -- What the searches of an iteration by a backtracker answer, and what its iterator may ask.
-use Rattle.std.proofs.Common.{◌≡◌, ◌+◌, ◌*◌, ◌≤◌, false, Option, None, Some, Result, Ok, Err, arith, length}
+use Rattle.std.proofs.Common.{◌≡◌, ◌∙◌, ◌+◌, ◌*◌, ◌≤◌, false, Option, None, Some, Result, Ok, Err, arith, length}
+use Rattle.std.proofs.Common.{List, ◌∷◌, MatchBool, ap, refl, subst, sym}
+use Rattle.std.specs.Option.{option_map}
 use Rattle.std.specs.Prelude.{OnOk, OnErr}
 use Rattle.std.proofs.Math.Nat.{mul-le-mul_left}
 use Rattle.regex_search_core.specs.Found.{Found, found_of}
@@ -9,19 +11,25 @@ use Rattle.regex_search_core.specs.declared.search.MatchKind.TheVariants.{Leftmo
 use Rattle.nfa_paths.specs.Paths.{IsWithinScans, IsWork, span_len}
 use Rattle.nfa_paths.proofs.KnownLemmas.{match-sure, sure-match}
 use Rattle.nfa_search_base.specs.Asking.{SameButStart}
+use Rattle.nfa_search_base.specs.EngineSearches.{AnswersBy, Keeping}
 use Rattle.nfa_search_base.specs.Finders.{answer_by}
+use Rattle.nfa_search_base.specs.Leaving.{StepsLead, asks_keeping}
 use Rattle.nfa_search_base.specs.Lending.{With}
-use Rattle.nfa_search_base.specs.Lent.{lent_state, lent_walk}
+use Rattle.nfa_search_base.specs.Lent.{TakesLentStep, lent_state, lent_walk}
 use Rattle.nfa_search_base.specs.Steps.{GivesItem}
 use Rattle.nfa_search_base.specs.Stored.{steps_walk, can_step, takes_steps}
-use Rattle.nfa_search_base.specs.Walks.{Answer, AnswerIsInside, place_of, span_of}
+use Rattle.nfa_search_base.specs.Walks.{Advances, Answer, AnswerIsInside, Walk, after, fresh, place_of}
+use Rattle.nfa_search_base.specs.Walks.{repeats, shifted, span_of}
 use Rattle.nfa_search_base.specs.declared.error.SearchError.{SearchError}
 use Rattle.nfa_search_base.specs.declared.iter.steps.Steps.{Steps}
-use Rattle.nfa_search_base.proofs.EngineLemmas.{finder-acts, finder-goes, finder-serves}
+use Rattle.nfa_search_base.proofs.EngineLemmas.{calls-kept, finder-acts, finder-goes, finder-serves}
+use Rattle.nfa_search_base.proofs.LeavingLemmas.{finds-leave, finds-to_end, first-leaves, same-item, same-items}
 use Rattle.nfa_search_base.proofs.ListLemmas.{match-lies}
 use Rattle.nfa_search_base.proofs.WalkLemmas.{IsOrdered}
 use Rattle.nfa_backtrack.specs.Backtrack.{Backtracker, CountsAnswer, CountsRefusal, IsTooLong, Work}
-use Rattle.nfa_backtrack.specs.FindMatches.{AsksBacktracker, MayFindByBacktracker, backtracker_finds}
+use Rattle.nfa_backtrack.specs.Backtrack.{refused_early}
+use Rattle.nfa_backtrack.specs.FindMatches.{AsksBacktracker, FindsBySearches}
+use Rattle.nfa_backtrack.specs.FindMatches.{MayFindByBacktracker, backtracker_finds, backtracker_finds_next}
 use Rattle.nfa_backtrack.specs.FindMatches.{backtracker_knowing, fits_always}
 use Rattle.nfa_backtrack.specs.Finding.{Counts, DoesWork, IsFindOf, IsSureAt, SearchesOnce}
 use Rattle.nfa_backtrack.specs.declared.find_iter.Finder.{Finder}
@@ -89,3 +97,64 @@ pub back-acts : (e : Backtracker) (x : Search) (s : With Finder Work) (t : Searc
 back-acts e x s t a s' same is asked =
     finder-acts IsSureAt backtracker_knowing fits_always IsFindOf (λ e x a. SearchesOnce e x a)
     (λ e x a old new work fits. tt) e s t a s' is asked
+
+-- ---- the cache
+
+-- the searches of an iteration, seen with the cache and what is known
+abbrev Looks : Backtracker → Keeping Work → Search → Answer Found → Keeping Work → Type 0
+Looks e = asks_keeping (IsFindOf e) (λ y a. SearchesOnce e y a)
+
+-- a first search that is too long is refused early, and is the only one
+module _ (e : Backtracker) (x : Search) (long : IsTooLong e x) (old : Work) where
+  abbrev begun : Keeping Work
+  begun = record { cache = old; known = None }
+
+  step-early : (a : Answer Found) (q : Keeping Work) (v : Walk) → Advances span_of (Looks e) begun (fresh x) a q v
+      → (error : SearchError) × (a ≡ Err error) × (q.cache ≡ refused_early old)
+  step-early a q v step = of step.answer step.first.tells step.first.work.by_known step.rest
+    where
+      of : (f : Answer Found) → IsFindOf e x f → AnswersBy (λ y b. SearchesOnce e y b) x f None begun step.between
+          → MatchBool (repeats (fresh x) (place_of span_of f))
+          (Looks e step.between (shifted (fresh x)).at a q × (v ≡ after (shifted (fresh x)) (place_of span_of a)))
+          ((a ≡ f) × (q ≡ step.between) × (v ≡ after (fresh x) (place_of span_of a)))
+          → (error : SearchError) × (a ≡ Err error) × (q.cache ≡ refused_early old)
+      of (Ok found) told work rest = absurd (told.0 long)
+      of (Err error) told work rest = (error, rest.0, ap (λ k. k.cache) rest.1 ∙ work.0.early long)
+
+  steps-early : (a : Answer Found) (more : List (Answer Found)) (q : Keeping Work)
+      → StepsLead span_of (Looks e) (fresh x) begun (a ∷ more) q → q.cache ≡ refused_early old
+  steps-early (Ok (Some m)) more q h =
+      let k = step-early (Ok (Some m)) h.0 h.1 h.2 in
+      let never : (let b : Answer Found = Ok (Some m) in let c : Answer Found = Err k.0 in b ≡ c) = k.1 in cc
+  steps-early (Ok None) more q h = (step-early (Ok None) q h.0 h.1).2
+  steps-early (Err error) more q h = (step-early (Err error) q h.0 h.1).2
+
+-- An iterator of e that begins at x.
+module _ (e : Backtracker) (x : Search) (s : TryFindMatches) (engine : s.steps.asker.engine.now ≡ e)
+    (known : s.steps.asker.known ≡ None) (walk : lent_walk (backtracker_finds s) ≡ fresh x)
+    (going : s.steps.done ≡ false) where
+  step-is : (p : TryFindMatches) (r : Option (Result Match SearchError)) (q : TryFindMatches)
+      → backtracker_finds_next p r q
+      → TakesLentStep span_of AsksBacktracker (λ _. GivesItem found_of) (backtracker_finds p)
+      (option_map (λ i. i) r) (backtracker_finds q)
+  step-is p r q st = subst (λ (o : Option (Result Match SearchError)). TakesLentStep span_of AsksBacktracker
+      (λ _. GivesItem found_of) (backtracker_finds p) o (backtracker_finds q)) (sym (same-item r)) st.takes
+
+  -- the calls change the cache by their searches alone
+  pub finds-searches : FindsBySearches e x s
+  finds-searches = record {
+    keeps = λ xs t r u ran st. record {
+      cache = (calls-kept span_of AsksBacktracker (λ _. GivesItem found_of) (λ c d. Unit {0}) (λ c. tt)
+          (λ a b c f g. tt) (λ q y a p asked. tt) backtracker_finds_next backtracker_finds (λ i. i)
+          (λ p i q h. h.takes) s xs t r u ran st).cache;
+    };
+    on = λ xs t r u ran st. finds-leave IsSureAt backtracker_knowing IsFindOf (λ b y a. SearchesOnce b y a) e
+        backtracker_finds_next backtracker_finds (λ i. i) step-is x s engine known walk going xs t r u ran st;
+    early = λ xs t r u ran st long.
+        let first = first-leaves IsSureAt backtracker_knowing IsFindOf (λ b y a. SearchesOnce b y a) e
+        backtracker_finds_next backtracker_finds (λ i. i) step-is x s engine known walk going xs t r u ran st in
+        steps-early e x long s.cache.now first.0 first.1 _ first.2;
+    to_end = λ xs t u ms ran st is. finds-to_end IsSureAt backtracker_knowing IsFindOf (λ b y a. SearchesOnce b y a) e
+        backtracker_finds_next backtracker_finds (λ i. i) step-is x s engine known walk going xs ms t u
+        (same-items xs ∙ is) ran st;
+  }

@@ -8,12 +8,13 @@ use Rattle.nfa_search_base.specs.Catching.{Catching, GivesCaptures, Row, row_spa
 use Rattle.nfa_search_base.specs.EngineSearches.{AsksEngineRow, MayCatch}
 use Rattle.nfa_search_base.specs.Lending.{With}
 use Rattle.nfa_search_base.specs.Lent.{Lent, TakesLentStep}
+use Rattle.nfa_search_base.specs.Runs.{GivesKept}
 use Rattle.nfa_search_base.specs.Searchers.{walk_of}
 use Rattle.nfa_search_base.specs.Walks.{Answer, Walk}
 use Rattle.nfa_search_base.specs.declared.error.SearchError.{SearchError}
 use Rattle.nfa_backtrack.specs.Backtrack.{Backtracker, Work}
 use Rattle.nfa_backtrack.specs.FindMatches.{fits_always}
-use Rattle.nfa_backtrack.specs.Finding.{IsCatchOf, SearchesOnce}
+use Rattle.nfa_backtrack.specs.Finding.{BacktrackerCatchesOn, IsCatchOf, SearchesOnce}
 use Rattle.nfa_backtrack.specs.Runs.{AreRefused}
 use Rattle.nfa_backtrack.specs.declared.captures_iter.TryCapturesMatches.{TryCapturesMatches}
 
@@ -53,6 +54,10 @@ pub record BacktrackerCatchesNext (s : TryCapturesMatches) (r : Option (Result C
 abbrev pub backtracker_catches_next : TryCapturesMatches → Option (Result Captured SearchError)
     → TryCapturesMatches → Type 0
 backtracker_catches_next s r t = BacktrackerCatchesNext s r t
+
+-- the calls change the cache by the searches of an iteration over x alone
+pub record CatchesBySearches (e : Backtracker) (x : Search) (s : TryCapturesMatches) : Type 0 where
+  pub on : GivesKept backtracker_catches_next (λ p q. BacktrackerCatchesOn e x p.cache.now q.cache.now) s
 
 -- in each run errors come by the rule of refusals
 abbrev pub CatchesRefused : Backtracker → Search → TryCapturesMatches → Type 0

@@ -1,18 +1,20 @@
 -- The iterator over the matches of a backtracker.
-use Rattle.std.specs.Prelude.{Option, Result, ⊤, Bool}
+use Rattle.std.specs.Prelude.{◌≡◌, List, map, Option, None, Result, Ok, option_map, ⊤, Bool}
 use Rattle.std.specs.Borrow.{MutBor}
+use Rattle.std.specs.Iterator.{Yields}
 use Rattle.regex_search_core.specs.Found.{Found, found_of}
 use Rattle.regex_search_core.specs.Search.{Search}
 use Rattle.regex_search_core.specs.declared.search.Match.{Match}
 use Rattle.nfa_search_base.specs.EngineSearches.{AsksEngine, Knowing, MayFind}
 use Rattle.nfa_search_base.specs.Lending.{With}
 use Rattle.nfa_search_base.specs.Lent.{Lent, TakesLentStep}
+use Rattle.nfa_search_base.specs.Runs.{GivesKept}
 use Rattle.nfa_search_base.specs.Steps.{GivesItem}
 use Rattle.nfa_search_base.specs.Searchers.{walk_of}
 use Rattle.nfa_search_base.specs.Walks.{Answer, Walk, span_of}
 use Rattle.nfa_search_base.specs.declared.error.SearchError.{SearchError}
-use Rattle.nfa_backtrack.specs.Backtrack.{Backtracker, Work}
-use Rattle.nfa_backtrack.specs.Finding.{IsFindOf, IsSureAt, SearchesOnce}
+use Rattle.nfa_backtrack.specs.Backtrack.{Backtracker, IsTooLong, Work, refused_early}
+use Rattle.nfa_backtrack.specs.Finding.{BacktrackerFindsOn, BacktrackerFindsToEnd, IsFindOf, IsSureAt, SearchesOnce}
 use Rattle.nfa_backtrack.specs.declared.find_iter.Finder.{Finder}
 use Rattle.nfa_backtrack.specs.declared.find_iter.TryFindMatches.{TryFindMatches}
 
@@ -59,3 +61,22 @@ pub record BacktrackerFindsNext (s : TryFindMatches) (r : Option (Result Match S
 
 abbrev pub backtracker_finds_next : TryFindMatches → Option (Result Match SearchError) → TryFindMatches → Type 0
 backtracker_finds_next s r t = BacktrackerFindsNext s r t
+
+-- what is known of its next search
+abbrev pub backtracker_finds_known : TryFindMatches → Option Found
+backtracker_finds_known s = option_map found_of s.steps.asker.known
+
+-- the calls keep the cache
+pub record KeepsLentCache (s t : TryFindMatches) : Type 0 where
+  pub cache : t.cache.ghost_name ≡ s.cache.ghost_name
+
+-- The calls keep the cache, and change it by the searches of an iteration over x alone. A search that is too long
+-- changes nothing but the count of refusals. At `None` the iteration went to its end, past the matches so far.
+pub record FindsBySearches (e : Backtracker) (x : Search) (s : TryFindMatches) : Type 0 where
+  pub keeps : GivesKept backtracker_finds_next KeepsLentCache s
+  pub on : GivesKept backtracker_finds_next (λ p q. BacktrackerFindsOn e x p.cache.now q.cache.now) s
+  pub early : GivesKept backtracker_finds_next
+      (λ p q. IsTooLong e x → q.cache.now ≡ refused_early p.cache.now) s
+  pub to_end : (xs : List (Result Match SearchError)) (t u : TryFindMatches) (ms : List Match)
+      → Yields backtracker_finds_next s xs t → backtracker_finds_next t None u → xs ≡ map Ok ms
+      → BacktrackerFindsToEnd e x (map found_of ms) s.cache.now u.cache.now

@@ -1,12 +1,13 @@
 -- What a backtracker answers where a match is asked for.
-use Rattle.std.specs.Prelude.{◌≡◌, ◌≤◌, ◌*◌, ◌+◌, ◌⊎◌, false, Result, Ok, Err}
+use Rattle.std.specs.Prelude.{◌≡◌, ◌≤◌, ◌*◌, ◌+◌, ◌⊎◌, false, List, Result, Ok, Err}
 use Rattle.regex_search_core.specs.Found.{Found}
 use Rattle.regex_search_core.specs.Search.{Search}
 use Rattle.regex_search_core.specs.declared.search.MatchKind.TheVariants.{LeftmostFirst}
 use Rattle.nfa_paths.specs.Known.{IsSureMatch}
 use Rattle.nfa_paths.specs.Paths.{IsMatchAnswer, IsWithinScans, IsWork, scan_limit, span_len, turn_weight}
-use Rattle.nfa_search_base.specs.Catching.{Row}
+use Rattle.nfa_search_base.specs.Catching.{Row, row_span}
 use Rattle.nfa_search_base.specs.CaughtLists.{TellsRow}
+use Rattle.nfa_search_base.specs.Leaving.{DoesSearch, FindsLeave, FindsLeaveAtEnd, Leaves, LeavesAtEnd}
 use Rattle.nfa_search_base.specs.Walks.{Answer}
 use Rattle.nfa_search_base.specs.declared.error.SearchError.{SearchError}
 use Rattle.nfa_search_base.specs.declared.error.SearchError.TheVariants.{HaystackTooLong, Memory}
@@ -56,3 +57,19 @@ pub record SearchesOnce {X : Type 0} (e : Backtracker) (x : Search) (a : Answer 
   pub turns : new.turns ≤ new.scans * ((1 + turn_weight e.nfa) * (span_len x + 1))
   pub blocks : GrowsBlocks e.nfa x old.blocks new.blocks
   pub early : IsTooLong e x → new ≡ refused_early old
+
+-- an iteration over the matches of x led from the one cache to the other by its searches alone, as far as it went
+abbrev pub BacktrackerFindsOn : Backtracker → Search → Work → Work → Type 0
+BacktrackerFindsOn e x old new = FindsLeave (IsFindOf e) (λ y a. SearchesOnce e y a) x old new
+
+-- and it went to its end, past these matches
+abbrev pub BacktrackerFindsToEnd : Backtracker → Search → List Found → Work → Work → Type 0
+BacktrackerFindsToEnd e x ms old new = FindsLeaveAtEnd (IsFindOf e) (λ y a. SearchesOnce e y a) x ms old new
+
+-- the same of an iteration over captures
+abbrev pub BacktrackerCatchesOn : Backtracker → Search → Work → Work → Type 0
+BacktrackerCatchesOn e x old new = Leaves row_span (DoesSearch (IsCatchOf e) (λ y a. SearchesOnce e y a)) x old new
+
+abbrev pub BacktrackerCatchesToEnd : Backtracker → Search → List Row → Work → Work → Type 0
+BacktrackerCatchesToEnd e x rows old new =
+    LeavesAtEnd row_span (DoesSearch (IsCatchOf e) (λ y a. SearchesOnce e y a)) x rows old new

@@ -52,10 +52,13 @@ impl BoundedBacktracker {
     ghost use Rattle.nfa_search_base.specs.CaughtRuns.{CapturesInside, RowsRun, match_in};
     ghost use Rattle.nfa_search_base.specs.Lists.{AreApart, AreMatches};
     ghost use Rattle.nfa_search_base.specs.Walks.{fresh};
-    ghost use Rattle.nfa_backtrack.specs.CapturesMatches.{CatchesRefused, backtracker_catches_cache};
+    ghost use Rattle.nfa_backtrack.specs.CapturesMatches.{CatchesBySearches, CatchesRefused};
+    ghost use Rattle.nfa_backtrack.specs.CapturesMatches.{backtracker_catches_cache};
     ghost use Rattle.nfa_backtrack.specs.CapturesMatches.{backtracker_catches_done, backtracker_catches_engine};
     ghost use Rattle.nfa_backtrack.specs.CapturesMatches.{backtracker_catches_next, backtracker_catches_walk};
-    ghost use Rattle.nfa_backtrack.specs.Finding.{AnswersByLength, IsCatchOf, SearchesOnce};
+    ghost use Rattle.nfa_backtrack.specs.Backtrack.{IsTooLong};
+    ghost use Rattle.nfa_backtrack.specs.Finding.{AnswersByLength, BacktrackerCatchesOn, BacktrackerCatchesToEnd};
+    ghost use Rattle.nfa_backtrack.specs.Finding.{IsCatchOf, SearchesOnce};
 
     /// The captures of the matches of the input that do not overlap, from left to right, each with all groups of the
     /// NFA. To make this changes no cache. The error is that there is no memory for the captures that are searched
@@ -106,6 +109,8 @@ impl BoundedBacktracker {
         ensures groups { IfOk result (CapturesGroups backtracker_catches_next self.now.nfa) }
         ensures inside { IfOk result (CapturesWithin backtracker_catches_next (search_of input.entry)) }
         ensures apart { IfOk result (CapturesApart backtracker_catches_next (search_of input.entry)) }
+        // The cache changes by the searches of the steps alone.
+        ensures searches { IfOk result (CatchesBySearches self.now (search_of input.entry)) }
     {
         let captures = self.create_captures(alloc)?;
         Ok(self.try_captures_iter_with(cache, input, captures))
@@ -151,6 +156,8 @@ impl BoundedBacktracker {
         ensures groups { CapturesGroups backtracker_catches_next self.now.nfa result }
         ensures inside { CapturesWithin backtracker_catches_next (search_of input.entry) result }
         ensures apart { CapturesApart backtracker_catches_next (search_of input.entry) result }
+        // The cache changes by the searches of the steps alone.
+        ensures searches { CatchesBySearches self.now (search_of input.entry) result }
     {
         self.catch_from(cache, input, captures)
     }
@@ -175,6 +182,12 @@ impl BoundedBacktracker {
         ensures inside { IfOk result (λ all. All (CapturesInside (search_of input.entry)) all.items) }
         ensures apart { IfOk result (λ all. AreApart (search_of input.entry) None (map match_in all.items)) }
         ensures by_length { AnswersByLength self.now (search_of input.entry) result }
+        // The cache changes by the searches of an iteration alone, and where all captures come these go to its end.
+        ensures searches { BacktrackerCatchesOn self.now (search_of input.entry) cache.old cache.new }
+        ensures to_end { IfOk result (λ all.
+            BacktrackerCatchesToEnd self.now (search_of input.entry) (map row_of all.items) cache.old cache.new) }
+        // Where the span is too long no search is made, and it stays as it was.
+        ensures early { IsTooLong self.now (search_of input.entry) → cache.new ≡ cache.old }
     {
         if self.is_too_long(&input) {
             return Err(SearchError::HaystackTooLong {
@@ -205,6 +218,7 @@ impl BoundedBacktracker {
         ensures given { CapturesGiven backtracker_catches_next self.now.nfa LeftmostFirst false (IsCatchOf self.now)
             (search_of input.entry) result }
         ensures refused { CatchesRefused self.now (search_of input.entry) result }
+        ensures searches { CatchesBySearches self.now (search_of input.entry) result }
     {
         TryCapturesMatches {
             cache,

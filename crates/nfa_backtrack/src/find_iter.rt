@@ -1,8 +1,10 @@
 //! Iteration over the matches of an input.
-ghost use Rattle.std.specs.Prelude.{◌≡◌, Ok, Some};
+ghost use Rattle.std.specs.Prelude.{◌≡◌, Ok, Some, option_map};
 ghost use Rattle.std.specs.Option.{ForSome};
+ghost use Rattle.regex_search_core.specs.Found.{found_of};
 ghost use Rattle.regex_search_core.specs.Search.{search_of};
-ghost use Rattle.nfa_search_base.specs.EngineSearches.{IsKnownFrom};
+ghost use Rattle.nfa_search_base.specs.EngineSearches.{IsKnownFrom, found_in};
+ghost use Rattle.nfa_search_base.specs.Finders.{answer_by};
 ghost use Rattle.nfa_search_base.specs.Stored.{steps_walk};
 ghost use Rattle.nfa_backtrack.specs.Finding.{IsSureAt};
 
@@ -45,7 +47,8 @@ impl BoundedBacktracker {
     ghost use Rattle.nfa_search_base.specs.Walks.{fresh};
     ghost use Rattle.nfa_backtrack.specs.FindMatches.{backtracker_finds_cache, backtracker_finds_done};
     ghost use Rattle.nfa_backtrack.specs.FindMatches.{backtracker_finds_engine, backtracker_finds_next};
-    ghost use Rattle.nfa_backtrack.specs.FindMatches.{backtracker_finds_walk};
+    ghost use Rattle.nfa_backtrack.specs.FindMatches.{backtracker_finds_known, backtracker_finds_walk};
+    ghost use Rattle.nfa_backtrack.specs.FindMatches.{FindsBySearches};
     ghost use Rattle.nfa_backtrack.specs.Runs.{AreAllItems, AreFirstItems, GivesAllMatches, GivesFirstMatches, GivesNextMatch};
     ghost use Rattle.nfa_backtrack.specs.Runs.{RunsApart, RunsInside, RunsMatch, RunsRefused};
     ghost use Rattle.nfa_backtrack.specs.Runs.{GivesByLength, EndsByLength};
@@ -65,6 +68,7 @@ impl BoundedBacktracker {
         ensures engine { backtracker_finds_engine result ≡ self.now }
         ensures walk { backtracker_finds_walk result ≡ fresh (search_of input.entry) }
         ensures going { backtracker_finds_done result ≡ false }
+        ensures known { backtracker_finds_known result ≡ None }
         // Each run of calls gives the first items, and all of them where it goes on to `None`.
         ensures runs { RunsGive backtracker_finds_next (AreFirstItems self.now (search_of input.entry))
             (AreAllItems self.now (search_of input.entry)) result }
@@ -80,6 +84,8 @@ impl BoundedBacktracker {
         // A match comes, and an end without an error, only where the span is not too long; an error is its refusal.
         ensures by_length { GivesByLength self.now (search_of input.entry) result }
         ensures end { EndsByLength self.now (search_of input.entry) result }
+        // The cache changes by the searches of the steps alone.
+        ensures searches { FindsBySearches self.now (search_of input.entry) result }
     {
         TryFindMatches {
             cache,
@@ -189,10 +195,11 @@ impl<'r> Searches for Finder<'r> {
 // The match of a reply.
 #[inline]
 fn found_in(reply: Result<Option<Match>, SearchError>) -> Option<Match>
-    ensures { ForSome result (λ m. reply ≡ Ok (Some m)) }
+    ensures found { ForSome result (λ m. reply ≡ Ok (Some m)) }
+    ensures exactly { option_map found_of result ≡ found_in (answer_by found_of reply) }
 {
     match reply {
-        Ok(found) => found,
+        Ok(matched) => matched,
         Err(_) => None,
     }
 }

@@ -21,13 +21,19 @@ use Rattle.nfa_search_base.proofs.CaughtLemmas.{row-lies}
 use Rattle.nfa_search_base.proofs.CaughtRunLemmas.{captures-memory}
 use Rattle.nfa_search_base.proofs.DrainedLemmas.{all-drained, calls-cache, error-drained}
 use Rattle.nfa_search_base.proofs.EngineLemmas.{calls-kept, captures-given, catcher-acts, catcher-goes, catcher-serves}
-use Rattle.nfa_pikevm.specs.CapturesMatches.{AsksPikeRow, CatchesGiveCache, MayCatchByPike}
+use Rattle.nfa_search_base.proofs.LeavingLemmas.{all-to_end, calls-lead, catches-leave}
+use Rattle.nfa_pikevm.specs.CapturesMatches.{AsksPikeRow, CatchesBySearches, CatchesGiveCache, MayCatchByPike}
 use Rattle.nfa_pikevm.specs.CapturesMatches.{pike_catches, pike_catches_next}
 use Rattle.nfa_pikevm.specs.Engines.{Pike, PikeCache, SameNumbers, kind_of}
 use Rattle.nfa_pikevm.specs.FindMatches.{fits_pike}
-use Rattle.nfa_pikevm.specs.Finding.{PikeSearches, PikeTellsRow}
+use Rattle.nfa_pikevm.specs.Finding.{PikeCatchesOn, PikeCatchesToEnd, PikeSearches, PikeTellsRow}
 use Rattle.nfa_pikevm.specs.declared.captures_iter.CapturesMatches.{CapturesMatches}
 use Rattle.nfa_pikevm.proofs.FindLemmas.{same_numbers, same_numbers-then, searched-fits}
+
+-- what comes of such calls by a PikeVM
+abbrev pub PikeSteps : Steps (With (Catching Pike) PikeCache) → Option (Result Captured SearchError)
+    → Steps (With (Catching Pike) PikeCache) → Type 0
+PikeSteps = takes_steps row_span AsksPikeRow (λ q. GivesCaptures q.asker)
 
 may-now : (s : CapturesMatches) → MayCatchByPike (lent_state (pike_catches s)).asker
 may-now s = record { fits = s.fits; holds = s.holds }
@@ -81,6 +87,16 @@ module _ (vm : Pike) (x : Search) (s : CapturesMatches) (engine : (pike_catches 
       pike_catches_next (λ q. lent_state (pike_catches q)) (λ a r b st. st.takes.step) s walk going engine
       (λ t e from to never. absurd never)
 
+  -- they change the cache by their searches alone
+  pub catches-searches : CatchesBySearches vm x s
+  catches-searches = record {
+    on = λ xs t r u ran st.
+        catches-leave (λ e. e.nfa) PikeTellsRow (λ e y a. PikeSearches e y) vm x (lent_state (pike_catches s)) engine
+        walk going (lent_state (pike_catches u))
+        (calls-lead pike_catches_next PikeSteps (λ q. lent_state (pike_catches q)) (λ p i q h. h.takes.step) xs s t r u
+        ran st);
+  }
+
 -- the calls keep the cache, and its numbers
 pub catches-cache : (s : CapturesMatches) → CatchesGiveCache s
 catches-cache s = λ xs t r u ran st.
@@ -91,13 +107,19 @@ catches-cache s = λ xs t r u ran st.
 
 -- ---- all captures
 
--- what comes of such calls by a PikeVM
-abbrev pub PikeSteps : Steps (With (Catching Pike) PikeCache) → Option (Result Captured SearchError)
-    → Steps (With (Catching Pike) PikeCache) → Type 0
-PikeSteps = takes_steps row_span AsksPikeRow (λ q. GivesCaptures q.asker)
-
 module _ (vm : Pike) (x : Search) (s : Steps (With (Catching Pike) PikeCache)) (may : MayCatchByPike s.asker)
     (engine : s.asker.asker.finder ≡ vm) (walk : steps_walk s ≡ fresh x) (going : s.done ≡ false) where
+  -- the cache changes by the searches of its steps alone
+  pub caught-on : (t : Steps (With (Catching Pike) PikeCache)) → CallsLead PikeSteps s t
+      → PikeCatchesOn vm x s.asker.cache t.asker.cache
+  caught-on = catches-leave (λ vm. vm.nfa) PikeTellsRow (λ e y a. PikeSearches e y) vm x s engine walk going
+
+  -- to their end, where all captures come
+  pub caught-to_end : {V : Type 0} (r : Result V SearchError) (items : V → List Captured)
+      (t : Steps (With (Catching Pike) PikeCache)) → IfOk r (λ v. DrainsAll PikeSteps s (items v) t)
+      → IfOk r (λ v. PikeCatchesToEnd vm x (map row_of (items v)) s.asker.cache t.asker.cache)
+  caught-to_end = all-to_end (λ vm. vm.nfa) PikeTellsRow (λ e y a. PikeSearches e y) vm x s engine walk going
+
   -- its steps give all captures of the NFA
   pub all-caught : {V : Type 0} (r : Result V SearchError) (items : V → List Captured)
       (t : Steps (With (Catching Pike) PikeCache)) → IfOk r (λ v. DrainsAll PikeSteps s (items v) t)

@@ -1,5 +1,5 @@
 -- What the searches of an iteration by a PikeVM answer, and what its iterator may ask and keeps.
-use Rattle.std.proofs.Common.{◌≡◌, ◌∙◌, Bool, Option, Some, Result, Ok, refl, sym, subst, inl, inr}
+use Rattle.std.proofs.Common.{◌≡◌, ◌∙◌, Bool, false, Option, None, Some, Result, Ok, refl, sym, subst, inl, inr}
 use Rattle.std.specs.Option.{option_map}
 use Rattle.regex_search_core.specs.Found.{Found, found_of}
 use Rattle.regex_search_core.specs.Search.{Search}
@@ -12,12 +12,14 @@ use Rattle.nfa_search_base.specs.Lent.{lent_state, lent_walk}
 use Rattle.nfa_search_base.specs.Lists.{TellsMatch}
 use Rattle.nfa_search_base.specs.Steps.{GivesItem}
 use Rattle.nfa_search_base.specs.Stored.{steps_walk, can_step_surely, takes_steps}
-use Rattle.nfa_search_base.specs.Walks.{Answer, IsSurelyInside, span_of}
+use Rattle.nfa_search_base.specs.Walks.{Answer, IsSurelyInside, fresh, span_of}
 use Rattle.nfa_search_base.specs.declared.error.SearchError.{SearchError}
 use Rattle.nfa_search_base.specs.declared.iter.steps.Steps.{Steps}
 use Rattle.nfa_search_base.proofs.EngineLemmas.{calls-kept, find-lies, finder-acts, finder-goes, finder-serves}
+use Rattle.nfa_search_base.proofs.EngineLemmas.{same-or-made}
+use Rattle.nfa_search_base.proofs.LeavingLemmas.{finds-leave, finds-to_end}
 use Rattle.nfa_pikevm.specs.Engines.{Fits, Pike, PikeCache, SameNumbers, kind_of}
-use Rattle.nfa_pikevm.specs.FindMatches.{AsksPike, MayFindByPike, GivesCache, fits_pike, pike_finds}
+use Rattle.nfa_pikevm.specs.FindMatches.{AsksPike, FindsBySearches, GivesCache, MayFindByPike, fits_pike, pike_finds}
 use Rattle.nfa_pikevm.specs.FindMatches.{pike_finds_next, pike_knowing}
 use Rattle.nfa_pikevm.specs.Finding.{IsSureOf, PikeSearches, PikeTells}
 use Rattle.nfa_pikevm.specs.declared.find_iter.FindMatches.{FindMatches}
@@ -87,7 +89,7 @@ same_numbers-then a b c f g = record {
 
 asked-numbers : (s : With Finder PikeCache) (x : Search) (a : Answer Found) (t : With Finder PikeCache)
     → AsksPike s x a t → SameNumbers s.cache t.cache
-asked-numbers s x a t asked = elim asked.work [
+asked-numbers s x a t asked = elim (same-or-made (λ y b. PikeSearches s.asker.engine.now y) x a _ _ asked.work) [
   | inl same ↦ subst (λ (c : PikeCache). SameNumbers s.cache c) (sym same) (same_numbers s.cache)
   | inr work ↦ work.numbers
 ]
@@ -98,3 +100,16 @@ gives-cache s = λ xs t r u ran st.
     let k = calls-kept span_of AsksPike (λ _. GivesItem found_of) SameNumbers same_numbers same_numbers-then
     asked-numbers pike_finds_next pike_finds (option_map (λ m. Ok m)) (λ p i q h. h.takes) s xs t r u ran st in
     record { cache = k.cache; numbers = k.keeps }
+
+-- An iterator of vm that begins at x.
+module _ (vm : Pike) (x : Search) (s : FindMatches) (engine : s.steps.asker.engine.now ≡ vm)
+    (known : s.steps.asker.known ≡ None) (walk : lent_walk (pike_finds s) ≡ fresh x)
+    (going : s.steps.done ≡ false) where
+  -- the calls change the cache by their searches alone
+  pub finds-searches : FindsBySearches vm x s
+  finds-searches = record {
+    on = λ xs t r u ran st. finds-leave IsSureOf pike_knowing PikeTells (λ e y a. PikeSearches e y) vm pike_finds_next
+        pike_finds (λ m. Ok m) (λ p i q h. h.takes) x s engine known walk going xs t r u ran st;
+    to_end = λ xs t u ran st. finds-to_end IsSureOf pike_knowing PikeTells (λ e y a. PikeSearches e y) vm
+        pike_finds_next pike_finds (λ m. Ok m) (λ p i q h. h.takes) x s engine known walk going xs xs t u refl ran st;
+  }

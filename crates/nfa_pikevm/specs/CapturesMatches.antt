@@ -13,7 +13,7 @@ use Rattle.nfa_search_base.specs.Walks.{Answer, Walk}
 use Rattle.nfa_search_base.specs.declared.error.SearchError.{SearchError}
 use Rattle.nfa_pikevm.specs.Engines.{Pike, PikeCache, SameNumbers}
 use Rattle.nfa_pikevm.specs.FindMatches.{fits_pike}
-use Rattle.nfa_pikevm.specs.Finding.{PikeSearches, PikeTellsRow}
+use Rattle.nfa_pikevm.specs.Finding.{PikeCatchesOn, PikeSearches, PikeTellsRow}
 use Rattle.nfa_pikevm.specs.declared.captures_iter.CapturesMatches.{CapturesMatches}
 
 -- the steps of the iterator, and the cache that it is lent
@@ -58,3 +58,7 @@ pub record CatchesKeepCache (s t : CapturesMatches) : Type 0 where
 
 abbrev pub CatchesGiveCache : CapturesMatches → Type 0
 CatchesGiveCache s = GivesKept pike_catches_next CatchesKeepCache s
+
+-- the calls change the cache by the searches of an iteration over x alone
+pub record CatchesBySearches (vm : Pike) (x : Search) (s : CapturesMatches) : Type 0 where
+  pub on : GivesKept pike_catches_next (λ p q. PikeCatchesOn vm x p.cache.now q.cache.now) s

@@ -1,6 +1,7 @@
 -- The iterator over the matches of a PikeVM.
-use Rattle.std.specs.Prelude.{◌≡◌, Option, Ok, option_map, Bool}
+use Rattle.std.specs.Prelude.{◌≡◌, List, map, Option, None, Ok, option_map, Bool}
 use Rattle.std.specs.Borrow.{MutBor}
+use Rattle.std.specs.Iterator.{Yields}
 use Rattle.regex_search_core.specs.Found.{Found, found_of}
 use Rattle.regex_search_core.specs.Search.{Search}
 use Rattle.regex_search_core.specs.declared.search.Match.{Match}
@@ -12,7 +13,7 @@ use Rattle.nfa_search_base.specs.Steps.{GivesItem}
 use Rattle.nfa_search_base.specs.Searchers.{walk_of}
 use Rattle.nfa_search_base.specs.Walks.{Answer, Walk, span_of}
 use Rattle.nfa_pikevm.specs.Engines.{Fits, Pike, PikeCache, SameNumbers}
-use Rattle.nfa_pikevm.specs.Finding.{IsSureOf, PikeSearches, PikeTells}
+use Rattle.nfa_pikevm.specs.Finding.{IsSureOf, PikeFindsOn, PikeFindsToEnd, PikeSearches, PikeTells}
 use Rattle.nfa_pikevm.specs.declared.find_iter.FindMatches.{FindMatches}
 use Rattle.nfa_pikevm.specs.declared.find_iter.Finder.{Finder}
 
@@ -59,6 +60,10 @@ pub record PikeFindsNext (s : FindMatches) (r : Option Match) (t : FindMatches) 
 abbrev pub pike_finds_next : FindMatches → Option Match → FindMatches → Type 0
 pike_finds_next s r t = PikeFindsNext s r t
 
+-- what is known of its next search
+abbrev pub pike_finds_known : FindMatches → Option Found
+pike_finds_known s = option_map found_of s.steps.asker.known
+
 -- the calls keep the cache, and its numbers
 pub record KeepsCache (s t : FindMatches) : Type 0 where
   pub cache : t.cache.ghost_name ≡ s.cache.ghost_name
@@ -66,3 +71,10 @@ pub record KeepsCache (s t : FindMatches) : Type 0 where
 
 abbrev pub GivesCache : FindMatches → Type 0
 GivesCache s = GivesKept pike_finds_next KeepsCache s
+
+-- The calls change the cache by the searches of an iteration over x alone; at `None` it went to its end, past the
+-- matches so far.
+pub record FindsBySearches (vm : Pike) (x : Search) (s : FindMatches) : Type 0 where
+  pub on : GivesKept pike_finds_next (λ p q. PikeFindsOn vm x p.cache.now q.cache.now) s
+  pub to_end : (xs : List Match) (t u : FindMatches) → Yields pike_finds_next s xs t → pike_finds_next t None u
+      → PikeFindsToEnd vm x (map found_of xs) s.cache.now u.cache.now

@@ -1,13 +1,14 @@
 -- What a PikeVM answers where a match or its captures are asked for.
-use Rattle.std.specs.Prelude.{◌≤◌, ◌*◌, ◌+◌, Option, Ok}
+use Rattle.std.specs.Prelude.{◌≤◌, ◌*◌, ◌+◌, List, Option, Ok}
 use Rattle.regex_search_core.specs.Found.{Found, found_of}
 use Rattle.regex_search_core.specs.Search.{Search}
 use Rattle.regex_search_core.specs.declared.search.Match.{Match}
 use Rattle.nfa_paths.specs.Known.{IsSureMatch}
 use Rattle.nfa_paths.specs.Paths.{IsWork, scan_limit, span_len, turn_weight}
-use Rattle.nfa_search_base.specs.Catching.{Row}
+use Rattle.nfa_search_base.specs.Catching.{Row, row_span}
 use Rattle.nfa_search_base.specs.CaughtLists.{TellsRow}
 use Rattle.nfa_search_base.specs.Finders.{answer_by}
+use Rattle.nfa_search_base.specs.Leaving.{DoesSearch, FindsLeave, FindsLeaveAtEnd, Leaves, LeavesAtEnd}
 use Rattle.nfa_search_base.specs.Lists.{TellsMatch}
 use Rattle.nfa_search_base.specs.Walks.{Answer}
 use Rattle.nfa_pikevm.specs.Engines.{Pike, PikeCache, AddsPikeWork, SameNumbers, kind_of}
@@ -35,3 +36,19 @@ pub record PikeSearches (vm : Pike) (x : Search) (old new : PikeCache) : Type 0 
   pub scans : new.scans ≤ scan_limit vm.nfa x
   pub turns : new.turns ≤ new.scans * ((1 + turn_weight vm.nfa) * (span_len x + 1))
   pub numbers : SameNumbers old new
+
+-- an iteration over the matches of x led from the one cache to the other by its searches alone, as far as it went
+abbrev pub PikeFindsOn : Pike → Search → PikeCache → PikeCache → Type 0
+PikeFindsOn vm x old new = FindsLeave (PikeTells vm) (λ y a. PikeSearches vm y) x old new
+
+-- and it went to its end, past these matches
+abbrev pub PikeFindsToEnd : Pike → Search → List Found → PikeCache → PikeCache → Type 0
+PikeFindsToEnd vm x ms old new = FindsLeaveAtEnd (PikeTells vm) (λ y a. PikeSearches vm y) x ms old new
+
+-- the same of an iteration over captures
+abbrev pub PikeCatchesOn : Pike → Search → PikeCache → PikeCache → Type 0
+PikeCatchesOn vm x old new = Leaves row_span (DoesSearch (PikeTellsRow vm) (λ y a. PikeSearches vm y)) x old new
+
+abbrev pub PikeCatchesToEnd : Pike → Search → List Row → PikeCache → PikeCache → Type 0
+PikeCatchesToEnd vm x rows old new =
+    LeavesAtEnd row_span (DoesSearch (PikeTellsRow vm) (λ y a. PikeSearches vm y)) x rows old new

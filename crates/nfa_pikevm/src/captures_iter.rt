@@ -53,9 +53,11 @@ impl PikeVM {
     ghost use Rattle.nfa_search_base.specs.CaughtRuns.{CapturesInside, RowsFirst, RowsNext, RowsRun, match_in};
     ghost use Rattle.nfa_search_base.specs.Lists.{AreApart, AreMatches};
     ghost use Rattle.nfa_search_base.specs.Walks.{fresh};
-    ghost use Rattle.nfa_pikevm.specs.CapturesMatches.{CatchesGiveCache, pike_catches_cache, pike_catches_done};
+    ghost use Rattle.nfa_pikevm.specs.CapturesMatches.{CatchesBySearches, CatchesGiveCache};
+    ghost use Rattle.nfa_pikevm.specs.CapturesMatches.{pike_catches_cache, pike_catches_done};
     ghost use Rattle.nfa_pikevm.specs.CapturesMatches.{pike_catches_engine, pike_catches_next, pike_catches_walk};
     ghost use Rattle.nfa_pikevm.specs.Engines.{SameNumbers, kind_of};
+    ghost use Rattle.nfa_pikevm.specs.Finding.{PikeCatchesOn, PikeCatchesToEnd};
 
     /// The captures of the matches of the input that do not overlap, from left to right, each with all groups of the
     /// NFA. The caller owes a cache that fits. To make this changes no cache. The error is that there is no memory for
@@ -106,6 +108,8 @@ impl PikeVM {
         ensures groups { IfOk result (CapturesGroups pike_catches_next self.now.nfa) }
         ensures inside { IfOk result (CapturesWithin pike_catches_next (search_of input.entry)) }
         ensures apart { IfOk result (CapturesApart pike_catches_next (search_of input.entry)) }
+        // The cache changes by the searches of the steps alone.
+        ensures searches { IfOk result (CatchesBySearches self.now (search_of input.entry)) }
         ensures keeps { IfOk result CatchesGiveCache }
     {
         let captures = self.create_captures(alloc)?;
@@ -156,6 +160,8 @@ impl PikeVM {
         ensures groups { CapturesGroups pike_catches_next self.now.nfa result }
         ensures inside { CapturesWithin pike_catches_next (search_of input.entry) result }
         ensures apart { CapturesApart pike_catches_next (search_of input.entry) result }
+        // The cache changes by the searches of the steps alone.
+        ensures searches { CatchesBySearches self.now (search_of input.entry) result }
         ensures keeps { CatchesGiveCache result }
     {
         self.catch_from(cache, input, captures)
@@ -179,6 +185,10 @@ impl PikeVM {
         ensures inside { IfOk result (λ all. All (CapturesInside (search_of input.entry)) all.items) }
         ensures apart { IfOk result (λ all. AreApart (search_of input.entry) None (map match_in all.items)) }
         ensures numbers { SameNumbers cache.old cache.new }
+        // The cache changes by the searches of an iteration alone, and where all captures come these go to its end.
+        ensures searches { PikeCatchesOn self.now (search_of input.entry) cache.old cache.new }
+        ensures to_end { IfOk result (λ all.
+            PikeCatchesToEnd self.now (search_of input.entry) (map row_of all.items) cache.old cache.new) }
     {
         let catcher = Catcher {
             engine: self,
@@ -205,6 +215,7 @@ impl PikeVM {
         ensures given { CapturesGiven pike_catches_next self.now.nfa (kind_of self.now) (search_of input.entry).earliest
             (TellsRow self.now.nfa (kind_of self.now) (search_of input.entry).earliest) (search_of input.entry) result }
         ensures errors { CapturesMemory pike_catches_next result }
+        ensures searches { CatchesBySearches self.now (search_of input.entry) result }
         ensures keeps { CatchesGiveCache result }
     {
         CapturesMatches {

@@ -12,7 +12,7 @@ use nfa_search_base::error::SearchError;
 use nfa_search_base::iter::finding::{ending_at, found_item, found_span};
 use nfa_search_base::iter::{Searcher, Searches, Steps};
 use regex_search_core::{Input, Match, Span};
-use std::alloc::{AllocError, Global};
+use std::alloc::Global;
 
 /// The matches of an input that do not overlap, from left to right: what [`PikeVM::find_iter`] gives.
 ///
@@ -35,13 +35,14 @@ struct Finder<'r> {
 }
 
 impl PikeVM {
-    ghost use Rattle.std.specs.Prelude.{false, All, IfOk, None, map};
+    ghost use Rattle.std.specs.Prelude.{false, All, IfOk, IsOkUnless, None, map};
     ghost use Rattle.regex_search_core.specs.Found.{found_of};
     ghost use Rattle.nfa_search_base.specs.Lists.{AreMatches, AreApart, IsInside};
     ghost use Rattle.nfa_search_base.specs.Walks.{fresh};
     ghost use Rattle.nfa_pikevm.specs.Engines.{SameNumbers, kind_of};
-    ghost use Rattle.nfa_pikevm.specs.FindMatches.{GivesCache, pike_finds_cache, pike_finds_done};
-    ghost use Rattle.nfa_pikevm.specs.FindMatches.{pike_finds_engine, pike_finds_next, pike_finds_walk};
+    ghost use Rattle.nfa_pikevm.specs.FindMatches.{FindsBySearches, GivesCache, pike_finds_cache, pike_finds_done};
+    ghost use Rattle.nfa_pikevm.specs.FindMatches.{pike_finds_engine, pike_finds_known, pike_finds_next};
+    ghost use Rattle.nfa_pikevm.specs.FindMatches.{pike_finds_walk};
     ghost use Rattle.nfa_search_base.specs.MatchRuns.{MatchesRun, MatchesAre, MatchesApart, MatchesFirst, MatchesNext};
 
     /// The matches of the input that do not overlap, from left to right. To make this takes no memory. The caller owes
@@ -61,12 +62,15 @@ impl PikeVM {
         ensures engine { pike_finds_engine result ≡ self.now }
         ensures walk { pike_finds_walk result ≡ fresh (search_of input.entry) }
         ensures going { pike_finds_done result ≡ false }
+        ensures known { pike_finds_known result ≡ None }
         // Each run of calls gives the first matches of the input, and all of them where it goes on to `None`.
         ensures runs { MatchesRun self.now.nfa (kind_of self.now) (search_of input.entry) pike_finds_next result }
         ensures are { MatchesAre self.now.nfa (kind_of self.now) (search_of input.entry) pike_finds_next result }
         ensures apart { MatchesApart self.now.nfa (kind_of self.now) (search_of input.entry) pike_finds_next result }
         ensures first { MatchesFirst self.now.nfa (kind_of self.now) (search_of input.entry) pike_finds_next result }
         ensures next { MatchesNext self.now.nfa (kind_of self.now) (search_of input.entry) pike_finds_next result }
+        // The cache changes by the searches of the steps alone.
+        ensures searches { FindsBySearches self.now (search_of input.entry) result }
         ensures keeps { GivesCache result }
     {
         FindMatches {
@@ -82,14 +86,16 @@ impl PikeVM {
         }
     }
 
-    /// All matches of the input that do not overlap, from left to right. The error is that a growth was refused.
+    /// All matches of the input that do not overlap, from left to right. The error is that there was no memory:
+    /// [`SearchError::Memory`] alone.
     pub fn find_all(
         &self,
         alloc: Global,
         cache: &mut Cache,
         input: Input<'_>,
-    ) -> Result<Vec<Match>, AllocError>
+    ) -> Result<Vec<Match>, SearchError>
         requires { Fits cache.old self.now.nfa }
+        ensures memory { IsOkUnless result SearchError.Memory }
         ensures all { IfOk result (λ found.
             AreMatches self.now.nfa (kind_of self.now) (search_of input.entry).earliest (search_of input.entry)
             (map found_of found.items)) }

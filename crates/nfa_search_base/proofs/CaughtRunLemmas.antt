@@ -178,8 +178,8 @@ module _ (nfa : Automaton) (kind : MatchKind) (earliest : Bool) (tells : Search 
       let has = step-row x w (row_of c) from to step in
       let k = step-lies row_span Rows (row-lies nfa kind earliest) w (row_of c) step in
       let slots : All (IsSlotInside x) c.slots
-          = All-weaker (IsSlotInside has.at) (IsSlotInside x) (wider x has.at has.from has.to) c.slots
-          (slots-within nfa kind earliest has.at c.pattern c.slots has.is_row.answer) in
+      = All-weaker (IsSlotInside has.at) (IsSlotInside x) (wider x has.at has.from has.to) c.slots
+      (slots-within nfa kind earliest has.at c.pattern c.slots has.is_row.answer) in
       All-cons (λ item. IfOk item (CapturesInside x)) (Ok c) xs
       (record {
         is_match = has.is_row.is_match;

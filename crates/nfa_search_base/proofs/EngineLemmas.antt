@@ -1,7 +1,7 @@
 -- What the searches of an iteration by an engine leave, what its iterators may ask, and what their calls keep.
 use Rattle.std.proofs.Common.{◌≡◌, ◌∙◌, ℕ, Bool, true, false, Option, None, Some, Result, Ok, Err, refl, sym, ap, subst}
-use Rattle.std.proofs.Common.{inl, inr, List, MatchBool}
-use Rattle.std.specs.Prelude.{IfOk, IsTrue, is_some}
+use Rattle.std.proofs.Common.{◌⊎◌, inl, inr, List, MatchBool}
+use Rattle.std.specs.Prelude.{IfErr, IfOk, IsTrue, is_some}
 use Rattle.std.specs.Option.{ForSome, option_map}
 use Rattle.regex_search_core.specs.Found.{Found, found_of}
 use Rattle.regex_search_core.specs.Search.{Search}
@@ -16,7 +16,8 @@ use Rattle.nfa_search_base.specs.Asking.{SameButStart}
 use Rattle.nfa_search_base.specs.CapturesGiven.{CapturesGiven}
 use Rattle.nfa_search_base.specs.Catching.{Catching, GivesCaptures, Row, row_span}
 use Rattle.nfa_search_base.specs.CaughtLists.{HasGroups, TellsRow}
-use Rattle.nfa_search_base.specs.EngineSearches.{AsksEngine, AsksEngineRow, IsKnownFrom, Knowing, MayCatch, MayFind}
+use Rattle.nfa_search_base.specs.EngineSearches.{AnswersBy, AsksEngine, AsksEngineRow, IsKnownFrom, Keeping, Knowing}
+use Rattle.nfa_search_base.specs.EngineSearches.{MayCatch, MayFind, SearchesUnlessKnown, found_in, if_ends_at}
 use Rattle.nfa_search_base.specs.Finders.{answer_by}
 use Rattle.nfa_search_base.specs.Lending.{With}
 use Rattle.nfa_search_base.specs.Lent.{GivesLent, KeepsLent, Lent, TakesLentStep, lent_state}
@@ -98,6 +99,37 @@ pub find-lies : (nfa : Automaton) (kind : MatchKind) (earliest : Bool) (t : Sear
 find-lies nfa kind earliest t (Ok found) h = ((match-lies nfa kind earliest t (Ok found) h).0, refl)
 find-lies nfa kind earliest t (Err error) h = absurd h
 
+-- the match of a reply is that of its answer
+pub found-by : (r : Result (Option Match) SearchError) (found : Option Match) → IfOk r (λ o. found ≡ o)
+    → (IfErr r (λ e. found ≡ None)) → option_map found_of found ≡ found_in (answer_by found_of r)
+found-by (Ok (Some m)) found ok err = ap (λ (o : Option Match). option_map found_of o) ok
+found-by (Ok None) found ok err = ap (λ (o : Option Match). option_map found_of o) ok
+found-by (Err e) found ok err = ap (λ (o : Option Match). option_map found_of o) err
+
+-- A search does `Work` with the cache.
+module _ {C : Type 0} (Work : Search → Answer Found → C → C → Type 0) (x : Search) where
+  -- what is known is the answer
+  pub known-is : (kept : Option Match) (s : Keeping C) → option_map found_of kept ≡ if_ends_at x.start s.known
+      → IsTrue (is_some kept) → SearchesUnlessKnown Work x (answer_by found_of (Ok kept)) s s
+  known-is None s is some = let k : false ≡ true = some in cc
+  known-is (Some m) s is some = record { by_known = rw (← is) (refl, refl) }
+
+  -- else a search is made
+  pub search-made : (kept : Option Match) (a : Answer Found) (s t : Keeping C)
+      → option_map found_of kept ≡ if_ends_at x.start s.known → is_some kept ≡ false → Work x a s.cache t.cache
+      → t.known ≡ if_ends_at x.start (found_in a) → SearchesUnlessKnown Work x a s t
+  search-made None a s t is none work known = record { by_known = rw (← is) (work, known) }
+  search-made (Some m) a s t is none work known = let k : true ≡ false = none in cc
+
+  -- so the cache is the same, or was searched with
+  pub same-or-made : (a : Answer Found) (s t : Keeping C) → SearchesUnlessKnown Work x a s t
+      → (t.cache ≡ s.cache) ⊎ Work x a s.cache t.cache
+  same-or-made a s t by = of (if_ends_at x.start s.known) by.by_known
+    where
+      of : (k : Option Found) → AnswersBy Work x a k s t → (t.cache ≡ s.cache) ⊎ Work x a s.cache t.cache
+      of (Some m) h = inl (ap (λ q. q.cache) h.1)
+      of None h = inr h.0
+
 module _ {E : Type 0} (Sure : E → Search → Found → Type 0) where
   -- what is known of searches is known of the ones like them
   known-like : (e : E) (x t : Search) (known : Option Match) → SameButStart x t → IsKnownFrom Sure e x known
@@ -144,7 +176,7 @@ module _ {E : Type 0} (Sure : E → Search → Found → Type 0) where
     }
       where
         fits : Fits s'.cache (shown s.asker).engine
-        fits = elim asked.work [
+        fits = elim (same-or-made (Work (shown s.asker).engine) t a _ _ asked.work) [
           | inl same ↦ subst (λ (c : C). Fits c (shown s.asker).engine) (sym same) may.fits
           | inr work ↦ stays (shown s.asker).engine t a s.cache s'.cache work may.fits
         ]

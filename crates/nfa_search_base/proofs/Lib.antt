@@ -5,6 +5,7 @@ pub mod DrainedLemmas
 pub mod EngineLemmas
 pub mod FindsLemmas
 pub mod GreedyLemmas
+pub mod LeavingLemmas
 pub mod SkipLemmas
 pub mod SpanLemmas
 pub mod StepLemmas

@@ -1,5 +1,5 @@
 -- The searches of an iteration by an engine: what they need, answer and leave.
-use Rattle.std.specs.Prelude.{◌≡◌, ◌⊎◌, Option}
+use Rattle.std.specs.Prelude.{◌≡◌, ◌==◌, ℕ, Option, None, Some, Ok, Err, if◌then◌else◌, option_map}
 use Rattle.std.specs.Option.{ForSome}
 use Rattle.regex_search_core.specs.Found.{Found, found_of}
 use Rattle.regex_search_core.specs.Search.{Search}
@@ -15,6 +15,37 @@ pub record Knowing (E : Type 0) : Type 0 where
   pub engine : E
   pub known : Option Match
 
+-- a cache, and the match that is known of the next search, if one is
+pub record Keeping (C : Type 0) : Type 0 where
+  pub cache : C
+  pub known : Option Found
+
+-- the match, if it ends there
+abbrev pub if_ends_at : ℕ → Option Found → Option Found
+if_ends_at n None = None
+if_ends_at n (Some m) = if m.end == n then Some m else None
+
+-- the match of the answer
+abbrev pub found_in : Answer Found → Option Found
+found_in (Ok found) = found
+found_in (Err e) = None
+
+-- A search does `Work` with the cache.
+module _ {C : Type 0} (Work : Search → Answer Found → C → C → Type 0) (x : Search) (a : Answer Found) where
+  -- A match that is known is the answer, and then nothing changes. Where none is, one search is made, and its match is
+  -- known next if it ends where the search starts.
+  abbrev pub AnswersBy : Option Found → Keeping C → Keeping C → Type 0
+  AnswersBy (Some m) s t = (a ≡ Ok (Some m)) × (t ≡ s)
+  AnswersBy None s t = Work x a s.cache t.cache × (t.known ≡ if_ends_at x.start (found_in a))
+
+  -- What is known answers where it ends at the start of x, and there alone.
+  pub record SearchesUnlessKnown (s t : Keeping C) : Type 0 where
+    pub by_known : AnswersBy (if_ends_at x.start s.known) s t
+
+-- the cache, and what is known by what asks with it
+abbrev pub keeping : {E A C : Type 0} → (A → Knowing E) → With A C → Keeping C
+keeping shown s = record { cache = s.cache; known = option_map found_of (shown s.asker).known }
+
 -- A match that is `Sure` is what a search finds, whoever makes it.
 module _ {E : Type 0} (Sure : E → Search → Found → Type 0) where
   -- what is known of the searches like x: nothing, or the match of the one that starts where this match ends
@@ -28,15 +59,15 @@ module _ {E : Type 0} (Sure : E → Search → Found → Type 0) where
       pub fits : Fits s.cache (shown s.asker).engine
       pub knows : IsKnownFrom (shown s.asker).engine x (shown s.asker).known
 
-    -- A search by the engine may answer this, which is what it `Tells`. It does `Work` with the cache, once, or it is
-    -- not made where its answer was known.
+    -- A search by the engine may answer this, which is what it `Tells`. It does `Work` with the cache, once, and is not
+    -- made exactly where its answer was known.
     pub record AsksEngine (Tells : E → Search → Answer Found → Type 0)
         (Work : E → Search → Answer Found → C → C → Type 0) (s : With A C) (x : Search) (a : Answer Found)
         (t : With A C) : Type 0 where
       pub finds : Tells (shown s.asker).engine x a
       pub engine : (shown t.asker).engine ≡ (shown s.asker).engine
       pub knows : IsKnownFrom (shown t.asker).engine x (shown t.asker).known
-      pub work : (t.cache ≡ s.cache) ⊎ Work (shown s.asker).engine x a s.cache t.cache
+      pub work : SearchesUnlessKnown (Work (shown s.asker).engine) x a (keeping shown s) (keeping shown t)
 
 -- An engine that fills captures, of an NFA.
 module _ {E C : Type 0} (nfa : E → Automaton) where

@@ -11,6 +11,7 @@ pub mod EngineSearches
 pub mod Finders
 pub mod Finds
 pub mod Items
+pub mod Leaving
 pub mod Lending
 pub mod Lent
 pub mod Likes

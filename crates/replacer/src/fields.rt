@@ -23,7 +23,9 @@ pub fn split<'h>(
     ensures fields { IfOk result (λ fields. IsSplit haystack.now vm.now (texts fields.items)) }
     ensures numbers { SameNumbers cache.old cache.new }
 {
-    let matches = vm.find_all(alloc, cache, Input::new(haystack))?;
+    let Ok(matches) = vm.find_all(alloc, cache, Input::new(haystack)) else {
+        return Err(AllocError);
+    };
     fields_between(alloc, haystack, &matches)
 }
 

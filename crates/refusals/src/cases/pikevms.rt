@@ -5,7 +5,7 @@ use super::{Seen, Wrong, engines, expect, is_right};
 use nfa_engines::error::SearchError;
 use nfa_engines::pikevm::{self, PikeVM};
 use regex_search_core::{Captures, Input, NonMaxUsize, PatternSet};
-use std::alloc::{AllocError, Global};
+use std::alloc::Global;
 use test_support::text::parts;
 
 // What `groups` answers with a cache that fits.
@@ -199,6 +199,6 @@ fn is_listed(
     }
     match vm.find_all(alloc, cache, Input::new(b"ab ab")) {
         Ok(all) => is_right(all.len() == 2, "all matches of a PikeVM"),
-        Err(AllocError) => seen.is_refusal(true),
+        Err(error) => seen.is_refusal(error == SearchError::Memory),
     }
 }

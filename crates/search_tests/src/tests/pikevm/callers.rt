@@ -6,6 +6,7 @@ ghost use Rattle.regex_search_core.specs.Search.{search_of, whole};
 ghost use Rattle.nfa_pikevm.specs.Engines.{Fits, SameNumbers, kind_of};
 ghost use Rattle.nfa_search_base.specs.Lists.{AreMatches, AreFirstMatches, AreApart, IsInside};
 
+use nfa_engines::error::SearchError;
 use nfa_engines::pikevm::{Cache, PikeVM};
 use regex_search_core::{Input, Match, NonMaxUsize};
 use std::alloc::{AllocError, Global};
@@ -226,7 +227,7 @@ pub(super) fn find_all_then_find(
     vm: &PikeVM,
     cache: &mut Cache,
     text: &[u8],
-) -> Result<Option<Match>, AllocError>
+) -> Result<Option<Match>, SearchError>
     requires { Fits cache.old vm.now.nfa }
     ensures { Fits cache.new vm.now.nfa }
 {

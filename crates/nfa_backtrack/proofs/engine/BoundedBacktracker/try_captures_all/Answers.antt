@@ -1,11 +1,11 @@
 -- The steps may be made, and give the captures of the input.
-use Rattle.std.proofs.Common.{◌≡◌, ap, false, true}
+use Rattle.std.proofs.Common.{◌≡◌, [], ap, false, refl, true}
 use Rattle.regex_search_core.specs.Search.{search_of}
 use Rattle.nfa_search_base.specs.Lending.{lend}
 use Rattle.nfa_search_base.proofs.DrainedLemmas.{made-holds}
 use Rattle.nfa_backtrack.specs.CapturesMatches.{MayCatchByBacktracker}
 use Rattle.nfa_backtrack.specs.Backtrack.{IsTooLong}
-use Rattle.nfa_backtrack.proofs.CaughtLemmas.{all-caught, caught-by_length, steps-serve}
+use Rattle.nfa_backtrack.proofs.CaughtLemmas.{all-caught, caught-by_length, caught-on, caught-to_end, steps-serve}
 use Rattle.nfa_backtrack.proofs.engine.BoundedBacktracker.try_captures_all.Goals as goal
 
 pub all_with-requires : goal.all_with-requires
@@ -17,6 +17,12 @@ all_with-requires c =
       holds = made-holds c.args.self.now.nfa captures.field-0 captures.ensures.made;
     }) in
     steps-serve begun may
+
+pub returns-then-is_too_long-clause-searches : goal.returns-then-is_too_long-clause-searches
+returns-then-is_too_long-clause-searches c = record { answers = []; steps = refl }
+
+pub returns-in_err-create_captures-clause-searches : goal.returns-in_err-create_captures-clause-searches
+returns-in_err-create_captures-clause-searches c = record { answers = []; steps = refl }
 
 pub returns : goal.returns
 returns c =
@@ -42,4 +48,8 @@ returns c =
       apart = all.4;
       by_length = caught-by_length e x begun may engine c.new.ensures.walk c.new.ensures.going c.all_with.result left
           fits c.all_with.ensures.errors;
+      searches = caught-on e x begun may engine c.new.ensures.walk c.new.ensures.going left c.all_with.ensures.calls;
+      to_end = caught-to_end e x begun may engine c.new.ensures.walk c.new.ensures.going c.all_with.result
+          (λ v. v.items) left c.all_with.ensures.all;
+      early = λ long. absurd (fits long);
     }

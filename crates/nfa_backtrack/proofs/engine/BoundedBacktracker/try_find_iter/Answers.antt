@@ -1,6 +1,7 @@
 -- The iterator gives the items of its input.
 use Rattle.std.proofs.Common.{refl}
 use Rattle.regex_search_core.specs.Search.{search_of}
+use Rattle.nfa_backtrack.proofs.FindLemmas.{finds-searches}
 use Rattle.nfa_backtrack.proofs.RunLemmas.{runs-give_items, runs-match, runs-inside, runs-apart, runs-refused}
 use Rattle.nfa_backtrack.proofs.RunLemmas.{gives-first_items, gives-first-matches, gives-matches, gives-next, gives-next-match}
 use Rattle.nfa_backtrack.proofs.RunLemmas.{gives-by-length, ends-by-length}
@@ -41,3 +42,6 @@ returns-clause-by_length c = gives-by-length c.args.self.now (search_of c.args.i
 
 pub returns-clause-end : goal.returns-clause-end
 returns-clause-end c = ends-by-length c.args.self.now (search_of c.args.input) _ refl c.new.ensures refl
+
+pub returns-clause-searches : goal.returns-clause-searches
+returns-clause-searches c = finds-searches c.args.self.now (search_of c.args.input) _ refl refl c.new.ensures refl

@@ -1,11 +1,11 @@
 -- The steps may be made, give the captures of the input, and keep the numbers of the cache.
-use Rattle.std.proofs.Common.{ap}
+use Rattle.std.proofs.Common.{[], ap, refl}
 use Rattle.std.proofs.lemmas.Result.{IfErr-weaker}
 use Rattle.regex_search_core.specs.Search.{search_of}
 use Rattle.nfa_search_base.specs.Lending.{lend}
 use Rattle.nfa_search_base.proofs.DrainedLemmas.{made-holds}
 use Rattle.nfa_pikevm.specs.CapturesMatches.{MayCatchByPike}
-use Rattle.nfa_pikevm.proofs.CaughtLemmas.{all-caught, caught-memory, caught-numbers, steps-serve}
+use Rattle.nfa_pikevm.proofs.CaughtLemmas.{all-caught, caught-memory, caught-numbers, caught-on, caught-to_end, steps-serve}
 use Rattle.nfa_pikevm.proofs.engine.PikeVM.captures_all.Goals as goal
 
 pub all_with-requires : goal.all_with-requires
@@ -17,6 +17,9 @@ all_with-requires c =
       holds = made-holds c.args.self.now.nfa captures.field-0 captures.ensures.made;
     }) in
     steps-serve begun may
+
+pub returns-in_err-create_captures-clause-searches : goal.returns-in_err-create_captures-clause-searches
+returns-in_err-create_captures-clause-searches c = record { answers = []; steps = refl }
 
 pub returns : goal.returns
 returns c =
@@ -43,4 +46,7 @@ returns c =
       inside = all.3;
       apart = all.4;
       numbers = caught-numbers begun left given.calls;
+      searches = caught-on vm x begun may engine c.new.ensures.walk c.new.ensures.going left given.calls;
+      to_end = caught-to_end vm x begun may engine c.new.ensures.walk c.new.ensures.going c.all_with.result
+          (λ v. v.items) left given.all;
     }

@@ -5,7 +5,7 @@ use Rattle.nfa_search_base.specs.Lent.{lent_state}
 use Rattle.nfa_search_base.proofs.MatchRunLemmas.{matches-first_given, matches-run, matches-next, matches-apart_run, matches-are}
 use Rattle.nfa_pikevm.specs.Engines.{kind_of}
 use Rattle.nfa_pikevm.specs.FindMatches.{AsksPike, pike_finds, pike_finds_next}
-use Rattle.nfa_pikevm.proofs.FindLemmas.{gives-cache, pike-acts}
+use Rattle.nfa_pikevm.proofs.FindLemmas.{finds-searches, gives-cache, pike-acts}
 use Rattle.nfa_pikevm.proofs.engine.PikeVM.find_iter.Goals as goal
 
 pub returns-clause-runs : goal.returns-clause-runs
@@ -40,3 +40,6 @@ returns-clause-next c = let vm = c.args.self.now in let x = search_of c.args.inp
 
 pub returns-clause-keeps : goal.returns-clause-keeps
 returns-clause-keeps c = gives-cache _
+
+pub returns-clause-searches : goal.returns-clause-searches
+returns-clause-searches c = finds-searches c.args.self.now (search_of c.args.input) _ refl refl c.new.ensures refl

@@ -1,11 +1,12 @@
 -- The match that is known is the answer; else the search's is, and tells what is known then.
-use Rattle.std.proofs.Common.{rules, ◌∙◌, refl, inl, inr, subst, Option}
+use Rattle.std.proofs.Common.{rules, ◌≡◌, ◌∙◌, refl, ap, subst, Option, Ok, option_map}
 use Rattle.regex_search_core.specs.Found.{found_of}
 use Rattle.regex_search_core.specs.Search.{search_of}
 use Rattle.regex_search_core.specs.declared.search.Match.{Match}
-use Rattle.nfa_search_base.proofs.EngineLemmas.{find-answered, known-answer, known-kept}
+use Rattle.nfa_search_base.specs.EngineSearches.{if_ends_at}
+use Rattle.nfa_search_base.proofs.EngineLemmas.{find-answered, found-by, known-answer, known-is, known-kept, search-made}
 use Rattle.nfa_pikevm.specs.Engines.{kind_of}
-use Rattle.nfa_pikevm.specs.Finding.{IsSureOf, PikeTells, answer_of}
+use Rattle.nfa_pikevm.specs.Finding.{IsSureOf, PikeSearches, PikeTells, answer_of}
 use Rattle.nfa_pikevm.proofs.FindLemmas.{finds-sure, sure-finds}
 use Rattle.nfa_pikevm.proofs.find_iter.FinderSearches.answer.Goals as goal
 
@@ -16,10 +17,11 @@ returns-then-is_some c =
     record {
       finds = known-answer IsSureOf vm x c.args.self.now.known c.ending_at-known.result (PikeTells vm x)
           (sure-finds vm x) c.requires.knows
-          (λ m is. let k = c.ending_at-known.ensures m is in (k.0, k.1 ∙ c.start.ensures)) (search rules);
+          (λ m is. let k = c.ending_at-known.ensures.kept m is in (k.0, k.1 ∙ c.start.ensures)) (search rules);
       engine = refl;
       knows = c.requires.knows;
-      work = inl refl;
+      work = known-is (λ y a. PikeSearches vm y) x c.ending_at-known.result _
+          (rw (← c.start.ensures) c.ending_at-known.ensures.exactly) (search rules);
     }
 
 pub returns : goal.returns
@@ -32,9 +34,13 @@ returns c =
       finds = finds;
       engine = refl;
       knows = known-kept IsSureOf vm x c.ending_at-self.result (λ m is.
-          let k = c.ending_at-self.ensures m is in (
+          let k = c.ending_at-self.ensures.kept m is in (
             finds-sure vm x (found_of m) (subst (λ (o : Option Match). PikeTells vm x (answer_of o)) k.0 finds),
             k.1 ∙ c.start-2.ensures,
           ));
-      work = inr (record { total = e.total; work = e.work; scans = e.scans; turns = e.turns; numbers = e.numbers });
+      work = search-made (λ y a. PikeSearches vm y) x c.ending_at-known.result _ _ _
+          (rw (← c.start.ensures) c.ending_at-known.ensures.exactly) (search rules)
+          (record { total = e.total; work = e.work; scans = e.scans; turns = e.turns; numbers = e.numbers })
+          (rw (← c.start-2.ensures) c.ending_at-self.ensures.exactly
+          ∙ ap (λ o. if_ends_at x.start o) (found-by (Ok c.find-found.result) c.find-found.result refl tt));
     }

@@ -1,0 +1,334 @@
+-- What the calls of an iterator leave of what answers its searches, seen as less than the iterator keeps.
+use Rattle.std.proofs.Common.{◌≡◌, ◌∙◌, ◌⊎◌, Bool, true, false, MatchBool, refl, sym, ap, subst, inl, inr}
+use Rattle.std.proofs.Common.{Option, None, Some, Result, Ok, Err, List, [], ◌∷◌, map}
+use Rattle.std.specs.Iterator.{Yields}
+use Rattle.std.specs.Option.{option_map}
+use Rattle.std.specs.Prelude.{IfOk}
+use Rattle.regex_search_core.specs.Found.{Found, found_of}
+use Rattle.regex_search_core.specs.Search.{Search}
+use Rattle.regex_search_core.specs.Slots.{Captured}
+use Rattle.regex_search_core.specs.declared.search.Match.{Match}
+use Rattle.regex_search_core.specs.declared.search.Span.{Span}
+use Rattle.thompson_nfa.specs.Automaton.{Automaton}
+use Rattle.nfa_search_base.specs.Catching.{Catching, GivesCaptures, Row, row_of, row_span}
+use Rattle.nfa_search_base.specs.Drained.{CallsLead, DrainsAll}
+use Rattle.nfa_search_base.specs.EngineSearches.{AsksEngine, AsksEngineRow, Keeping, Knowing, SearchesUnlessKnown}
+use Rattle.nfa_search_base.specs.EngineSearches.{keeping}
+use Rattle.nfa_search_base.specs.Leaving.{DoesSearch, FindsLeave, FindsLeaveAtEnd, Leaves, LeavesAtEnd, StepsLead}
+use Rattle.nfa_search_base.specs.Leaving.{answers_to_end, asks_keeping}
+use Rattle.nfa_search_base.specs.Lending.{With}
+use Rattle.nfa_search_base.specs.Lent.{Lent, TakesLentStep, lent_state, lent_walk}
+use Rattle.nfa_search_base.specs.Steps.{GivesItem, TakesStep}
+use Rattle.nfa_search_base.specs.Stored.{steps_walk, takes_steps}
+use Rattle.nfa_search_base.specs.Walks.{Advances, Answer, Walk, fresh, place_of, repeats, shifted, span_of}
+use Rattle.nfa_search_base.specs.declared.error.SearchError.{SearchError}
+use Rattle.nfa_search_base.specs.declared.error.SearchError.TheVariants.{Memory}
+use Rattle.nfa_search_base.specs.declared.iter.steps.Steps.{Steps}
+use Rattle.nfa_search_base.proofs.CaughtRunLemmas.{copy-says}
+use Rattle.nfa_search_base.proofs.MatchRunLemmas.{yields-inner}
+use Rattle.nfa_search_base.proofs.RunLemmas.{Says, item-says}
+use Rattle.nfa_search_base.proofs.StepLemmas.{chosen}
+
+-- What is asked is `seen` as a K, and stays `Good`; an item says what its answer is.
+module _ {S X Y K : Type 0} (span : X → Span) (asks : S → Search → Answer X → S → Type 0)
+    (gives : S → Answer X → Option (Result Y SearchError) → Type 0) (view : Y → X)
+    (says : (s : S) (a : Answer X) (r : Option (Result Y SearchError)) → gives s a r → Says view a (λ e. Unit {0}) r)
+    (seen : S → K) (looks : K → Search → Answer X → K → Type 0) (Good : S → Type 0)
+    (acts : (s : S) (t : Search) (a : Answer X) (s' : S) → Good s → asks s t a s'
+    → looks (seen s) t a (seen s') × Good s') where
+  abbrev steps : Steps S → Option (Result Y SearchError) → Steps S → Type 0
+  steps = takes_steps span asks gives
+
+  abbrev Leads : Walk → K → List (Answer X) → K → Type 0
+  Leads = StepsLead span looks
+
+  advance-seen : (s : S) (w : Walk) (a : Answer X) (s' : S) (w' : Walk) → Good s → Advances span asks s w a s' w'
+      → Advances span looks (seen s) w a (seen s') w' × Good s'
+  advance-seen s w a s' w' good step =
+      let one = acts s w.at step.answer step.between good step.first in
+      elim (chosen (repeats w (place_of span step.answer)) step.rest) [
+        | inl p ↦
+            let two = acts step.between (shifted w).at a s' one.1 p.1.0 in (
+              record {
+                answer = step.answer;
+                between = seen step.between;
+                first = one.0;
+                rest = rw p.0 (two.0, p.1.1);
+              },
+              two.1,
+            )
+        | inr p ↦ (
+          record {
+            answer = step.answer;
+            between = seen step.between;
+            first = one.0;
+            rest = rw p.0 (p.1.0, ap seen p.1.1, p.1.2);
+          },
+          subst (λ (q : S). Good q) (sym p.1.1) one.1,
+        )
+      ]
+
+  -- a call of an iterator that has ended changes nothing
+  still : (s u : Steps S) (r : Option (Result Y SearchError)) → s.done ≡ true → steps s r u → u ≡ s
+  still s u r d st = of s.done d st
+    where
+      of : (b : Bool) → b ≡ true
+          → MatchBool b ((r ≡ None) × (u ≡ s)) (TakesStep span asks gives s.asker (steps_walk s) r u.asker
+          (steps_walk u) u.done)
+          → u ≡ s
+      of true e h = h.1
+      of false e h = cc
+
+  all-still : (xs : List (Result Y SearchError)) (s t u : Steps S) (r : Option (Result Y SearchError))
+      → s.done ≡ true → Yields steps s xs t → steps t r u → u ≡ s
+  all-still [] s t u r d ran st = still s u r d (subst (λ (q : Steps S). steps q r u) (sym ran) st)
+  all-still (y ∷ ys) s t u r d ran st =
+      let same : ran.0 ≡ s = still s ran.0 (Some y) d ran.1 in
+      all-still ys ran.0 t u r (ap (λ (q : Steps S). q.done) same ∙ d) ran.2 st ∙ same
+
+  -- any other call is a step
+  turn : (s : Steps S) (r : Option (Result Y SearchError)) (u : Steps S) → s.done ≡ false → steps s r u
+      → TakesStep span asks gives s.asker (steps_walk s) r u.asker (steps_walk u) u.done
+  turn s r u going st = of s.done going st
+    where
+      of : (b : Bool) → b ≡ false
+          → MatchBool b ((r ≡ None) × (u ≡ s)) (TakesStep span asks gives s.asker (steps_walk s) r u.asker
+          (steps_walk u) u.done)
+          → TakesStep span asks gives s.asker (steps_walk s) r u.asker (steps_walk u) u.done
+      of true e h = cc
+      of false e h = h
+
+  only : (w : Walk) (a : Answer X) (p q : K) (v : Walk) → Advances span looks p w a q v → Leads w p (a ∷ []) q
+  only w (Ok (Some x)) p q v step = (q, v, step, refl)
+  only w (Ok None) p q v step = (v, step, refl)
+  only w (Err e) p q v step = (v, step, refl)
+
+  -- what calls leave of an iterator that goes on
+  pub calls-leave : (xs : List (Result Y SearchError)) (s t u : Steps S) (r : Option (Result Y SearchError))
+      → s.done ≡ false → Good s.asker → Yields steps s xs t → steps t r u
+      → (first : Answer X) × (rest : List (Answer X)) × Leads (steps_walk s) (seen s.asker) (first ∷ rest)
+      (seen u.asker)
+  calls-leave [] s t u r going good ran st =
+      let one = turn s r u going (subst (λ (q : Steps S). steps q r u) (sym ran) st) in
+      let k = advance-seen s.asker (steps_walk s) one.answer u.asker (steps_walk u) good one.step in
+      (one.answer, [], only (steps_walk s) one.answer (seen s.asker) (seen u.asker) (steps_walk u) k.0)
+  calls-leave (Ok y ∷ xs) s t u r going good ran st =
+      let q = ran.0 in
+      let one = turn s (Some (Ok y)) q going ran.1 in
+      let k = advance-seen s.asker (steps_walk s) one.answer q.asker (steps_walk q) good one.step in
+      let rest = calls-leave xs q t u r one.ends k.1 ran.2 st in
+      let is : one.answer ≡ Ok (Some (view y)) = says q.asker one.answer (Some (Ok y)) one.item in (
+        Ok (Some (view y)),
+        rest.0 ∷ rest.1,
+        (
+          seen q.asker,
+          steps_walk q,
+          subst (λ (a : Answer X). Advances span looks (seen s.asker) (steps_walk s) a (seen q.asker) (steps_walk q))
+              is k.0,
+          rest.2,
+        ),
+      )
+  calls-leave (Err e ∷ xs) s t u r going good ran st =
+      let q = ran.0 in
+      let one = turn s (Some (Err e)) q going ran.1 in
+      let k = advance-seen s.asker (steps_walk s) one.answer q.asker (steps_walk q) good one.step in
+      let same : u ≡ q = all-still xs q t u r one.ends ran.2 st in (
+        one.answer,
+        [],
+        subst (λ (v : Steps S). Leads (steps_walk s) (seen s.asker) (one.answer ∷ []) (seen v.asker)) (sym same)
+            (only (steps_walk s) one.answer (seen s.asker) (seen q.asker) (steps_walk q) k.0),
+      )
+
+  -- and what they leave where they go on to none
+  pub all-leave : (ys : List Y) (s t u : Steps S) → s.done ≡ false → Good s.asker
+      → Yields steps s (map (λ y. Ok y) ys) t → steps t None u
+      → Leads (steps_walk s) (seen s.asker) (answers_to_end (map view ys)) (seen u.asker)
+  all-leave [] s t u going good ran st =
+      let one = turn s None u going (subst (λ (q : Steps S). steps q None u) (sym ran) st) in
+      let k = advance-seen s.asker (steps_walk s) one.answer u.asker (steps_walk u) good one.step in
+      let is : one.answer ≡ Ok None = says u.asker one.answer None one.item in (
+        steps_walk u,
+        subst (λ (a : Answer X). Advances span looks (seen s.asker) (steps_walk s) a (seen u.asker) (steps_walk u)) is
+            k.0,
+        refl,
+      )
+  all-leave (y ∷ ys) s t u going good ran st =
+      let q = ran.0 in
+      let one = turn s (Some (Ok y)) q going ran.1 in
+      let k = advance-seen s.asker (steps_walk s) one.answer q.asker (steps_walk q) good one.step in
+      let is : one.answer ≡ Ok (Some (view y)) = says q.asker one.answer (Some (Ok y)) one.item in (
+        seen q.asker,
+        steps_walk q,
+        subst (λ (a : Answer X). Advances span looks (seen s.asker) (steps_walk s) a (seen q.asker) (steps_walk q)) is
+            k.0,
+        all-leave ys q t u one.ends k.1 ran.2 st,
+      )
+
+  -- the calls of a shell whose items are those of the steps, or the matches among them
+  pub calls-in : {T R : Type 0} (calls : T → Option R → T → Type 0) (inner : T → Steps S)
+      (item : R → Result Y SearchError)
+      → ((s : T) (r : Option R) (t : T) → calls s r t → steps (inner s) (option_map item r) (inner t))
+      → (xs : List R) (s t : T) → Yields calls s xs t → Yields steps (inner s) (map item xs) (inner t)
+  calls-in calls inner item is [] s t ran = ap inner ran
+  calls-in calls inner item is (x ∷ xs) s t ran =
+      (inner ran.0, is s (Some x) ran.0 ran.1, calls-in calls inner item is xs ran.0 t ran.2)
+
+-- items as they are
+pub same-item : {R : Type 0} (r : Option R) → option_map (λ (i : R). i) r ≡ r
+same-item None = refl
+same-item (Some i) = refl
+
+pub same-items : {R : Type 0} (xs : List R) → map (λ (i : R). i) xs ≡ xs
+same-items [] = refl
+same-items {R} (x ∷ xs) = ap (λ (l : List R). x ∷ l) (same-items xs)
+
+-- the calls of a shell led where those of the iterator in it do
+pub calls-lead : {T U Y : Type 0} (outer : T → Option (Result Y SearchError) → T → Type 0)
+    (steps : U → Option (Result Y SearchError) → U → Type 0) (inner : T → U)
+    → ((s : T) (r : Option (Result Y SearchError)) (t : T) → outer s r t → steps (inner s) r (inner t))
+    → (xs : List (Result Y SearchError)) (s t : T) (r : Option (Result Y SearchError)) (u : T) → Yields outer s xs t
+    → outer t r u → CallsLead steps (inner s) (inner u)
+calls-lead outer steps inner is xs s t r u ran st = record {
+  items = xs;
+  last = inner t;
+  item = r;
+  ran = yields-inner outer steps inner is xs s t ran;
+  over = is t r u st;
+}
+
+-- ---- matches
+
+-- The iterator of an engine e over matches, around steps and a cache.
+module _ {E A C : Type 0} (Sure : E → Search → Found → Type 0) (shown : A → Knowing E)
+    (Tells : E → Search → Answer Found → Type 0) (Work : E → Search → Answer Found → C → C → Type 0) (e : E) where
+  abbrev Asks : With A C → Search → Answer Found → With A C → Type 0
+  Asks = AsksEngine Sure shown Tells Work
+
+  abbrev Is : With A C → Type 0
+  Is q = (shown q.asker).engine ≡ e
+
+  abbrev Looks : Keeping C → Search → Answer Found → Keeping C → Type 0
+  Looks = asks_keeping (Tells e) (Work e)
+
+  looks : (s : With A C) (t : Search) (a : Answer Found) (s' : With A C) → Is s → Asks s t a s'
+      → Looks (keeping shown s) t a (keeping shown s') × Is s'
+  looks s t a s' is asked = (
+    record {
+      tells = subst (λ (b : E). Tells b t a) is asked.finds;
+      work = subst (λ (b : E). SearchesUnlessKnown (Work b) t a (keeping shown s) (keeping shown s')) is asked.work;
+    },
+    asked.engine ∙ is,
+  )
+
+  says : (s : With A C) (a : Answer Found) (r : Option (Result Match SearchError)) → GivesItem found_of a r
+      → Says found_of a (λ q. Unit {0}) r
+  says s a r gives = item-says found_of (λ b. Unit {0}) a r gives tt
+
+  module _ {T R : Type 0} (calls : T → Option R → T → Type 0) (inner : T → Lent A C)
+      (item : R → Result Match SearchError)
+      (is : (s : T) (r : Option R) (t : T) → calls s r t
+      → TakesLentStep span_of Asks (λ _. GivesItem found_of) (inner s) (option_map item r) (inner t))
+      (x : Search) (s : T) (engine : (shown (inner s).steps.asker).engine ≡ e)
+      (known : (shown (inner s).steps.asker).known ≡ None) (walk : lent_walk (inner s) ≡ fresh x)
+      (going : (inner s).steps.done ≡ false) where
+    in-steps : (xs : List R) (t : T) → Yields calls s xs t
+        → Yields (takes_steps span_of Asks (λ q. GivesItem found_of)) (lent_state (inner s)) (map item xs)
+        (lent_state (inner t))
+    in-steps xs t ran =
+        calls-in span_of Asks (λ q. GivesItem found_of) found_of says (λ q. keeping shown q) Looks Is looks calls
+        (λ q. lent_state (inner q)) item (λ p r q st. (is p r q st).step) xs s t ran
+
+    -- its calls lead from cache to cache by the searches of their steps, and make one at least
+    pub first-leaves : (xs : List R) (t : T) (r : Option R) (u : T) → Yields calls s xs t → calls t r u
+        → (first : Answer Found) × (rest : List (Answer Found))
+        × StepsLead span_of Looks (fresh x) (record { cache = (inner s).cache.now; known = None }) (first ∷ rest)
+        (keeping shown (lent_state (inner u)).asker)
+    first-leaves xs t r u ran st =
+        let k = calls-leave span_of Asks (λ q. GivesItem found_of) found_of says (λ q. keeping shown q) Looks Is looks
+        (map item xs) (lent_state (inner s)) (lent_state (inner t)) (lent_state (inner u)) (option_map item r) going
+        engine (in-steps xs t ran) (is t r u st).step in
+        rw (known, walk) at k
+
+    pub finds-leave : (xs : List R) (t : T) (r : Option R) (u : T) → Yields calls s xs t → calls t r u
+        → FindsLeave (Tells e) (Work e) x (inner s).cache.now (inner u).cache.now
+    finds-leave xs t r u ran st =
+        let k = first-leaves xs t r u ran st in
+        record {
+          known = option_map found_of (shown (inner u).steps.asker).known;
+          left = record { answers = k.0 ∷ k.1; steps = k.2 };
+        }
+
+    -- and past all matches where they go on to none
+    pub finds-to_end : (xs : List R) (ms : List Match) (t u : T) → map item xs ≡ map (λ m. Ok m) ms
+        → Yields calls s xs t → calls t None u
+        → FindsLeaveAtEnd (Tells e) (Work e) x (map found_of ms) (inner s).cache.now (inner u).cache.now
+    finds-to_end xs ms t u same ran st =
+        let k = all-leave span_of Asks (λ q. GivesItem found_of) found_of says (λ q. keeping shown q) Looks Is looks ms
+        (lent_state (inner s)) (lent_state (inner t)) (lent_state (inner u)) going engine
+        (subst (λ (l : List (Result Match SearchError)). Yields (takes_steps span_of Asks (λ q. GivesItem found_of))
+        (lent_state (inner s)) l (lent_state (inner t))) same (in-steps xs t ran)) (is t None u st).step in
+        record {
+          known = option_map found_of (shown (inner u).steps.asker).known;
+          left = record { steps = rw (known, walk) at k };
+        }
+
+-- ---- captures
+
+-- Steps of an engine e over captures, with a cache.
+module _ {E C : Type 0} (nfa : E → Automaton) (Tells : E → Search → Answer Row → Type 0)
+    (Work : E → Search → Answer Row → C → C → Type 0) (e : E) where
+  abbrev AsksRow : With (Catching E) C → Search → Answer Row → With (Catching E) C → Type 0
+  AsksRow = AsksEngineRow nfa Tells Work
+
+  abbrev Calls : Steps (With (Catching E) C) → Option (Result Captured SearchError) → Steps (With (Catching E) C)
+      → Type 0
+  Calls = takes_steps row_span AsksRow (λ q. GivesCaptures q.asker)
+
+  abbrev LooksRow : C → Search → Answer Row → C → Type 0
+  LooksRow = DoesSearch (Tells e) (Work e)
+
+  looks-row : (s : With (Catching E) C) (t : Search) (a : Answer Row) (s' : With (Catching E) C)
+      → s.asker.finder ≡ e → AsksRow s t a s' → LooksRow s.cache t a s'.cache × (s'.asker.finder ≡ e)
+  looks-row s t a s' is asked = (
+    record {
+      tells = subst (λ (b : E). Tells b t a) is asked.tells;
+      work = subst (λ (b : E). Work b t a s.cache s'.cache) is asked.work;
+    },
+    asked.engine ∙ is,
+  )
+
+  says-row : (s : With (Catching E) C) (a : Answer Row) (r : Option (Result Captured SearchError))
+      → GivesCaptures s.asker a r → Says row_of a (λ q. Unit {0}) r
+  says-row s a r gives = said r (copy-says (λ b. Unit {0}) s.asker a r gives tt)
+    where
+      said : (r : Option (Result Captured SearchError))
+          → Says row_of a (λ q. Unit {0} ⊎ ((q ≡ Memory) × (row : Row) × Unit {0})) r
+          → Says row_of a (λ q. Unit {0}) r
+      said None h = h
+      said (Some (Ok c)) h = h
+      said (Some (Err q)) h = tt
+
+  module _ (x : Search) (s : Steps (With (Catching E) C)) (engine : s.asker.asker.finder ≡ e)
+      (walk : steps_walk s ≡ fresh x) (going : s.done ≡ false) where
+    -- their calls lead from cache to cache by the searches of the steps
+    pub catches-leave : (t : Steps (With (Catching E) C)) → CallsLead Calls s t
+        → Leaves row_span LooksRow x s.asker.cache t.asker.cache
+    catches-leave t lead =
+        let k = calls-leave row_span AsksRow (λ q. GivesCaptures q.asker) row_of says-row (λ q. q.cache) LooksRow
+        (λ q. q.asker.finder ≡ e) looks-row lead.items s lead.last t lead.item going engine lead.ran lead.over in
+        record { answers = k.0 ∷ k.1; steps = rw walk at k.2 }
+
+    -- and past all matches where they go on to none
+    pub catches-to_end : (cs : List Captured) (t : Steps (With (Catching E) C)) → DrainsAll Calls s cs t
+        → LeavesAtEnd row_span LooksRow x (map row_of cs) s.asker.cache t.asker.cache
+    catches-to_end cs t all =
+        let k = all-leave row_span AsksRow (λ q. GivesCaptures q.asker) row_of says-row (λ q. q.cache) LooksRow
+        (λ q. q.asker.finder ≡ e) looks-row cs s all.last t going engine all.ran all.over in
+        record { steps = rw walk at k }
+
+    -- so where a result holds them
+    pub all-to_end : {V : Type 0} (r : Result V SearchError) (items : V → List Captured)
+        (t : Steps (With (Catching E) C)) → IfOk r (λ v. DrainsAll Calls s (items v) t)
+        → IfOk r (λ v. LeavesAtEnd row_span LooksRow x (map row_of (items v)) s.asker.cache t.asker.cache)
+    all-to_end (Ok v) items t all = catches-to_end (items v) t all
+    all-to_end (Err error) items t all = tt
