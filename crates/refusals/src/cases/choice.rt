@@ -86,8 +86,8 @@ fn expect_list(
     expect(wants.next().is_none(), "the length of the chosen list")
 }
 
-/// A refused replacement changes nothing: by an NFA of more slots, and by one of more states, slots and patterns, so that
-/// the cache of the PikeVM fits neither.
+/// A refused replacement changes nothing: by an NFA of more slots, and by one of more states, slots and patterns, so
+/// that the cache of the PikeVM fits neither.
 pub fn replacements(alloc: Global, seen: &mut Seen) -> Result<(), Wrong> {
     replaced_by_groups(alloc, seen)?;
     replaced_by_foo_bar(alloc, seen)

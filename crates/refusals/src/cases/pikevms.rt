@@ -18,8 +18,8 @@ fn expect_piked(groups: &PikeVM, cache: &mut pikevm::Cache) -> Result<(), Wrong>
     expect(are_groups(pattern, &slots), "the slots of a PikeVM")
 }
 
-/// A refused reset leaves a cache that fits what it fitted: a reset to an engine all of whose numbers are larger, and to
-/// one that has more states and fewer slots.
+/// A refused reset leaves a cache that fits what it fitted: a reset to an engine all of whose numbers are larger, and
+/// to one that has more states and fewer slots.
 pub fn resets(alloc: Global, seen: &mut Seen) -> Result<(), Wrong> {
     let groups = engines::pikevm(alloc, seen, "groups")?;
     expect_reset_to(alloc, seen, &groups, "foo_bar", true)?;

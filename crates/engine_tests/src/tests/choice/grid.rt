@@ -1,5 +1,5 @@
-//! Both engines and `Choice` over each sample: each span of some haystacks, four ways to search it, and three capacities
-//! of `Choice`. Both engines have ample memory, so neither refuses a search.
+//! Both engines and `Choice` over each sample: each span of some haystacks, four ways to search it, and three
+//! capacities of `Choice`. Both engines have ample memory, so neither refuses a search.
 
 use super::super::expected::engines_of;
 use super::super::shapes::nfa_copy;
