@@ -22,7 +22,7 @@ use Rattle.nfa_paths.specs.FirstPaths.{IsFirst, FirstAmong}
 use Rattle.nfa_paths.specs.Paths.{pattern_of, slot_of, node_at, is_match, capture, edges_of, edges, byte_at, target_on, first_target}
 use Rattle.nfa_paths.proofs.PathLemmas.{IsFirst-dead, IsFirst-target, IsFirst-step}
 use Rattle.nfa_compiler.specs.declared.block.Site.{Site}
-use Rattle.nfa_compiler.specs.Blocks.{match_at, slot_in, moved, Stands, IsBlock}
+use Rattle.nfa_compiler.specs.Blocks.{look_of, match_at, slot_in, moved, Stands, IsBlock}
 use Rattle.nfa_compiler.proofs.WriteLemmas.{write_of, writes_along}
 use Rattle.nfa_compiler.proofs.LookLemmas.{look-same}
 
@@ -367,11 +367,11 @@ module _ (a : Automaton) (x : Search) (nfa : Nfa) (s : Site) (block : IsBlock a.
     walk-from under (their.Look l next) is stands =
         by_holds (holds l x.haystack i) refl
       where
-        node : node_at a (s.base + q) ≡ Look stands.1.0 (s.base + next)
-        node = stands.1.2
+        node : node_at a (s.base + q) ≡ Look (look_of l) (s.base + next)
+        node = stands.1
 
-        same : look_holds stands.1.0 x.haystack i ≡ holds l x.haystack i
-        same = look-same l stands.1.0 x.haystack i stands.1.1 (omega arith)
+        same : look_holds (look_of l) x.haystack i ≡ holds l x.haystack i
+        same = look-same l x.haystack i (omega arith)
 
         leads_on : edges a x v ≡ (if holds l x.haystack i then (s.base + next, i) ∷ [] else [])
         leads_on = ap (λ k. edges_of x k i) node ∙ ap (λ b. if b then (s.base + next, i) ∷ [] else []) same

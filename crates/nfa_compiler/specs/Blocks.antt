@@ -15,26 +15,26 @@ use Rattle.thompson_nfa.specs.Automaton.{Node}
 use Rattle.thompson_nfa.specs.Automaton.Node.{ByteRange, Sparse, Look, BinaryUnion, Capture, Fail, Match}
 use Rattle.nfa_compiler.specs.declared.block.Site.{Site}
 
--- the assertion of this crate's NFAs that is meant, if there is one
-abbrev pub look_of : theirs.Look → Option ours.Look
-look_of their_look.Start = Some our_look.Start
-look_of their_look.End = Some our_look.End
-look_of their_look.WordAscii = Some our_look.WordAscii
-look_of their_look.WordAsciiNegate = Some our_look.WordAsciiNegate
-look_of their_look.WordUnicode = Some our_look.WordUnicode
-look_of their_look.StartLf = None
-look_of their_look.EndLf = None
-look_of their_look.StartCrlf = None
-look_of their_look.EndCrlf = None
-look_of their_look.WordUnicodeNegate = None
-look_of their_look.WordStartAscii = None
-look_of their_look.WordEndAscii = None
-look_of their_look.WordStartUnicode = None
-look_of their_look.WordEndUnicode = None
-look_of their_look.WordStartHalfAscii = None
-look_of their_look.WordEndHalfAscii = None
-look_of their_look.WordStartHalfUnicode = None
-look_of their_look.WordEndHalfUnicode = None
+-- the assertion of these NFAs that is meant
+abbrev pub look_of : theirs.Look → ours.Look
+look_of their_look.Start = our_look.Start
+look_of their_look.End = our_look.End
+look_of their_look.StartLf = our_look.StartLF
+look_of their_look.EndLf = our_look.EndLF
+look_of their_look.StartCrlf = our_look.StartCRLF
+look_of their_look.EndCrlf = our_look.EndCRLF
+look_of their_look.WordAscii = our_look.WordAscii
+look_of their_look.WordAsciiNegate = our_look.WordAsciiNegate
+look_of their_look.WordUnicode = our_look.WordUnicode
+look_of their_look.WordUnicodeNegate = our_look.WordUnicodeNegate
+look_of their_look.WordStartAscii = our_look.WordStartAscii
+look_of their_look.WordEndAscii = our_look.WordEndAscii
+look_of their_look.WordStartUnicode = our_look.WordStartUnicode
+look_of their_look.WordEndUnicode = our_look.WordEndUnicode
+look_of their_look.WordStartHalfAscii = our_look.WordStartHalfAscii
+look_of their_look.WordEndHalfAscii = our_look.WordEndHalfAscii
+look_of their_look.WordStartHalfUnicode = our_look.WordStartHalfUnicode
+look_of their_look.WordEndHalfUnicode = our_look.WordEndHalfUnicode
 
 -- where the Match of the pattern stands: behind the states that were moved
 abbrev pub match_at : Site → ℕ
@@ -58,7 +58,7 @@ Stands ts s (their.Split first second) node =
 Stands ts s (their.Save slot next) node =
     (2 ≤ slot) × (next < s.size) × (node ≡ Capture (s.base + next) (slot_in s slot))
 Stands ts s (their.Look l next) node =
-    (next < s.size) × ((k : ours.Look) × (look_of l ≡ Some k) × (node ≡ Look k (s.base + next)))
+    (next < s.size) × (node ≡ Look (look_of l) (s.base + next))
 Stands ts s their.Match node = node ≡ Capture (match_at s) (slot_in s 1)
 Stands ts s their.Fail node = node ≡ Fail
 

@@ -9,7 +9,6 @@ use Rattle.regex_search_core.specs.declared.search.MatchKind.{MatchKind}
 use Rattle.regex_search_core.specs.declared.search.MatchKind.TheVariants.{LeftmostFirst}
 use Rattle.thompson_nfa.specs.Automaton.{Automaton}
 use Rattle.thompson_nfa.specs.Looks.{look_holds}
-use Rattle.thompson_nfa.specs.declared.look.Look as ours
 use Rattle.nfa_paths.specs.Paths.{is_utf8_empty, IsAnswer, IsMatchAnswer, IsFoundAnswer}
 use Rattle.nfa_compiler.specs.Blocks.{look_of}
 use Rattle.nfa_compiler.specs.Compiled.{AreMeant, IsCompiled, IsNfaOf}
@@ -18,10 +17,9 @@ use Rattle.regex_search_core.specs.declared.search.Anchored.TheVariants.{No}
 use Rattle.regex_syntax.specs.declared.Config.{Config}
 use Rattle.nfa_compiler.specs.Patterns.{Hit, expected, slots_of, found_in}
 
--- an assertion holds where the one that stands for it does
+-- each assertion holds where the one that stands for it does
 abbrev pub LooksAgree : Type 0
-LooksAgree = (l : theirs.Look) (k : ours.Look) (hay : List ℕ) (i : ℕ) → look_of l ≡ Some k → i ≤ length hay
-    → look_holds k hay i ≡ holds l hay i
+LooksAgree = (l : theirs.Look) (hay : List ℕ) (i : ℕ) → i ≤ length hay → look_holds (look_of l) hay i ≡ holds l hay i
 
 -- what a search is to find in the rest of a haystack
 abbrev pub hit : List Re → Automaton → Search → Option Hit

@@ -82,23 +82,6 @@ impl Site {
         Ok(made)
     }
 
-    /// The assertion.
-    fn look(self, look: regex_hir::Look) -> Result<Look, CompileError>
-        ensures { IfOk result (λ made. look_of look ≡ Some made) }
-    {
-        match look {
-            regex_hir::Look::Start => Ok(Look::Start),
-            regex_hir::Look::End => Ok(Look::End),
-            regex_hir::Look::WordAscii => Ok(Look::WordAscii),
-            regex_hir::Look::WordAsciiNegate => Ok(Look::WordAsciiNegate),
-            regex_hir::Look::WordUnicode => Ok(Look::WordUnicode),
-            _ => Err(CompileError::UnsupportedLook {
-                pattern: self.pattern.as_usize(),
-                look,
-            }),
-        }
-    }
-
     /// The state, moved.
     fn state(self, alloc: Global, nfa: &Nfa, id: u32) -> Result<State, CompileError>
         requires { id < vec_len nfa.now.states }
@@ -121,7 +104,7 @@ impl Site {
                 slot: self.slot(slot)?,
             }),
             regex_nfa::State::Look { look, next } => Ok(State::Look {
-                look: self.look(look)?,
+                look: look_of(look),
                 next: self.target(next)?,
             }),
             regex_nfa::State::Match => Ok(State::Capture {
@@ -182,5 +165,31 @@ impl Site {
         let slot = self.pattern.as_usize() * 2;
         let start = push(states, State::Capture { next, slot })?;
         Ok(start)
+    }
+}
+
+/// The assertion that stands for this one.
+fn look_of(look: regex_hir::Look) -> Look
+    ensures { result ≡ look_of look }
+{
+    match look {
+        regex_hir::Look::Start => Look::Start,
+        regex_hir::Look::End => Look::End,
+        regex_hir::Look::StartLf => Look::StartLF,
+        regex_hir::Look::EndLf => Look::EndLF,
+        regex_hir::Look::StartCrlf => Look::StartCRLF,
+        regex_hir::Look::EndCrlf => Look::EndCRLF,
+        regex_hir::Look::WordAscii => Look::WordAscii,
+        regex_hir::Look::WordAsciiNegate => Look::WordAsciiNegate,
+        regex_hir::Look::WordUnicode => Look::WordUnicode,
+        regex_hir::Look::WordUnicodeNegate => Look::WordUnicodeNegate,
+        regex_hir::Look::WordStartAscii => Look::WordStartAscii,
+        regex_hir::Look::WordEndAscii => Look::WordEndAscii,
+        regex_hir::Look::WordStartUnicode => Look::WordStartUnicode,
+        regex_hir::Look::WordEndUnicode => Look::WordEndUnicode,
+        regex_hir::Look::WordStartHalfAscii => Look::WordStartHalfAscii,
+        regex_hir::Look::WordEndHalfAscii => Look::WordEndHalfAscii,
+        regex_hir::Look::WordStartHalfUnicode => Look::WordStartHalfUnicode,
+        regex_hir::Look::WordEndHalfUnicode => Look::WordEndHalfUnicode,
     }
 }

@@ -1,5 +1,4 @@
 //! Why no NFA was made.
-use regex_hir::Look;
 use regex_search_core::Refused;
 use std::alloc::{AllocError, AllocFailed};
 use thiserror::Error;
@@ -22,12 +21,6 @@ pub enum CompileError {
     Compile {
         pattern: usize,
         error: regex_compile::Error,
-    },
-    /// The pattern of this number has an assertion that an NFA of `thompson_nfa` has not.
-    #[error("pattern {pattern} has the assertion {look:?}, which is not supported")]
-    UnsupportedLook {
-        pattern: usize,
-        look: Look,
     },
     /// The tree of the pattern of this number has a group of number 0, which is the match itself.
     #[error("pattern {pattern} has a group of number 0")]

@@ -1,6 +1,7 @@
 //! Characters of UTF-8 beside an offset.
 ghost use Rattle.std.specs.Prelude.{◌≡◌, ◌≤◌, length, chars};
 ghost use Rattle.thompson_nfa.specs.Characters.{char_of, char_of_len_before, char_of_len_after, char_before, char_after, is_word_char, is_some_word, only};
+ghost use Rattle.thompson_nfa.specs.Looks.{is_whole_before, is_whole_after};
 
 use unicode::perl::is_word_code;
 
@@ -24,6 +25,22 @@ pub(crate) fn is_word_char_after(haystack: &[u8], at: usize) -> bool
         Some(c) => is_word_char(c),
         None => false,
     }
+}
+
+/// Whether the haystack starts at the position, or a whole character ends there.
+pub(crate) fn is_whole_before(haystack: &[u8], at: usize) -> bool
+    requires { at ≤ length haystack.now }
+    ensures { result ≡ is_whole_before haystack.now at }
+{
+    at == 0 || char_before(haystack, at).is_some()
+}
+
+/// Whether the haystack ends at the position, or a whole character begins there.
+pub(crate) fn is_whole_after(haystack: &[u8], at: usize) -> bool
+    requires { at ≤ length haystack.now }
+    ensures { result ≡ is_whole_after haystack.now at }
+{
+    at == haystack.len() || char_after(haystack, at).is_some()
 }
 
 /// Whether the character is of words, by Unicode Technical Standard 18, Annex C.

@@ -1,25 +1,57 @@
 //! Assertions, and where they hold.
 ghost use Rattle.std.specs.Prelude.{◌≡◌, ◌≤◌, length};
-ghost use Rattle.thompson_nfa.specs.Looks.{look_holds, is_word_before, is_word_after, is_word_byte};
+ghost use Rattle.thompson_nfa.specs.Looks.{look_holds, is_byte_before, is_byte_at, is_word_before, is_word_after, is_word_byte};
+ghost use Rattle.thompson_nfa.specs.Looks.{is_crlf_start, is_crlf_end, is_not_word_boundary};
 
-use crate::characters::{is_word_char_after, is_word_char_before};
+use crate::characters::{is_whole_after, is_whole_before, is_word_char_after, is_word_char_before};
 
 /// An assertion about a position of a haystack: an offset from 0 to the haystack's length.
+///
+/// A word byte is one of 0-9, A-Z, `_` and a-z. A word character is Alphabetic, a Mark, a Decimal_Number,
+/// Connector_Punctuation, U+200C or U+200D, as in Unicode Technical Standard 18, Annex C.
+///
+/// Assertions on characters look at the character whose UTF-8 ends at the position and at the one whose UTF-8 begins
+/// there. At an edge of the haystack and in bytes that are not UTF-8 there is no character, so no word character. A
+/// side is broken if there are bytes on it, but no whole character.
 #[derive(Clone, Copy, Debug, PartialEq, Eq, Hash)]
 pub enum Look {
-    /// The position is 0.
+    /// `\A`: the position is 0.
     Start,
-    /// The position is the haystack's length.
+    /// `\z`: the position is the haystack's length.
     End,
-    /// Just one of the bytes before and after the position is a word byte: 0-9, A-Z, `_` or a-z.
+    /// `(?m:^)`: the position is 0, or after `\n`.
+    StartLF,
+    /// `(?m:$)`: the position is the haystack's length, or before `\n`.
+    EndLF,
+    /// `(?mR:^)`: the position is 0, after `\n`, or after `\r` and not before `\n`.
+    StartCRLF,
+    /// `(?mR:$)`: the position is the haystack's length, before `\r`, or before `\n` and not after `\r`.
+    EndCRLF,
+    /// `(?-u:\b)`: just one of the bytes before and after the position is a word byte.
     WordAscii,
-    /// Both of the bytes before and after the position are word bytes, or neither is.
+    /// `(?-u:\B)`: both of the bytes before and after the position are word bytes, or neither is.
     WordAsciiNegate,
-    /// Just one of the characters whose UTF-8 ends or begins at the position is a word character:
-    /// Alphabetic, a Mark, a Decimal_Number, Connector_Punctuation, U+200C or U+200D, as in Unicode
-    /// Technical Standard 18, Annex C. Where no character ends or begins, as at an edge of the haystack
-    /// or in bytes that are not UTF-8, there is no word character.
+    /// `\b`: just one of the characters before and after the position is a word character.
     WordUnicode,
+    /// `\B`: both of the characters before and after the position are word characters, or neither is, and no side is
+    /// broken. Inside a character neither this nor [`Look::WordUnicode`] holds.
+    WordUnicodeNegate,
+    /// `(?-u:\b{start})`: the byte after the position is a word byte, the one before is not.
+    WordStartAscii,
+    /// `(?-u:\b{end})`: the byte before the position is a word byte, the one after is not.
+    WordEndAscii,
+    /// `\b{start}`: the character after the position is a word character, the one before is not.
+    WordStartUnicode,
+    /// `\b{end}`: the character before the position is a word character, the one after is not.
+    WordEndUnicode,
+    /// `(?-u:\b{start-half})`: the byte before the position is no word byte.
+    WordStartHalfAscii,
+    /// `(?-u:\b{end-half})`: the byte after the position is no word byte.
+    WordEndHalfAscii,
+    /// `\b{start-half}`: the character before the position is no word character, and that side is not broken.
+    WordStartHalfUnicode,
+    /// `\b{end-half}`: the character after the position is no word character, and that side is not broken.
+    WordEndHalfUnicode,
 }
 
 /// Whether the assertion holds at the position `at`, over the whole haystack. The caller owes that
@@ -31,12 +63,78 @@ pub fn look_matches(look: Look, haystack: &[u8], at: usize) -> bool
     match look {
         Look::Start => at == 0,
         Look::End => at == haystack.len(),
+        Look::StartLF => at == 0 || is_byte_before(haystack, at, b'\n'),
+        Look::EndLF => at == haystack.len() || is_byte_at(haystack, at, b'\n'),
+        Look::StartCRLF => is_crlf_start(haystack, at),
+        Look::EndCRLF => is_crlf_end(haystack, at),
         Look::WordAscii => word_before(haystack, at) != word_after(haystack, at),
         Look::WordAsciiNegate => word_before(haystack, at) == word_after(haystack, at),
         Look::WordUnicode => {
             is_word_char_before(haystack, at) != is_word_char_after(haystack, at)
         }
+        Look::WordUnicodeNegate => is_not_word_boundary(haystack, at),
+        Look::WordStartAscii => !word_before(haystack, at) && word_after(haystack, at),
+        Look::WordEndAscii => word_before(haystack, at) && !word_after(haystack, at),
+        Look::WordStartUnicode => {
+            !is_word_char_before(haystack, at) && is_word_char_after(haystack, at)
+        }
+        Look::WordEndUnicode => {
+            is_word_char_before(haystack, at) && !is_word_char_after(haystack, at)
+        }
+        Look::WordStartHalfAscii => !word_before(haystack, at),
+        Look::WordEndHalfAscii => !word_after(haystack, at),
+        Look::WordStartHalfUnicode => {
+            is_whole_before(haystack, at) && !is_word_char_before(haystack, at)
+        }
+        Look::WordEndHalfUnicode => {
+            is_whole_after(haystack, at) && !is_word_char_after(haystack, at)
+        }
     }
+}
+
+/// Whether this byte stands just before the position.
+fn is_byte_before(haystack: &[u8], at: usize, byte: u8) -> bool
+    requires { at ≤ length haystack.now }
+    ensures { result ≡ is_byte_before haystack.now at byte }
+{
+    at > 0 && haystack[at - 1] == byte
+}
+
+/// Whether this byte stands at the position.
+fn is_byte_at(haystack: &[u8], at: usize, byte: u8) -> bool
+    ensures { result ≡ is_byte_at haystack.now at byte }
+{
+    at < haystack.len() && haystack[at] == byte
+}
+
+/// Whether a line starts at the position, where `\r`, `\n` and `\r\n` end one.
+fn is_crlf_start(haystack: &[u8], at: usize) -> bool
+    requires { at ≤ length haystack.now }
+    ensures { result ≡ is_crlf_start haystack.now at }
+{
+    at == 0
+        || is_byte_before(haystack, at, b'\n')
+        || (is_byte_before(haystack, at, b'\r') && !is_byte_at(haystack, at, b'\n'))
+}
+
+/// Whether a line ends at the position, where `\r`, `\n` and `\r\n` end one.
+fn is_crlf_end(haystack: &[u8], at: usize) -> bool
+    requires { at ≤ length haystack.now }
+    ensures { result ≡ is_crlf_end haystack.now at }
+{
+    at == haystack.len()
+        || is_byte_at(haystack, at, b'\r')
+        || (is_byte_at(haystack, at, b'\n') && !is_byte_before(haystack, at, b'\r'))
+}
+
+/// Whether both of the characters beside the position are of words, or neither is, and no side is broken.
+fn is_not_word_boundary(haystack: &[u8], at: usize) -> bool
+    requires { at ≤ length haystack.now }
+    ensures { result ≡ is_not_word_boundary haystack.now at }
+{
+    is_whole_before(haystack, at)
+        && is_whole_after(haystack, at)
+        && is_word_char_before(haystack, at) == is_word_char_after(haystack, at)
 }
 
 /// Whether a word byte stands just before the position.

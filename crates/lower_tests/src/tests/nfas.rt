@@ -122,9 +122,22 @@ fn expect_simple(rt: &impl Abort, nfa: &NFA, has_empty: bool, patterns: usize) {
 const LOOKS: &[(Look, &str)] = &[
     (Look::Start, "Start"),
     (Look::End, "End"),
+    (Look::StartLF, "StartLF"),
+    (Look::EndLF, "EndLF"),
+    (Look::StartCRLF, "StartCRLF"),
+    (Look::EndCRLF, "EndCRLF"),
     (Look::WordAscii, "WordAscii"),
     (Look::WordAsciiNegate, "WordAsciiNegate"),
     (Look::WordUnicode, "WordUnicode"),
+    (Look::WordUnicodeNegate, "WordUnicodeNegate"),
+    (Look::WordStartAscii, "WordStartAscii"),
+    (Look::WordEndAscii, "WordEndAscii"),
+    (Look::WordStartUnicode, "WordStartUnicode"),
+    (Look::WordEndUnicode, "WordEndUnicode"),
+    (Look::WordStartHalfAscii, "WordStartHalfAscii"),
+    (Look::WordEndHalfAscii, "WordEndHalfAscii"),
+    (Look::WordStartHalfUnicode, "WordStartHalfUnicode"),
+    (Look::WordEndHalfUnicode, "WordEndHalfUnicode"),
 ];
 
 #[test]
