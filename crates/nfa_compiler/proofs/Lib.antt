@@ -8,3 +8,7 @@ pub mod CompiledLemmas
 pub mod CharLemmas
 pub mod MeantLemmas
 pub mod TextLemmas
+pub mod BoundLemmas
+pub mod ExistsLemmas
+pub mod NameLemmas
+pub mod GroupLemmas

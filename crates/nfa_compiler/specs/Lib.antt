@@ -1,5 +1,9 @@
+pub mod Settings
+pub mod Rejected
 pub mod Patterns
 pub mod Blocks
 pub mod Added
 pub mod Compiled
 pub mod Laws
+pub mod KindLaws
+pub mod NameLaws
