@@ -1,6 +1,9 @@
 //! Compares what a PikeVM finds by a compiled NFA with what the crate regex finds.
 #![tactic(auto)]
 
+mod errors;
+
+use crate::errors::compare_errors;
 use anyhow::{Result, bail};
 use nfa_compiler::{Compiler, Config};
 use nfa_engines::pikevm::PikeVM;
@@ -70,7 +73,7 @@ const HAYSTACKS: [&str; 14] = [
     "xyz\na\nb",
 ];
 
-/// What our search gives for the first match, and how many matches there are.
+/// The slots of the first match by our search, and the spans of all matches.
 fn ours(alloc: Global, pattern: &str, haystack: &str) -> Result<String> {
     let nfa = Compiler::new().build(alloc, pattern)?;
     let slot_len = nfa.group_info().slot_len();
@@ -93,7 +96,7 @@ fn ours(alloc: Global, pattern: &str, haystack: &str) -> Result<String> {
     Ok(text)
 }
 
-/// What the crate regex gives.
+/// The same by the crate regex.
 fn theirs(alloc: Global, pattern: &str, haystack: &str) -> Result<String> {
     let regex = Regex::new(alloc, pattern)?;
     let mut matcher = regex.matcher(alloc)?;
@@ -135,6 +138,7 @@ fn main(rt: HostRuntime) -> Result<()> {
         }
     }
     println!(rt; "{same} the same, {different} different")?;
+    println!(rt; "{} errors shown as expected", compare_errors(alloc)?)?;
     if different > 0 {
         bail!("answers differ");
     }
