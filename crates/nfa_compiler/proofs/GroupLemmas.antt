@@ -1,14 +1,14 @@
 -- The span that captures of a hit give for an explicit group is that of the positions last written for it.
-use Rattle.std.proofs.Common.{◌≡◌, ℕ, ◌+◌, ◌*◌, ◌-◌, ◌≤◌, ◌<◌, List, map, take, length, refl, sym, ap, ap₂, ◌∙◌, subst, arith, ne_eqb}
-use Rattle.std.specs.Prelude.{Option, None, Some, [], option_and_then, if◌then◌else◌, ◌==◌, nat_lt}
-use Rattle.std.specs.List.{sum_by, range_with_len}
+use Rattle.std.proofs.Common.{◌≡◌, ℕ, ◌+◌, ◌*◌, ◌-◌, ◌≤◌, ◌<◌, inl, inr, Bool, List, map, take, length, refl, sym, ap, ap₂, ◌∙◌, subst, arith, ne_eqb}
+use Rattle.std.specs.Prelude.{Option, None, Some, [], option_and_then, option_map, if◌then◌else◌, ◌==◌, nat_lt, position}
+use Rattle.std.specs.List.{position_or_len, sum_by, range_with_len}
 use Rattle.std.specs.Option.{option_or}
-use Rattle.std.proofs.lemmas.Bool.{lt-ltb}
+use Rattle.std.proofs.lemmas.Bool.{cases_lt, le-ltb, lt-ltb}
 use Rattle.std.proofs.lemmas.List.Sums.{sum_by_more, sum_by-take-le}
 use Rattle.std.proofs.lemmas.Option.{slice_get-get_or}
 use Rattle.std.proofs.lemmas.List.FromFn.{get_or-map-range_with_len, length-map-range_with_len}
-use Rattle.regex_search_core.specs.Groups.{groups_at, slot_at, slot_count}
-use Rattle.regex_search_core.specs.Slots.{group_span, offset_at, span_at}
+use Rattle.regex_search_core.specs.Groups.{group_named, groups_at, is_named, slot_at, slot_count}
+use Rattle.regex_search_core.specs.Slots.{group_span, named_span, offset_at, span_at}
 use Rattle.regex_hir.specs.Find.{last_write}
 use Rattle.thompson_nfa.specs.Automaton.{Automaton}
 use Rattle.nfa_compiler.specs.NameLaws.{captures_of, span_between}
@@ -84,3 +84,47 @@ group-written nfa h group known low high =
     (omega arith))
     (holds groups h known (behind groups h known + 2 * (group - 1) + 1) (2 * group + 1) (omega arith) (omega arith)
     (omega arith))
+
+-- names
+
+position-known : {X : Type 0} (test : X → Bool) (xs : List X) (k : ℕ) → position test xs ≡ Some k → k < length xs
+position-known test xs k e = elim (cases_lt (position_or_len test xs) (length xs)) [
+  | inl less ↦
+      let at = rw (lt-ltb (position_or_len test xs) (length xs) less) at e in
+      let same : position_or_len test xs ≡ k = only (position_or_len test xs) k at in
+      omega arith
+  | inr past ↦ absurd (none k (rw (le-ltb (position_or_len test xs) (length xs) past) at e))
+]
+  where
+    only : (a b : ℕ) → Some a ≡ Some b → a ≡ b
+    only a b n = cc
+
+    none : (i : ℕ) → None ≡ Some i → ⊥
+    none i n = cc
+
+group-known : (groups : List (List (Option (List ℕ)))) (pattern : ℕ) (name : List ℕ) (group : ℕ)
+    → group_named groups pattern name ≡ Some group → (1 ≤ group) × (group ≤ length (groups_at groups pattern))
+group-known groups pattern name group e = of (position (is_named name) (groups_at groups pattern)) refl e
+  where
+    only : (a b : ℕ) → Some a ≡ Some b → a ≡ b
+    only a b n = cc
+
+    none : (i : ℕ) → None ≡ Some i → ⊥
+    none i n = cc
+
+    of : (o : Option ℕ) → position (is_named name) (groups_at groups pattern) ≡ o
+        → option_map (λ place. place + 1) o ≡ Some group → (1 ≤ group) × (group ≤ length (groups_at groups pattern))
+    of None at is = absurd (none group is)
+    of (Some k) at is =
+        let same : k + 1 ≡ group = only (k + 1) group is in
+        let less = position-known (is_named name) (groups_at groups pattern) k at in
+        (omega arith, omega arith)
+
+pub name-written : (nfa : Automaton) (h : Hit) (name : List ℕ) (group : ℕ) → h.pattern < length nfa.groups
+    → group_named nfa.groups h.pattern name ≡ Some group
+    → named_span (captures_of nfa h) name
+    ≡ span_between (last_write h.trace.writes (2 * group)) (last_write h.trace.writes (2 * group + 1))
+name-written nfa h name group known named =
+    let bounds = group-known nfa.groups h.pattern name group named in
+    ap (option_and_then (group_span (captures_of nfa h))) named
+    ∙ group-written nfa h group known bounds.0 bounds.1

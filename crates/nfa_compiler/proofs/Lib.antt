@@ -12,3 +12,6 @@ pub mod BoundLemmas
 pub mod ExistsLemmas
 pub mod NameLemmas
 pub mod GroupLemmas
+pub mod AllLemmas
+pub mod AllSearchLemmas
+pub mod CallLemmas

@@ -7,3 +7,5 @@ pub mod Compiled
 pub mod Laws
 pub mod KindLaws
 pub mod NameLaws
+pub mod AllHits
+pub mod AllLaws

@@ -3,9 +3,9 @@ use Rattle.std.specs.Prelude.{◌≡◌, ℕ, ◌+◌, ◌*◌, ◌≤◌, ◌<�
 use Rattle.std.specs.List.{AllZip}
 use Rattle.regex_hir.specs.Re.{Re}
 use Rattle.regex_hir.specs.Find.{last_write}
-use Rattle.regex_search_core.specs.Groups.{groups_at, slot_count}
+use Rattle.regex_search_core.specs.Groups.{group_named, groups_at, slot_count}
 use Rattle.regex_search_core.specs.Search.{Search}
-use Rattle.regex_search_core.specs.Slots.{Captured, group_span}
+use Rattle.regex_search_core.specs.Slots.{Captured, group_span, named_span}
 use Rattle.regex_search_core.specs.declared.search.Span.{Span}
 use Rattle.regex_syntax.specs.declared.Config.{Config}
 use Rattle.regex_syntax.specs.Grammar.{read}
@@ -50,4 +50,12 @@ GroupsAreWritten =
     → x.end ≡ length x.haystack → hit res nfa x ≡ Some h
     → 1 ≤ group → group ≤ length (groups_at nfa.groups h.pattern)
     → group_span (captures_of nfa h) group
+    ≡ span_between (last_write h.trace.writes (2 * group)) (last_write h.trace.writes (2 * group + 1))
+
+-- So they do for a name: for the first group of this name.
+abbrev pub NamesAreWritten : Type 0
+NamesAreWritten =
+    (res : List Re) (nfa : Automaton) (x : Search) (h : Hit) (name : List ℕ) (group : ℕ) → IsNfaOf res nfa
+    → x.end ≡ length x.haystack → hit res nfa x ≡ Some h → group_named nfa.groups h.pattern name ≡ Some group
+    → named_span (captures_of nfa h) name
     ≡ span_between (last_write h.trace.writes (2 * group)) (last_write h.trace.writes (2 * group + 1))

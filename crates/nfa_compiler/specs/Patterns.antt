@@ -73,3 +73,7 @@ found_in h = option_map found_at h
 -- a match of `regex_hir` as the hit of this pattern
 abbrev pub hit_by : ℕ → Match → Hit
 hit_by pattern m = record { pattern = pattern; start = m.start; trace = m.trace }
+
+-- where a match of `regex_hir` is, as one of pattern 0
+abbrev pub found_by : Match → Found
+found_by m = found_at (hit_by 0 m)

@@ -1,8 +1,10 @@
 //! Searches of a compiled NFA find what its patterns mean. Each function is empty: its contract is the theorem.
+ghost use Rattle.nfa_compiler.specs.AllLaws.{AllHitsAreFindAll, MatchesAreAllHits, MatchesAreAllOfTexts};
+ghost use Rattle.nfa_compiler.specs.AllLaws.{RowsAreAllHits, RowsAreAllOfTexts};
 ghost use Rattle.nfa_compiler.specs.KindLaws.{AnswersIfMatches, FindsIfMatches};
 ghost use Rattle.nfa_compiler.specs.Laws.{AnswersAreHits, FindsHits, LooksAgree, MatchesAreHits, OneHitIsFind};
 ghost use Rattle.nfa_compiler.specs.Laws.{TextsAreAnswered, TextsAreMatched};
-ghost use Rattle.nfa_compiler.specs.NameLaws.{GroupsAreNamed, GroupsAreWritten};
+ghost use Rattle.nfa_compiler.specs.NameLaws.{GroupsAreNamed, GroupsAreWritten, NamesAreWritten};
 
 /// An assertion of an NFA holds where that of the pattern does.
 pub fn assertions_agree()
@@ -29,6 +31,24 @@ pub fn one_hit_is_find()
     ensures { OneHitIsFind }
 {}
 
+/// The matches of a search, as `find_iter` and `find_all` of both engines give them, are all hits of the patterns, from
+/// left to right. So are the captures, with all slots. An empty hit where the last one ended is skipped.
+pub fn iterations_find_all_hits()
+    ensures matches { MatchesAreAllHits }
+    ensures captures { RowsAreAllHits }
+{}
+
+/// The same of texts: an iteration finds all hits of what the grammar reads in them.
+pub fn iterations_find_texts()
+    ensures matches { MatchesAreAllOfTexts }
+    ensures captures { RowsAreAllOfTexts }
+{}
+
+/// All hits of one pattern in a whole haystack are what `find_all` of `regex_hir` gives.
+pub fn all_hits_are_find_all()
+    ensures { AllHitsAreFindAll }
+{}
+
 /// A search of any match kind, `earliest` or not, finds something exactly if some pattern matches somewhere: if the
 /// pattern matches, in the textbook sense, from a position where the search may start.
 pub fn searches_find_if_patterns_match()
@@ -37,8 +57,9 @@ pub fn searches_find_if_patterns_match()
 {}
 
 /// The groups of an NFA have the names that the grammar reads in the texts. The captures of a hit give for a group the
-/// span that the match last wrote for it; `Captures::get_group_by_name` leads from a name to its first group.
+/// span that the match last wrote for it, and for a name that of its first group, as `Captures::get_group_by_name` does.
 pub fn groups_are_those_of_texts()
     ensures names { GroupsAreNamed }
     ensures spans { GroupsAreWritten }
+    ensures named { NamesAreWritten }
 {}

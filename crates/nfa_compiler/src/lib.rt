@@ -11,6 +11,7 @@
 #![tactic(auto)]
 
 mod block;
+pub mod calls;
 mod compiler;
 mod config;
 mod error;
