@@ -66,11 +66,14 @@ const ROWS: [Row; 8] = [
 pub fn compare_errors(alloc: Global) -> Result<usize> {
     for row in &ROWS {
         let config = Config::new().utf8(row.utf8).size_limit(row.size_limit);
-        match Compiler::new().configure(config).build_many(alloc, row.patterns) {
+        match Compiler::new()
+            .configure(config)
+            .build_many(alloc, row.patterns)
+        {
             Ok(_) => bail!("{} was compiled, and not refused", row.shown),
             Err(error) => {
                 let shown = format!(in alloc; "{error}")?;
-                if shown != row.shown {
+                if shown.as_str() != row.shown {
                     bail!("shown: {shown}; expected: {}", row.shown);
                 }
             }
