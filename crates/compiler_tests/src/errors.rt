@@ -4,6 +4,7 @@ use nfa_compiler::{Compiler, Config};
 use std::alloc::Global;
 
 /// Patterns that are refused, the settings that they are compiled by, and the error that is shown.
+#[derive(Drop)]
 struct Row {
     patterns: &'static [&'static str],
     utf8: bool,
