@@ -1,26 +1,76 @@
-//! A search whose contract says what the patterns mean.
-ghost use Rattle.std.specs.Prelude.{◌≡◌, List, false, option_map};
-ghost use Rattle.regex_search_core.specs.Found.{found_of};
-ghost use Rattle.regex_search_core.specs.Search.{search_of};
+//! Calls that are given the text of a pattern: their contracts say what the text means.
+ghost use Rattle.std.specs.Prelude.{◌≡◌, IfOk, false, map, option_map};
+ghost use Rattle.regex_hir.specs.Find.{find, find_all};
 ghost use Rattle.regex_hir.specs.Re.{Re};
-ghost use Rattle.nfa_engines.specs.Engines.{Fits, SameNumbers, kind_of};
-ghost use Rattle.nfa_engines.specs.Paths.{is_utf8_empty};
-ghost use Rattle.nfa_compiler.specs.Compiled.{IsNfaOf};
-ghost use Rattle.nfa_compiler.specs.Laws.{IsLeftmostToTheEnd, hit};
-ghost use Rattle.nfa_compiler.specs.Patterns.{found_in};
+ghost use Rattle.regex_search_core.specs.Found.{found_of};
+ghost use Rattle.nfa_compiler.specs.Compiled.{IsMeant};
+ghost use Rattle.nfa_compiler.specs.Patterns.{found_by};
+ghost use Rattle.nfa_compiler.specs.Settings.{syntax_of};
 
-use nfa_compiler::laws::searches_find_hits;
-use nfa_engines::pikevm::{Cache, PikeVM};
+use anyhow::Result;
+use nfa_compiler::Compiler;
+use nfa_compiler::calls::{match_of_text, matches_of_text};
+use nfa_engines::backtrack::BoundedBacktracker;
+use nfa_engines::pikevm::PikeVM;
 use regex_search_core::{Input, Match};
+use std::alloc::Global;
 
-/// The match of the input: of patterns that mean `res`, what they mean there.
-pub fn find_first(vm: &PikeVM, cache: &mut Cache, input: Input<'_>) -> Option<Match>
-    requires { Fits cache.old vm.now.nfa }
-    ensures found { (res : List Re) → IsNfaOf res vm.now.nfa → is_utf8_empty vm.now.nfa ≡ false
-        → IsLeftmostToTheEnd (kind_of vm.now) (search_of input.entry).earliest (search_of input.entry)
-        → option_map found_of result ≡ found_in (hit res vm.now.nfa (search_of input.entry)) }
-    ensures numbers { SameNumbers cache.old cache.new }
+/// Returns the first match of the pattern in the line, by a PikeVM: the match that the reference matcher finds for the
+/// pattern that the grammar reads in the text.
+///
+/// Requires a compiler that is not in UTF-8 mode and not anchored.
+pub fn find_text(
+    alloc: Global,
+    compiler: &Compiler,
+    pattern: &str,
+    line: &[u8],
+) -> Result<Option<Match>>
+    requires bytes { compiler.now.config.utf8 ≡ false }
+    requires free { compiler.now.config.anchored ≡ false }
+    ensures { IfOk result (λ found. (re : Re) → IsMeant (syntax_of compiler.now) pattern.now re
+        → option_map found_of found ≡ option_map found_by (find re line.now 0)) }
 {
-    searches_find_hits();
-    vm.find(cache, input)
+    let vm = PikeVM::new_from_nfa(compiler.build(alloc, pattern)?)?;
+    let mut cache = vm.create_cache(alloc)?;
+    let found = vm.find(&mut cache, Input::new(line));
+    match_of_text(compiler, pattern, vm.get_nfa(), line, found);
+    Ok(found)
+}
+
+/// The same by a bounded backtracker. Fails if the line is too long for it.
+pub fn try_find_text(
+    alloc: Global,
+    compiler: &Compiler,
+    pattern: &str,
+    line: &[u8],
+) -> Result<Option<Match>>
+    requires bytes { compiler.now.config.utf8 ≡ false }
+    requires free { compiler.now.config.anchored ≡ false }
+    ensures { IfOk result (λ found. (re : Re) → IsMeant (syntax_of compiler.now) pattern.now re
+        → option_map found_of found ≡ option_map found_by (find re line.now 0)) }
+{
+    let engine = BoundedBacktracker::new_from_nfa(compiler.build(alloc, pattern)?)?;
+    let mut cache = engine.create_cache(alloc);
+    let found = engine.try_find(&mut cache, Input::new(line))?;
+    match_of_text(compiler, pattern, engine.get_nfa(), line, found);
+    Ok(found)
+}
+
+/// Returns all matches of the pattern in the line, from left to right.
+pub fn find_all_text(
+    alloc: Global,
+    compiler: &Compiler,
+    pattern: &str,
+    line: &[u8],
+) -> Result<Vec<Match>>
+    requires bytes { compiler.now.config.utf8 ≡ false }
+    requires free { compiler.now.config.anchored ≡ false }
+    ensures { IfOk result (λ found. (re : Re) → IsMeant (syntax_of compiler.now) pattern.now re
+        → map found_of found.items ≡ map found_by (find_all re line.now)) }
+{
+    let vm = PikeVM::new_from_nfa(compiler.build(alloc, pattern)?)?;
+    let mut cache = vm.create_cache(alloc)?;
+    let found = vm.find_all(alloc, &mut cache, Input::new(line))?;
+    matches_of_text(compiler, pattern, vm.get_nfa(), line, &found);
+    Ok(found)
 }

@@ -8,3 +8,10 @@ pub mod CompiledLemmas
 pub mod CharLemmas
 pub mod MeantLemmas
 pub mod TextLemmas
+pub mod BoundLemmas
+pub mod ExistsLemmas
+pub mod NameLemmas
+pub mod GroupLemmas
+pub mod AllLemmas
+pub mod AllSearchLemmas
+pub mod CallLemmas

@@ -138,7 +138,7 @@ module _ (groups : List (List (Option (List ℕ)))) (p : ℕ) (known : p < lengt
   place-low : (s : ℕ) → s < 2 → place_of groups p s ≡ 2 * p + s
   place-low s less = rw (lt-ltb s 2 less) refl
 
-  place-high : (s : ℕ) → 2 ≤ s → place_of groups p s ≡ behind + (s - 2)
+  pub place-high : (s : ℕ) → 2 ≤ s → place_of groups p s ≡ behind + (s - 2)
   place-high s le = rw (le-ltb s 2 le) refl
 
   -- two slots have two places
@@ -194,6 +194,12 @@ module _ (groups : List (List (Option (List ℕ)))) (p : ℕ) (known : p < lengt
               (λ e. h.1 (apart w.0 s e)),
         ) refl
       ]
+
+  -- what was last written at the place of a slot
+  pub written-at : (ws : List (ℕ × ℕ)) (s : ℕ)
+      → last_write (map {B = ℕ × ℕ} (λ w. (place_of groups p w.0, w.1)) ws) (place_of groups p s) ≡ last_write ws s
+  unfolding placed
+  written-at ws s = placed-at ws s
 
   placed-none : (ws : List (ℕ × ℕ)) (k : ℕ) → ((s : ℕ) → place_of groups p s ≡ k → ⊥) → last_write (placed ws) k ≡ None
   unfolding placed

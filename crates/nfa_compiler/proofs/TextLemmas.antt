@@ -8,13 +8,13 @@ use Rattle.regex_search_core.specs.Search.{Search}
 use Rattle.regex_search_core.specs.declared.search.Anchored.TheVariants.{No}
 use Rattle.regex_search_core.specs.declared.search.MatchKind.TheVariants.{LeftmostFirst}
 use Rattle.regex_hir.specs.Re.{Re, accept, attempt}
-use Rattle.regex_hir.specs.Find.{Match, first_from, find}
+use Rattle.regex_hir.specs.Find.{first_from, find}
 use Rattle.regex_syntax.specs.declared.Config.{Config}
 use Rattle.thompson_nfa.specs.Automaton.{Automaton}
 use Rattle.nfa_paths.specs.Paths.{is_utf8_empty, IsAnswer, IsMatchAnswer}
 use Rattle.nfa_compiler.specs.Compiled.{AreMeant, IsCompiled, res_of}
 use Rattle.nfa_compiler.specs.Laws.{hit}
-use Rattle.nfa_compiler.specs.Patterns.{Hit, expected, first_hit, found_in, hit_of, pick, slots_of}
+use Rattle.nfa_compiler.specs.Patterns.{Hit, expected, first_hit, found_in, hit_by, hit_of, pick, slots_of}
 use Rattle.nfa_compiler.proofs.MeantLemmas.{AreAlike, all-meant, expected-alike, found-alike, pattern-alike, slots-alike}
 use Rattle.nfa_compiler.proofs.SearchLemmas.{answer-is, match-is, expected-known}
 
@@ -45,17 +45,17 @@ module _ (syntax : Config) (texts : List (List ℕ)) (res : List Re) (nfa : Auto
 
 first-is : (re : Re) (haystack : List ℕ) (n i : ℕ)
     → first_hit (pick haystack (re ∷ []) 0) n i
-    ≡ option_map (λ (m : Match). record { pattern = 0; start = m.start; trace = m.trace })
+    ≡ option_map (hit_by 0)
     (first_from (attempt haystack re accept) n i)
 unfolding first_from
 first-is re haystack zero i = refl
 first-is re haystack (suc n) i = of (attempt haystack re accept i) (first-is re haystack n (i + 1))
   where
     of : (o : Option _) → first_hit (pick haystack (re ∷ []) 0) n (i + 1)
-        ≡ option_map (λ (m : Match). record { pattern = 0; start = m.start; trace = m.trace })
+        ≡ option_map (hit_by 0)
         (first_from (attempt haystack re accept) n (i + 1))
         → option_or (option_or (hit_of 0 i o) None) (first_hit (pick haystack (re ∷ []) 0) n (i + 1))
-        ≡ option_map (λ (m : Match). record { pattern = 0; start = m.start; trace = m.trace })
+        ≡ option_map (hit_by 0)
         (option_or (option_map (λ t. record { start = i; trace = t }) o)
         (first_from (attempt haystack re accept) n (i + 1)))
     of None e = e
@@ -63,8 +63,7 @@ first-is re haystack (suc n) i = of (attempt haystack re accept i) (first-is re 
 
 pub one-hit : (re : Re) (nfa : Automaton) (x : Search) → (nfa.anchored == nfa.unanchored) ≡ false → x.anchored ≡ No
     → x.end ≡ length x.haystack
-    → hit (re ∷ []) nfa x ≡ option_map (λ (m : Match). record { pattern = 0; start = m.start; trace = m.trace })
-    (find re x.haystack x.start)
+    → hit (re ∷ []) nfa x ≡ option_map (hit_by 0) (find re x.haystack x.start)
 unfolding expected find first_from
 one-hit re nfa x free mode whole =
     elim (cases_lt x.end x.start) [

@@ -12,10 +12,10 @@ use Rattle.thompson_nfa.specs.Looks.{look_holds}
 use Rattle.nfa_paths.specs.Paths.{is_utf8_empty, IsAnswer, IsMatchAnswer, IsFoundAnswer}
 use Rattle.nfa_compiler.specs.Blocks.{look_of}
 use Rattle.nfa_compiler.specs.Compiled.{AreMeant, IsCompiled, IsNfaOf}
-use Rattle.regex_hir.specs.Find.{Match, find}
+use Rattle.regex_hir.specs.Find.{find}
 use Rattle.regex_search_core.specs.declared.search.Anchored.TheVariants.{No}
 use Rattle.regex_syntax.specs.declared.Config.{Config}
-use Rattle.nfa_compiler.specs.Patterns.{Hit, expected, slots_of, found_in}
+use Rattle.nfa_compiler.specs.Patterns.{Hit, expected, slots_of, found_in, hit_by}
 
 -- each assertion holds where the one that stands for it does
 abbrev pub LooksAgree : Type 0
@@ -77,5 +77,4 @@ abbrev pub OneHitIsFind : Type 0
 OneHitIsFind =
     (re : Re) (nfa : Automaton) (x : Search) → (nfa.anchored == nfa.unanchored) ≡ false → x.anchored ≡ No
     → x.end ≡ length x.haystack
-    → hit (re ∷ []) nfa x ≡ option_map (λ (m : Match). record { pattern = 0; start = m.start; trace = m.trace })
-    (find re x.haystack x.start)
+    → hit (re ∷ []) nfa x ≡ option_map (hit_by 0) (find re x.haystack x.start)

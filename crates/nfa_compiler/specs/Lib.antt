@@ -1,5 +1,11 @@
+pub mod Settings
+pub mod Rejected
 pub mod Patterns
 pub mod Blocks
 pub mod Added
 pub mod Compiled
 pub mod Laws
+pub mod KindLaws
+pub mod NameLaws
+pub mod AllHits
+pub mod AllLaws

@@ -3,7 +3,7 @@ use Rattle.std.specs.Prelude.{ℕ, zero, suc, ◌+◌, ◌-◌, ◌*◌, Bool, L
 use Rattle.std.specs.List.{sum_by, range_with_len}
 use Rattle.std.specs.Option.{option_or}
 use Rattle.regex_hir.specs.Re.{Re, Trace, accept, attempt}
-use Rattle.regex_hir.specs.Find.{last_write}
+use Rattle.regex_hir.specs.Find.{Match, last_write}
 use Rattle.regex_search_core.specs.Found.{Found}
 use Rattle.regex_search_core.specs.Patterns.{number_of}
 use Rattle.regex_search_core.specs.Search.{Search}
@@ -62,6 +62,18 @@ unfoldable pub slots_of : List (List (Option (List ℕ))) → ℕ → Option Hit
 slots_of groups count None = replicate count None
 slots_of groups count (Some h) = map (last_write (writes_of groups h)) (range_with_len 0 count)
 
--- the span of the hit
+-- where the hit is
+abbrev pub found_at : Hit → Found
+found_at h = record { pattern = h.pattern; start = h.start; end = h.trace.end }
+
+-- the same, if there is a hit
 abbrev pub found_in : Option Hit → Option Found
-found_in h = option_map (λ (h : Hit). record { pattern = h.pattern; start = h.start; end = h.trace.end }) h
+found_in h = option_map found_at h
+
+-- a match of `regex_hir` as the hit of this pattern
+abbrev pub hit_by : ℕ → Match → Hit
+hit_by pattern m = record { pattern = pattern; start = m.start; trace = m.trace }
+
+-- where a match of `regex_hir` is, as one of pattern 0
+abbrev pub found_by : Match → Found
+found_by m = found_at (hit_by 0 m)

@@ -1,4 +1,4 @@
-//! The states of one pattern, moved to where they stand among those of all.
+//! The states of one pattern, moved to their place among the states of all patterns.
 ghost use Rattle.std.specs.Prelude.{◌≡◌, ◌+◌, ◌<◌, ◌≤◌, IfOk, OnOk, All, Some, map, vec_len};
 ghost use Rattle.regex_nfa.specs.Run.{state_of};
 ghost use Rattle.thompson_nfa.specs.Automaton.{node_of};
@@ -12,12 +12,12 @@ use regex_search_core::{PatternID, StateID};
 use std::alloc::Global;
 use thompson_nfa::{Look, State, Transition};
 
-/// Where the states of a pattern stand, and where its slots lie.
+/// The place of one pattern among all: its state numbers and its slots.
 #[derive(Clone, Copy)]
 pub(crate) struct Site {
-    /// The number of the first state.
+    /// The number of its first state.
     pub(crate) base: usize,
-    /// How many states are moved.
+    /// The number of states that are moved.
     pub(crate) size: usize,
     pub(crate) pattern: PatternID,
     /// The first slot of its explicit groups.
@@ -25,37 +25,36 @@ pub(crate) struct Site {
 }
 
 impl Site {
-    /// Where the state of this number stands.
+    /// The new number of a state.
     fn target(self, id: u32) -> Result<StateID, CompileError>
         ensures { IfOk result (λ target. (id < self.size) × (target ≡ self.base + id)) }
     {
         if id as usize >= self.size {
-            return Err(self.form());
+            return Err(self.bad_tree());
         }
         StateID::new(self.base.saturating_add(id as usize)).ok_or(CompileError::TooManyStates)
     }
 
-    fn form(self) -> CompileError {
-        CompileError::Form {
+    /// The error of a pattern whose tree is not well formed.
+    fn bad_tree(self) -> CompileError {
+        CompileError::Tree {
             pattern: self.pattern.as_usize(),
         }
     }
 
-    /// Where the slot of this number stands.
+    /// The new number of a slot of an explicit group.
     fn slot(self, slot: u32) -> Result<usize, CompileError>
         ensures { IfOk result (λ place. (2 ≤ slot) × (place ≡ slot_in self slot)) }
     {
         if slot < 2 {
-            return Err(CompileError::GroupZero {
-                pattern: self.pattern.as_usize(),
-            });
+            return Err(self.bad_tree());
         }
         self.slots
             .checked_add(slot as usize - 2)
             .ok_or(CompileError::TooManyGroups)
     }
 
-    /// The transition, moved.
+    /// Moves a transition.
     fn transition(self, transition: regex_nfa::Transition) -> Result<Transition, CompileError>
         ensures { IfOk result (λ made. (transition.next < self.size) × (made ≡ moved self transition)) }
     {
@@ -66,7 +65,7 @@ impl Site {
         })
     }
 
-    /// These transitions, moved.
+    /// Moves transitions.
     fn transitions(
         self,
         alloc: Global,
@@ -82,7 +81,7 @@ impl Site {
         Ok(made)
     }
 
-    /// The state, moved.
+    /// Moves a state. A Match becomes a Capture of the end, which leads to the one Match of the pattern.
     fn state(self, alloc: Global, nfa: &Nfa, id: u32) -> Result<State, CompileError>
         requires { id < vec_len nfa.now.states }
         ensures { IfOk result (λ made. Stands nfa.now.transitions.items self (state_of nfa.now id) (node_of made)) }
@@ -115,14 +114,14 @@ impl Site {
         }
     }
 
-    /// Where the pattern's Match stands.
+    /// The number of the pattern's Match.
     fn end(self) -> Result<StateID, CompileError>
         ensures { IfOk result (λ end. end ≡ match_at self) }
     {
         StateID::new(self.base.saturating_add(self.size)).ok_or(CompileError::TooManyStates)
     }
 
-    /// Adds the first states of the NFA. The caller owes that the site begins where the states end.
+    /// Adds the first states of the NFA. Requires a site that begins at the end of the states.
     fn add_states(
         self,
         alloc: Global,
@@ -140,8 +139,8 @@ impl Site {
         Ok(())
     }
 
-    /// Adds the first states of the NFA, then a Match, and then where the pattern starts, whose number it gives. The
-    /// caller owes that the site begins where the states end.
+    /// Adds the first states of the NFA, then a Match, and then the pattern's start, and returns the start's number.
+    /// Requires a site that begins at the end of the states.
     pub(crate) fn add(
         self,
         alloc: Global,

@@ -1,82 +1,128 @@
-//! How an NFA is made of the texts of its patterns.
-ghost use Rattle.std.specs.Prelude.{◌≡◌, ◌<◌, ◌+◌, ◌*◌, ◌∷◌, [], All, true, false, IfOk, OnOk, length, map, vec_len};
-ghost use Rattle.std.specs.List.{AllZip};
+//! The compiler: trees of patterns to one NFA.
+ghost use Rattle.std.specs.Prelude.{◌≡◌, ◌==◌, ◌<◌, ◌∷◌, [], All, true, false, IfOk, OnOk, length, map, vec_len};
 ghost use Rattle.regex_hir.specs.Meaning.{meaning};
-ghost use Rattle.regex_search_core.specs.Patterns.{number_of};
 ghost use Rattle.regex_compile.specs.Implements.{Implements};
 ghost use Rattle.thompson_nfa.specs.Automaton.{IsAutomaton, node_of};
 ghost use Rattle.nfa_paths.specs.Paths.{is_utf8_empty};
-ghost use Rattle.nfa_compiler.specs.Compiled.{AlwaysReads, ArePatterns, IsCompiled, IsNfaOf, IsPatternAt, IsRead};
-ghost use Rattle.nfa_compiler.specs.Compiled.{explicit_names, groups_of, res_of};
+ghost use Rattle.nfa_compiler.specs.Compiled.{AlwaysReads, ArePatterns, IsCompiled, IsNfaOf, IsPatternAt};
+ghost use Rattle.nfa_compiler.specs.Compiled.{groups_of, res_of};
 ghost use Rattle.nfa_compiler.specs.Added.{Adds};
 
 use crate::block::Site;
 use crate::config::Config;
 use crate::error::CompileError;
-use crate::groups::{explicit, groups_of};
+use crate::groups::{groups_of, pattern_number, slots_after, slots_for};
+use crate::reading::read_all;
 use crate::states::{choice, prefix};
+use regex_compile::Error;
 use regex_nfa::Nfa;
-use regex_search_core::{PatternID, StateID};
+use regex_search_core::StateID;
 use regex_syntax::Parsed;
 use std::alloc::Global;
+use std::slice;
 use thompson_nfa::{NFA, State};
 
 /// Makes NFAs from the texts of patterns, or from their trees.
+///
+/// ```
+/// let compiler = Compiler::new().configure(Config::new().anchored(true));
+/// let nfa = compiler.build_many(alloc, &["[a-z]+", "[0-9]+"])?;
+/// ```
 #[derive(Clone, Copy, Debug)]
 pub struct Compiler {
     pub config: Config,
-    /// How texts are read.
+    /// The syntax of texts. Its field `utf8` is not used: see [`Config::utf8`].
     pub syntax: regex_syntax::Config,
 }
 
 impl Compiler {
-    /// With `Config::new`, and the syntax of the crate regex.
-    pub fn new() -> Compiler {
+    ghost use Rattle.regex_syntax.specs.Verdict.{default_config};
+    ghost use Rattle.nfa_compiler.specs.Settings.{syntax_of};
+
+    /// A compiler with the settings of [`Config::new`] and the default syntax.
+    pub fn new() -> Compiler
+        ensures { result ≡ record {
+          config = record { anchored = false; utf8 = true; size_limit = 10485760 };
+          syntax = default_config;
+        } }
+    {
         Compiler {
             config: Config::new(),
             syntax: regex_syntax::Config::default(),
         }
     }
 
-    /// With this configuration.
+    /// Replaces the configuration.
     pub fn configure(self, config: Config) -> Compiler
         ensures { result ≡ record self { config = config } }
     {
         Compiler { config, ..self }
     }
 
-    /// With this syntax.
+    /// Replaces the syntax.
     pub fn syntax(self, syntax: regex_syntax::Config) -> Compiler
         ensures { result ≡ record self { syntax = syntax } }
     {
         Compiler { syntax, ..self }
     }
 
-    /// The NFA of one pattern.
+    /// Makes the NFA of one pattern.
+    ///
+    /// Its text is read by the syntax of this compiler, and by [`Config::utf8`]. Fails if the text is not a pattern
+    /// ([`CompileError::Syntax`]), if the pattern exceeds [`Config::size_limit`], or if allocation fails.
     pub fn build(&self, alloc: Global, pattern: &str) -> Result<NFA, CompileError>
-        ensures compiled { IfOk result (IsCompiled self.now.syntax (pattern.now ∷ [])) }
+        ensures compiled { IfOk result (IsCompiled (syntax_of self.now) (pattern.now ∷ [])) }
         ensures valid { IfOk result IsAutomaton }
         ensures utf8 { IfOk result (λ nfa. nfa.utf8 ≡ self.now.config.utf8) }
         ensures anchored { self.now.config.anchored ≡ true → IfOk result (λ nfa. nfa.anchored ≡ nfa.unanchored) }
+        ensures free { self.now.config.anchored ≡ false
+            → IfOk result (λ nfa. (nfa.anchored == nfa.unanchored) ≡ false) }
         ensures anywhere { self.now.config.utf8 ≡ false → IfOk result (λ nfa. is_utf8_empty nfa ≡ false) }
     {
         self.build_many(alloc, &[pattern])
     }
 
-    /// The NFA of these patterns, an earlier one preferred where two match from one start.
+    /// Makes the NFA of these patterns, numbered from 0 on. If two match from one start, the earlier one is preferred.
+    ///
+    /// Fails as [`Compiler::build`] does. The error has the number of the pattern at fault.
     pub fn build_many(&self, alloc: Global, patterns: &[&str]) -> Result<NFA, CompileError>
-        ensures compiled { IfOk result (IsCompiled self.now.syntax (map (λ text. text.now) patterns.now)) }
+        ensures compiled { IfOk result (IsCompiled (syntax_of self.now) (map (λ text. text.now) patterns.now)) }
         ensures valid { IfOk result IsAutomaton }
         ensures utf8 { IfOk result (λ nfa. nfa.utf8 ≡ self.now.config.utf8) }
         ensures anchored { self.now.config.anchored ≡ true → IfOk result (λ nfa. nfa.anchored ≡ nfa.unanchored) }
+        ensures free { self.now.config.anchored ≡ false
+            → IfOk result (λ nfa. (nfa.anchored == nfa.unanchored) ≡ false) }
         ensures anywhere { self.now.config.utf8 ≡ false → IfOk result (λ nfa. is_utf8_empty nfa ≡ false) }
     {
-        let trees = read_all(alloc, patterns, &self.syntax)?;
+        let syntax = regex_syntax::Config {
+            utf8: self.config.utf8,
+            ..self.syntax
+        };
+        let trees = read_all(alloc, patterns, &syntax)?;
         let nfa = self.build_many_from_hir(alloc, &trees)?;
         Ok(nfa)
     }
 
-    /// The NFA of these patterns, as trees with the names of their groups.
+    /// Makes the NFA of one pattern, passed as a tree with the names of its groups, from group 0 on.
+    ///
+    /// Fails with [`CompileError::Tree`] if a parser could not have returned the tree.
+    pub fn build_from_hir(&self, alloc: Global, pattern: &Parsed) -> Result<NFA, CompileError>
+        ensures valid { IfOk result IsAutomaton }
+        ensures made { IfOk result (IsNfaOf (meaning pattern.now.hir ∷ [])) }
+        ensures groups { IfOk result (λ nfa. nfa.groups ≡ groups_of (pattern.now ∷ [])) }
+        ensures utf8 { IfOk result (λ nfa. nfa.utf8 ≡ self.now.config.utf8) }
+        ensures anchored { self.now.config.anchored ≡ true → IfOk result (λ nfa. nfa.anchored ≡ nfa.unanchored) }
+        ensures free { self.now.config.anchored ≡ false
+            → IfOk result (λ nfa. (nfa.anchored == nfa.unanchored) ≡ false) }
+        ensures anywhere { self.now.config.utf8 ≡ false → IfOk result (λ nfa. is_utf8_empty nfa ≡ false) }
+        ensures reads { IfOk result (λ nfa. nfa.has_empty ≡ false → AlwaysReads pattern.now) }
+    {
+        self.build_many_from_hir(alloc, slice::from_ref(pattern))
+    }
+
+    /// Makes the NFA of these patterns, passed as trees.
+    ///
+    /// Fails as [`Compiler::build_from_hir`] does.
     pub fn build_many_from_hir(
         &self,
         alloc: Global,
@@ -87,6 +133,8 @@ impl Compiler {
         ensures groups { IfOk result (λ nfa. nfa.groups ≡ groups_of patterns.now) }
         ensures utf8 { IfOk result (λ nfa. nfa.utf8 ≡ self.now.config.utf8) }
         ensures anchored { self.now.config.anchored ≡ true → IfOk result (λ nfa. nfa.anchored ≡ nfa.unanchored) }
+        ensures free { self.now.config.anchored ≡ false
+            → IfOk result (λ nfa. (nfa.anchored == nfa.unanchored) ≡ false) }
         ensures anywhere { self.now.config.utf8 ≡ false → IfOk result (λ nfa. is_utf8_empty nfa ≡ false) }
         ensures reads { IfOk result (λ nfa. nfa.has_empty ≡ false → All AlwaysReads patterns.now) }
     {
@@ -107,7 +155,7 @@ impl Compiler {
         )?)
     }
 
-    /// Where a search starts that is not bound to its start.
+    /// The start of unanchored searches: a prefix that skips bytes, or the anchored start if the NFA is anchored.
     fn unanchored(
         &self,
         states: &mut Vec<State>,
@@ -115,6 +163,7 @@ impl Compiler {
     ) -> Result<StateID, CompileError>
         ensures added { OnOk result (Adds (map node_of states.old.items) (map node_of states.new.items)) }
         ensures bound { IfOk result (λ start. self.now.config.anchored ≡ true → start ≡ anchored) }
+        ensures free { IfOk result (λ start. self.now.config.anchored ≡ false → start ≡ vec_len states.old) }
     {
         if self.config.anchored {
             return Ok(anchored);
@@ -122,7 +171,7 @@ impl Compiler {
         prefix(states, anchored)
     }
 
-    /// Adds the states of these patterns, and gives where each of them starts.
+    /// Adds the states of these patterns, and returns the start of each.
     fn add_patterns(
         &self,
         alloc: Global,
@@ -135,15 +184,15 @@ impl Compiler {
         ensures inside { IfOk result (λ starts. All (λ s. s < vec_len states.new) starts.items) }
     {
         let mut starts = Vec::with_capacity(alloc, patterns.len())?;
-        let mut slots = twice(patterns.len())?;
+        let mut slots = slots_for(patterns.len())?;
         for (index, pattern) in patterns.iter().enumerate() {
             starts.push(self.add_pattern(alloc, index, pattern, slots, states)?)?;
-            slots = slots_behind(slots, pattern)?;
+            slots = slots_after(slots, pattern)?;
         }
         Ok(starts)
     }
 
-    /// Adds the states of this pattern, and gives where it starts. Its explicit groups have the slots from `slots` on.
+    /// Adds the states of this pattern, and returns its start. Its explicit groups have the slots from `slots` on.
     fn add_pattern(
         &self,
         alloc: Global,
@@ -161,86 +210,34 @@ impl Compiler {
         let site = Site {
             base: states.len(),
             size: nfa.unanchored as usize,
-            pattern: numbered(index)?,
+            pattern: pattern_number(index)?,
             slots,
         };
         let start = site.add(alloc, &nfa, states)?;
         Ok(start)
     }
 
-    /// The pattern's own NFA.
+    /// Compiles the pattern to an NFA of its own.
     fn compile(&self, alloc: Global, index: usize, pattern: &Parsed) -> Result<Nfa, CompileError>
         ensures { IfOk result (λ nfa. Implements nfa (meaning pattern.now.hir)) }
     {
         let Ok(groups) = u32::try_from(pattern.names.len()) else {
             return Err(CompileError::TooManyGroups);
         };
-        match regex_compile::compile(alloc, &pattern.hir, groups, self.config.size_limit) {
+        let limit = self.config.size_limit;
+        match regex_compile::compile(alloc, &pattern.hir, groups, limit) {
             Ok(nfa) => Ok(nfa),
-            Err(error) => Err(CompileError::Compile {
+            Err(Error::TooBig) => Err(CompileError::TooBig {
                 pattern: index,
-                error,
+                limit,
             }),
+            Err(Error::Malformed) => Err(CompileError::Tree { pattern: index }),
+            Err(Error::OutOfMemory) => Err(CompileError::Memory),
         }
     }
 }
 
-/// The pattern of this number.
-fn numbered(index: usize) -> Result<PatternID, CompileError>
-    ensures { IfOk result (λ pattern. number_of pattern ≡ index) }
-{
-    PatternID::new(index).ok_or(CompileError::TooManyPatterns)
-}
-
-/// The slots behind those of the pattern's explicit groups.
-fn slots_behind(slots: usize, pattern: &Parsed) -> Result<usize, CompileError>
-    ensures { IfOk result (λ behind. behind ≡ slots + 2 * length (explicit_names pattern.now)) }
-{
-    let own = twice(explicit(pattern).len())?;
-    slots.checked_add(own).ok_or(CompileError::TooManyGroups)
-}
-
-/// Two slots for each group.
-fn twice(groups: usize) -> Result<usize, CompileError>
-    ensures { IfOk result (λ slots. slots ≡ 2 * groups) }
-{
-    groups.checked_mul(2).ok_or(CompileError::TooManyGroups)
-}
-
-/// The trees that are read from these texts.
-fn read_all(
-    alloc: Global,
-    patterns: &[&str],
-    syntax: &regex_syntax::Config,
-) -> Result<Vec<Parsed>, CompileError>
-    ensures { IfOk result (λ trees. AllZip (IsRead syntax.now) (map (λ text. text.now) patterns.now) trees.items) }
-{
-    let mut trees = Vec::with_capacity(alloc, patterns.len())?;
-    for (index, pattern) in patterns.iter().enumerate() {
-        trees.push(read(alloc, index, pattern, syntax)?)?;
-    }
-    Ok(trees)
-}
-
-/// The tree that is read from the text of the pattern of this number.
-fn read(
-    alloc: Global,
-    index: usize,
-    pattern: &str,
-    syntax: &regex_syntax::Config,
-) -> Result<Parsed, CompileError>
-    ensures { IfOk result (IsRead syntax.now pattern.now) }
-{
-    match regex_syntax::parse(alloc, pattern, syntax) {
-        Ok(tree) => Ok(tree),
-        Err(error) => Err(CompileError::Syntax {
-            pattern: index,
-            error,
-        }),
-    }
-}
-
-/// Whether one of these patterns may match without a byte.
+/// Whether one of these patterns may match the empty string.
 fn may_one_be_empty(patterns: &[Parsed]) -> bool
     ensures { result ≡ false → All AlwaysReads patterns.now }
 {

@@ -1,19 +1,19 @@
-//! How an NFA is to be made.
+//! The settings of a compiler.
 ghost use Rattle.std.specs.Prelude.{◌≡◌, true, false};
 
-/// How an NFA is to be made of its patterns.
+/// Settings for the NFA that a compiler makes.
 #[derive(Clone, Copy, Debug)]
 pub struct Config {
     /// Whether each search is bound to its start.
     pub anchored: bool,
-    /// Whether the NFA is in UTF-8 mode: empty matches that split a character are left out.
+    /// Whether patterns match text only: see [`Config::utf8`].
     pub utf8: bool,
-    /// How many bytes the tables of one pattern may take while it is compiled.
+    /// The most bytes that the tables of one pattern may take: see [`Config::size_limit`].
     pub size_limit: usize,
 }
 
 impl Config {
-    /// Matches may start anywhere, the NFA is in UTF-8 mode, and a pattern may take ten mebibytes.
+    /// Unanchored, in UTF-8 mode, with a size limit of ten mebibytes.
     pub fn new() -> Config
         ensures { result ≡ record { anchored = false; utf8 = true; size_limit = 10485760 } }
     {
@@ -24,7 +24,7 @@ impl Config {
         }
     }
 
-    /// Whether each search is bound to its start: the NFA has then no prefix that skips bytes.
+    /// Sets whether each search is bound to its start. An NFA with this setting has no prefix that skips bytes.
     pub fn anchored(self, yes: bool) -> Config
         ensures { result ≡ record self { anchored = yes } }
     {
@@ -34,14 +34,18 @@ impl Config {
         }
     }
 
-    /// Whether the NFA is in UTF-8 mode.
+    /// Sets whether patterns match text only.
+    ///
+    /// With `true`, a text such as `(?-u:\xFF)`, which could match bytes that are not UTF-8, is not a pattern, and a
+    /// search skips an empty match that splits a codepoint. With `false`, patterns may match any bytes, and an empty
+    /// match may be anywhere. The setting replaces the field `utf8` of the syntax.
     pub fn utf8(self, yes: bool) -> Config
         ensures { result ≡ record self { utf8 = yes } }
     {
         Config { utf8: yes, ..self }
     }
 
-    /// How many bytes the tables of one pattern may take while it is compiled.
+    /// Sets the most bytes that the tables of one pattern may take while it is compiled.
     pub fn size_limit(self, bytes: usize) -> Config
         ensures { result ≡ record self { size_limit = bytes } }
     {

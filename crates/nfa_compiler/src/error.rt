@@ -1,47 +1,36 @@
-//! Why no NFA was made.
+//! The errors of a compiler.
+use crate::syntax_error::SyntaxError;
 use regex_search_core::Refused;
 use std::alloc::{AllocError, AllocFailed};
 use thiserror::Error;
 use thompson_nfa::BuildError;
 
-/// Why a compiler made no NFA.
-#[derive(Clone, Copy, Debug, PartialEq, Eq, Error)]
+/// Why a compiler made no NFA. Patterns are named by their numbers, from 0 on.
+#[derive(Debug, Drop, Error)]
 pub enum CompileError {
-    /// A growth was refused.
+    /// Allocation failed.
     #[error("out of memory")]
     Memory,
-    /// The text of the pattern of this number is no pattern, or nests too deep.
-    #[error("pattern {pattern}: {error}")]
-    Syntax {
-        pattern: usize,
-        error: regex_syntax::Error,
-    },
-    /// The pattern of this number was not compiled.
-    #[error("pattern {pattern}: {error}")]
-    Compile {
-        pattern: usize,
-        error: regex_compile::Error,
-    },
-    /// The tree of the pattern of this number has a group of number 0, which is the match itself.
-    #[error("pattern {pattern} has a group of number 0")]
-    GroupZero {
-        pattern: usize,
-    },
-    /// The NFA would have more states than there are numbers for.
+    /// A text is not a pattern, or nests too deep.
+    #[error("{0}")]
+    Syntax(SyntaxError),
+    /// The states of a pattern, or the work of making them, would exceed the size limit.
+    #[error("pattern {pattern} exceeds the size limit of {limit} bytes")]
+    TooBig { pattern: usize, limit: usize },
+    /// A tree passed to [`Compiler::build_from_hir`](crate::Compiler::build_from_hir) is not one that a parser returns:
+    /// a class of bytes goes above 255, a group has the number 0, or has a number but no name entry.
+    #[error("the tree of pattern {pattern} is not well formed")]
+    Tree { pattern: usize },
+    /// There are more states than state numbers.
     #[error("too many states")]
     TooManyStates,
-    /// There are more patterns than there are numbers for.
+    /// There are more patterns than pattern numbers.
     #[error("too many patterns")]
     TooManyPatterns,
-    /// The groups would have more slots than there are numbers for.
+    /// There are more slots of groups than slot numbers.
     #[error("too many groups")]
     TooManyGroups,
-    /// The pattern of this number was compiled to states of another form than expected.
-    #[error("pattern {pattern} was compiled to states of another form")]
-    Form {
-        pattern: usize,
-    },
-    /// The states were refused. A compiler means to make none that are, so this tells of a mistake in this crate.
+    /// `NFA::from_states` refused the states. A compiler means to make none that are refused.
     #[error("the states were refused: {0}")]
     States(BuildError),
 }

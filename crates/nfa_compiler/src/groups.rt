@@ -1,14 +1,15 @@
-//! The groups of patterns.
-ghost use Rattle.std.specs.Prelude.{◌≡◌, IfOk, drop, length, map, option_map, string_bytes};
+//! The groups of patterns, and the numbers of patterns and slots.
+ghost use Rattle.std.specs.Prelude.{◌≡◌, ◌+◌, ◌*◌, IfOk, drop, length, map, option_map, string_bytes};
+ghost use Rattle.regex_search_core.specs.Patterns.{number_of};
 ghost use Rattle.nfa_compiler.specs.Compiled.{explicit_names, groups_of};
 
 use crate::error::CompileError;
-use regex_search_core::GroupInfo;
+use regex_search_core::{GroupInfo, PatternID};
 use regex_syntax::Parsed;
 use std::alloc::{AllocError, Global};
 
 /// The names of the pattern's explicit groups: all but group 0.
-pub(crate) fn explicit(pattern: &Parsed) -> &[Option<String>]
+fn explicit(pattern: &Parsed) -> &[Option<String>]
     ensures { map (option_map string_bytes) result.now ≡ explicit_names pattern.now }
 {
     if pattern.names.is_empty() {
@@ -17,7 +18,7 @@ pub(crate) fn explicit(pattern: &Parsed) -> &[Option<String>]
     &pattern.names[1..]
 }
 
-/// The groups of these patterns.
+/// Makes the group info of these patterns.
 pub(crate) fn groups_of(alloc: Global, patterns: &[Parsed]) -> Result<GroupInfo, CompileError>
     ensures { IfOk result (λ groups. groups ≡ groups_of patterns.now) }
 {
@@ -28,7 +29,7 @@ pub(crate) fn groups_of(alloc: Global, patterns: &[Parsed]) -> Result<GroupInfo,
     GroupInfo::new(names).ok_or(CompileError::TooManyGroups)
 }
 
-/// Equal names.
+/// Copies the names.
 fn names_of(alloc: Global, names: &[Option<String>]) -> Result<Vec<Option<String>>, AllocError>
     ensures { IfOk result (λ copy. map (option_map string_bytes) copy.items ≡ map (option_map string_bytes) names.now) }
 {
@@ -37,4 +38,26 @@ fn names_of(alloc: Global, names: &[Option<String>]) -> Result<Vec<Option<String
         copy.push(name.clone()?)?;
     }
     Ok(copy)
+}
+
+/// The number of the pattern at this index.
+pub(crate) fn pattern_number(index: usize) -> Result<PatternID, CompileError>
+    ensures { IfOk result (λ pattern. number_of pattern ≡ index) }
+{
+    PatternID::new(index).ok_or(CompileError::TooManyPatterns)
+}
+
+/// The first slot after those of the pattern's explicit groups, which begin at `slots`.
+pub(crate) fn slots_after(slots: usize, pattern: &Parsed) -> Result<usize, CompileError>
+    ensures { IfOk result (λ after. after ≡ slots + 2 * length (explicit_names pattern.now)) }
+{
+    let own = slots_for(explicit(pattern).len())?;
+    slots.checked_add(own).ok_or(CompileError::TooManyGroups)
+}
+
+/// The number of slots of so many groups: two for each.
+pub(crate) fn slots_for(groups: usize) -> Result<usize, CompileError>
+    ensures { IfOk result (λ slots. slots ≡ 2 * groups) }
+{
+    groups.checked_mul(2).ok_or(CompileError::TooManyGroups)
 }

@@ -1,7 +1,8 @@
 //! NFAs from the texts of patterns.
 //!
-//! [`Compiler`] reads patterns in the syntax of the crate regex, by `regex_syntax`, compiles each of them, by
-//! `regex_compile`, and puts the states together. What a search of the NFA finds is what the patterns mean (`laws`).
+//! [`Compiler`] reads texts in the syntax of the crate regex (`regex_syntax`), compiles each pattern (`regex_compile`),
+//! and joins their states in one `NFA`. The functions of [`laws`] state what searches of that NFA find: what the patterns
+//! mean.
 //!
 //! ```
 //! let nfa = Compiler::new().build(alloc, r"(?<key>\w+)=(?<value>[^ ]*)")?;
@@ -10,14 +11,18 @@
 #![tactic(auto)]
 
 mod block;
+pub mod calls;
 mod compiler;
 mod config;
 mod error;
 mod groups;
 pub mod laws;
+mod reading;
 mod states;
+mod syntax_error;
 
 pub use compiler::Compiler;
 pub use config::Config;
 pub use error::CompileError;
-pub use regex_syntax::{Config as Syntax, Flags, Parsed};
+pub use regex_syntax::{Config as Syntax, ErrorKind, Flags, Parsed, Span};
+pub use syntax_error::SyntaxError;

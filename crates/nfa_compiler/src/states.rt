@@ -1,4 +1,4 @@
-//! States that are added behind others.
+//! Adding states after others.
 ghost use Rattle.std.specs.Prelude.{◌≡◌, ◌<◌, ◌++◌, ◌∷◌, [], All, IfOk, OnOk, map, vec_len};
 ghost use Rattle.thompson_nfa.specs.Automaton.{node_of};
 ghost use Rattle.nfa_compiler.specs.Added.{Adds};
@@ -9,7 +9,7 @@ use regex_search_core::StateID;
 use std::alloc::Global;
 use thompson_nfa::{State, Transition};
 
-/// Adds the state, and gives its number.
+/// Adds the state, and returns its number.
 pub(crate) fn push(states: &mut Vec<State>, state: State) -> Result<StateID, CompileError>
     ensures number { IfOk result (λ number. number ≡ vec_len states.old) }
     ensures nodes { OnOk result (map node_of states.new.items ≡ map node_of states.old.items ++ node_of state ∷ []) }
@@ -19,7 +19,7 @@ pub(crate) fn push(states: &mut Vec<State>, state: State) -> Result<StateID, Com
     Ok(id)
 }
 
-/// Where any of these is chosen, the earlier ones preferred.
+/// Adds a state that leads to each of these starts, the earlier ones preferred. One start needs no such state.
 pub(crate) fn choice(
     alloc: Global,
     states: &mut Vec<State>,
@@ -37,9 +37,10 @@ pub(crate) fn choice(
     push(states, State::Union { alternates })
 }
 
-/// Where a search starts that may skip bytes before `start`.
+/// Adds a loop that skips bytes before `start`, and prefers not to.
 pub(crate) fn prefix(states: &mut Vec<State>, start: StateID) -> Result<StateID, CompileError>
-    ensures { OnOk result (Adds (map node_of states.old.items) (map node_of states.new.items)) }
+    ensures number { IfOk result (λ number. number ≡ vec_len states.old) }
+    ensures added { OnOk result (Adds (map node_of states.old.items) (map node_of states.new.items)) }
 {
     let prefix = StateID::new(states.len()).ok_or(CompileError::TooManyStates)?;
     let skip = StateID::new(states.len().saturating_add(1)).ok_or(CompileError::TooManyStates)?;

@@ -8,7 +8,7 @@ returns-clause-made c = record {
   site = _;
   implements = c.in_ok-nfa.ensures;
   block = c.in_ok-start.ensures.block;
-  pattern_is = c.in_ok-numbered.ensures;
+  pattern_is = c.in_ok-pattern_number.ensures;
   slots_are = refl;
   start_is = c.in_ok-start.ensures.start;
 }

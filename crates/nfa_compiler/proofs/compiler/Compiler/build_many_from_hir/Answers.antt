@@ -1,5 +1,5 @@
 -- what was made of the patterns is the NFA
-use Rattle.std.proofs.Common.{◌∙◌, ap, arith}
+use Rattle.std.proofs.Common.{◌∙◌, ap, arith, ne_eqb}
 use Rattle.std.proofs.lemmas.Bool.{and_right}
 use Rattle.thompson_nfa.specs.Automaton.{Automaton}
 use Rattle.nfa_compiler.proofs.AddLemmas.{nodes-length}
@@ -17,3 +17,15 @@ returns-clause-made c =
 pub returns-clause-anywhere : goal.returns-clause-anywhere
 returns-clause-anywhere c =
     λ off. and_right _ _ (ap (λ (n : Automaton). n.utf8) c.in_ok-from_states.ensures.1 ∙ off)
+
+pub returns-clause-free : goal.returns-clause-free
+returns-clause-free c = λ off.
+    let built = c.in_ok-from_states.ensures.1 in
+    ne_eqb _ _ (λ e. omega (
+      arith,
+      ap (λ (n : Automaton). n.anchored) built,
+      ap (λ (n : Automaton). n.unanchored) built,
+      c.in_ok-anchored.ensures.within,
+      c.in_ok-unanchored.ensures.free off,
+      e,
+    ))

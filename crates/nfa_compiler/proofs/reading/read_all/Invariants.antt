@@ -2,7 +2,7 @@
 use Rattle.std.proofs.Common.{map, take}
 use Rattle.std.specs.List.{AllZip}
 use Rattle.nfa_compiler.specs.Compiled.{IsRead}
-use Rattle.nfa_compiler.proofs.compiler.read_all.Given as goal
+use Rattle.nfa_compiler.proofs.reading.read_all.Given as goal
 
 abbrev pub invariant-loop-index : goal.invariant-loop-index
 invariant-loop-index l =

@@ -1,0 +1,51 @@
+-- What a search of a whole haystack finds of one text, in the words of `regex_hir`.
+use Rattle.std.proofs.Common.{◌≡◌, ℕ, zero, suc, ◌<◌, false, List, [], ◌∷◌, map, length, refl, ap, ◌∙◌, arith}
+use Rattle.std.specs.Prelude.{Option, None, Some, All, option_map, slice_index_or, ◌==◌}
+use Rattle.regex_hir.specs.Find.{Match, find, find_all}
+use Rattle.regex_hir.specs.Re.{Re}
+use Rattle.regex_search_core.specs.Found.{Found}
+use Rattle.regex_search_core.specs.Search.{whole}
+use Rattle.regex_search_core.specs.declared.search.MatchKind.TheVariants.{LeftmostFirst}
+use Rattle.regex_syntax.specs.declared.Config.{Config}
+use Rattle.thompson_nfa.specs.Automaton.{Automaton}
+use Rattle.nfa_paths.specs.Paths.{is_utf8_empty, IsMatchAnswer}
+use Rattle.nfa_search_base.specs.Lists.{AreMatches}
+use Rattle.nfa_compiler.specs.Compiled.{IsCompiled, IsMeant}
+use Rattle.nfa_compiler.specs.Patterns.{found_at, found_by, found_in, hit_by}
+use Rattle.nfa_compiler.proofs.AllSearchLemmas.{all-of-one, all-text-matches}
+use Rattle.nfa_compiler.proofs.TextLemmas.{one-hit, text-match}
+
+-- the bytes of a slice
+default-same : (xs : List ℕ) (k d : ℕ) → k < length xs → slice_index_or xs k d ≡ slice_index_or xs k 0
+default-same [] k d less = absurd (omega arith)
+default-same (x ∷ xs) zero d less = refl
+default-same (x ∷ xs) (suc k) d less = default-same xs k d (omega arith)
+
+pub bytes-of : (haystack : List ℕ) → ((k : ℕ) → slice_index_or haystack k 0 < 256) → All (λ b. b < 256) haystack
+bytes-of haystack each = λ k d less. omega (arith, each k, default-same haystack k d less)
+
+module _ (syntax : Config) (text : List ℕ) (nfa : Automaton) (haystack : List ℕ)
+    (compiled : IsCompiled syntax (text ∷ []) nfa) (anywhere : is_utf8_empty nfa ≡ false)
+    (free : (nfa.anchored == nfa.unanchored) ≡ false) (bytes : All (λ b. b < 256) haystack) (re : Re)
+    (meant : IsMeant syntax text re) where
+  pub call-match : (found : Option Found) → IsMatchAnswer nfa LeftmostFirst false (whole haystack) found
+      → found ≡ option_map found_by (find re haystack 0)
+  call-match found answer =
+      text-match syntax (text ∷ []) (re ∷ []) nfa (whole haystack) compiled (meant, tt) anywhere refl bytes found answer
+      ∙ ap found_in (one-hit re nfa (whole haystack) free refl refl)
+      ∙ both (find re haystack 0)
+    where
+      both : (o : Option Match) → found_in (option_map (hit_by 0) o) ≡ option_map found_by o
+      both None = refl
+      both (Some m) = refl
+
+  pub call-matches : (ms : List Found) → AreMatches nfa LeftmostFirst false (whole haystack) ms
+      → ms ≡ map found_by (find_all re haystack)
+  call-matches ms are =
+      all-text-matches syntax (text ∷ []) (re ∷ []) nfa (whole haystack) compiled (meant, tt) anywhere refl bytes ms are
+      ∙ ap (map found_at) (all-of-one re nfa (whole haystack) free refl refl refl)
+      ∙ both (find_all re haystack)
+    where
+      both : (ms : List Match) → map found_at (map (hit_by 0) ms) ≡ map found_by ms
+      both [] = refl
+      both (m ∷ ms) = ap (λ fs. found_by m ∷ fs) (both ms)

@@ -1,0 +1,47 @@
+-- What searches of every match kind find, `earliest` or not: something, exactly if some pattern matches somewhere.
+use Rattle.std.specs.Prelude.{◌≡◌, ◌↔◌, ℕ, ◌≤◌, ◌<◌, Bool, true, false, ◌||◌, ◌==◌, List, length, Option, is_some, if◌then◌else◌, slice_index_or, ⊤}
+use Rattle.regex_hir.specs.Re.{Re, empty}
+use Rattle.regex_hir.specs.Matches.{Matches}
+use Rattle.regex_search_core.specs.Patterns.{number_of}
+use Rattle.regex_search_core.specs.Search.{Search, is_anchored}
+use Rattle.regex_search_core.specs.declared.search.Anchored.{Anchored}
+use Rattle.regex_search_core.specs.declared.search.Anchored.TheVariants.{No, Yes, Pattern}
+use Rattle.regex_search_core.specs.declared.search.MatchKind.{MatchKind}
+use Rattle.thompson_nfa.specs.Automaton.{Automaton}
+use Rattle.nfa_paths.specs.Paths.{is_utf8_empty, IsAnswer, IsFoundAnswer}
+use Rattle.nfa_compiler.specs.Compiled.{IsNfaOf}
+
+-- a search in this mode tries the pattern of this number
+abbrev pub IsTried : Anchored → ℕ → Type 0
+IsTried No k = ⊤
+IsTried Yes k = ⊤
+IsTried (Pattern pattern) k = number_of pattern ≡ k
+
+-- A pattern that the search tries matches from a position where the search may start. `bound` says that each search is
+-- bound to its start.
+pub record MatchesSomewhere (res : List Re) (bound : Bool) (x : Search) : Type 0 where
+  pub pattern : ℕ
+  pub start : ℕ
+  pub end : ℕ
+  pub known : pattern < length res
+  pub tried : IsTried x.anchored pattern
+  pub from : x.start ≤ start
+  pub to : start ≤ (if is_anchored x.anchored || bound then x.start else x.end)
+  pub inside : x.start ≤ x.end
+  pub matches : Matches x.haystack (slice_index_or res pattern empty) start end
+
+-- a search for any match finds one exactly if there is one
+abbrev pub FindsIfMatches : Type 0
+FindsIfMatches =
+    (res : List Re) (nfa : Automaton) (kind : MatchKind) (earliest : Bool) (x : Search) (found : Bool)
+    → IsNfaOf res nfa → is_utf8_empty nfa ≡ false → x.end ≡ length x.haystack → IsFoundAnswer nfa kind earliest x found
+    → (found ≡ true) ↔ MatchesSomewhere res (nfa.anchored == nfa.unanchored) x
+
+-- and a search for slots answers a pattern exactly then
+abbrev pub AnswersIfMatches : Type 0
+AnswersIfMatches =
+    (res : List Re) (nfa : Automaton) (kind : MatchKind) (earliest : Bool) (x : Search) (pattern : Option ℕ)
+    (slots : List (Option ℕ))
+    → IsNfaOf res nfa → is_utf8_empty nfa ≡ false → x.end ≡ length x.haystack
+    → IsAnswer nfa kind earliest x pattern slots
+    → (is_some pattern ≡ true) ↔ MatchesSomewhere res (nfa.anchored == nfa.unanchored) x

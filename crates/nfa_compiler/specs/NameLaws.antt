@@ -1,0 +1,61 @@
+-- The names of groups in an NFA: those that the grammar reads in the texts, and the spans that captures give for them.
+use Rattle.std.specs.Prelude.{◌≡◌, ℕ, ◌+◌, ◌*◌, ◌≤◌, ◌<◌, Bool, List, drop, length, map, Option, Some, None, IsSomeAnd, chars, option_and_then, if◌then◌else◌, nat_le}
+use Rattle.std.specs.List.{AllZip}
+use Rattle.regex_hir.specs.Re.{Re}
+use Rattle.regex_hir.specs.Find.{last_write}
+use Rattle.regex_search_core.specs.Groups.{group_named, groups_at, slot_count}
+use Rattle.regex_search_core.specs.Search.{Search}
+use Rattle.regex_search_core.specs.Slots.{Captured, group_span, named_span}
+use Rattle.regex_search_core.specs.declared.search.Span.{Span}
+use Rattle.regex_syntax.specs.declared.Config.{Config}
+use Rattle.regex_syntax.specs.Grammar.{read}
+use Rattle.thompson_nfa.specs.Automaton.{Automaton}
+use Rattle.nfa_compiler.specs.Compiled.{IsCompiled, IsNfaOf}
+use Rattle.nfa_compiler.specs.Laws.{hit}
+use Rattle.nfa_compiler.specs.Patterns.{Hit, slots_of}
+
+-- the grammar reads these names in the text, from group 0 on
+abbrev pub IsNamed : Config → List ℕ → List (Option (List ℕ)) → Type 0
+IsNamed syntax text names = IsSomeAnd (read syntax (chars text)) (λ (_, found). found ≡ names)
+
+-- in each of these texts those of its place
+abbrev pub AreNamed : Config → List (List ℕ) → List (List (Option (List ℕ))) → Type 0
+AreNamed syntax texts names = AllZip (IsNamed syntax) texts names
+
+-- the groups of the NFA have the names that are read, but for group 0
+abbrev pub GroupsAreNamed : Type 0
+GroupsAreNamed =
+    (syntax : Config) (texts : List (List ℕ)) (names : List (List (Option (List ℕ)))) (nfa : Automaton)
+    → IsCompiled syntax texts nfa → AreNamed syntax texts names → nfa.groups ≡ map (drop 1) names
+
+-- the span from one position to another, if both are set and in order
+abbrev pub span_between : Option ℕ → Option ℕ → Option Span
+span_between start end =
+    option_and_then (λ s. option_and_then
+    (λ e. if nat_le s e then Some (record { start = s; end = e }) else None) end) start
+
+-- the captures of a hit, with all slots of the NFA
+abbrev pub captures_of : Automaton → Hit → Captured
+captures_of nfa h =
+    record {
+      groups = nfa.groups;
+      pattern = Some h.pattern;
+      slots = slots_of nfa.groups (slot_count nfa.groups) (Some h);
+    }
+
+-- Captures of a hit give for an explicit group the positions that the match last wrote for it.
+abbrev pub GroupsAreWritten : Type 0
+GroupsAreWritten =
+    (res : List Re) (nfa : Automaton) (x : Search) (h : Hit) (group : ℕ) → IsNfaOf res nfa
+    → x.end ≡ length x.haystack → hit res nfa x ≡ Some h
+    → 1 ≤ group → group ≤ length (groups_at nfa.groups h.pattern)
+    → group_span (captures_of nfa h) group
+    ≡ span_between (last_write h.trace.writes (2 * group)) (last_write h.trace.writes (2 * group + 1))
+
+-- So they do for a name: for the first group of this name.
+abbrev pub NamesAreWritten : Type 0
+NamesAreWritten =
+    (res : List Re) (nfa : Automaton) (x : Search) (h : Hit) (name : List ℕ) (group : ℕ) → IsNfaOf res nfa
+    → x.end ≡ length x.haystack → hit res nfa x ≡ Some h → group_named nfa.groups h.pattern name ≡ Some group
+    → named_span (captures_of nfa h) name
+    ≡ span_between (last_write h.trace.writes (2 * group)) (last_write h.trace.writes (2 * group + 1))

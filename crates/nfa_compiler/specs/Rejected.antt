@@ -1,0 +1,18 @@
+-- what the error of a text says
+use Rattle.std.specs.Prelude.{◌≡◌, ℕ, List, ⊤, string_bytes}
+use Rattle.regex_syntax.specs.declared.Config.{Config}
+use Rattle.nfa_compiler.specs.declared.error.CompileError.{CompileError}
+use Rattle.nfa_compiler.specs.declared.error.CompileError.TheVariants.{Memory, Syntax}
+use Rattle.nfa_compiler.specs.declared.syntax_error.SyntaxError.{SyntaxError}
+
+-- the error is that of this pattern's text, read by this syntax
+pub record IsRejection (syntax : Config) (index : ℕ) (text : List ℕ) (e : SyntaxError) : Type 0 where
+  pub pattern : e.pattern ≡ index
+  pub text_is : string_bytes e.text ≡ text
+  pub syntax_is : e.syntax ≡ syntax
+
+-- allocation failed, or a text was refused with an error that P holds of
+abbrev pub IsMemoryOr : (SyntaxError → Type 0) → CompileError → Type 0
+IsMemoryOr P Memory = ⊤
+IsMemoryOr P (Syntax e) = P e
+IsMemoryOr P _ = ⊥

@@ -1,0 +1,55 @@
+//! The laws at the values of a call. A function of this module says of what a search found what it means. It has no
+//! code: a caller that cites it states what the text of its pattern means, with no proof of its own.
+//!
+//! ```
+//! let found = vm.find(&mut cache, Input::new(line));
+//! match_of_text(&compiler, pattern, vm.get_nfa(), line, found);
+//! ```
+ghost use Rattle.std.specs.Prelude.{◌≡◌, ◌==◌, ◌∷◌, [], false, map, option_map};
+ghost use Rattle.regex_hir.specs.Find.{find, find_all};
+ghost use Rattle.regex_hir.specs.Re.{Re};
+ghost use Rattle.regex_search_core.specs.Found.{found_of};
+ghost use Rattle.regex_search_core.specs.Search.{whole};
+ghost use Rattle.regex_search_core.specs.declared.search.MatchKind.TheVariants.{LeftmostFirst};
+ghost use Rattle.nfa_paths.specs.Paths.{is_utf8_empty, IsMatchAnswer};
+ghost use Rattle.nfa_search_base.specs.Lists.{AreMatches};
+ghost use Rattle.nfa_compiler.specs.Compiled.{IsCompiled, IsMeant};
+ghost use Rattle.nfa_compiler.specs.Patterns.{found_by};
+ghost use Rattle.nfa_compiler.specs.Settings.{syntax_of};
+
+use crate::compiler::Compiler;
+use regex_search_core::Match;
+use thompson_nfa::NFA;
+
+/// The match of a search of the whole haystack is what `find` of `regex_hir` gives for the pattern that the grammar reads
+/// in the text.
+pub fn match_of_text(
+    compiler: &Compiler,
+    pattern: &str,
+    nfa: &NFA,
+    haystack: &[u8],
+    found: Option<Match>,
+)
+    requires compiled { IsCompiled (syntax_of compiler.now) (pattern.now ∷ []) nfa.now }
+    requires anywhere { is_utf8_empty nfa.now ≡ false }
+    requires free { (nfa.now.anchored == nfa.now.unanchored) ≡ false }
+    requires answer { IsMatchAnswer nfa.now LeftmostFirst false (whole haystack.now) (option_map found_of found) }
+    ensures { (re : Re) → IsMeant (syntax_of compiler.now) pattern.now re
+        → option_map found_of found ≡ option_map found_by (find re haystack.now 0) }
+{}
+
+/// All matches of a search of the whole haystack are what `find_all` of `regex_hir` gives for that pattern.
+pub fn matches_of_text(
+    compiler: &Compiler,
+    pattern: &str,
+    nfa: &NFA,
+    haystack: &[u8],
+    found: &[Match],
+)
+    requires compiled { IsCompiled (syntax_of compiler.now) (pattern.now ∷ []) nfa.now }
+    requires anywhere { is_utf8_empty nfa.now ≡ false }
+    requires free { (nfa.now.anchored == nfa.now.unanchored) ≡ false }
+    requires all { AreMatches nfa.now LeftmostFirst false (whole haystack.now) (map found_of found.now) }
+    ensures { (re : Re) → IsMeant (syntax_of compiler.now) pattern.now re
+        → map found_of found.now ≡ map found_by (find_all re haystack.now) }
+{}
