@@ -117,7 +117,10 @@ fn main(rt: HostRuntime) -> Result<()> {
     let mut same = 0u32;
     let mut different = 0u32;
     for pattern in &PATTERNS {
-        match Compiler::new().configure(Config::new()).build(alloc, pattern) {
+        match Compiler::new()
+            .configure(Config::new())
+            .build(alloc, pattern)
+        {
             Ok(nfa) => println!(rt; "{pattern}: {} states", nfa.states().len())?,
             Err(error) => {
                 println!(rt; "{pattern}: {error}")?;
@@ -125,7 +128,10 @@ fn main(rt: HostRuntime) -> Result<()> {
             }
         }
         for haystack in &HAYSTACKS {
-            let (a, b) = (ours(alloc, pattern, haystack)?, theirs(alloc, pattern, haystack)?);
+            let (a, b) = (
+                ours(alloc, pattern, haystack)?,
+                theirs(alloc, pattern, haystack)?,
+            );
             if a == b {
                 same = same.saturating_add(1);
             } else {

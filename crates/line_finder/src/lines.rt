@@ -65,7 +65,11 @@ fn matching(
 }
 
 /// The lines of the text of which a search finds a match: exactly these, in order.
-pub fn matching_lines(alloc: Global, choice: &mut Choice, text: &[u8]) -> Result<Vec<Line>, AllocError>
+pub fn matching_lines(
+    alloc: Global,
+    choice: &mut Choice,
+    text: &[u8],
+) -> Result<Vec<Line>, AllocError>
     ensures found { IfOk result (λ found. AreThoseThatMatch choice.old text.now found.items) }
     ensures keeps { KeepsEngines choice.old choice.new }
 {

@@ -8,7 +8,11 @@ use nfa_choice::choose::Choice;
 use nfa_engines::{Captures, Input};
 
 /// The text of a named group.
-pub fn choice_text<'t>(choice: &mut Choice, captures: &mut Captures, text: &'t [u8]) -> Option<&'t [u8]> {
+pub fn choice_text<'t>(
+    choice: &mut Choice,
+    captures: &mut Captures,
+    text: &'t [u8],
+) -> Option<&'t [u8]> {
     choice.search(&Input::new(text), captures);
     let span = captures.get_group_by_name("name")?;
     Some(&text[span.start..span.end])

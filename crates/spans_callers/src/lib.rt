@@ -10,7 +10,12 @@ use nfa_engines::{Captures, Input};
 use std::alloc::Global;
 
 /// The text of a group.
-pub fn group_text<'t>(vm: &PikeVM, cache: &mut Cache, captures: &mut Captures, text: &'t [u8]) -> Option<&'t [u8]>
+pub fn group_text<'t>(
+    vm: &PikeVM,
+    cache: &mut Cache,
+    captures: &mut Captures,
+    text: &'t [u8],
+) -> Option<&'t [u8]>
     requires { Fits cache.old vm.now.nfa }
 {
     vm.captures(cache, Input::new(text), captures);
@@ -34,7 +39,12 @@ pub fn group_text_of<'t>(
 }
 
 /// The text of a named group.
-pub fn named_text<'t>(vm: &PikeVM, cache: &mut Cache, captures: &mut Captures, text: &'t [u8]) -> Option<&'t [u8]>
+pub fn named_text<'t>(
+    vm: &PikeVM,
+    cache: &mut Cache,
+    captures: &mut Captures,
+    text: &'t [u8],
+) -> Option<&'t [u8]>
     requires { Fits cache.old vm.now.nfa }
 {
     vm.captures(cache, Input::new(text), captures);
@@ -43,7 +53,12 @@ pub fn named_text<'t>(vm: &PikeVM, cache: &mut Cache, captures: &mut Captures, t
 }
 
 /// The text of the match.
-pub fn match_text<'t>(vm: &PikeVM, cache: &mut Cache, captures: &mut Captures, text: &'t [u8]) -> Option<&'t [u8]>
+pub fn match_text<'t>(
+    vm: &PikeVM,
+    cache: &mut Cache,
+    captures: &mut Captures,
+    text: &'t [u8],
+) -> Option<&'t [u8]>
     requires { Fits cache.old vm.now.nfa }
 {
     vm.captures(cache, Input::new(text), captures);
@@ -58,7 +73,10 @@ pub fn back_text<'t>(
     captures: &mut Captures,
     text: &'t [u8],
 ) -> Option<&'t [u8]> {
-    if engine.try_captures(cache, Input::new(text), captures).is_err() {
+    if engine
+        .try_captures(cache, Input::new(text), captures)
+        .is_err()
+    {
         return None;
     }
     let span = captures.get_group_by_name("name")?;
@@ -66,7 +84,12 @@ pub fn back_text<'t>(
 }
 
 /// The texts of a group of all matches, by the list.
-pub fn texts_of_all<'t>(alloc: Global, vm: &PikeVM, cache: &mut Cache, text: &'t [u8]) -> Result<Vec<&'t [u8]>>
+pub fn texts_of_all<'t>(
+    alloc: Global,
+    vm: &PikeVM,
+    cache: &mut Cache,
+    text: &'t [u8],
+) -> Result<Vec<&'t [u8]>>
     requires { Fits cache.old vm.now.nfa }
 {
     let mut cut = Vec::new(alloc);

@@ -149,9 +149,7 @@ fn expect_made(
     let groups = plain_groups(rt, alloc, *groups);
     let found = first_flaw(&states, anchored, unanchored, &patterns, &groups);
     assert_eq!(rt; found, flaw);
-    let made = NFA::from_states(
-        states, anchored, unanchored, patterns, groups, false, false,
-    );
+    let made = NFA::from_states(states, anchored, unanchored, patterns, groups, false, false);
     assert_eq!(rt; made.err(), error);
 }
 
