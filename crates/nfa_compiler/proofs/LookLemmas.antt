@@ -112,8 +112,8 @@ look-same their_look.WordAscii hay i h = ap₂ differ (word-before hay i h) (wor
 look-same their_look.WordAsciiNegate hay i h = ap not (ap₂ differ (word-before hay i h) (word-after hay i))
 look-same their_look.WordUnicode hay i h = ap₂ differ (char-before hay i h) (char-after hay i)
 look-same their_look.WordUnicodeNegate hay i h =
-    ap₂ (λ a b. a && b) (whole-before hay i h) (ap₂ (λ a b. a && b) (whole-after hay i h)
-    (ap not (ap₂ differ (char-before hay i h) (char-after hay i))))
+    ap₂ (λ a b. a && b) (ap₂ (λ a b. a && b) (whole-before hay i h) (whole-after hay i h))
+    (ap not (ap₂ differ (char-before hay i h) (char-after hay i)))
 look-same their_look.WordStartAscii hay i h =
     ap₂ (λ a b. not a && b) (word-before hay i h) (word-after hay i)
 look-same their_look.WordEndAscii hay i h = ap₂ (λ a b. a && not b) (word-before hay i h) (word-after hay i)
