@@ -5,7 +5,7 @@
 pub mod sets;
 
 ghost use Rattle.std.specs.Prelude.{◌≡◌, ◌<◌, ◌≤◌, false, option_map, IfOk, IfSome};
-ghost use Rattle.std.specs.Prelude.{List, Ok, Option, map, option_and_then};
+ghost use Rattle.std.specs.Prelude.{List, Ok, Option, option_and_then};
 ghost use Rattle.regex_search_core.specs.Found.{found_of};
 ghost use Rattle.regex_search_core.specs.Patterns.{number_of};
 ghost use Rattle.regex_search_core.specs.Search.{search_of};
@@ -24,7 +24,6 @@ use nfa_engines::iter::Searcher;
 use nfa_engines::laws;
 use nfa_engines::pikevm::{Cache, PikeVM};
 use regex_search_core::{Input, Match, PatternID};
-use std::alloc::Global;
 
 /// Two caches make one number of scans for one input.
 pub fn scans_are_one(vm: &PikeVM, cache: &mut Cache, other: &mut Cache, input: &Input<'_>)
@@ -73,24 +72,6 @@ pub fn both_find(
     let one = vm.is_match(cache, input);
     let two = engine.try_is_match(other, input);
     (one, two)
-}
-
-/// Two caches give one list of matches.
-pub fn lists_are_one(
-    alloc: Global,
-    vm: &PikeVM,
-    cache: &mut Cache,
-    other: &mut Cache,
-    input: Input<'_>,
-) -> Result<(Vec<Match>, Vec<Match>), SearchError>
-    requires first { Fits cache.old vm.now.nfa }
-    requires second { Fits other.old vm.now.nfa }
-    ensures { IfOk result (λ r. map found_of r.0.items ≡ map found_of r.1.items) }
-{
-    laws::one_list_of_matches();
-    let one = vm.find_all(alloc, cache, input)?;
-    let two = vm.find_all(alloc, other, input)?;
-    Ok((one, two))
 }
 
 // A step of an iteration is a call, as the laws of iterations see it. The finder gives the match that it is told, where

@@ -86,4 +86,3 @@ pub fn sets_of_all_are_one(
     vm.which_overlapping_matches(cache, input, patterns);
     vm.which_overlapping_matches(other, input, others);
 }
-
