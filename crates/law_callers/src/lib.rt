@@ -4,16 +4,19 @@
 
 pub mod sets;
 
-ghost use Rattle.std.specs.Prelude.{◌≡◌, ◌<◌, ◌≤◌, false, option_map, IfOk, IfSome};
-ghost use Rattle.std.specs.Prelude.{List, Ok, Option, option_and_then};
+ghost use Rattle.std.specs.Prelude.{◌≡◌, ◌<◌, ◌≤◌, false, true, length, option_map, IfOk, IfSome, IsErrOf};
+ghost use Rattle.std.specs.Prelude.{List, Ok, Option, is_some, option_and_then, take, ℕ};
 ghost use Rattle.regex_search_core.specs.Found.{found_of};
+ghost use Rattle.regex_search_core.specs.Groups.{slot_count};
 ghost use Rattle.regex_search_core.specs.Patterns.{number_of};
 ghost use Rattle.regex_search_core.specs.Search.{search_of};
 ghost use Rattle.regex_search_core.specs.declared.search.MatchKind.TheVariants.{LeftmostFirst};
+ghost use Rattle.nfa_engines.specs.Accepting.{MatchesNothing, MatchesPattern, MatchesSomething};
+ghost use Rattle.nfa_engines.specs.Backtrack.{capacity_of, max_haystack_len_of};
 ghost use Rattle.nfa_engines.specs.Engines.{Fits, kind_of};
 ghost use Rattle.nfa_engines.specs.Graphs.{Pair};
 ghost use Rattle.nfa_engines.specs.IterationLaws.{IsCall};
-ghost use Rattle.nfa_engines.specs.Paths.{IsScanAnswer, is_utf8_empty, path_pattern, span_len};
+ghost use Rattle.nfa_engines.specs.Paths.{IsFoundAnswer, IsScanAnswer, IsSearchAnswer, is_utf8_empty, path_pattern, span_len};
 ghost use Rattle.nfa_search_base.specs.Finders.{match_place};
 ghost use Rattle.nfa_search_base.specs.Searchers.{walk_of};
 ghost use Rattle.nfa_search_base.specs.Walks.{LiesIn};
@@ -23,7 +26,7 @@ use nfa_engines::error::SearchError;
 use nfa_engines::iter::Searcher;
 use nfa_engines::laws;
 use nfa_engines::pikevm::{Cache, PikeVM};
-use regex_search_core::{Input, Match, PatternID};
+use regex_search_core::{Captures, Input, Match, NonMaxUsize, PatternID};
 
 /// Two caches make one number of scans for one input.
 pub fn scans_are_one(vm: &PikeVM, cache: &mut Cache, other: &mut Cache, input: &Input<'_>)
@@ -72,6 +75,117 @@ pub fn both_find(
     let one = vm.is_match(cache, input);
     let two = engine.try_is_match(other, input);
     (one, two)
+}
+
+/// Whatever is asked, the search has an answer.
+pub fn has_an_answer(vm: &PikeVM, input: &Input<'_>)
+    ensures { (restarts : ℕ) × (path : Option (List Pair))
+        × IsSearchAnswer vm.now.nfa (kind_of vm.now) false (search_of input.now) restarts path }
+{
+    laws::every_search_has_an_answer();
+}
+
+/// Fewer slots are the first ones of the same answer.
+pub fn fewer_are_first(
+    vm: &PikeVM,
+    cache: &mut Cache,
+    other: &mut Cache,
+    input: &Input<'_>,
+    slots: &mut [Option<NonMaxUsize>],
+    more: &mut [Option<NonMaxUsize>],
+)
+    requires first { Fits cache.old vm.now.nfa }
+    requires second { Fits other.old vm.now.nfa }
+    requires fewer { length slots.old ≤ length more.old }
+    ensures { slots.new ≡ take (length slots.new) more.new }
+{
+    laws::fewer_slots();
+    vm.search_slots(cache, input, slots);
+    vm.search_slots(other, input, more);
+}
+
+/// Whether there is an accepting path.
+pub fn matches_something(vm: &PikeVM, cache: &mut Cache, input: Input<'_>) -> bool
+    requires fits { Fits cache.old vm.now.nfa }
+    requires anywhere { is_utf8_empty vm.now.nfa ≡ false }
+    ensures some { result ≡ true → MatchesSomething vm.now.nfa (search_of input.entry) }
+    ensures none { result ≡ false → MatchesNothing vm.now.nfa (search_of input.entry) }
+{
+    laws::found_is_an_accepting_path();
+    vm.is_match(cache, input)
+}
+
+/// The pattern of an accepting path, or none where there is no such path.
+pub fn matched_pattern(vm: &PikeVM, cache: &mut Cache, input: &Input<'_>) -> Option<PatternID>
+    requires fits { Fits cache.old vm.now.nfa }
+    requires anywhere { is_utf8_empty vm.now.nfa ≡ false }
+    ensures some { IfSome result (λ p. MatchesPattern vm.now.nfa (search_of input.now) (number_of p)) }
+    ensures none { result ≡ None → MatchesNothing vm.now.nfa (search_of input.now) }
+{
+    laws::found_is_an_accepting_path();
+    match vm.search_slots(cache, input, &mut []) {
+        Some(pattern) => Some(pattern),
+        None => None,
+    }
+}
+
+/// The match of captures is the match that `find` gives.
+pub fn caught_is_found(
+    vm: &PikeVM,
+    cache: &mut Cache,
+    input: Input<'_>,
+    captures: &mut Captures,
+) -> (Option<Match>, Option<Match>)
+    requires fits { Fits cache.old vm.now.nfa }
+    requires slots { length captures.old.slots ≡ slot_count vm.now.nfa.groups }
+    ensures { option_map found_of result.0 ≡ option_map found_of result.1 }
+{
+    laws::slots_give_the_match();
+    vm.captures(cache, input, captures);
+    let caught = captures.get_match();
+    let found = vm.find(cache, input);
+    (caught, found)
+}
+
+/// A span that is not too long is not refused for its length.
+pub fn not_too_long(
+    engine: &BoundedBacktracker,
+    cache: &mut backtrack::Cache,
+    input: Input<'_>,
+) -> Result<bool, SearchError>
+    requires states { length engine.now.nfa.states ≤ capacity_of engine.now }
+    requires short { span_len (search_of input) ≤ max_haystack_len_of engine.now }
+    ensures { ¬ (IsErrOf result (SearchError.HaystackTooLong (span_len (search_of input.entry)))) }
+{
+    laws::enough_capacity();
+    engine.try_is_match(cache, input)
+}
+
+/// Whether there is a match, of an input that carries the flag, is whether there is a pattern without it.
+pub fn found_with_the_flag(
+    vm: &PikeVM,
+    cache: &mut Cache,
+    input: Input<'_>,
+) -> (bool, Option<PatternID>)
+    requires fits { Fits cache.old vm.now.nfa }
+    requires off { (search_of input).earliest ≡ false }
+    ensures { result.0 ≡ is_some (option_map number_of result.1) }
+{
+    laws::answers_agree_under_any_flag();
+    let flagged = input.earliest(true);
+    let found = vm.is_match(cache, flagged);
+    let pattern = vm.search_slots(cache, &input, &mut []);
+    (found, pattern)
+}
+
+/// Whether there is a match does not depend on the flag that the input carries.
+pub fn found_under_the_flag(vm: &PikeVM, cache: &mut Cache, input: Input<'_>) -> bool
+    requires { Fits cache.old vm.now.nfa }
+    ensures { IsFoundAnswer vm.now.nfa (kind_of vm.now) false (search_of input.entry) result }
+{
+    laws::earliest_flag_is_not_read();
+    let flagged = input.earliest(true);
+    vm.is_match(cache, flagged)
 }
 
 // A step of an iteration is a call, as the laws of iterations see it. The finder gives the match that it is told, where

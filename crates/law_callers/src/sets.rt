@@ -1,10 +1,13 @@
 //! Callers of the laws on sets of patterns.
-ghost use Rattle.std.specs.Prelude.{◌≡◌, ◌<◌, false, length, ℕ};
+ghost use Rattle.std.specs.Prelude.{◌≡◌, ◌<◌, ◌≤◌, false, length, List, Option, ℕ};
 ghost use Rattle.regex_search_core.specs.PatternSets.{size_of_set};
 ghost use Rattle.regex_search_core.specs.Search.{search_of};
 ghost use Rattle.regex_search_core.specs.declared.search.MatchKind.TheVariants.{All, LeftmostFirst};
 ghost use Rattle.nfa_engines.specs.Engines.{Fits, kind_of};
-ghost use Rattle.nfa_engines.specs.Overlaps.{HoldsPattern, IsFirstBefore, IsPatternOf, IsPermitted};
+ghost use Rattle.nfa_engines.specs.Automaton.{IsAutomaton};
+ghost use Rattle.nfa_engines.specs.Graphs.{IsFirstPath, Pair};
+ghost use Rattle.nfa_engines.specs.Overlaps.{HoldsPattern, IsFirstBefore, IsFirstHeld, IsPatternOf, IsPermitted};
+ghost use Rattle.nfa_engines.specs.Paths.{edges, starts};
 
 use nfa_engines::laws;
 use nfa_engines::pikevm::{Cache, PikeVM};
@@ -85,4 +88,15 @@ pub fn sets_of_all_are_one(
     laws::one_match();
     vm.which_overlapping_matches(cache, input, patterns);
     vm.which_overlapping_matches(other, input, others);
+}
+
+/// With room for each pattern the first path that counts is the first of all that may end where they do.
+pub fn all_paths_count(vm: &PikeVM, input: &Input<'_>, capacity: usize)
+    requires room { length vm.now.nfa.patterns ≤ capacity }
+    requires valid { IsAutomaton vm.now.nfa }
+    ensures { (path : Option (List Pair)) → IsFirstHeld vm.now.nfa (search_of input.now) capacity path
+        → IsFirstPath (edges vm.now.nfa (search_of input.now)) (starts vm.now.nfa (search_of input.now))
+        (IsPermitted vm.now.nfa (search_of input.now)) path }
+{
+    laws::room_leaves_no_path_out();
 }
