@@ -142,11 +142,12 @@ fn expect_made(
     error: Option<BuildError>,
     flaw: Option<Flaw>,
 ) {
-    let (ones, [anchored, unanchored, start], groups) = parts;
+    let (ones, starts, groups) = *parts;
+    let [anchored, unanchored, start] = starts;
     let states = states_of(rt, alloc, ones);
-    let (anchored, unanchored) = (id(rt, *anchored), id(rt, *unanchored));
-    let patterns = vec![in alloc; id(rt, *start)].expect(rt, "memory");
-    let groups = plain_groups(rt, alloc, *groups);
+    let (anchored, unanchored) = (id(rt, anchored), id(rt, unanchored));
+    let patterns = vec![in alloc; id(rt, start)].expect(rt, "memory");
+    let groups = plain_groups(rt, alloc, groups);
     let found = first_flaw(&states, anchored, unanchored, &patterns, &groups);
     assert_eq!(rt; found, flaw);
     let made = NFA::from_states(states, anchored, unanchored, patterns, groups, false, false);
