@@ -38,8 +38,8 @@ module _ {X : Type 0} (span : X → Span) (give : Hit → X) where
     step-meets : (i : ℕ) (a : Answer X) → IsStep span tells (walk_at i) a → Meets a (hit_after hit_from i)
     step-meets i a s = of s.first (hit_from i) refl (meets i s.first s.is_first) s.rest
       where
-        repeated : (h : Hit) (p : Span) → p ≡ span_of_hit h → (b : Bool) → (h.start == h.trace.end) && (i == h.trace.end) ≡ b
-            → repeats (walk_at i) (Some p) ≡ b
+        repeated : (h : Hit) (p : Span) → p ≡ span_of_hit h → (b : Bool)
+            → (h.start == h.trace.end) && (i == h.trace.end) ≡ b → repeats (walk_at i) (Some p) ≡ b
         repeated h p is b e = subst (λ q. repeats (walk_at i) (Some q) ≡ b) (sym is) e
 
         of-hit : (y : X) (h : Hit) → LiesFrom haystack i (length haystack + 1) h → Meets (Ok (Some y)) (Some h)
@@ -143,8 +143,8 @@ module _ {X : Type 0} (span : X → Span) (give : Hit → X) where
         of more zero (Some h) e room m = let l = after-lies i h e in absurd (omega (arith, l.0, l.1))
         of more (suc n) (Some h) e room m =
             let l = after-lies i h e in
-            let rest = subst (λ (p : Span). ItemsLast span tells (Fails span tells) (walk_at p.end) (map (λ z. Ok z) items))
-            m.1 last.1 in
+            let rest = subst (λ (p : Span). ItemsLast span tells (Fails span tells) (walk_at p.end)
+            (map (λ z. Ok z) items)) m.1 last.1 in
             ap₂ (λ z zs. z ∷ zs) m.0 (more h.trace.end n (omega (arith, l.0)) rest)
 
     -- all items
@@ -172,8 +172,8 @@ module _ {X : Type 0} (span : X → Span) (give : Hit → X) where
             → y ∷ items ≡ map give (hits_from hit_from (suc (length haystack)) o)
         of None m = absurd m
         of (Some h) m =
-            let rest = subst (λ (p : Span). ItemsLast span tells (Fails span tells) (walk_at p.end) (map (λ z. Ok z) items))
-            m.1 last.1 in
+            let rest = subst (λ (p : Span). ItemsLast span tells (Fails span tells) (walk_at p.end)
+            (map (λ z. Ok z) items)) m.1 last.1 in
             ap₂ (λ z zs. z ∷ zs) m.0 (next-items items h.trace.end (length haystack) (omega arith) rest)
 
 -- one pattern

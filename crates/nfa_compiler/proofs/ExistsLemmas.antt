@@ -123,8 +123,14 @@ module _ (res : List Re) (bound : Bool) (x : Search) (whole : x.end ≡ length x
           (p.0, f.0, tt, f.1, omega (arith, f.2), p.1)
   sound-at inside Yes e = let p = pick-sound x.haystack res 0 x.start e in
       (p.0, x.start, tt, omega arith, omega arith, p.1)
-  sound-at inside (Pattern pattern) e =
-      (number_of pattern, x.start, refl, omega arith, omega arith, pick-one-sound x.haystack res (number_of pattern) x.start e)
+  sound-at inside (Pattern pattern) e = (
+    number_of pattern,
+    x.start,
+    refl,
+    omega arith,
+    omega arith,
+    pick-one-sound x.haystack res (number_of pattern) x.start e,
+  )
 
   complete-at : x.start ≤ x.end → (mode : Anchored) (n i : ℕ) → IsTried mode n → x.start ≤ i → i ≤ last_start mode
       → MatchesAt x.haystack res n i → is_some (hit_at_start res bound x mode) ≡ true

@@ -276,7 +276,8 @@ module _ (res : List Re) (a : Automaton) (made : IsNfaOf res a) where
       pub found-any : (kind : MatchKind) (earliest : Bool) (found : Bool) → IsFoundAnswer a kind earliest x found
           → found ≡ is_some (expected res is_bound x)
       found-any kind earliest found answer =
-          let own : (answer.restarts ≡ 0) × IsScanAnswer a x kind earliest answer.path = rw anywhere at answer.answers in
+          let own : (answer.restarts ≡ 0) × IsScanAnswer a x kind earliest answer.path =
+          rw anywhere at answer.answers in
           let s = scan in
           answer.found_is
           ∙ scan_answers-agree a x kind LeftmostFirst earliest false answer.path s.0 own.1 s.2
@@ -285,7 +286,8 @@ module _ (res : List Re) (a : Automaton) (made : IsNfaOf res a) where
       pub pattern-any : (kind : MatchKind) (earliest : Bool) (pattern : Option ℕ) (slots : List (Option ℕ))
           → IsAnswer a kind earliest x pattern slots → is_some pattern ≡ is_some (expected res is_bound x)
       pattern-any kind earliest pattern slots answer =
-          let own : (answer.restarts ≡ 0) × IsScanAnswer a x kind earliest answer.path = rw anywhere at answer.answers in
+          let own : (answer.restarts ≡ 0) × IsScanAnswer a x kind earliest answer.path =
+          rw anywhere at answer.answers in
           let s = scan in
           ap is_some answer.pattern_is ∙ of answer.path own.1
           ∙ scan_answers-agree a x kind LeftmostFirst earliest false answer.path s.0 own.1 s.2

@@ -9,7 +9,8 @@ use Rattle.nfa_search_base.specs.Catching.{Row}
 use Rattle.nfa_compiler.specs.Patterns.{Hit, expected, slots_of}
 use Rattle.nfa_compiler.specs.Laws.{hit}
 
--- the hit after one that ended at i, where `hit_from` gives the first hit from a position on: an empty hit at i is skipped
+-- the hit after one that ended at i, where `hit_from` gives the first hit from a position on: an empty hit at i is
+-- skipped
 abbrev pub hit_after : (ℕ → Option Hit) → ℕ → Option Hit
 hit_after hit_from i =
     if is_some_and (hit_from i) (λ h. h.trace.end == i) then hit_from (i + 1) else hit_from i

@@ -21,8 +21,8 @@ use crate::compiler::Compiler;
 use regex_search_core::Match;
 use thompson_nfa::NFA;
 
-/// The match of a search of the whole haystack is what `find` of `regex_hir` gives for the pattern that the grammar reads
-/// in the text.
+/// The match of a search of the whole haystack is what `find` of `regex_hir` gives for the pattern that the grammar
+/// reads in the text.
 pub fn match_of_text(
     compiler: &Compiler,
     pattern: &str,

@@ -57,7 +57,8 @@ pub fn searches_find_if_patterns_match()
 {}
 
 /// The groups of an NFA have the names that the grammar reads in the texts. The captures of a hit give for a group the
-/// span that the match last wrote for it, and for a name that of its first group, as `Captures::get_group_by_name` does.
+/// span that the match last wrote for it, and for a name that of its first group, as `Captures::get_group_by_name`
+/// does.
 pub fn groups_are_those_of_texts()
     ensures names { GroupsAreNamed }
     ensures spans { GroupsAreWritten }

@@ -137,7 +137,8 @@ module _ (nfa : Automaton) (x : Search) where
         h.0,
         least-along h.0 h.1,
         IsFirstTo-along (edges nfa x) (starts nfa x) (WantedAt P h.0) (WantedAt Q h.0)
-            (λ v w. record { wanted = to v w.wanted; at = w.at }) (λ v w. record { wanted = back v w.wanted; at = w.at })
+            (λ v w. record { wanted = to v w.wanted; at = w.at })
+            (λ v w. record { wanted = back v w.wanted; at = w.at })
             h.2,
       )
 

@@ -44,9 +44,13 @@ module _ (nfa : Automaton) where
   -- rows with the two slots of each pattern give one match
   row-match : IsAutomaton nfa → (p : List Pair) (count k : ℕ) → path_pattern nfa p ≡ Some k
       → 2 * length nfa.groups ≤ count
-      → match_of (Some k) (slot_row nfa count (Some p)) ≡ match_of (Some k) (slot_row nfa (slot_count nfa.groups) (Some p))
+      → match_of (Some k) (slot_row nfa count (Some p))
+      ≡ match_of (Some k) (slot_row nfa (slot_count nfa.groups) (Some p))
   row-match valid p count k pattern enough =
-      rw (same (2 * k) (place (2 * k) (low valid.groups)), same (2 * k + 1) (place (2 * k + 1) (high valid.groups))) refl
+      rw (
+        same (2 * k) (place (2 * k) (low valid.groups)),
+        same (2 * k + 1) (place (2 * k + 1) (high valid.groups)),
+      ) refl
     where
       small : k < length nfa.patterns
       small = pattern-within nfa valid p k pattern

@@ -1,5 +1,7 @@
 //! NFAs that no regular expression is compiled to, and odd inputs.
 
+ghost use Rattle.std.specs.Prelude.{◌≤◌, length};
+
 use super::expected::{
     Case, engines_of, expect, expect_is_match, expect_list, expect_match, expect_slots, none_text,
 };
@@ -110,7 +112,10 @@ fn a_done_input_has_no_match(rt: HostRuntime) {
     }
 }
 
-fn expect_none(rt: &impl Abort, alloc: Global, name: &str, haystack: &[u8]) {
+// Of a haystack that has a byte at least.
+fn expect_none(rt: &impl Abort, alloc: Global, name: &str, haystack: &[u8])
+    requires { 1 ≤ length haystack.now }
+{
     let mut engines = engines_of(rt, alloc, name);
     let input = Input::new(haystack).range(2..1);
     expect_none_of(rt, alloc, &mut engines, &Case { name, input });

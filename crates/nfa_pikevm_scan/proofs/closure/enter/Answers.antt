@@ -190,7 +190,8 @@ put_off-requires c =
     c.in-Union.is
     c.requires.state c.requires.room.room c.insert.ensures.turns (c.insert.ensures.fresh c.if-not-insert.false) in
     let room = frames-entered e c.requires.room.room in
-    rw c.deref-in-Union-2.ensures.value (omega (arith, room, c.requires.room.stack, length-drop 1 c.in-Union.alternates.items))
+    rw c.deref-in-Union-2.ensures.value
+    (omega (arith, room, c.requires.room.stack, length-drop 1 c.in-Union.alternates.items))
 
 pub returns-in-Some-clause-top : goal.returns-in-Some-clause-top
 returns-in-Some-clause-top c =

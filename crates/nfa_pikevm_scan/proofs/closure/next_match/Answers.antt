@@ -107,7 +107,8 @@ pub returns-in-None-clause-paid : goal.returns-in-None-clause-paid
 returns-in-None-clause-paid c =
     let stack = c.requires.room.stack in
     Paid-resumed c.enter.new.top c.resume.new.top c.enter.new.frames 0 c.in-None.ensures.top
-    (omega (arith, c.enter.ensures.top, stack)) c.in-None.ensures.tried (Paid-then c.loop-on.invariant.paid c.in-Over.ensures.paid)
+    (omega (arith, c.enter.ensures.top, stack)) c.in-None.ensures.tried
+    (Paid-then c.loop-on.invariant.paid c.in-Over.ensures.paid)
 
 pub returns-in-None-clause-finds : goal.returns-in-None-clause-finds
 returns-in-None-clause-finds c =

@@ -20,7 +20,8 @@ loop-at-init c = record {
   next = c.requires.ready.next;
   so_far = rw c.start-at.ensures
       (FirstWay-start c.args.nfa.now (search_of c.args.input.now) c.args.patterns.now c.args.starts.now
-      c.requires.ready.starts c.requires.empty c.args.threads.now.reached.seen c.args.threads.now.curr.items c.requires.ready.curr);
+      c.requires.ready.starts c.requires.empty c.args.threads.now.reached.seen c.args.threads.now.curr.items
+      c.requires.ready.curr);
 }
 
 pub returns-then-is_empty-clause-gains : goal.returns-then-is_empty-clause-gains
