@@ -140,7 +140,9 @@ pub(super) fn texts<'t>(
 {
     let mut texts = Vec::new(alloc);
     for found in vm.find_iter(cache, Input::new(text)) {
-        texts.push(&text[found.start()..found.end()])?;
+        if let Some(part) = text.get(found.start()..found.end()) {
+            texts.push(part)?;
+        }
     }
     Ok(texts)
 }
@@ -158,7 +160,9 @@ pub(super) fn texts_of_span<'t>(
 {
     let mut texts = Vec::new(alloc);
     for found in vm.find_iter(cache, Input::new(text).range(from..text.len())) {
-        texts.push(&text[found.start()..found.end()])?;
+        if let Some(part) = text.get(found.start()..found.end()) {
+            texts.push(part)?;
+        }
     }
     Ok(texts)
 }
