@@ -46,7 +46,7 @@ pub fn scan_has_an_answer(vm: &PikeVM, input: &Input<'_>)
     laws::every_scan_has_an_answer();
 }
 
-/// The pattern is that of the path which the scan answers, whoever says which one that is.
+/// The pattern is the pattern of the path that answers the scan.
 pub fn pattern_of_the_scan(vm: &PikeVM, cache: &mut Cache, input: &Input<'_>) -> Option<PatternID>
     requires fits { Fits cache.old vm.now.nfa }
     requires anywhere { is_utf8_empty vm.now.nfa ≡ false }
@@ -188,8 +188,8 @@ pub fn found_under_the_flag(vm: &PikeVM, cache: &mut Cache, input: Input<'_>) ->
     vm.is_match(cache, flagged)
 }
 
-// A step of an iteration is a call, as the laws of iterations see it. The finder gives the match that it is told, where
-// that lies in the span.
+// A step of an iteration is a call in the sense of the laws. The finder returns the given match if it is inside the span,
+// and none otherwise.
 fn step(searcher: &mut Searcher<'_>, told: Option<Match>) -> Result<Option<Match>, SearchError>
     ensures { IsCall (walk_of searcher.old) (match_place result) (walk_of searcher.new) }
 {
@@ -208,7 +208,7 @@ fn within(input: &Input<'_>, told: Option<Match>) -> Option<Match>
     }
 }
 
-/// Two matches of one iteration: the second ends behind the first, so the span is not empty.
+/// Returns two matches of one iteration. The second ends after the first, so the span is not empty.
 pub fn two_matches(
     input: Input<'_>,
     one: Option<Match>,

@@ -10,13 +10,13 @@ use thompson_nfa::{Look, NFA};
 
 const HAYSTACKS: &[&[u8]] = &[b"", b"ab", b"abca", b"a\xE2\x98\x83", b"\x80b a"];
 
-// There are ten parts of so many NFAs.
+// Each of the ten parts has this many NFAs.
 const PART: usize = 10;
 
 const FIRST_STATE: u64 = 2010;
 
-// The numbers that are made of the answers of all searches of all NFAs, behind each part. They were made of the answers
-// of regex-automata 0.4.18 to single searches, over the NFAs that the same generator made in another language.
+// The sum of the answers to all searches so far, after each part. The sums come from the answers of regex-automata 0.4.18
+// to single searches, over the NFAs that the same generator made in another language.
 const SUMS: &[u64] = &[
     SEED,
     1861892410165724649,
@@ -193,7 +193,7 @@ fn add_capture(machine: &mut Machine, chance: &mut Chance, size: &Size) -> Resul
     machine.capture(chance.below(size.slots), next)
 }
 
-// The sum behind the NFAs of one part, which are the next so many.
+// The sum after the NFAs of one part.
 fn fold_part(rt: &impl Abort, shared: &mut Shared, chance: &mut Chance, sum: u64) -> u64 {
     let mut sum = sum;
     for _ in 0..PART {

@@ -134,7 +134,7 @@ fn states_of(rt: &impl Abort, alloc: Global, ones: &[One]) -> Vec<State> {
     states
 }
 
-// What comes of making an NFA of these parts, and their first flaw.
+// Makes an NFA of these parts, and compares the error and the first flaw.
 fn expect_made(
     rt: &impl Abort,
     alloc: Global,

@@ -2,7 +2,7 @@
 use std::process::Abort;
 use thompson_nfa::{Look, look_matches};
 
-// An assertion, a haystack, and whether it holds at each offset and behind them.
+// An assertion, a haystack, and whether the assertion holds at each offset, the haystack's length included.
 const HOLDS: &[(Look, &[u8], &[bool])] = &[
     (Look::Start, b"ab", &[true, false, false]),
     (Look::Start, b"", &[true]),
