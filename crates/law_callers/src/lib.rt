@@ -188,8 +188,8 @@ pub fn found_under_the_flag(vm: &PikeVM, cache: &mut Cache, input: Input<'_>) ->
     vm.is_match(cache, flagged)
 }
 
-// A step of an iteration is a call in the sense of the laws. The finder returns the given match if it is inside the span,
-// and none otherwise.
+// A step of an iteration is a call in the sense of the laws. The finder returns the given match if it is inside the
+// span, and none otherwise.
 fn step(searcher: &mut Searcher<'_>, told: Option<Match>) -> Result<Option<Match>, SearchError>
     ensures { IsCall (walk_of searcher.old) (match_place result) (walk_of searcher.new) }
 {

@@ -15,8 +15,8 @@ const PART: usize = 10;
 
 const FIRST_STATE: u64 = 2010;
 
-// The sum of the answers to all searches so far, after each part. The sums come from the answers of regex-automata 0.4.18
-// to single searches, over the NFAs that the same generator made in another language.
+// The sum of the answers to all searches so far, after each part. The sums come from the answers of regex-automata
+// 0.4.18 to single searches, over the NFAs that the same generator made in another language.
 const SUMS: &[u64] = &[
     SEED,
     1861892410165724649,
