@@ -10,3 +10,4 @@ mod random;
 mod samples;
 mod shapes;
 mod sums;
+mod time;

@@ -2,6 +2,7 @@
 //! follows of calls. What a law asks is built here from what calls promise.
 #![tactic(auto)]
 
+pub mod paths;
 pub mod sets;
 
 ghost use Rattle.std.specs.Prelude.{◌≡◌, ◌<◌, ◌≤◌, false, true, length, option_map, IfOk, IfSome, IsErrOf};
@@ -75,6 +76,26 @@ pub fn both_find(
     let one = vm.is_match(cache, input);
     let two = engine.try_is_match(other, input);
     (one, two)
+}
+
+/// Both engines answer one pattern.
+pub fn both_answer(
+    vm: &PikeVM,
+    engine: &BoundedBacktracker,
+    cache: &mut Cache,
+    other: &mut backtrack::Cache,
+    input: &Input<'_>,
+) -> Result<(Option<PatternID>, Option<PatternID>), SearchError>
+    requires fits { Fits cache.old vm.now.nfa }
+    requires same { engine.now.nfa ≡ vm.now.nfa }
+    requires kind { kind_of vm.now ≡ LeftmostFirst }
+    requires off { (search_of input.now).earliest ≡ false }
+    ensures { IfOk result (λ p. option_map number_of p.0 ≡ option_map number_of p.1) }
+{
+    laws::engines_agree();
+    let one = vm.search_slots(cache, input, &mut []);
+    let two = engine.try_search_slots(other, input, &mut [])?;
+    Ok((one, two))
 }
 
 /// Whatever is asked, the search has an answer.

@@ -24,6 +24,8 @@ pub enum Shape {
     Fan(usize),
     /// A chain of so many states that reads a byte at each.
     Word(usize),
+    /// A pattern that reads one `a`, and one of so many states that reads `c` for ever.
+    ByteOrLoop(usize),
 }
 
 /// The NFA of that shape. It starts at its first state.
@@ -53,6 +55,7 @@ fn add(alloc: Global, machine: &mut Machine, shape: Shape) -> Result<(), MakeErr
         Shape::Captures(len) => add_captures(machine, len),
         Shape::Fan(len) => add_fan(alloc, machine, len),
         Shape::Word(len) => add_word(machine, len),
+        Shape::ByteOrLoop(len) => add_byte_or_loop(machine, len),
     }
 }
 
@@ -124,4 +127,18 @@ fn add_word(machine: &mut Machine, len: usize) -> Result<(), MakeError> {
     }
     machine.accept(0)?;
     machine.pattern(0)
+}
+
+fn add_byte_or_loop(machine: &mut Machine, len: usize) -> Result<(), MakeError> {
+    machine.either(1, 5)?;
+    machine.capture(0, 2)?;
+    machine.bytes(b'a', b'a', 3)?;
+    machine.capture(1, 4)?;
+    machine.accept(0)?;
+    for next in 1..len {
+        machine.bytes(b'c', b'c', next.saturating_add(5))?;
+    }
+    machine.bytes(b'c', b'c', 5)?;
+    machine.pattern(1)?;
+    machine.pattern(5)
 }

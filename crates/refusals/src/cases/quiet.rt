@@ -6,11 +6,12 @@ use super::{Seen, Wrong, engines, expect};
 use nfa_choice::choose::Choice;
 use nfa_engines::backtrack::{self, BoundedBacktracker};
 use nfa_engines::error::SearchError;
-use nfa_engines::pikevm::{self, PikeVM};
+use nfa_engines::pikevm::{self, CapturesMatches, PikeVM};
 use regex_search_core::MatchKind::All;
 use regex_search_core::{Captures, Input, NonMaxUsize, PatternSet};
 use std::alloc::Global;
 use test_support::text::parts;
+use thompson_nfa::BuildError;
 
 /// All stretches but that of the PikeVM's searches leftmost first.
 pub fn stretches(alloc: Global, seen: &mut Seen) -> Result<(), Wrong> {
@@ -18,7 +19,8 @@ pub fn stretches(alloc: Global, seen: &mut Seen) -> Result<(), Wrong> {
     warm_choice(alloc, seen)?;
     piked_in_all(alloc, seen)?;
     new_caches(alloc, seen)?;
-    iterators(alloc, seen)
+    iterators(alloc, seen)?;
+    replacement(alloc, seen)
 }
 
 // What is searched: the first match and its slots are those of "ab".
@@ -293,11 +295,30 @@ fn make_piked_captures(
     match made {
         Ok(captures) => {
             seen.opens(alloc, "an iterator with captures");
-            let _items = vm.captures_iter_with(cache, Input::new(TWICE), captures);
+            let mut items = vm.captures_iter_with(cache, Input::new(TWICE), captures);
             seen.closes(alloc, "an iterator with captures");
-            Ok(())
+            expect_item(alloc, seen, &mut items)
         }
         Err(error) => seen.note(error == SearchError::Memory),
+    }
+}
+
+// An item is one copy of the captures.
+fn expect_item(
+    alloc: Global,
+    seen: &mut Seen,
+    items: &mut CapturesMatches<'_, '_, '_>,
+) -> Result<(), Wrong> {
+    seen.opens(alloc, "an item of captures");
+    let item = items.next();
+    seen.closes(alloc, "an item of captures");
+    match item {
+        Some(Ok(caught)) => {
+            let caught = are_groups(caught.pattern(), caught.slots());
+            expect(caught, "the captures of an item")
+        }
+        Some(Err(error)) => seen.note(error == SearchError::Memory),
+        None => Err(Wrong("no item")),
     }
 }
 
@@ -341,4 +362,30 @@ fn make_chosen(alloc: Global, seen: &mut Seen, choice: &mut Choice) {
     seen.opens(alloc, "iterators of a choice");
     let _matches = choice.find_iter(Input::new(TWICE));
     seen.closes(alloc, "iterators of a choice");
+}
+
+// A replacement copies the NFA, and makes no request besides where the cache of the PikeVM fits.
+fn replacement(alloc: Global, seen: &mut Seen) -> Result<(), Wrong> {
+    let mut choice = engines::choice(alloc, seen, "groups")?;
+    expect_replaced(alloc, seen, &mut choice)
+}
+
+fn expect_replaced(alloc: Global, seen: &mut Seen, choice: &mut Choice) -> Result<(), Wrong> {
+    let nfa = engines::nfa(alloc, seen, "groups")?;
+    seen.opens(alloc, "a copy of an NFA");
+    let copy = nfa.clone();
+    seen.closes(alloc, "a copy of an NFA");
+    if let Err(error) = copy {
+        return seen.note(error == BuildError::Memory);
+    }
+    seen.opens(alloc, "a replacement");
+    let replaced = choice.replace(nfa);
+    seen.closes(alloc, "a replacement");
+    match replaced {
+        Ok(()) => expect(
+            choice.find(Input::new(TWICE)).is_some(),
+            "the match after a replacement",
+        ),
+        Err(error) => seen.note(error == SearchError::Memory),
+    }
 }

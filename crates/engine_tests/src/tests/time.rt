@@ -1,0 +1,33 @@
+//! Time that no count of turns shows: a search of an NFA with very many states takes the time of those that it reaches.
+
+ghost use Rattle.nfa_engines.specs.Engines.{Fits};
+
+use super::expected::expect;
+use super::shapes::{Shape, nfa_of};
+use nfa_engines::pikevm::{Cache, PikeVM};
+use regex_search_core::Input;
+use std::alloc::Global;
+use std::process::Abort;
+
+// Half a million states, of which a position reaches a few.
+#[test]
+fn states_out_of_reach_take_no_time(rt: HostRuntime) {
+    let alloc = rt.alloc();
+    let nfa = nfa_of(alloc, Shape::ByteOrLoop(500000)).expect(&rt, "an NFA");
+    let vm = PikeVM::new_from_nfa(nfa).expect(&rt, "memory");
+    let mut cache = vm.create_cache(alloc).expect(&rt, "memory");
+    expect_ones(&rt, alloc, &vm, &mut cache);
+}
+
+// A hundred thousand searches that find a byte, and one that goes over four million. A search or a position that cleared all
+// rows, or all marks, would take minutes in all.
+fn expect_ones(rt: &impl Abort, alloc: Global, vm: &PikeVM, cache: &mut Cache)
+    requires { Fits cache.old vm.now.nfa }
+{
+    let ones = vec![in alloc; b'a'; 100000].expect(rt, "memory");
+    let count = vm.find_iter(cache, Input::new(&ones)).count();
+    expect(rt, count == 100000, "matches of one byte");
+    let others = vec![in alloc; b'c'; 4000000].expect(rt, "memory");
+    let found = vm.is_match(cache, Input::new(&others));
+    expect(rt, !found, "no match");
+}

@@ -1,0 +1,84 @@
+//! Callers of the laws on paths and on lists of matches.
+ghost use Rattle.std.specs.Prelude.{◌≡◌, ◌+◌, ◌≤◌, false, length, map, IfOk, IfSome, List, None};
+ghost use Rattle.regex_search_core.specs.Found.{found_of};
+ghost use Rattle.regex_search_core.specs.Search.{search_of};
+ghost use Rattle.regex_search_core.specs.declared.search.MatchKind.TheVariants.{LeftmostFirst};
+ghost use Rattle.nfa_engines.specs.Accepting.{MatchesNothing};
+ghost use Rattle.nfa_engines.specs.Automaton.{IsAutomaton};
+ghost use Rattle.nfa_engines.specs.Engines.{Fits, kind_of};
+ghost use Rattle.nfa_engines.specs.GapLaws.{PathsWriteTheirEnds, StartsBeforePaths};
+ghost use Rattle.nfa_engines.specs.Graphs.{ComesBefore, Pair, PathTo};
+ghost use Rattle.nfa_engines.specs.Paths.{edges, is_utf8_empty, span_len, starts, IsMatch};
+ghost use Rattle.nfa_search_base.specs.Lists.{AreApart, AreFirstMatches};
+
+use nfa_engines::laws;
+use nfa_engines::pikevm::{Cache, PikeVM};
+use regex_search_core::{Input, Match};
+use std::alloc::{AllocError, Global};
+
+/// Two accepting paths of which neither comes before the other are one.
+pub fn unordered_paths_are_one(vm: &PikeVM, input: &Input<'_>)
+    ensures { let x = search_of input.now in (m n : Pair) (p q : List Pair)
+        → PathTo (edges vm.now.nfa x) (starts vm.now.nfa x) m p → IsMatch vm.now.nfa m
+        → PathTo (edges vm.now.nfa x) (starts vm.now.nfa x) n q → IsMatch vm.now.nfa n
+        → ¬ (ComesBefore (edges vm.now.nfa x) p q) → ¬ (ComesBefore (edges vm.now.nfa x) q p) → p ≡ q }
+{
+    laws::accepting_paths_are_ordered();
+}
+
+/// The leftmost match, where each accepting path writes its ends. No accepting path starts before it; where there is
+/// none, there is no accepting path.
+pub fn leftmost(vm: &PikeVM, cache: &mut Cache, input: Input<'_>) -> Option<Match>
+    requires fits { Fits cache.old vm.now.nfa }
+    requires kind { kind_of vm.now ≡ LeftmostFirst }
+    requires off { (search_of input).earliest ≡ false }
+    requires anywhere { is_utf8_empty vm.now.nfa ≡ false }
+    requires valid { IsAutomaton vm.now.nfa }
+    requires writes { PathsWriteTheirEnds vm.now.nfa (search_of input) }
+    ensures none { result ≡ None → MatchesNothing vm.now.nfa (search_of input.entry) }
+    ensures start { IfSome result (λ m. StartsBeforePaths vm.now.nfa (search_of input.entry) (found_of m)) }
+{
+    laws::no_gap();
+    match vm.find(cache, input) {
+        Some(found) => Some(found),
+        None => None,
+    }
+}
+
+// The first two matches, or all if there are fewer.
+fn found_first(
+    alloc: Global,
+    vm: &PikeVM,
+    cache: &mut Cache,
+    input: Input<'_>,
+) -> Result<Vec<Match>, AllocError>
+    requires { Fits cache.old vm.now.nfa }
+    ensures { IfOk result (λ v. AreFirstMatches vm.now.nfa (kind_of vm.now) (search_of input.entry).earliest
+        (search_of input.entry) (map found_of v.items)) }
+{
+    let mut found = Vec::new(alloc);
+    for item in vm.find_iter(cache, input) {
+        found.push(item)?;
+        if found.len() == 2 {
+            break;
+        }
+    }
+    Ok(found)
+}
+
+/// The first two matches, or all if there are fewer. They are in the span, and the second ends after the first. There is
+/// at most one more than the span has bytes.
+pub fn first_two(
+    alloc: Global,
+    vm: &PikeVM,
+    cache: &mut Cache,
+    input: Input<'_>,
+) -> Result<Vec<Match>, AllocError>
+    requires { Fits cache.old vm.now.nfa }
+    ensures apart { IfOk result (λ v. AreApart (search_of input.entry) None (map found_of v.items)) }
+    ensures few { IfOk result (λ v. length (map found_of v.items) ≤ span_len (search_of input.entry) + 1) }
+{
+    laws::matches_are_apart();
+    let found = found_first(alloc, vm, cache, input)?;
+    Ok(found)
+}
