@@ -1,29 +1,17 @@
-//! The first program, with the text of its pattern: the matches of `ab+` in a text, and how large a compiled NFA is.
+//! The first program of the README: all matches of `ab+` in a text.
 #![tactic(auto)]
 
-mod finding;
-
-use crate::finding::{find_all_text, find_text, try_find_text};
 use anyhow::Result;
-use nfa_compiler::{Compiler, Config};
+use nfa_compiler::Compiler;
+use nfa_engines::pikevm::PikeVM;
+use regex_search_core::Input;
 
 fn main(rt: HostRuntime) -> Result<()> {
     let alloc = rt.alloc();
-    let compiler = Compiler::new().configure(Config::new().utf8(false));
-    if let Some(found) = find_text(alloc, &compiler, "ab+", b"cab")? {
-        println!(rt; "first {}..{}", found.start(), found.end())?;
-    }
-    if let Some(found) = try_find_text(alloc, &compiler, "ab+", b"cab")? {
-        println!(rt; "first {}..{}", found.start(), found.end())?;
-    }
-    for found in &find_all_text(alloc, &compiler, "ab+", b"ab, abb and b")? {
+    let vm = PikeVM::new_from_nfa(Compiler::new().build(alloc, "ab+")?)?;
+    let mut cache = vm.create_cache(alloc)?;
+    for found in vm.find_iter(&mut cache, Input::new(b"ab, abb and b")) {
         println!(rt; "{}..{}", found.start(), found.end())?;
     }
-    let settings = Compiler::new().build_many(alloc, &["a|ab", r"(?<key>\w+)=(?<value>[^ ]*)"])?;
-    println!(rt;
-        "{} patterns, {} slots",
-        settings.pattern_len(),
-        settings.group_info().slot_len()
-    )?;
     Ok(())
 }

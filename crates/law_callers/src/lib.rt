@@ -1,8 +1,9 @@
-//! Callers of the laws of `nfa_engines`, as users of the library would write them: each takes a law, and says what
+//! Callers of the laws of `nfa_engines` and `nfa_compiler`, as users of the library would write them: each takes a law, and says what
 //! follows of calls. What a law asks is built here from what calls promise.
 #![tactic(auto)]
 
 pub mod paths;
+pub mod patterns;
 pub mod sets;
 
 ghost use Rattle.std.specs.Prelude.{◌≡◌, ◌<◌, ◌≤◌, false, true, length, option_map, IfOk, IfSome, IsErrOf};
