@@ -122,7 +122,7 @@ impl BoundedBacktracker {
         ensures searches { BacktrackerFindsOn self.now (search_of input.entry) cache.old cache.new }
         ensures to_end { IfOk result (λ found.
             BacktrackerFindsToEnd self.now (search_of input.entry) (map found_of found.items) cache.old cache.new) }
-        // Where the span is too long it changes by the count of that one refusal.
+        // Where the span is too long one refusal is counted, and nothing else of it changes.
         ensures early { IsTooLong self.now (search_of input.entry) → cache.new ≡ refused_early cache.old }
     {
         let mut found = Vec::new(alloc);
