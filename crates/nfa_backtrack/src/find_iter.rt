@@ -42,7 +42,9 @@ impl BoundedBacktracker {
     ghost use Rattle.regex_search_core.specs.declared.search.MatchKind.TheVariants.{LeftmostFirst};
     ghost use Rattle.nfa_search_base.specs.Finders.{answer_by};
     ghost use Rattle.nfa_search_base.specs.Lists.{AreMatches, AreApart, IsInside};
-    ghost use Rattle.nfa_backtrack.specs.Finding.{AnswersByLength, IsFindOf, SearchesOnce};
+    ghost use Rattle.nfa_backtrack.specs.Backtrack.{IsTooLong, refused_early};
+    ghost use Rattle.nfa_backtrack.specs.Finding.{AnswersByLength, BacktrackerFindsOn, BacktrackerFindsToEnd, IsFindOf};
+    ghost use Rattle.nfa_backtrack.specs.Finding.{SearchesOnce};
     ghost use Rattle.nfa_search_base.specs.Runs.{GivesFirst, GivesNext, RunsGive};
     ghost use Rattle.nfa_search_base.specs.Walks.{fresh};
     ghost use Rattle.nfa_backtrack.specs.FindMatches.{backtracker_finds_cache, backtracker_finds_done};
@@ -116,6 +118,12 @@ impl BoundedBacktracker {
         ensures apart { IfOk result (λ found. AreApart (search_of input.entry) None (map found_of found.items)) }
         ensures inside { IfOk result (λ found. All (λ m. IsInside (search_of input.entry) (found_of m)) found.items) }
         ensures by_length { AnswersByLength self.now (search_of input.entry) result }
+        // The cache changes by the searches of an iteration alone, and where all matches come these go to its end.
+        ensures searches { BacktrackerFindsOn self.now (search_of input.entry) cache.old cache.new }
+        ensures to_end { IfOk result (λ found.
+            BacktrackerFindsToEnd self.now (search_of input.entry) (map found_of found.items) cache.old cache.new) }
+        // Where the span is too long one refusal is counted, and nothing else of it changes.
+        ensures early { IsTooLong self.now (search_of input.entry) → cache.new ≡ refused_early cache.old }
     {
         let mut found = Vec::new(alloc);
         for item in self.try_find_iter(cache, input) {

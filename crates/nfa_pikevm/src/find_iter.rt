@@ -43,6 +43,7 @@ impl PikeVM {
     ghost use Rattle.nfa_pikevm.specs.FindMatches.{FindsBySearches, GivesCache, pike_finds_cache, pike_finds_done};
     ghost use Rattle.nfa_pikevm.specs.FindMatches.{pike_finds_engine, pike_finds_known, pike_finds_next};
     ghost use Rattle.nfa_pikevm.specs.FindMatches.{pike_finds_walk};
+    ghost use Rattle.nfa_pikevm.specs.Finding.{PikeFindsOn, PikeFindsToEnd};
     ghost use Rattle.nfa_search_base.specs.MatchRuns.{MatchesRun, MatchesAre, MatchesApart, MatchesFirst, MatchesNext};
 
     /// The matches of the input that do not overlap, from left to right. To make this takes no memory. The caller owes
@@ -102,6 +103,10 @@ impl PikeVM {
         ensures apart { IfOk result (λ found. AreApart (search_of input.entry) None (map found_of found.items)) }
         ensures inside { IfOk result (λ found. All (λ m. IsInside (search_of input.entry) (found_of m)) found.items) }
         ensures numbers { SameNumbers cache.old cache.new }
+        // The cache changes by the searches of an iteration alone, and where all matches come these go to its end.
+        ensures searches { PikeFindsOn self.now (search_of input.entry) cache.old cache.new }
+        ensures to_end { IfOk result (λ found.
+            PikeFindsToEnd self.now (search_of input.entry) (map found_of found.items) cache.old cache.new) }
     {
         let mut found = Vec::new(alloc);
         for item in self.find_iter(cache, input) {
