@@ -2,9 +2,9 @@
 ghost use Rattle.std.specs.Prelude.{◌≡◌, ◌+◌, ◌-◌, ◌*◌, ◌^◌, ◌<◌, ◌≤◌, [], None, false, length, replicate, IfOk, OnErr};
 ghost use Rattle.regex_search_core.specs.Search.{search_of};
 ghost use Rattle.regex_search_core.specs.declared.search.MatchKind.TheVariants.{LeftmostFirst};
-ghost use Rattle.nfa_paths.specs.Paths.{span_len};
+ghost use Rattle.nfa_paths.specs.Paths.{span_len, start_count};
 ghost use Rattle.nfa_paths.specs.Restarts.{scan_turns, ScanGives};
-ghost use Rattle.nfa_scanning.specs.FirstBytes.{IsFirstBytes};
+ghost use Rattle.nfa_scanning.specs.FirstBytes.{IsFirstBytes, IsRefused};
 ghost use Rattle.nfa_backtrack_scan.specs.Walk.{pair_of, HasBits, IsPlace, StartsGive};
 
 use crate::frame::Place;
@@ -22,12 +22,16 @@ pub fn unset(slots: &mut [Option<NonMaxUsize>])
     slots.fill(None);
 }
 
-/// The place of a state and a position of the span.
-fn place_of(nfa: &NFA, input: &Input<'_>, sid: StateID, at: usize) -> Place
+/// The place of a start: of a state and a position of the span, which may not be passed over for its byte. The table
+/// of bytes is here for that clause alone.
+#[inline(always)]
+fn place_of(nfa: &NFA, first: &FirstBytes, input: &Input<'_>, sid: StateID, at: usize) -> Place
     requires state { sid < length nfa.now.states }
     requires from { (search_of input.now).start ≤ at }
     requires to { at ≤ (search_of input.now).end }
     requires fits { length nfa.now.states * (span_len (search_of input.now) + 1) < 2 ^ 64 }
+    requires due { at + 1 < (search_of input.now).start + start_count nfa.now (search_of input.now)
+        → IsRefused first.now.may_begin (search_of input.now) at → ⊥ }
     ensures pair { pair_of result ≡ (sid, at) }
     ensures place { IsPlace nfa.now (search_of input.now) result }
 {
@@ -64,7 +68,7 @@ fn try_starts(
     let stop = skip_limit(nfa, input);
     let mut at = next_start(first, input, input.start(), stop);
     while at < limit {
-        let place = place_of(nfa, input, sid, at);
+        let place = place_of(nfa, first, input, sid, at);
         if let Some(half) = walk(nfa, input, place, scratch, slots)? {
             return Ok(Some(half));
         }

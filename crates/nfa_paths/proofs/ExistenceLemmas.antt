@@ -10,13 +10,14 @@ use Rattle.regex_search_core.specs.declared.search.MatchKind.{MatchKind}
 use Rattle.regex_search_core.specs.declared.search.MatchKind.TheVariants.{All, LeftmostFirst}
 use Rattle.thompson_nfa.specs.Automaton.{Automaton, Node}
 use Rattle.thompson_nfa.specs.Automaton.Node.{Fail}
-use Rattle.nfa_paths.specs.Graphs.{Pair, In, NoPath}
+use Rattle.nfa_paths.specs.Graphs.{Pair, In, NoPath, IsFirstPath}
+use Rattle.nfa_paths.specs.Kinds.{Passes}
 use Rattle.nfa_paths.specs.Paths.{pattern_of, pairs_from, raised, node_at, is_match, IsMatch, is_utf8_empty, edges_of, edges, starts, IsScanAnswer, EndsOnBoundary, IsWhole, SplitsCharacter, IsKeptAnswer, IsRestartedAnswer, IsSearchAnswer}
 use Rattle.nfa_paths.proofs.MemberLemmas.{In-append_left, In-append_right}
 use Rattle.nfa_paths.proofs.StartLemmas.{starts-increase, IsMatch-edges}
 use Rattle.nfa_paths.proofs.AnswerLemmas.{scan_answer-leads, scan_answer-within}
 use Rattle.nfa_paths.proofs.ScanAnswerLemmas.{edges-within, starts-within}
-use Rattle.nfa_paths.proofs.FinitePathLemmas.{IsFinite}
+use Rattle.nfa_paths.proofs.FinitePathLemmas.{IsFinite, first_to}
 use Rattle.nfa_paths.proofs.FiniteKindsLemmas.{first_path_exists, earliest_path_exists, last_path_exists, earliest_last_path_exists}
 
 -- the pairs of an NFA
@@ -91,6 +92,11 @@ module _ (nfa : Automaton) where
           | inl state ↦ In-all_pairs (length nfa.states) (x.end + 1) v state (omega arith)
           | inr past ↦ absurd (is_match-past v past t)
         ]
+
+    -- of the paths to the matches that a test wants there is a first one, or there is none
+    pub first_wanted-exists : (wants : Pair → Bool) → ((v : Pair) → wants v ≡ true → is_match nfa v ≡ true)
+        → (path : Option (List Pair)) × IsFirstPath (edges nfa x) (starts nfa x) (Passes wants) path
+    first_wanted-exists wants sub = first_to pairs_finite wants (λ v t. IsMatch-edges nfa x v (sub v t))
 
     -- every scan has an answer, of each kind
     pub scan_answer-exists : (kind : MatchKind) (earliest : Bool) → (path : Option (List Pair))

@@ -26,5 +26,6 @@ pub mod GainLemmas
 pub mod SoundLemmas
 pub mod MetLemmas
 pub mod UpToLemmas
+pub mod FullLemmas
 pub mod TurnLemmas
 pub mod RestartLemmas

@@ -20,16 +20,18 @@ use Rattle.nfa_paths.proofs.MetLemmas.{Between, Between-all, Between-before, Bet
 use Rattle.nfa_paths.proofs.MetLemmas.{Best, Best-found, Exact, Exact-start, Exact-next, Exact-match, Exact-end}
 use Rattle.nfa_paths.proofs.MetLemmas.{Answer-ahead, before_target, before_is, before_match-same, first_match-same}
 use Rattle.nfa_paths.proofs.UpToLemmas.{UpTo, UpTo-next, UpTo-match, UpTo-end}
+use Rattle.nfa_paths.proofs.FullLemmas.{UpTo-full}
+use Rattle.nfa_paths.proofs.SetLemmas.{first-gains}
 use Rattle.nfa_paths.proofs.ScanAnswerLemmas.{edges-onward, seeds-later}
 use Rattle.nfa_paths.proofs.SearchingLemmas.{Searching-load, Searching-done}
 use Rattle.nfa_scanning.specs.Marks.{Marks}
-use Rattle.nfa_pikevm_scan.specs.Scans.{starts_from, with_start, AreStarts, AreAt, IsPaidAt}
+use Rattle.nfa_pikevm_scan.specs.Scans.{starts_from, with_start, AreStarts, AreAt, IsPaidAt, scan_turns}
 use Rattle.nfa_pikevm_scan.specs.States.{Front, moves, tasks, unmarked, SeenAt, SearchingAt}
 use Rattle.nfa_pikevm_scan.specs.Overlapping.{wants, Gathers, GathersFirst, GoesPast, CrossesInSet}
 use Rattle.nfa_pikevm_scan.specs.declared.scan.Starts.{Starts}
 use Rattle.nfa_pikevm_scan.proofs.RoomLemmas.{AreAt-none, few-joined, over-joined}
 use Rattle.nfa_pikevm_scan.proofs.TaskLemmas.{starts_from-end, tasks-joined, Searching-begin}
-use Rattle.nfa_pikevm_scan.proofs.FrontLemmas.{Formed-resting, Formed-next, SeenAt-none}
+use Rattle.nfa_pikevm_scan.proofs.FrontLemmas.{Formed-resting, Formed-next, SeenAt-none, IsPaidAt-end}
 use Rattle.nfa_pikevm_scan.proofs.ScanLemmas.{Crossed, set-crossed, AreAt-cross, IsPaidAt-crossed, first-miss, first-hit}
 use Rattle.nfa_pikevm_scan.proofs.EndLemmas.{SearchingAt-begin}
 use Rattle.nfa_pikevm_scan.proofs.OverlapSetLemmas.{wants-tells, wants-match}
@@ -221,6 +223,24 @@ module _ (nfa : Automaton) (x : Search) (old : List Bool) where
   FirstWay-end good {from} {at} {items = items} empty w none past =
       FirstWay-over good empty w (rw (none, le-ltb at from.limit past) refl)
 
+  -- a full set gains no more
+  pub FirstWay-full : {from : Starts} {at before : ℕ} {met : Marks} {items : List (ℕ × Slots)} {new : List Bool}
+      → size_of_set old ≡ 0 → FirstWay from at before met items new → size_of_set new ≡ length new
+      → IsOverlapResult nfa x LeftmostFirst false old new
+  FirstWay-full {at = at} {new = new} empty w full = of w.so_far w.holds w.exact
+    where
+      of : (g : Hit) → UpTo nfa x old wanted tells at g new → Exact nfa x old wanted tells at g new
+          → IsOverlapResult nfa x LeftmostFirst false old new
+      of None same exact = rw same (first-gains nfa x false old (rw same at full) empty)
+      of (Some a) u exact = UpTo-full nfa x old wanted tells empty u exact full
+
+  -- the turns after a position of the span
+  pub FirstWay-turns : {from : Starts} {at before : ℕ} {met : Marks} {items : List (ℕ × Slots)} {new : List Bool}
+      → x.start ≤ x.end → at ≤ x.end + 1 → FirstWay from at before met items new
+      → met.turns ≤ before + scan_turns nfa x
+  FirstWay-turns {at = at} {before} {met} {items} span within w =
+      IsPaidAt-end nfa x at before met.turns (length items) within span w.paid
+
   module _ {from : Starts} {at before : ℕ} {met : Marks} {items : List (ℕ × Slots)} {mid : List Bool} {hit : Bool}
       {after : Marks} {kept : List (ℕ × Slots)} {new : List Bool}
       (good : IsAutomaton nfa) (low : x.start ≤ at) (w : FirstWay from at before met items mid)
@@ -295,6 +315,15 @@ module _ (nfa : Automaton) (x : Search) (old : List Bool) where
         let below : held.pattern < length old = held.below in
         let size : length mid ≡ length old = FirstWay-capacity w in
         omega arith
+
+    -- no match: the set stays
+    pub set-stays : hit ≡ false → new ≡ mid
+    set-stays off =
+        of (first_match wanted c.front) (subst (λ h. Gathers nfa false wanted c.front mid h new) off c.gathers)
+      where
+        of : (g : Hit) → GathersFirst nfa g mid false new → new ≡ mid
+        of None still = still.1
+        of (Some a) put = let never : false ≡ true = put.0 in cc
 
     -- no match: the next position
     pub FirstWay-next : hit ≡ false → FirstWay from (at + 1) before after kept new

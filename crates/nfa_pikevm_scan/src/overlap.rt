@@ -57,7 +57,7 @@ impl Taker for Gatherer<'_> {
 }
 
 /// Follows the states at the position, and keeps what its byte leads to for the next one. Answers whether a match that
-/// counts was met.
+/// counts was met. A full set gains nothing, so no position is crossed for one.
 fn cross_to_set(
     nfa: &NFA,
     input: &Input<'_>,
@@ -71,6 +71,7 @@ fn cross_to_set(
     requires room { HaveRows nfa.now 0 threads.old }
     requires some { 0 < length threads.old.curr.items }
     requires empty { threads.old.reached.next.items ≡ [] }
+    requires not_full { size_of_set patterns.old < length patterns.old }
     ensures width { threads.new.curr.width ≡ threads.old.curr.width }
     ensures sizes { SameSizes threads.old threads.new }
     ensures scans { threads.new.scans ≡ threads.old.scans }
@@ -128,6 +129,7 @@ fn overlap_earliest(
     requires valid { IsAutomaton nfa.now }
     requires ready { MayScan nfa.now (search_of input.now) starts.now 0 threads.old }
     requires empty { past_match ≡ false → size_of_set patterns.old ≡ 0 }
+    requires not_full { size_of_set patterns.old < length patterns.old }
     ensures sizes { SameSizes threads.old threads.new }
     ensures scans { threads.new.scans ≡ threads.old.scans }
     ensures turns { IsWithinTurns nfa.now (search_of input.now) threads.old threads.new }
@@ -158,6 +160,7 @@ fn overlap_first(
     requires valid { IsAutomaton nfa.now }
     requires ready { MayScan nfa.now (search_of input.now) starts.now 0 threads.old }
     requires empty { size_of_set patterns.old ≡ 0 }
+    requires not_full { size_of_set patterns.old < length patterns.old }
     ensures sizes { SameSizes threads.old threads.new }
     ensures scans { threads.new.scans ≡ threads.old.scans }
     ensures turns { IsWithinTurns nfa.now (search_of input.now) threads.old threads.new }
@@ -171,6 +174,10 @@ fn overlap_first(
         }
         let met = cross_to_set(nfa, input, at, false, threads, patterns);
         move_on(threads);
+        if met && patterns.is_full() {
+            // It gains nothing more.
+            return;
+        }
         if met {
             // A later start comes behind it.
             joining.limit = 0;
@@ -190,6 +197,7 @@ fn overlap_from(
     requires valid { IsAutomaton nfa.now }
     requires ready { MayScan nfa.now (search_of input.now) starts.now 0 threads.old }
     requires empty { kind ≡ LeftmostFirst → size_of_set patterns.old ≡ 0 }
+    requires not_full { size_of_set patterns.old < length patterns.old }
     ensures sizes { SameSizes threads.old threads.new }
     ensures scans { threads.new.scans ≡ threads.old.scans }
     ensures turns { IsWithinTurns nfa.now (search_of input.now) threads.old threads.new }

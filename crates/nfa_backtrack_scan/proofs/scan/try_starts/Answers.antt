@@ -51,6 +51,7 @@ loop-at-init c =
           (c.start_limit-limit.ensures.starts c.in-Some.sid known);
       low = low;
       high = c.next_start-at.ensures.high;
+      due = λ below. c.next_start-at.ensures.least (omega arith);
       scans = refl;
       size = refl;
       empty = c.requires.empty;
@@ -76,6 +77,7 @@ loop-at-preserved c =
           (sym c.in-Some.ensures.value) next.passed);
       low = omega (arith, c.loop-at.invariant.low, c.next_start-at-in-loop-at.ensures.low);
       high = next.high;
+      due = λ below. next.least (omega arith);
       scans = c.walk.ensures.scans ∙ c.loop-at.invariant.scans;
       size = c.walk.ensures.size ∙ c.loop-at.invariant.size;
       empty = fails.empty;

@@ -1,9 +1,10 @@
 -- At each start the answer from there is the answer from all starts, and the turns so far are bounded.
-use Rattle.std.proofs.Common.{◌≡◌, ◌+◌, ◌-◌, ◌≤◌, [], length, map}
+use Rattle.std.proofs.Common.{◌≡◌, ◌+◌, ◌-◌, ◌<◌, ◌≤◌, [], length, map}
 use Rattle.regex_search_core.specs.Search.{search_of}
-use Rattle.nfa_paths.specs.Paths.{starts, pairs_from}
+use Rattle.nfa_paths.specs.Paths.{starts, start_count, pairs_from}
 use Rattle.nfa_paths.specs.Exploring.Item.{Explore}
 use Rattle.nfa_paths.specs.Turns.{marked_sum}
+use Rattle.nfa_scanning.specs.FirstBytes.{IsRefused}
 use Rattle.nfa_backtrack_scan.specs.Walk.{Carries, weights}
 use Rattle.nfa_backtrack_scan.proofs.scan.try_starts.Given as goal
 
@@ -14,6 +15,8 @@ invariant-loop-at l = record {
       l.scratch.visited (map Explore (pairs_from l.sid l.at (l.limit - l.at))) l.slots;
   low : (search_of l.input).start ≤ l.at;
   high : l.at ≤ (search_of l.input).end + 1;
+  due : l.at + 1 < (search_of l.input).start + start_count l.nfa (search_of l.input)
+      → IsRefused l.first.may_begin (search_of l.input) l.at → ⊥;
   scans : l.scratch.scans ≡ l.fn.scratch.scans;
   size : length l.scratch.visited.bits ≡ length l.fn.scratch.visited.bits;
   empty : l.scratch.stack.items ≡ [];

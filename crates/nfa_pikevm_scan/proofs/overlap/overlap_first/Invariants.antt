@@ -1,6 +1,7 @@
 -- The set gains the pattern of the first match, and those that were met on the way to its end.
 use Rattle.std.proofs.Common.{◌≡◌, ◌≤◌, ◌<◌, ◌+◌, [], length}
 use Rattle.regex_search_core.specs.Search.{search_of}
+use Rattle.regex_search_core.specs.PatternSets.{size_of_set}
 use Rattle.nfa_pikevm_scan.proofs.OverlapFirstLemmas.{FirstWay}
 use Rattle.nfa_pikevm_scan.specs.Scans.{SameSizes}
 use Rattle.nfa_pikevm_scan.proofs.overlap.overlap_first.Given as goal
@@ -17,5 +18,6 @@ invariant-loop-at l = record {
   so_far : FirstWay l.nfa (search_of l.input) l.fn.patterns l.joining l.at l.fn.threads.reached.seen.turns
       l.threads.reached.seen
       l.threads.curr.items l.patterns;
+  not_full : size_of_set l.patterns < length l.patterns;
   counted : l.threads.scans ≡ l.fn.threads.scans;
 }
