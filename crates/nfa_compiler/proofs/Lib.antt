@@ -9,6 +9,7 @@ pub mod CharLemmas
 pub mod MeantLemmas
 pub mod TextLemmas
 pub mod BoundLemmas
+pub mod WayLemmas
 pub mod ExistsLemmas
 pub mod NameLemmas
 pub mod GroupLemmas
