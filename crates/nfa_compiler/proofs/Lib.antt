@@ -4,6 +4,7 @@ pub mod BlockLemmas
 pub mod StartLemmas
 pub mod SearchLemmas
 pub mod AddLemmas
+pub mod RangeLemmas
 pub mod CompiledLemmas
 pub mod CharLemmas
 pub mod MeantLemmas
