@@ -16,13 +16,13 @@ use Rattle.nfa_compiler.specs.Added.{Adds, HoldsStates}
 use Rattle.nfa_compiler.specs.Compiled.{IsPatternAt, ArePatterns, Chooses, first_slot}
 
 -- a node that was there stays
-kept-at : (old new : List Node) → Adds old new → (i : ℕ) → i < length old
+pub kept-at : (old new : List Node) → Adds old new → (i : ℕ) → i < length old
     → slice_index_or new i Fail ≡ slice_index_or old i Fail
 kept-at old new adds i inside =
     ap (λ ns. slice_index_or ns i Fail) adds.1 ∙ get_or_append_left old adds.0 Fail i inside
 
 -- the node that was added last
-last-at : (old : List Node) (n : Node) (i : ℕ) → i ≡ length old → slice_index_or (old ++ n ∷ []) i Fail ≡ n
+pub last-at : (old : List Node) (n : Node) (i : ℕ) → i ≡ length old → slice_index_or (old ++ n ∷ []) i Fail ≡ n
 last-at old n i is =
     let none : i - length old ≡ 0 = omega arith in
     get_or-append_right old (n ∷ []) (length old) i Fail refl (omega arith)

@@ -1,5 +1,5 @@
 -- All matches and all captures of a search of a compiled NFA are those of all hits of its patterns.
-use Rattle.std.proofs.Common.{◌≡◌, ℕ, ◌+◌, ◌≤◌, ◌<◌, Bool, false, List, [], ◌∷◌, map, length, refl, sym, ap, ap₂, ◌∙◌, arith}
+use Rattle.std.proofs.Common.{◌≡◌, ℕ, ◌+◌, ◌<◌, false, List, [], ◌∷◌, map, length, sym, ap, ap₂, ◌∙◌}
 use Rattle.std.specs.Prelude.{Option, None, Some, Ok, Err, All, option_map, option_and_then, ◌==◌}
 use Rattle.regex_hir.specs.Re.{Re}
 use Rattle.regex_hir.specs.Find.{find, find_all}
@@ -13,12 +13,11 @@ use Rattle.regex_syntax.specs.declared.Config.{Config}
 use Rattle.thompson_nfa.specs.Automaton.{Automaton}
 use Rattle.nfa_paths.specs.Paths.{is_utf8_empty, path_pattern, slot_row, IsAnswer, IsMatchAnswer}
 use Rattle.nfa_search_base.specs.Catching.{Row, row_found, row_span}
-use Rattle.nfa_search_base.specs.CaughtLists.{AreRows, IsRow, TellsRow}
+use Rattle.nfa_search_base.specs.CaughtLists.{AreRows, TellsRow}
 use Rattle.nfa_search_base.specs.Lists.{AreMatches, TellsMatch}
 use Rattle.nfa_search_base.specs.Walks.{Answer, span_of}
 use Rattle.nfa_compiler.specs.AllHits.{all_hits, hit_at, hits_from, row_of_hit}
 use Rattle.nfa_compiler.specs.Compiled.{AreMeant, IsCompiled, IsNfaOf}
-use Rattle.nfa_compiler.specs.Laws.{hit}
 use Rattle.nfa_compiler.specs.Patterns.{Hit, found_at, found_in, hit_by, slots_of}
 use Rattle.nfa_compiler.proofs.AllLemmas.{Meets, all-items, hits-are-matches}
 use Rattle.nfa_compiler.proofs.BoundLemmas.{hit-lies}

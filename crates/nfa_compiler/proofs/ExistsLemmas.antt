@@ -1,6 +1,6 @@
 -- There is a hit exactly if some pattern matches somewhere.
-use Rattle.std.proofs.Common.{◌≡◌, ℕ, zero, suc, ◌+◌, ◌-◌, ◌≤◌, ◌<◌, ◌⊎◌, inl, inr, Bool, true, false, List, [], ◌∷◌, length, refl, sym, ap, ◌∙◌, subst, arith}
-use Rattle.std.specs.Prelude.{Option, None, Some, is_some, option_map, option_and_then, slice_get, slice_index_or, if◌then◌else◌, ◌==◌, ◌↔◌, ◌||◌}
+use Rattle.std.proofs.Common.{◌≡◌, ℕ, zero, suc, ◌+◌, ◌-◌, ◌≤◌, ◌<◌, inl, inr, Bool, true, false, List, [], ◌∷◌, length, refl, sym, ap, subst, arith}
+use Rattle.std.specs.Prelude.{Option, None, Some, is_some, slice_index_or, if◌then◌else◌, ◌↔◌, ◌||◌}
 use Rattle.std.specs.Option.{option_or}
 use Rattle.std.proofs.lemmas.Bool.{cases_lt, lt-ltb, le-ltb}
 use Rattle.std.proofs.lemmas.Option.{slice_get_past, slice_get-get_or}
@@ -11,9 +11,7 @@ use Rattle.regex_search_core.specs.declared.search.Anchored.TheVariants.{No, Yes
 use Rattle.regex_hir.specs.Re.{Re, Trace, accept, attempt, empty}
 use Rattle.regex_hir.specs.Matches.{Matches}
 use Rattle.regex_hir.proofs.AttemptLemmas.{attempt_complete, attempt_sound}
-use Rattle.regex_hir.proofs.OptionLemmas.{IsSome-option_or_left, IsSome-option_or_right, option_or_cases, value_of_IsSome}
-use Rattle.thompson_nfa.specs.Automaton.{Automaton}
-use Rattle.nfa_compiler.specs.Laws.{hit}
+use Rattle.regex_hir.proofs.OptionLemmas.{IsSome-option_or_left, IsSome-option_or_right, value_of_IsSome}
 use Rattle.nfa_compiler.specs.KindLaws.{IsTried, MatchesSomewhere}
 use Rattle.nfa_compiler.specs.Patterns.{Hit, expected, first_hit, hit_at_start, hit_of, pick, pick_one}
 

@@ -1,6 +1,6 @@
 -- The span that captures of a hit give for an explicit group is that of the positions last written for it.
-use Rattle.std.proofs.Common.{◌≡◌, ℕ, ◌+◌, ◌*◌, ◌-◌, ◌≤◌, ◌<◌, inl, inr, Bool, List, map, take, length, refl, sym, ap, ap₂, ◌∙◌, subst, arith, ne_eqb}
-use Rattle.std.specs.Prelude.{Option, None, Some, [], option_and_then, option_map, if◌then◌else◌, ◌==◌, nat_lt, position}
+use Rattle.std.proofs.Common.{◌≡◌, ℕ, ◌+◌, ◌*◌, ◌-◌, ◌≤◌, ◌<◌, inl, inr, Bool, List, map, take, length, refl, sym, ap, ap₂, ◌∙◌, arith, ne_eqb}
+use Rattle.std.specs.Prelude.{Option, None, Some, [], option_and_then, option_map, position}
 use Rattle.std.specs.List.{position_or_len, sum_by, range_with_len}
 use Rattle.std.specs.Option.{option_or}
 use Rattle.std.proofs.lemmas.Bool.{cases_lt, le-ltb, lt-ltb}

@@ -4,11 +4,13 @@ pub mod BlockLemmas
 pub mod StartLemmas
 pub mod SearchLemmas
 pub mod AddLemmas
+pub mod RangeLemmas
 pub mod CompiledLemmas
 pub mod CharLemmas
 pub mod MeantLemmas
 pub mod TextLemmas
 pub mod BoundLemmas
+pub mod WayLemmas
 pub mod ExistsLemmas
 pub mod NameLemmas
 pub mod GroupLemmas

@@ -6,7 +6,7 @@ use Rattle.regex_search_core.specs.Groups.{slot_count}
 use Rattle.regex_search_core.specs.Search.{Search}
 use Rattle.thompson_nfa.specs.Automaton.{Automaton}
 use Rattle.nfa_search_base.specs.Catching.{Row}
-use Rattle.nfa_compiler.specs.Patterns.{Hit, expected, slots_of}
+use Rattle.nfa_compiler.specs.Patterns.{Hit, slots_of}
 use Rattle.nfa_compiler.specs.Laws.{hit}
 
 -- the hit after one that ended at i, where `hit_from` gives the first hit from a position on: an empty hit at i is

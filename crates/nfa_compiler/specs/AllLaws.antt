@@ -1,7 +1,7 @@
 -- What iterations over the matches of a compiled NFA find: all hits of its patterns.
 use Rattle.std.specs.Prelude.{◌≡◌, ℕ, ◌<◌, All, Bool, false, List, [], ◌∷◌, length, map, ◌==◌}
 use Rattle.regex_hir.specs.Re.{Re}
-use Rattle.regex_hir.specs.Find.{Match, find_all}
+use Rattle.regex_hir.specs.Find.{find_all}
 use Rattle.regex_search_core.specs.Found.{Found}
 use Rattle.regex_search_core.specs.Search.{Search}
 use Rattle.regex_search_core.specs.declared.search.Anchored.TheVariants.{No}

@@ -1,5 +1,5 @@
 -- The states of one pattern among those of an NFA: those of an NFA of `regex_nfa`, moved.
-use Rattle.std.specs.Prelude.{◌≡◌, ℕ, ◌+◌, ◌-◌, ◌*◌, ◌<◌, ◌≤◌, List, length, map, All, Option, Some, None, if◌then◌else◌, nat_lt, slice_range, slice_index_or}
+use Rattle.std.specs.Prelude.{◌≡◌, ℕ, ◌+◌, ◌-◌, ◌*◌, ◌<◌, ◌≤◌, List, length, map, All, if◌then◌else◌, nat_lt, slice_range, slice_index_or}
 use Rattle.regex_search_core.specs.Patterns.{number_of}
 use Rattle.regex_hir.specs.declared.look.Look as theirs
 use Rattle.regex_hir.specs.declared.look.Look.TheVariants as their_look

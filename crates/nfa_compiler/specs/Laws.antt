@@ -1,5 +1,5 @@
 -- What searches of a compiled NFA find: the hits that its patterns mean.
-use Rattle.std.specs.Prelude.{◌≡◌, ℕ, ◌≤◌, ◌<◌, All, Bool, false, List, [], ◌∷◌, length, Option, Some, is_some, option_map, ◌==◌}
+use Rattle.std.specs.Prelude.{◌≡◌, ℕ, ◌≤◌, ◌<◌, All, Bool, false, List, [], ◌∷◌, length, Option, is_some, option_map, ◌==◌}
 use Rattle.regex_hir.specs.Looks.{holds}
 use Rattle.regex_hir.specs.Re.{Re}
 use Rattle.regex_hir.specs.declared.look.Look as theirs

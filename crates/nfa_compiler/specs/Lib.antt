@@ -5,6 +5,7 @@ pub mod Blocks
 pub mod Added
 pub mod Compiled
 pub mod Laws
+pub mod WayLaws
 pub mod KindLaws
 pub mod NameLaws
 pub mod AllHits

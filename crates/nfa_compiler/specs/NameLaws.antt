@@ -1,5 +1,5 @@
 -- The names of groups in an NFA: those that the grammar reads in the texts, and the spans that captures give for them.
-use Rattle.std.specs.Prelude.{◌≡◌, ℕ, ◌+◌, ◌*◌, ◌≤◌, ◌<◌, Bool, List, drop, length, map, Option, Some, None, IsSomeAnd, chars, option_and_then, if◌then◌else◌, nat_le}
+use Rattle.std.specs.Prelude.{◌≡◌, ℕ, ◌+◌, ◌*◌, ◌≤◌, List, drop, length, map, Option, Some, None, IsSomeAnd, chars, option_and_then, if◌then◌else◌, nat_le}
 use Rattle.std.specs.List.{AllZip}
 use Rattle.regex_hir.specs.Re.{Re}
 use Rattle.regex_hir.specs.Find.{last_write}

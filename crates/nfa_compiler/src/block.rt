@@ -151,6 +151,7 @@ impl Site {
         requires size { self.size ≤ vec_len nfa.now.states }
         ensures start { IfOk result (λ start. start ≡ match_at self + 1) }
         ensures added { OnOk result (Adds (map node_of states.old.items) (map node_of states.new.items)) }
+        ensures count { OnOk result (vec_len states.new ≡ match_at self + 2) }
         ensures block { OnOk result (IsBlock (map node_of states.new.items) nfa.now self) }
     {
         self.add_states(alloc, nfa, states)?;

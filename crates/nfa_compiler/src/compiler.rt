@@ -1,12 +1,14 @@
 //! The compiler: trees of patterns to one NFA.
-ghost use Rattle.std.specs.Prelude.{◌≡◌, ◌==◌, ◌<◌, ◌∷◌, [], All, true, false, IfOk, OnOk, length, map, vec_len};
+ghost use Rattle.std.specs.Prelude.{◌≡◌, ◌==◌, ◌+◌, ◌*◌, ◌<◌, ◌∷◌, [], All, true, false, IfOk, OnOk};
+ghost use Rattle.std.specs.Prelude.{length, map, vec_len};
 ghost use Rattle.regex_hir.specs.Meaning.{meaning};
 ghost use Rattle.regex_compile.specs.Implements.{Implements};
+ghost use Rattle.regex_search_core.specs.Groups.{slot_count};
 ghost use Rattle.thompson_nfa.specs.Automaton.{IsAutomaton, node_of};
 ghost use Rattle.nfa_paths.specs.Paths.{is_utf8_empty};
 ghost use Rattle.nfa_compiler.specs.Compiled.{AlwaysReads, ArePatterns, IsCompiled, IsNfaOf, IsPatternAt};
-ghost use Rattle.nfa_compiler.specs.Compiled.{groups_of, res_of};
-ghost use Rattle.nfa_compiler.specs.Added.{Adds};
+ghost use Rattle.nfa_compiler.specs.Compiled.{explicit_names, groups_of, res_of};
+ghost use Rattle.nfa_compiler.specs.Added.{Adds, AreInRange, KeepsInRange};
 
 use crate::block::Site;
 use crate::config::Config;
@@ -144,15 +146,13 @@ impl Compiler {
         let anchored = choice(alloc, &mut states, &starts)?;
         let unanchored = self.unanchored(&mut states, anchored)?;
         let has_empty = may_one_be_empty(patterns);
-        Ok(NFA::from_states(
-            states,
-            anchored,
-            unanchored,
-            starts,
-            groups,
-            has_empty,
-            self.config.utf8,
-        )?)
+        let utf8 = self.config.utf8;
+        match NFA::from_states(
+            states, anchored, unanchored, starts, groups, has_empty, utf8,
+        ) {
+            Ok(nfa) => Ok(nfa),
+            Err(_) => unreachable!(),
+        }
     }
 
     /// The start of unanchored searches: a prefix that skips bytes, or the anchored start if the NFA is anchored.
@@ -161,7 +161,10 @@ impl Compiler {
         states: &mut Vec<State>,
         anchored: StateID,
     ) -> Result<StateID, CompileError>
+        requires { anchored < vec_len states.old }
         ensures added { OnOk result (Adds (map node_of states.old.items) (map node_of states.new.items)) }
+        ensures range { OnOk result (KeepsInRange (map node_of states.old.items) (map node_of states.new.items)) }
+        ensures within { IfOk result (λ start. start < vec_len states.new) }
         ensures bound { IfOk result (λ start. self.now.config.anchored ≡ true → start ≡ anchored) }
         ensures free { IfOk result (λ start. self.now.config.anchored ≡ false → start ≡ vec_len states.old) }
     {
@@ -171,17 +174,20 @@ impl Compiler {
         prefix(states, anchored)
     }
 
-    /// Adds the states of these patterns, and returns the start of each.
+    /// Adds the states of these patterns, and returns the start of each. Requires that there are no states yet.
     fn add_patterns(
         &self,
         alloc: Global,
         patterns: &[Parsed],
         states: &mut Vec<State>,
     ) -> Result<Vec<StateID>, CompileError>
+        requires { vec_len states.old ≡ 0 }
         ensures count { IfOk result (λ starts. length starts.items ≡ length patterns.now) }
         ensures made { IfOk result (λ starts. ArePatterns (map node_of states.new.items) (groups_of patterns.now)
             starts.items (res_of patterns.now) (length patterns.now)) }
         ensures inside { IfOk result (λ starts. All (λ s. s < vec_len states.new) starts.items) }
+        ensures range { OnOk result (AreInRange (slot_count (groups_of patterns.now)) (length patterns.now)
+            (map node_of states.new.items)) }
     {
         let mut starts = Vec::with_capacity(alloc, patterns.len())?;
         let mut slots = slots_for(patterns.len())?;
@@ -193,6 +199,7 @@ impl Compiler {
     }
 
     /// Adds the states of this pattern, and returns its start. Its explicit groups have the slots from `slots` on.
+    /// Requires that the numbers in the states so far are in range.
     fn add_pattern(
         &self,
         alloc: Global,
@@ -201,8 +208,12 @@ impl Compiler {
         slots: usize,
         states: &mut Vec<State>,
     ) -> Result<StateID, CompileError>
+        requires slots { 2 * index + 1 < slots }
+        requires range { AreInRange slots index (map node_of states.old.items) }
         ensures made { IfOk result (λ start. IsPatternAt (map node_of states.new.items) slots index start
             (meaning pattern.now.hir)) }
+        ensures range { OnOk result (AreInRange (slots + 2 * length (explicit_names pattern.now)) (index + 1)
+            (map node_of states.new.items)) }
         ensures inside { IfOk result (λ start. start < vec_len states.new) }
         ensures added { OnOk result (Adds (map node_of states.old.items) (map node_of states.new.items)) }
     {
@@ -219,7 +230,8 @@ impl Compiler {
 
     /// Compiles the pattern to an NFA of its own.
     fn compile(&self, alloc: Global, index: usize, pattern: &Parsed) -> Result<Nfa, CompileError>
-        ensures { IfOk result (λ nfa. Implements nfa (meaning pattern.now.hir)) }
+        ensures implements { IfOk result (λ nfa. Implements nfa (meaning pattern.now.hir)) }
+        ensures slots { IfOk result (λ nfa. nfa.slot_count ≡ 2 * length pattern.now.names.items) }
     {
         let Ok(groups) = u32::try_from(pattern.names.len()) else {
             return Err(CompileError::TooManyGroups);

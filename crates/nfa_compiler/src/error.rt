@@ -3,7 +3,6 @@ use crate::syntax_error::SyntaxError;
 use regex_search_core::Refused;
 use std::alloc::{AllocError, AllocFailed};
 use thiserror::Error;
-use thompson_nfa::BuildError;
 
 /// Why a compiler made no NFA. Patterns are named by their numbers, from 0 on.
 #[derive(Debug, Drop, Error)]
@@ -30,20 +29,6 @@ pub enum CompileError {
     /// There are more slots of groups than slot numbers.
     #[error("too many groups")]
     TooManyGroups,
-    /// `NFA::from_states` refused the states. A compiler means to make none that are refused.
-    #[error("the states were refused: {0}")]
-    States(BuildError),
-}
-
-impl From<BuildError> for CompileError {
-    ghost use Rattle.std.specs.Prelude.{◌≡◌};
-    ghost use Rattle.nfa_compiler.specs.declared.error.CompileError.TheVariants as error;
-
-    ghost from_gives = { λ e made. made ≡ error.States e };
-
-    fn from(error: BuildError) -> CompileError {
-        CompileError::States(error)
-    }
 }
 
 impl From<Refused> for CompileError {

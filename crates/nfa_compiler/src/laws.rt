@@ -5,10 +5,18 @@ ghost use Rattle.nfa_compiler.specs.KindLaws.{AnswersIfMatches, FindsIfMatches};
 ghost use Rattle.nfa_compiler.specs.Laws.{AnswersAreHits, FindsHits, LooksAgree, MatchesAreHits, OneHitIsFind};
 ghost use Rattle.nfa_compiler.specs.Laws.{TextsAreAnswered, TextsAreMatched};
 ghost use Rattle.nfa_compiler.specs.NameLaws.{GroupsAreNamed, GroupsAreWritten, NamesAreWritten};
+ghost use Rattle.nfa_compiler.specs.WayLaws.{PatternsRecordBounds, TextsRecordBounds};
 
 /// An assertion of an NFA holds where that of the pattern does.
 pub fn assertions_agree()
     ensures { LooksAgree }
+{}
+
+/// `nfa_bounds::records_bounds` is true of a compiled NFA: each way through its states, from a start of a search to a
+/// match, writes where it starts and where it ends. So the laws of `nfa_bounds` hold of it, and no test is needed.
+pub fn compiled_nfas_record_bounds()
+    ensures patterns { PatternsRecordBounds }
+    ensures texts { TextsRecordBounds }
 {}
 
 /// A leftmost first search finds the hit at the least start at which one of the patterns matches, of the first of these

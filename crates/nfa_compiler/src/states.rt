@@ -1,7 +1,7 @@
 //! Adding states after others.
 ghost use Rattle.std.specs.Prelude.{◌≡◌, ◌<◌, ◌++◌, ◌∷◌, [], All, IfOk, OnOk, map, vec_len};
 ghost use Rattle.thompson_nfa.specs.Automaton.{node_of};
-ghost use Rattle.nfa_compiler.specs.Added.{Adds};
+ghost use Rattle.nfa_compiler.specs.Added.{Adds, KeepsInRange};
 ghost use Rattle.nfa_compiler.specs.Compiled.{Chooses};
 
 use crate::error::CompileError;
@@ -29,6 +29,7 @@ pub(crate) fn choice(
     ensures chooses { IfOk result (λ state. Chooses (map node_of states.new.items) state starts.now) }
     ensures within { IfOk result (λ state. state < vec_len states.new) }
     ensures added { OnOk result (Adds (map node_of states.old.items) (map node_of states.new.items)) }
+    ensures range { OnOk result (KeepsInRange (map node_of states.old.items) (map node_of states.new.items)) }
 {
     if let [one] = starts {
         return Ok(*one);
@@ -39,8 +40,11 @@ pub(crate) fn choice(
 
 /// Adds a loop that skips bytes before `start`, and prefers not to.
 pub(crate) fn prefix(states: &mut Vec<State>, start: StateID) -> Result<StateID, CompileError>
+    requires { start < vec_len states.old }
     ensures number { IfOk result (λ number. number ≡ vec_len states.old) }
+    ensures within { IfOk result (λ number. number < vec_len states.new) }
     ensures added { OnOk result (Adds (map node_of states.old.items) (map node_of states.new.items)) }
+    ensures range { OnOk result (KeepsInRange (map node_of states.old.items) (map node_of states.new.items)) }
 {
     let prefix = StateID::new(states.len()).ok_or(CompileError::TooManyStates)?;
     let skip = StateID::new(states.len().saturating_add(1)).ok_or(CompileError::TooManyStates)?;

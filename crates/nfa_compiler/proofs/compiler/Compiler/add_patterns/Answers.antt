@@ -1,6 +1,8 @@
 -- one pattern more stands
-use Rattle.std.proofs.Common.{◌+◌, ◌∙◌, ap, arith, length, vec_len}
+use Rattle.std.proofs.Common.{◌+◌, ◌∙◌, ap, arith, length, map, subst, sym, vec_len}
 use Rattle.std.proofs.lemmas.List.{length_push}
+use Rattle.thompson_nfa.specs.Automaton.{node_of}
+use Rattle.nfa_compiler.specs.Added.{AreInRange}
 use Rattle.nfa_compiler.proofs.AddLemmas.{adds-length, nodes-length}
 use Rattle.nfa_compiler.proofs.CompiledLemmas.{made-more, inside-more, slots-more}
 use Rattle.nfa_compiler.proofs.compiler.Compiler.add_patterns.Goals as goal
@@ -21,6 +23,9 @@ loop-index-preserved c = record {
       c.in_ok-add_pattern.field-0 c.index-patterns-index.result c.loop-index-test.true c.index-patterns-index.is
       c.in_ok-add_pattern.ensures.added c.loop-index.invariant.made c.loop-index.invariant.count
       c.in_ok-push.ensures.items c.loop-index.invariant.slots_are c.in_ok-add_pattern.ensures.made;
+  range =
+      subst (λ n. AreInRange n (c.loop-index.index + 1) (map node_of c.add_pattern.new.states.items))
+      (sym c.in_ok-slots-2.ensures) c.in_ok-add_pattern.ensures.range;
   inside =
       inside-more (vec_len c.loop-index.states) (vec_len c.add_pattern.new.states) c.loop-index.starts.items _
       c.in_ok-add_pattern.field-0

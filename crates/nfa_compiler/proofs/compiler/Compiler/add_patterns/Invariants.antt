@@ -2,6 +2,7 @@
 use Rattle.std.proofs.Common.{◌≡◌, ◌<◌, map, length, vec_len}
 use Rattle.std.specs.Prelude.{All}
 use Rattle.thompson_nfa.specs.Automaton.{node_of}
+use Rattle.nfa_compiler.specs.Added.{AreInRange}
 use Rattle.nfa_compiler.specs.Compiled.{ArePatterns, first_slot, groups_of, res_of}
 use Rattle.nfa_compiler.proofs.compiler.Compiler.add_patterns.Given as goal
 
@@ -10,5 +11,6 @@ invariant-loop-index l = record {
   count : length l.starts.items ≡ l.index;
   slots_are : l.slots ≡ first_slot (groups_of l.patterns) l.index;
   made : ArePatterns (map node_of l.states.items) (groups_of l.patterns) l.starts.items (res_of l.patterns) l.index;
+  range : AreInRange l.slots l.index (map node_of l.states.items);
   inside : All (λ s. s < vec_len l.states) l.starts.items;
 }

@@ -1,0 +1,255 @@
+-- Each number in the states of an NFA of patterns is in range, so `NFA::from_states` finds no flaw in them.
+use Rattle.std.proofs.Common.{◌≡◌, ℕ, ◌+◌, ◌*◌, ◌-◌, ◌≤◌, ◌<◌, inl, inr, Bool, List, [], ◌∷◌, ◌++◌, map, length, refl, sym, ap, ◌∙◌, subst, arith, length-append}
+use Rattle.std.specs.Prelude.{Option, None, Some, All, IfSome, option_map, slice_index_or, slice_range, string_bytes}
+use Rattle.std.specs.List.{sum_by}
+use Rattle.std.proofs.lemmas.Bool.{cases_lt, le-ltb, cond-false}
+use Rattle.std.proofs.lemmas.List.{get_or_default, get_or_past, length-drop, length-map, take_all}
+use Rattle.std.proofs.lemmas.List.Elements.{All-map}
+use Rattle.regex_search_core.specs.Groups.{slot_count}
+use Rattle.regex_search_core.specs.Patterns.{number_of}
+use Rattle.regex_nfa.specs.States.{state_at}
+use Rattle.regex_nfa.specs.Run.{state_of}
+use Rattle.regex_nfa.proofs.RunLemmas.{sound_of}
+use Rattle.regex_nfa.specs.declared.state.State as their_state
+use Rattle.regex_nfa.specs.declared.state.State.TheVariants as their
+use Rattle.regex_nfa.specs.declared.nfa.Nfa.{Nfa}
+use Rattle.thompson_nfa.specs.Automaton.{Automaton, IsAutomaton, Node, LeadsBelow, SlotBelow, PatternBelow}
+use Rattle.thompson_nfa.specs.Automaton.Node.{ByteRange, Sparse, Dense, Look, Union, BinaryUnion, Capture, Fail, Match}
+use Rattle.regex_syntax.specs.declared.Parsed.{Parsed}
+use Rattle.thompson_nfa.specs.declared.state.Transition.{Transition}
+use Rattle.thompson_nfa.specs.Flaws.{IsFirstFlaw}
+use Rattle.thompson_nfa.specs.declared.flaw.Flaw.{Flaw}
+use Rattle.thompson_nfa.specs.declared.flaw.Flaw.TheVariants as flaw
+use Rattle.thompson_nfa.specs.declared.flaw.Holder.TheVariants as holder
+use Rattle.nfa_compiler.specs.declared.block.Site.{Site}
+use Rattle.nfa_compiler.specs.Blocks.{Stands, IsBlock, match_at, moved, slot_in}
+use Rattle.nfa_compiler.specs.Added.{Adds, IsInRange, AreInRange, KeepsInRange}
+use Rattle.nfa_compiler.specs.Compiled.{explicit_names, first_slot, groups_of}
+use Rattle.nfa_compiler.proofs.AddLemmas.{kept-at, last-at, adds-length, adds-one, adds-trans}
+
+-- where there is more room
+
+some-wider : (n m : ℕ) (o : Option ℕ) → n ≤ m → IfSome o (λ s. s < n) → IfSome o (λ s. s < m)
+some-wider n m None wide h = tt
+some-wider n m (Some s) wide h = omega arith
+
+node-wider : (n m slots more patterns all : ℕ) (node : Node) → n ≤ m → slots ≤ more → patterns ≤ all
+    → IsInRange n slots patterns node → IsInRange m more all node
+node-wider n m slots more patterns all (ByteRange t) long wide many h = (omega (arith, h.0), tt, tt)
+node-wider n m slots more patterns all (Sparse ts) long wide many h =
+    (λ i d inside. omega (arith, h.0 i d inside), tt, tt)
+node-wider n m slots more patterns all (Dense targets) long wide many h =
+    (λ i d inside. some-wider n m (slice_index_or targets i d) long (h.0 i d inside), tt, tt)
+node-wider n m slots more patterns all (Look look next) long wide many h = (omega (arith, h.0), tt, tt)
+node-wider n m slots more patterns all (Union alternates) long wide many h =
+    (λ i d inside. omega (arith, h.0 i d inside), tt, tt)
+node-wider n m slots more patterns all (BinaryUnion alt1 alt2) long wide many h =
+    ((omega (arith, h.0.0), omega (arith, h.0.1)), tt, tt)
+node-wider n m slots more patterns all (Capture next slot) long wide many h =
+    (omega (arith, h.0), omega (arith, h.1), tt)
+node-wider n m slots more patterns all Fail long wide many h = (tt, tt, tt)
+node-wider n m slots more patterns all (Match pattern) long wide many h = (tt, tt, omega (arith, h.2))
+
+-- at first there are none
+pub none-in-range : (nodes : List Node) (slots patterns : ℕ) → length nodes ≡ 0 → AreInRange slots patterns nodes
+none-in-range nodes slots patterns none = λ i d inside. absurd (omega arith)
+
+-- more of them behind the old ones
+pub more-in-range : (old new : List Node) (slots more patterns all : ℕ) → Adds old new → slots ≤ more → patterns ≤ all
+    → ((i : ℕ) → length old ≤ i → i < length new → IsInRange (length new) more all (slice_index_or new i Fail))
+    → AreInRange slots patterns old → AreInRange more all new
+more-in-range old new slots more patterns all adds wide many behind h = λ i d inside.
+    subst (IsInRange (length new) more all) (get_or_default new i Fail d inside) (elim (cases_lt i (length old)) [
+      | inl before ↦
+          subst (IsInRange (length new) more all) (sym (kept-at old new adds i before))
+          (node-wider (length old) (length new) slots more patterns all (slice_index_or old i Fail)
+          (adds-length old new adds) wide many (h i Fail before))
+      | inr after ↦ behind i after inside
+    ])
+
+-- one more
+pub one-in-range : (old new : List Node) (n : Node) → new ≡ old ++ n ∷ []
+    → ((slots patterns : ℕ) → IsInRange (length new) slots patterns n) → KeepsInRange old new
+one-in-range old new n e here = λ slots patterns h.
+    let long : length new ≡ length old + 1 = ap length e ∙ length-append old (n ∷ []) in
+    more-in-range old new slots slots patterns patterns (adds-one old new n e) (omega arith) (omega arith)
+    (λ i after inside. subst (IsInRange (length new) slots patterns)
+    (sym (ap (λ ns. slice_index_or ns i Fail) e ∙ last-at old n i (omega arith))) (here slots patterns)) h
+
+-- the states of one pattern
+
+module _ (nodes : List Node) (nfa : Nfa) (s : Site) (block : IsBlock nodes nfa s) (slots : ℕ)
+    (long : length nodes ≡ match_at s + 2) (room : s.slots + (nfa.slot_count - 2) ≤ slots)
+    (own : 2 * number_of s.pattern + 1 < slots) where
+  abbrev Fits : Node → Type 0
+  Fits = IsInRange (length nodes) slots (number_of s.pattern + 1)
+
+  state-fits : (q : ℕ) (state : their_state.State) (n : Node) → state_of nfa q ≡ state
+      → Stands nfa.transitions.items s state n → Fits n
+  state-fits q (their.ByteRange t) n is stands = subst Fits (sym stands.1) (omega (arith, stands.0), tt, tt)
+  state-fits q (their.Sparse from to) n is stands =
+      subst Fits (sym stands.1) (
+        All-map (λ t. t.next < length nodes) (moved s) (slice_range nfa.transitions.items from to)
+            (λ i d inside. omega (arith, stands.0 i d inside)),
+        tt,
+        tt,
+      )
+  state-fits q (their.Split first second) n is stands =
+      subst Fits (sym stands.2) ((omega (arith, stands.0), omega (arith, stands.1)), tt, tt)
+  state-fits q (their.Save slot next) n is stands =
+      let sound = sound_of nfa q (their.Save slot next) is in
+      let place : slot_in s slot ≡ s.slots + (slot - 2) = cond-false _ _ _ (le-ltb slot 2 stands.0) in
+      subst Fits (sym stands.2) (omega (arith, stands.1), omega (arith, stands.0, sound.0), tt)
+  state-fits q (their.Look l next) n is stands = subst Fits (sym stands.1) (omega (arith, stands.0), tt, tt)
+  state-fits q their.Match n is stands = subst Fits (sym stands) (omega arith, omega arith, tt)
+  state-fits q their.Fail n is stands = subst Fits (sym stands) (tt, tt, tt)
+
+  pub block-fits : (i : ℕ) → s.base ≤ i → i < length nodes → Fits (slice_index_or nodes i Fail)
+  block-fits i from to = elim (cases_lt i (match_at s)) [
+    | inl before ↦
+        let q : ℕ = i - s.base in
+        let below : q < s.size = omega arith in
+        let at : s.base + q ≡ i = omega arith in
+        subst (λ j. Fits (slice_index_or nodes j Fail)) at
+        (state-fits q (state_at nfa.states.items q) (slice_index_or nodes (s.base + q) Fail) refl
+        (block.states q below))
+    | inr behind ↦ elim (cases_lt (match_at s) i) [
+      | inl past ↦
+          let at : match_at s + 1 ≡ i = omega arith in
+          subst (λ j. Fits (slice_index_or nodes j Fail)) at
+          (subst Fits (sym block.start) (omega (arith, block.start_in), omega arith, tt))
+      | inr here ↦
+          let at : match_at s ≡ i = omega arith in
+          subst (λ j. Fits (slice_index_or nodes j Fail)) at
+          (subst Fits (sym block.match) (tt, tt, omega arith))
+    ]
+  ]
+
+-- one pattern more
+pub pattern-in-range : (old new : List Node) (nfa : Nfa) (s : Site) (slots k : ℕ) (p : Parsed) → IsBlock new nfa s
+    → Adds old new → s.base ≡ length old → length new ≡ match_at s + 2 → number_of s.pattern ≡ k → s.slots ≡ slots
+    → nfa.slot_count ≡ 2 * length p.names.items → 2 * k + 1 < slots → AreInRange slots k old
+    → AreInRange (slots + 2 * length (explicit_names p)) (k + 1) new
+pattern-in-range old new nfa s slots k p block adds base long is slots_are count own h =
+    let more : ℕ = slots + 2 * length (explicit_names p) in
+    let names = length-drop 1 (map (option_map string_bytes) p.names.items) in
+    let same = length-map p.names.items (option_map string_bytes) in
+    more-in-range old new slots more k (k + 1) adds (omega arith) (omega arith)
+    (λ i from to. subst (λ n. IsInRange (length new) more (n + 1) (slice_index_or new i Fail)) is
+    (block-fits new nfa s block more long (omega arith) (omega arith) i (omega arith) to)) h
+
+-- the choice between starts
+pub choice-in-range : (old new : List Node) (starts : List ℕ) → new ≡ old ++ Union starts ∷ []
+    → All (λ s. s < length old) starts → KeepsInRange old new
+choice-in-range old new starts e inside =
+    let long : length new ≡ length old + 1 = ap length e ∙ length-append old (Union starts ∷ []) in
+    one-in-range old new (Union starts) e (λ slots patterns. (λ i d h. omega (arith, inside i d h), tt, tt))
+
+-- the two states of the prefix
+pub prefix-in-range : (old one new : List Node) (start skip : ℕ) (t : Transition)
+    → one ≡ old ++ BinaryUnion start skip ∷ [] → new ≡ one ++ ByteRange t ∷ [] → start < length old
+    → skip ≡ length old + 1 → t.next ≡ length old → KeepsInRange old new
+prefix-in-range old one new start skip t e f inside skips back = λ slots patterns h.
+    let fewer : length one ≡ length old + 1 = ap length e ∙ length-append old (BinaryUnion start skip ∷ []) in
+    let long : length new ≡ length one + 1 = ap length f ∙ length-append one (ByteRange t ∷ []) in
+    let first = adds-one old one (BinaryUnion start skip) e in
+    let second = adds-one one new (ByteRange t) f in
+    more-in-range old new slots slots patterns patterns (adds-trans old one new first second) (omega arith)
+    (omega arith)
+    (λ i after to. elim (cases_lt i (length one)) [
+      | inl before ↦
+          subst (IsInRange (length new) slots patterns)
+          (sym (kept-at one new second i before ∙ ap (λ ns. slice_index_or ns i Fail) e
+          ∙ last-at old (BinaryUnion start skip) i (omega arith)))
+          ((omega arith, omega arith), tt, tt)
+      | inr behind ↦
+          subst (IsInRange (length new) slots patterns)
+          (sym (ap (λ ns. slice_index_or ns i Fail) f ∙ last-at one (ByteRange t) i (omega arith)))
+          (omega arith, tt, tt)
+    ]) h
+
+-- the slots of all patterns
+pub slots-all : (patterns : List Parsed) (i : ℕ) → i ≡ length patterns
+    → first_slot (groups_of patterns) i ≡ slot_count (groups_of patterns)
+slots-all patterns i all =
+    ap (λ gs. 2 * length (groups_of patterns) + 2 * sum_by length gs)
+    (take_all i (groups_of patterns) (omega (arith, length-map patterns explicit_names)))
+
+-- no flaw
+
+-- the parts of the NFA are those of one
+pub parts-valid : (nodes : List Node) (anchored unanchored : ℕ) (starts : List ℕ)
+    (groups : List (List (Option (List ℕ)))) (has_empty utf8 : Bool)
+    → AreInRange (slot_count groups) (length starts) nodes → anchored < length nodes → unanchored < length nodes
+    → All (λ s. s < length nodes) starts → length groups ≡ length starts
+    → IsAutomaton (record {
+      states = nodes;
+      anchored = anchored;
+      unanchored = unanchored;
+      patterns = starts;
+      groups = groups;
+      has_empty = has_empty;
+      utf8 = utf8;
+    })
+parts-valid nodes anchored unanchored starts groups has_empty utf8 range bound free inside count = record {
+  filled = omega arith;
+  numbered = record {
+    anchored_in = bound;
+    unanchored_in = free;
+    patterns_in = inside;
+    targets_in = λ i d less. (range i d less).0;
+  };
+  slots = λ i d less. (range i d less).1;
+  patterns = λ i d less. (range i d less).2;
+  groups = inl count;
+}
+
+-- the states of all patterns, their choice and the prefix
+pub built-valid : (one two three : List Node) (patterns : List Parsed) (starts : List ℕ) (anchored unanchored : ℕ)
+    (groups : List (List (Option (List ℕ)))) (has_empty utf8 : Bool) → groups ≡ groups_of patterns
+    → length starts ≡ length patterns → AreInRange (slot_count (groups_of patterns)) (length patterns) one
+    → KeepsInRange one two → KeepsInRange two three → Adds one two → Adds two three
+    → All (λ s. s < length one) starts → anchored < length two → unanchored < length three
+    → IsAutomaton (record {
+      states = three;
+      anchored = anchored;
+      unanchored = unanchored;
+      patterns = starts;
+      groups = groups;
+      has_empty = has_empty;
+      utf8 = utf8;
+    })
+built-valid one two three patterns starts anchored unanchored groups has_empty utf8 are count range first second adds
+    more inside bound free =
+    let two_long = adds-length one two adds in
+    let three_long = adds-length two three more in
+    let same = length-map patterns explicit_names in
+    parts-valid three anchored unanchored starts groups has_empty utf8
+    (subst (λ g. AreInRange (slot_count g) (length starts) three) (sym are)
+    (subst (λ n. AreInRange (slot_count (groups_of patterns)) n three) (sym count)
+    (second _ _ (first _ _ range))))
+    (omega arith) free
+    (λ i d h. omega (arith, inside i d h))
+    (ap length are ∙ same ∙ sym count)
+
+-- of all elements and of a default, so of each place
+at-place : {X : Type 0} (P : X → Type 0) (xs : List X) (i : ℕ) (x : X) → All P xs → P x → P (slice_index_or xs i x)
+at-place P xs i x all default = elim (cases_lt i (length xs)) [
+  | inl inside ↦ all i x inside
+  | inr past ↦ subst P (sym (get_or_past xs i x past)) default
+]
+
+-- so they have no flaw
+pub no-flaw : (a : Automaton) (f : Flaw) → IsAutomaton a → IsFirstFlaw a (Some f) → ⊥
+no-flaw a flaw.Empty is first = let filled = is.filled in omega arith
+no-flaw a (flaw.State holder.Anchored) is first = first.1 is.numbered.anchored_in
+no-flaw a (flaw.State holder.Unanchored) is first = first.1.1 is.numbered.unanchored_in
+no-flaw a (flaw.State (holder.Pattern i)) is first =
+    first.1.2.1 (at-place (λ s. s < length a.states) a.patterns i 0 is.numbered.patterns_in is.filled)
+no-flaw a (flaw.State (holder.State i)) is first =
+    first.1.3.1 (at-place (LeadsBelow (length a.states)) a.states i Fail is.numbered.targets_in tt)
+no-flaw a (flaw.Slot state slot) is first =
+    first.1.0.1 (at-place (SlotBelow (slot_count a.groups)) a.states state Fail is.slots tt)
+no-flaw a (flaw.Pattern state pattern) is first =
+    first.2.0.1 (at-place (PatternBelow (length a.patterns)) a.states state Fail is.patterns tt)
+no-flaw a (flaw.Groups groups patterns) is first = first.3 is.groups
