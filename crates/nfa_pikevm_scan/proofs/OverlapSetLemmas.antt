@@ -3,9 +3,8 @@ use Rattle.std.proofs.Common.{◌≡◌, ℕ, ◌<◌, ◌⊎◌, ◌↔◌, inl
 use Rattle.std.specs.Prelude.{Option, None, Some, not, ◌&&◌, ◌||◌, nat_lt}
 use Rattle.std.proofs.lemmas.Bool.{cases_Bool, cases_lt, lt-ltb, le-ltb}
 use Rattle.std.proofs.lemmas.Bool.Decides.{nat_tests}
-use Rattle.std.proofs.lemmas.List.Sums.{count_by-le-length}
 use Rattle.regex_search_core.specs.Boundary.{IsBoundary}
-use Rattle.regex_search_core.specs.PatternSets.{with_pattern, size_of_set}
+use Rattle.regex_search_core.specs.PatternSets.{with_pattern}
 use Rattle.regex_search_core.specs.Search.{Search}
 use Rattle.thompson_nfa.specs.Automaton.{Automaton}
 use Rattle.nfa_paths.specs.Graphs.{Pair}
@@ -89,10 +88,6 @@ module _ (nfa : Automaton) (x : Search) where
     wants-here s at k is = rw is refl
 
 -- what is put into the set
-
--- a set that is not full has room for a pattern
-pub not_full : (set : List Bool) → ¬ (size_of_set set ≡ length set) → size_of_set set < length set
-not_full set room = omega (arith, count_by-le-length (λ (b : Bool). b) set, room)
 
 module _ (nfa : Automaton) (wanted : Pair → Bool) where
   -- no wanted pair: the set stays

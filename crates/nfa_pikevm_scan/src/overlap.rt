@@ -149,6 +149,15 @@ fn overlap_earliest(
     }
 }
 
+/// Whether a scan for the first match is over: one was met, and the set is full, so that it gains nothing more.
+#[inline(always)]
+fn is_over(met: bool, patterns: &PatternSet) -> bool
+    ensures over { result ≡ true → (met ≡ true) × (size_of_set patterns.now ≡ length patterns.now) }
+    ensures goes_on { result ≡ false → met ≡ true → size_of_set patterns.now < length patterns.now }
+{
+    met && patterns.is_full()
+}
+
 /// The pattern of the first match, and those that were met on the way to its end.
 fn overlap_first(
     nfa: &NFA,
@@ -174,8 +183,7 @@ fn overlap_first(
         }
         let met = cross_to_set(nfa, input, at, false, threads, patterns);
         move_on(threads);
-        if met && patterns.is_full() {
-            // It gains nothing more.
+        if is_over(met, patterns) {
             return;
         }
         if met {

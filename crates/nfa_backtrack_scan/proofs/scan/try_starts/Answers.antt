@@ -73,7 +73,8 @@ loop-at-preserved c =
           c.walk.new.scratch.visited c.walk.new.slots
           c.in-Some.sid (c.loop-at.at + 1) c.skip_limit-stop.result c.next_start-at-in-loop-at.result
           c.start_limit-limit.result
-          (omega (arith, c.loop-at.invariant.low)) next.low next.stays c.skip_limit-stop.ensures.anchored
+          (omega (arith, c.loop-at.invariant.low)) next.low (λ past. next.stays (omega arith))
+          c.skip_limit-stop.ensures.anchored
           (sym c.in-Some.ensures.value) next.passed);
       low = omega (arith, c.loop-at.invariant.low, c.next_start-at-in-loop-at.ensures.low);
       high = next.high;

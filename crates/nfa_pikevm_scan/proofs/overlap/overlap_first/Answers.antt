@@ -1,13 +1,12 @@
 -- The set gains the pattern of the first match, and those that were met on the way to its end.
-use Rattle.std.proofs.Common.{◌≡◌, ◌∙◌, true, false, sym, arith, length, refl}
+use Rattle.std.proofs.Common.{◌∙◌, sym, arith, length, refl}
 use Rattle.regex_search_core.specs.Search.{search_of}
 use Rattle.nfa_pikevm_scan.proofs.ScanLemmas.{set-crossed, over-cross}
 use Rattle.nfa_pikevm_scan.proofs.OverlapLoopLemmas.{crosses-joined}
 use Rattle.nfa_pikevm_scan.proofs.OverlapFirstLemmas.{FirstWay-capacity, FirstWay-start, FirstWay-next, FirstWay-cut, FirstWay-over, FirstWay-end, FirstWay-full, FirstWay-turns, set-stays}
-use Rattle.nfa_pikevm_scan.proofs.OverlapSetLemmas.{not_full}
 use Rattle.nfa_pikevm_scan.proofs.RoomLemmas.{none_of, below-joined}
 use Rattle.nfa_pikevm_scan.proofs.overlap.overlap_first.Goals as goal
-use Rattle.nfa_pikevm_scan.proofs.overlap.overlap_first.Goals.{then-met-2, else-met-2, else-met-via-then-met+else-is_full, else-met-via-else-met}
+use Rattle.nfa_pikevm_scan.proofs.overlap.overlap_first.Goals.{then-met, else-met}
 
 pub loop-at-init : goal.loop-at-init
 loop-at-init c = record {
@@ -39,8 +38,9 @@ cross_to_set-met-requires-clause-states c =
     rw items (below-joined c.loop-at.joining 0 c.loop-at.at c.loop-at.threads.curr.items
     c.loop-at.invariant.state c.loop-at.invariant.so_far.states.states)
 
-pub returns-then-is_full-clause-turns : goal.returns-then-is_full-clause-turns
-returns-then-is_full-clause-turns c =
+pub returns-then-is_over-clause-turns : goal.returns-then-is_over-clause-turns
+returns-then-is_over-clause-turns c =
+    let over = c.is_over.ensures.over c.if-is_over.true in
     let items = rw c.loop-at.invariant.width at c.join.ensures.curr in
     let crosses = crosses-joined (length c.args.patterns.now) c.loop-at.threads.reached.seen _
     (FirstWay-capacity c.args.nfa.now (search_of c.args.input.now) c.args.patterns.now c.loop-at.invariant.so_far)
@@ -49,18 +49,19 @@ returns-then-is_full-clause-turns c =
     (FirstWay-turns c.args.nfa.now (search_of c.args.input.now) c.args.patterns.now (omega arith)
     (omega (arith, c.end-at-end.ensures.value, c.loop-at-test.true))
     (FirstWay-cut c.args.nfa.now (search_of c.args.input.now) c.args.patterns.now c.requires.valid
-    c.loop-at.invariant.low c.loop-at.invariant.so_far crosses c.requires.empty c.if-met.true))
+    c.loop-at.invariant.low c.loop-at.invariant.so_far crosses c.requires.empty over.0))
 
-pub returns-then-is_full-clause-gains : goal.returns-then-is_full-clause-gains
-returns-then-is_full-clause-gains c =
+pub returns-then-is_over-clause-gains : goal.returns-then-is_over-clause-gains
+returns-then-is_over-clause-gains c =
+    let over = c.is_over.ensures.over c.if-is_over.true in
     let items = rw c.loop-at.invariant.width at c.join.ensures.curr in
     let crosses = crosses-joined (length c.args.patterns.now) c.loop-at.threads.reached.seen _
     (FirstWay-capacity c.args.nfa.now (search_of c.args.input.now) c.args.patterns.now c.loop-at.invariant.so_far)
     c.join.ensures.seen items c.cross_to_set-met.ensures.crosses in
     FirstWay-full c.args.nfa.now (search_of c.args.input.now) c.args.patterns.now c.requires.empty
     (FirstWay-cut c.args.nfa.now (search_of c.args.input.now) c.args.patterns.now c.requires.valid
-    c.loop-at.invariant.low c.loop-at.invariant.so_far crosses c.requires.empty c.if-met.true)
-    (c.is_full.ensures.0 c.if-is_full.true)
+    c.loop-at.invariant.low c.loop-at.invariant.so_far crosses c.requires.empty over.0)
+    over.1
 
 pub loop-at-preserved : goal.loop-at-preserved
 loop-at-preserved c =
@@ -69,25 +70,22 @@ loop-at-preserved c =
     (FirstWay-capacity c.args.nfa.now (search_of c.args.input.now) c.args.patterns.now c.loop-at.invariant.so_far)
     c.join.ensures.seen items c.cross_to_set-met.ensures.crosses in
     record {
-      not_full = elim c.else-met.branch [
-        | else-met-via-then-met+else-is_full w ↦
-            not_full c.cross_to_set-met.new.patterns
-            (λ full. let never : w.is_full.result ≡ true = w.is_full.ensures.1 full in
-            let off : w.is_full.result ≡ false = w.if-is_full.false in cc)
-        | else-met-via-else-met w ↦
+      not_full = elim c.if-met.branch [
+        | then-met w ↦ c.is_over.ensures.goes_on c.if-is_over.false w.if-met.true
+        | else-met w ↦
             rw (set-stays c.args.nfa.now (search_of c.args.input.now) c.args.patterns.now c.requires.valid
             c.loop-at.invariant.low c.loop-at.invariant.so_far crosses w.if-met.false) c.loop-at.invariant.not_full
       ];
       counted = c.move_on.ensures.scans ∙ c.cross_to_set-met.ensures.scans ∙ c.join.ensures.scans
           ∙ c.loop-at.invariant.counted;
       low = omega arith;
-      state = elim c.if-met-2.branch [
-        | then-met-2 w ↦ rw w.joining-is c.loop-at.invariant.state
-        | else-met-2 w ↦ rw w.joining-is c.loop-at.invariant.state
+      state = elim c.if-met.branch [
+        | then-met w ↦ rw w.joining-is c.loop-at.invariant.state
+        | else-met w ↦ rw w.joining-is c.loop-at.invariant.state
       ];
-      limit = elim c.if-met-2.branch [
-        | then-met-2 w ↦ rw w.joining-is (omega arith)
-        | else-met-2 w ↦ rw w.joining-is c.loop-at.invariant.limit
+      limit = elim c.if-met.branch [
+        | then-met w ↦ rw w.joining-is (omega arith)
+        | else-met w ↦ rw w.joining-is c.loop-at.invariant.limit
       ];
       last = λ past. rw c.move_on.ensures.curr
           (over-cross (set-crossed c.loop-at.joining.state c.loop-at.joining.limit crosses) (omega arith));
@@ -97,15 +95,15 @@ loop-at-preserved c =
           ∙ c.loop-at.invariant.width;
       next = c.move_on.ensures.next;
       so_far = rw (c.move_on.ensures.seen, c.move_on.ensures.curr)
-          (elim c.if-met-2.branch [
-            | then-met-2 w ↦
+          (elim c.if-met.branch [
+            | then-met w ↦
                 rw w.joining-is
                 (FirstWay-cut c.args.nfa.now (search_of c.args.input.now) c.args.patterns.now c.requires.valid
-                c.loop-at.invariant.low c.loop-at.invariant.so_far crosses c.requires.empty w.if-met-2.true)
-            | else-met-2 w ↦
+                c.loop-at.invariant.low c.loop-at.invariant.so_far crosses c.requires.empty w.if-met.true)
+            | else-met w ↦
                 rw w.joining-is
                 (FirstWay-next c.args.nfa.now (search_of c.args.input.now) c.args.patterns.now c.requires.valid
-                c.loop-at.invariant.low c.loop-at.invariant.so_far crosses w.if-met-2.false)
+                c.loop-at.invariant.low c.loop-at.invariant.so_far crosses w.if-met.false)
           ]);
     }
 
