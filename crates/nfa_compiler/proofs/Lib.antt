@@ -15,3 +15,5 @@ pub mod GroupLemmas
 pub mod AllLemmas
 pub mod AllSearchLemmas
 pub mod CallLemmas
+pub mod BoundaryLemmas
+pub mod BoundarySearchLemmas

@@ -9,3 +9,5 @@ pub mod KindLaws
 pub mod NameLaws
 pub mod AllHits
 pub mod AllLaws
+pub mod BoundaryHits
+pub mod Utf8Laws

@@ -5,6 +5,7 @@ ghost use Rattle.nfa_compiler.specs.KindLaws.{AnswersIfMatches, FindsIfMatches};
 ghost use Rattle.nfa_compiler.specs.Laws.{AnswersAreHits, FindsHits, LooksAgree, MatchesAreHits, OneHitIsFind};
 ghost use Rattle.nfa_compiler.specs.Laws.{TextsAreAnswered, TextsAreMatched};
 ghost use Rattle.nfa_compiler.specs.NameLaws.{GroupsAreNamed, GroupsAreWritten, NamesAreWritten};
+ghost use Rattle.nfa_compiler.specs.Utf8Laws.{AnswersAreBoundaryHits, FindsBoundaryHits, MatchesAreBoundaryHits};
 
 /// An assertion of an NFA holds where that of the pattern does.
 pub fn assertions_agree()
@@ -63,4 +64,12 @@ pub fn groups_are_those_of_texts()
     ensures names { GroupsAreNamed }
     ensures spans { GroupsAreWritten }
     ensures named { NamesAreWritten }
+{}
+
+/// The same as [`searches_find_hits`] in UTF-8 mode, for patterns that may match the empty string: a search finds the
+/// first hit that ends on a boundary. An anchored search finds the hit at its start, if that ends on a boundary.
+pub fn searches_find_boundary_hits()
+    ensures answers { AnswersAreBoundaryHits }
+    ensures matches { MatchesAreBoundaryHits }
+    ensures found { FindsBoundaryHits }
 {}
