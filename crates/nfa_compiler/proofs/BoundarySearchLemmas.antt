@@ -1,5 +1,5 @@
 -- The answer of a leftmost first search in UTF-8 mode is the hit that ends on a boundary.
-use Rattle.std.proofs.Common.{◌≡◌, ℕ, zero, suc, ◌+◌, inl, inr, Bool, true, false, List, length, refl, sym, ap, ◌∙◌, subst, arith}
+use Rattle.std.proofs.Common.{◌≡◌, ℕ, zero, suc, ◌+◌, ◌<◌, inl, inr, Bool, true, false, List, length, refl, sym, ap, ◌∙◌, subst, arith}
 use Rattle.std.specs.Prelude.{Option, None, Some, is_some, option_map, MatchBool}
 use Rattle.std.proofs.lemmas.Bool.{false_from_ne_true}
 use Rattle.regex_hir.specs.Re.{Re}
@@ -141,6 +141,17 @@ module _ (res : List Re) (a : Automaton) (made : IsNfaOf res a) (mode : is_utf8_
             → TellsHit a (searched x) path
         of true is answer = told-kept x whole is path answer.1
         of false is answer = told-restarted restarts x whole (unanchored x.anchored is) path answer
+
+    -- the pattern of its hit is one of the patterns
+    pub boundary-known : (restarts : ℕ) (path : Option (List Pair))
+        → IsSearchAnswer a LeftmostFirst false x restarts path → (h : Hit) → searched x ≡ Some h
+        → h.pattern < length a.groups
+    boundary-known restarts path answers h is =
+        of path (subst (λ o. TellsHit a o path) is (told-search restarts path answers))
+      where
+        of : (path : Option (List Pair)) → TellsHit a (Some h) path → h.pattern < length a.groups
+        of None t = absurd t
+        of (Some p) t = t.known
 
     pub boundary-answer : (pattern : Option ℕ) (slots : List (Option ℕ))
         → IsAnswer a LeftmostFirst false x pattern slots

@@ -167,7 +167,8 @@ module _ (res : List Re) (a : Automaton) (made : IsNfaOf res a) where
         ahead inside = rw (le-ltb x.end x.start inside) (finds-at inside x.anchored)
 
     -- the scan's answer
-    pub scan : (r : Option (List Pair)) × TellsHit a (expected res is_bound x) r × IsScanAnswer a x LeftmostFirst false r
+    pub scan : (r : Option (List Pair)) × TellsHit a (expected res is_bound x) r
+        × IsScanAnswer a x LeftmostFirst false r
     scan = let f = finds in (
       f.0,
       f.1,

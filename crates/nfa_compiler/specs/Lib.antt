@@ -10,4 +10,6 @@ pub mod NameLaws
 pub mod AllHits
 pub mod AllLaws
 pub mod BoundaryHits
+pub mod StrHits
 pub mod Utf8Laws
+pub mod StrLaws
