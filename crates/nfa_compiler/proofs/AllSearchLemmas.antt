@@ -20,7 +20,7 @@ use Rattle.nfa_compiler.specs.AllHits.{all_hits, hit_at, hits_from, row_of_hit}
 use Rattle.nfa_compiler.specs.Compiled.{AreMeant, IsCompiled, IsNfaOf}
 use Rattle.nfa_compiler.specs.Patterns.{Hit, found_at, found_in, hit_by, slots_of}
 use Rattle.nfa_compiler.proofs.AllLemmas.{Meets, all-items, hits-are-matches}
-use Rattle.nfa_compiler.proofs.BoundLemmas.{hit-lies}
+use Rattle.nfa_compiler.proofs.BoundLemmas.{LiesFrom, hit-lies}
 use Rattle.nfa_compiler.proofs.SearchLemmas.{answer-is, match-is}
 use Rattle.nfa_compiler.proofs.TextLemmas.{one-hit, text-answer, text-match}
 
@@ -31,35 +31,36 @@ found-meets None (Some h) e = absurd (cc)
 found-meets (Some y) None e = absurd (cc)
 found-meets (Some y) (Some h) e = let same : y ≡ found_at h = (cc) in (same, ap span_of same)
 
-module _ (res : List Re) (nfa : Automaton) (x : Search) (whole : x.end ≡ length x.haystack) where
+-- a search has the hit that `hit_from` gives for its start
+module _ (nfa : Automaton) (x : Search) (hit_from : ℕ → Option Hit)
+    (lies : (i : ℕ) (h : Hit) → hit_from i ≡ Some h → LiesFrom x.haystack i (length x.haystack + 1) h) where
   -- each search has the match of the hit
-  abbrev HasMatches : Type 0
+  abbrev pub HasMatches : Type 0
   HasMatches = (i : ℕ) (found : Option Found) → IsMatchAnswer nfa LeftmostFirst false (record x { start = i }) found
-      → found ≡ found_in (hit_at res nfa x i)
+      → found ≡ found_in (hit_from i)
 
   -- and its pattern and slots
-  abbrev HasAnswers : Type 0
+  abbrev pub HasAnswers : Type 0
   HasAnswers = (i : ℕ) (pattern : Option ℕ) (slots : List (Option ℕ))
       → IsAnswer nfa LeftmostFirst false (record x { start = i }) pattern slots
-      → (pattern ≡ option_map (λ (h : Hit). h.pattern) (hit_at res nfa x i))
-      × (slots ≡ slots_of nfa.groups (length slots) (hit_at res nfa x i))
+      → (pattern ≡ option_map (λ (h : Hit). h.pattern) (hit_from i))
+      × (slots ≡ slots_of nfa.groups (length slots) (hit_from i))
 
-  matches-of : HasMatches → (ms : List Found) → AreMatches nfa LeftmostFirst false x ms
-      → ms ≡ map found_at (all_hits res nfa x)
+  pub matches-of : HasMatches → (ms : List Found) → AreMatches nfa LeftmostFirst false x ms
+      → ms ≡ map found_at (hits_from hit_from (length x.haystack + 1) (hit_from x.start))
   matches-of has ms are =
-      all-items span_of found_at x (TellsMatch nfa LeftmostFirst false) (hit_at res nfa x) x.haystack meets
-      (λ i h e. hit-lies res nfa (record x { start = i }) h whole e) ms are.come
+      all-items span_of found_at x (TellsMatch nfa LeftmostFirst false) hit_from x.haystack meets lies ms are.come
     where
       meets : (i : ℕ) (a : Answer Found) → TellsMatch nfa LeftmostFirst false (record x { start = i }) a
-          → Meets span_of found_at a (hit_at res nfa x i)
-      meets i (Ok found) answer = found-meets found (hit_at res nfa x i) (has i found answer)
+          → Meets span_of found_at a (hit_from i)
+      meets i (Ok found) answer = found-meets found (hit_from i) (has i found answer)
       meets i (Err error) never = absurd never
 
-  rows-of : HasMatches → HasAnswers → (rows : List Row) → AreRows nfa LeftmostFirst false x rows
-      → rows ≡ map (row_of_hit nfa) (all_hits res nfa x)
+  pub rows-of : HasMatches → HasAnswers → (rows : List Row) → AreRows nfa LeftmostFirst false x rows
+      → rows ≡ map (row_of_hit nfa) (hits_from hit_from (length x.haystack + 1) (hit_from x.start))
   rows-of has tells rows are =
-      all-items row_span (row_of_hit nfa) x (TellsRow nfa LeftmostFirst false) (hit_at res nfa x) x.haystack meets
-      (λ i h e. hit-lies res nfa (record x { start = i }) h whole e) rows are.come
+      all-items row_span (row_of_hit nfa) x (TellsRow nfa LeftmostFirst false) hit_from x.haystack meets lies rows
+      are.come
     where
       row-meets : (row : Row) (o : Option Hit) → Some (row_found row) ≡ found_in o
           → row.pattern ≡ option_map (λ (h : Hit). h.pattern) o
@@ -71,9 +72,9 @@ module _ (res : List Re) (nfa : Automaton) (x : Search) (whole : x.end ≡ lengt
           (ap₂ (λ p s. record { pattern = p; slots = s }) pattern slots, ap span_of same)
 
       meets : (i : ℕ) (a : Answer Row) → TellsRow nfa LeftmostFirst false (record x { start = i }) a
-          → Meets row_span (row_of_hit nfa) a (hit_at res nfa x i)
+          → Meets row_span (row_of_hit nfa) a (hit_from i)
       meets i (Err error) never = absurd never
-      meets i (Ok None) answer = of (hit_at res nfa x i) (has i None answer)
+      meets i (Ok None) answer = of (hit_from i) (has i None answer)
         where
           of : (o : Option Hit) → None ≡ found_in o → Meets row_span (row_of_hit nfa) (Ok None) o
           of None e = tt
@@ -84,24 +85,31 @@ module _ (res : List Re) (nfa : Automaton) (x : Search) (whole : x.end ≡ lengt
           ≡ match_of (option_and_then (path_pattern nfa) a.path) (slot_row nfa (slot_count nfa.groups) a.path) =
           ap₂ match_of a.pattern_is (a.slots_are ∙ ap (λ n. slot_row nfa n a.path) r.count) in
           let told = tells i row.pattern row.slots a in
-          row-meets row (hit_at res nfa x i)
+          row-meets row (hit_from i)
           (has i (Some (row_found row)) (record {
             restarts = a.restarts;
             path = a.path;
             answers = a.answers;
             found_is = sym r.is_match ∙ found;
           }))
-          told.0 (told.1 ∙ ap (λ n. slots_of nfa.groups n (hit_at res nfa x i)) r.count)
+          told.0 (told.1 ∙ ap (λ n. slots_of nfa.groups n (hit_from i)) r.count)
+
+-- so does a hit of each search
+lies-at : (res : List Re) (nfa : Automaton) (x : Search) → x.end ≡ length x.haystack → (i : ℕ) (h : Hit)
+    → hit_at res nfa x i ≡ Some h → LiesFrom x.haystack i (length x.haystack + 1) h
+lies-at res nfa x whole i h = hit-lies res nfa (record x { start = i }) h whole
 
 module _ (res : List Re) (nfa : Automaton) (made : IsNfaOf res nfa) (x : Search)
     (whole : x.end ≡ length x.haystack) (anywhere : is_utf8_empty nfa ≡ false) where
   pub all-matches : (ms : List Found) → AreMatches nfa LeftmostFirst false x ms
       → ms ≡ map found_at (all_hits res nfa x)
-  all-matches = matches-of res nfa x whole (λ i. match-is res nfa made (record x { start = i }) whole anywhere)
+  all-matches = matches-of nfa x (hit_at res nfa x) (lies-at res nfa x whole)
+      (λ i. match-is res nfa made (record x { start = i }) whole anywhere)
 
   pub all-rows : (rows : List Row) → AreRows nfa LeftmostFirst false x rows
       → rows ≡ map (row_of_hit nfa) (all_hits res nfa x)
-  all-rows = rows-of res nfa x whole (λ i. match-is res nfa made (record x { start = i }) whole anywhere)
+  all-rows = rows-of nfa x (hit_at res nfa x) (lies-at res nfa x whole)
+      (λ i. match-is res nfa made (record x { start = i }) whole anywhere)
       (λ i. answer-is res nfa made (record x { start = i }) whole anywhere)
 
 module _ (syntax : Config) (texts : List (List ℕ)) (res : List Re) (nfa : Automaton) (x : Search)
@@ -109,12 +117,12 @@ module _ (syntax : Config) (texts : List (List ℕ)) (res : List Re) (nfa : Auto
     (whole : x.end ≡ length x.haystack) (bytes : All (λ b. b < 256) x.haystack) where
   pub all-text-matches : (ms : List Found) → AreMatches nfa LeftmostFirst false x ms
       → ms ≡ map found_at (all_hits res nfa x)
-  all-text-matches = matches-of res nfa x whole
+  all-text-matches = matches-of nfa x (hit_at res nfa x) (lies-at res nfa x whole)
       (λ i. text-match syntax texts res nfa (record x { start = i }) compiled meant anywhere whole bytes)
 
   pub all-text-rows : (rows : List Row) → AreRows nfa LeftmostFirst false x rows
       → rows ≡ map (row_of_hit nfa) (all_hits res nfa x)
-  all-text-rows = rows-of res nfa x whole
+  all-text-rows = rows-of nfa x (hit_at res nfa x) (lies-at res nfa x whole)
       (λ i. text-match syntax texts res nfa (record x { start = i }) compiled meant anywhere whole bytes)
       (λ i. text-answer syntax texts res nfa (record x { start = i }) compiled meant anywhere whole bytes)
 

@@ -45,7 +45,7 @@ module _ (haystack : List ℕ) where
           }
 
   -- of several, at i
-  of-pick : (res : List Re) (k i : ℕ) (h : Hit) → i ≤ length haystack → pick haystack res k i ≡ Some h
+  pub of-pick : (res : List Re) (k i : ℕ) (h : Hit) → i ≤ length haystack → pick haystack res k i ≡ Some h
       → LiesFrom haystack i i h
   of-pick [] k i h within never = absurd (cc)
   of-pick (re ∷ res) k i h within e =
@@ -54,7 +54,7 @@ module _ (haystack : List ℕ) where
         | inr later ↦ of-pick res (k + 1) i h within later.1
       ]
 
-  of-pick-one : (res : List Re) (k i : ℕ) (h : Hit) → i ≤ length haystack → pick_one haystack res k i ≡ Some h
+  pub of-pick-one : (res : List Re) (k i : ℕ) (h : Hit) → i ≤ length haystack → pick_one haystack res k i ≡ Some h
       → LiesFrom haystack i i h
   of-pick-one res k i h within e = of (slice_get res k) e
     where
@@ -63,20 +63,21 @@ module _ (haystack : List ℕ) where
       of None never = absurd (cc)
       of (Some re) is = of-one re k i h within is
 
-  -- at the first of n positions from i on
-  of-first : (res : List Re) (n i : ℕ) (h : Hit) → i + n ≤ length haystack + 1
-      → first_hit (pick haystack res 0) n i ≡ Some h → LiesFrom haystack i (i + n) h
-  of-first res zero i h within never = absurd (cc)
-  of-first res (suc n) i h within e =
-      elim (option_or_cases (pick haystack res 0 i) (first_hit (pick haystack res 0) n (i + 1)) h e) [
-        | inl here ↦ let l = of-pick res 0 i h (omega arith) here in
+  -- at the first of n positions from i on, where each hit starts at its own
+  pub first-lies : (at : ℕ → Option Hit)
+      → ((i : ℕ) (h : Hit) → i ≤ length haystack → at i ≡ Some h → LiesFrom haystack i i h)
+      → (n i : ℕ) (h : Hit) → i + n ≤ length haystack + 1 → first_hit at n i ≡ Some h → LiesFrom haystack i (i + n) h
+  first-lies at each zero i h within never = absurd (cc)
+  first-lies at each (suc n) i h within e =
+      elim (option_or_cases (at i) (first_hit at n (i + 1)) h e) [
+        | inl here ↦ let l = each i h (omega arith) here in
             record {
               after = l.after;
               before = omega (arith, l.before);
               onward = l.onward;
               inside = l.inside;
             }
-        | inr later ↦ let l = of-first res n (i + 1) h (omega arith) later.1 in
+        | inr later ↦ let l = first-lies at each n (i + 1) h (omega arith) later.1 in
             record {
               after = omega (arith, l.after);
               before = omega (arith, l.before);
@@ -84,6 +85,10 @@ module _ (haystack : List ℕ) where
               inside = l.inside;
             }
       ]
+
+  of-first : (res : List Re) (n i : ℕ) (h : Hit) → i + n ≤ length haystack + 1
+      → first_hit (pick haystack res 0) n i ≡ Some h → LiesFrom haystack i (i + n) h
+  of-first res = first-lies (pick haystack res 0) (of-pick res 0)
 
 -- the hit of a search lies behind its start
 pub hit-lies : (res : List Re) (nfa : Automaton) (x : Search) (h : Hit) → x.end ≡ length x.haystack

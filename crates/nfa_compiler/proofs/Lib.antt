@@ -17,3 +17,11 @@ pub mod GroupLemmas
 pub mod AllLemmas
 pub mod AllSearchLemmas
 pub mod CallLemmas
+pub mod BoundaryLemmas
+pub mod BoundarySearchLemmas
+pub mod CharacterLemmas
+pub mod StrLemmas
+pub mod LiesLemmas
+pub mod StrSearchLemmas
+pub mod AllBoundaryLemmas
+pub mod StrCallLemmas

@@ -66,7 +66,7 @@ alike-hit k i (Some t) (Some u) e =
     of a b e = cc
 
 module _ (hay : List ℕ) (bytes : All (λ b. b < 256) hay) where
-  pick-alike : (res others : List Re) (k i : ℕ) → AllZip SameCaptures res others
+  pub pick-alike : (res others : List Re) (k i : ℕ) → AllZip SameCaptures res others
       → AreAlike (pick hay res k i) (pick hay others k i)
   pick-alike [] [] k i same = tt
   pick-alike [] (b ∷ others) k i same = absurd same
@@ -77,7 +77,7 @@ module _ (hay : List ℕ) (bytes : All (λ b. b < 256) hay) where
       (alike-hit k i (attempt hay a accept i) (attempt hay b accept i) (same.0.at hay bytes accept i))
       (pick-alike res others (k + 1) i same.1)
 
-  first-alike : (at other : ℕ → Option Hit) → ((i : ℕ) → AreAlike (at i) (other i)) → (n i : ℕ)
+  pub first-alike : (at other : ℕ → Option Hit) → ((i : ℕ) → AreAlike (at i) (other i)) → (n i : ℕ)
       → AreAlike (first_hit at n i) (first_hit other n i)
   first-alike at other alike zero i = tt
   first-alike at other alike (suc n) i =
@@ -85,7 +85,7 @@ module _ (hay : List ℕ) (bytes : All (λ b. b < 256) hay) where
       (first-alike at other alike n (i + 1))
 
   -- the pattern of this number
-  one-alike : (res others : List Re) (place k i : ℕ) → AllZip SameCaptures res others
+  pub one-alike : (res others : List Re) (place k i : ℕ) → AllZip SameCaptures res others
       → AreAlike (option_and_then (λ re. hit_of k i (attempt hay re accept i)) (slice_get res place))
       (option_and_then (λ re. hit_of k i (attempt hay re accept i)) (slice_get others place))
   one-alike [] [] place k i same = tt
@@ -262,7 +262,7 @@ meant : (syntax : Config) (text : List ℕ) (tree : Parsed) (re : Re) → IsRead
 unfolding Reads
 meant syntax text tree re read is =
     meant-one re tree.hir syntax.nest_limit (map (option_map string_bytes) tree.names.items)
-    (read_text syntax (chars text)) read is
+    (read_text syntax (chars text)) read.reads is
 
 -- the trees that are read from texts, and what the texts mean
 pub all-meant : (syntax : Config) (texts : List (List ℕ)) (trees : List Parsed) (res : List Re)

@@ -29,7 +29,7 @@ unfolding Reads
 names-read syntax text tree names is named =
     ap (drop 1)
     (names-one (map (option_map string_bytes) tree.names.items) names tree.hir syntax.nest_limit
-    (read_text syntax (chars text)) is named)
+    (read_text syntax (chars text)) is.reads named)
 
 -- of all texts
 pub groups-named : (syntax : Config) (texts : List (List ℕ)) (trees : List Parsed)

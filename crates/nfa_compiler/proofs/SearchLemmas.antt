@@ -167,7 +167,8 @@ module _ (res : List Re) (a : Automaton) (made : IsNfaOf res a) where
         ahead inside = rw (le-ltb x.end x.start inside) (finds-at inside x.anchored)
 
     -- the scan's answer
-    scan : (r : Option (List Pair)) × TellsHit a (expected res is_bound x) r × IsScanAnswer a x LeftmostFirst false r
+    pub scan : (r : Option (List Pair)) × TellsHit a (expected res is_bound x) r
+        × IsScanAnswer a x LeftmostFirst false r
     scan = let f = finds in (
       f.0,
       f.1,
@@ -189,6 +190,59 @@ module _ (res : List Re) (a : Automaton) (made : IsNfaOf res a) where
         of None t = absurd t
         of (Some p) t = t.known
 
+    -- what a path tells of a hit: its pattern, its slots, its match, and that there is one
+    pub told-pattern : (h : Option Hit) (path : Option (List Pair)) → TellsHit a h path
+        → option_and_then (path_pattern a) path ≡ option_map (λ (g : Hit). g.pattern) h
+    told-pattern None None t = refl
+    told-pattern None (Some p) t = absurd t
+    told-pattern (Some h) None t = absurd t
+    told-pattern (Some h) (Some p) t =
+        ap (option_and_then (λ (v : Pair). pattern_of (node_at a v.0))) (EndsWith-last None t.end p t.ends)
+        ∙ t.pattern_is
+
+    same-map : (f g : ℕ → Option ℕ) → ((k : ℕ) → f k ≡ g k) → (ks : List ℕ) → map f ks ≡ map g ks
+    same-map f g same [] = refl
+    same-map f g same (k ∷ ks) = ap₂ (λ y ys. y ∷ ys) (same k) (same-map f g same ks)
+
+    pub told-slots : (count : ℕ) (h : Option Hit) (path : Option (List Pair)) → TellsHit a h path
+        → slot_row a count path ≡ slots_of a.groups count h
+    unfolding slot_row slots_of
+    told-slots count None None t = refl
+    told-slots count None (Some p) t = absurd t
+    told-slots count (Some h) None t = absurd t
+    told-slots count (Some h) (Some p) t =
+        same-map (slot_among a p) (last_write (writes_of a.groups h)) t.slots (range_with_len 0 count)
+
+    -- a row of slots at one of them
+    row-at : (count slot : ℕ) (p : List Pair) → slot < count
+        → offset_at (slot_row a count (Some p)) slot ≡ slot_among a p slot
+    unfolding slot_row
+    row-at count slot p less =
+        let long : slot < length (map (slot_among a p) (range_with_len 0 count)) =
+        omega (arith, length-map-range_with_len (slot_among a p) 0 count) in
+        rw (slice_get-get_or (map (slot_among a p) (range_with_len 0 count)) slot None long)
+        (get_or-map-range_with_len (slot_among a p) 0 count slot slot None less (omega arith))
+
+    pub told-match : (h : Option Hit) (path : Option (List Pair)) → TellsHit a h path
+        → match_of (option_and_then (path_pattern a) path) (slot_row a (slot_count a.groups) path) ≡ found_in h
+    told-match None None t = refl
+    told-match None (Some p) t = absurd t
+    told-match (Some h) None t = absurd t
+    told-match (Some h) (Some p) t =
+        let known : h.pattern < length a.groups = t.known in
+        rw (
+          told-pattern (Some h) (Some p) t,
+          row-at (slot_count a.groups) (2 * h.pattern) p (omega arith) ∙ t.start_slot,
+          row-at (slot_count a.groups) (2 * h.pattern + 1) p (omega arith) ∙ t.end_slot,
+          le-leb h.start h.trace.end t.onward,
+        ) refl
+
+    pub told-found : (h : Option Hit) (path : Option (List Pair)) → TellsHit a h path → is_some path ≡ is_some h
+    told-found None None t = refl
+    told-found None (Some p) t = absurd t
+    told-found (Some h) None t = absurd t
+    told-found (Some h) (Some p) t = refl
+
     module _ (anywhere : is_utf8_empty a ≡ false) where
       -- the search's answer, and there is no other
       told : (restarts : ℕ) (path : Option (List Pair)) → IsSearchAnswer a LeftmostFirst false x restarts path
@@ -198,58 +252,6 @@ module _ (res : List Re) (a : Automaton) (made : IsNfaOf res a) where
           let s = scan in
           subst (TellsHit a (expected res is_bound x))
           (IsFirstPath-unique (edges a x) (starts a x) (IsMatch a) s.0 path s.2 own.1) s.1
-
-      told-pattern : (h : Option Hit) (path : Option (List Pair)) → TellsHit a h path
-          → option_and_then (path_pattern a) path ≡ option_map (λ (g : Hit). g.pattern) h
-      told-pattern None None t = refl
-      told-pattern None (Some p) t = absurd t
-      told-pattern (Some h) None t = absurd t
-      told-pattern (Some h) (Some p) t =
-          ap (option_and_then (λ (v : Pair). pattern_of (node_at a v.0))) (EndsWith-last None t.end p t.ends)
-          ∙ t.pattern_is
-
-      same-map : (f g : ℕ → Option ℕ) → ((k : ℕ) → f k ≡ g k) → (ks : List ℕ) → map f ks ≡ map g ks
-      same-map f g same [] = refl
-      same-map f g same (k ∷ ks) = ap₂ (λ y ys. y ∷ ys) (same k) (same-map f g same ks)
-
-      told-slots : (count : ℕ) (h : Option Hit) (path : Option (List Pair)) → TellsHit a h path
-          → slot_row a count path ≡ slots_of a.groups count h
-      unfolding slot_row slots_of
-      told-slots count None None t = refl
-      told-slots count None (Some p) t = absurd t
-      told-slots count (Some h) None t = absurd t
-      told-slots count (Some h) (Some p) t =
-          same-map (slot_among a p) (last_write (writes_of a.groups h)) t.slots (range_with_len 0 count)
-
-      -- a row of slots at one of them
-      row-at : (count slot : ℕ) (p : List Pair) → slot < count
-          → offset_at (slot_row a count (Some p)) slot ≡ slot_among a p slot
-      unfolding slot_row
-      row-at count slot p less =
-          let long : slot < length (map (slot_among a p) (range_with_len 0 count)) =
-          omega (arith, length-map-range_with_len (slot_among a p) 0 count) in
-          rw (slice_get-get_or (map (slot_among a p) (range_with_len 0 count)) slot None long)
-          (get_or-map-range_with_len (slot_among a p) 0 count slot slot None less (omega arith))
-
-      told-match : (h : Option Hit) (path : Option (List Pair)) → TellsHit a h path
-          → match_of (option_and_then (path_pattern a) path) (slot_row a (slot_count a.groups) path) ≡ found_in h
-      told-match None None t = refl
-      told-match None (Some p) t = absurd t
-      told-match (Some h) None t = absurd t
-      told-match (Some h) (Some p) t =
-          let known : h.pattern < length a.groups = t.known in
-          rw (
-            told-pattern (Some h) (Some p) t,
-            row-at (slot_count a.groups) (2 * h.pattern) p (omega arith) ∙ t.start_slot,
-            row-at (slot_count a.groups) (2 * h.pattern + 1) p (omega arith) ∙ t.end_slot,
-            le-leb h.start h.trace.end t.onward,
-          ) refl
-
-      told-found : (h : Option Hit) (path : Option (List Pair)) → TellsHit a h path → is_some path ≡ is_some h
-      told-found None None t = refl
-      told-found None (Some p) t = absurd t
-      told-found (Some h) None t = absurd t
-      told-found (Some h) (Some p) t = refl
 
       pub answer-is : (pattern : Option ℕ) (slots : List (Option ℕ)) → IsAnswer a LeftmostFirst false x pattern slots
           → (pattern ≡ option_map (λ (h : Hit). h.pattern) (expected res is_bound x))

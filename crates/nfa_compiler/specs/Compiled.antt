@@ -1,5 +1,5 @@
 -- What an NFA of patterns is made of.
-use Rattle.std.specs.Prelude.{◌≡◌, ℕ, ◌+◌, ◌*◌, ◌<◌, ◌⊎◌, List, [], ◌∷◌, length, map, drop, take, All, Option, IsSomeAnd, IsTrue, chars, option_map, string_bytes, slice_index, slice_index_or}
+use Rattle.std.specs.Prelude.{◌≡◌, false, ℕ, ◌+◌, ◌*◌, ◌<◌, ◌⊎◌, List, [], ◌∷◌, length, map, drop, take, All, Option, IsSomeAnd, IsTrue, chars, option_map, string_bytes, slice_index, slice_index_or}
 use Rattle.std.specs.List.{AllZip, sum_by}
 use Rattle.regex_search_core.specs.Patterns.{number_of}
 use Rattle.regex_hir.specs.Re.{Re, empty}
@@ -7,6 +7,7 @@ use Rattle.regex_hir.specs.Meaning.{meaning}
 use Rattle.regex_hir.specs.Reads.{always_reads}
 use Rattle.regex_syntax.specs.Grammar.{read}
 use Rattle.regex_syntax.specs.Verdict.{Reads}
+use Rattle.regex_syntax.specs.WellFormed.{IsWellFormed}
 use Rattle.regex_syntax.specs.declared.Config.{Config}
 use Rattle.regex_syntax.specs.declared.Parsed.{Parsed}
 use Rattle.regex_nfa.specs.declared.nfa.Nfa.{Nfa}
@@ -63,9 +64,10 @@ pub record IsNfaOf (res : List Re) (nfa : Automaton) : Type 0 where
   pub each : ArePatterns nfa.states nfa.groups nfa.patterns res (length res)
   pub chooses : Chooses nfa.states nfa.anchored nfa.patterns
 
--- the tree and the names are what the grammar reads in the text
-abbrev pub IsRead : Config → List ℕ → Parsed → Type 0
-IsRead syntax text tree = Reads syntax text tree.hir (map (option_map string_bytes) tree.names.items)
+-- The tree and the names are what the grammar reads in the text. Under `utf8` the tree is one that matches text only.
+pub record IsRead (syntax : Config) (text : List ℕ) (tree : Parsed) : Type 0 where
+  pub reads : Reads syntax text tree.hir (map (option_map string_bytes) tree.names.items)
+  pub formed : IsWellFormed syntax.utf8 tree.hir
 
 -- each way through the pattern has a part that reads a byte
 abbrev pub AlwaysReads : Parsed → Type 0
@@ -77,6 +79,8 @@ pub record IsCompiled (syntax : Config) (texts : List (List ℕ)) (nfa : Automat
   pub read : AllZip (IsRead syntax) texts trees
   pub made : IsNfaOf (res_of trees) nfa
   pub groups : nfa.groups ≡ groups_of trees
+  pub utf8 : nfa.utf8 ≡ syntax.utf8
+  pub always_read : nfa.has_empty ≡ false → All AlwaysReads trees
 
 -- the grammar reads this pattern in the text
 abbrev pub IsMeant : Config → List ℕ → Re → Type 0

@@ -10,3 +10,7 @@ pub mod KindLaws
 pub mod NameLaws
 pub mod AllHits
 pub mod AllLaws
+pub mod BoundaryHits
+pub mod StrHits
+pub mod Utf8Laws
+pub mod StrLaws

@@ -5,8 +5,8 @@
 //! let found = vm.find(&mut cache, Input::new(line));
 //! match_of_text(&compiler, pattern, vm.get_nfa(), line, found);
 //! ```
-ghost use Rattle.std.specs.Prelude.{◌≡◌, ◌==◌, ◌∷◌, [], false, map, option_map};
-ghost use Rattle.regex_hir.specs.Find.{find, find_all};
+ghost use Rattle.std.specs.Prelude.{◌≡◌, ◌==◌, ◌∷◌, [], IsUtf8, false, true, map, option_map};
+ghost use Rattle.regex_hir.specs.Find.{find, find_all, find_all_str, find_str};
 ghost use Rattle.regex_hir.specs.Re.{Re};
 ghost use Rattle.regex_search_core.specs.Found.{found_of};
 ghost use Rattle.regex_search_core.specs.Search.{whole};
@@ -52,4 +52,39 @@ pub fn matches_of_text(
     requires all { AreMatches nfa.now LeftmostFirst false (whole haystack.now) (map found_of found.now) }
     ensures { (re : Re) → IsMeant (syntax_of compiler.now) pattern.now re
         → map found_of found.now ≡ map found_by (find_all re haystack.now) }
+{}
+
+/// The match of a search of a whole `str`, by an NFA that was compiled in UTF-8 mode, is what `find_str` of `regex_hir`
+/// gives for the pattern that the grammar reads in the text.
+pub fn match_in_str(
+    compiler: &Compiler,
+    pattern: &str,
+    nfa: &NFA,
+    haystack: &[u8],
+    found: Option<Match>,
+)
+    requires compiled { IsCompiled (syntax_of compiler.now) (pattern.now ∷ []) nfa.now }
+    requires utf8 { nfa.now.utf8 ≡ true }
+    requires text { IsUtf8 haystack.now }
+    requires free { (nfa.now.anchored == nfa.now.unanchored) ≡ false }
+    requires answer { IsMatchAnswer nfa.now LeftmostFirst false (whole haystack.now) (option_map found_of found) }
+    ensures { (re : Re) → IsMeant (syntax_of compiler.now) pattern.now re
+        → option_map found_of found ≡ option_map found_by (find_str re haystack.now 0) }
+{}
+
+/// All matches of a search of the whole `str` are what `find_all_str` of `regex_hir` gives for that pattern.
+pub fn matches_in_str(
+    compiler: &Compiler,
+    pattern: &str,
+    nfa: &NFA,
+    haystack: &[u8],
+    found: &[Match],
+)
+    requires compiled { IsCompiled (syntax_of compiler.now) (pattern.now ∷ []) nfa.now }
+    requires utf8 { nfa.now.utf8 ≡ true }
+    requires text { IsUtf8 haystack.now }
+    requires free { (nfa.now.anchored == nfa.now.unanchored) ≡ false }
+    requires all { AreMatches nfa.now LeftmostFirst false (whole haystack.now) (map found_of found.now) }
+    ensures { (re : Re) → IsMeant (syntax_of compiler.now) pattern.now re
+        → map found_of found.now ≡ map found_by (find_all_str re haystack.now) }
 {}

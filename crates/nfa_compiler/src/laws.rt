@@ -6,6 +6,11 @@ ghost use Rattle.nfa_compiler.specs.Laws.{AnswersAreHits, FindsHits, LooksAgree,
 ghost use Rattle.nfa_compiler.specs.Laws.{TextsAreAnswered, TextsAreMatched};
 ghost use Rattle.nfa_compiler.specs.NameLaws.{GroupsAreNamed, GroupsAreWritten, NamesAreWritten};
 ghost use Rattle.nfa_compiler.specs.WayLaws.{PatternsRecordBounds, TextsRecordBounds};
+ghost use Rattle.nfa_compiler.specs.StrLaws.{AllHitsAreFindAllStr, MatchesAreAllOfStrs, OneHitIsFindStr};
+ghost use Rattle.nfa_compiler.specs.StrLaws.{RowsAreAllOfStrs, StrsAreAnswered, StrsAreMatched};
+ghost use Rattle.nfa_compiler.specs.Utf8Laws.{AnswersAreBoundaryHits, FindsBoundaryHits, MatchesAreBoundaryHits};
+ghost use Rattle.nfa_compiler.specs.Utf8Laws.{BoundaryHitsAreStrHits, MatchesAreAllBoundaryHits, RowsAreAllBoundaryHits};
+ghost use Rattle.nfa_compiler.specs.Utf8Laws.{TreesMatchCharacters};
 
 /// An assertion of an NFA holds where that of the pattern does.
 pub fn assertions_agree()
@@ -71,4 +76,47 @@ pub fn groups_are_those_of_texts()
     ensures names { GroupsAreNamed }
     ensures spans { GroupsAreWritten }
     ensures named { NamesAreWritten }
+{}
+
+/// The same as [`searches_find_hits`] in UTF-8 mode, for patterns that may match the empty string: a search finds the
+/// first hit that ends on a boundary. An anchored search finds the hit at its start, if that ends on a boundary.
+pub fn searches_find_boundary_hits()
+    ensures answers { AnswersAreBoundaryHits }
+    ensures matches { MatchesAreBoundaryHits }
+    ensures found { FindsBoundaryHits }
+{}
+
+/// The same as [`iterations_find_all_hits`] in UTF-8 mode, for patterns that may match the empty string.
+pub fn iterations_find_boundary_hits()
+    ensures matches { MatchesAreAllBoundaryHits }
+    ensures captures { RowsAreAllBoundaryHits }
+{}
+
+/// In UTF-8 mode and in a `str`, a haystack that is UTF-8, a search finds what the grammar reads in the texts of the
+/// patterns, at the first boundary where one of them matches, whether or not they may match the empty string.
+pub fn searches_of_strs_find_texts()
+    ensures answers { StrsAreAnswered }
+    ensures matches { StrsAreMatched }
+{}
+
+/// An iteration finds all of these, if the NFA does not bind searches to their start.
+pub fn iterations_of_strs_find_texts()
+    ensures matches { MatchesAreAllOfStrs }
+    ensures captures { RowsAreAllOfStrs }
+{}
+
+/// The hit of one pattern in a `str` is what `find_str` of `regex_hir` gives, and all hits are what `find_all_str` gives.
+pub fn str_hits_are_find_str()
+    ensures first { OneHitIsFindStr }
+    ensures all { AllHitsAreFindAllStr }
+{}
+
+/// In a `str`, a hit of patterns that match whole characters ends on a boundary exactly if it starts on one.
+pub fn boundary_hits_are_str_hits()
+    ensures { BoundaryHitsAreStrHits }
+{}
+
+/// A tree that `regex_syntax::parse` returns under its option `utf8` matches whole characters of a `str`.
+pub fn trees_match_characters()
+    ensures { TreesMatchCharacters }
 {}

@@ -1,0 +1,231 @@
+-- What a search in UTF-8 mode finds in a `str`, of texts of patterns, and of one pattern.
+use Rattle.std.proofs.Common.{◌≡◌, ℕ, zero, suc, ◌+◌, ◌-◌, ◌<◌, inl, inr, Bool, true, false, List, [], ◌∷◌, map, length, refl, sym, ap, ◌∙◌, subst, arith, IsUtf8}
+use Rattle.std.specs.Prelude.{Option, None, Some, All, IsTrue, option_map, if◌then◌else◌, ◌&&◌, ◌==◌}
+use Rattle.std.specs.List.{AllZip}
+use Rattle.std.specs.Option.{option_or}
+use Rattle.std.proofs.lemmas.Bool.{cases_lt, lt-ltb, le-ltb}
+use Rattle.std.proofs.lemmas.List.Elements.{All-nil, All-cons, All-map}
+use Rattle.regex_hir.specs.Find.{find_all_str, find_str, first_from}
+use Rattle.regex_hir.specs.Meaning.{meaning}
+use Rattle.regex_hir.specs.Re.{Re, Trace, accept, attempt}
+use Rattle.regex_hir.specs.Reads.{always_reads}
+use Rattle.regex_hir.specs.Text.{is_boundary}
+use Rattle.regex_search_core.specs.Boundary.{IsBoundary}
+use Rattle.regex_search_core.specs.Found.{Found}
+use Rattle.regex_search_core.specs.Patterns.{number_of}
+use Rattle.regex_search_core.specs.Search.{Search}
+use Rattle.regex_search_core.specs.declared.search.Anchored.{Anchored}
+use Rattle.regex_search_core.specs.declared.search.Anchored.TheVariants.{No, Yes, Pattern}
+use Rattle.regex_search_core.specs.declared.search.MatchKind.TheVariants.{LeftmostFirst}
+use Rattle.regex_syntax.specs.Captures.{SameCaptures}
+use Rattle.regex_syntax.specs.declared.Config.{Config}
+use Rattle.regex_syntax.specs.declared.Parsed.{Parsed}
+use Rattle.thompson_nfa.specs.Automaton.{Automaton}
+use Rattle.nfa_paths.specs.Paths.{is_utf8_empty, IsAnswer, IsMatchAnswer}
+use Rattle.nfa_search_base.specs.Catching.{Row}
+use Rattle.nfa_search_base.specs.CaughtLists.{AreRows}
+use Rattle.nfa_search_base.specs.Lists.{AreMatches}
+use Rattle.nfa_compiler.specs.AllHits.{hits_from, row_of_hit}
+use Rattle.nfa_compiler.specs.BoundaryHits.{boundary_hit}
+use Rattle.nfa_compiler.specs.Compiled.{AreMeant, IsCompiled, IsRead, res_of}
+use Rattle.nfa_compiler.specs.Laws.{hit}
+use Rattle.nfa_compiler.specs.Patterns.{Hit, first_hit, found_at, found_in, hit_by, hit_of, pick, pick_one, slots_of}
+use Rattle.nfa_compiler.specs.StrHits.{MatchesCharacters, all_str_hits, at_boundary, expected_in_str, str_hit, str_hit_at_start}
+use Rattle.nfa_compiler.proofs.AllLemmas.{hits-are-matches}
+use Rattle.nfa_compiler.proofs.AllSearchLemmas.{matches-of, rows-of}
+use Rattle.nfa_compiler.proofs.BoundLemmas.{LiesFrom}
+use Rattle.nfa_compiler.proofs.BoundarySearchLemmas.{boundary-answer, boundary-known, boundary-match}
+use Rattle.nfa_compiler.proofs.CharacterLemmas.{tree-matches-characters}
+use Rattle.nfa_compiler.proofs.LiesLemmas.{str-lies}
+use Rattle.nfa_compiler.proofs.MeantLemmas.{AreAlike, all-meant, first-alike, found-alike, one-alike, pattern-alike, pick-alike, slots-alike}
+use Rattle.nfa_compiler.proofs.SearchLemmas.{answer-is, expected-known, match-is}
+use Rattle.nfa_compiler.proofs.StrLemmas.{boundary-is-str, hit-is-str, text-bytes}
+
+-- Patterns that a caller cannot tell apart have hits in a `str` that a caller cannot tell apart.
+
+module _ (x : Search) (bytes : All (λ b. b < 256) x.haystack) (res others : List Re) (bound : Bool)
+    (same : AllZip SameCaptures res others) where
+  at-alike : (at other : ℕ → Option Hit) → ((i : ℕ) → AreAlike (at i) (other i)) → (i : ℕ)
+      → AreAlike (at_boundary x.haystack at i) (at_boundary x.haystack other i)
+  at-alike at other alike i = of (is_boundary x.haystack i)
+    where
+      of : (b : Bool) → AreAlike (if b then at i else None) (if b then other i else None)
+      of true = alike i
+      of false = tt
+
+  picks-alike : (i : ℕ) → AreAlike (at_boundary x.haystack (pick x.haystack res 0) i)
+      (at_boundary x.haystack (pick x.haystack others 0) i)
+  picks-alike = at-alike (pick x.haystack res 0) (pick x.haystack others 0)
+      (λ i. pick-alike x.haystack bytes res others 0 i same)
+
+  mode-alike : (mode : Anchored) → AreAlike (str_hit_at_start res bound x mode) (str_hit_at_start others bound x mode)
+  mode-alike No = first-alike x.haystack bytes (at_boundary x.haystack (pick x.haystack res 0))
+      (at_boundary x.haystack (pick x.haystack others 0)) picks-alike
+      (if bound then 1 else (x.end - x.start + 1)) x.start
+  mode-alike Yes = picks-alike x.start
+  mode-alike (Pattern pattern) = of (is_boundary x.haystack x.start)
+    where
+      of : (b : Bool) → AreAlike (if b then pick_one x.haystack res (number_of pattern) x.start else None)
+          (if b then pick_one x.haystack others (number_of pattern) x.start else None)
+      of true = one-alike x.haystack bytes res others (number_of pattern) (number_of pattern) x.start same
+      of false = tt
+
+  str-alike : AreAlike (expected_in_str res bound x) (expected_in_str others bound x)
+  unfolding expected_in_str
+  str-alike =
+      elim (cases_lt x.end x.start) [
+        | inl past ↦ rw (lt-ltb x.end x.start past) tt
+        | inr inside ↦ rw (le-ltb x.end x.start inside) (mode-alike x.anchored)
+      ]
+
+-- the trees that are read under `utf8`
+trees-match : (syntax : Config) → syntax.utf8 ≡ true → (texts : List (List ℕ)) (trees : List Parsed)
+    → AllZip (IsRead syntax) texts trees → All MatchesCharacters (res_of trees)
+trees-match syntax mode [] [] read = All-nil MatchesCharacters
+trees-match syntax mode [] (tree ∷ trees) read = absurd read
+trees-match syntax mode (text ∷ texts) [] read = absurd read
+trees-match syntax mode (text ∷ texts) (tree ∷ trees) read =
+    All-cons MatchesCharacters (meaning tree.hir) (res_of trees)
+    (tree-matches-characters tree.hir (rw mode at read.0.formed))
+    (trees-match syntax mode texts trees read.1)
+
+module _ (syntax : Config) (texts : List (List ℕ)) (res : List Re) (nfa : Automaton)
+    (compiled : IsCompiled syntax texts nfa) (meant : AreMeant syntax texts res) (mode : nfa.utf8 ≡ true) where
+  abbrev own : List Re
+  own = res_of compiled.trees
+
+  abbrev bound : Bool
+  bound = nfa.anchored == nfa.unanchored
+
+  own-match : All MatchesCharacters own
+  own-match = trees-match syntax (sym compiled.utf8 ∙ mode) texts compiled.trees compiled.read
+
+  -- the NFA does not match the empty text: each tree always reads a byte
+  own-read : is_utf8_empty nfa ≡ false → All (λ re. IsTrue (always_reads re)) own
+  own-read anywhere = All-map (λ re. IsTrue (always_reads re)) (λ (t : Parsed). meaning t.hir) compiled.trees
+      (compiled.always_read (of nfa.has_empty (rw mode at anywhere)))
+    where
+      of : (b : Bool) → b && true ≡ false → b ≡ false
+      of true never = never
+      of false e = refl
+
+  module _ (x : Search) (whole : x.end ≡ length x.haystack) (text : IsUtf8 x.haystack)
+      (starts : bound ≡ true → x.anchored ≡ No → IsBoundary x.haystack x.start) where
+    own-alike : AreAlike (str_hit own nfa x) (str_hit res nfa x)
+    own-alike = str-alike x (text-bytes x.haystack text) own res bound
+        (all-meant syntax texts compiled.trees res compiled.read meant)
+
+    pub str-match : (found : Option Found) → IsMatchAnswer nfa LeftmostFirst false x found
+        → found ≡ found_in (str_hit res nfa x)
+    str-match found answer =
+        of (is_utf8_empty nfa) refl ∙ found-alike (str_hit own nfa x) (str_hit res nfa x) own-alike
+      where
+        of : (b : Bool) → is_utf8_empty nfa ≡ b → found ≡ found_in (str_hit own nfa x)
+        of true is =
+            boundary-match own nfa compiled.made is x whole found answer
+            ∙ ap found_in (boundary-is-str own own-match bound x text starts)
+        of false is =
+            match-is own nfa compiled.made x whole is found answer
+            ∙ ap found_in (hit-is-str own own-match bound x text (own-read is))
+
+    pub str-answer : (pattern : Option ℕ) (slots : List (Option ℕ)) → IsAnswer nfa LeftmostFirst false x pattern slots
+        → (pattern ≡ option_map (λ (h : Hit). h.pattern) (str_hit res nfa x))
+        × (slots ≡ slots_of nfa.groups (length slots) (str_hit res nfa x))
+    str-answer pattern slots answer = of (is_utf8_empty nfa) refl
+      where
+        alike : (o : Option Hit) → o ≡ str_hit own nfa x → ((h : Hit) → o ≡ Some h → h.pattern < length nfa.groups)
+            → (pattern ≡ option_map (λ (h : Hit). h.pattern) o) × (slots ≡ slots_of nfa.groups (length slots) o)
+            → (pattern ≡ option_map (λ (h : Hit). h.pattern) (str_hit res nfa x))
+            × (slots ≡ slots_of nfa.groups (length slots) (str_hit res nfa x))
+        alike o is known a =
+            let like : AreAlike o (str_hit res nfa x) =
+            subst (λ p. AreAlike p (str_hit res nfa x)) (sym is) own-alike in (
+              a.0 ∙ pattern-alike o (str_hit res nfa x) like,
+              a.1 ∙ slots-alike nfa.groups (length slots) o (str_hit res nfa x) known like,
+            )
+
+        of : (b : Bool) → is_utf8_empty nfa ≡ b
+            → (pattern ≡ option_map (λ (h : Hit). h.pattern) (str_hit res nfa x))
+            × (slots ≡ slots_of nfa.groups (length slots) (str_hit res nfa x))
+        of true is =
+            alike (boundary_hit own nfa x) (boundary-is-str own own-match bound x text starts)
+            (boundary-known own nfa compiled.made is x whole answer.restarts answer.path answer.answers)
+            (boundary-answer own nfa compiled.made is x whole pattern slots answer)
+        of false is =
+            alike (hit own nfa x) (hit-is-str own own-match bound x text (own-read is))
+            (expected-known own nfa compiled.made x whole)
+            (answer-is own nfa compiled.made x whole is pattern slots answer)
+
+  -- all of them
+
+  module _ (x : Search) (whole : x.end ≡ length x.haystack) (text : IsUtf8 x.haystack) (free : bound ≡ false) where
+    lies : (i : ℕ) (h : Hit) → str_hit res nfa (record x { start = i }) ≡ Some h
+        → LiesFrom x.haystack i (length x.haystack + 1) h
+    lies i h = str-lies res bound (record x { start = i }) h whole
+
+    pub starts-free : (i : ℕ) → bound ≡ true → x.anchored ≡ No → IsBoundary x.haystack i
+    starts-free i is = absurd (never bound free is)
+      where
+        never : (b : Bool) → b ≡ false → b ≡ true → ⊥
+        never b off on = cc
+
+    pub all-str-matches : (ms : List Found) → AreMatches nfa LeftmostFirst false x ms
+        → ms ≡ map found_at (all_str_hits res nfa x)
+    all-str-matches = matches-of nfa x (λ i. str_hit res nfa (record x { start = i })) lies
+        (λ i. str-match (record x { start = i }) whole text (starts-free i))
+
+    pub all-str-rows : (rows : List Row) → AreRows nfa LeftmostFirst false x rows
+        → rows ≡ map (row_of_hit nfa) (all_str_hits res nfa x)
+    all-str-rows = rows-of nfa x (λ i. str_hit res nfa (record x { start = i })) lies
+        (λ i. str-match (record x { start = i }) whole text (starts-free i))
+        (λ i. str-answer (record x { start = i }) whole text (starts-free i))
+
+-- one pattern
+
+abbrev attempt_str : List ℕ → Re → ℕ → Option Trace
+attempt_str haystack re i = if is_boundary haystack i then attempt haystack re accept i else None
+
+first-is-str : (re : Re) (haystack : List ℕ) (n i : ℕ)
+    → first_hit (at_boundary haystack (pick haystack (re ∷ []) 0)) n i
+    ≡ option_map (hit_by 0) (first_from (attempt_str haystack re) n i)
+unfolding first_from
+first-is-str re haystack zero i = refl
+first-is-str re haystack (suc n) i =
+    of (is_boundary haystack i) (attempt haystack re accept i) (first-is-str re haystack n (i + 1))
+  where
+    of : (b : Bool) (o : Option Trace)
+        → first_hit (at_boundary haystack (pick haystack (re ∷ []) 0)) n (i + 1)
+        ≡ option_map (hit_by 0) (first_from (attempt_str haystack re) n (i + 1))
+        → option_or (if b then option_or (hit_of 0 i o) None else None)
+        (first_hit (at_boundary haystack (pick haystack (re ∷ []) 0)) n (i + 1))
+        ≡ option_map (hit_by 0)
+        (option_or (option_map (λ t. record { start = i; trace = t }) (if b then o else None))
+        (first_from (attempt_str haystack re) n (i + 1)))
+    of true None e = e
+    of true (Some t) e = refl
+    of false o e = e
+
+pub one-str-hit : (re : Re) (nfa : Automaton) (x : Search) → (nfa.anchored == nfa.unanchored) ≡ false
+    → x.anchored ≡ No → x.end ≡ length x.haystack
+    → str_hit (re ∷ []) nfa x ≡ option_map (hit_by 0) (find_str re x.haystack x.start)
+unfolding expected_in_str find_str first_from
+one-str-hit re nfa x free mode whole =
+    elim (cases_lt x.end x.start) [
+      | inl past ↦
+          let none : length x.haystack + 1 - x.start ≡ 0 = omega arith in
+          rw (lt-ltb x.end x.start past, none) refl
+      | inr inside ↦
+          let count : x.end - x.start + 1 ≡ length x.haystack + 1 - x.start = omega arith in
+          rw (le-ltb x.end x.start inside, mode, free, count)
+          (first-is-str re x.haystack (length x.haystack + 1 - x.start) x.start)
+    ]
+
+pub all-str-of-one : (re : Re) (nfa : Automaton) (x : Search) → (nfa.anchored == nfa.unanchored) ≡ false
+    → x.anchored ≡ No → x.start ≡ 0 → x.end ≡ length x.haystack
+    → all_str_hits (re ∷ []) nfa x ≡ map (hit_by 0) (find_all_str re x.haystack)
+all-str-of-one re nfa x free mode first whole =
+    ap (hits_from (λ i. str_hit (re ∷ []) nfa (record x { start = i })) (length x.haystack + 1))
+    (one-str-hit re nfa x free mode whole ∙ ap (λ i. option_map (hit_by 0) (find_str re x.haystack i)) first)
+    ∙ hits-are-matches (λ i. str_hit (re ∷ []) nfa (record x { start = i })) (find_str re x.haystack)
+    (λ i. one-str-hit re nfa (record x { start = i }) free mode whole) (length x.haystack + 1)
+    (find_str re x.haystack 0)

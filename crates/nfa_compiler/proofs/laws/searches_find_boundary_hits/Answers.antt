@@ -1,0 +1,24 @@
+-- The search's answer is the first path of its last scan, which tells of the hit.
+use Rattle.std.proofs.Common.{subst}
+use Rattle.std.specs.Prelude.{false}
+use Rattle.nfa_paths.specs.Paths.{IsAnswer, IsMatchAnswer, IsFoundAnswer}
+use Rattle.nfa_compiler.proofs.BoundarySearchLemmas.{boundary-answer, boundary-match, boundary-found}
+use Rattle.nfa_compiler.proofs.laws.searches_find_boundary_hits.Goals as goal
+
+pub returns-clause-answers : goal.returns-clause-answers
+returns-clause-answers c = λ res nfa kind earliest x pattern slots made mode how answer.
+    boundary-answer res nfa made mode x how.whole pattern slots
+    (subst (λ k. IsAnswer nfa k false x pattern slots) how.leftmost
+    (subst (λ e. IsAnswer nfa kind e x pattern slots) how.latest answer))
+
+pub returns-clause-matches : goal.returns-clause-matches
+returns-clause-matches c = λ res nfa kind earliest x found made mode how answer.
+    boundary-match res nfa made mode x how.whole found
+    (subst (λ k. IsMatchAnswer nfa k false x found) how.leftmost
+    (subst (λ e. IsMatchAnswer nfa kind e x found) how.latest answer))
+
+pub returns-clause-found : goal.returns-clause-found
+returns-clause-found c = λ res nfa kind earliest x found made mode how answer.
+    boundary-found res nfa made mode x how.whole found
+    (subst (λ k. IsFoundAnswer nfa k false x found) how.leftmost
+    (subst (λ e. IsFoundAnswer nfa kind e x found) how.latest answer))

@@ -1,0 +1,9 @@
+-- One pattern is tried at the same positions.
+use Rattle.nfa_compiler.proofs.StrSearchLemmas.{all-str-of-one, one-str-hit}
+use Rattle.nfa_compiler.proofs.laws.str_hits_are_find_str.Goals as goal
+
+pub returns-clause-first : goal.returns-clause-first
+returns-clause-first c = one-str-hit
+
+pub returns-clause-all : goal.returns-clause-all
+returns-clause-all c = all-str-of-one

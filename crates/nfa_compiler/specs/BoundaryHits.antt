@@ -1,0 +1,50 @@
+-- What a search is to find in UTF-8 mode, where a match that ends inside a character does not count.
+use Rattle.std.specs.Prelude.{ℕ, zero, suc, ◌+◌, ◌-◌, Bool, List, length, Option, None, if◌then◌else◌, nat_lt, ◌==◌}
+use Rattle.regex_hir.specs.Re.{Re}
+use Rattle.regex_hir.specs.Text.{is_boundary, is_none_or, is_some_and}
+use Rattle.regex_search_core.specs.Patterns.{number_of}
+use Rattle.regex_search_core.specs.Search.{Search}
+use Rattle.regex_search_core.specs.declared.search.Anchored.{Anchored}
+use Rattle.regex_search_core.specs.declared.search.Anchored.TheVariants.{No, Yes, Pattern}
+use Rattle.thompson_nfa.specs.Automaton.{Automaton}
+use Rattle.nfa_compiler.specs.AllHits.{hits_from}
+use Rattle.nfa_compiler.specs.Patterns.{Hit, first_hit, pick, pick_one}
+
+-- the hit ends on a boundary of the haystack: no continuation byte stands there
+abbrev pub ends_on_boundary : List ℕ → Hit → Bool
+ends_on_boundary haystack h = is_boundary haystack h.trace.end
+
+-- the hit, if it ends on a boundary
+abbrev pub on_boundary : List ℕ → Option Hit → Option Hit
+on_boundary haystack h = if is_some_and h (ends_on_boundary haystack) then h else None
+
+-- The hit at the first of the n positions from i on where no hit is, or one that ends on a boundary: after a hit that
+-- ends inside a character the search starts again, one byte further on.
+abbrev pub restarted_hit : List ℕ → (ℕ → Option Hit) → ℕ → ℕ → Option Hit
+restarted_hit haystack at zero i = None
+restarted_hit haystack at (suc n) i =
+    if is_none_or (at i) (ends_on_boundary haystack) then at i else restarted_hit haystack at n (i + 1)
+
+-- What a search for the patterns is to find. `bound` says that each scan is bound to its start. That does not anchor
+-- the search: it starts again after a hit that ends inside a character, and finds none at the first start without a hit.
+abbrev pub boundary_hit_at_start : List Re → Bool → Search → Anchored → Option Hit
+boundary_hit_at_start res bound x No =
+    if bound then restarted_hit x.haystack (pick x.haystack res 0) (x.end - x.start + 1) x.start
+    else first_hit (λ i. on_boundary x.haystack (pick x.haystack res 0 i)) (x.end - x.start + 1) x.start
+boundary_hit_at_start res bound x Yes = on_boundary x.haystack (pick x.haystack res 0 x.start)
+boundary_hit_at_start res bound x (Pattern pattern) =
+    on_boundary x.haystack (pick_one x.haystack res (number_of pattern) x.start)
+
+-- the same; none where the span starts behind its end
+unfoldable pub expected_on_boundary : List Re → Bool → Search → Option Hit
+expected_on_boundary res bound x =
+    if nat_lt x.end x.start then None else boundary_hit_at_start res bound x x.anchored
+
+-- what a search of the NFA is to find: without an anchor, the first hit that ends on a boundary
+abbrev pub boundary_hit : List Re → Automaton → Search → Option Hit
+boundary_hit res nfa x = expected_on_boundary res (nfa.anchored == nfa.unanchored) x
+
+-- all hits of a search in UTF-8 mode, from left to right
+abbrev pub all_boundary_hits : List Re → Automaton → Search → List Hit
+all_boundary_hits res nfa x =
+    hits_from (λ i. boundary_hit res nfa (record x { start = i })) (length x.haystack + 1) (boundary_hit res nfa x)

@@ -1,0 +1,68 @@
+-- What searches of a compiled NFA find in UTF-8 mode, where an empty match that splits a character does not count.
+use Rattle.std.specs.Prelude.{◌≡◌, ℕ, All, Bool, true, List, length, map, IsUtf8, Option, is_some, option_map}
+use Rattle.regex_hir.specs.Meaning.{meaning}
+use Rattle.regex_hir.specs.Re.{Re}
+use Rattle.regex_search_core.specs.Found.{Found}
+use Rattle.regex_search_core.specs.Search.{Search}
+use Rattle.regex_search_core.specs.declared.search.MatchKind.{MatchKind}
+use Rattle.regex_syntax.specs.WellFormed.{IsWellFormed}
+use Rattle.regex_syntax.specs.declared.Parsed.{Parsed}
+use Rattle.thompson_nfa.specs.Automaton.{Automaton}
+use Rattle.nfa_paths.specs.Paths.{is_utf8_empty, IsAnswer, IsMatchAnswer, IsFoundAnswer}
+use Rattle.nfa_search_base.specs.Catching.{Row}
+use Rattle.nfa_search_base.specs.CaughtLists.{AreRows}
+use Rattle.nfa_search_base.specs.Lists.{AreMatches}
+use Rattle.nfa_compiler.specs.AllHits.{row_of_hit}
+use Rattle.nfa_compiler.specs.BoundaryHits.{all_boundary_hits, boundary_hit}
+use Rattle.nfa_compiler.specs.Compiled.{IsNfaOf}
+use Rattle.nfa_compiler.specs.Laws.{IsLeftmostToTheEnd}
+use Rattle.nfa_compiler.specs.Patterns.{Hit, slots_of, found_at, found_in}
+use Rattle.nfa_compiler.specs.StrHits.{MatchesCharacters, StartsOnBoundary, str_hit}
+
+-- Any haystack, and patterns that may match the empty string: the pattern and the slots of a search are those of the hit
+-- that ends on a boundary.
+abbrev pub AnswersAreBoundaryHits : Type 0
+AnswersAreBoundaryHits =
+    (res : List Re) (nfa : Automaton) (kind : MatchKind) (earliest : Bool) (x : Search) (pattern : Option ℕ)
+    (slots : List (Option ℕ)) → IsNfaOf res nfa → is_utf8_empty nfa ≡ true → IsLeftmostToTheEnd kind earliest x
+    → IsAnswer nfa kind earliest x pattern slots
+    → (pattern ≡ option_map (λ (h : Hit). h.pattern) (boundary_hit res nfa x))
+    × (slots ≡ slots_of nfa.groups (length slots) (boundary_hit res nfa x))
+
+-- its match is that of the hit
+abbrev pub MatchesAreBoundaryHits : Type 0
+MatchesAreBoundaryHits =
+    (res : List Re) (nfa : Automaton) (kind : MatchKind) (earliest : Bool) (x : Search) (found : Option Found)
+    → IsNfaOf res nfa → is_utf8_empty nfa ≡ true → IsLeftmostToTheEnd kind earliest x
+    → IsMatchAnswer nfa kind earliest x found → found ≡ found_in (boundary_hit res nfa x)
+
+-- it finds something exactly where there is a hit
+abbrev pub FindsBoundaryHits : Type 0
+FindsBoundaryHits =
+    (res : List Re) (nfa : Automaton) (kind : MatchKind) (earliest : Bool) (x : Search) (found : Bool)
+    → IsNfaOf res nfa → is_utf8_empty nfa ≡ true → IsLeftmostToTheEnd kind earliest x
+    → IsFoundAnswer nfa kind earliest x found → found ≡ is_some (boundary_hit res nfa x)
+
+-- the matches of an iteration are those of all hits
+abbrev pub MatchesAreAllBoundaryHits : Type 0
+MatchesAreAllBoundaryHits =
+    (res : List Re) (nfa : Automaton) (kind : MatchKind) (earliest : Bool) (x : Search) (ms : List Found)
+    → IsNfaOf res nfa → is_utf8_empty nfa ≡ true → IsLeftmostToTheEnd kind earliest x
+    → AreMatches nfa kind earliest x ms → ms ≡ map found_at (all_boundary_hits res nfa x)
+
+-- and its captures
+abbrev pub RowsAreAllBoundaryHits : Type 0
+RowsAreAllBoundaryHits =
+    (res : List Re) (nfa : Automaton) (kind : MatchKind) (earliest : Bool) (x : Search) (rows : List Row)
+    → IsNfaOf res nfa → is_utf8_empty nfa ≡ true → IsLeftmostToTheEnd kind earliest x
+    → AreRows nfa kind earliest x rows → rows ≡ map (row_of_hit nfa) (all_boundary_hits res nfa x)
+
+-- in a `str` the hit that ends on a boundary is the one that starts on a boundary
+abbrev pub BoundaryHitsAreStrHits : Type 0
+BoundaryHitsAreStrHits =
+    (res : List Re) (nfa : Automaton) (x : Search) → All MatchesCharacters res → IsUtf8 x.haystack
+    → StartsOnBoundary nfa x → boundary_hit res nfa x ≡ str_hit res nfa x
+
+-- what a tree means that the parser returns under `utf8`
+abbrev pub TreesMatchCharacters : Type 0
+TreesMatchCharacters = (tree : Parsed) → IsWellFormed true tree.hir → MatchesCharacters (meaning tree.hir)
