@@ -1,5 +1,10 @@
-//! Compares what a PikeVM finds by a compiled NFA with what the crate regex finds.
+//! Compares what a PikeVM finds by a compiled NFA with what the crate regex finds; and rows of errors, of documented
+//! examples, and of large patterns.
 #![tactic(auto)]
+
+mod examples;
+mod hostile;
+mod refused;
 
 use anyhow::{Result, bail};
 use nfa_compiler::{Compiler, Config};
@@ -113,6 +118,30 @@ fn theirs(alloc: Global, pattern: &str, haystack: &str) -> Result<String> {
 }
 
 fn main(rt: HostRuntime) -> Result<()> {
+    compare(&rt)?;
+    let (wrong, rows) = refused::differences(rt.alloc())?;
+    report(&rt, &wrong, rows, "errors")?;
+    let (wrong, rows) = examples::differences(rt.alloc())?;
+    report(&rt, &wrong, rows, "examples")?;
+    hostile::expect_large(rt.alloc())?;
+    hostile::expect_refused(rt.alloc())?;
+    hostile::expect_many(rt.alloc())?;
+    hostile::expect_trees(rt.alloc())
+}
+
+/// Prints what differs from the rows, and how many rows there are. Fails if something differs.
+fn report(rt: &HostRuntime, wrong: &[String], rows: usize, what: &str) -> Result<()> {
+    for text in wrong {
+        println!(rt; "{text}")?;
+    }
+    println!(rt; "{} of {rows} {what} differ", wrong.len())?;
+    if !wrong.is_empty() {
+        bail!("rows differ");
+    }
+    Ok(())
+}
+
+fn compare(rt: &HostRuntime) -> Result<()> {
     let alloc = rt.alloc();
     let mut same = 0u32;
     let mut different = 0u32;

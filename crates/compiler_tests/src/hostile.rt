@@ -1,0 +1,103 @@
+//! Patterns that are large, deep or many, and each way to compile.
+
+use crate::refused::{nests_too_deep, too_big};
+use anyhow::{Result, bail};
+use nfa_compiler::{Compiler, Config};
+use regex_syntax::parse;
+use std::alloc::Global;
+use std::fmt::Write;
+
+/// How many states the NFA of this pattern has.
+fn states(alloc: Global, pattern: &str) -> Result<usize> {
+    let nfa = Compiler::new().build(alloc, pattern)?;
+    Ok(nfa.states().len())
+}
+
+/// The text so many times.
+fn repeated(alloc: Global, text: &str, count: usize) -> Result<String> {
+    let mut all = String::new(alloc);
+    for _ in 0..count {
+        all.push_str(text)?;
+    }
+    Ok(all)
+}
+
+/// So many groups, one in the other.
+fn nested(alloc: Global, depth: usize) -> Result<String> {
+    let mut text = repeated(alloc, "(", depth)?;
+    text.push('a')?;
+    text.push_str(repeated(alloc, ")", depth)?.as_str())?;
+    Ok(text)
+}
+
+fn expect(is: bool, what: &'static str) -> Result<()> {
+    if !is {
+        bail!(what);
+    }
+    Ok(())
+}
+
+/// Patterns that are compiled, whatever their size: counts in counts, a text of ten thousand characters, all of Unicode.
+pub fn expect_large(alloc: Global) -> Result<()> {
+    expect(states(alloc, "(a{100}){100}")? > 10000, "counts in counts")?;
+    expect(states(alloc, "a{1000}")? > 1000, "a count")?;
+    let long = repeated(alloc, "0123456789", 1000)?;
+    expect(states(alloc, long.as_str())? > 10000, "a long pattern")?;
+    expect(
+        states(alloc, r"[^a]\p{L}(?s:.)")? > 100,
+        "classes of Unicode",
+    )?;
+    expect(
+        states(alloc, nested(alloc, 200)?.as_str())? > 400,
+        "groups in groups",
+    )
+}
+
+/// Patterns that are refused for their size, or for their depth.
+pub fn expect_refused(alloc: Global) -> Result<()> {
+    let text = too_big(alloc, "a{1000}", 1000)?;
+    let wanted = "pattern 0 exceeds the size limit of 1000 bytes";
+    expect(text.as_str() == wanted, "a small limit")?;
+    let text = too_big(alloc, r"\w{1000}{1000}", 10485760)?;
+    let wanted = "pattern 0 exceeds the size limit of 10485760 bytes";
+    expect(text.as_str() == wanted, "the limit")?;
+    let deep = nested(alloc, 1000)?;
+    expect(nests_too_deep(alloc, deep.as_str()), "a thousand groups")?;
+    let deep = nested(alloc, 10000)?;
+    expect(nests_too_deep(alloc, deep.as_str()), "ten thousand groups")
+}
+
+/// A hundred patterns in one NFA.
+pub fn expect_many(alloc: Global) -> Result<()> {
+    let mut texts = Vec::new(alloc);
+    for number in 0..100 {
+        let mut text = String::new(alloc);
+        write!(text, "number {number}")?;
+        texts.push(text)?;
+    }
+    let patterns: Vec<&str> = texts.iter().map(|text| text.as_str()).collect(alloc)?;
+    let nfa = Compiler::new().build_many(alloc, &patterns)?;
+    expect(nfa.pattern_len() == 100, "a hundred patterns")
+}
+
+/// Trees that were read before, with settings of syntax and of the NFA.
+pub fn expect_trees(alloc: Global) -> Result<()> {
+    let syntax = nfa_compiler::Syntax::default();
+    let compiler = Compiler::new()
+        .syntax(syntax)
+        .configure(Config::new().anchored(true).utf8(false));
+    let tree = parse(alloc, "(?<a>b)", &syntax)?;
+    let nfa = compiler.build_from_hir(alloc, &tree)?;
+    expect(nfa.group_info().slot_len() == 4, "the slots of a tree")?;
+    expect(
+        nfa.start_anchored() == nfa.start_unanchored(),
+        "an anchored NFA",
+    )?;
+    let trees = vec![in alloc; tree, parse(alloc, "c", &syntax)?]?;
+    let nfa = compiler.build_many_from_hir(alloc, &trees)?;
+    expect(nfa.group_info().slot_len() == 6, "the slots of trees")?;
+    expect(
+        !nfa.is_utf8() && nfa.pattern_len() == 2,
+        "an NFA of two trees",
+    )
+}

@@ -1,0 +1,195 @@
+//! The texts of errors: what is wrong, and where in the text.
+
+use anyhow::Result;
+use nfa_compiler::{CompileError, Compiler, Config};
+use std::alloc::Global;
+use std::fmt::Write;
+
+/// A text that is not a pattern, the span at fault, why, the line that is shown, and the marks below it. The spans are
+/// those of the crate regex-syntax.
+const ROWS: [(&str, (usize, usize), &str, &str, &str); 26] = [
+    ("ab(c", (2, 3), "unclosed group", "ab(c", "  ^"),
+    ("a)", (1, 2), "unopened group", "a)", " ^"),
+    ("[a", (0, 1), "unclosed character class", "[a", "^"),
+    (
+        "x[z-a]",
+        (2, 5),
+        "invalid character class range, the start must be <= the end",
+        "x[z-a]",
+        "  ^^^",
+    ),
+    (
+        "*a",
+        (0, 0),
+        "repetition operator missing expression",
+        "*a",
+        "^",
+    ),
+    (
+        "a{2,1}",
+        (1, 6),
+        "invalid repetition count range, the start must be <= the end",
+        "a{2,1}",
+        " ^^^^^",
+    ),
+    ("a{2", (1, 3), "unclosed counted repetition", "a{2", " ^^"),
+    ("(?z)", (2, 3), "unrecognized flag", "(?z)", "  ^"),
+    ("(?ii)", (3, 4), "duplicate flag", "(?ii)", "   ^"),
+    (
+        "(?i-)",
+        (3, 4),
+        "dangling flag negation operator",
+        "(?i-)",
+        "   ^",
+    ),
+    (
+        "(?i-x-s)",
+        (5, 6),
+        "flag negation operator repeated",
+        "(?i-x-s)",
+        "     ^",
+    ),
+    (
+        "(?i",
+        (3, 3),
+        "expected flag but got end of regex",
+        "(?i",
+        "   ^",
+    ),
+    (
+        "(?<a",
+        (4, 4),
+        "unclosed capture group name",
+        "(?<a",
+        "    ^",
+    ),
+    (
+        "(?<>a)",
+        (3, 3),
+        "empty capture group name",
+        "(?<>a)",
+        "   ^",
+    ),
+    (
+        "(?<5>a)",
+        (3, 4),
+        "invalid capture group character",
+        "(?<5>a)",
+        "   ^",
+    ),
+    (
+        "(?<n>a)(?<n>b)",
+        (10, 11),
+        "duplicate capture group name",
+        "(?<n>a)(?<n>b)",
+        "          ^",
+    ),
+    (
+        "a\\",
+        (1, 2),
+        "incomplete escape sequence, reached end of pattern prematurely",
+        "a\\",
+        " ^",
+    ),
+    ("\\y", (0, 2), "unrecognized escape sequence", "\\y", "^^"),
+    ("\\xZZ", (2, 3), "invalid hexadecimal digit", "\\xZZ", "  ^"),
+    (
+        "\\x{}",
+        (2, 4),
+        "hexadecimal literal empty",
+        "\\x{}",
+        "  ^^",
+    ),
+    (
+        "(a)\\1",
+        (3, 5),
+        "backreferences are not supported",
+        "(a)\\1",
+        "   ^^",
+    ),
+    (
+        "(?=a)",
+        (0, 3),
+        "look-around, including look-ahead and look-behind, is not supported",
+        "(?=a)",
+        "^^^",
+    ),
+    (
+        "\\p{Nope}",
+        (0, 8),
+        "Unicode property not found",
+        "\\p{Nope}",
+        "^^^^^^^^",
+    ),
+    (
+        "(?-u:\\xFF)",
+        (5, 9),
+        "pattern can match invalid UTF-8",
+        "(?-u:\\xFF)",
+        "     ^^^^",
+    ),
+    ("é☃(", (5, 6), "unclosed group", "é☃(", "  ^"),
+    (
+        "(?x)\nab(c # a group\nd",
+        (7, 8),
+        "unclosed group",
+        "ab(c # a group",
+        "  ^",
+    ),
+];
+
+/// The text of the row's error, of the pattern of this number.
+fn wanted(alloc: Global, number: usize, row: usize) -> Result<String> {
+    let mut text = String::new(alloc);
+    if let Some((_, (start, end), reason, line, marks)) = ROWS.get(row) {
+        write!(
+            text,
+            "pattern {number}, at {start}..{end}: {reason}\n    {line}\n    {marks}"
+        )?;
+    }
+    Ok(text)
+}
+
+/// The text of the error of the second of two patterns, of which the first is good; or that there is none.
+fn given(alloc: Global, pattern: &str) -> Result<String> {
+    let mut text = String::new(alloc);
+    match Compiler::new().build_many(alloc, &["good", pattern]) {
+        Ok(_) => write!(text, "no error")?,
+        Err(error) => write!(text, "{error}")?,
+    }
+    Ok(text)
+}
+
+/// The texts of the rows whose error has another text, and how many rows there are.
+pub fn differences(alloc: Global) -> Result<(Vec<String>, usize)> {
+    let mut wrong = Vec::new(alloc);
+    for (row, (pattern, _, _, _, _)) in ROWS.iter().enumerate() {
+        let text = given(alloc, pattern)?;
+        if text != wanted(alloc, 1, row)? {
+            wrong.push(text)?;
+        }
+    }
+    Ok((wrong, ROWS.len()))
+}
+
+/// The texts of errors that name no place: of a pattern that is too large.
+pub fn too_big(alloc: Global, pattern: &str, limit: usize) -> Result<String> {
+    let compiler = Compiler::new().configure(Config::new().size_limit(limit));
+    let mut text = String::new(alloc);
+    match compiler.build(alloc, pattern) {
+        Ok(_) => write!(text, "no error")?,
+        Err(error) => write!(text, "{error}")?,
+    }
+    Ok(text)
+}
+
+/// Whether the error of this text is that it nests too deep.
+pub fn nests_too_deep(alloc: Global, pattern: &str) -> bool {
+    match Compiler::new().build(alloc, pattern) {
+        Err(CompileError::Syntax(error)) => {
+            error.kind() == nfa_compiler::ErrorKind::NestLimitExceeded
+        }
+        Err(_) => false,
+        Ok(_) => false,
+    }
+}
