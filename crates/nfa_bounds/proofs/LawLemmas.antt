@@ -116,7 +116,8 @@ module _ (nfa : Automaton) (x : Search) where
       of None i = absurd i
       of (Some s) i = counted (nat_lt x.end x.start) s i
 
-  linked-open : (p : List Pair) → Linked (edges nfa x) p → Linked (open_edges nfa) p
+  -- where edges are linked, so are open ones
+  pub linked-open : (p : List Pair) → Linked (edges nfa x) p → Linked (open_edges nfa) p
   linked-open [] l = tt
   linked-open (v ∷ []) l = tt
   linked-open (v ∷ (w ∷ p)) l = (open-edge x (node_at nfa v.0) v.1 w l.0, linked-open (w ∷ p) l.1)
