@@ -1,26 +1,42 @@
--- There is a hit exactly if some pattern matches somewhere.
-use Rattle.std.proofs.Common.{◌≡◌, ℕ, zero, suc, ◌+◌, ◌-◌, ◌≤◌, ◌<◌, inl, inr, Bool, true, false, List, [], ◌∷◌, length, refl, sym, ap, subst, arith}
-use Rattle.std.specs.Prelude.{Option, None, Some, is_some, slice_index_or, if◌then◌else◌, ◌↔◌, ◌||◌}
-use Rattle.std.specs.Option.{option_or}
-use Rattle.std.proofs.lemmas.Bool.{cases_lt, lt-ltb, le-ltb}
-use Rattle.std.proofs.lemmas.Option.{slice_get_past, slice_get-get_or}
+-- Some accepting path is one of pattern k exactly if that pattern matches from a position where the search may start. A
+-- scan of any kind finds a path exactly if some pattern does.
+use Rattle.std.proofs.Common.{◌≡◌, ℕ, zero, suc, ◌≤◌, ◌<◌, inl, inr, Bool, true, false, List, [], ◌∷◌, map, length, refl, sym, ap, ◌∙◌, subst, arith}
+use Rattle.std.specs.Prelude.{Option, None, Some, is_some, All, option_and_then, slice_get, slice_index, slice_index_or, ◌↔◌}
+use Rattle.std.proofs.lemmas.Option.{slice_get-get_or, slice_get_within, get_or_from_slice_get}
 use Rattle.regex_search_core.specs.Patterns.{number_of}
-use Rattle.regex_search_core.specs.Search.{Search, is_anchored}
+use Rattle.regex_search_core.specs.Search.{Search}
+use Rattle.regex_search_core.specs.declared.search.MatchKind.{MatchKind}
 use Rattle.regex_search_core.specs.declared.search.Anchored.{Anchored}
 use Rattle.regex_search_core.specs.declared.search.Anchored.TheVariants.{No, Yes, Pattern}
 use Rattle.regex_hir.specs.Re.{Re, Trace, accept, attempt, empty}
 use Rattle.regex_hir.specs.Matches.{Matches}
 use Rattle.regex_hir.proofs.AttemptLemmas.{attempt_complete, attempt_sound}
-use Rattle.regex_hir.proofs.OptionLemmas.{IsSome-option_or_left, IsSome-option_or_right, value_of_IsSome}
+use Rattle.regex_hir.proofs.OptionLemmas.{value_of_IsSome}
+use Rattle.thompson_nfa.specs.Automaton.{Automaton, Union, Fail}
+use Rattle.nfa_paths.specs.Graphs.{Pair, In, HeadIs, Linked, PathTo}
+use Rattle.nfa_paths.specs.FirstPaths.{Accepts, IsFirst}
+use Rattle.nfa_paths.specs.Overlaps.{IsPermitted, IsPatternOf}
+use Rattle.nfa_paths.specs.Paths.{IsScanAnswer, path_pattern, pattern_of, node_at, is_match, IsMatch, edges_of, edges, start_state, starts, is_utf8_empty}
+use Rattle.nfa_paths.proofs.PathLemmas.{Path-plain}
+use Rattle.nfa_paths.proofs.PathToLemmas.{EndsWith-last, PathTo-accepts}
+use Rattle.nfa_paths.proofs.PatternLemmas.{some-pattern}
+use Rattle.nfa_paths.proofs.AnswerLemmas.{scan_answer-leads}
+use Rattle.nfa_paths.proofs.ExistenceLemmas.{scan_answer-none}
+use Rattle.nfa_paths.proofs.StartLemmas.{IsMatch-edges}
+use Rattle.nfa_bounds.proofs.LawLemmas.{linked-open}
+use Rattle.nfa_bounds.proofs.WayLemmas.{In-map}
+use Rattle.nfa_compiler.specs.Compiled.{IsNfaOf}
 use Rattle.nfa_compiler.specs.KindLaws.{IsTried, MatchesSomewhere}
-use Rattle.nfa_compiler.specs.Patterns.{Hit, expected, first_hit, hit_at_start, hit_of, pick, pick_one}
+use Rattle.nfa_compiler.specs.Patterns.{hit_of}
+use Rattle.nfa_compiler.specs.SetLaws.{PatternMatches}
+use Rattle.nfa_compiler.proofs.SearchLemmas.{is_bound, told-found}
+use Rattle.nfa_compiler.proofs.BlockLemmas.{ends-cons}
+use Rattle.nfa_compiler.proofs.StartPairLemmas.{starts-sound, starts-complete, within-end}
+use Rattle.nfa_compiler.proofs.StartLemmas.{IsBehind, TellsHit, pattern-first}
+use Rattle.nfa_compiler.proofs.WayLemmas.{from-pattern, start-among}
 
 module _ (haystack : List ℕ) where
-  -- pattern n matches from i
-  abbrev MatchesAt : List Re → ℕ → ℕ → Type 0
-  MatchesAt res n i = (n < length res) × ((j : ℕ) × Matches haystack (slice_index_or res n empty) i j)
-
-  -- one pattern
+  -- there is a hit of one pattern exactly if it matches
 
   one-sound : (re : Re) (k i : ℕ) → is_some (hit_of k i (attempt haystack re accept i)) ≡ true
       → (j : ℕ) × Matches haystack re i j
@@ -37,137 +53,317 @@ module _ (haystack : List ℕ) where
       let v = value_of_IsSome (attempt haystack re accept i) (attempt_complete haystack re accept i j m refl) in
       ap (λ o. is_some (hit_of k i o)) v.1
 
-  -- several patterns, numbered from k on
+-- lists and edges
 
-  pick-sound : (res : List Re) (k i : ℕ) → is_some (pick haystack res k i) ≡ true → (n : ℕ) × MatchesAt res n i
-  pick-sound [] k i never = absurd (cc)
-  pick-sound (re ∷ res) k i e = of (pick-sound res (k + 1) i) (hit_of k i (attempt haystack re accept i)) refl e
-    where
-      of : (is_some (pick haystack res (k + 1) i) ≡ true → (n : ℕ) × MatchesAt res n i) → (o : Option Hit)
-          → hit_of k i (attempt haystack re accept i) ≡ o
-          → is_some (option_or o (pick haystack res (k + 1) i)) ≡ true → (n : ℕ) × MatchesAt (re ∷ res) n i
-      of more (Some h) at some = (0, (omega arith, one-sound re k i (ap is_some at)))
-      of more None at later =
-          let rest = more later in
-          let known : rest.0 < length res = rest.1.0 in
-          (suc rest.0, (omega arith, rest.1.1))
+index-in : (xs : List ℕ) (k : ℕ) → k < length xs → In (slice_index xs k) xs
+index-in [] k less = absurd (omega arith)
+index-in (y ∷ xs) zero less = inl refl
+index-in (y ∷ xs) (suc k) less = inr (index-in xs k (omega arith))
 
-  pick-complete : (res : List Re) (k n i : ℕ) → MatchesAt res n i → is_some (pick haystack res k i) ≡ true
-  pick-complete [] k n i m = absurd (omega (arith, m.0))
-  pick-complete (re ∷ res) k zero i m =
-      IsSome-option_or_left (hit_of k i (attempt haystack re accept i)) (pick haystack res (k + 1) i)
-      (one-complete re k i m.1.0 m.1.1)
-  pick-complete (re ∷ res) k (suc n) i m =
-      IsSome-option_or_right (hit_of k i (attempt haystack re accept i)) (pick haystack res (k + 1) i)
-      (pick-complete res (k + 1) n i (omega (arith, m.0), m.1))
+linked-cons : (edges : Pair → List Pair) (v w : Pair) (p : List Pair) → In w (edges v) → HeadIs w p → Linked edges p
+    → Linked edges (v ∷ p)
+linked-cons edges v w [] edge head linked = tt
+linked-cons edges v w (y ∷ p) edge head linked = (subst (λ z. In z (edges v)) (sym head) edge, linked)
 
-  pick-one-sound : (res : List Re) (k i : ℕ) → is_some (pick_one haystack res k i) ≡ true → MatchesAt res k i
-  pick-one-sound res k i e = elim (cases_lt k (length res)) [
-    | inl known ↦ (known, one-sound (slice_index_or res k empty) k i (rw (slice_get-get_or res k empty known) at e))
-    | inr past ↦ absurd (let none = rw (slice_get_past res k past) at e in (cc))
-  ]
-
-  pick-one-complete : (res : List Re) (k i : ℕ) → MatchesAt res k i → is_some (pick_one haystack res k i) ≡ true
-  pick-one-complete res k i m =
-      rw (slice_get-get_or res k empty m.0) (one-complete (slice_index_or res k empty) k i m.1.0 m.1.1)
-
--- any of n positions
-
-first-sound : (at : ℕ → Option Hit) (n i : ℕ) → is_some (first_hit at n i) ≡ true
-    → (j : ℕ) × (i ≤ j) × (j < i + n) × (is_some (at j) ≡ true)
-first-sound at zero i never = absurd (cc)
-first-sound at (suc n) i e = of (first-sound at n (i + 1)) (at i) refl e
-  where
-    of : (is_some (first_hit at n (i + 1)) ≡ true
-        → (j : ℕ) × (i + 1 ≤ j) × (j < i + 1 + n) × (is_some (at j) ≡ true)) → (o : Option Hit) → at i ≡ o
-        → is_some (option_or o (first_hit at n (i + 1))) ≡ true
-        → (j : ℕ) × (i ≤ j) × (j < i + suc n) × (is_some (at j) ≡ true)
-    of more (Some h) here some = (i, omega arith, omega arith, ap is_some here)
-    of more None here later = let rest = more later in
-        (rest.0, omega (arith, rest.1), omega (arith, rest.2), rest.3)
-
-first-complete : (at : ℕ → Option Hit) (n i j : ℕ) → i ≤ j → j < i + n → is_some (at j) ≡ true
-    → is_some (first_hit at n i) ≡ true
-first-complete at zero i j from below e = absurd (omega arith)
-first-complete at (suc n) i j from below e = elim (cases_lt i j) [
-  | inl later ↦ IsSome-option_or_right (at i) (first_hit at n (i + 1))
-      (first-complete at n (i + 1) j (omega arith) (omega arith) e)
-  | inr here ↦ let same : j ≡ i = omega arith in
-      IsSome-option_or_left (at i) (first_hit at n (i + 1)) (subst (λ k. is_some (at k) ≡ true) same e)
+-- a path from one pair begins with it
+begins : (edges : Pair → List Pair) (v m : Pair) (p : List Pair) → PathTo edges (v ∷ []) m p → HeadIs v p
+begins edges v m p path = elim path.among [
+  | inl e ↦ subst (λ w. HeadIs w p) e path.head
+  | inr never ↦ absurd never
 ]
 
--- a search
+module _ (res : List Re) (a : Automaton) (made : IsNfaOf res a) (x : Search) (whole : x.end ≡ length x.haystack) where
+  -- where pattern k starts
+  abbrev start_of : ℕ → ℕ
+  start_of k = slice_index a.patterns k
 
-module _ (res : List Re) (bound : Bool) (x : Search) (whole : x.end ≡ length x.haystack) where
-  -- the last position where a match may start
-  abbrev last_start : Anchored → ℕ
-  last_start mode = if is_anchored mode || bound then x.start else x.end
+  -- pattern k matches from i
+  abbrev MatchesFrom : ℕ → ℕ → Type 0
+  MatchesFrom k i = (k < length res) × ((j : ℕ) × Matches x.haystack (slice_index_or res k empty) i j)
 
-  sound-at : x.start ≤ x.end → (mode : Anchored) → is_some (hit_at_start res bound x mode) ≡ true
-      → (n i : ℕ) × IsTried mode n × (x.start ≤ i) × (i ≤ last_start mode) × MatchesAt x.haystack res n i
-  sound-at inside No e = by_bound bound e
+  -- one pattern
+
+  -- the hit of pattern k at i, and the first path from its start there
+  first-of : (k : ℕ) → k < length res → (i : ℕ) → i ≤ x.end
+      → (r : Option (List Pair))
+      × TellsHit a (hit_of k i (attempt x.haystack (slice_index_or res k empty) accept i)) r
+      × ((marks : List Pair) → IsBehind a x whole (start_of k) marks
+      → IsFirst (edges a x) (is_match a) marks (start_of k, i) r)
+  first-of k known i within = pattern-first a x whole k (start_of k) (slice_index_or res k empty) (made.each k known)
+      (omega (arith, made.groups)) i within
+
+  -- a path from the start of pattern j to a Match is one of pattern j, which matches from there
+  path-matches : (j : ℕ) → j < length res → (v m : Pair) (rest : List Pair) → v.0 ≡ start_of j → v.1 ≤ x.end
+      → PathTo (edges a x) (v ∷ []) m (v ∷ rest) → IsMatch a m
+      → (pattern_of (node_at a m.0) ≡ Some j) × MatchesFrom j v.1
+  path-matches j known v m rest at within path matches =
+      let first = first-of j known v.1 within in (
+        (from-pattern res a made j (omega (arith, made.patterns)) rest v m at
+            (linked-open a x (v ∷ rest) path.linked) path.ends matches).pattern,
+        (known, of first.0 first.1 (first.2 [] (λ w member. absurd member))),
+      )
     where
-      by_bound : (b : Bool)
-          → is_some (first_hit (pick x.haystack res 0) (if b then 1 else (x.end - x.start + 1)) x.start) ≡ true
-          → (n i : ℕ) × IsTried No n × (x.start ≤ i) × (i ≤ (if b then x.start else x.end))
-          × MatchesAt x.haystack res n i
-      by_bound true some =
-          let f = first-sound (pick x.haystack res 0) 1 x.start some in
-          let p = pick-sound x.haystack res 0 f.0 f.3 in
-          (p.0, f.0, tt, f.1, omega (arith, f.2), p.1)
-      by_bound false some =
-          let f = first-sound (pick x.haystack res 0) (x.end - x.start + 1) x.start some in
-          let p = pick-sound x.haystack res 0 f.0 f.3 in
-          (p.0, f.0, tt, f.1, omega (arith, f.2), p.1)
-  sound-at inside Yes e = let p = pick-sound x.haystack res 0 x.start e in
-      (p.0, x.start, tt, omega arith, omega arith, p.1)
-  sound-at inside (Pattern pattern) e = (
-    number_of pattern,
-    x.start,
-    refl,
-    omega arith,
-    omega arith,
-    pick-one-sound x.haystack res (number_of pattern) x.start e,
+      accepts : Accepts (edges a x) (is_match a) [] (start_of j, v.1) (v ∷ rest)
+      accepts = subst (λ w. Accepts (edges a x) (is_match a) [] w (v ∷ rest))
+          (sym path.head ∙ ap (λ state. (state, v.1)) at)
+          (PathTo-accepts (edges a x) (v ∷ []) (is_match a) (IsMatch-edges a x) path matches)
+
+      of : (r : Option (List Pair))
+          → TellsHit a (hit_of j v.1 (attempt x.haystack (slice_index_or res j empty) accept v.1)) r
+          → IsFirst (edges a x) (is_match a) [] (start_of j, v.1) r
+          → (e : ℕ) × Matches x.haystack (slice_index_or res j empty) v.1 e
+      of None tells none = absurd (none (v ∷ rest) accepts)
+      of (Some p) tells is =
+          one-sound x.haystack (slice_index_or res j empty) j v.1
+          (sym (told-found res a made x whole
+          (hit_of j v.1 (attempt x.haystack (slice_index_or res j empty) accept v.1)) (Some p) tells))
+
+  -- a path from the pair to a Match of pattern k
+  record LeadsTo (v : Pair) (k : ℕ) : Type 0 where
+    pub end : Pair
+    pub along : List Pair
+    pub path : PathTo (edges a x) (v ∷ []) end along
+    pub pattern_is : pattern_of (node_at a end.0) ≡ Some k
+
+  -- where pattern k matches, one leads there from its start, and holds none of these pairs behind the start
+  match-leads : (k i : ℕ) → i ≤ x.end → MatchesFrom k i → (marks : List Pair)
+      → IsBehind a x whole (start_of k) marks
+      → (p : LeadsTo (start_of k, i) k) × ((w : Pair) → In w p.along → In w marks → ⊥)
+  match-leads k i within m marks behind =
+      let first = first-of k m.0 i within in
+      of (attempt x.haystack (slice_index_or res k empty) accept i)
+      (one-complete x.haystack (slice_index_or res k empty) k i m.1.0 m.1.1) first.0 first.1 (first.2 marks behind)
+    where
+      of : (o : Option Trace) → is_some (hit_of k i o) ≡ true → (r : Option (List Pair)) → TellsHit a (hit_of k i o) r
+          → IsFirst (edges a x) (is_match a) marks (start_of k, i) r
+          → (p : LeadsTo (start_of k, i) k) × ((w : Pair) → In w p.along → In w marks → ⊥)
+      of None never r tells is = absurd (cc)
+      of (Some t) some None tells is = absurd tells
+      of (Some t) some (Some p) tells is =
+          let words = (Path-plain (edges a x) (is_match a) (start_of k, i) p).0 is.0.path in (
+            record {
+              end = tells.end;
+              along = p;
+              path = record {
+                start = (start_of k, i);
+                among = inl refl;
+                head = words.0;
+                once = words.1;
+                linked = words.2;
+                ends = tells.ends;
+              };
+              pattern_is = tells.pattern_is;
+            },
+            is.0.clear,
+          )
+
+  -- the choice between all patterns
+
+  choice-matches : (v m : Pair) (rest : List Pair) → v.0 ≡ a.anchored → v.1 ≤ x.end
+      → PathTo (edges a x) (v ∷ []) m (v ∷ rest) → IsMatch a m → (k : ℕ) → pattern_of (node_at a m.0) ≡ Some k
+      → MatchesFrom k v.1
+  unfolding edges_of node_at
+  choice-matches v m rest at within path matches k is = elim made.chooses [
+    | inl one ↦
+        is-one 0 (path-matches 0 (omega (arith, made.patterns, ap length one)) v m rest
+        (at ∙ ap (λ ps. slice_index ps 0) (sym one)) within path matches)
+    | inr several ↦ of rest path (ap (node_at a) at ∙ several.0)
+  ]
+    where
+      is-one : (j : ℕ) → (pattern_of (node_at a m.0) ≡ Some j) × MatchesFrom j v.1 → MatchesFrom k v.1
+      is-one j p = let same : j ≡ k = cc (p.0, is) in subst (λ n. MatchesFrom n v.1) same p.1
+
+      of : (rest : List Pair) → PathTo (edges a x) (v ∷ []) m (v ∷ rest) → node_at a v.0 ≡ Union a.patterns
+          → MatchesFrom k v.1
+      of [] path node =
+          let plain : is_some (pattern_of (node_at a v.0)) ≡ false = ap (λ n. is_some (pattern_of n)) node in
+          let is_match : is_some (pattern_of (node_at a v.0)) ≡ true =
+          ap (λ (w : Pair). is_some (pattern_of (node_at a w.0))) path.ends ∙ matches in
+          absurd (cc (plain, is_match))
+      of (y ∷ rest) path node =
+          let there : In y (map (λ next. (next, v.1)) a.patterns) =
+          subst (λ n. In y (edges_of x n v.1)) node path.linked.0 in
+          let among = start-among a.patterns v.1 y there in
+          let p = path-matches among.0 (omega (arith, made.patterns, among.1)) y m rest among.2
+          (omega (arith, among.3)) (record {
+            start = y;
+            among = inl refl;
+            head = refl;
+            once = path.once.1;
+            linked = path.linked.1;
+            ends = path.ends;
+          }) matches in
+          is-one among.0 (p.0, subst (λ i. MatchesFrom among.0 i) among.3 p.1)
+
+  choice-leads : (k i : ℕ) → i ≤ x.end → MatchesFrom k i → LeadsTo (a.anchored, i) k
+  unfolding edges_of node_at
+  choice-leads k i within m = elim made.chooses [ inl one ↦ only one | inr several ↦ union several ]
+    where
+      only : a.patterns ≡ a.anchored ∷ [] → LeadsTo (a.anchored, i) k
+      only one =
+          let first : k ≡ 0 = omega (arith, m.0, made.patterns, ap length one) in
+          let at : start_of k ≡ a.anchored = ap (λ n. start_of n) first ∙ ap (λ ps. slice_index ps 0) one in
+          subst (λ state. LeadsTo (state, i) k) at (match-leads k i within m [] (λ w member. absurd member)).0
+
+      union : (slice_index_or a.states a.anchored Fail ≡ Union a.patterns) × All (λ s. s < a.anchored) a.patterns
+          → LeadsTo (a.anchored, i) k
+      union h =
+          let less : k < length a.patterns = omega (arith, m.0, made.patterns) in
+          let p = match-leads k i within m ((a.anchored, i) ∷ []) (λ v member. elim member [
+            | inl e ↦ let at : v.0 ≡ a.anchored = ap (λ (z : Pair). z.0) e in
+                let under : start_of k < a.anchored = h.1 k 0 less in omega arith
+            | inr never ↦ absurd never
+          ]) in
+          let path = p.0.path in
+          record {
+            end = p.0.end;
+            along = (a.anchored, i) ∷ p.0.along;
+            path = record {
+              start = (a.anchored, i);
+              among = inl refl;
+              head = refl;
+              once = (λ member. p.1 (a.anchored, i) member (inl refl), path.once);
+              linked = linked-cons (edges a x) (a.anchored, i) (start_of k, i) p.0.along
+                  (subst (λ es. In (start_of k, i) es) (sym (ap (λ n. edges_of x n i) h.0))
+                  (In-map (λ next. (next, i)) (start_of k) a.patterns (index-in a.patterns k less)))
+                  (begins (edges a x) (start_of k, i) p.0.end p.0.along path) path.linked;
+              ends = ends-cons (a.anchored, i) p.0.end p.0.along path.ends;
+            };
+            pattern_is = p.0.pattern_is;
+          }
+
+  -- the start of a search
+
+  start-matches : (mode : Anchored) (v m : Pair) (rest : List Pair) → start_state a mode ≡ Some v.0 → v.1 ≤ x.end
+      → PathTo (edges a x) (v ∷ []) m (v ∷ rest) → IsMatch a m → (k : ℕ) → pattern_of (node_at a m.0) ≡ Some k
+      → IsTried mode k × MatchesFrom k v.1
+  start-matches No v m rest start within path matches k is =
+      let at : v.0 ≡ a.anchored = cc in (tt, choice-matches v m rest at within path matches k is)
+  start-matches Yes v m rest start within path matches k is =
+      let at : v.0 ≡ a.anchored = cc in (tt, choice-matches v m rest at within path matches k is)
+  start-matches (Pattern pattern) v m rest start within path matches k is =
+      let known = slice_get_within a.patterns (number_of pattern) v.0 start in
+      let p = path-matches (number_of pattern) (omega (arith, made.patterns, known)) v m rest
+      (sym (get_or_from_slice_get a.patterns (number_of pattern) v.0 0 start)) within path matches in
+      let same : number_of pattern ≡ k = cc (p.0, is) in
+      (same, subst (λ n. MatchesFrom n v.1) same p.1)
+
+  start-leads : (mode : Anchored) (k i : ℕ) → i ≤ x.end → IsTried mode k → MatchesFrom k i
+      → (state : ℕ) × (start_state a mode ≡ Some state) × LeadsTo (state, i) k
+  start-leads No k i within tried m = (a.anchored, refl, choice-leads k i within m)
+  start-leads Yes k i within tried m = (a.anchored, refl, choice-leads k i within m)
+  start-leads (Pattern pattern) k i within tried m = (
+    start_of k,
+    ap (slice_get a.patterns) tried ∙ slice_get-get_or a.patterns k 0 (omega (arith, m.0, made.patterns)),
+    (match-leads k i within m [] (λ w member. absurd member)).0,
   )
 
-  complete-at : x.start ≤ x.end → (mode : Anchored) (n i : ℕ) → IsTried mode n → x.start ≤ i → i ≤ last_start mode
-      → MatchesAt x.haystack res n i → is_some (hit_at_start res bound x mode) ≡ true
-  complete-at inside No n i tried from to m = by_bound bound to
-    where
-      by_bound : (b : Bool) → i ≤ (if b then x.start else x.end)
-          → is_some (first_hit (pick x.haystack res 0) (if b then 1 else (x.end - x.start + 1)) x.start) ≡ true
-      by_bound true last = first-complete (pick x.haystack res 0) 1 x.start i from (omega arith)
-          (pick-complete x.haystack res 0 n i m)
-      by_bound false last = first-complete (pick x.haystack res 0) (x.end - x.start + 1) x.start i from (omega arith)
-          (pick-complete x.haystack res 0 n i m)
-  complete-at inside Yes n i tried from to m =
-      let at : i ≡ x.start = omega arith in
-      pick-complete x.haystack res 0 n x.start (subst (MatchesAt x.haystack res n) at m)
-  complete-at inside (Pattern pattern) n i tried from to m =
-      let at : i ≡ x.start = omega arith in
-      pick-one-complete x.haystack res (number_of pattern) x.start
-      (subst (λ k. MatchesAt x.haystack res k x.start) (sym tried) (subst (MatchesAt x.haystack res n) at m))
+  -- a search
 
-  pub hit-iff : (is_some (expected res bound x) ≡ true) ↔ MatchesSomewhere res bound x
-  unfolding expected
-  hit-iff = elim (cases_lt x.end x.start) [
-    | inl past ↦ (
-      λ e. absurd (let none = rw (lt-ltb x.end x.start past) at e in (cc)),
-      λ m. absurd (omega (arith, m.inside)),
-    )
-    | inr inside ↦ (
-      λ e. let s = sound-at inside x.anchored (rw (le-ltb x.end x.start inside) at e) in record {
-        pattern = s.0;
-        start = s.1;
-        end = s.5.1.0;
-        known = s.5.0;
-        tried = s.2;
-        from = s.3;
-        to = s.4;
-        inside = inside;
-        matches = s.5.1.1;
-      },
-      λ m. rw (le-ltb x.end x.start inside)
-          (complete-at inside x.anchored m.pattern m.start m.tried m.from m.to (m.known, (m.end, m.matches))),
-    )
-  ]
+  sound : (k : ℕ) → IsPatternOf a x (IsPermitted a x) k → PatternMatches res (is_bound res a made) x k
+  sound k h = of h.along h.path
+    where
+      of : (p : List Pair) → PathTo (edges a x) (starts a x) h.end p → PatternMatches res (is_bound res a made) x k
+      of [] path = absurd path.head
+      of (v ∷ rest) path =
+          let s = starts-sound a x v (subst (λ w. In w (starts a x)) (sym path.head) path.among) in
+          let found = start-matches x.anchored v h.end rest s.0 (within-end a x v.1 s.2 s.3) (record {
+            start = v;
+            among = inl refl;
+            head = refl;
+            once = path.once;
+            linked = path.linked;
+            ends = path.ends;
+          }) h.wanted.matches k h.pattern_is in
+          record {
+            start = v.1;
+            end = found.1.1.0;
+            known = found.1.0;
+            tried = found.0;
+            from = s.1;
+            to = s.3;
+            inside = s.2;
+            matches = found.1.1.1;
+          }
+
+  module _ (anywhere : is_utf8_empty a ≡ false) where
+    permitted : (m : Pair) → IsMatch a m → IsPermitted a x m
+    permitted m matches = record { matches = matches; ends = λ e. absurd (cc (e, anywhere)) }
+
+    complete : (k : ℕ) → PatternMatches res (is_bound res a made) x k → IsPatternOf a x (IsPermitted a x) k
+    complete k m =
+        let s = start-leads x.anchored k m.start (within-end a x m.start m.inside m.to) m.tried
+        (m.known, (m.end, m.matches)) in
+        let path = s.2.path in
+        record {
+          end = s.2.end;
+          along = s.2.along;
+          path = record {
+            start = (s.0, m.start);
+            among = starts-complete a x s.0 m.start s.1 m.from m.inside m.to;
+            head = begins (edges a x) (s.0, m.start) s.2.end s.2.along path;
+            once = path.once;
+            linked = path.linked;
+            ends = path.ends;
+          };
+          wanted = permitted s.2.end (ap (λ o. is_some o) s.2.pattern_is);
+          pattern_is = s.2.pattern_is;
+        }
+
+    pub pattern-iff : (k : ℕ) → IsPatternOf a x (IsPermitted a x) k ↔ PatternMatches res (is_bound res a made) x k
+    pattern-iff k = (sound k, complete k)
+
+    -- some pattern
+    module _ (kind : MatchKind) (earliest : Bool) where
+      pub path-iff : (path : Option (List Pair)) → IsScanAnswer a x kind earliest path
+          → (is_some path ≡ true) ↔ MatchesSomewhere res (is_bound res a made) x
+      path-iff None answer = (
+        λ never. absurd (cc),
+        λ m.
+            let reached = complete m.pattern (record {
+              start = m.start;
+              end = m.end;
+              known = m.known;
+              tried = m.tried;
+              from = m.from;
+              to = m.to;
+              inside = m.inside;
+              matches = m.matches;
+            }) in
+            absurd (scan_answer-none a x kind earliest answer reached.end reached.along reached.path
+            reached.wanted.matches),
+      )
+      path-iff (Some p) answer = (λ e. somewhere, λ m. refl)
+        where
+          somewhere : MatchesSomewhere res (is_bound res a made) x
+          somewhere =
+              let leads = scan_answer-leads a x kind earliest p answer in
+              let some = some-pattern (node_at a leads.end.0) leads.matches in
+              let m = sound some.0 (record {
+                end = leads.end;
+                along = p;
+                path = leads.path;
+                wanted = permitted leads.end leads.matches;
+                pattern_is = some.1;
+              }) in
+              record {
+                pattern = some.0;
+                start = m.start;
+                end = m.end;
+                known = m.known;
+                tried = m.tried;
+                from = m.from;
+                to = m.to;
+                inside = m.inside;
+                matches = m.matches;
+              }
+
+      -- the path of such an answer has a pattern
+      pub path-patterned : (path : Option (List Pair)) → IsScanAnswer a x kind earliest path
+          → is_some (option_and_then (path_pattern a) path) ≡ is_some path
+      path-patterned None answer = refl
+      path-patterned (Some p) answer =
+          let leads = scan_answer-leads a x kind earliest p answer in
+          ap (λ o. is_some (option_and_then (λ (v : Pair). pattern_of (node_at a v.0)) o))
+          (EndsWith-last None leads.end p leads.path.ends)
+          ∙ leads.matches

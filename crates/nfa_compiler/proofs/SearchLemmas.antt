@@ -1,5 +1,4 @@
--- The answer of a leftmost first search of a compiled NFA is the hit that is to be found. A search of another kind
--- finds something exactly if there is a hit.
+-- The answer of a leftmost first search of a compiled NFA is the hit that is to be found.
 use Rattle.std.proofs.Common.{◌≡◌, ℕ, zero, suc, ◌+◌, ◌*◌, ◌-◌, ◌≤◌, ◌<◌, ◌⊎◌, inl, inr, Bool, true, false, List, [], ◌∷◌, map, length, refl, sym, ap, ap₂, ◌∙◌, subst, arith, le-leb}
 use Rattle.std.specs.Prelude.{Option, None, Some, is_some, All, slice_get, slice_index, slice_index_or, option_map, option_and_then, if◌then◌else◌, ◌==◌, ◌||◌}
 use Rattle.std.specs.List.{range_with_len}
@@ -14,7 +13,6 @@ use Rattle.regex_search_core.specs.Search.{Search, is_anchored}
 use Rattle.regex_search_core.specs.Slots.{match_of, offset_at}
 use Rattle.regex_search_core.specs.declared.search.Anchored.{Anchored}
 use Rattle.regex_search_core.specs.declared.search.Anchored.TheVariants.{No, Yes, Pattern}
-use Rattle.regex_search_core.specs.declared.search.MatchKind.{MatchKind}
 use Rattle.regex_search_core.specs.declared.search.MatchKind.TheVariants.{LeftmostFirst}
 use Rattle.regex_hir.specs.Re.{Re, empty}
 use Rattle.regex_hir.specs.Find.{last_write}
@@ -24,8 +22,6 @@ use Rattle.nfa_paths.specs.FirstPaths.{IsFirst, FirstAmong, IsLeast}
 use Rattle.nfa_paths.specs.Paths.{pattern_of, slot_of, node_at, is_match, IsMatch, edges_of, edges, pairs_from, start_state, starts, slot_among, slot_row, path_pattern, is_utf8_empty, IsScanAnswer, IsSearchAnswer, IsAnswer, IsMatchAnswer, IsFoundAnswer}
 use Rattle.nfa_paths.proofs.PathLemmas.{IsFirst-step, IsFirstOfAll-from_among, IsLeast-from_first}
 use Rattle.nfa_paths.proofs.PathToLemmas.{EndsWith-last, IsLeast-none, IsLeast-first, IsFirstPath-unique}
-use Rattle.nfa_paths.proofs.AnswerLemmas.{scan_answer-leads}
-use Rattle.nfa_paths.proofs.ExistenceLemmas.{scan_answers-agree}
 use Rattle.nfa_paths.proofs.StartLemmas.{IsMatch-edges, starts-increase}
 use Rattle.nfa_compiler.specs.Compiled.{IsPattern, IsNfaOf}
 use Rattle.nfa_compiler.specs.Patterns.{Hit, pick, pick_one, first_hit, hit_at_start, expected, writes_of, slots_of, found_in}
@@ -273,33 +269,3 @@ module _ (res : List Re) (a : Automaton) (made : IsNfaOf res a) where
       found-is found answer =
           answer.found_is ∙ told-found (expected res is_bound x) answer.path
           (told answer.restarts answer.path answer.answers)
-
-      -- the same of every match kind, `earliest` or not: whether there is a path
-      pub found-any : (kind : MatchKind) (earliest : Bool) (found : Bool) → IsFoundAnswer a kind earliest x found
-          → found ≡ is_some (expected res is_bound x)
-      found-any kind earliest found answer =
-          let own : (answer.restarts ≡ 0) × IsScanAnswer a x kind earliest answer.path =
-          rw anywhere at answer.answers in
-          let s = scan in
-          answer.found_is
-          ∙ scan_answers-agree a x kind LeftmostFirst earliest false answer.path s.0 own.1 s.2
-          ∙ told-found (expected res is_bound x) s.0 s.1
-
-      pub pattern-any : (kind : MatchKind) (earliest : Bool) (pattern : Option ℕ) (slots : List (Option ℕ))
-          → IsAnswer a kind earliest x pattern slots → is_some pattern ≡ is_some (expected res is_bound x)
-      pattern-any kind earliest pattern slots answer =
-          let own : (answer.restarts ≡ 0) × IsScanAnswer a x kind earliest answer.path =
-          rw anywhere at answer.answers in
-          let s = scan in
-          ap is_some answer.pattern_is ∙ of answer.path own.1
-          ∙ scan_answers-agree a x kind LeftmostFirst earliest false answer.path s.0 own.1 s.2
-          ∙ told-found (expected res is_bound x) s.0 s.1
-        where
-          of : (path : Option (List Pair)) → IsScanAnswer a x kind earliest path
-              → is_some (option_and_then (path_pattern a) path) ≡ is_some path
-          of None h = refl
-          of (Some p) h =
-              let leads = scan_answer-leads a x kind earliest p h in
-              ap (λ o. is_some (option_and_then (λ (v : Pair). pattern_of (node_at a v.0)) o))
-              (EndsWith-last None leads.end p leads.path.ends)
-              ∙ leads.matches

@@ -258,7 +258,7 @@ module _ (s : Site) (k : ℕ) (is : number_of s.pattern ≡ k) (behind : 2 * k +
 -- all patterns
 
 -- which of these starts follows
-start-among : (starts : List ℕ) (j : ℕ) (y : Pair) → In y (map (λ t. (t, j)) starts)
+pub start-among : (starts : List ℕ) (j : ℕ) (y : Pair) → In y (map (λ t. (t, j)) starts)
     → (k : ℕ) × (k < length starts) × (y.0 ≡ slice_index starts k) × (y.1 ≡ j)
 start-among [] j y i = absurd i
 start-among (start ∷ starts) j y i = elim i [
@@ -268,7 +268,7 @@ start-among (start ∷ starts) j y i = elim i [
 
 module _ (res : List Re) (a : Automaton) (made : IsNfaOf res a) where
   -- from the start of pattern k
-  from-pattern : (k : ℕ) → k < length a.patterns → (rest : List Pair) (v m : Pair) → v.0 ≡ slice_index a.patterns k
+  pub from-pattern : (k : ℕ) → k < length a.patterns → (rest : List Pair) (v m : Pair) → v.0 ≡ slice_index a.patterns k
       → Linked (open_edges a) (v ∷ rest) → EndsWith m (v ∷ rest) → IsMatch a m → WritesBoth a k (v ∷ rest) v.1 m
   from-pattern k known rest v m at linked ends matches =
       let one = made.each k (omega (arith, made.patterns)) in

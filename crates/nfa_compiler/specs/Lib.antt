@@ -7,6 +7,7 @@ pub mod Compiled
 pub mod Laws
 pub mod WayLaws
 pub mod KindLaws
+pub mod SetLaws
 pub mod NameLaws
 pub mod AllHits
 pub mod AllLaws

@@ -5,6 +5,7 @@ ghost use Rattle.nfa_compiler.specs.KindLaws.{AnswersIfMatches, FindsIfMatches};
 ghost use Rattle.nfa_compiler.specs.Laws.{AnswersAreHits, FindsHits, LooksAgree, MatchesAreHits, OneHitIsFind};
 ghost use Rattle.nfa_compiler.specs.Laws.{TextsAreAnswered, TextsAreMatched};
 ghost use Rattle.nfa_compiler.specs.NameLaws.{GroupsAreNamed, GroupsAreWritten, NamesAreWritten};
+ghost use Rattle.nfa_compiler.specs.SetLaws.{SetsHoldMatches};
 ghost use Rattle.nfa_compiler.specs.WayLaws.{PatternsRecordBounds, TextsRecordBounds};
 ghost use Rattle.nfa_compiler.specs.StrLaws.{AllHitsAreFindAllStr, MatchesAreAllOfStrs, OneHitIsFindStr};
 ghost use Rattle.nfa_compiler.specs.StrLaws.{RowsAreAllOfStrs, StrsAreAnswered, StrsAreMatched};
@@ -67,6 +68,13 @@ pub fn all_hits_are_find_all()
 pub fn searches_find_if_patterns_match()
     ensures found { FindsIfMatches }
     ensures answers { AnswersIfMatches }
+{}
+
+/// Under `MatchKind::All`, and not `earliest`, a set of overlapping matches gains each pattern that matches somewhere
+/// and for which it has room, and no other. A pattern matches somewhere if it matches, in the textbook sense, from a
+/// position where the search may start.
+pub fn sets_hold_patterns_that_match()
+    ensures { SetsHoldMatches }
 {}
 
 /// The groups of an NFA have the names that the grammar reads in the texts. The captures of a hit give for a group the
