@@ -113,7 +113,8 @@ pub fn iterations_of_strs_find_texts()
     ensures captures { RowsAreAllOfStrs }
 {}
 
-/// The hit of one pattern in a `str` is what `find_str` of `regex_hir` gives, and all hits are what `find_all_str` gives.
+/// The hit of one pattern in a `str` is what `find_str` of `regex_hir` gives, and all hits are what `find_all_str`
+/// gives.
 pub fn str_hits_are_find_str()
     ensures first { OneHitIsFindStr }
     ensures all { AllHitsAreFindAllStr }

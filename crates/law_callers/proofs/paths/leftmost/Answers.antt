@@ -28,5 +28,5 @@ returns-in-None-clause-none c = λ none.
     let x = search_of c.args.input in record {
       no_path = (c.no_gap.ensures.none c.args.vm.now.nfa x None c.requires.valid c.requires.anywhere c.requires.writes
           (as_leftmost c.args.vm.now.nfa _ x.earliest x None c.requires.kind c.requires.off
-          c.in-None.ensures.answer)).0 refl
+          c.in-None.ensures.answer)).0 refl;
     }
