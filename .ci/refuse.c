@@ -1,5 +1,5 @@
-// Loaded before a program's libraries (`.ci/program`), refuses its memory once: the request whose number is in REFUSED.
-// A byte on file 9 says that it was.
+// Loaded before a program's libraries (`.ci/program`), refuses memory: the one request whose number is in REFUSED, of which
+// a byte on file 9 tells; and every request that brings the sum of all above the bytes in ROOM.
 typedef unsigned long size_t;
 
 extern char *getenv(const char *);
@@ -9,11 +9,22 @@ extern void *__libc_malloc(size_t);
 extern void *__libc_realloc(void *, size_t);
 
 static long left = -1;
+static size_t room;
+static size_t taken;
 
-static int is_refused(void) {
+static long number_in(const char *name) {
+    const char *number = getenv(name);
+    return number ? atol(number) : 0;
+}
+
+static int is_refused(size_t size) {
     if (left < 0) {
-        const char *number = getenv("REFUSED");
-        left = number ? atol(number) : 0;
+        left = number_in("REFUSED");
+        room = number_in("ROOM");
+    }
+    taken += size;
+    if (room > 0 && taken > room) {
+        return 1;
     }
     if (left == 0 || --left > 0) {
         return 0;
@@ -21,6 +32,6 @@ static int is_refused(void) {
     return write(9, "!", 1) == 1;
 }
 
-void *malloc(size_t size) { return is_refused() ? 0 : __libc_malloc(size); }
+void *malloc(size_t size) { return is_refused(size) ? 0 : __libc_malloc(size); }
 
-void *realloc(void *old, size_t size) { return is_refused() ? 0 : __libc_realloc(old, size); }
+void *realloc(void *old, size_t size) { return is_refused(size) ? 0 : __libc_realloc(old, size); }
