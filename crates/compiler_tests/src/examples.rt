@@ -7,8 +7,7 @@ use regex_search_core::{Input, NonMaxUsize};
 use std::alloc::Global;
 use std::fmt::Write;
 
-/// A pattern, a haystack, and the spans of the groups of the first match, which is the longest-known one of each
-/// documented example; nothing if there is no match.
+/// A pattern, a haystack, and the spans of the groups of the first match; nothing if there is no match.
 const ROWS: [(&str, &str, &str); 44] = [
     (
         "(?<y>[0-9]{4})-(?<m>[0-9]{2})-(?<d>[0-9]{2})",

@@ -7,7 +7,7 @@ use std::fmt::Write;
 
 /// A text that is not a pattern, the span at fault, why, the line that is shown, and the marks below it. The spans are
 /// those of the crate regex-syntax.
-const ROWS: [(&str, (usize, usize), &str, &str, &str); 26] = [
+const ROWS: [(&str, (usize, usize), &str, &str, &str); 35] = [
     ("ab(c", (2, 3), "unclosed group", "ab(c", "  ^"),
     ("a)", (1, 2), "unopened group", "a)", " ^"),
     ("[a", (0, 1), "unclosed character class", "[a", "^"),
@@ -136,6 +136,63 @@ const ROWS: [(&str, (usize, usize), &str, &str, &str); 26] = [
         "ab(c # a group",
         "  ^",
     ),
+    (
+        "[a-\\d]",
+        (3, 5),
+        "invalid range boundary, must be a literal",
+        "[a-\\d]",
+        "   ^^",
+    ),
+    (
+        "[\\A]",
+        (1, 3),
+        "invalid escape sequence found in character class",
+        "[\\A]",
+        " ^^",
+    ),
+    (
+        "a{9999999999}",
+        (2, 12),
+        "decimal literal invalid",
+        "a{9999999999}",
+        "  ^^^^^^^^^^",
+    ),
+    (
+        "a{}",
+        (2, 2),
+        "repetition quantifier expects a valid decimal",
+        "a{}",
+        "  ^",
+    ),
+    (
+        "\\x{D800}",
+        (3, 7),
+        "hexadecimal literal is not a Unicode scalar value",
+        "\\x{D800}",
+        "   ^^^^",
+    ),
+    (
+        "\\b{foo}",
+        (3, 6),
+        "unrecognized special word boundary assertion, valid choices are: start, end, start-half or end-half",
+        "\\b{foo}",
+        "   ^^^",
+    ),
+    (
+        "\\p{sc=Nope}",
+        (0, 11),
+        "Unicode property value not found",
+        "\\p{sc=Nope}",
+        "^^^^^^^^^^^",
+    ),
+    (
+        "(?-u)\\pL",
+        (5, 8),
+        "Unicode not allowed here",
+        "(?-u)\\pL",
+        "     ^^^",
+    ),
+    ("\ta)", (2, 3), "unopened group", "\ta)", "\t ^"),
 ];
 
 /// The text of the row's error, of the pattern of this number.

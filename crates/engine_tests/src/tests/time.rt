@@ -19,15 +19,25 @@ fn states_out_of_reach_take_no_time(rt: HostRuntime) {
     expect_ones(&rt, alloc, &vm, &mut cache);
 }
 
-// A hundred thousand searches that find a byte, and one that goes over four million. A search or a position that cleared all
-// rows, or all marks, would take minutes in all.
+fn bytes(rt: &impl Abort, alloc: Global, byte: u8, len: usize) -> Vec<u8> {
+    vec![in alloc; byte; len].expect(rt, "memory")
+}
+
+// A hundred thousand searches that find a byte, and one that goes over four million. A search or a position that cleared
+// all rows, or all marks, would take minutes in all.
 fn expect_ones(rt: &impl Abort, alloc: Global, vm: &PikeVM, cache: &mut Cache)
     requires { Fits cache.old vm.now.nfa }
 {
-    let ones = vec![in alloc; b'a'; 100000].expect(rt, "memory");
+    let ones = bytes(rt, alloc, b'a', 100000);
+    expect_none(rt, vm, cache, &bytes(rt, alloc, b'c', 4000000));
     let count = vm.find_iter(cache, Input::new(&ones)).count();
     expect(rt, count == 100000, "matches of one byte");
-    let others = vec![in alloc; b'c'; 4000000].expect(rt, "memory");
-    let found = vm.is_match(cache, Input::new(&others));
+}
+
+fn expect_none(rt: &impl Abort, vm: &PikeVM, cache: &mut Cache, text: &[u8])
+    requires { Fits cache.old vm.now.nfa }
+    ensures { Fits cache.new vm.now.nfa }
+{
+    let found = vm.is_match(cache, Input::new(text));
     expect(rt, !found, "no match");
 }
