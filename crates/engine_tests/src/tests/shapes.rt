@@ -140,5 +140,7 @@ fn add_byte_or_loop(machine: &mut Machine, len: usize) -> Result<(), MakeError> 
     }
     machine.bytes(b'c', b'c', 5)?;
     machine.pattern(1)?;
-    machine.pattern(5)
+    machine.pattern(5)?;
+    machine.groups(0)?;
+    machine.groups(0)
 }
