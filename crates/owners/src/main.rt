@@ -1,9 +1,11 @@
-//! Two ways to hold an engine with its cache, as `docs/OWNING.md` tells them.
+//! Ways to hold an engine with its cache, as `docs/OWNING.md` and `docs/GUIDE.md` have them.
 #![tactic(auto)]
 
+mod fitting;
 mod highlighter;
 mod matcher;
 
+use crate::fitting::matches;
 use crate::highlighter::Highlighter;
 use crate::matcher::Matcher;
 use anyhow::{Context, Result};
@@ -36,10 +38,19 @@ fn first_start(alloc: Global, text: &[u8]) -> Result<Option<usize>> {
     Ok(matcher.find(text).map(|found| found.start()))
 }
 
+// Whether the text has a match, with the cache of a smaller engine.
+fn matches_with_other(alloc: Global, text: &[u8]) -> Result<bool> {
+    let small = PikeVM::new_from_nfa(named(alloc, "a_pair")?)?;
+    let mut cache = small.create_cache(alloc)?;
+    let vm = PikeVM::new_from_nfa(named(alloc, "foo_num")?)?;
+    Ok(matches(&vm, &mut cache, text)?)
+}
+
 fn main(rt: HostRuntime) -> Result<()> {
     let (before, after) = marked(rt.alloc(), b"foo1 foo12 abc")?;
     println!(rt; "{before}")?;
     println!(rt; "{after}")?;
     println!(rt; "{:?}", first_start(rt.alloc(), b"xabc")?)?;
+    println!(rt; "{}", matches_with_other(rt.alloc(), b"foo1")?)?;
     Ok(())
 }

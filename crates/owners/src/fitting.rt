@@ -1,0 +1,13 @@
+//! A user that is handed any cache, and makes it fit when it runs.
+
+use nfa_engines::error::SearchError;
+use nfa_engines::pikevm::{Cache, PikeVM};
+use regex_search_core::Input;
+
+/// Returns whether the text has a match. The cache may be that of another engine.
+pub fn matches(vm: &PikeVM, cache: &mut Cache, text: &[u8]) -> Result<bool, SearchError> {
+    if !cache.fits(vm) {
+        vm.reset_cache(cache)?;
+    }
+    Ok(vm.is_match(cache, Input::new(text)))
+}
