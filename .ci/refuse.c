@@ -1,5 +1,5 @@
-// Loaded before a program's libraries (`.ci/program`), refuses memory: the one request whose number is in REFUSED, of which
-// a byte on file 9 tells; and every request that brings the sum of all above the bytes in ROOM.
+// Loaded before a program's libraries (`.ci/program`), refuses memory. REFUSED is the number of the one request to refuse; a
+// byte on file 9 says that it was. ROOM is the number of bytes that all requests together may take; later ones are refused.
 typedef unsigned long size_t;
 
 extern char *getenv(const char *);

@@ -85,7 +85,7 @@ fn spans(alloc: Global, pattern: &str, haystack: &str) -> Result<String> {
     Ok(text)
 }
 
-/// The patterns of the rows that find something else, with what they find, and how many rows there are.
+/// Returns a line for each row that finds something else, and the number of rows.
 pub fn differences(alloc: Global) -> Result<(Vec<String>, usize)> {
     let mut wrong = Vec::new(alloc);
     for (pattern, haystack, wanted) in ROWS.iter() {

@@ -13,7 +13,7 @@ fn states(alloc: Global, pattern: &str) -> Result<usize> {
     Ok(nfa.states().len())
 }
 
-/// The text so many times.
+/// Returns the text, `count` times.
 fn repeated(alloc: Global, text: &str, count: usize) -> Result<String> {
     let mut all = String::new(alloc);
     for _ in 0..count {
@@ -22,7 +22,7 @@ fn repeated(alloc: Global, text: &str, count: usize) -> Result<String> {
     Ok(all)
 }
 
-/// So many groups, one in the other.
+/// Returns a pattern of `depth` groups, each inside another.
 fn nested(alloc: Global, depth: usize) -> Result<String> {
     let mut text = repeated(alloc, "(", depth)?;
     text.push('a')?;
@@ -37,7 +37,8 @@ fn expect(is: bool, what: &'static str) -> Result<()> {
     Ok(())
 }
 
-/// Patterns that are compiled, whatever their size: counts in counts, a text of ten thousand characters, all of Unicode.
+/// Compiles large patterns: counts inside counts, a text of ten thousand characters, classes of all of Unicode, and
+/// two hundred groups inside one another.
 pub fn expect_large(alloc: Global) -> Result<()> {
     expect(states(alloc, "(a{100}){100}")? > 10000, "counts in counts")?;
     expect(states(alloc, "a{1000}")? > 1000, "a count")?;

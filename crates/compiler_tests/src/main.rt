@@ -129,7 +129,7 @@ fn main(rt: HostRuntime) -> Result<()> {
     hostile::expect_trees(rt.alloc())
 }
 
-/// Prints what differs from the rows, and how many rows there are. Fails if something differs.
+/// Prints each row that differs, and how many of all rows do. Fails if one does.
 fn report(rt: &HostRuntime, wrong: &[String], rows: usize, what: &str) -> Result<()> {
     for text in wrong {
         println!(rt; "{text}")?;

@@ -195,7 +195,7 @@ const ROWS: [(&str, (usize, usize), &str, &str, &str); 35] = [
     ("\ta)", (2, 3), "unopened group", "\ta)", "\t ^"),
 ];
 
-/// The text of the row's error, of the pattern of this number.
+/// Returns the error text of this row, for the pattern of this number.
 fn wanted(alloc: Global, number: usize, row: usize) -> Result<String> {
     let mut text = String::new(alloc);
     if let Some((_, (start, end), reason, line, marks)) = ROWS.get(row) {
@@ -207,7 +207,7 @@ fn wanted(alloc: Global, number: usize, row: usize) -> Result<String> {
     Ok(text)
 }
 
-/// The text of the error of the second of two patterns, of which the first is good; or that there is none.
+/// Returns the text of the pattern's error, or that there is none. It is the second of two patterns; the first is good.
 fn given(alloc: Global, pattern: &str) -> Result<String> {
     let mut text = String::new(alloc);
     match Compiler::new().build_many(alloc, &["good", pattern]) {
@@ -217,7 +217,7 @@ fn given(alloc: Global, pattern: &str) -> Result<String> {
     Ok(text)
 }
 
-/// The texts of the rows whose error has another text, and how many rows there are.
+/// Returns the error texts that differ from their rows, and the number of rows.
 pub fn differences(alloc: Global) -> Result<(Vec<String>, usize)> {
     let mut wrong = Vec::new(alloc);
     for (row, (pattern, _, _, _, _)) in ROWS.iter().enumerate() {
@@ -229,7 +229,7 @@ pub fn differences(alloc: Global) -> Result<(Vec<String>, usize)> {
     Ok((wrong, ROWS.len()))
 }
 
-/// The texts of errors that name no place: of a pattern that is too large.
+/// Returns the text of the error of a pattern that exceeds this limit.
 pub fn too_big(alloc: Global, pattern: &str, limit: usize) -> Result<String> {
     let compiler = Compiler::new().configure(Config::new().size_limit(limit));
     let mut text = String::new(alloc);

@@ -1,5 +1,5 @@
-//! Callers of the laws of `nfa_engines` and `nfa_compiler`, as users of the library would write them: each takes a law, and says what
-//! follows of calls. What a law asks is built here from what calls promise.
+//! Callers of the laws of `nfa_engines` and `nfa_compiler`, as users of the library would write them: each takes a law,
+//! and says what follows of calls. The premises of a law are built here from what calls promise.
 #![tactic(auto)]
 
 pub mod paths;

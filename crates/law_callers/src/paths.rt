@@ -16,7 +16,7 @@ use nfa_engines::pikevm::{Cache, PikeVM};
 use regex_search_core::{Input, Match};
 use std::alloc::{AllocError, Global};
 
-/// Two accepting paths of which neither comes before the other are one.
+/// Two accepting paths are equal if neither comes before the other.
 pub fn unordered_paths_are_one(vm: &PikeVM, input: &Input<'_>)
     ensures { let x = search_of input.now in (m n : Pair) (p q : List Pair)
         → PathTo (edges vm.now.nfa x) (starts vm.now.nfa x) m p → IsMatch vm.now.nfa m
@@ -26,8 +26,8 @@ pub fn unordered_paths_are_one(vm: &PikeVM, input: &Input<'_>)
     laws::accepting_paths_are_ordered();
 }
 
-/// The leftmost match, where each accepting path writes its ends. No accepting path starts before it; where there is
-/// none, there is no accepting path.
+/// Returns the leftmost match of an NFA whose accepting paths write their ends. No accepting path starts before it, and
+/// without a match there is no accepting path.
 pub fn leftmost(vm: &PikeVM, cache: &mut Cache, input: Input<'_>) -> Option<Match>
     requires fits { Fits cache.old vm.now.nfa }
     requires kind { kind_of vm.now ≡ LeftmostFirst }
@@ -66,8 +66,8 @@ fn found_first(
     Ok(found)
 }
 
-/// The first two matches, or all if there are fewer. They are in the span, and the second ends after the first. There is
-/// at most one more than the span has bytes.
+/// Returns the first two matches, or all if there are fewer. They are in the span, and the second ends after the first.
+/// There is at most one more than the span has bytes.
 pub fn first_two(
     alloc: Global,
     vm: &PikeVM,

@@ -46,13 +46,13 @@ module _ (res : List Re) (a : Automaton) (made : IsNfaOf res a) (mode : is_utf8_
   searched x = expected_on_boundary res (is_bound res a made) x
 
   module _ (x : Search) (whole : x.end ≡ length x.haystack) where
-    -- a scan's answer tells of the hit
+    -- the answer of a scan is the path of the hit
     told-scan : (path : Option (List Pair)) → IsScanAnswer a x LeftmostFirst false path → TellsHit a (scanned x) path
     told-scan path answers =
         let s = scan res a made x whole in
         subst (TellsHit a (scanned x)) (scan_answer-unique a x LeftmostFirst false s.0 path s.2 answers) s.1
 
-    -- the path ends where the hit does
+    -- the path ends on a boundary exactly if the hit does
     told-end : (h : Hit) (p : List Pair) → ToldHit a h p
         → (EndsOnBoundary x p → IsBoundary x.haystack h.trace.end)
         × (IsBoundary x.haystack h.trace.end → EndsOnBoundary x p)
@@ -60,7 +60,7 @@ module _ (res : List Re) (a : Automaton) (made : IsNfaOf res a) (mode : is_utf8_
         let b = ends_where x p (EndsWith-last None t.end p t.ends) in
         (λ on. subst (IsBoundary x.haystack) t.at (b.0 on), λ on. b.1 (subst (IsBoundary x.haystack) (sym t.at) on))
 
-    -- a path that ends on a boundary tells of a hit that does, and there alone
+    -- the same, as the test of the hit
     on-true : (h : Hit) (p : List Pair) → ToldHit a h p → EndsOnBoundary x p → ends_on_boundary x.haystack h ≡ true
     on-true h p t on = boundary-true x.haystack h.trace.end ((told-end h p t).0 on)
 

@@ -44,7 +44,7 @@ module _ (hay : List ℕ) (text : IsUtf8 hay) where
   unfolding is_boundary
   beyond i past = rw (slice_get_past hay i past) refl
 
-  -- a step between two positions: from a boundary to one, and from inside a character nowhere
+  -- A step between two positions: a step from a boundary ends on one, and a step that starts inside a codepoint is empty.
   pub record Keeps (i j : ℕ) : Type 0 where
     pub whole : is_boundary hay i ≡ true → is_boundary hay j ≡ true
     pub split : is_boundary hay i ≡ false → j ≡ i
@@ -58,7 +58,7 @@ module _ (hay : List ℕ) (text : IsUtf8 hay) where
     split = λ off. let here = first.split off in second.split (ap (is_boundary hay) here ∙ off) ∙ here;
   }
 
-  -- a text that stands at i
+  -- a text at i
   past_text : (bs rest : List ℕ) (i : ℕ) → IsUtf8 bs → i + length bs ≤ length hay → drop i hay ≡ bs ++ rest
       → is_boundary hay i ≡ true → is_boundary hay (i + length bs) ≡ true
   past_text bs rest i part fits reads on =
@@ -68,7 +68,7 @@ module _ (hay : List ℕ) (text : IsUtf8 hay) where
       (IsCharBoundary-from_take (drop i hay) (length bs) (IsUtf8-drop hay i text at) (omega (arith, length-drop i hay))
       (subst IsUtf8 (sym front) part)))
 
-  -- inside a character none stands but the empty one
+  -- inside a codepoint only the empty text matches
   no_text : (bs rest : List ℕ) (i : ℕ) → IsUtf8 bs → i < length hay → drop i hay ≡ bs ++ rest
       → is_boundary hay i ≡ false → length bs ≡ 0
   no_text [] rest i part less reads off = refl
@@ -76,7 +76,8 @@ module _ (hay : List ℕ) (text : IsUtf8 hay) where
       let head : slice_index hay i ≡ b = heads (slice_index hay i) b (drop (suc i) hay) (bs ++ rest)
       (sym (drop-cons hay i 0 less) ∙ reads) in
       let starts = IsCharBoundary-start (b ∷ bs) part in
-      let on = uncut i (omega arith, λ inside high. omega (arith, starts.1 (omega arith) (omega (arith, head)), head)) in
+      let on =
+      uncut i (omega arith, λ inside high. omega (arith, starts.1 (omega arith) (omega (arith, head)), head)) in
       absurd (true≢false (sym on ∙ off))
     where
       heads : (x y : ℕ) (xs ys : List ℕ) → x ∷ xs ≡ y ∷ ys → x ≡ y

@@ -26,9 +26,8 @@ use Rattle.nfa_paths.proofs.StartLemmas.{IsMatch-edges}
 use Rattle.nfa_bounds.proofs.LawLemmas.{linked-open}
 use Rattle.nfa_bounds.proofs.WayLemmas.{In-map}
 use Rattle.nfa_compiler.specs.Compiled.{IsNfaOf}
-use Rattle.nfa_compiler.specs.KindLaws.{IsTried, MatchesSomewhere}
+use Rattle.nfa_compiler.specs.KindLaws.{IsTried, MatchesSomewhere, PatternMatches}
 use Rattle.nfa_compiler.specs.Patterns.{hit_of}
-use Rattle.nfa_compiler.specs.SetLaws.{PatternMatches}
 use Rattle.nfa_compiler.proofs.SearchLemmas.{is_bound, told-found}
 use Rattle.nfa_compiler.proofs.BlockLemmas.{ends-cons}
 use Rattle.nfa_compiler.proofs.StartPairLemmas.{starts-sound, starts-complete, within-end}
@@ -125,7 +124,7 @@ module _ (res : List Re) (a : Automaton) (made : IsNfaOf res a) (x : Search) (wh
     pub path : PathTo (edges a x) (v ∷ []) end along
     pub pattern_is : pattern_of (node_at a end.0) ≡ Some k
 
-  -- where pattern k matches, one leads there from its start, and holds none of these pairs behind the start
+  -- If pattern k matches, a path leads from its start to a Match, and holds none of the pairs that are marked.
   match-leads : (k i : ℕ) → i ≤ x.end → MatchesFrom k i → (marks : List Pair)
       → IsBehind a x whole (start_of k) marks
       → (p : LeadsTo (start_of k, i) k) × ((w : Pair) → In w p.along → In w marks → ⊥)
@@ -320,16 +319,7 @@ module _ (res : List Re) (a : Automaton) (made : IsNfaOf res a) (x : Search) (wh
       path-iff None answer = (
         λ never. absurd (cc),
         λ m.
-            let reached = complete m.pattern (record {
-              start = m.start;
-              end = m.end;
-              known = m.known;
-              tried = m.tried;
-              from = m.from;
-              to = m.to;
-              inside = m.inside;
-              matches = m.matches;
-            }) in
+            let reached = complete m.pattern m.matches in
             absurd (scan_answer-none a x kind earliest answer reached.end reached.along reached.path
             reached.wanted.matches),
       )
@@ -346,17 +336,7 @@ module _ (res : List Re) (a : Automaton) (made : IsNfaOf res a) (x : Search) (wh
                 wanted = permitted leads.end leads.matches;
                 pattern_is = some.1;
               }) in
-              record {
-                pattern = some.0;
-                start = m.start;
-                end = m.end;
-                known = m.known;
-                tried = m.tried;
-                from = m.from;
-                to = m.to;
-                inside = m.inside;
-                matches = m.matches;
-              }
+              record { pattern = some.0; matches = m }
 
       -- the path of such an answer has a pattern
       pub path-patterned : (path : Option (List Pair)) → IsScanAnswer a x kind earliest path

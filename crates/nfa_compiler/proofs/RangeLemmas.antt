@@ -27,7 +27,7 @@ use Rattle.nfa_compiler.specs.Added.{Adds, IsInRange, AreInRange, KeepsInRange}
 use Rattle.nfa_compiler.specs.Compiled.{explicit_names, first_slot, groups_of}
 use Rattle.nfa_compiler.proofs.AddLemmas.{kept-at, last-at, adds-length, adds-one, adds-trans}
 
--- where there is more room
+-- with more room
 
 some-wider : (n m : ℕ) (o : Option ℕ) → n ≤ m → IfSome o (λ s. s < n) → IfSome o (λ s. s < m)
 some-wider n m None wide h = tt
@@ -54,7 +54,7 @@ node-wider n m slots more patterns all (Match pattern) long wide many h = (tt, t
 pub none-in-range : (nodes : List Node) (slots patterns : ℕ) → length nodes ≡ 0 → AreInRange slots patterns nodes
 none-in-range nodes slots patterns none = λ i d inside. absurd (omega arith)
 
--- more of them behind the old ones
+-- more of them, after the old ones
 pub more-in-range : (old new : List Node) (slots more patterns all : ℕ) → Adds old new → slots ≤ more → patterns ≤ all
     → ((i : ℕ) → length old ≤ i → i < length new → IsInRange (length new) more all (slice_index_or new i Fail))
     → AreInRange slots patterns old → AreInRange more all new

@@ -186,7 +186,7 @@ module _ (res : List Re) (a : Automaton) (made : IsNfaOf res a) where
         of None t = absurd t
         of (Some p) t = t.known
 
-    -- what a path tells of a hit: its pattern, its slots, its match, and that there is one
+    -- a path of the hit has its pattern, its slots and its match, and exists exactly if there is a hit
     pub told-pattern : (h : Option Hit) (path : Option (List Pair)) → TellsHit a h path
         → option_and_then (path_pattern a) path ≡ option_map (λ (g : Hit). g.pattern) h
     told-pattern None None t = refl

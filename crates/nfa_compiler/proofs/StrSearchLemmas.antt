@@ -98,9 +98,9 @@ module _ (syntax : Config) (texts : List (List ℕ)) (res : List Re) (nfa : Auto
   bound = nfa.anchored == nfa.unanchored
 
   own-match : All MatchesCharacters own
-  own-match = trees-match syntax (sym compiled.utf8 ∙ mode) texts compiled.trees compiled.read
+  own-match = trees-match syntax (sym compiled.mode ∙ mode) texts compiled.trees compiled.read
 
-  -- the NFA does not match the empty text: each tree always reads a byte
+  -- the NFA does not match the empty string: each tree always reads a byte
   own-read : is_utf8_empty nfa ≡ false → All (λ re. IsTrue (always_reads re)) own
   own-read anywhere = All-map (λ re. IsTrue (always_reads re)) (λ (t : Parsed). meaning t.hir) compiled.trees
       (compiled.always_read (of nfa.has_empty (rw mode at anywhere)))

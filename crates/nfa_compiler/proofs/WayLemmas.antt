@@ -66,7 +66,7 @@ module _ (s : Site) (k : ℕ) (is : number_of s.pattern ≡ k) (behind : 2 * k +
     pub same : y.1 ≡ i
     pub slot : slot_of n ≡ Some (2 * k + 1)
 
-  -- where moved transitions lead
+  -- targets of moved transitions
   transitions-inside : (n : Node) (ts : List their_transition.Transition) (j : ℕ) (y : Pair) → slot_of n ≡ None
       → All (λ t. t.next < s.size) ts
       → In y (map (λ t. (t, j)) (map (λ t. t.next) (map (moved s) ts))) → StaysInside n y
@@ -157,7 +157,7 @@ module _ (s : Site) (k : ℕ) (is : number_of s.pattern ≡ k) (behind : 2 * k +
   plain ts their.Fail n stands = ap (λ w. is_some (pattern_of w)) stands
 
   module _ (a : Automaton) (nfa : Nfa) (block : IsBlock a.states nfa s) where
-    -- the list ends with the Match, and writes its end alone of the two slots
+    -- the list ends with the Match, and of the two slots writes only the end
     record WritesEnd (p : List Pair) (m : Pair) : Type 0 where
       pub pattern : pattern_of (node_at a m.0) ≡ Some k
       pub start : slot_among a p (2 * k) ≡ None

@@ -18,7 +18,7 @@ IsInRange n slots patterns node = LeadsBelow n node × SlotBelow slots node × P
 abbrev pub AreInRange : ℕ → ℕ → List Node → Type 0
 AreInRange slots patterns nodes = All (IsInRange (length nodes) slots patterns) nodes
 
--- the new ones are in range where the old ones are
+-- the new ones are in range if the old ones are
 abbrev pub KeepsInRange : List Node → List Node → Type 0
 KeepsInRange old new = (slots patterns : ℕ) → AreInRange slots patterns old → AreInRange slots patterns new
 

@@ -1,4 +1,4 @@
--- What a search is to find in UTF-8 mode, where a match that ends inside a character does not count.
+-- What a search finds in UTF-8 mode, in which a match that splits a codepoint does not count.
 use Rattle.std.specs.Prelude.{ℕ, zero, suc, ◌+◌, ◌-◌, Bool, List, length, Option, None, if◌then◌else◌, nat_lt, ◌==◌}
 use Rattle.regex_hir.specs.Re.{Re}
 use Rattle.regex_hir.specs.Text.{is_boundary, is_none_or, is_some_and}
@@ -10,7 +10,7 @@ use Rattle.thompson_nfa.specs.Automaton.{Automaton}
 use Rattle.nfa_compiler.specs.AllHits.{hits_from}
 use Rattle.nfa_compiler.specs.Patterns.{Hit, first_hit, pick, pick_one}
 
--- the hit ends on a boundary of the haystack: no continuation byte stands there
+-- the hit ends on a boundary of the haystack: there is no continuation byte
 abbrev pub ends_on_boundary : List ℕ → Hit → Bool
 ends_on_boundary haystack h = is_boundary haystack h.trace.end
 
@@ -18,15 +18,15 @@ ends_on_boundary haystack h = is_boundary haystack h.trace.end
 abbrev pub on_boundary : List ℕ → Option Hit → Option Hit
 on_boundary haystack h = if is_some_and h (ends_on_boundary haystack) then h else None
 
--- The hit at the first of the n positions from i on where no hit is, or one that ends on a boundary: after a hit that
--- ends inside a character the search starts again, one byte further on.
+-- The hit at the first of the n positions from i on that has none, or one that ends on a boundary: after a hit that splits
+-- a codepoint the search starts again, one byte further on.
 abbrev pub restarted_hit : List ℕ → (ℕ → Option Hit) → ℕ → ℕ → Option Hit
 restarted_hit haystack at zero i = None
 restarted_hit haystack at (suc n) i =
     if is_none_or (at i) (ends_on_boundary haystack) then at i else restarted_hit haystack at n (i + 1)
 
--- What a search for the patterns is to find. `bound` says that each scan is bound to its start. That does not anchor
--- the search: it starts again after a hit that ends inside a character, and finds none at the first start without a hit.
+-- What a search for the patterns finds. `bound` says that each scan is bound to its start. That does not anchor the
+-- search: it starts again after a hit that splits a codepoint, and ends with none at the first start without a hit.
 abbrev pub boundary_hit_at_start : List Re → Bool → Search → Anchored → Option Hit
 boundary_hit_at_start res bound x No =
     if bound then restarted_hit x.haystack (pick x.haystack res 0) (x.end - x.start + 1) x.start
@@ -35,12 +35,12 @@ boundary_hit_at_start res bound x Yes = on_boundary x.haystack (pick x.haystack 
 boundary_hit_at_start res bound x (Pattern pattern) =
     on_boundary x.haystack (pick_one x.haystack res (number_of pattern) x.start)
 
--- the same; none where the span starts behind its end
+-- the same; none if the span starts after its end
 unfoldable pub expected_on_boundary : List Re → Bool → Search → Option Hit
 expected_on_boundary res bound x =
     if nat_lt x.end x.start then None else boundary_hit_at_start res bound x x.anchored
 
--- what a search of the NFA is to find: without an anchor, the first hit that ends on a boundary
+-- what a search of the NFA finds: without an anchor, the first hit that ends on a boundary
 abbrev pub boundary_hit : List Re → Automaton → Search → Option Hit
 boundary_hit res nfa x = expected_on_boundary res (nfa.anchored == nfa.unanchored) x
 

@@ -79,7 +79,7 @@ pub record IsCompiled (syntax : Config) (texts : List (List ℕ)) (nfa : Automat
   pub read : AllZip (IsRead syntax) texts trees
   pub made : IsNfaOf (res_of trees) nfa
   pub groups : nfa.groups ≡ groups_of trees
-  pub utf8 : nfa.utf8 ≡ syntax.utf8
+  pub mode : nfa.utf8 ≡ syntax.utf8
   pub always_read : nfa.has_empty ≡ false → All AlwaysReads trees
 
 -- the grammar reads this pattern in the text

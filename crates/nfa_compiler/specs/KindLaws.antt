@@ -17,18 +17,22 @@ IsTried No k = ⊤
 IsTried Yes k = ⊤
 IsTried (Pattern pattern) k = number_of pattern ≡ k
 
--- A pattern that the search tries matches from a position where the search may start. `bound` says that each search is
--- bound to its start.
-pub record MatchesSomewhere (res : List Re) (bound : Bool) (x : Search) : Type 0 where
-  pub pattern : ℕ
+-- The search tries pattern k, and the pattern matches from a position where the search may start. `bound` says that each
+-- search is bound to its start.
+pub record PatternMatches (res : List Re) (bound : Bool) (x : Search) (k : ℕ) : Type 0 where
   pub start : ℕ
   pub end : ℕ
-  pub known : pattern < length res
-  pub tried : IsTried x.anchored pattern
+  pub known : k < length res
+  pub tried : IsTried x.anchored k
   pub from : x.start ≤ start
   pub to : start ≤ (if is_anchored x.anchored || bound then x.start else x.end)
   pub inside : x.start ≤ x.end
-  pub matches : Matches x.haystack (slice_index_or res pattern empty) start end
+  pub matches : Matches x.haystack (slice_index_or res k empty) start end
+
+-- some pattern does
+pub record MatchesSomewhere (res : List Re) (bound : Bool) (x : Search) : Type 0 where
+  pub pattern : ℕ
+  pub matches : PatternMatches res bound x pattern
 
 -- a search for any match finds one exactly if there is one
 abbrev pub FindsIfMatches : Type 0

@@ -1,4 +1,4 @@
--- What a search of a `str` is to find: of a haystack that is UTF-8, in which no match starts inside a character.
+-- What a search of a `str` finds: of a haystack that is UTF-8, in which no match starts inside a codepoint.
 use Rattle.std.specs.Prelude.{◌≡◌, ℕ, ◌+◌, ◌-◌, Bool, true, false, List, length, Option, None, IsUtf8, if◌then◌else◌, nat_lt, ◌==◌}
 use Rattle.regex_hir.specs.Matches.{Matches}
 use Rattle.regex_hir.specs.Re.{Re}
@@ -13,7 +13,7 @@ use Rattle.nfa_compiler.specs.AllHits.{hits_from}
 use Rattle.nfa_compiler.specs.Patterns.{Hit, first_hit, pick, pick_one}
 
 -- In a `str` the pattern matches whole characters: a match that starts on a boundary ends on one, and one that starts
--- inside a character is empty.
+-- inside a codepoint is empty.
 pub record MatchesCharacters (re : Re) : Type 0 where
   pub whole : (haystack : List ℕ) (i j : ℕ) → IsUtf8 haystack → Matches haystack re i j
       → is_boundary haystack i ≡ true → is_boundary haystack j ≡ true
@@ -28,7 +28,7 @@ StartsOnBoundary nfa x = (nfa.anchored == nfa.unanchored) ≡ true → x.anchore
 abbrev pub at_boundary : List ℕ → (ℕ → Option Hit) → ℕ → Option Hit
 at_boundary haystack at i = if is_boundary haystack i then at i else None
 
--- What a search for the patterns is to find. `bound` says that each search is bound to its start.
+-- What a search for the patterns finds. `bound` says that each search is bound to its start.
 abbrev pub str_hit_at_start : List Re → Bool → Search → Anchored → Option Hit
 str_hit_at_start res bound x No =
     first_hit (at_boundary x.haystack (pick x.haystack res 0)) (if bound then 1 else (x.end - x.start + 1)) x.start
@@ -36,11 +36,11 @@ str_hit_at_start res bound x Yes = at_boundary x.haystack (pick x.haystack res 0
 str_hit_at_start res bound x (Pattern pattern) =
     at_boundary x.haystack (pick_one x.haystack res (number_of pattern)) x.start
 
--- the same; none where the span starts behind its end
+-- the same; none if the span starts after its end
 unfoldable pub expected_in_str : List Re → Bool → Search → Option Hit
 expected_in_str res bound x = if nat_lt x.end x.start then None else str_hit_at_start res bound x x.anchored
 
--- what a search of the NFA is to find in a `str`
+-- what a search of the NFA finds in a `str`
 abbrev pub str_hit : List Re → Automaton → Search → Option Hit
 str_hit res nfa x = expected_in_str res (nfa.anchored == nfa.unanchored) x
 

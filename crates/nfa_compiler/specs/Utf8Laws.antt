@@ -1,4 +1,4 @@
--- What searches of a compiled NFA find in UTF-8 mode, where an empty match that splits a character does not count.
+-- What searches of a compiled NFA find in UTF-8 mode, in which a match that splits a codepoint does not count.
 use Rattle.std.specs.Prelude.{◌≡◌, ℕ, All, Bool, true, List, length, map, IsUtf8, Option, is_some, option_map}
 use Rattle.regex_hir.specs.Meaning.{meaning}
 use Rattle.regex_hir.specs.Re.{Re}
@@ -19,8 +19,8 @@ use Rattle.nfa_compiler.specs.Laws.{IsLeftmostToTheEnd}
 use Rattle.nfa_compiler.specs.Patterns.{Hit, slots_of, found_at, found_in}
 use Rattle.nfa_compiler.specs.StrHits.{MatchesCharacters, StartsOnBoundary, str_hit}
 
--- Any haystack, and patterns that may match the empty string: the pattern and the slots of a search are those of the hit
--- that ends on a boundary.
+-- In any haystack, for patterns that may match the empty string: the pattern and the slots of a search are those of the
+-- hit that ends on a boundary.
 abbrev pub AnswersAreBoundaryHits : Type 0
 AnswersAreBoundaryHits =
     (res : List Re) (nfa : Automaton) (kind : MatchKind) (earliest : Bool) (x : Search) (pattern : Option ℕ)
@@ -36,7 +36,7 @@ MatchesAreBoundaryHits =
     → IsNfaOf res nfa → is_utf8_empty nfa ≡ true → IsLeftmostToTheEnd kind earliest x
     → IsMatchAnswer nfa kind earliest x found → found ≡ found_in (boundary_hit res nfa x)
 
--- it finds something exactly where there is a hit
+-- it finds something exactly if there is a hit
 abbrev pub FindsBoundaryHits : Type 0
 FindsBoundaryHits =
     (res : List Re) (nfa : Automaton) (kind : MatchKind) (earliest : Bool) (x : Search) (found : Bool)

@@ -24,7 +24,7 @@ pub enum Shape {
     Fan(usize),
     /// A chain of so many states that reads a byte at each.
     Word(usize),
-    /// A pattern that reads one `a`, and one of so many states that reads `c` for ever.
+    /// Two patterns: one reads an `a`, the other is a loop of this many states that reads `c`s and never matches.
     ByteOrLoop(usize),
 }
 

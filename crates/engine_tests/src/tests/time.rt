@@ -1,4 +1,4 @@
-//! Time that no count of turns shows: a search of an NFA with very many states takes the time of those that it reaches.
+//! Time that no count of turns shows: a search takes time only for the states that it reaches.
 
 ghost use Rattle.nfa_engines.specs.Engines.{Fits};
 
@@ -9,7 +9,7 @@ use regex_search_core::Input;
 use std::alloc::Global;
 use std::process::Abort;
 
-// Half a million states, of which a position reaches a few.
+// A position reaches only a few of these half a million states.
 #[test]
 fn states_out_of_reach_take_no_time(rt: HostRuntime) {
     let alloc = rt.alloc();
@@ -23,8 +23,8 @@ fn bytes(rt: &impl Abort, alloc: Global, byte: u8, len: usize) -> Vec<u8> {
     vec![in alloc; byte; len].expect(rt, "memory")
 }
 
-// A hundred thousand searches that find a byte, and one that goes over four million. A search or a position that cleared
-// all rows, or all marks, would take minutes in all.
+// Runs a search of four million bytes, and then a hundred thousand that find one byte each. If a search cleared all rows,
+// or a position all marks, this would take minutes.
 fn expect_ones(rt: &impl Abort, alloc: Global, vm: &PikeVM, cache: &mut Cache)
     requires { Fits cache.old vm.now.nfa }
 {

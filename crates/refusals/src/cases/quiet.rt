@@ -364,7 +364,7 @@ fn make_chosen(alloc: Global, seen: &mut Seen, choice: &mut Choice) {
     seen.closes(alloc, "iterators of a choice");
 }
 
-// A replacement copies the NFA, and makes no request besides where the cache of the PikeVM fits.
+// If the cache of the PikeVM fits, a replacement only copies the NFA.
 fn replacement(alloc: Global, seen: &mut Seen) -> Result<(), Wrong> {
     let mut choice = engines::choice(alloc, seen, "groups")?;
     expect_replaced(alloc, seen, &mut choice)

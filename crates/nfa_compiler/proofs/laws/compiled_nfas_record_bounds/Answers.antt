@@ -1,4 +1,4 @@
--- Along each way the pattern's block is entered by its start, and left by its Match alone.
+-- Each way enters the block of a pattern at its start, and ends at its Match.
 use Rattle.nfa_compiler.specs.Compiled.{res_of}
 use Rattle.nfa_compiler.proofs.WayLemmas.{ways-recorded}
 use Rattle.nfa_compiler.proofs.laws.compiled_nfas_record_bounds.Goals as goal
