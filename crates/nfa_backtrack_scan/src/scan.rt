@@ -1,5 +1,5 @@
 //! A scan: the starts in turn, each walked from, with the marks kept.
-ghost use Rattle.std.specs.Prelude.{◌≡◌, ◌+◌, ◌-◌, ◌*◌, ◌^◌, ◌<◌, ◌≤◌, [], None, false, length, replicate, IfOk, OnErr};
+ghost use Rattle.std.specs.Prelude.{◌≡◌, ◌+◌, ◌-◌, ◌*◌, ◌^◌, ◌<◌, ◌≤◌, [], None, false, length, replicate, IfOk, OnErr, OnOk};
 ghost use Rattle.regex_search_core.specs.Search.{search_of};
 ghost use Rattle.regex_search_core.specs.declared.search.MatchKind.TheVariants.{LeftmostFirst};
 ghost use Rattle.nfa_paths.specs.Paths.{span_len, start_count};
@@ -57,6 +57,7 @@ fn try_starts(
     ensures turns { scratch.new.visited.turns ≤ scratch.old.visited.turns + scan_turns nfa.now (search_of input.now) }
     ensures answer { IfOk result (λ half. StartsGive nfa.now (search_of input.now) half slots.new
         (scratch.new.visited.turns - scratch.old.visited.turns)) }
+    ensures over { OnOk result (scratch.new.stack.items ≡ []) }
 {
     if input.is_done() {
         return Ok(None);
@@ -99,15 +100,14 @@ pub fn scan(
     unset(slots);
     scratch.stack.clear();
     scratch.visited.clear();
-    let found = try_starts(nfa, first, input, scratch, slots);
-    scratch.stack.clear();
-    match found {
+    match try_starts(nfa, first, input, scratch, slots) {
         Ok(Some(half)) => Ok(Some(half)),
         Ok(None) => {
             unset(slots);
             Ok(None)
         }
         Err(refused) => {
+            scratch.stack.clear();
             unset(slots);
             Err(refused)
         }

@@ -359,8 +359,8 @@ fn put_back(slot: Option<usize>, slots: &mut [Option<NonMaxUsize>])
     }
 }
 
-/// Searches from a place to the first match, past what is marked. A slot that its first turn writes needs no place on
-/// the stack.
+/// Searches from a place to the first match, past what is marked, and leaves the stack empty. A slot that its first turn
+/// writes needs no place on the stack.
 pub fn walk(
     nfa: &NFA,
     input: &Input<'_>,
@@ -377,11 +377,15 @@ pub fn walk(
         scratch.old.visited.bits ≤ scratch.old.visited.turns + 1 + sum (weights nfa.now (search_of input.now)) }
     ensures walks { IfOk result (λ half. Walks nfa.now (search_of input.now) (pair_of start) half scratch.old.visited
         slots.old scratch.new.stack.items scratch.new.visited slots.new) }
+    ensures over { OnOk result (scratch.new.stack.items ≡ []) }
 {
     match begin(nfa, input, start, &mut scratch.visited, slots) {
         None => Ok(None),
         Some(begun) => match walk_on(nfa, input, begun.place, scratch, slots)? {
-            Some(half) => Ok(Some(half)),
+            Some(half) => {
+                scratch.stack.clear();
+                Ok(Some(half))
+            }
             None => {
                 put_back(begun.slot, slots);
                 Ok(None)
