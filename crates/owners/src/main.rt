@@ -9,7 +9,7 @@ use crate::fitting::matches;
 use crate::highlighter::Highlighter;
 use crate::matcher::Matcher;
 use anyhow::{Context, Result};
-use nfa_engines::pikevm::PikeVM;
+use nfa_engines::pikevm::{Cache, PikeVM};
 use nfa_samples::sample;
 use std::alloc::Global;
 use thompson_nfa::NFA;
@@ -31,19 +31,26 @@ fn marked_by(alloc: Global, highlighter: &mut Highlighter, text: &[u8]) -> Resul
     Ok((before, highlighter.marked(text)))
 }
 
+// A PikeVM of the sample NFA of this name.
+fn engine(alloc: Global, name: &str) -> Result<PikeVM> {
+    Ok(PikeVM::new_from_nfa(named(alloc, name)?)?)
+}
+
 // Where the first match starts.
 fn first_start(alloc: Global, text: &[u8]) -> Result<Option<usize>> {
-    let vm = PikeVM::new_from_nfa(named(alloc, "abc")?)?;
-    let mut matcher = Matcher::new(alloc, vm)?;
+    let mut matcher = Matcher::new(alloc, engine(alloc, "abc")?)?;
     Ok(matcher.find(text).map(|found| found.start()))
+}
+
+// A cache that fits the engine of this name, which is gone.
+fn cache_of(alloc: Global, name: &str) -> Result<Cache> {
+    Ok(engine(alloc, name)?.create_cache(alloc)?)
 }
 
 // Whether the text has a match, with the cache of a smaller engine.
 fn matches_with_other(alloc: Global, text: &[u8]) -> Result<bool> {
-    let small = PikeVM::new_from_nfa(named(alloc, "a_pair")?)?;
-    let mut cache = small.create_cache(alloc)?;
-    let vm = PikeVM::new_from_nfa(named(alloc, "foo_num")?)?;
-    Ok(matches(&vm, &mut cache, text)?)
+    let mut cache = cache_of(alloc, "a_pair")?;
+    Ok(matches(&engine(alloc, "foo_num")?, &mut cache, text)?)
 }
 
 fn main(rt: HostRuntime) -> Result<()> {

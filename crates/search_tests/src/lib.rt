@@ -1,4 +1,5 @@
-//! Tests of each engine on sample NFAs, and callers that use what the iterators promise of their lists.
+//! Tests of each engine on sample NFAs, of captures by both engines, and callers that use what the iterators promise of
+//! their lists.
 #![tactic(auto)]
 
 #[cfg(test)]

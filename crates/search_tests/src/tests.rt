@@ -1,6 +1,7 @@
-//! Tests of each engine by itself.
+//! Tests of each engine by itself, and of captures by both.
 
 mod backtrack;
+mod captures;
 mod pikevm;
 
 use regex_search_core::{Captures, Match};
