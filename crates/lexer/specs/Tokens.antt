@@ -6,9 +6,15 @@ use Rattle.regex_search_core.specs.Search.{Search}
 use Rattle.regex_search_core.specs.declared.search.Anchored.TheVariants.{Yes}
 use Rattle.nfa_engines.specs.Engines.{Pike, kind_of}
 use Rattle.nfa_engines.specs.Paths.{IsMatchAnswer}
+use Rattle.regex_syntax.specs.Verdict.{default_config}
+use Rattle.regex_syntax.specs.declared.Config.{Config}
 use Rattle.nfa_bounds.specs.Matches.{AnswersBytes, AnswersNoBytes, HasNoByteAt}
 use Rattle.lexer.specs.declared.lexer.Stuck.{Stuck}
 use Rattle.lexer.specs.declared.lexer.Token.{Token}
+
+-- The syntax of the patterns of a language: the default one, in which bytes that are not text may match.
+abbrev pub rule_syntax : Config
+rule_syntax = record default_config { utf8 = false }
 
 -- the search of a text from an offset on, bound to start there
 abbrev pub search_at : List ℕ → ℕ → Search

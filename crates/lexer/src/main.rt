@@ -4,8 +4,6 @@
 mod lexer;
 mod patterns;
 mod report;
-#[cfg(test)]
-mod tests;
 
 use anyhow::Result;
 use std::io::BufWriter;

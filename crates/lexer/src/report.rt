@@ -1,7 +1,7 @@
 //! A line for each token.
 
 use crate::lexer::{Lexed, Token, tokens};
-use crate::patterns::{NAMES, SPACE, language};
+use crate::patterns::{NAMES, PATTERNS, SPACE, language};
 use anyhow::Result;
 use nfa_engines::pikevm::PikeVM;
 use std::alloc::Global;
@@ -18,7 +18,7 @@ pub fn run<R: Read + Drop, W: Write>(alloc: Global, mut input: R, out: &mut W) -
 }
 
 fn write_tokens<W: Write>(alloc: Global, text: &[u8], out: &mut W) -> Result<bool> {
-    let vm = PikeVM::new_from_nfa(language(alloc)?)?;
+    let vm = PikeVM::new_from_nfa(language(alloc, &PATTERNS)?)?;
     let mut cache = vm.create_cache(alloc)?;
     let lexed = tokens(alloc, &vm, &mut cache, text)?;
     write_lexed(text, &lexed, out)?;

@@ -1,11 +1,17 @@
 -- The fields of a log line, in terms of what a search of it captured.
-use Rattle.std.specs.Prelude.{ℕ, ◌≡◌, List, [], ◌∷◌, Option, Some, option_and_then, codes}
+use Rattle.std.specs.Prelude.{ℕ, ◌≡◌, false, List, [], ◌∷◌, Option, Some, option_and_then, codes}
 use Rattle.std.specs.Option.{ForSome}
 use Rattle.regex_search_core.specs.Slots.{Captured, named_span}
 use Rattle.regex_search_core.specs.declared.search.Span.{Span}
 use Rattle.thompson_nfa.specs.Automaton.{Automaton}
+use Rattle.regex_syntax.specs.Verdict.{default_config}
+use Rattle.regex_syntax.specs.declared.Config.{Config}
 use Rattle.log_extractor.specs.Spans.{LieInOrder}
 use Rattle.log_extractor.specs.declared.parser.Fields.{Fields}
+
+-- The syntax of the pattern of a line: the default one, in which bytes that are not text may match.
+abbrev pub line_syntax : Config
+line_syntax = record default_config { utf8 = false }
 
 -- the NFA of a line, and what the last search captured
 pub record LineParser : Type 0 where

@@ -5,8 +5,6 @@ mod options;
 mod parser;
 mod pattern;
 mod report;
-#[cfg(test)]
-mod tests;
 
 use crate::options::{Options, USAGE};
 use anyhow::Result;

@@ -76,14 +76,17 @@ impl Model for Parser {
 }
 
 impl Parser {
-    ghost use Rattle.log_extractor.specs.Fields.{AreFields, NoFields};
+    ghost use Rattle.nfa_compiler.specs.Compiled.{IsCompiled};
+    ghost use Rattle.log_extractor.specs.Fields.{AreFields, NoFields, line_syntax};
 
-    /// A parser of log lines. The error is that memory was refused: the pattern itself is sound.
-    pub fn new(alloc: Global) -> Result<Parser>
-        ensures patterns { IfOk result (λ parser. length parser.nfa.patterns ≡ 1) }
+    /// Makes a parser of lines of this pattern, whose groups name the fields ([`LINE`](crate::pattern::LINE)).
+    ///
+    /// Fails if the pattern cannot be compiled, or if allocation fails.
+    pub fn new(alloc: Global, pattern: &str) -> Result<Parser>
+        ensures compiled { IfOk result (λ parser. IsCompiled line_syntax (pattern.now ∷ []) parser.nfa) }
         ensures anchored { IfOk result (λ parser. parser.nfa.anchored ≡ parser.nfa.unanchored) }
     {
-        let nfa = line_nfa(alloc)?;
+        let nfa = line_nfa(alloc, pattern)?;
         let vm = PikeVM::new_from_nfa(nfa)?;
         let cache = vm.create_cache(alloc)?;
         let captures = vm.create_captures(alloc)?;

@@ -2,6 +2,7 @@
 
 use crate::options::Options;
 use crate::parser::{Fields, Parser};
+use crate::pattern::LINE;
 use anyhow::Result;
 use std::alloc::{AllocError, Global};
 use std::collections::BTreeMap;
@@ -16,7 +17,7 @@ pub fn run<R: BufRead + Drop, W: Write>(
     input: R,
     out: &mut W,
 ) -> Result<()> {
-    let mut parser = Parser::new(alloc)?;
+    let mut parser = Parser::new(alloc, LINE)?;
     let mut report = Report::new(alloc, options);
     report.write_table(&mut parser, input, out)
 }

@@ -1,6 +1,5 @@
-//! Tests of the crates below the engines: the vocabulary of searches, errors, skipping and iteration with finders in
-//! place of engines, NFAs, samples, drafts and the test of bounds. They stand here and not in those crates, since a
-//! crate with tests is proved twice.
+//! Tests of the crates below the engines: searches, errors, skipping and iteration with finders in place of engines, NFAs,
+//! samples and the test of bounds. A crate with tests is proved twice, so they are here and not in those crates.
 #![tactic(auto)]
 
 #[cfg(test)]

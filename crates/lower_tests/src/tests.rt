@@ -1,12 +1,10 @@
 //! Tests of the crates below the engines.
 mod bounds;
 mod bounds_caller;
-mod drafts;
 mod finders;
 mod fixtures;
 mod flaws;
 mod iteration;
-mod languages;
 mod looks;
 mod nfas;
 mod samples;

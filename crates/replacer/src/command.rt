@@ -1,26 +1,27 @@
-//! What the words on the command line ask for.
+//! What the arguments of the command line ask for.
 
 /// The line that says how the program is called.
-pub const USAGE: &str = "usage: replacer replace TEMPLATE | split | splitn LIMIT < TEXT";
+pub const USAGE: &str =
+    "usage: replacer replace PATTERN TEMPLATE | split PATTERN | splitn PATTERN LIMIT < TEXT";
 
-/// What is to be done with the text.
+/// What to do with the text.
 #[derive(Clone, Copy, Debug, PartialEq, Eq)]
 pub enum Command<'w> {
-    /// Put this template in place of each match.
+    /// Replace each match by this template.
     Replace(&'w str),
-    /// Print what stands between the matches.
+    /// Print the text between the matches.
     Split,
-    /// The same, but so many fields at most.
+    /// The same, but at most this many fields.
     SplitN(usize),
 }
 
 impl<'w> Command<'w> {
-    /// What these words ask for.
-    pub fn from_words(words: &[&'w str]) -> Option<Command<'w>> {
+    /// Returns the pattern of these arguments and what to do at its matches.
+    pub fn from_words(words: &[&'w str]) -> Option<(&'w str, Command<'w>)> {
         match words {
-            ["replace", template] => Some(Command::Replace(template)),
-            ["split"] => Some(Command::Split),
-            ["splitn", limit] => Some(Command::SplitN(limit.parse().ok()?)),
+            ["replace", pattern, template] => Some((pattern, Command::Replace(template))),
+            ["split", pattern] => Some((pattern, Command::Split)),
+            ["splitn", pattern, limit] => Some((pattern, Command::SplitN(limit.parse().ok()?))),
             _ => None,
         }
     }

@@ -89,6 +89,7 @@ fn expect_same_match(
     expect_on(rt, input, first == second || input.get_earliest());
     let [first, second] = engines.are_matches(*input).expect(rt, "an answer");
     let is_match = chooser.choice.is_match(*input);
+    expect_on(rt, input, chooser.ran(input));
     expect_on(rt, input, is_match == second && first == second);
 }
 

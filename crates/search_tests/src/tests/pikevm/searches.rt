@@ -34,7 +34,7 @@ const KINDS: &[(&str, &str, [&str; 4])] = &[
     ("snowman", "a☃b", ["0 1..4", "none", "0 1..4", "none"]),
 ];
 
-const SEARCHES: &[(MatchKind, bool)] = &[
+const SEARCHES: &[(MatchKind, bool); 4] = &[
     (MatchKind::LeftmostFirst, false),
     (MatchKind::LeftmostFirst, true),
     (MatchKind::All, false),
