@@ -1,6 +1,6 @@
 -- What the searches of an iteration by a backtracker answer, and what its iterator may ask.
 use Rattle.std.proofs.Common.{◌≡◌, ◌∙◌, ◌+◌, ◌*◌, ◌≤◌, false, Option, None, Some, Result, Ok, Err, arith, length}
-use Rattle.std.proofs.Common.{List, ◌∷◌, MatchBool, ap, refl, subst, sym}
+use Rattle.std.proofs.Common.{List, ◌∷◌, MatchBool, ap, subst, sym}
 use Rattle.std.specs.Option.{option_map}
 use Rattle.std.specs.Prelude.{OnOk, OnErr}
 use Rattle.std.proofs.Math.Nat.{mul-le-mul_left}

@@ -1,5 +1,5 @@
 -- The calls of an iterator over a backtracker's matches give the items of its search.
-use Rattle.std.proofs.Common.{◌≡◌, ◌∙◌, ◌+◌, ◌≤◌, arith, false, Option, None, Some, Result, Ok, Err}
+use Rattle.std.proofs.Common.{◌≡◌, ◌∙◌, ◌≤◌, arith, false, Option, None, Some, Result, Ok, Err}
 use Rattle.std.proofs.Common.{refl, sym, ap, subst}
 use Rattle.std.proofs.Common.{List, [], ◌∷◌, ◌++◌, map, MatchBool, inl, inr}
 use Rattle.std.specs.Prelude.{All, IfOk, IfErr}

@@ -1,5 +1,5 @@
 -- What a backtracker answers where a match is asked for.
-use Rattle.std.specs.Prelude.{◌≡◌, ◌≤◌, ◌*◌, ◌+◌, ◌⊎◌, false, List, Result, Ok, Err}
+use Rattle.std.specs.Prelude.{◌≡◌, ◌≤◌, ◌*◌, ◌+◌, ◌⊎◌, false, length, List, Result, Ok, Err}
 use Rattle.regex_search_core.specs.Found.{Found}
 use Rattle.regex_search_core.specs.Search.{Search}
 use Rattle.regex_search_core.specs.declared.search.MatchKind.TheVariants.{LeftmostFirst}
@@ -12,7 +12,7 @@ use Rattle.nfa_search_base.specs.Walks.{Answer}
 use Rattle.nfa_search_base.specs.declared.error.SearchError.{SearchError}
 use Rattle.nfa_search_base.specs.declared.error.SearchError.TheVariants.{HaystackTooLong, Memory}
 use Rattle.nfa_backtrack.specs.Backtrack.{Backtracker, Work, AddsWork, CountsAnswer, CountsRefusal, GrowsBlocks}
-use Rattle.nfa_backtrack.specs.Backtrack.{IsTooLong, refused_early}
+use Rattle.nfa_backtrack.specs.Backtrack.{HoldsNoMore, IsTooLong, refused_early}
 
 -- too long a span is refused, and for any other search there may be no memory
 abbrev pub IsRefusal : Backtracker → Search → SearchError → Type 0
@@ -48,7 +48,7 @@ abbrev pub DoesWork : {X : Type 0} → Backtracker → Search → Answer X → W
 DoesWork e x (Ok found) new = IsWork e.nfa LeftmostFirst false x new.scans new.turns
 DoesWork e x (Err error) new = IsWithinScans e.nfa LeftmostFirst false x new.scans
 
--- one search was made with the cache, within the bounds of its work
+-- one search was made with the cache, within the bounds of its work and of what the cache holds
 pub record SearchesOnce {X : Type 0} (e : Backtracker) (x : Search) (a : Answer X) (old new : Work) : Type 0 where
   pub total : AddsWork old new
   pub counts : Counts a old new
@@ -56,6 +56,7 @@ pub record SearchesOnce {X : Type 0} (e : Backtracker) (x : Search) (a : Answer 
   pub scans : new.scans ≤ scan_limit e.nfa x
   pub turns : new.turns ≤ new.scans * ((1 + turn_weight e.nfa) * (span_len x + 1))
   pub blocks : GrowsBlocks e.nfa x old.blocks new.blocks
+  pub holds : HoldsNoMore (2 * length e.nfa.groups) old new
   pub early : IsTooLong e x → new ≡ refused_early old
 
 -- an iteration over the matches of x led from the one cache to the other by its searches alone, as far as it went

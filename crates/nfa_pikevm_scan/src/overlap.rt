@@ -99,6 +99,7 @@ fn overlap_all(
 )
     requires valid { IsAutomaton nfa.now }
     requires ready { MayScan nfa.now (search_of input.now) starts.now 0 threads.old }
+    requires stop { starts.now.stop ≤ (search_of input.now).start }
     ensures sizes { SameSizes threads.old threads.new }
     ensures scans { threads.new.scans ≡ threads.old.scans }
     ensures turns { IsWithinTurns nfa.now (search_of input.now) threads.old threads.new }
@@ -128,6 +129,7 @@ fn overlap_earliest(
 )
     requires valid { IsAutomaton nfa.now }
     requires ready { MayScan nfa.now (search_of input.now) starts.now 0 threads.old }
+    requires stop { starts.now.stop ≤ (search_of input.now).start }
     requires empty { past_match ≡ false → size_of_set patterns.old ≡ 0 }
     requires not_full { size_of_set patterns.old < length patterns.old }
     ensures sizes { SameSizes threads.old threads.new }
@@ -168,6 +170,7 @@ fn overlap_first(
 )
     requires valid { IsAutomaton nfa.now }
     requires ready { MayScan nfa.now (search_of input.now) starts.now 0 threads.old }
+    requires stop { starts.now.stop ≤ (search_of input.now).start }
     requires empty { size_of_set patterns.old ≡ 0 }
     requires not_full { size_of_set patterns.old < length patterns.old }
     ensures sizes { SameSizes threads.old threads.new }
@@ -204,6 +207,7 @@ fn overlap_from(
 )
     requires valid { IsAutomaton nfa.now }
     requires ready { MayScan nfa.now (search_of input.now) starts.now 0 threads.old }
+    requires stop { starts.now.stop ≤ (search_of input.now).start }
     requires empty { kind ≡ LeftmostFirst → size_of_set patterns.old ≡ 0 }
     requires not_full { size_of_set patterns.old < length patterns.old }
     ensures sizes { SameSizes threads.old threads.new }

@@ -26,10 +26,11 @@ pub struct Starts {
     pub stop: usize,
 }
 
-/// Lets the start state join the states at the position, behind them.
+/// Lets the start state join the states at the position, behind them. The position may not be passed over.
 #[inline(always)]
 pub fn join(starts: &Starts, at: usize, threads: &mut Threads)
     requires room { length threads.old.curr.items < threads.old.curr.places }
+    requires due { starts.now.stop ≤ at }
     ensures curr { threads.new.curr.items ≡ with_start starts.now threads.old.curr.width at threads.old.curr.items }
     ensures next { threads.new.reached.next.items ≡ threads.old.reached.next.items }
     ensures width { threads.new.curr.width ≡ threads.old.curr.width }
@@ -151,6 +152,7 @@ fn scan_last(
     slots: &mut [Slot],
 ) -> Option<HalfMatch>
     requires ready { MayScan nfa.now (search_of input.now) starts.now (length slots.old) threads.old }
+    requires stop { starts.now.stop ≤ (search_of input.now).start }
     requires unset { slots.old ≡ blank (length slots.old) }
     ensures sizes { SameSizes threads.old threads.new }
     ensures scans { threads.new.scans ≡ threads.old.scans }
@@ -181,6 +183,7 @@ fn scan_earliest(
     slots: &mut [Slot],
 ) -> Option<HalfMatch>
     requires ready { MayScan nfa.now (search_of input.now) starts.now (length slots.old) threads.old }
+    requires stop { starts.now.stop ≤ (search_of input.now).start }
     requires unset { slots.old ≡ blank (length slots.old) }
     ensures sizes { SameSizes threads.old threads.new }
     ensures scans { threads.new.scans ≡ threads.old.scans }
@@ -230,7 +233,8 @@ pub fn scan(
     let starts = Starts {
         state,
         limit: start_limit(nfa, input),
-        stop: skip_limit(nfa, input),
+        // Only a scan for the first match passes over starts.
+        stop: input.start(),
     };
     set_up(threads, slots.len());
     let past_match = kind.continue_past_first_match();
@@ -239,6 +243,10 @@ pub fn scan(
     } else if past_match {
         scan_last(nfa, input, &starts, threads, slots)
     } else {
+        let starts = Starts {
+            stop: skip_limit(nfa, input),
+            ..starts
+        };
         scan_first(nfa, first, input, &starts, threads, slots)
     }
 }

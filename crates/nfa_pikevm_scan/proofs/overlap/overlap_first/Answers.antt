@@ -14,6 +14,7 @@ loop-at-init c = record {
   not_full = c.requires.not_full;
   low = omega (arith, c.start-at.ensures);
   state = c.requires.ready.starts.state;
+  stop = refl;
   limit = c.requires.ready.starts.high;
   last = λ past. c.requires.ready.curr;
   sizes = refl;
@@ -82,6 +83,10 @@ loop-at-preserved c =
       state = elim c.if-met.branch [
         | then-met w ↦ rw w.joining-is c.loop-at.invariant.state
         | else-met w ↦ rw w.joining-is c.loop-at.invariant.state
+      ];
+      stop = elim c.if-met.branch [
+        | then-met w ↦ rw w.joining-is c.loop-at.invariant.stop
+        | else-met w ↦ rw w.joining-is c.loop-at.invariant.stop
       ];
       limit = elim c.if-met.branch [
         | then-met w ↦ rw w.joining-is (omega arith)

@@ -10,6 +10,7 @@ abbrev pub invariant-loop-at : goal.invariant-loop-at
 invariant-loop-at l = record {
   low : (search_of l.input).start ≤ l.at;
   state : l.joining.state < length l.nfa.states;
+  stop : l.joining.stop ≡ l.starts.stop;
   limit : l.joining.limit ≤ (search_of l.input).end + 1;
   last : (search_of l.input).end < l.at → l.threads.curr.items ≡ [];
   sizes : SameSizes l.fn.threads l.threads;

@@ -1,5 +1,5 @@
 -- The search is made once, and answers what its captures hold.
-use Rattle.std.proofs.Common.{◌∙◌}
+use Rattle.std.proofs.Common.{◌∙◌, arith}
 use Rattle.regex_search_core.specs.Search.{search_of}
 use Rattle.nfa_backtrack.proofs.CaughtLemmas.{caught-answer, counts-caught, work-caught}
 use Rattle.nfa_backtrack.proofs.engine.BoundedBacktracker.catch_at.Goals as goal
@@ -21,5 +21,10 @@ returns-clause-once c =
       scans = e.scans;
       turns = e.turns;
       blocks = e.blocks;
+      holds = record {
+        frames = e.holds.frames;
+        slots_kept = e.holds.slots_kept;
+        slots = let kept = e.holds.slots in omega (arith, kept);
+      };
       early = e.early;
     }

@@ -14,5 +14,6 @@ returns-clause-once c =
       scans = e.scans;
       turns = e.turns;
       blocks = e.blocks;
+      holds = e.holds;
       early = e.early;
     }

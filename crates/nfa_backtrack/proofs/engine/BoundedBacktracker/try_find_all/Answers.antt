@@ -1,5 +1,5 @@
 -- The matches lie in the span; an item that is an error is the refusal of its length, or of memory.
-use Rattle.std.proofs.Common.{rules, false, map, None}
+use Rattle.std.proofs.Common.{rules, false, map, None, subst, sym}
 use Rattle.regex_search_core.specs.Found.{found_of}
 use Rattle.regex_search_core.specs.Search.{search_of}
 use Rattle.regex_search_core.specs.declared.search.MatchKind.TheVariants.{LeftmostFirst}
@@ -7,6 +7,7 @@ use Rattle.nfa_search_base.specs.Lists.{AreFirstMatches}
 use Rattle.nfa_search_base.proofs.ListLemmas.{matches-apart}
 use Rattle.nfa_search_base.proofs.MatchRunLemmas.{all-inside}
 use Rattle.nfa_backtrack.specs.Finding.{AnswersByLength}
+use Rattle.nfa_backtrack.specs.Runs.{GivesByLength}
 use Rattle.nfa_backtrack.proofs.engine.BoundedBacktracker.try_find_all.Goals as goal
 
 pub returns-clause-inside : goal.returns-clause-inside
@@ -25,6 +26,10 @@ returns-in_err-item-clause-by_length c =
 
 pub returns-in_err-push-clause-by_length : goal.returns-in_err-push-clause-by_length
 returns-in_err-push-clause-by_length c =
-    let told : AnswersByLength c.args.self.now (search_of c.args.input) c.in-Some.item = search rules in
+    let by_length : GivesByLength c.args.self.now (search_of c.args.input) c.into_iter-item-iterator.result =
+    subst (λ s. GivesByLength c.args.self.now (search_of c.args.input) s)
+    (sym c.into_iter-item-iterator.ensures.into_iter_gives) c.try_find_iter-item-items.ensures.by_length in
+    let told : AnswersByLength c.args.self.now (search_of c.args.input) c.in-Some.item =
+    by_length c.loop-item.yielded _ _ _ c.loop-item.yielded_by c.in-Some.ensures.steps in
     let fits = rw c.in_ok-item.was at told in
     search rules

@@ -1,5 +1,5 @@
 -- The match that is known is the answer; else the search's is, and tells what is known then.
-use Rattle.std.proofs.Common.{rules, ◌≡◌, ◌∙◌, refl, ap, subst, Option, Result}
+use Rattle.std.proofs.Common.{rules, ◌∙◌, refl, ap, subst, Option, Result}
 use Rattle.regex_search_core.specs.Found.{found_of}
 use Rattle.regex_search_core.specs.Search.{search_of}
 use Rattle.regex_search_core.specs.declared.search.Match.{Match}
