@@ -4,7 +4,6 @@ ghost use Rattle.regex_search_core.specs.Found.{found_of};
 ghost use Rattle.regex_search_core.specs.Search.{search_of};
 ghost use Rattle.regex_search_core.specs.declared.search.MatchKind.TheVariants.{LeftmostFirst};
 ghost use Rattle.nfa_engines.specs.Accepting.{MatchesNothing};
-ghost use Rattle.nfa_engines.specs.Automaton.{IsAutomaton};
 ghost use Rattle.nfa_engines.specs.Engines.{Fits, kind_of};
 ghost use Rattle.nfa_engines.specs.GapLaws.{PathsWriteTheirEnds, StartsBeforePaths};
 ghost use Rattle.nfa_engines.specs.Graphs.{ComesBefore, Pair, PathTo};
@@ -33,12 +32,12 @@ pub fn leftmost(vm: &PikeVM, cache: &mut Cache, input: Input<'_>) -> Option<Matc
     requires kind { kind_of vm.now ≡ LeftmostFirst }
     requires off { (search_of input).earliest ≡ false }
     requires anywhere { is_utf8_empty vm.now.nfa ≡ false }
-    requires valid { IsAutomaton vm.now.nfa }
     requires writes { PathsWriteTheirEnds vm.now.nfa (search_of input) }
     ensures none { result ≡ None → MatchesNothing vm.now.nfa (search_of input.entry) }
     ensures start { IfSome result (λ m. StartsBeforePaths vm.now.nfa (search_of input.entry) (found_of m)) }
 {
     laws::no_gap();
+    vm.get_nfa().pattern_len();
     match vm.find(cache, input) {
         Some(found) => Some(found),
         None => None,
