@@ -3,6 +3,7 @@
 #![tactic(auto)]
 
 pub mod compiled;
+pub mod hits;
 pub mod paths;
 pub mod patterns;
 pub mod sets;
