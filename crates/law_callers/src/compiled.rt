@@ -1,5 +1,8 @@
 //! Callers of the laws on compiled NFAs: what the answers of calls say of the patterns.
-ghost use Rattle.std.specs.Prelude.{◌≡◌, ◌==◌, ◌↔◌, ◌<◌, ◌⊎◌, ◌∷◌, [], IfOk, IfSome, List, Option, drop, false, length, map, option_map, true, ℕ};
+ghost use Rattle.std.specs.Prelude.{◌≡◌, ◌==◌, ◌↔◌, ◌<◌, ◌≤◌, ◌⊎◌, ◌∷◌, [], IfOk, IfSome, List, Option, drop, false};
+ghost use Rattle.std.specs.Prelude.{length, map, option_map, replicate, true, ℕ};
+ghost use Rattle.regex_hir.specs.Looks.{holds};
+ghost use Rattle.regex_hir.specs.declared.look.Look as theirs;
 ghost use Rattle.regex_search_core.specs.Found.{found_of};
 ghost use Rattle.regex_search_core.specs.Search.{is_anchored, search_of};
 ghost use Rattle.regex_search_core.specs.declared.search.MatchKind.TheVariants.{All};
@@ -10,6 +13,7 @@ ghost use Rattle.nfa_engines.specs.Graphs.{Pair};
 ghost use Rattle.nfa_engines.specs.Overlaps.{HoldsPattern};
 ghost use Rattle.nfa_engines.specs.Paths.{IsSearchAnswer, is_utf8_empty, raised};
 ghost use Rattle.nfa_bounds.specs.Matches.{AreOneMatch};
+ghost use Rattle.nfa_compiler.specs.Blocks.{look_of};
 ghost use Rattle.nfa_compiler.specs.Compiled.{IsCompiled, IsNfaOf, res_of};
 ghost use Rattle.nfa_compiler.specs.KindLaws.{MatchesSomewhere, PatternMatches};
 ghost use Rattle.nfa_compiler.specs.NameLaws.{AreNamed};
@@ -22,9 +26,9 @@ use nfa_bounds::laws::{
 };
 use nfa_compiler::{Compiler, Parsed, laws};
 use nfa_engines::pikevm::{Cache, PikeVM};
-use regex_search_core::{Input, Match, PatternSet};
+use regex_search_core::{Input, Match, MatchKind, PatternSet};
 use std::alloc::Global;
-use thompson_nfa::NFA;
+use thompson_nfa::{Look, NFA, look_matches};
 
 /// Puts into the set the patterns that match somewhere in the haystack: under `All` and not `earliest`, those for which
 /// it has room, and no other.
@@ -207,4 +211,40 @@ pub fn match_of_the_path(
     matches_are_of_paths();
     pikevm_nfa_is_valid(vm);
     vm.find(cache, input)
+}
+
+/// Returns whether the assertion of an NFA holds at the position: whether each assertion of a pattern holds that is
+/// compiled to it.
+pub fn assertion_holds(look: Look, haystack: &[u8], at: usize) -> bool
+    requires { at ≤ length haystack.now }
+    ensures { (l : theirs.Look) → look_of l ≡ look → result ≡ holds l haystack.now at }
+{
+    laws::assertions_agree();
+    look_matches(look, haystack, at)
+}
+
+/// Compiles the trees, and returns the set of those that match somewhere in the haystack, with the PikeVM that found
+/// them.
+///
+/// Requires a compiler that is not in UTF-8 mode.
+pub fn compile_and_collect(
+    alloc: Global,
+    compiler: &Compiler,
+    trees: &[Parsed],
+    input: &Input<'_>,
+) -> Result<(PikeVM, PatternSet)>
+    requires bytes { compiler.now.config.utf8 ≡ false }
+    requires off { (search_of input.now).earliest ≡ false }
+    requires whole { (search_of input.now).end ≡ length (search_of input.now).haystack }
+    ensures { IfOk result (λ p. (k : ℕ) → HoldsPattern p.1 k ↔ (HoldsPattern (replicate (length trees.now) false) k
+        ⊎ ((k < length (replicate (length trees.now) false)) × PatternMatches (res_of trees.now)
+        (p.0.nfa.anchored == p.0.nfa.unanchored) (search_of input.now) k))) }
+{
+    let config = PikeVM::config().match_kind(MatchKind::All);
+    let nfa = compiler.build_many_from_hir(alloc, trees)?;
+    let vm = PikeVM::builder().configure(config).build_from_nfa(nfa)?;
+    let mut cache = vm.create_cache(alloc)?;
+    let mut patterns = PatternSet::new(alloc, trees.len())?;
+    patterns_that_match(&vm, &mut cache, trees, input, &mut patterns);
+    Ok((vm, patterns))
 }
