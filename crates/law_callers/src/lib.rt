@@ -2,6 +2,8 @@
 //! and says what follows of calls. The premises of a law are built here from what calls promise.
 #![tactic(auto)]
 
+pub mod compiled;
+pub mod hits;
 pub mod paths;
 pub mod patterns;
 pub mod sets;
@@ -126,28 +128,57 @@ pub fn fewer_are_first(
     vm.search_slots(other, input, more);
 }
 
-/// Whether there is an accepting path.
+/// Returns whether there is an accepting path. If it is true, there is one.
 pub fn matches_something(vm: &PikeVM, cache: &mut Cache, input: Input<'_>) -> bool
     requires fits { Fits cache.old vm.now.nfa }
     requires anywhere { is_utf8_empty vm.now.nfa ≡ false }
-    ensures some { result ≡ true → MatchesSomething vm.now.nfa (search_of input.entry) }
-    ensures none { result ≡ false → MatchesNothing vm.now.nfa (search_of input.entry) }
+    ensures { result ≡ true → MatchesSomething vm.now.nfa (search_of input.entry) }
 {
     laws::found_is_an_accepting_path();
-    vm.is_match(cache, input)
+    if vm.is_match(cache, input) {
+        true
+    } else {
+        false
+    }
 }
 
-/// The pattern of an accepting path, or none where there is no such path.
+/// Returns whether there is no accepting path. If it is true, there is none.
+pub fn matches_nothing(vm: &PikeVM, cache: &mut Cache, input: Input<'_>) -> bool
+    requires fits { Fits cache.old vm.now.nfa }
+    requires anywhere { is_utf8_empty vm.now.nfa ≡ false }
+    ensures { result ≡ true → MatchesNothing vm.now.nfa (search_of input.entry) }
+{
+    laws::found_is_an_accepting_path();
+    if vm.is_match(cache, input) {
+        false
+    } else {
+        true
+    }
+}
+
+/// Returns the pattern of an accepting path.
 pub fn matched_pattern(vm: &PikeVM, cache: &mut Cache, input: &Input<'_>) -> Option<PatternID>
     requires fits { Fits cache.old vm.now.nfa }
     requires anywhere { is_utf8_empty vm.now.nfa ≡ false }
-    ensures some { IfSome result (λ p. MatchesPattern vm.now.nfa (search_of input.now) (number_of p)) }
-    ensures none { result ≡ None → MatchesNothing vm.now.nfa (search_of input.now) }
+    ensures { IfSome result (λ p. MatchesPattern vm.now.nfa (search_of input.now) (number_of p)) }
 {
     laws::found_is_an_accepting_path();
     match vm.search_slots(cache, input, &mut []) {
         Some(pattern) => Some(pattern),
         None => None,
+    }
+}
+
+/// Returns whether the search has no pattern. If it is true, there is no accepting path.
+pub fn has_no_pattern(vm: &PikeVM, cache: &mut Cache, input: &Input<'_>) -> bool
+    requires fits { Fits cache.old vm.now.nfa }
+    requires anywhere { is_utf8_empty vm.now.nfa ≡ false }
+    ensures { result ≡ true → MatchesNothing vm.now.nfa (search_of input.now) }
+{
+    laws::found_is_an_accepting_path();
+    match vm.search_slots(cache, input, &mut []) {
+        Some(_) => false,
+        None => true,
     }
 }
 

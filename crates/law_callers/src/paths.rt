@@ -1,18 +1,23 @@
 //! Callers of the laws on paths and on lists of matches.
 ghost use Rattle.std.specs.Prelude.{◌≡◌, ◌+◌, ◌≤◌, false, length, map, IfOk, IfSome, List, None};
-ghost use Rattle.regex_search_core.specs.Found.{found_of};
-ghost use Rattle.regex_search_core.specs.Search.{search_of};
+ghost use Rattle.regex_search_core.specs.Found.{Found, found_of};
+ghost use Rattle.regex_search_core.specs.Search.{Search, search_of};
 ghost use Rattle.regex_search_core.specs.declared.search.MatchKind.TheVariants.{LeftmostFirst};
 ghost use Rattle.nfa_engines.specs.Accepting.{MatchesNothing};
-ghost use Rattle.nfa_engines.specs.Automaton.{IsAutomaton};
 ghost use Rattle.nfa_engines.specs.Engines.{Fits, kind_of};
 ghost use Rattle.nfa_engines.specs.GapLaws.{PathsWriteTheirEnds, StartsBeforePaths};
 ghost use Rattle.nfa_engines.specs.Graphs.{ComesBefore, Pair, PathTo};
+ghost use Rattle.nfa_engines.specs.Items.{greedy};
 ghost use Rattle.nfa_engines.specs.Paths.{edges, is_utf8_empty, span_len, starts, IsMatch};
+ghost use Rattle.nfa_engines.specs.Walks.{Answer, half_span_of, span_of};
+ghost use Rattle.nfa_search_base.specs.Agreement.{IsFoundIn, end_answer, end_item};
 ghost use Rattle.nfa_search_base.specs.Lists.{AreApart, AreFirstMatches};
+ghost use Rattle.nfa_search_base.specs.Searchers.{walk_of};
 
+use nfa_engines::iter::Searcher;
 use nfa_engines::laws;
 use nfa_engines::pikevm::{Cache, PikeVM};
+use nfa_search_base::iter::laws::half_and_full_agree;
 use regex_search_core::{Input, Match};
 use std::alloc::{AllocError, Global};
 
@@ -33,12 +38,12 @@ pub fn leftmost(vm: &PikeVM, cache: &mut Cache, input: Input<'_>) -> Option<Matc
     requires kind { kind_of vm.now ≡ LeftmostFirst }
     requires off { (search_of input).earliest ≡ false }
     requires anywhere { is_utf8_empty vm.now.nfa ≡ false }
-    requires valid { IsAutomaton vm.now.nfa }
     requires writes { PathsWriteTheirEnds vm.now.nfa (search_of input) }
     ensures none { result ≡ None → MatchesNothing vm.now.nfa (search_of input.entry) }
     ensures start { IfSome result (λ m. StartsBeforePaths vm.now.nfa (search_of input.entry) (found_of m)) }
 {
     laws::no_gap();
+    vm.get_nfa().pattern_len();
     match vm.find(cache, input) {
         Some(found) => Some(found),
         None => None,
@@ -81,4 +86,14 @@ pub fn first_two(
     laws::matches_are_apart();
     let found = found_first(alloc, vm, cache, input)?;
     Ok(found)
+}
+
+/// From any searcher on, an iteration over the ends of matches gives the ends of the iteration over the matches, if each
+/// match is in the span of its search.
+pub fn ends_are_those_of_matches(searcher: &Searcher<'_>)
+    ensures { (h : Search → Answer Found) → ((t : Search) → IsFoundIn t (h t))
+        → greedy half_span_of (λ t. end_answer (h t)) (walk_of searcher.now)
+        ≡ map end_item (greedy span_of h (walk_of searcher.now)) }
+{
+    half_and_full_agree();
 }

@@ -1,6 +1,6 @@
 //! Calls that are given the text of a pattern: their contracts say what the text means.
-ghost use Rattle.std.specs.Prelude.{◌≡◌, IfOk, false, map, option_map};
-ghost use Rattle.regex_hir.specs.Find.{find, find_all};
+ghost use Rattle.std.specs.Prelude.{◌≡◌, IfOk, false, true, map, option_map};
+ghost use Rattle.regex_hir.specs.Find.{find, find_all, find_all_str, find_str};
 ghost use Rattle.regex_hir.specs.Re.{Re};
 ghost use Rattle.regex_search_core.specs.Found.{found_of};
 ghost use Rattle.nfa_compiler.specs.Compiled.{IsMeant};
@@ -9,7 +9,7 @@ ghost use Rattle.nfa_compiler.specs.Settings.{syntax_of};
 
 use anyhow::Result;
 use nfa_compiler::Compiler;
-use nfa_compiler::calls::{match_of_text, matches_of_text};
+use nfa_compiler::calls::{match_in_str, match_of_text, matches_in_str, matches_of_text};
 use nfa_engines::backtrack::BoundedBacktracker;
 use nfa_engines::pikevm::PikeVM;
 use regex_search_core::{Input, Match};
@@ -72,5 +72,48 @@ pub fn find_all_text(
     let mut cache = vm.create_cache(alloc)?;
     let found = vm.find_all(alloc, &mut cache, Input::new(line))?;
     matches_of_text(compiler, pattern, vm.get_nfa(), line, &found);
+    Ok(found)
+}
+
+/// Returns the first match of the pattern in the line, which is a `str`: the match that the reference matcher finds in
+/// a `str` for the pattern that the grammar reads in the text.
+///
+/// Requires a compiler in UTF-8 mode, as [`Compiler::new`] makes it, and not anchored.
+pub fn find_text_in_str(
+    alloc: Global,
+    compiler: &Compiler,
+    pattern: &str,
+    line: &str,
+) -> Result<Option<Match>>
+    requires text { compiler.now.config.utf8 ≡ true }
+    requires free { compiler.now.config.anchored ≡ false }
+    ensures { IfOk result (λ found. (re : Re) → IsMeant (syntax_of compiler.now) pattern.now re
+        → option_map found_of found ≡ option_map found_by (find_str re line.now 0)) }
+{
+    let vm = PikeVM::new_from_nfa(compiler.build(alloc, pattern)?)?;
+    let mut cache = vm.create_cache(alloc)?;
+    let bytes = line.as_bytes();
+    let found = vm.find(&mut cache, Input::new(bytes));
+    match_in_str(compiler, pattern, vm.get_nfa(), bytes, found);
+    Ok(found)
+}
+
+/// Returns all matches of the pattern in the line, which is a `str`, from left to right.
+pub fn find_all_text_in_str(
+    alloc: Global,
+    compiler: &Compiler,
+    pattern: &str,
+    line: &str,
+) -> Result<Vec<Match>>
+    requires text { compiler.now.config.utf8 ≡ true }
+    requires free { compiler.now.config.anchored ≡ false }
+    ensures { IfOk result (λ found. (re : Re) → IsMeant (syntax_of compiler.now) pattern.now re
+        → map found_of found.items ≡ map found_by (find_all_str re line.now)) }
+{
+    let vm = PikeVM::new_from_nfa(compiler.build(alloc, pattern)?)?;
+    let mut cache = vm.create_cache(alloc)?;
+    let bytes = line.as_bytes();
+    let found = vm.find_all(alloc, &mut cache, Input::new(bytes))?;
+    matches_in_str(compiler, pattern, vm.get_nfa(), bytes, &found);
     Ok(found)
 }

@@ -4,7 +4,6 @@ ghost use Rattle.regex_search_core.specs.PatternSets.{size_of_set};
 ghost use Rattle.regex_search_core.specs.Search.{search_of};
 ghost use Rattle.regex_search_core.specs.declared.search.MatchKind.TheVariants.{All, LeftmostFirst};
 ghost use Rattle.nfa_engines.specs.Engines.{Fits, kind_of};
-ghost use Rattle.nfa_engines.specs.Automaton.{IsAutomaton};
 ghost use Rattle.nfa_engines.specs.Graphs.{IsFirstPath, Pair};
 ghost use Rattle.nfa_engines.specs.Overlaps.{HoldsPattern, IsFirstBefore, IsFirstHeld, IsPatternOf, IsPermitted};
 ghost use Rattle.nfa_engines.specs.Paths.{edges, starts};
@@ -93,10 +92,10 @@ pub fn sets_of_all_are_one(
 /// With room for each pattern the first path that counts is the first of all that may end where they do.
 pub fn all_paths_count(vm: &PikeVM, input: &Input<'_>, capacity: usize)
     requires room { length vm.now.nfa.patterns ≤ capacity }
-    requires valid { IsAutomaton vm.now.nfa }
     ensures { (path : Option (List Pair)) → IsFirstHeld vm.now.nfa (search_of input.now) capacity path
         → IsFirstPath (edges vm.now.nfa (search_of input.now)) (starts vm.now.nfa (search_of input.now))
         (IsPermitted vm.now.nfa (search_of input.now)) path }
 {
     laws::room_leaves_no_path_out();
+    vm.get_nfa().pattern_len();
 }
