@@ -1,14 +1,14 @@
 //! Examples of the documentation of the crate regex, and of what each part of the syntax means.
 
 use anyhow::Result;
-use nfa_compiler::Compiler;
+use nfa_compiler::{Compiler, Config};
 use nfa_engines::pikevm::PikeVM;
 use regex_search_core::{Input, NonMaxUsize};
 use std::alloc::Global;
 use std::fmt::Write;
 
 /// A pattern, a haystack, and the spans of the groups of the first match; nothing if there is no match.
-const ROWS: [(&str, &str, &str); 44] = [
+const ROWS: [(&str, &str, &str); 48] = [
     (
         "(?<y>[0-9]{4})-(?<m>[0-9]{2})-(?<d>[0-9]{2})",
         "on 1865-04-14",
@@ -61,35 +61,57 @@ const ROWS: [(&str, &str, &str); 44] = [
     (r"\B", "ab", "1..1 "),
     (r"[\]\-^]+", "a]-^b", "1..4 "),
     (r"\.\*\(", "a.*(", "1..4 "),
+    (r"(?-u:\b{start})", "éa", "2..2 "),
+    (r"(?-u:\b{end})", "aé", "1..1 "),
+    (r"(?-u:\b{start-half})a", "ba éa", "5..6 "),
+    (r"a(?-u:\b{end-half})", "ab aé", "3..4 "),
+];
+
+/// The same, if patterns may match bytes that are not UTF-8.
+const BYTE_ROWS: [(&str, &[u8], &str); 4] = [
+    (r"(?-u:\xFF)", b"a\xFF", "1..2 "),
+    (r"(?-u:.)", b"\x80", "0..1 "),
+    (".", b"\x80", ""),
+    (r"\xFF", b"\xFF\xC3\xBF", "1..3 "),
 ];
 
 /// The spans of the groups of the first match.
-fn spans(alloc: Global, pattern: &str, haystack: &str) -> Result<String> {
-    let nfa = Compiler::new().build(alloc, pattern)?;
+fn spans(alloc: Global, compiler: &Compiler, pattern: &str, haystack: &[u8]) -> Result<String> {
+    let nfa = compiler.build(alloc, pattern)?;
     let slot_len = nfa.group_info().slot_len();
     let vm = PikeVM::new_from_nfa(nfa)?;
     let mut cache = vm.create_cache(alloc)?;
     let mut slots: Vec<Option<NonMaxUsize>> = vec![in alloc; None; slot_len]?;
+    let found = vm.search_slots(&mut cache, &Input::new(haystack), &mut slots);
     let mut text = String::new(alloc);
-    if vm
-        .search_slots(&mut cache, &Input::new(haystack.as_bytes()), &mut slots)
-        .is_some()
-    {
-        for pair in slots.chunks(2) {
-            match pair {
-                [Some(start), Some(end)] => write!(text, "{}..{} ", start.get(), end.get())?,
-                _ => write!(text, "- ")?,
-            }
-        }
+    if found.is_some() {
+        write_spans(&slots, &mut text)?;
     }
     Ok(text)
+}
+
+/// Writes the span of each group, or `-` for a group that is not set.
+fn write_spans(slots: &[Option<NonMaxUsize>], text: &mut String) -> Result<()> {
+    for pair in slots.chunks(2) {
+        write_span(pair, text)?;
+    }
+    Ok(())
+}
+
+fn write_span(pair: &[Option<NonMaxUsize>], text: &mut String) -> Result<()> {
+    match pair {
+        [Some(start), Some(end)] => write!(text, "{}..{} ", start.get(), end.get())?,
+        _ => write!(text, "- ")?,
+    }
+    Ok(())
 }
 
 /// Returns a line for each row that finds something else, and the number of rows.
 pub fn differences(alloc: Global) -> Result<(Vec<String>, usize)> {
     let mut wrong = Vec::new(alloc);
+    let compiler = Compiler::new();
     for (pattern, haystack, wanted) in ROWS.iter() {
-        let found = spans(alloc, pattern, haystack)?;
+        let found = spans(alloc, &compiler, pattern, haystack.as_bytes())?;
         if found.as_str() != *wanted {
             let mut text = String::new(alloc);
             write!(text, "{pattern} in {haystack:?}: {found}, not {wanted}")?;
@@ -97,4 +119,19 @@ pub fn differences(alloc: Global) -> Result<(Vec<String>, usize)> {
         }
     }
     Ok((wrong, ROWS.len()))
+}
+
+/// The same of the rows whose patterns may match bytes that are not UTF-8.
+pub fn byte_differences(alloc: Global) -> Result<(Vec<String>, usize)> {
+    let mut wrong = Vec::new(alloc);
+    let compiler = Compiler::new().configure(Config::new().utf8(false));
+    for (pattern, haystack, wanted) in BYTE_ROWS.iter() {
+        let found = spans(alloc, &compiler, pattern, haystack)?;
+        if found.as_str() != *wanted {
+            let mut text = String::new(alloc);
+            write!(text, "{pattern} in {haystack:?}: {found}, not {wanted}")?;
+            wrong.push(text)?;
+        }
+    }
+    Ok((wrong, BYTE_ROWS.len()))
 }

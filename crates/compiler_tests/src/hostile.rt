@@ -1,6 +1,6 @@
 //! Patterns that are large, deep or many, and each way to compile.
 
-use crate::refused::{nests_too_deep, too_big};
+use crate::refused::{nests_too_deep, out_of_memory, too_big, too_deep};
 use anyhow::{Result, bail};
 use nfa_compiler::{Compiler, Config};
 use regex_syntax::parse;
@@ -68,6 +68,16 @@ pub fn expect_refused(alloc: Global) -> Result<()> {
     expect(nests_too_deep(alloc, deep.as_str()), "ten thousand groups")
 }
 
+/// The texts of errors of depth and of memory.
+pub fn expect_texts(alloc: Global) -> Result<()> {
+    let text = too_deep(alloc, "a((b))", 1)?;
+    let wanted =
+        "pattern 0, at 2..3: groups, classes or repetitions nest deeper than the nesting limit allows\n    a((b))\n      ^";
+    expect(text.as_str() == wanted, "a small depth")?;
+    let text = out_of_memory(alloc)?;
+    expect(text.as_str() == "out of memory", "no memory")
+}
+
 /// A hundred patterns in one NFA.
 pub fn expect_many(alloc: Global) -> Result<()> {
     let mut texts = Vec::new(alloc);
@@ -94,7 +104,9 @@ pub fn expect_trees(alloc: Global) -> Result<()> {
         nfa.start_anchored() == nfa.start_unanchored(),
         "an anchored NFA",
     )?;
-    let trees = vec![in alloc; tree, parse(alloc, "c", &syntax)?]?;
+    let mut trees = Vec::new(alloc);
+    trees.push(tree)?;
+    trees.push(parse(alloc, "c", &syntax)?)?;
     let nfa = compiler.build_many_from_hir(alloc, &trees)?;
     expect(nfa.group_info().slot_len() == 6, "the slots of trees")?;
     expect(

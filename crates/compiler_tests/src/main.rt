@@ -1,18 +1,24 @@
 //! Compares what a PikeVM finds by a compiled NFA with what the crate regex finds; and rows of errors, of documented
-//! examples, and of large patterns.
+//! examples, and of large patterns. With arguments, searches standard input over and over, to be timed.
 #![tactic(auto)]
+
+ghost use Rattle.nfa_pikevm.specs.Engines.{Fits};
 
 mod examples;
 mod hostile;
 mod refused;
+mod speed;
 
 use anyhow::{Result, bail};
 use nfa_compiler::{Compiler, Config};
-use nfa_engines::pikevm::PikeVM;
+use nfa_engines::pikevm::{Cache, PikeVM};
 use regex::Regex;
 use regex_search_core::{Input, NonMaxUsize};
 use std::alloc::Global;
 use std::fmt::Write;
+use std::io::BufWriter;
+use std::process::ExitCode;
+use std::{env, io};
 
 /// Patterns, which are searched for in each of the haystacks.
 const PATTERNS: [&str; 40] = [
@@ -75,27 +81,40 @@ const HAYSTACKS: [&str; 14] = [
     "xyz\na\nb",
 ];
 
-/// What our search gives for the first match, and how many matches there are.
+/// What our search gives for the first match, and the spans of all matches.
 fn ours(alloc: Global, pattern: &str, haystack: &str) -> Result<String> {
     let nfa = Compiler::new().build(alloc, pattern)?;
     let slot_len = nfa.group_info().slot_len();
     let vm = PikeVM::new_from_nfa(nfa)?;
     let mut cache = vm.create_cache(alloc)?;
-    let mut text = String::new(alloc);
     let mut slots: Vec<Option<NonMaxUsize>> = vec![in alloc; None; slot_len]?;
     let input = Input::new(haystack.as_bytes());
-    if vm.search_slots(&mut cache, &input, &mut slots).is_some() {
-        for slot in &slots {
-            match slot {
-                Some(at) => write!(text, "{} ", at.get())?,
-                None => write!(text, "- ")?,
-            }
+    let found = vm.search_slots(&mut cache, &input, &mut slots);
+    let mut text = String::new(alloc);
+    if found.is_some() {
+        write_slots(&slots, &mut text)?;
+    }
+    write_matches(&vm, &mut cache, input, &mut text)?;
+    Ok(text)
+}
+
+fn write_slots(slots: &[Option<NonMaxUsize>], text: &mut String) -> Result<()> {
+    for slot in slots {
+        match slot {
+            Some(at) => write!(text, "{} ", at.get())?,
+            None => write!(text, "- ")?,
         }
     }
-    for found in vm.find_iter(&mut cache, input) {
+    Ok(())
+}
+
+fn write_matches(vm: &PikeVM, cache: &mut Cache, input: Input<'_>, text: &mut String) -> Result<()>
+    requires { Fits cache.old vm.now.nfa }
+{
+    for found in vm.find_iter(cache, input) {
         write!(text, "{}..{} ", found.start(), found.end())?;
     }
-    Ok(text)
+    Ok(())
 }
 
 /// What the crate regex gives.
@@ -117,14 +136,44 @@ fn theirs(alloc: Global, pattern: &str, haystack: &str) -> Result<String> {
     Ok(text)
 }
 
-fn main(rt: HostRuntime) -> Result<()> {
-    compare(&rt)?;
+// Memory that is refused for the arguments or for the buffer is reported as that of a search.
+fn main(rt: HostRuntime) -> Result<ExitCode> {
+    match answer(&rt) {
+        Ok(Some(status)) => Ok(ExitCode::from(status)),
+        Ok(None) => {
+            test(&rt)?;
+            Ok(ExitCode::SUCCESS)
+        }
+        Err(error) if error.kind() == io::ErrorKind::OutOfMemory => {
+            Ok(ExitCode::from(speed::refuse(&mut io::writer(&rt))))
+        }
+        Err(error) => Err(error.into()),
+    }
+}
+
+/// Does what the arguments say, and returns the status to end with. Returns `None` if there are no arguments.
+fn answer(rt: &HostRuntime) -> io::Result<Option<u8>> {
+    let alloc = rt.alloc();
+    let arguments: Vec<String> = env::args(rt)?.skip(1).collect(alloc)?;
+    if arguments.is_empty() {
+        return Ok(None);
+    }
+    let words: Vec<&str> = arguments.iter().map(|word| word.as_str()).collect(alloc)?;
+    let mut out = BufWriter::new(alloc, io::writer(rt))?;
+    Ok(Some(speed::run(alloc, &words, &mut rt.reader(), &mut out)))
+}
+
+fn test(rt: &HostRuntime) -> Result<()> {
+    compare(rt)?;
     let (wrong, rows) = refused::differences(rt.alloc())?;
-    report(&rt, &wrong, rows, "errors")?;
+    report(rt, &wrong, rows, "errors")?;
     let (wrong, rows) = examples::differences(rt.alloc())?;
-    report(&rt, &wrong, rows, "examples")?;
+    report(rt, &wrong, rows, "examples")?;
+    let (wrong, rows) = examples::byte_differences(rt.alloc())?;
+    report(rt, &wrong, rows, "examples of bytes")?;
     hostile::expect_large(rt.alloc())?;
     hostile::expect_refused(rt.alloc())?;
+    hostile::expect_texts(rt.alloc())?;
     hostile::expect_many(rt.alloc())?;
     hostile::expect_trees(rt.alloc())
 }

@@ -1,7 +1,7 @@
 //! The texts of errors: what is wrong, and where in the text.
 
 use anyhow::Result;
-use nfa_compiler::{CompileError, Compiler, Config};
+use nfa_compiler::{CompileError, Compiler, Config, Syntax};
 use std::alloc::Global;
 use std::fmt::Write;
 
@@ -237,6 +237,27 @@ pub fn too_big(alloc: Global, pattern: &str, limit: usize) -> Result<String> {
         Ok(_) => write!(text, "no error")?,
         Err(error) => write!(text, "{error}")?,
     }
+    Ok(text)
+}
+
+/// Returns the text of the error of a pattern that nests deeper than this.
+pub fn too_deep(alloc: Global, pattern: &str, limit: u32) -> Result<String> {
+    let syntax = Syntax {
+        nest_limit: limit,
+        ..Syntax::default()
+    };
+    let mut text = String::new(alloc);
+    match Compiler::new().syntax(syntax).build(alloc, pattern) {
+        Ok(_) => write!(text, "no error")?,
+        Err(error) => write!(text, "{error}")?,
+    }
+    Ok(text)
+}
+
+/// Returns the text of the error that allocation failed.
+pub fn out_of_memory(alloc: Global) -> Result<String> {
+    let mut text = String::new(alloc);
+    write!(text, "{}", CompileError::Memory)?;
     Ok(text)
 }
 

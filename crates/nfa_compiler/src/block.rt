@@ -1,9 +1,10 @@
 //! The states of one pattern, moved to their place among the states of all patterns.
-ghost use Rattle.std.specs.Prelude.{◌≡◌, ◌+◌, ◌<◌, ◌≤◌, IfOk, OnOk, All, Some, map, vec_len};
+ghost use Rattle.std.specs.Prelude.{◌≡◌, ◌+◌, ◌<◌, ◌≤◌, IfErr, IfOk, OnOk, All, Some, map, vec_len};
 ghost use Rattle.regex_nfa.specs.Run.{state_of};
 ghost use Rattle.thompson_nfa.specs.Automaton.{node_of};
 ghost use Rattle.nfa_compiler.specs.Blocks.{IsBlock, Stands, look_of, match_at, moved, slot_in};
 ghost use Rattle.nfa_compiler.specs.Added.{Adds, HoldsStates};
+ghost use Rattle.nfa_compiler.specs.Rejected.{IsOfNoText};
 
 use crate::error::CompileError;
 use crate::states::push;
@@ -27,7 +28,8 @@ pub(crate) struct Site {
 impl Site {
     /// The new number of a state.
     fn target(self, id: u32) -> Result<StateID, CompileError>
-        ensures { IfOk result (λ target. (id < self.size) × (target ≡ self.base + id)) }
+        ensures target { IfOk result (λ target. (id < self.size) × (target ≡ self.base + id)) }
+        ensures fails { IfErr result IsOfNoText }
     {
         if id as usize >= self.size {
             return Err(self.bad_tree());
@@ -36,7 +38,9 @@ impl Site {
     }
 
     /// The error of a pattern whose tree is not well formed.
-    fn bad_tree(self) -> CompileError {
+    fn bad_tree(self) -> CompileError
+        ensures { IsOfNoText result }
+    {
         CompileError::Tree {
             pattern: self.pattern.as_usize(),
         }
@@ -44,7 +48,8 @@ impl Site {
 
     /// The new number of a slot of an explicit group.
     fn slot(self, slot: u32) -> Result<usize, CompileError>
-        ensures { IfOk result (λ place. (2 ≤ slot) × (place ≡ slot_in self slot)) }
+        ensures slot { IfOk result (λ place. (2 ≤ slot) × (place ≡ slot_in self slot)) }
+        ensures fails { IfErr result IsOfNoText }
     {
         if slot < 2 {
             return Err(self.bad_tree());
@@ -56,7 +61,8 @@ impl Site {
 
     /// Moves a transition.
     fn transition(self, transition: regex_nfa::Transition) -> Result<Transition, CompileError>
-        ensures { IfOk result (λ made. (transition.next < self.size) × (made ≡ moved self transition)) }
+        ensures moved { IfOk result (λ made. (transition.next < self.size) × (made ≡ moved self transition)) }
+        ensures fails { IfErr result IsOfNoText }
     {
         Ok(Transition {
             start: transition.start,
@@ -73,6 +79,7 @@ impl Site {
     ) -> Result<Vec<Transition>, CompileError>
         ensures inside { IfOk result (λ made. All (λ t. t.next < self.size) transitions.now) }
         ensures moved { IfOk result (λ made. made.items ≡ map (moved self) transitions.now) }
+        ensures fails { IfErr result IsOfNoText }
     {
         let mut made = Vec::with_capacity(alloc, transitions.len())?;
         for transition in transitions {
@@ -84,7 +91,8 @@ impl Site {
     /// Moves a state. A Match becomes a Capture of the end, which leads to the one Match of the pattern.
     fn state(self, alloc: Global, nfa: &Nfa, id: u32) -> Result<State, CompileError>
         requires { id < vec_len nfa.now.states }
-        ensures { IfOk result (λ made. Stands nfa.now.transitions.items self (state_of nfa.now id) (node_of made)) }
+        ensures stands { IfOk result (λ made. Stands nfa.now.transitions.items self (state_of nfa.now id) (node_of made)) }
+        ensures fails { IfErr result IsOfNoText }
     {
         match nfa.state(id) {
             regex_nfa::State::ByteRange(transition) => Ok(State::ByteRange {
@@ -116,7 +124,8 @@ impl Site {
 
     /// The number of the pattern's Match.
     fn end(self) -> Result<StateID, CompileError>
-        ensures { IfOk result (λ end. end ≡ match_at self) }
+        ensures end { IfOk result (λ end. end ≡ match_at self) }
+        ensures fails { IfErr result IsOfNoText }
     {
         StateID::new(self.base.saturating_add(self.size)).ok_or(CompileError::TooManyStates)
     }
@@ -130,8 +139,9 @@ impl Site {
     ) -> Result<(), CompileError>
         requires base { self.base ≡ vec_len states.old }
         requires size { self.size ≤ vec_len nfa.now.states }
-        ensures { OnOk result (HoldsStates (map node_of states.old.items) (map node_of states.new.items)
+        ensures holds { OnOk result (HoldsStates (map node_of states.old.items) (map node_of states.new.items)
             nfa.now self self.size) }
+        ensures fails { IfErr result IsOfNoText }
     {
         for id in 0..self.size {
             states.push(self.state(alloc, nfa, id as u32)?)?;
@@ -153,6 +163,7 @@ impl Site {
         ensures added { OnOk result (Adds (map node_of states.old.items) (map node_of states.new.items)) }
         ensures count { OnOk result (vec_len states.new ≡ match_at self + 2) }
         ensures block { OnOk result (IsBlock (map node_of states.new.items) nfa.now self) }
+        ensures fails { IfErr result IsOfNoText }
     {
         self.add_states(alloc, nfa, states)?;
         push(

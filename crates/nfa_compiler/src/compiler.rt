@@ -1,5 +1,5 @@
 //! The compiler: trees of patterns to one NFA.
-ghost use Rattle.std.specs.Prelude.{◌≡◌, ◌==◌, ◌+◌, ◌*◌, ◌<◌, ◌∷◌, [], All, true, false, IfOk, OnOk};
+ghost use Rattle.std.specs.Prelude.{◌≡◌, ◌==◌, ◌+◌, ◌*◌, ◌<◌, ◌∷◌, [], All, true, false, IfErr, IfOk, OnOk};
 ghost use Rattle.std.specs.Prelude.{length, map, vec_len};
 ghost use Rattle.regex_hir.specs.Meaning.{meaning};
 ghost use Rattle.regex_compile.specs.Implements.{Implements};
@@ -9,6 +9,7 @@ ghost use Rattle.nfa_paths.specs.Paths.{is_utf8_empty};
 ghost use Rattle.nfa_compiler.specs.Compiled.{AlwaysReads, ArePatterns, IsCompiled, IsNfaOf, IsPatternAt};
 ghost use Rattle.nfa_compiler.specs.Compiled.{explicit_names, groups_of, res_of};
 ghost use Rattle.nfa_compiler.specs.Added.{Adds, AreInRange, KeepsInRange};
+ghost use Rattle.nfa_compiler.specs.Rejected.{IsOfNoText, IsOfOneText};
 
 use crate::block::Site;
 use crate::config::Config;
@@ -80,13 +81,14 @@ impl Compiler {
         ensures free { self.now.config.anchored ≡ false
             → IfOk result (λ nfa. (nfa.anchored == nfa.unanchored) ≡ false) }
         ensures anywhere { self.now.config.utf8 ≡ false → IfOk result (λ nfa. is_utf8_empty nfa ≡ false) }
+        ensures rejected { IfErr result (IsOfOneText (syntax_of self.now) (pattern.now ∷ [])) }
     {
         self.build_many(alloc, &[pattern])
     }
 
     /// Makes the NFA of these patterns, numbered from 0 on. If two match from one start, the earlier one is preferred.
     ///
-    /// Fails as [`Compiler::build`] does. The error has the number of the pattern at fault.
+    /// Fails as [`Compiler::build`] does. The error has the number of the pattern at fault; a syntax error has its text.
     pub fn build_many(&self, alloc: Global, patterns: &[&str]) -> Result<NFA, CompileError>
         ensures compiled { IfOk result (IsCompiled (syntax_of self.now) (map (λ text. text.now) patterns.now)) }
         ensures valid { IfOk result IsAutomaton }
@@ -95,6 +97,7 @@ impl Compiler {
         ensures free { self.now.config.anchored ≡ false
             → IfOk result (λ nfa. (nfa.anchored == nfa.unanchored) ≡ false) }
         ensures anywhere { self.now.config.utf8 ≡ false → IfOk result (λ nfa. is_utf8_empty nfa ≡ false) }
+        ensures rejected { IfErr result (IsOfOneText (syntax_of self.now) (map (λ text. text.now) patterns.now)) }
     {
         let syntax = regex_syntax::Config {
             utf8: self.config.utf8,
@@ -107,7 +110,8 @@ impl Compiler {
 
     /// Makes the NFA of one pattern, passed as a tree with the names of its groups, from group 0 on.
     ///
-    /// Fails with [`CompileError::Tree`] if a parser could not have returned the tree.
+    /// Fails with [`CompileError::Tree`] if a parser could not have returned the tree, and never with
+    /// [`CompileError::Syntax`].
     pub fn build_from_hir(&self, alloc: Global, pattern: &Parsed) -> Result<NFA, CompileError>
         ensures valid { IfOk result IsAutomaton }
         ensures made { IfOk result (IsNfaOf (meaning pattern.now.hir ∷ [])) }
@@ -118,6 +122,7 @@ impl Compiler {
             → IfOk result (λ nfa. (nfa.anchored == nfa.unanchored) ≡ false) }
         ensures anywhere { self.now.config.utf8 ≡ false → IfOk result (λ nfa. is_utf8_empty nfa ≡ false) }
         ensures reads { IfOk result (λ nfa. nfa.has_empty ≡ false → AlwaysReads pattern.now) }
+        ensures fails { IfErr result IsOfNoText }
     {
         self.build_many_from_hir(alloc, slice::from_ref(pattern))
     }
@@ -139,6 +144,7 @@ impl Compiler {
             → IfOk result (λ nfa. (nfa.anchored == nfa.unanchored) ≡ false) }
         ensures anywhere { self.now.config.utf8 ≡ false → IfOk result (λ nfa. is_utf8_empty nfa ≡ false) }
         ensures reads { IfOk result (λ nfa. nfa.has_empty ≡ false → All AlwaysReads patterns.now) }
+        ensures fails { IfErr result IsOfNoText }
     {
         let groups = groups_of(alloc, patterns)?;
         let mut states = Vec::new(alloc);
@@ -167,6 +173,7 @@ impl Compiler {
         ensures within { IfOk result (λ start. start < vec_len states.new) }
         ensures bound { IfOk result (λ start. self.now.config.anchored ≡ true → start ≡ anchored) }
         ensures free { IfOk result (λ start. self.now.config.anchored ≡ false → start ≡ vec_len states.old) }
+        ensures fails { IfErr result IsOfNoText }
     {
         if self.config.anchored {
             return Ok(anchored);
@@ -188,6 +195,7 @@ impl Compiler {
         ensures inside { IfOk result (λ starts. All (λ s. s < vec_len states.new) starts.items) }
         ensures range { OnOk result (AreInRange (slot_count (groups_of patterns.now)) (length patterns.now)
             (map node_of states.new.items)) }
+        ensures fails { IfErr result IsOfNoText }
     {
         let mut starts = Vec::with_capacity(alloc, patterns.len())?;
         let mut slots = slots_for(patterns.len())?;
@@ -216,6 +224,7 @@ impl Compiler {
             (map node_of states.new.items)) }
         ensures inside { IfOk result (λ start. start < vec_len states.new) }
         ensures added { OnOk result (Adds (map node_of states.old.items) (map node_of states.new.items)) }
+        ensures fails { IfErr result IsOfNoText }
     {
         let nfa = self.compile(alloc, index, pattern)?;
         let site = Site {
@@ -232,6 +241,7 @@ impl Compiler {
     fn compile(&self, alloc: Global, index: usize, pattern: &Parsed) -> Result<Nfa, CompileError>
         ensures implements { IfOk result (λ nfa. Implements nfa (meaning pattern.now.hir)) }
         ensures slots { IfOk result (λ nfa. nfa.slot_count ≡ 2 * length pattern.now.names.items) }
+        ensures fails { IfErr result IsOfNoText }
     {
         let Ok(groups) = u32::try_from(pattern.names.len()) else {
             return Err(CompileError::TooManyGroups);

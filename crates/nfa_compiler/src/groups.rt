@@ -1,7 +1,8 @@
 //! The groups of patterns, and the numbers of patterns and slots.
-ghost use Rattle.std.specs.Prelude.{◌≡◌, ◌+◌, ◌*◌, IfOk, drop, length, map, option_map, string_bytes};
+ghost use Rattle.std.specs.Prelude.{◌≡◌, ◌+◌, ◌*◌, IfErr, IfOk, drop, length, map, option_map, string_bytes};
 ghost use Rattle.regex_search_core.specs.Patterns.{number_of};
 ghost use Rattle.nfa_compiler.specs.Compiled.{explicit_names, groups_of};
+ghost use Rattle.nfa_compiler.specs.Rejected.{IsOfNoText};
 
 use crate::error::CompileError;
 use regex_search_core::{GroupInfo, PatternID};
@@ -20,7 +21,8 @@ fn explicit(pattern: &Parsed) -> &[Option<String>]
 
 /// Makes the group info of these patterns.
 pub(crate) fn groups_of(alloc: Global, patterns: &[Parsed]) -> Result<GroupInfo, CompileError>
-    ensures { IfOk result (λ groups. groups ≡ groups_of patterns.now) }
+    ensures groups { IfOk result (λ groups. groups ≡ groups_of patterns.now) }
+    ensures fails { IfErr result IsOfNoText }
 {
     let mut names = Vec::with_capacity(alloc, patterns.len())?;
     for pattern in patterns {
@@ -42,14 +44,16 @@ fn names_of(alloc: Global, names: &[Option<String>]) -> Result<Vec<Option<String
 
 /// The number of the pattern at this index.
 pub(crate) fn pattern_number(index: usize) -> Result<PatternID, CompileError>
-    ensures { IfOk result (λ pattern. number_of pattern ≡ index) }
+    ensures number { IfOk result (λ pattern. number_of pattern ≡ index) }
+    ensures fails { IfErr result IsOfNoText }
 {
     PatternID::new(index).ok_or(CompileError::TooManyPatterns)
 }
 
 /// The first slot after those of the pattern's explicit groups, which begin at `slots`.
 pub(crate) fn slots_after(slots: usize, pattern: &Parsed) -> Result<usize, CompileError>
-    ensures { IfOk result (λ after. after ≡ slots + 2 * length (explicit_names pattern.now)) }
+    ensures after { IfOk result (λ after. after ≡ slots + 2 * length (explicit_names pattern.now)) }
+    ensures fails { IfErr result IsOfNoText }
 {
     let own = slots_for(explicit(pattern).len())?;
     slots.checked_add(own).ok_or(CompileError::TooManyGroups)
@@ -57,7 +61,8 @@ pub(crate) fn slots_after(slots: usize, pattern: &Parsed) -> Result<usize, Compi
 
 /// The number of slots of so many groups: two for each.
 pub(crate) fn slots_for(groups: usize) -> Result<usize, CompileError>
-    ensures { IfOk result (λ slots. slots ≡ 2 * groups) }
+    ensures slots { IfOk result (λ slots. slots ≡ 2 * groups) }
+    ensures fails { IfErr result IsOfNoText }
 {
     groups.checked_mul(2).ok_or(CompileError::TooManyGroups)
 }

@@ -3,7 +3,7 @@ ghost use Rattle.std.specs.Prelude.{◌≡◌, ◌≤◌, IfErr, IfOk, IsCharBou
 ghost use Rattle.std.specs.List.{AllZip};
 ghost use Rattle.regex_syntax.specs.Verdict.{Refuses};
 ghost use Rattle.nfa_compiler.specs.Compiled.{IsRead};
-ghost use Rattle.nfa_compiler.specs.Rejected.{IsMemoryOr, IsRejection};
+ghost use Rattle.nfa_compiler.specs.Rejected.{IsMemoryOr, IsOfOneText, IsRejection};
 
 use crate::error::CompileError;
 use crate::syntax_error::SyntaxError;
@@ -16,7 +16,8 @@ pub(crate) fn read_all(
     patterns: &[&str],
     syntax: &Config,
 ) -> Result<Vec<Parsed>, CompileError>
-    ensures { IfOk result (λ trees. AllZip (IsRead syntax.now) (map (λ text. text.now) patterns.now) trees.items) }
+    ensures read { IfOk result (λ trees. AllZip (IsRead syntax.now) (map (λ text. text.now) patterns.now) trees.items) }
+    ensures rejected { IfErr result (IsOfOneText syntax.now (map (λ text. text.now) patterns.now)) }
 {
     let mut trees = Vec::with_capacity(alloc, patterns.len())?;
     for (index, pattern) in patterns.iter().enumerate() {

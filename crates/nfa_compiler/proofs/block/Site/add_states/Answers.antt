@@ -9,5 +9,5 @@ loop-id-init c = holds-none _ _ _
 pub loop-id-preserved : goal.loop-id-preserved
 loop-id-preserved c =
     holds-more _ _ _ _ _ _ _ (c.requires.base ∙ nodes-length c.args.states.now)
-    c.loop-id.invariant c.in_ok-state.ensures
+    c.loop-id.invariant c.in_ok-state.ensures.stands
     (nodes-push _ _ _ c.in_ok-push.ensures.items)

@@ -10,7 +10,7 @@ returns-clause-made c = record {
   site = _;
   implements = c.in_ok-nfa.ensures.implements;
   block = c.in_ok-start.ensures.block;
-  pattern_is = c.in_ok-pattern_number.ensures;
+  pattern_is = c.in_ok-pattern_number.ensures.number;
   slots_are = refl;
   start_is = c.in_ok-start.ensures.start;
 }
@@ -21,4 +21,4 @@ returns-clause-range c =
     c.in_ok-start.ensures.added
     (omega (arith, nodes-length c.args.states.now))
     (omega (arith, nodes-length c.add.new.states, c.in_ok-start.ensures.count))
-    c.in_ok-pattern_number.ensures refl c.in_ok-nfa.ensures.slots c.requires.slots c.requires.range
+    c.in_ok-pattern_number.ensures.number refl c.in_ok-nfa.ensures.slots c.requires.slots c.requires.range

@@ -13,7 +13,7 @@ loop-index-preserved c = record {
   slots_are =
       omega (
         arith,
-        c.in_ok-slots-2.ensures,
+        c.in_ok-slots-2.ensures.after,
         c.loop-index.invariant.slots_are,
         slots-more c.args.patterns.now c.loop-index.index c.index-patterns-index.result c.loop-index-test.true
             c.index-patterns-index.is,
@@ -25,7 +25,7 @@ loop-index-preserved c = record {
       c.in_ok-push.ensures.items c.loop-index.invariant.slots_are c.in_ok-add_pattern.ensures.made;
   range =
       subst (λ n. AreInRange n (c.loop-index.index + 1) (map node_of c.add_pattern.new.states.items))
-      (sym c.in_ok-slots-2.ensures) c.in_ok-add_pattern.ensures.range;
+      (sym c.in_ok-slots-2.ensures.after) c.in_ok-add_pattern.ensures.range;
   inside =
       inside-more (vec_len c.loop-index.states) (vec_len c.add_pattern.new.states) c.loop-index.starts.items _
       c.in_ok-add_pattern.field-0
