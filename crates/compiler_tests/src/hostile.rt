@@ -71,8 +71,10 @@ pub fn expect_refused(alloc: Global) -> Result<()> {
 /// The texts of errors of depth and of memory.
 pub fn expect_texts(alloc: Global) -> Result<()> {
     let text = too_deep(alloc, "a((b))", 1)?;
-    let wanted =
-        "pattern 0, at 2..3: groups, classes or repetitions nest deeper than the nesting limit allows\n    a((b))\n      ^";
+    let wanted = concat!(
+        "pattern 0, at 2..3: groups, classes or repetitions nest deeper than the nesting limit allows\n",
+        "    a((b))\n      ^",
+    );
     expect(text.as_str() == wanted, "a small depth")?;
     let text = out_of_memory(alloc)?;
     expect(text.as_str() == "out of memory", "no memory")

@@ -7,8 +7,7 @@ use nfa_compiler::{CompileError, Compiler, Config};
 use std::alloc::Global;
 use thompson_nfa::NFA;
 
-/// The pattern of a whole line, with its four fields as groups. A message is of any bytes, also of none, and of bytes that
-/// are not text.
+/// The pattern of a whole line, with its four fields as groups. A message may be empty, and of bytes that are not text.
 pub const LINE: &str = concat!(
     "(?<date>[0-9]{4}-[0-9]{2}-[0-9]{2}) (?<time>[0-9]{2}:[0-9]{2}:[0-9]{2}) ",
     r"(?<level>[A-Z]+) (?<message>(?s-u:.)*)\z",

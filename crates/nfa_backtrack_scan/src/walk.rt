@@ -359,8 +359,8 @@ fn put_back(slot: Option<usize>, slots: &mut [Option<NonMaxUsize>])
     }
 }
 
-/// Searches from a place to the first match, past what is marked, and leaves the stack empty. A slot that its first turn
-/// writes needs no place on the stack.
+/// Searches from a place to the first match, past what is marked, and leaves the stack empty. A slot that its first
+/// turn writes needs no place on the stack.
 pub fn walk(
     nfa: &NFA,
     input: &Input<'_>,

@@ -44,7 +44,7 @@ module _ (hay : List ℕ) (text : IsUtf8 hay) where
   unfolding is_boundary
   beyond i past = rw (slice_get_past hay i past) refl
 
-  -- A step between two positions: a step from a boundary ends on one, and a step that starts inside a codepoint is empty.
+  -- A step between two positions: one from a boundary ends on a boundary, and one from inside a codepoint is empty.
   pub record Keeps (i j : ℕ) : Type 0 where
     pub whole : is_boundary hay i ≡ true → is_boundary hay j ≡ true
     pub split : is_boundary hay i ≡ false → j ≡ i

@@ -18,8 +18,8 @@ ends_on_boundary haystack h = is_boundary haystack h.trace.end
 abbrev pub on_boundary : List ℕ → Option Hit → Option Hit
 on_boundary haystack h = if is_some_and h (ends_on_boundary haystack) then h else None
 
--- The hit at the first of the n positions from i on that has none, or one that ends on a boundary: after a hit that splits
--- a codepoint the search starts again, one byte further on.
+-- The hit at the first of the n positions from i on that has none, or one that ends on a boundary: after a hit that
+-- splits a codepoint the search starts again, one byte further on.
 abbrev pub restarted_hit : List ℕ → (ℕ → Option Hit) → ℕ → ℕ → Option Hit
 restarted_hit haystack at zero i = None
 restarted_hit haystack at (suc n) i =

@@ -17,8 +17,8 @@ IsTried No k = ⊤
 IsTried Yes k = ⊤
 IsTried (Pattern pattern) k = number_of pattern ≡ k
 
--- The search tries pattern k, and the pattern matches from a position where the search may start. `bound` says that each
--- search is bound to its start.
+-- The search tries pattern k, and the pattern matches from a position where the search may start. `bound` says that
+-- each search is bound to its start.
 pub record PatternMatches (res : List Re) (bound : Bool) (x : Search) (k : ℕ) : Type 0 where
   pub start : ℕ
   pub end : ℕ

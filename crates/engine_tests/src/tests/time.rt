@@ -23,8 +23,8 @@ fn bytes(rt: &impl Abort, alloc: Global, byte: u8, len: usize) -> Vec<u8> {
     vec![in alloc; byte; len].expect(rt, "memory")
 }
 
-// Runs a search of four million bytes, and then a hundred thousand that find one byte each. If a search cleared all rows,
-// or a position all marks, this would take minutes.
+// Runs a search of four million bytes, and then a hundred thousand that find one byte each. If a search cleared all
+// rows, or a position all marks, this would take minutes.
 fn expect_ones(rt: &impl Abort, alloc: Global, vm: &PikeVM, cache: &mut Cache)
     requires { Fits cache.old vm.now.nfa }
 {
