@@ -88,8 +88,8 @@ pub fn first_two(
     Ok(found)
 }
 
-/// From any searcher on, an iteration over the ends of matches gives the ends of the iteration over the matches, if each
-/// match is in the span of its search.
+/// From any searcher on, an iteration over the ends of matches gives the ends of the iteration over the matches, if
+/// each match is in the span of its search.
 pub fn ends_are_those_of_matches(searcher: &Searcher<'_>)
     ensures { (h : Search → Answer Found) → ((t : Search) → IsFoundIn t (h t))
         → greedy half_span_of (λ t. end_answer (h t)) (walk_of searcher.now)
