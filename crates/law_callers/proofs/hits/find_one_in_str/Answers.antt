@@ -9,8 +9,8 @@ returns c = λ re meant.
     let x = search_of c.args.input in
     c.searches_of_strs_find_texts.ensures.matches _ _ (re ∷ []) c.args.engine.now.nfa _ _ x _
     c.requires.compiled (meant, tt) c.requires.utf8
-    (record { leftmost = refl; latest = refl; whole = c.requires.whole })
-    c.requires.text c.requires.start c.in_ok-found.ensures.answer
+    (record { leftmost = refl; latest = refl; whole = c.requires.whole }) c.requires.text c.requires.start
+    c.in_ok-found.ensures.answer
     ∙ ap (λ (h : Option Hit). found_in h)
     (c.str_hits_are_find_str.ensures.first re c.args.engine.now.nfa x c.requires.free c.requires.unanchored
     c.requires.whole)

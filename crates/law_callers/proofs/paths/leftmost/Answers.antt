@@ -11,8 +11,8 @@ pub returns-in-Some-clause-start : goal.returns-in-Some-clause-start
 returns-in-Some-clause-start c =
     let x = search_of c.args.input in
     let found = Some (found_of c.in-Some.found) in
-    c.no_gap.ensures.start c.args.vm.now.nfa x found (rw (← c.get_nfa.ensures) c.pattern_len.ensures.valid)
-    c.requires.anywhere c.requires.writes
+    c.no_gap.ensures.start c.args.vm.now.nfa x found
+    (rw (← c.get_nfa.ensures) c.pattern_len.ensures.valid) c.requires.anywhere c.requires.writes
     (as_leftmost (λ (kind : MatchKind) (earliest : Bool). IsMatchAnswer c.args.vm.now.nfa kind earliest x found)
     _ x.earliest c.requires.kind c.requires.off c.in-Some.ensures.answer)
 
