@@ -230,23 +230,23 @@ pub fn scan(
         return None;
     }
     let state = start_state(nfa, input)?;
+    let past_match = kind.continue_past_first_match();
     let starts = Starts {
         state,
         limit: start_limit(nfa, input),
         // Only a scan for the first match passes over starts.
-        stop: input.start(),
+        stop: if past_match || input.get_earliest() {
+            input.start()
+        } else {
+            skip_limit(nfa, input)
+        },
     };
     set_up(threads, slots.len());
-    let past_match = kind.continue_past_first_match();
     if input.get_earliest() {
         scan_earliest(nfa, input, &starts, past_match, threads, slots)
     } else if past_match {
         scan_last(nfa, input, &starts, threads, slots)
     } else {
-        let starts = Starts {
-            stop: skip_limit(nfa, input),
-            ..starts
-        };
         scan_first(nfa, first, input, &starts, threads, slots)
     }
 }
