@@ -172,8 +172,8 @@ fn stored_of(alloc: Global, seen: &mut Seen, vm: &PikeVM) -> Result<(), Wrong> {
     expect_stored(seen, captures)
 }
 
-// Captures of the first byte of the span, where it has one.
-fn first_byte(input: &Input<'_>, captures: &mut Captures) -> Result<(), SearchError>
+/// Captures of the first byte of the span, if it has one.
+pub fn first_byte(input: &Input<'_>, captures: &mut Captures) -> Result<(), SearchError>
     ensures { AnswerIsInside row_span (search_of input.now) (caught_by captures.new result) }
 {
     let start = input.start();

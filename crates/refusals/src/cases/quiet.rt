@@ -1,11 +1,13 @@
 //! Calls that make no request for memory, or a number of them that is known. Each stretch of such calls stands between
 //! two requests of its own; `.ci/refusals` has the numbers of those that lie between them.
 
+use super::captures::first_byte;
 use super::searches::{are_groups, found};
 use super::{Seen, Wrong, engines, expect};
 use nfa_choice::choose::Choice;
-use nfa_engines::backtrack::{self, BoundedBacktracker};
+use nfa_engines::backtrack::{self, BoundedBacktracker, TryCapturesMatches};
 use nfa_engines::error::SearchError;
+use nfa_engines::iter::Searcher;
 use nfa_engines::pikevm::{self, CapturesMatches, PikeVM};
 use regex_search_core::MatchKind::All;
 use regex_search_core::{Captures, Input, NonMaxUsize, PatternSet};
@@ -20,6 +22,7 @@ pub fn stretches(alloc: Global, seen: &mut Seen) -> Result<(), Wrong> {
     piked_in_all(alloc, seen)?;
     new_caches(alloc, seen)?;
     iterators(alloc, seen)?;
+    finders_item(alloc, seen)?;
     replacement(alloc, seen)
 }
 
@@ -276,7 +279,26 @@ fn make_piked_with(
     seen.opens(alloc, "iterators of a PikeVM");
     let _matches = vm.find_iter(cache, Input::new(TWICE));
     seen.closes(alloc, "iterators of a PikeVM");
+    make_captures(alloc, seen, vm, cache)?;
     make_piked_captures(alloc, seen, vm, cache)
+}
+
+fn make_captures(
+    alloc: Global,
+    seen: &mut Seen,
+    vm: &PikeVM,
+    cache: &mut pikevm::Cache,
+) -> Result<(), Wrong> {
+    if !cache.fits(vm) {
+        return Err(Wrong("a cache that fits no more"));
+    }
+    seen.opens(alloc, "an iterator of a PikeVM that makes captures");
+    let made = vm.captures_iter(alloc, cache, Input::new(TWICE));
+    seen.closes(alloc, "an iterator of a PikeVM that makes captures");
+    match made {
+        Ok(_items) => Ok(()),
+        Err(error) => seen.note(error == SearchError::Memory),
+    }
 }
 
 // Captures have names, those of one pattern, and slots. An iterator makes as much where it makes them.
@@ -353,8 +375,63 @@ fn make_backtracked_captures(
     let made = engine.try_captures_iter(alloc, cache, Input::new(TWICE));
     seen.closes(alloc, "an iterator that makes captures");
     match made {
-        Ok(_items) => Ok(()),
+        Ok(mut items) => expect_caught(alloc, seen, &mut items),
         Err(error) => seen.note(error == SearchError::Memory),
+    }
+}
+
+// The first search makes room. The second item is one copy of the captures.
+fn expect_caught(
+    alloc: Global,
+    seen: &mut Seen,
+    items: &mut TryCapturesMatches<'_, '_, '_>,
+) -> Result<(), Wrong> {
+    match items.next() {
+        Some(Ok(caught)) => {
+            let caught = are_groups(caught.pattern(), caught.slots());
+            expect(caught, "the captures of a first item")?;
+            expect_second(alloc, seen, items)
+        }
+        Some(Err(error)) => seen.note(error == SearchError::Memory),
+        None => Err(Wrong("no first item")),
+    }
+}
+
+fn expect_second(
+    alloc: Global,
+    seen: &mut Seen,
+    items: &mut TryCapturesMatches<'_, '_, '_>,
+) -> Result<(), Wrong> {
+    seen.opens(alloc, "an item of captures of a backtracker");
+    let item = items.next();
+    seen.closes(alloc, "an item of captures of a backtracker");
+    match item {
+        Some(Ok(caught)) => expect(caught.is_match(), "the captures of a second item"),
+        Some(Err(error)) => seen.note(error == SearchError::Memory),
+        None => Err(Wrong("no second item")),
+    }
+}
+
+// An item of a finder is one copy too.
+fn finders_item(alloc: Global, seen: &mut Seen) -> Result<(), Wrong> {
+    let vm = engines::pikevm(alloc, seen, "groups")?;
+    expect_finder(alloc, seen, &vm)
+}
+
+fn expect_finder(alloc: Global, seen: &mut Seen, vm: &PikeVM) -> Result<(), Wrong> {
+    let captures = engines::captures(alloc, seen, vm.get_nfa().group_info())?;
+    expect_found(alloc, seen, captures)
+}
+
+fn expect_found(alloc: Global, seen: &mut Seen, captures: Captures) -> Result<(), Wrong> {
+    let mut items = Searcher::new(Input::new(TWICE)).into_captures_iter(captures, first_byte);
+    seen.opens(alloc, "an item of captures of a finder");
+    let item = items.next();
+    seen.closes(alloc, "an item of captures of a finder");
+    match item {
+        Some(Ok(caught)) => expect(caught.is_match(), "the captures of a finder's item"),
+        Some(Err(error)) => seen.note(error == SearchError::Memory),
+        None => Err(Wrong("no item of a finder")),
     }
 }
 
@@ -364,10 +441,24 @@ fn make_chosen(alloc: Global, seen: &mut Seen, choice: &mut Choice) {
     seen.closes(alloc, "iterators of a choice");
 }
 
-// If the cache of the PikeVM fits, a replacement only copies the NFA.
+// If the cache of the PikeVM fits, a replacement only copies the NFA, also after a search.
 fn replacement(alloc: Global, seen: &mut Seen) -> Result<(), Wrong> {
     let mut choice = engines::choice(alloc, seen, "groups")?;
-    expect_replaced(alloc, seen, &mut choice)
+    expect_replaced(alloc, seen, &mut choice)?;
+    expect_replaced_again(alloc, seen, &mut choice)
+}
+
+fn expect_replaced_again(alloc: Global, seen: &mut Seen, choice: &mut Choice) -> Result<(), Wrong> {
+    let nfa = engines::nfa(alloc, seen, "groups")?;
+    let first = choice.find(Input::new(TWICE)).map(parts);
+    expect(first == Some((0, 0, 2)), "the match before a replacement")?;
+    seen.opens(alloc, "a replacement after a search");
+    let replaced = choice.replace(nfa);
+    seen.closes(alloc, "a replacement after a search");
+    match replaced {
+        Ok(()) => Ok(()),
+        Err(error) => seen.note(error == SearchError::Memory),
+    }
 }
 
 fn expect_replaced(alloc: Global, seen: &mut Seen, choice: &mut Choice) -> Result<(), Wrong> {
