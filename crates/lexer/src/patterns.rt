@@ -29,5 +29,7 @@ pub fn language(alloc: Global, patterns: &[&str]) -> Result<NFA, CompileError>
     ensures anchored { IfOk result (λ nfa. nfa.anchored ≡ nfa.unanchored) }
 {
     let config = Config::new().utf8(false).anchored(true);
-    Compiler::new().configure(config).build_many(alloc, patterns)
+    Compiler::new()
+        .configure(config)
+        .build_many(alloc, patterns)
 }

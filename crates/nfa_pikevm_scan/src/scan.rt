@@ -26,6 +26,19 @@ pub struct Starts {
     pub stop: usize,
 }
 
+impl Starts {
+    /// The same starts for a scan that passes over none.
+    #[inline(always)]
+    fn passing_over_none(&self, input: &Input<'_>) -> Starts
+        ensures { result ≡ record self.now { stop = (search_of input.now).start } }
+    {
+        Starts {
+            stop: input.start(),
+            ..*self
+        }
+    }
+}
+
 /// Lets the start state join the states at the position, behind them. The position may not be passed over.
 #[inline(always)]
 pub fn join(starts: &Starts, at: usize, threads: &mut Threads)
@@ -230,22 +243,24 @@ pub fn scan(
         return None;
     }
     let state = start_state(nfa, input)?;
-    let past_match = kind.continue_past_first_match();
     let starts = Starts {
         state,
         limit: start_limit(nfa, input),
-        // Only a scan for the first match passes over starts.
-        stop: if past_match || input.get_earliest() {
-            input.start()
-        } else {
-            skip_limit(nfa, input)
-        },
+        stop: skip_limit(nfa, input),
     };
     set_up(threads, slots.len());
+    let past_match = kind.continue_past_first_match();
     if input.get_earliest() {
-        scan_earliest(nfa, input, &starts, past_match, threads, slots)
+        scan_earliest(
+            nfa,
+            input,
+            &starts.passing_over_none(input),
+            past_match,
+            threads,
+            slots,
+        )
     } else if past_match {
-        scan_last(nfa, input, &starts, threads, slots)
+        scan_last(nfa, input, &starts.passing_over_none(input), threads, slots)
     } else {
         scan_first(nfa, first, input, &starts, threads, slots)
     }
