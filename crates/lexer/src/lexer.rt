@@ -38,7 +38,7 @@ pub struct Lexed {
 
 /// The token that starts at this place of the text, by the search that is bound to start there.
 ///
-/// The caller owes a cache that fits. A search leaves its numbers as they are.
+/// Requires a cache that fits. A search leaves its numbers as they are.
 pub fn token_at(vm: &PikeVM, cache: &mut Cache, text: &[u8], at: usize) -> Result<Token, Stuck>
     requires fits { Fits cache.old vm.now.nfa }
     requires within { at < length text.now }
@@ -96,7 +96,7 @@ impl<'r, 'c, 't> Lexer<'r, 'c, 't> {
     ghost use Rattle.std.specs.Prelude.{false};
     ghost use Rattle.lexer.specs.Lexers.{lexer_at, lexer_cache, lexer_is_stuck, lexer_text, lexer_vm};
 
-    /// A lexer of the text. The caller owes a cache that fits. Its numbers stay as they are.
+    /// A lexer of the text. Requires a cache that fits. Its numbers stay as they are.
     pub fn new(vm: &'r PikeVM, cache: &'c mut Cache, text: &'t [u8]) -> Lexer<'r, 'c, 't>
         requires { Fits cache.old vm.now.nfa }
         ensures same_reference { (lexer_cache result).ghost_name ≡ cache.entry.ghost_name }
@@ -140,7 +140,7 @@ impl<'r, 'c, 't> Iterator for Lexer<'r, 'c, 't> {
 
 /// The tokens of the text, from its start on. The error is that a growth was refused.
 ///
-/// The caller owes a cache that fits. Its numbers stay as they are.
+/// Requires a cache that fits. Its numbers stay as they are.
 #[tactic(auto, using(std::proofs::lemmas::Grind::common_steps, std::proofs::lemmas::List::Folds::drop_split))]
 pub fn tokens(
     alloc: Global,

@@ -13,8 +13,8 @@ pub const NAMES: [&str; 5] = ["identifier", "number", "string", "space", "operat
 /// The number of the pattern `space`.
 pub const SPACE: usize = 3;
 
-/// The patterns. A string is of any bytes without a line feed, and a backslash keeps the byte after it. The operators of
-/// two bytes come before those of one, so they are preferred.
+/// The patterns. A string is of any bytes without a line feed, and a backslash keeps the byte after it. The operators
+/// of two bytes come before those of one, so they are preferred.
 pub const PATTERNS: [&str; 5] = [
     "[A-Za-z_][0-9A-Za-z_]*",
     r"[0-9]+(?:\.[0-9]+)?",

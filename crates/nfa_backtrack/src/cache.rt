@@ -50,7 +50,7 @@ impl Model for Cache {
 }
 
 impl Cache {
-    /// A cache that holds no memory yet.
+    /// Makes a cache that holds no memory yet.
     pub fn new(alloc: Global, _: &BoundedBacktracker) -> Cache
         ensures { result ≡ unused }
     {
@@ -68,7 +68,7 @@ impl Cache {
         }
     }
 
-    /// Drops all marks and the blocks that held them; their memory stays for the next search. A search needs no reset
+    /// Drops all marks and the blocks that held them. Their memory stays for the next search. A search needs no reset
     /// before it.
     pub fn reset(&mut self, _: &BoundedBacktracker)
         ensures { self.new ≡ record self.old { blocks = 0 } }
@@ -76,7 +76,7 @@ impl Cache {
         self.scratch.visited.reset();
     }
 
-    /// A cache with the same marks and counts. The error is `Memory` alone.
+    /// Returns a cache with the same marks and counts. The only error is `Memory`.
     pub fn clone(&self) -> Result<Cache, SearchError>
         ensures copy { IfOk result (λ copy. copy ≡ self.now) }
         ensures memory { IsOkUnless result SearchError.Memory }

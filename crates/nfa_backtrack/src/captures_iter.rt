@@ -60,9 +60,9 @@ impl BoundedBacktracker {
     ghost use Rattle.nfa_backtrack.specs.Finding.{AnswersByLength, BacktrackerCatchesOn, BacktrackerCatchesToEnd};
     ghost use Rattle.nfa_backtrack.specs.Finding.{IsCatchOf, SearchesOnce};
 
-    /// The captures of the matches of the input that do not overlap, from left to right, each with all groups of the
-    /// NFA. To make this changes no cache. The error is that there is no memory for the captures that are searched
-    /// with: [`SearchError::Memory`] alone.
+    /// Returns the captures of all matches that do not overlap, from left to right, each with all groups of the NFA. To
+    /// make this changes no cache. The error is that there is no memory for the captures that are searched with:
+    /// [`SearchError::Memory`] alone.
     ///
     /// The next match is searched for from the end of the last one. In place of an empty match where the last one ended
     /// comes what a search from one byte further on finds. An answer without a match, as bare patterns give it, ends

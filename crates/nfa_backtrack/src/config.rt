@@ -27,7 +27,7 @@ impl Model for Config {
 }
 
 impl Config {
-    /// A configuration with nothing set.
+    /// Returns a configuration with nothing set.
     pub fn new() -> Config
         ensures { result ≡ None }
     {
@@ -36,7 +36,8 @@ impl Config {
         }
     }
 
-    /// Sets how many bytes the marks of a search may take. They are rounded up to whole blocks of eight bytes.
+    /// Sets the number of bytes that the marks of a search may take. They are rounded up to whole blocks of eight
+    /// bytes.
     pub fn visited_capacity(mut self, capacity: usize) -> Config
         ensures { result ≡ Some capacity }
     {
@@ -44,7 +45,7 @@ impl Config {
         self
     }
 
-    /// How many bytes the marks of a search may take: what was set, or 262144.
+    /// Returns the number of bytes that the marks of a search may take: what was set, or 262144.
     pub fn get_visited_capacity(&self) -> usize
         ensures { result ≡ unwrap_or self.now default_capacity }
     {
@@ -87,7 +88,7 @@ impl Model for Builder {
 }
 
 impl Builder {
-    /// A builder with nothing set.
+    /// Returns a builder with nothing set.
     pub fn new() -> Builder
         ensures { result ≡ None }
     {
@@ -96,7 +97,7 @@ impl Builder {
         }
     }
 
-    /// Takes over what the configuration sets. An option that it leaves unset stays as it was.
+    /// Sets what the configuration sets. An option that it leaves unset stays as it was.
     pub fn configure(&mut self, config: Config) -> &mut Builder
         ensures value { result.now ≡ option_or config self.old }
         ensures same_reference { result.ghost_name ≡ self.entry.ghost_name }
@@ -105,7 +106,7 @@ impl Builder {
         self
     }
 
-    /// A backtracker of the NFA. This is always `Ok`: the data of Unicode word boundaries is always there.
+    /// Makes a backtracker of the NFA. This is always `Ok`: the data of Unicode word boundaries is always there.
     pub fn build_from_nfa(&self, nfa: NFA) -> Result<BoundedBacktracker, BuildError>
         ensures { result ≡ Ok (record { nfa = nfa; visited_capacity = self.now }) }
     {

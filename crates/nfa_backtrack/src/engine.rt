@@ -50,9 +50,9 @@ impl Model for BoundedBacktracker {
     ghost invariant = { λ e. IsFirstBytes e.nfa e.first.may_begin };
 }
 
-/// The least visited capacity, in bytes, that has a bit for each pair of the search. With it no search of the input is
-/// refused for its length. The caller owes that the states times the positions of the span, its bytes and one, fit a
-/// `usize`.
+/// Returns the least visited capacity, in bytes, that has a bit for each pair of the search. With it no search of the
+/// input is refused for its length. The caller owes that the states times the positions of the span, its bytes and one,
+/// fit a `usize`.
 pub fn min_visited_capacity(nfa: &NFA, input: &Input<'_>) -> usize
     requires { length nfa.now.states * (span_len (search_of input.now) + 1) < 2 ^ 64 }
     ensures { result ≡ min_capacity_of nfa.now (search_of input.now) }
@@ -94,15 +94,15 @@ impl BoundedBacktracker {
         BoundedBacktracker { config, first, nfa }
     }
 
-    /// A backtracker of the NFA with the default configuration. This is always `Ok`.
+    /// Makes a backtracker of the NFA with the default configuration. This is always `Ok`.
     pub fn new_from_nfa(nfa: NFA) -> Result<BoundedBacktracker, BuildError>
         ensures { result ≡ Ok (record { nfa = nfa; visited_capacity = None }) }
     {
         Builder::new().build_from_nfa(nfa)
     }
 
-    /// A backtracker of the NFA that matches the empty text at each position, with the default configuration. The error
-    /// is `Memory` alone.
+    /// Makes a backtracker that matches the empty string at each position, with the default configuration. The error is
+    /// `Memory` alone.
     pub fn always_match(alloc: Global) -> Result<BoundedBacktracker, BuildError>
         ensures made { IfOk result (λ made. made ≡ record { nfa = always; visited_capacity = None }) }
         ensures memory { IsOkUnless result BuildError.Memory }
@@ -110,7 +110,7 @@ impl BoundedBacktracker {
         BoundedBacktracker::new_from_nfa(NFA::always_match(alloc)?)
     }
 
-    /// A backtracker of the NFA that matches nothing, with the default configuration. The error is `Memory` alone.
+    /// Makes a backtracker that matches nothing, with the default configuration. The only error is `Memory`.
     pub fn never_match(alloc: Global) -> Result<BoundedBacktracker, BuildError>
         ensures made { IfOk result (λ made. made ≡ record { nfa = never; visited_capacity = None }) }
         ensures memory { IsOkUnless result BuildError.Memory }
@@ -118,28 +118,29 @@ impl BoundedBacktracker {
         BoundedBacktracker::new_from_nfa(NFA::never_match(alloc)?)
     }
 
-    /// A configuration with nothing set.
+    /// Returns a configuration with nothing set.
     pub fn config() -> Config
         ensures { result ≡ None }
     {
         Config::new()
     }
 
-    /// A builder with nothing set.
+    /// Returns a builder with nothing set.
     pub fn builder() -> Builder
         ensures { result ≡ None }
     {
         Builder::new()
     }
 
-    /// A cache for this backtracker, which holds no memory yet.
+    /// Makes a cache for this backtracker, which holds no memory yet.
     pub fn create_cache(&self, alloc: Global) -> Cache
         ensures { result ≡ unused }
     {
         Cache::new(alloc, self)
     }
 
-    /// Captures of all groups of the NFA, with no pattern and no slot set. The error is `Memory` alone.
+    /// Makes captures with a slot for each edge of each group of the NFA. No pattern and no slot is set. The error is
+    /// `Memory` alone.
     pub fn create_captures(&self, alloc: Global) -> Result<Captures, SearchError>
         ensures made { IfOk result (λ made. made ≡ record {
           groups = self.now.nfa.groups;
@@ -152,7 +153,7 @@ impl BoundedBacktracker {
         Ok(Captures::all(alloc, groups)?)
     }
 
-    /// Drops all marks of the cache and the blocks that held them; their memory stays for the next search. A search
+    /// Drops all marks of the cache and the blocks that held them. Their memory stays for the next search. A search
     /// needs no reset before it.
     pub fn reset_cache(&self, cache: &mut Cache)
         ensures { cache.new ≡ record cache.old { blocks = 0 } }
@@ -160,28 +161,28 @@ impl BoundedBacktracker {
         cache.reset(self);
     }
 
-    /// How many patterns the NFA has.
+    /// Returns the number of patterns of the NFA.
     pub fn pattern_len(&self) -> usize
         ensures { result ≡ length self.now.nfa.patterns }
     {
         self.nfa.pattern_len()
     }
 
-    /// The configuration that this was made with.
+    /// Returns the configuration.
     pub fn get_config(&self) -> &Config
         ensures { result.now ≡ self.now.visited_capacity }
     {
         &self.config
     }
 
-    /// The NFA that this searches for.
+    /// Returns the NFA.
     pub fn get_nfa(&self) -> &NFA
         ensures { result.now ≡ self.now.nfa }
     {
         &self.nfa
     }
 
-    /// An equal backtracker. The error is `Memory` alone.
+    /// Returns an equal backtracker. The only error is `Memory`.
     pub fn clone(&self) -> Result<BoundedBacktracker, SearchError>
         ensures copy { IfOk result (λ copy. copy ≡ self.now) }
         ensures memory { IsOkUnless result SearchError.Memory }
@@ -284,8 +285,9 @@ impl BoundedBacktracker {
         Ok(pattern_of(half))
     }
 
-    /// The match that a search answers: the span between the two slots of its pattern. It is none where there is no
-    /// match, where the NFA writes one of the two slots nowhere on the way, or where the start lies behind the end.
+    /// Returns the match that a search of the input finds: the span between the two slots of its pattern. It is none
+    /// where there is no match, where the NFA writes one of the two slots nowhere on the way, or where the start lies
+    /// behind the end.
     ///
     /// Errors are those of [`BoundedBacktracker::try_search_slots`].
     pub fn try_find<'h>(
@@ -379,7 +381,7 @@ impl BoundedBacktracker {
         Ok(Match::from_slots(half.pattern(), slots))
     }
 
-    /// Whether a search finds a match.
+    /// Returns whether a search of the input finds a match.
     ///
     /// Errors are those of [`BoundedBacktracker::try_search_slots`].
     pub fn try_is_match<'h>(&self, cache: &mut Cache, input: Input<'h>) -> Result<bool, SearchError>

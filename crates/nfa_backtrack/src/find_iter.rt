@@ -55,7 +55,7 @@ impl BoundedBacktracker {
     ghost use Rattle.nfa_backtrack.specs.Runs.{RunsApart, RunsInside, RunsMatch, RunsRefused};
     ghost use Rattle.nfa_backtrack.specs.Runs.{GivesByLength, EndsByLength};
 
-    /// The matches of the input that do not overlap, from left to right. To make this takes no memory.
+    /// Returns an iterator over all matches that do not overlap, from left to right. To make this takes no memory.
     ///
     /// The next match is searched for from the end of the last one. In place of an empty match where the last one ended
     /// comes what a search from one byte further on finds. If the span is too long the one item is that refusal. An
@@ -102,7 +102,7 @@ impl BoundedBacktracker {
         }
     }
 
-    /// All matches of the input that do not overlap, from left to right.
+    /// Returns all matches that do not overlap, from left to right.
     ///
     /// # Errors
     ///

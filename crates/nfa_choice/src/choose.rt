@@ -99,7 +99,7 @@ fn pikevm(config: pikevm::Config, nfa: NFA) -> PikeVM
 }
 
 impl Choice {
-    /// Both engines over the NFA, each with its configuration and a cache. The error is `Memory` alone.
+    /// Makes both engines of the NFA, each with its configuration and a cache. The only error is `Memory`.
     pub fn new(
         alloc: Global,
         nfa: NFA,
@@ -132,7 +132,8 @@ impl Choice {
         })
     }
 
-    /// The engine whose answer the last search gave, also one of an iteration; none before the first.
+    /// Returns the engine that gave the answer of the last search, also of one in an iteration. Returns `None` before
+    /// the first.
     pub fn ran(&self) -> Option<Engine>
         ensures { result ≡ self.now.ran }
     {
@@ -140,21 +141,21 @@ impl Choice {
         *ran
     }
 
-    /// The NFA that this searches for.
+    /// Returns the NFA.
     pub fn get_nfa(&self) -> &NFA
         ensures { result.now ≡ self.now.nfa }
     {
         self.back.get_nfa()
     }
 
-    /// The configuration of the backtracker.
+    /// Returns the configuration of the backtracker.
     pub fn get_backtrack_config(&self) -> &backtrack::Config
         ensures { result.now ≡ self.now.visited_capacity }
     {
         self.back.get_config()
     }
 
-    /// The configuration of the PikeVM.
+    /// Returns the configuration of the PikeVM.
     pub fn get_pikevm_config(&self) -> &pikevm::Config
         ensures { result.now ≡ self.now.match_kind }
     {
@@ -224,7 +225,7 @@ impl Choice {
         self.pike.search(&mut self.pike_cache, input, captures);
     }
 
-    /// The match that a search answers.
+    /// Returns the match that a search of the input finds.
     pub fn find<'h>(&mut self, input: Input<'h>) -> Option<Match>
         ensures answer { IsMatchAnswer self.old.nfa (kind_in self.old) (search_of input.entry).earliest
             (search_of input.entry)
@@ -244,7 +245,8 @@ impl Choice {
         self.pike.find(&mut self.pike_cache, input)
     }
 
-    /// Whether a search of the input without `earliest` finds a match.
+    /// Returns whether a search of the input finds a match. The flag `earliest` of the input does not change the
+    /// answer.
     pub fn is_match<'h>(&mut self, input: Input<'h>) -> bool
         ensures answer { IsFoundAnswer self.old.nfa (kind_in self.old) false (search_of input.entry) result }
         ensures finds { result ≡ finds_in self.old (search_of input.entry) }
@@ -261,8 +263,8 @@ impl Choice {
         self.pike.is_match(&mut self.pike_cache, input)
     }
 
-    /// From here on the searches are over this NFA, with the configurations as they were set. The error is `Memory`
-    /// alone; the searches then are over the old NFA, as before.
+    /// Replaces the NFA. The configurations stay. The only error is `Memory`; the searches then are over the old NFA,
+    /// as before.
     pub fn replace(&mut self, nfa: NFA) -> Result<(), SearchError>
         ensures made { OnOk result (self.new ≡ record self.old { nfa = nfa; pike = self.new.pike }) }
         ensures refitted { OnOk result (IsRefitted self.old.pike nfa self.new.pike) }

@@ -91,7 +91,8 @@ impl Site {
     /// Moves a state. A Match becomes a Capture of the end, which leads to the one Match of the pattern.
     fn state(self, alloc: Global, nfa: &Nfa, id: u32) -> Result<State, CompileError>
         requires { id < vec_len nfa.now.states }
-        ensures stands { IfOk result (λ made. Stands nfa.now.transitions.items self (state_of nfa.now id) (node_of made)) }
+        ensures stands { IfOk result (λ made.
+            Stands nfa.now.transitions.items self (state_of nfa.now id) (node_of made)) }
         ensures fails { IfErr result IsOfNoText }
     {
         match nfa.state(id) {

@@ -42,7 +42,7 @@ impl Compiler {
     ghost use Rattle.regex_syntax.specs.Verdict.{default_config};
     ghost use Rattle.nfa_compiler.specs.Settings.{syntax_of};
 
-    /// A compiler with the settings of [`Config::new`] and the default syntax.
+    /// Makes a compiler with the settings of [`Config::new`] and the default syntax.
     pub fn new() -> Compiler
         ensures { result ≡ record {
           config = record { anchored = false; utf8 = true; size_limit = 10485760 };
@@ -88,7 +88,8 @@ impl Compiler {
 
     /// Makes the NFA of these patterns, numbered from 0 on. If two match from one start, the earlier one is preferred.
     ///
-    /// Fails as [`Compiler::build`] does. The error has the number of the pattern at fault; a syntax error has its text.
+    /// Fails as [`Compiler::build`] does. The error has the number of the pattern at fault, and a syntax error its
+    /// text.
     pub fn build_many(&self, alloc: Global, patterns: &[&str]) -> Result<NFA, CompileError>
         ensures compiled { IfOk result (IsCompiled (syntax_of self.now) (map (λ text. text.now) patterns.now)) }
         ensures valid { IfOk result IsAutomaton }

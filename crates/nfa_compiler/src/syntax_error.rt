@@ -33,35 +33,35 @@ pub struct SyntaxError {
 impl SyntaxError {
     ghost use Rattle.std.specs.Prelude.{◌≡◌};
 
-    /// The number of the pattern, from 0 on.
+    /// Returns the number of the pattern, from 0 on.
     pub fn pattern(&self) -> usize
         ensures { result ≡ self.now.pattern }
     {
         self.pattern
     }
 
-    /// The text that was read.
+    /// Returns the text of the pattern.
     pub fn text(&self) -> &str
         ensures { result.now ≡ string_bytes self.now.text }
     {
         &self.text
     }
 
-    /// The syntax that the text was read by.
+    /// Returns the syntax that the text was read by.
     pub fn syntax(&self) -> Config
         ensures { result ≡ self.now.syntax }
     {
         self.syntax
     }
 
-    /// Why the text was refused.
+    /// Returns the reason.
     pub fn kind(&self) -> ErrorKind
         ensures { result ≡ self.now.kind }
     {
         self.kind
     }
 
-    /// The part of the text at fault, in bytes.
+    /// Returns the part of the text at fault, in bytes.
     pub fn span(&self) -> Span
         ensures { result ≡ self.now.span }
     {

@@ -53,7 +53,7 @@ impl Model for Cache {
 }
 
 impl Cache {
-    /// A cache with the numbers of the PikeVM, which it thus fits. The error is `Memory` alone.
+    /// Makes a cache that fits the PikeVM, and is no larger. The only error is `Memory`.
     pub fn new(alloc: Global, vm: &PikeVM) -> Result<Cache, SearchError>
         ensures made { IfOk result (λ made. made ≡ cache_for vm.now.nfa) }
         ensures memory { IsOkUnless result SearchError.Memory }
@@ -73,8 +73,8 @@ impl Cache {
         })
     }
 
-    /// Gives the cache the numbers of the PikeVM, also where they are smaller; memory that it has stays with it. The
-    /// error is `Memory` alone; the cache then is as it was, and fits what it fitted.
+    /// Makes the cache fit the PikeVM, also if that makes it smaller. It keeps the memory that it has. The error is
+    /// `Memory` alone; the cache then is as it was, and fits what it fitted.
     pub fn reset(&mut self, vm: &PikeVM) -> Result<(), SearchError>
         ensures made { OnOk result (self.new ≡ refitted self.old vm.now.nfa) }
         ensures kept { OnErr result (self.new ≡ self.old) }
@@ -93,7 +93,7 @@ impl Cache {
         Ok(())
     }
 
-    /// Whether the PikeVM may search with this cache.
+    /// Returns whether the PikeVM may search with this cache.
     pub fn fits(&self, vm: &PikeVM) -> bool
         ensures { IsTrue result ↔ Fits self.now vm.now.nfa }
     {
@@ -108,7 +108,7 @@ impl Cache {
             && places <= frames
     }
 
-    /// A cache with the same numbers and counts. The error is `Memory` alone.
+    /// Returns a cache with the same sizes and counts. The only error is `Memory`.
     pub fn clone(&self) -> Result<Cache, SearchError>
         ensures copy { IfOk result (λ copy. copy ≡ self.now) }
         ensures memory { IsOkUnless result SearchError.Memory }

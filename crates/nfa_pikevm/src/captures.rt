@@ -15,7 +15,7 @@ impl PikeVM {
     /// [`PikeVM::search_slots`] puts there. After no match no pattern and no slot is set. The groups of the captures
     /// stay, whichever NFA they are of.
     ///
-    /// The caller owes a cache that fits. A search leaves its numbers as they are.
+    /// Requires a cache that fits. A search leaves its numbers as they are.
     pub fn search(&self, cache: &mut Cache, input: &Input<'_>, captures: &mut Captures)
         requires { Fits cache.old self.now.nfa }
         ensures answer { let x = search_of input.now in
@@ -44,7 +44,7 @@ impl PikeVM {
 
     /// Searches as [`PikeVM::search`] does, with an input of its own.
     ///
-    /// The caller owes a cache that fits. A search leaves its numbers as they are.
+    /// Requires a cache that fits. A search leaves its numbers as they are.
     pub fn captures<'h>(&self, cache: &mut Cache, input: Input<'h>, captures: &mut Captures)
         requires { Fits cache.old self.now.nfa }
         ensures answer { let x = search_of input.entry in

@@ -59,9 +59,9 @@ impl PikeVM {
     ghost use Rattle.nfa_pikevm.specs.Engines.{SameNumbers, kind_of};
     ghost use Rattle.nfa_pikevm.specs.Finding.{PikeCatchesOn, PikeCatchesToEnd};
 
-    /// The captures of the matches of the input that do not overlap, from left to right, each with all groups of the
-    /// NFA. The caller owes a cache that fits. To make this changes no cache. The error is that there is no memory for
-    /// the captures that are searched with: [`SearchError::Memory`] alone.
+    /// Returns the captures of all matches that do not overlap, from left to right, each with all groups of the NFA.
+    /// Requires a cache that fits. To make this changes no cache. The error is that there is no memory for the
+    /// captures that are searched with: [`SearchError::Memory`] alone.
     ///
     /// The next match is searched for from the end of the last one. In place of an empty match where the last one ended
     /// comes what a search from one byte further on finds. An answer without a match, as bare patterns give it, ends

@@ -26,14 +26,14 @@ impl Model for Config {
 }
 
 impl Config {
-    /// A configuration with nothing set.
+    /// Returns a configuration with nothing set.
     pub fn new() -> Config
         ensures { result ≡ None }
     {
         Config { match_kind: None }
     }
 
-    /// Sets which of several matches is meant.
+    /// Sets which of several matches a search returns.
     pub fn match_kind(mut self, kind: MatchKind) -> Config
         ensures { result ≡ Some kind }
     {
@@ -41,7 +41,7 @@ impl Config {
         self
     }
 
-    /// Which of several matches is meant: what was set, or `LeftmostFirst`.
+    /// Returns the match kind that was set, or `LeftmostFirst`.
     pub fn get_match_kind(&self) -> MatchKind
         ensures { result ≡ unwrap_or self.now LeftmostFirst }
     {
@@ -85,7 +85,7 @@ impl Model for Builder {
 }
 
 impl Builder {
-    /// A builder with nothing set.
+    /// Returns a builder with nothing set.
     pub fn new() -> Builder
         ensures { result ≡ None }
     {
@@ -94,7 +94,7 @@ impl Builder {
         }
     }
 
-    /// Takes over what the configuration sets. An option that it leaves unset stays as it was.
+    /// Sets what the configuration sets. An option that it leaves unset stays as it was.
     pub fn configure(&mut self, config: Config) -> &mut Builder
         ensures value { result.now ≡ option_or config self.old }
         ensures same_reference { result.ghost_name ≡ self.entry.ghost_name }
@@ -103,7 +103,7 @@ impl Builder {
         self
     }
 
-    /// A PikeVM of the NFA. This is always `Ok`: the data of Unicode word boundaries is always there.
+    /// Makes a PikeVM of the NFA. This is always `Ok`: the data of Unicode word boundaries is always there.
     pub fn build_from_nfa(&self, nfa: NFA) -> Result<PikeVM, BuildError>
         ensures { result ≡ Ok (record { nfa = nfa; match_kind = self.now }) }
     {

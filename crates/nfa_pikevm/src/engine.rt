@@ -57,14 +57,14 @@ impl PikeVM {
         PikeVM { config, first, nfa }
     }
 
-    /// A PikeVM of the NFA with the default configuration. This is always `Ok`.
+    /// Makes a PikeVM of the NFA with the default configuration. This is always `Ok`.
     pub fn new_from_nfa(nfa: NFA) -> Result<PikeVM, BuildError>
         ensures { result ≡ Ok (record { nfa = nfa; match_kind = None }) }
     {
         Builder::new().build_from_nfa(nfa)
     }
 
-    /// A PikeVM of the NFA that matches the empty text at each position, with the default configuration. The error is
+    /// Makes a PikeVM that matches the empty string at each position, with the default configuration. The error is
     /// `Memory` alone.
     pub fn always_match(alloc: Global) -> Result<PikeVM, BuildError>
         ensures made { IfOk result (λ made. made ≡ record { nfa = always; match_kind = None }) }
@@ -73,7 +73,7 @@ impl PikeVM {
         PikeVM::new_from_nfa(NFA::always_match(alloc)?)
     }
 
-    /// A PikeVM of the NFA that matches nothing, with the default configuration. The error is `Memory` alone.
+    /// Makes a PikeVM that matches nothing, with the default configuration. The only error is `Memory`.
     pub fn never_match(alloc: Global) -> Result<PikeVM, BuildError>
         ensures made { IfOk result (λ made. made ≡ record { nfa = never; match_kind = None }) }
         ensures memory { IsOkUnless result BuildError.Memory }
@@ -81,21 +81,22 @@ impl PikeVM {
         PikeVM::new_from_nfa(NFA::never_match(alloc)?)
     }
 
-    /// A configuration with nothing set.
+    /// Returns a configuration with nothing set.
     pub fn config() -> Config
         ensures { result ≡ None }
     {
         Config::new()
     }
 
-    /// A builder with nothing set.
+    /// Returns a builder with nothing set.
     pub fn builder() -> Builder
         ensures { result ≡ None }
     {
         Builder::new()
     }
 
-    /// Captures of all groups of the NFA, with no pattern and no slot set. The error is `Memory` alone.
+    /// Makes captures with a slot for each edge of each group of the NFA. No pattern and no slot is set. The error is
+    /// `Memory` alone.
     pub fn create_captures(&self, alloc: Global) -> Result<Captures, SearchError>
         ensures made { IfOk result (λ made. made ≡ record {
           groups = self.now.nfa.groups;
@@ -108,7 +109,7 @@ impl PikeVM {
         Ok(Captures::all(alloc, groups)?)
     }
 
-    /// A cache that fits this PikeVM, and is no larger. The error is `Memory` alone.
+    /// Makes a cache that fits this PikeVM, and is no larger. The only error is `Memory`.
     pub fn create_cache(&self, alloc: Global) -> Result<Cache, SearchError>
         ensures made { IfOk result (λ made. made ≡ cache_for self.now.nfa) }
         ensures memory { IsOkUnless result SearchError.Memory }
@@ -116,8 +117,8 @@ impl PikeVM {
         Cache::new(alloc, self)
     }
 
-    /// Gives the cache the numbers of this PikeVM, also where they are smaller. The error is `Memory` alone; the cache
-    /// then is as it was.
+    /// Makes the cache fit this PikeVM, also if that makes it smaller. The only error is `Memory`; the cache then is
+    /// as it was.
     pub fn reset_cache(&self, cache: &mut Cache) -> Result<(), SearchError>
         ensures made { OnOk result (cache.new ≡ refitted cache.old self.now.nfa) }
         ensures kept { OnErr result (cache.new ≡ cache.old) }
@@ -126,28 +127,28 @@ impl PikeVM {
         cache.reset(self)
     }
 
-    /// How many patterns the NFA has.
+    /// Returns the number of patterns of the NFA.
     pub fn pattern_len(&self) -> usize
         ensures { result ≡ length self.now.nfa.patterns }
     {
         self.nfa.pattern_len()
     }
 
-    /// The configuration that this was made with.
+    /// Returns the configuration.
     pub fn get_config(&self) -> &Config
         ensures { result.now ≡ self.now.match_kind }
     {
         &self.config
     }
 
-    /// The NFA that this searches for.
+    /// Returns the NFA.
     pub fn get_nfa(&self) -> &NFA
         ensures { result.now ≡ self.now.nfa }
     {
         &self.nfa
     }
 
-    /// An equal PikeVM. The error is `Memory` alone.
+    /// Returns an equal PikeVM. The only error is `Memory`.
     pub fn clone(&self) -> Result<PikeVM, SearchError>
         ensures copy { IfOk result (λ copy. copy ≡ self.now) }
         ensures memory { IsOkUnless result SearchError.Memory }
@@ -162,7 +163,7 @@ impl PikeVM {
     /// pattern `p`, those of the explicit groups follow. Any number of slots may be handed in; those past the NFA's are
     /// none, and so is every slot after no match.
     ///
-    /// The caller owes a cache that fits. A search leaves its numbers as they are.
+    /// Requires a cache that fits. A search leaves its numbers as they are.
     pub fn search_slots(
         &self,
         cache: &mut Cache,
@@ -270,10 +271,11 @@ impl PikeVM {
         match_in(half.pattern(), slots)
     }
 
-    /// The match that a search answers: the span between the two slots of its pattern. It is none where there is no
-    /// match, where the NFA writes one of the two slots nowhere on the way, or where the start lies behind the end.
+    /// Returns the match that a search of the input finds: the span between the two slots of its pattern. It is none
+    /// where there is no match, where the NFA writes one of the two slots nowhere on the way, or where the start lies
+    /// behind the end.
     ///
-    /// The caller owes a cache that fits. A search leaves its numbers as they are.
+    /// Requires a cache that fits. A search leaves its numbers as they are.
     pub fn find<'h>(&self, cache: &mut Cache, input: Input<'h>) -> Option<Match>
         requires { Fits cache.old self.now.nfa }
         ensures answer { IsMatchAnswer self.now.nfa (kind_of self.now) (search_of input.entry).earliest
@@ -302,10 +304,11 @@ impl PikeVM {
         self.find_with(threads, &input, found.as_mut_slice())
     }
 
-    /// Whether a search of the input without `earliest` finds a match. The input's `earliest` is ignored: the search
-    /// stops at the earliest match wherever that cannot change the answer.
+    /// Returns whether a search of the input finds a match. The flag `earliest` of the input does not change the
+    /// answer.
+    /// `earliest` is ignored: the search stops at the earliest match wherever that cannot change the answer.
     ///
-    /// The caller owes a cache that fits. A search leaves its numbers as they are.
+    /// Requires a cache that fits. A search leaves its numbers as they are.
     pub fn is_match<'h>(&self, cache: &mut Cache, input: Input<'h>) -> bool
         requires { Fits cache.old self.now.nfa }
         ensures answer { IsFoundAnswer self.now.nfa (kind_of self.now) false (search_of input.entry) result }
@@ -334,7 +337,7 @@ impl PikeVM {
     /// limit; with `earliest`, that of the first match that ends alone. A match ends on a boundary where the NFA asks
     /// for it; matches of patterns that the set has no room for do not count.
     ///
-    /// The caller owes a cache that fits. A search leaves its numbers as they are.
+    /// Requires a cache that fits. A search leaves its numbers as they are.
     pub fn which_overlapping_matches(
         &self,
         cache: &mut Cache,

@@ -46,8 +46,8 @@ impl PikeVM {
     ghost use Rattle.nfa_pikevm.specs.Finding.{PikeFindsOn, PikeFindsToEnd};
     ghost use Rattle.nfa_search_base.specs.MatchRuns.{MatchesRun, MatchesAre, MatchesApart, MatchesFirst, MatchesNext};
 
-    /// The matches of the input that do not overlap, from left to right. To make this takes no memory. The caller owes
-    /// a cache that fits.
+    /// Returns an iterator over all matches that do not overlap, from left to right. To make this takes no memory. The
+    /// caller owes a cache that fits.
     ///
     /// The next match is searched for from the end of the last one. In place of an empty match where the last one ended
     /// comes what a search from one byte further on finds. The numbers of the cache stay as they are, so it fits
@@ -87,7 +87,7 @@ impl PikeVM {
         }
     }
 
-    /// All matches of the input that do not overlap, from left to right. The error is that there was no memory:
+    /// Returns all matches that do not overlap, from left to right. The error is that there was no memory:
     /// [`SearchError::Memory`] alone.
     pub fn find_all(
         &self,

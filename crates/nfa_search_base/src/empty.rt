@@ -24,7 +24,7 @@ use crate::asking::ask;
 use crate::error::SearchError;
 use regex_search_core::Input;
 
-/// The first answer whose offset is the edge of a character, as the search moves on.
+/// Returns the first answer whose offset does not split a codepoint, as the start of the search moves on.
 ///
 /// `init` and `offset` are what a search of `input` found: a value, and the byte offset where the
 /// match lies. If the offset is an edge of a character, the value is the answer. If it is not, the
@@ -92,7 +92,7 @@ where
     skip_forward(*input, init, offset, find)
 }
 
-/// The first answer whose offset is the edge of a character, as the search moves back.
+/// Returns the first answer whose offset does not split a codepoint, as the end of the search moves back.
 ///
 /// The same as [`skip_splits_fwd`] for a search that goes from right to left: the finder is called
 /// on the input with its end lowered by 1, then by 2, and so on. Where the end is 0 the answer is

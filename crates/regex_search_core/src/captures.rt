@@ -85,14 +85,14 @@ impl Captures {
         })
     }
 
-    /// The groups of each pattern.
+    /// Returns the groups of each pattern.
     pub fn group_info(&self) -> &GroupInfo
         ensures { result.now ≡ self.now.groups }
     {
         &self.group_info
     }
 
-    /// The pattern that matched.
+    /// Returns the pattern that matched.
     pub fn pattern(&self) -> Option<PatternID>
         ensures { option_map number_of result ≡ self.now.pattern }
     {
@@ -106,15 +106,15 @@ impl Captures {
         self.pattern = pattern;
     }
 
-    /// The slots. Pattern `p` itself has the slots `2 * p` and `2 * p + 1`; `GroupInfo::slot` says
-    /// where the other groups lie.
+    /// Returns the slots. Pattern `p` itself has the slots `2 * p` and `2 * p + 1`; `GroupInfo::slot` says where the
+    /// other groups lie.
     pub fn slots(&self) -> &[Option<NonMaxUsize>]
         ensures { result.now ≡ self.now.slots }
     {
         &self.slots
     }
 
-    /// The slots, to be written. Their number stays, and so does the rest of the captures.
+    /// Returns the slots, to be written. Their number stays, and so does the rest of the captures.
     pub fn slots_mut(&mut self) -> &mut [Option<NonMaxUsize>]
         ensures* writes_back { sem 𝓛 (LendsSlots self.entry result) }
         ensures value { result.now ≡ self.old.slots }
@@ -122,7 +122,7 @@ impl Captures {
         &mut self.slots
     }
 
-    /// Whether there is a match: a pattern is set.
+    /// Returns whether there is a match: a pattern is set.
     pub fn is_match(&self) -> bool
         ensures { IsTrue result ↔ IsSome self.now.pattern }
     {
@@ -153,7 +153,7 @@ impl Captures {
         self.get_group(index)
     }
 
-    /// Equal captures.
+    /// Returns equal captures.
     pub fn clone(&self) -> Result<Captures, Refused>
         ensures { IfOk result (λ copy. copy ≡ self.now) }
     {

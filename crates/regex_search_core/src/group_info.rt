@@ -46,14 +46,14 @@ impl GroupInfo {
         Some(GroupInfo { names, slot_len })
     }
 
-    /// How many patterns there are.
+    /// Returns the number of patterns.
     pub fn pattern_len(&self) -> usize
         ensures { result ≡ length self.now }
     {
         self.names.len()
     }
 
-    /// How many slots the groups 0 have: two for each pattern.
+    /// Returns the number of slots of the groups 0: two for each pattern.
     pub fn implicit_slot_len(&self) -> usize
         ensures { result ≡ 2 * length self.now }
     {
@@ -61,7 +61,7 @@ impl GroupInfo {
         self.names.len() * 2
     }
 
-    /// How many slots all groups have: two for each.
+    /// Returns the number of slots of all groups: two for each.
     pub fn slot_len(&self) -> usize
         ensures value { result ≡ slot_count self.now }
         ensures within { result ≤ 2147483646 }
@@ -88,7 +88,7 @@ impl GroupInfo {
         Some(explicit_start(&self.names, index) + (group - 1) * 2)
     }
 
-    /// The pattern's first group of this name. `None` for an unknown pattern, or where no group has the
+    /// Returns the first group of this name of the pattern. `None` for an unknown pattern, or where no group has the
     /// name. Explicit groups count from 1, since group 0 has no name here.
     pub fn to_index(&self, pattern: PatternID, name: &str) -> Option<usize>
         ensures { result ≡ group_named self.now (number_of pattern) name.now }
@@ -97,7 +97,7 @@ impl GroupInfo {
         Some(place + 1)
     }
 
-    /// Equal groups.
+    /// Returns equal groups.
     pub fn clone(&self) -> Result<GroupInfo, Refused>
         ensures { IfOk result (λ copy. copy ≡ self.now) }
     {

@@ -34,7 +34,7 @@ impl PatternSet {
     ghost use Rattle.regex_search_core.specs.PatternSets.{patterns_of};
     ghost use Rattle.regex_search_core.specs.PatternSetIters.{patterns_left};
 
-    /// The empty set of this capacity.
+    /// Makes an empty set of this capacity.
     pub fn new(alloc: Global, capacity: usize) -> Result<PatternSet, Refused>
         ensures { IfOk result (λ made. made ≡ replicate capacity false) }
     {
@@ -42,8 +42,8 @@ impl PatternSet {
         Ok(PatternSet { which, len: 0 })
     }
 
-    /// Adds the pattern, and answers whether it is new. `None`, and nothing is added, where the
-    /// pattern is not below the capacity.
+    /// Adds the pattern, and returns whether it is new. `None`, and nothing is added, where the pattern is not below
+    /// the capacity.
     pub fn try_insert(&mut self, pattern: PatternID) -> Option<bool>
         ensures answer { result ≡ (if nat_lt (number_of pattern) (length self.old)
             then Some (not (slice_index_or self.old (number_of pattern) false)) else None) }
@@ -61,7 +61,7 @@ impl PatternSet {
         Some(true)
     }
 
-    /// Whether the pattern is in the set.
+    /// Returns whether the pattern is in the set.
     pub fn contains(&self, pattern: PatternID) -> bool
         ensures { result ≡ slice_index_or self.now (number_of pattern) false }
     {
@@ -69,35 +69,35 @@ impl PatternSet {
         index < self.which.len() && self.which[index]
     }
 
-    /// How many patterns are in the set.
+    /// Returns the number of patterns in the set.
     pub fn len(&self) -> usize
         ensures { result ≡ size_of_set self.now }
     {
         self.len
     }
 
-    /// How many patterns there may be: each is below this number.
+    /// Returns the capacity: each pattern in the set is below this number.
     pub fn capacity(&self) -> usize
         ensures { result ≡ length self.now }
     {
         self.which.len()
     }
 
-    /// Whether no pattern is in the set.
+    /// Returns whether the set is empty.
     pub fn is_empty(&self) -> bool
         ensures { IsTrue result ↔ (size_of_set self.now ≡ 0) }
     {
         self.len == 0
     }
 
-    /// Whether each pattern below the capacity is in the set.
+    /// Returns whether each pattern below the capacity is in the set.
     pub fn is_full(&self) -> bool
         ensures { IsTrue result ↔ (size_of_set self.now ≡ length self.now) }
     {
         self.len == self.which.len()
     }
 
-    /// The patterns in the set, from the least number on.
+    /// Returns an iterator over the patterns in the set, in ascending order.
     #[tactic(auto, using(crate::proofs::PatternSetLemmas::patterns_in_set))]
     pub fn iter(&self) -> PatternSetIter<'_>
         ensures all { patterns_left result ≡ patterns_of self.now }

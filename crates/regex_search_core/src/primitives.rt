@@ -20,7 +20,7 @@ impl PatternID {
     ghost use Rattle.std.specs.Prelude.{option_map};
     ghost use Rattle.regex_search_core.specs.Patterns.{number_of};
 
-    /// The pattern of this number. `None` above 2147483646.
+    /// Makes the pattern of this number. `None` above 2147483646.
     pub fn new(index: usize) -> Option<PatternID>
         ensures { SomeIff (option_map number_of result) (index ≤ 2147483646) index }
     {
@@ -32,7 +32,7 @@ impl PatternID {
         })
     }
 
-    /// The number, as an index.
+    /// Returns the number, as an index.
     pub fn as_usize(self) -> usize
         ensures value { result ≡ number_of self }
         ensures within { result ≤ 2147483646 }
@@ -58,7 +58,7 @@ impl Model for StateID {
 }
 
 impl StateID {
-    /// The state of this number. `None` above 2147483646.
+    /// Returns the state of this number. `None` above 2147483646.
     pub fn new(index: usize) -> Option<StateID>
         ensures { SomeIff result (index ≤ 2147483646) index }
     {
@@ -68,7 +68,7 @@ impl StateID {
         Some(StateID(index as u32))
     }
 
-    /// The number, as an index.
+    /// Returns the number, as an index.
     pub fn as_usize(self) -> usize
         ensures value { result ≡ self }
         ensures within { result ≤ 2147483646 }
@@ -96,7 +96,7 @@ impl Model for NonMaxUsize {
 }
 
 impl NonMaxUsize {
-    /// This offset. `None` for the greatest `usize`.
+    /// Makes this offset. `None` for the greatest `usize`.
     pub fn new(value: usize) -> Option<NonMaxUsize>
         ensures { SomeIff result (value < usize.MAX) value }
     {
@@ -106,7 +106,7 @@ impl NonMaxUsize {
         Some(NonMaxUsize(value))
     }
 
-    /// The offset.
+    /// Returns the offset.
     pub fn get(self) -> usize
         ensures value { result ≡ self }
         ensures within { result < usize.MAX }

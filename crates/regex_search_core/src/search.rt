@@ -37,7 +37,7 @@ pub enum Anchored {
 impl Anchored {
     ghost use Rattle.regex_search_core.specs.Search.{is_anchored};
 
-    /// Whether matches are bound to the span's start: not for `No` alone.
+    /// Returns whether matches are bound to the start of the span: true but for `No`.
     pub fn is_anchored(&self) -> bool
         ensures { result ≡ is_anchored self.now }
     {
@@ -55,7 +55,7 @@ pub enum MatchKind {
 }
 
 impl MatchKind {
-    /// Whether a search goes on past the first match that it meets: for `All` alone.
+    /// Returns whether a search continues past the first match that it meets: true for `All` only.
     pub fn continue_past_first_match(&self) -> bool
         ensures { IsTrue result ↔ (self.now ≡ MatchKind.All) }
     {
@@ -84,7 +84,7 @@ pub struct Input<'h> {
 impl<'h> Input<'h> {
     ghost use Rattle.regex_search_core.specs.Search.{search_of, whole};
 
-    /// A search of the whole haystack, not anchored and not `earliest`.
+    /// Makes a search of the whole haystack, not anchored and not `earliest`.
     pub fn new(haystack: &'h [u8]) -> Input<'h>
         ensures { search_of result ≡ whole haystack.now }
     {
@@ -99,8 +99,8 @@ impl<'h> Input<'h> {
         }
     }
 
-    /// The same search over this span. The caller owes that it ends within the haystack and starts
-    /// at most one past its end.
+    /// Returns the same search over this span. The caller owes that it ends within the haystack and starts at most one
+    /// past its end.
     pub fn span(mut self, span: Span) -> Input<'h>
         requires within { span.end ≤ length (search_of self).haystack }
         requires ordered { span.start ≤ span.end + 1 }
@@ -110,7 +110,7 @@ impl<'h> Input<'h> {
         self
     }
 
-    /// The same search over the span of this range, under the conditions of [`Input::span`].
+    /// Returns the same search over the span of this range, under the conditions of [`Input::span`].
     pub fn range(self, range: Range<usize>) -> Input<'h>
         requires within { range.end ≤ length (search_of self).haystack }
         requires ordered { range.start ≤ range.end + 1 }
@@ -122,7 +122,7 @@ impl<'h> Input<'h> {
         })
     }
 
-    /// The same search with matches bound as `mode` says.
+    /// Returns the same search with matches bound as `mode` says.
     pub fn anchored(mut self, mode: Anchored) -> Input<'h>
         ensures { search_of result ≡ record (search_of self.entry) { anchored = mode } }
     {
@@ -130,7 +130,7 @@ impl<'h> Input<'h> {
         self
     }
 
-    /// The same search, which may (`true`) or may not stop at the earliest match.
+    /// Returns the same search, which may (`true`) or may not stop at the earliest match.
     pub fn earliest(mut self, yes: bool) -> Input<'h>
         ensures { search_of result ≡ record (search_of self.entry) { earliest = yes } }
     {
@@ -138,7 +138,7 @@ impl<'h> Input<'h> {
         self
     }
 
-    /// Moves the span's start. The caller owes that it is at most one past the span's end.
+    /// Moves the start of the span. The caller owes that it is at most one past the span's end.
     pub fn set_start(&mut self, start: usize)
         requires { start ≤ (search_of self.old).end + 1 }
         ensures { search_of self.new ≡ record (search_of self.old) { start = start } }
@@ -146,8 +146,7 @@ impl<'h> Input<'h> {
         self.span.start = start;
     }
 
-    /// Moves the span's end. The caller owes that it is within the haystack and at least the start
-    /// less one.
+    /// Moves the end of the span. The caller owes that it is within the haystack and at least the start less one.
     pub fn set_end(&mut self, end: usize)
         requires within { end ≤ length (search_of self.old).haystack }
         requires ordered { (search_of self.old).start ≤ end + 1 }
@@ -156,28 +155,28 @@ impl<'h> Input<'h> {
         self.span.end = end;
     }
 
-    /// The bytes that are searched, and those around the span.
+    /// Returns the haystack: the bytes of the span, and those around it.
     pub fn haystack(&self) -> &'h [u8]
         ensures { result.now ≡ (search_of self.now).haystack }
     {
         self.haystack
     }
 
-    /// Where the span starts.
+    /// Returns the start of the span, an offset in bytes.
     pub fn start(&self) -> usize
         ensures { result ≡ (search_of self.now).start }
     {
         self.span.start
     }
 
-    /// Where the span ends.
+    /// Returns the end of the span, an offset in bytes.
     pub fn end(&self) -> usize
         ensures value { result ≡ (search_of self.now).end }
     {
         self.span.end
     }
 
-    /// The span that is searched.
+    /// Returns the span that is searched.
     pub fn get_span(&self) -> Span
         ensures start { result.start ≡ (search_of self.now).start }
         ensures end { result.end ≡ (search_of self.now).end }
@@ -185,21 +184,21 @@ impl<'h> Input<'h> {
         self.span
     }
 
-    /// Where a match may start.
+    /// Returns where a match may start.
     pub fn get_anchored(&self) -> Anchored
         ensures { result ≡ (search_of self.now).anchored }
     {
         self.anchored
     }
 
-    /// Whether the search may stop at the earliest match.
+    /// Returns whether the search may stop at the earliest match.
     pub fn get_earliest(&self) -> bool
         ensures { result ≡ (search_of self.now).earliest }
     {
         self.earliest
     }
 
-    /// Whether nothing is left to search: the start is past the end.
+    /// Returns whether nothing is left to search: the start is past the end.
     pub fn is_done(&self) -> bool
         ensures { IsTrue result ↔ ((search_of self.now).end < (search_of self.now).start) }
     {
@@ -231,21 +230,21 @@ impl HalfMatch {
     ghost use Rattle.regex_search_core.specs.Patterns.{number_of};
     ghost use Rattle.regex_search_core.specs.Found.{half_found_of};
 
-    /// A match of the pattern that ends at the offset.
+    /// Makes a match of the pattern that ends at the offset.
     pub fn new(pattern: PatternID, offset: usize) -> HalfMatch
         ensures { half_found_of result ≡ record { pattern = number_of pattern; offset = offset } }
     {
         HalfMatch { pattern, offset }
     }
 
-    /// The pattern that matches.
+    /// Returns the pattern that matches.
     pub fn pattern(&self) -> PatternID
         ensures { number_of result ≡ (half_found_of self.now).pattern }
     {
         self.pattern
     }
 
-    /// Where the match ends.
+    /// Returns the end of the match, an offset in bytes.
     pub fn offset(&self) -> usize
         ensures { result ≡ (half_found_of self.now).offset }
     {
@@ -269,8 +268,7 @@ impl Match {
     ghost use Rattle.regex_search_core.specs.Found.{found_of};
     ghost use Rattle.regex_search_core.specs.Slots.{match_of};
 
-    /// A match of the pattern at the span. The caller owes that the span does not end before it
-    /// starts.
+    /// Makes a match of the pattern at the span. The caller owes that the span does not end before it starts.
     pub fn new(pattern: PatternID, span: Span) -> Match
         requires { span.start ≤ span.end }
         ensures { found_of result ≡ record { pattern = number_of pattern; start = span.start; end = span.end } }
@@ -288,35 +286,35 @@ impl Match {
         Some(Match { pattern, span })
     }
 
-    /// The pattern that matches.
+    /// Returns the pattern that matches.
     pub fn pattern(&self) -> PatternID
         ensures { number_of result ≡ (found_of self.now).pattern }
     {
         self.pattern
     }
 
-    /// Where it matches.
+    /// Returns the span of the match.
     pub fn span(&self) -> Span
         ensures { result ≡ record { start = (found_of self.now).start; end = (found_of self.now).end } }
     {
         self.span
     }
 
-    /// Where the match starts.
+    /// Returns the start of the match, an offset in bytes.
     pub fn start(&self) -> usize
         ensures { result ≡ (found_of self.now).start }
     {
         self.span.start
     }
 
-    /// Where the match ends.
+    /// Returns the end of the match, an offset in bytes.
     pub fn end(&self) -> usize
         ensures { result ≡ (found_of self.now).end }
     {
         self.span.end
     }
 
-    /// Whether the match has no bytes.
+    /// Returns whether the match is empty.
     pub fn is_empty(&self) -> bool
         ensures { IsTrue result ↔ ((found_of self.now).start ≡ (found_of self.now).end) }
     {

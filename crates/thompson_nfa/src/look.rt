@@ -54,8 +54,8 @@ pub enum Look {
     WordEndHalfUnicode,
 }
 
-/// Whether the assertion holds at the position `at`, over the whole haystack. The caller owes that
-/// `at` is at most the haystack's length.
+/// Returns whether the assertion holds at the position `at`, over the whole haystack. The caller owes that `at` is at
+/// most the haystack's length.
 pub fn look_matches(look: Look, haystack: &[u8], at: usize) -> bool
     requires { at ≤ length haystack.now }
     ensures { result ≡ look_holds look haystack.now at }

@@ -159,9 +159,8 @@ impl NFA {
         })
     }
 
-    /// The NFA of one pattern, the empty one: it matches at each position, and its match has no bytes.
-    /// It has no explicit groups, `has_empty` is true, and it is not in UTF-8 mode. The error is
-    /// `Memory` alone.
+    /// Makes the NFA of one pattern, the empty one, which matches the empty string at each position. It has no explicit
+    /// groups, `has_empty` is true, and it is not in UTF-8 mode. The only error is `Memory`.
     pub fn always_match(alloc: Global) -> Result<NFA, BuildError>
         ensures made { IfOk result (λ made. made ≡ always) }
         ensures memory { IsOkUnless result BuildError.Memory }
@@ -185,7 +184,7 @@ impl NFA {
         NFA::from_states(states, start, start, patterns, groups, true, false)
     }
 
-    /// The NFA of no pattern, which matches nothing. Both flags are false. The error is `Memory` alone.
+    /// Makes the NFA of no pattern, which matches nothing. Both flags are false. The only error is `Memory`.
     pub fn never_match(alloc: Global) -> Result<NFA, BuildError>
         ensures made { IfOk result (λ made. made ≡ never) }
         ensures memory { IsOkUnless result BuildError.Memory }
@@ -196,7 +195,7 @@ impl NFA {
         NFA::from_states(states, start, start, Vec::new(alloc), groups, false, false)
     }
 
-    /// The states, each at the place of its number.
+    /// Returns the states, in the order of their numbers.
     pub fn states(&self) -> &[State]
         ensures nodes { map node_of result.now ≡ self.now.states }
         ensures valid { IsAutomaton self.now }
@@ -204,7 +203,7 @@ impl NFA {
         &self.states
     }
 
-    /// The state of this number. The caller owes that it is below the number of states.
+    /// Returns the state of this number. The caller owes that it is below the number of states.
     pub fn state(&self, id: StateID) -> &State
         requires { id < length self.now.states }
         ensures node { slice_get self.now.states id ≡ Some (node_of result.now) }
@@ -216,7 +215,7 @@ impl NFA {
         &self.states[id.as_usize()]
     }
 
-    /// Where a search starts that is bound to its start.
+    /// Returns the start state of anchored searches.
     pub fn start_anchored(&self) -> StateID
         ensures value { result ≡ self.now.anchored }
         ensures within { result < length self.now.states }
@@ -225,7 +224,7 @@ impl NFA {
         self.anchored
     }
 
-    /// Where a search starts that may find a match anywhere.
+    /// Returns the start state of unanchored searches.
     pub fn start_unanchored(&self) -> StateID
         ensures value { result ≡ self.now.unanchored }
         ensures within { result < length self.now.states }
@@ -234,7 +233,7 @@ impl NFA {
         self.unanchored
     }
 
-    /// Where a search for this pattern alone starts. `None` for an unknown pattern.
+    /// Returns the start state of searches for this pattern only. `None` for an unknown pattern.
     pub fn start_pattern(&self, pattern: PatternID) -> Option<StateID>
         ensures value { result ≡ slice_get self.now.patterns (number_of pattern) }
         ensures within { IfSome result (λ s. s < length self.now.states) }
@@ -243,28 +242,28 @@ impl NFA {
         self.patterns.get(pattern.as_usize()).copied()
     }
 
-    /// Whether each search is bound to its start: the two starts are one state.
+    /// Returns whether each search is bound to its start: the two start states are equal.
     pub fn is_always_start_anchored(&self) -> bool
         ensures { IsTrue result ↔ (self.now.anchored ≡ self.now.unanchored) }
     {
         self.anchored == self.unanchored
     }
 
-    /// Whether the NFA may match without a byte, as its maker said.
+    /// Returns whether the NFA may match the empty string, as its maker said.
     pub fn has_empty(&self) -> bool
         ensures { result ≡ self.now.has_empty }
     {
         self.has_empty
     }
 
-    /// Whether empty matches that split a character of UTF-8 are left out, as its maker said.
+    /// Returns whether empty matches that split a codepoint are skipped, as its maker said.
     pub fn is_utf8(&self) -> bool
         ensures { result ≡ self.now.utf8 }
     {
         self.utf8
     }
 
-    /// How many patterns there are.
+    /// Returns the number of patterns.
     pub fn pattern_len(&self) -> usize
         ensures value { result ≡ length self.now.patterns }
         ensures valid { IsAutomaton self.now }
@@ -272,7 +271,7 @@ impl NFA {
         self.patterns.len()
     }
 
-    /// An equal NFA. The error is `Memory` alone.
+    /// Returns an equal NFA. The only error is `Memory`.
     pub fn clone(&self) -> Result<NFA, BuildError>
         ensures copy { IfOk result (λ copy. copy ≡ self.now) }
         ensures memory { IsOkUnless result BuildError.Memory }
@@ -288,7 +287,7 @@ impl NFA {
         })
     }
 
-    /// The groups of its patterns, or those of no pattern.
+    /// Returns the groups of its patterns, or of no pattern.
     pub fn group_info(&self) -> &GroupInfo
         ensures value { result.now ≡ self.now.groups }
         ensures valid { IsAutomaton self.now }

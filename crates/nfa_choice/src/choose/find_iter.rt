@@ -27,7 +27,7 @@ impl Choice {
     ghost use Rattle.nfa_choice.specs.Matches.{ChoiceGivesKept, choice_finds_cache, choice_finds_done};
     ghost use Rattle.nfa_choice.specs.Matches.{choice_finds_next, choice_finds_walk};
 
-    /// The matches of the input that do not overlap, from left to right. To make this takes no memory.
+    /// Returns an iterator over all matches that do not overlap, from left to right. To make this takes no memory.
     ///
     /// The next match is searched for from the end of the last one. In place of an empty match where the last one ended
     /// comes what a search from one byte further on finds. Each search takes the engine that suits.

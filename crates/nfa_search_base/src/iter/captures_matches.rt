@@ -38,7 +38,7 @@ impl<'h> Searcher<'h> {
     ghost use Rattle.nfa_search_base.specs.StoredRuns.{CaughtAll, CaughtApart, CaughtFirst, CaughtNext, CaughtRun};
     ghost use Rattle.nfa_search_base.specs.Walks.{Answer, AnswerIsInside};
 
-    /// The captures of the matches that the finder gives from here on.
+    /// Returns an iterator over the captures that the finder gives from here on.
     ///
     /// The caller owes that the finder, wherever earlier calls have led it and these captures, may
     /// be called on each input of this haystack, anchoring, `earliest` flag and span end, and leaves

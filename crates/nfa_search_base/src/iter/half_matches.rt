@@ -40,7 +40,7 @@ impl<'h> Searcher<'h> {
     ghost use Rattle.nfa_search_base.specs.Stored.{steps_walk, can_step, takes_steps};
     ghost use Rattle.nfa_search_base.specs.StoredRuns.{FoundAll, FoundApart, FoundFirst, FoundNext, FoundRun};
 
-    /// The half matches that the finder gives from here on.
+    /// Returns an iterator over the half matches that the finder gives from here on.
     ///
     /// The caller owes that the finder, wherever earlier calls have led it, may be called on each
     /// input of this haystack, anchoring, `earliest` flag and span end, and answers an offset in that

@@ -55,7 +55,7 @@ impl<'h> Searcher<'h> {
     ghost use Rattle.nfa_search_base.specs.Searchers.{walk_of, offered_place, OfferGives, IsDone};
     ghost use Rattle.nfa_search_base.specs.Serving.{ServesTurn, StepDone};
 
-    /// The iteration over the matches of this input, before its first.
+    /// Makes an iteration over the matches of this input, before its first.
     pub fn new(input: Input<'h>) -> Searcher<'h>
         ensures { walk_of result ≡ fresh (search_of input.entry) }
     {
@@ -96,7 +96,7 @@ impl<'h> Searcher<'h> {
         Offered::Done(answer)
     }
 
-    /// The next match that the finder gives.
+    /// Returns the next match that the finder gives.
     ///
     /// The finder is called on [`Searcher::input`]. If it answers an empty match where the last
     /// match ended, the input's start moves one byte on, the finder is called once more, and that
@@ -168,7 +168,7 @@ impl<'h> Searcher<'h> {
         }
     }
 
-    /// The next half match that the finder gives.
+    /// Returns the next half match that the finder gives.
     ///
     /// The same as [`Searcher::try_advance`] where only the ends of matches are known: the finder
     /// is called a second time where its first answer has the offset at which the last match

@@ -11,7 +11,8 @@ use Rattle.nfa_compiler.proofs.compiler.Compiler.build_many_from_hir.Goals as go
 pub returns-clause-made : goal.returns-clause-made
 returns-clause-made c =
     nfa-made _ _ _ c.args.patterns.now c.in_ok-starts.starts.items c.in_ok-anchored.anchored _ _ _ _ _
-    c.in_ok-starts.ensures.count c.in_ok-groups.ensures.groups c.in_ok-starts.ensures.made c.in_ok-anchored.ensures.added
+    c.in_ok-starts.ensures.count c.in_ok-groups.ensures.groups c.in_ok-starts.ensures.made
+    c.in_ok-anchored.ensures.added
     (rw c.deref.ensures.value at c.in_ok-anchored.ensures.chooses)
     (omega (arith, c.in_ok-anchored.ensures.within, nodes-length c.choice.new.states))
     c.in_ok-unanchored.ensures.added c.in-Ok.ensures.1
@@ -36,7 +37,8 @@ pub unreachable-requires : goal.unreachable-requires
 unreachable-requires c =
     no-flaw _ c.in-Err.ensures.0
     (built-valid _ _ _ c.args.patterns.now c.in_ok-starts.starts.items c.in_ok-anchored.anchored _ _ false false
-    c.in_ok-groups.ensures.groups c.in_ok-starts.ensures.count c.in_ok-starts.ensures.range c.in_ok-anchored.ensures.range
+    c.in_ok-groups.ensures.groups c.in_ok-starts.ensures.count c.in_ok-starts.ensures.range
+    c.in_ok-anchored.ensures.range
     c.in_ok-unanchored.ensures.range c.in_ok-anchored.ensures.added c.in_ok-unanchored.ensures.added
     (subst (λ n. All (λ s. s < n) c.in_ok-starts.starts.items) (nodes-length c.add_patterns.new.states)
     c.in_ok-starts.ensures.inside)
