@@ -163,10 +163,8 @@ pub fn matched_pattern(vm: &PikeVM, cache: &mut Cache, input: &Input<'_>) -> Opt
     ensures { IfSome result (λ p. MatchesPattern vm.now.nfa (search_of input.now) (number_of p)) }
 {
     laws::found_is_an_accepting_path();
-    match vm.search_slots(cache, input, &mut []) {
-        Some(pattern) => Some(pattern),
-        None => None,
-    }
+    let pattern = vm.search_slots(cache, input, &mut [])?;
+    Some(pattern)
 }
 
 /// Returns whether the search has no pattern. If it is true, there is no accepting path.
