@@ -1,4 +1,5 @@
 pub mod Names
+pub mod Printed
 pub mod Replaced
 pub mod Separated
 pub mod Templates

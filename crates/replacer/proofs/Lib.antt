@@ -1,0 +1,2 @@
+-- The lemma on writes.
+pub mod WriteLemmas
