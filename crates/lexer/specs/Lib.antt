@@ -1,2 +1,3 @@
 pub mod Lexers
+pub mod Printed
 pub mod Tokens

@@ -1,5 +1,5 @@
 -- Tokens of a text, by anchored searches of a PikeVM.
-use Rattle.std.specs.Prelude.{ℕ, ◌≡◌, ◌<◌, false, List, [], ◌∷◌, length, reverse, Option, Some, None, option_map, slice_range}
+use Rattle.std.specs.Prelude.{ℕ, ◌≡◌, ◌<◌, ◌≤◌, false, List, [], ◌∷◌, length, reverse, Option, Some, None, option_map, slice_range}
 use Rattle.regex_search_core.specs.Found.{Found, found_of}
 use Rattle.regex_search_core.specs.Patterns.{number_of}
 use Rattle.regex_search_core.specs.Search.{Search}
@@ -27,6 +27,11 @@ token_found token = record { pattern = number_of token.pattern; start = token.sp
 -- the text of a token
 abbrev pub text_of : List ℕ → Token → List ℕ
 text_of text token = slice_range text token.span.start token.span.end
+
+-- the token has a byte at least, and lies in the text
+pub record LiesIn (text : List ℕ) (token : Token) : Type 0 where
+  pub some_bytes : token.span.start < token.span.end
+  pub within : token.span.end ≤ length text
 
 -- where the tokens end: where no token starts, or at the end of the text
 abbrev pub end_of_tokens : Option Stuck → ℕ → ℕ

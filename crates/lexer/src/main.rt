@@ -5,6 +5,7 @@ mod lexer;
 mod patterns;
 mod report;
 
+use crate::patterns::PATTERNS;
 use anyhow::Result;
 use std::io::BufWriter;
 use std::process::ExitCode;
@@ -32,7 +33,7 @@ fn main(rt: HostRuntime) -> Result<ExitCode> {
 
 fn run(rt: &HostRuntime) -> Result<ExitCode> {
     let mut out = BufWriter::new(rt.alloc(), io::writer(rt))?;
-    let whole = report::run(rt.alloc(), rt.reader(), &mut out)?;
+    let whole = report::run(rt.alloc(), &PATTERNS, rt.reader(), &mut out)?;
     Ok(if whole {
         ExitCode::SUCCESS
     } else {

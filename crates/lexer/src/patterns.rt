@@ -1,14 +1,12 @@
 //! The patterns of a small language, as one NFA.
 ghost use Rattle.std.specs.Prelude.{◌≡◌, IfOk, map};
 ghost use Rattle.nfa_compiler.specs.Compiled.{IsCompiled};
+ghost use Rattle.lexer.specs.Printed.{rule_name};
 ghost use Rattle.lexer.specs.Tokens.{rule_syntax};
 
 use nfa_compiler::{CompileError, Compiler, Config};
 use std::alloc::Global;
 use thompson_nfa::NFA;
-
-/// The name of each pattern, by its number.
-pub const NAMES: [&str; 5] = ["identifier", "number", "string", "space", "operator"];
 
 /// The number of the pattern `space`.
 pub const SPACE: usize = 3;
@@ -32,4 +30,17 @@ pub fn language(alloc: Global, patterns: &[&str]) -> Result<NFA, CompileError>
     Compiler::new()
         .configure(config)
         .build_many(alloc, patterns)
+}
+
+/// Returns the name of the pattern of this number.
+pub fn rule_name(pattern: usize) -> &'static str
+    ensures { result.now ≡ rule_name pattern }
+{
+    match pattern {
+        0 => "identifier",
+        1 => "number",
+        2 => "string",
+        SPACE => "space",
+        _ => "operator",
+    }
 }

@@ -1,0 +1,3 @@
+-- The lemmas on writes and on tokens.
+pub mod TokenLemmas
+pub mod WriteLemmas
