@@ -1,3 +1,4 @@
 pub mod Lexers
 pub mod Printed
+pub mod Rules
 pub mod Tokens

@@ -2,41 +2,75 @@
 #![tactic(auto)]
 
 mod lexer;
-mod patterns;
 mod report;
+mod rules;
 
-use crate::patterns::PATTERNS;
 use anyhow::Result;
+use nfa_engines::pikevm::PikeVM;
+use std::fmt::Display;
 use std::io::BufWriter;
 use std::process::ExitCode;
-use std::{env, io};
+use std::{env, fs, io};
 
 /// The line that says how the program is called.
-const USAGE: &str = "usage: lexer < TEXT";
+const USAGE: &str = "usage: lexer [RULES] < TEXT";
+
+/// What `--help` prints below it.
+const HELP: &str = "
+Prints each token of the text in a line: the name of its rule, its span in bytes, and its text.
+RULES is a file with a rule in each line: NAME = PATTERN. Empty lines, and lines that start with #, are left out.
+The first rule that matches is taken. Texts of the rule `space` are not printed.
+
+Status: 0 if the tokens are the whole text, 1 if no token starts at some place or the text cannot be read or a token
+written, 2 if the arguments or the rules are wrong.";
 
 /// The text has a place where no token starts.
 const STUCK: u8 = 1;
 
-/// The words on the command line ask for something, and the program knows none.
+/// The arguments or the rules are wrong.
 const MISUSED: u8 = 2;
 
 // An error is printed on standard error, and the status then is 1 too.
 fn main(rt: HostRuntime) -> Result<ExitCode> {
-    let words: Vec<String> = env::args(&rt)?.skip(1).collect(rt.alloc())?;
-    if !words.is_empty() {
-        // The status tells of it where this is not written.
-        let _ = eprintln!(rt; "{USAGE}");
-        return Ok(ExitCode::from(MISUSED));
+    let arguments: Vec<String> = env::args(&rt)?.skip(1).collect(rt.alloc())?;
+    let words: Vec<&str> = arguments
+        .iter()
+        .map(|word| word.as_str())
+        .collect(rt.alloc())?;
+    match words.as_slice() {
+        [] => run(&rt, rules::DEFAULT),
+        ["--help"] => {
+            println!(rt; "{USAGE}\n{HELP}")?;
+            Ok(ExitCode::SUCCESS)
+        }
+        [name] if !name.starts_with('-') => match fs::read_to_string(&rt, *name) {
+            Ok(text) => run(&rt, &text),
+            Err(error) => Ok(misused(&rt, error)),
+        },
+        _ => Ok(misused(&rt, USAGE)),
     }
-    run(&rt)
 }
 
-fn run(rt: &HostRuntime) -> Result<ExitCode> {
+fn run(rt: &HostRuntime, text: &str) -> Result<ExitCode> {
+    let rules = match rules::parse(rt.alloc(), text) {
+        Ok(rules) => rules,
+        Err(error) => return Ok(misused(rt, error)),
+    };
+    let vm = match rules::compile(rt.alloc(), &rules) {
+        Ok(nfa) => PikeVM::new_from_nfa(nfa)?,
+        Err(error) => return Ok(misused(rt, error)),
+    };
     let mut out = BufWriter::new(rt.alloc(), io::writer(rt))?;
-    let whole = report::run(rt.alloc(), &PATTERNS, rt.reader(), &mut out)?;
+    let whole = report::run(rt.alloc(), &vm, &rules, rt.reader(), &mut out)?;
     Ok(if whole {
         ExitCode::SUCCESS
     } else {
         ExitCode::from(STUCK)
     })
+}
+
+// The status says so even if the line cannot be written.
+fn misused<T: Display + Drop>(rt: &HostRuntime, why: T) -> ExitCode {
+    let _ = eprintln!(rt; "{why}");
+    ExitCode::from(MISUSED)
 }

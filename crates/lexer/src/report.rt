@@ -1,11 +1,12 @@
 //! A line for each token.
-ghost use Rattle.std.specs.Prelude.{◌++◌, All, IfOk, IfSome, OnOk, codes, flat_map, length, map};
+ghost use Rattle.std.specs.Prelude.{◌≡◌, ◌++◌, All, IfOk, IfSome, OnOk, codes, flat_map, length, slice_get};
 ghost use Rattle.std.specs.Io.KnownBytes.{Appends};
-ghost use Rattle.lexer.specs.Printed.{PrintsTokens, Takes, shown_place, shown_text, stuck_line, token_line};
+ghost use Rattle.lexer.specs.Printed.{PrintsTokens, Takes, rule_line, shown_place, shown_text, stuck_line};
+ghost use Rattle.lexer.specs.Printed.{token_line, unknown_line};
 ghost use Rattle.lexer.specs.Tokens.{AreTokens, IsStuck, LiesIn, end_of_tokens};
 
 use crate::lexer::{Lexed, Token, tokens};
-use crate::patterns::{SPACE, language, rule_name};
+use crate::rules::Rule;
 use anyhow::Result;
 use nfa_engines::pikevm::PikeVM;
 use regex_search_core::Span;
@@ -13,35 +14,41 @@ use std::alloc::Global;
 use std::io;
 use std::io::{Read, Write};
 
-/// Reads the text to its end and prints its tokens by these rules, and says whether they are the whole of it. Where
-/// they are not, the last line says at which offset no token starts. The error is that the rules are no patterns, the
-/// input was not read, the output not written, or memory refused; nothing more is written then.
+/// Reads the text to its end and prints its tokens by a PikeVM of these rules, and says whether they are the whole of
+/// it. Where they are not, the last line says at which offset no token starts. The error is that the input was not
+/// read, the output not written, or memory refused; nothing more is written then.
 ///
 /// What is printed is said of a reader and a writer of known bytes: the text is all that the reader had left, and the
 /// writer has taken just these lines.
 pub fn run<R: Read + Drop, W: Write>(
     alloc: Global,
-    rules: &[&str],
+    vm: &PikeVM,
+    rules: &[Rule<'_>],
     mut input: R,
     out: &mut W,
 ) -> Result<bool>
     ensures { IfOk result (λ whole. IfSome (R.remaining input) (λ text. Takes (W.contents out.old) (W.contents out.new)
-        (PrintsTokens (map (λ rule. rule.now) rules.now) text whole))) }
+        (PrintsTokens vm.now rules.now text whole))) }
 {
     let mut text = Vec::new(alloc);
     input.read_to_end(&mut text)?;
-    print_tokens(alloc, rules, &text, out)
+    print_tokens(alloc, vm, rules, &text, out)
 }
 
-fn print_tokens<W: Write>(alloc: Global, rules: &[&str], text: &[u8], out: &mut W) -> Result<bool>
+fn print_tokens<W: Write>(
+    alloc: Global,
+    vm: &PikeVM,
+    rules: &[Rule<'_>],
+    text: &[u8],
+    out: &mut W,
+) -> Result<bool>
     ensures { IfOk result (λ whole. Takes (W.contents out.old) (W.contents out.new)
-        (PrintsTokens (map (λ rule. rule.now) rules.now) text.now whole)) }
+        (PrintsTokens vm.now rules.now text.now whole)) }
 {
-    let vm = PikeVM::new_from_nfa(language(alloc, rules)?)?;
     let mut cache = vm.create_cache(alloc)?;
-    let lexed = tokens(alloc, &vm, &mut cache, text)?;
-    lie_in_text(&vm, text, &lexed);
-    write_lexed(out, text, &lexed)?;
+    let lexed = tokens(alloc, vm, &mut cache, text)?;
+    lie_in_text(vm, text, &lexed);
+    write_lexed(out, rules, text, &lexed)?;
     Ok(lexed.stuck.is_none())
 }
 
@@ -54,12 +61,17 @@ fn lie_in_text(vm: &PikeVM, text: &[u8], lexed: &Lexed)
 
 /// Writes a line for each token, and one for the place where no token starts.
 #[tactic(auto, using(crate::proofs::WriteLemmas::appends_both))]
-fn write_lexed<W: Write>(out: &mut W, text: &[u8], lexed: &Lexed) -> io::Result<()>
+fn write_lexed<W: Write>(
+    out: &mut W,
+    rules: &[Rule<'_>],
+    text: &[u8],
+    lexed: &Lexed,
+) -> io::Result<()>
     requires { All (LiesIn text.now) lexed.now.tokens.items }
     ensures { OnOk result (Appends (W.contents out.old) (W.contents out.new)
-        (flat_map (token_line text.now) lexed.now.tokens.items ++ stuck_line lexed.now.stuck)) }
+        (flat_map (token_line rules.now text.now) lexed.now.tokens.items ++ stuck_line lexed.now.stuck)) }
 {
-    write_tokens(out, text, &lexed.tokens)?;
+    write_tokens(out, rules, text, &lexed.tokens)?;
     if let Some(stuck) = &lexed.stuck {
         let at = stuck.at;
         writeln!(out, "no token at {at}")?;
@@ -68,28 +80,64 @@ fn write_lexed<W: Write>(out: &mut W, text: &[u8], lexed: &Lexed) -> io::Result<
 }
 
 #[tactic(auto, using(crate::proofs::WriteLemmas::appends_both))]
-fn write_tokens<W: Write>(out: &mut W, text: &[u8], tokens: &[Token]) -> io::Result<()>
+fn write_tokens<W: Write>(
+    out: &mut W,
+    rules: &[Rule<'_>],
+    text: &[u8],
+    tokens: &[Token],
+) -> io::Result<()>
     requires { All (LiesIn text.now) tokens.now }
     ensures { OnOk result (Appends (W.contents out.old) (W.contents out.new)
-        (flat_map (token_line text.now) tokens.now)) }
+        (flat_map (token_line rules.now text.now) tokens.now)) }
 {
     for token in tokens {
-        write_token(out, text, token)?;
+        write_token(out, rules, text, token)?;
     }
     Ok(())
 }
 
-/// Writes the name of the rule, the span, and the text, which for white space is left out.
-#[tactic(auto, using(crate::proofs::WriteLemmas::appends_both))]
-fn write_token<W: Write>(out: &mut W, text: &[u8], token: &Token) -> io::Result<()>
+fn write_token<W: Write>(
+    out: &mut W,
+    rules: &[Rule<'_>],
+    text: &[u8],
+    token: &Token,
+) -> io::Result<()>
     requires { LiesIn text.now token.now }
-    ensures { OnOk result (Appends (W.contents out.old) (W.contents out.new) (token_line text.now token.now)) }
+    ensures { OnOk result (Appends (W.contents out.old) (W.contents out.new)
+        (token_line rules.now text.now token.now)) }
 {
-    write_place(out, rule_name(token.pattern.as_usize()), token.span)?;
-    if token.pattern.as_usize() == SPACE {
+    let shown = &text[token.span.start..token.span.end];
+    match rule_at(rules, token.pattern.as_usize()) {
+        Some(rule) => write_rule(out, rule, token.span, shown),
+        None => write_unknown(out, token.span, shown),
+    }
+}
+
+/// Returns the rule of this number.
+fn rule_at<'t>(rules: &[Rule<'t>], number: usize) -> Option<Rule<'t>>
+    ensures { result ≡ slice_get rules.now number }
+{
+    rules.get(number).copied()
+}
+
+/// Writes the name of the rule, the span, and the text, if it is not hidden.
+#[tactic(auto, using(crate::proofs::WriteLemmas::appends_both))]
+fn write_rule<W: Write>(out: &mut W, rule: Rule<'_>, span: Span, text: &[u8]) -> io::Result<()>
+    ensures { OnOk result (Appends (W.contents out.old) (W.contents out.new) (rule_line rule.entry span text.now)) }
+{
+    write_place(out, rule.name, span)?;
+    if rule.hidden {
         return out.write_all(b"\n");
     }
-    write_text(out, &text[token.span.start..token.span.end])
+    write_text(out, text)
+}
+
+#[tactic(auto, using(crate::proofs::WriteLemmas::appends_both))]
+fn write_unknown<W: Write>(out: &mut W, span: Span, text: &[u8]) -> io::Result<()>
+    ensures { OnOk result (Appends (W.contents out.old) (W.contents out.new) (unknown_line span text.now)) }
+{
+    write_place(out, "?", span)?;
+    write_text(out, text)
 }
 
 fn write_place<W: Write>(out: &mut W, name: &str, span: Span) -> io::Result<()>

@@ -5,10 +5,9 @@ use Rattle.lexer.proofs.report.print_tokens.Goals as goal
 
 pub returns : goal.returns
 returns g c = record {
-  output = flat_map (token_line c.args.text.now) c.in_ok-lexed.lexed.tokens.items ++ stuck_line c.in_ok-lexed.lexed.stuck;
+  output = flat_map (token_line c.args.rules.now c.args.text.now) c.in_ok-lexed.lexed.tokens.items
+      ++ stuck_line c.in_ok-lexed.lexed.stuck;
   is_output = record {
-    vm = c.in_ok-vm.vm;
-    compiled = search rules;
     tokens = c.in_ok-lexed.lexed.tokens.items;
     stuck = c.in_ok-lexed.lexed.stuck;
     are = c.in_ok-lexed.ensures.tokens;

@@ -6,4 +6,4 @@ use Rattle.lexer.proofs.report.write_tokens.Given as goal
 
 abbrev pub invariant-loop-token : goal.invariant-loop-token
 invariant-loop-token g l = Appends (g.W.Write.contents l.fn.out) (g.W.Write.contents l.out)
-    (flat_map (token_line l.text) (take l.token-index l.tokens))
+    (flat_map (token_line l.rules l.text) (take l.token-index l.tokens))

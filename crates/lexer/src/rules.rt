@@ -1,0 +1,158 @@
+//! The rules of a language: in each line of a text the name of a rule, `=`, and its pattern.
+ghost use Rattle.std.specs.Prelude.{◌≡◌, IfOk, IfSome, map};
+ghost use Rattle.nfa_compiler.specs.Compiled.{IsCompiled};
+ghost use Rattle.lexer.specs.Rules.{IsRuleOf};
+ghost use Rattle.lexer.specs.Tokens.{rule_syntax};
+
+use nfa_compiler::{CompileError, Compiler, Config, SyntaxError};
+use std::alloc::{AllocError, AllocFailed, Global};
+use thiserror::Error;
+use thompson_nfa::NFA;
+
+/// The rules that the program has where no others are given.
+///
+/// A string is of any bytes without a line feed, and a backslash keeps the byte after it. The operators of two bytes
+/// come before those of one, so they are preferred.
+pub const DEFAULT: &str = concat!(
+    "identifier = [A-Za-z_][0-9A-Za-z_]*\n",
+    "number = [0-9]+(?:\\.[0-9]+)?\n",
+    "string = \"(?:(?-u:[^\\n\"\\\\])|\\\\(?-u:[^\\n]))*\"\n",
+    "space = [\\t\\n\\r ]+\n",
+    "operator = ==|!=|<=|>=|->|[!%&(-/:->{-}]\n",
+);
+
+/// A rule: what matches its pattern is a token of its name.
+#[derive(Clone, Copy, Debug, PartialEq, Eq)]
+pub struct Rule<'t> {
+    pub name: &'t str,
+    pub pattern: &'t str,
+    /// Whether the text of a token is left out of its line: that of `space`.
+    pub hidden: bool,
+    /// The number of its line, from 1.
+    pub line: usize,
+    /// The character of the line, from 1, where the pattern starts.
+    pub column: usize,
+}
+
+/// Why a text is not a list of rules.
+#[derive(Debug, Drop, Error)]
+pub enum RulesError {
+    /// The line has no name, no `=` or no pattern.
+    #[error("line {line} of the rules is not NAME = PATTERN")]
+    NoRule {
+        line: usize,
+    },
+    /// At this character of the line, from 1, stands what is wrong with its pattern.
+    #[error("line {line} of the rules, column {column}: {reason}")]
+    NoPattern {
+        line: usize,
+        column: usize,
+        reason: &'static str,
+    },
+    /// The patterns cannot be compiled, or allocation failed.
+    #[error("{0}")]
+    Compile(CompileError),
+}
+
+impl<T: Drop> From<AllocFailed<T>> for RulesError {
+    fn from(_: AllocFailed<T>) -> RulesError {
+        RulesError::Compile(CompileError::Memory)
+    }
+}
+
+impl From<AllocError> for RulesError {
+    fn from(_: AllocError) -> RulesError {
+        RulesError::Compile(CompileError::Memory)
+    }
+}
+
+/// Returns the rules that the text has. Empty lines, and lines that start with `#`, have none.
+pub fn parse<'t>(alloc: Global, text: &'t str) -> Result<Vec<Rule<'t>>, RulesError> {
+    let mut rules = Vec::new(alloc);
+    let mut number = 0usize;
+    for line in text.lines() {
+        number = number.saturating_add(1);
+        if line.trim().is_empty() || line.starts_with('#') {
+            continue;
+        }
+        let Some(rule) = rule_of(line, number) else {
+            return Err(RulesError::NoRule { line: number });
+        };
+        rules.push(rule)?;
+    }
+    Ok(rules)
+}
+
+/// Returns the rule of a line: the name stands before the first `=`, the pattern behind it, both without white space
+/// around them. Returns `None` if one of them is missing.
+fn rule_of<'t>(line: &'t str, number: usize) -> Option<Rule<'t>>
+    ensures rule { IfSome result (IsRuleOf line.now) }
+{
+    let (before, behind) = line.split_once('=')?;
+    let (name, pattern) = (before.trim(), behind.trim());
+    if name.is_empty() || pattern.is_empty() {
+        return None;
+    }
+    Some(Rule {
+        name,
+        pattern,
+        hidden: name == "space",
+        line: number,
+        column: column_of(before, behind),
+    })
+}
+
+/// Returns the character, from 1, where the pattern starts: behind what stands before the `=`, the `=` and white space.
+fn column_of(before: &str, behind: &str) -> usize {
+    let space = behind
+        .chars()
+        .count()
+        .saturating_sub(behind.trim_start().chars().count());
+    before
+        .chars()
+        .count()
+        .saturating_add(space)
+        .saturating_add(2)
+}
+
+/// Compiles the patterns of these rules, each of which is bound to the start of a search and matches bytes.
+pub fn compile(alloc: Global, rules: &[Rule<'_>]) -> Result<NFA, RulesError>
+    ensures compiled { IfOk result (IsCompiled rule_syntax (map (λ rule. rule.pattern.now) rules.now)) }
+    ensures anchored { IfOk result (λ nfa. nfa.anchored ≡ nfa.unanchored) }
+{
+    let patterns = patterns_of(alloc, rules)?;
+    let config = Config::new().utf8(false).anchored(true);
+    match Compiler::new()
+        .configure(config)
+        .build_many(alloc, &patterns)
+    {
+        Ok(nfa) => Ok(nfa),
+        Err(CompileError::Syntax(error)) => Err(at_its_line(rules, error)),
+        Err(error) => Err(RulesError::Compile(error)),
+    }
+}
+
+/// Returns the patterns of these rules.
+fn patterns_of<'t>(alloc: Global, rules: &[Rule<'t>]) -> Result<Vec<&'t str>, AllocError>
+    ensures { IfOk result (λ patterns.
+        map (λ text. text.now) patterns.items ≡ map (λ rule. rule.pattern.now) rules.now) }
+{
+    let mut patterns = Vec::new(alloc);
+    for rule in rules {
+        patterns.push(rule.pattern)?;
+    }
+    Ok(patterns)
+}
+
+/// Returns the error as one of the line that has the pattern.
+fn at_its_line(rules: &[Rule<'_>], error: SyntaxError) -> RulesError {
+    let Some(rule) = rules.get(error.pattern()) else {
+        return RulesError::Compile(CompileError::Syntax(error));
+    };
+    let (before, _) = error.text().split_at(error.span().start);
+    RulesError::NoPattern {
+        line: rule.line,
+        column: before.chars().count().saturating_add(rule.column),
+        reason: error.kind().message(),
+    }
+}
