@@ -1,1 +1,2 @@
 mod KindLemmas
+mod DigitLemmas

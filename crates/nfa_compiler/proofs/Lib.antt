@@ -14,6 +14,7 @@ pub mod WayLemmas
 pub mod StartPairLemmas
 pub mod ExistsLemmas
 pub mod NameLemmas
+pub mod KnownLemmas
 pub mod GroupLemmas
 pub mod AllLemmas
 pub mod AllSearchLemmas
@@ -26,3 +27,5 @@ pub mod LiesLemmas
 pub mod StrSearchLemmas
 pub mod AllBoundaryLemmas
 pub mod StrCallLemmas
+pub mod WrittenLemmas
+pub mod Literals

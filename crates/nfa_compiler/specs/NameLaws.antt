@@ -11,7 +11,6 @@ use Rattle.regex_syntax.specs.declared.Config.{Config}
 use Rattle.regex_syntax.specs.Grammar.{read}
 use Rattle.thompson_nfa.specs.Automaton.{Automaton}
 use Rattle.nfa_compiler.specs.Compiled.{IsCompiled, IsNfaOf}
-use Rattle.nfa_compiler.specs.Laws.{hit}
 use Rattle.nfa_compiler.specs.Patterns.{Hit, slots_of}
 
 -- the grammar reads these names in the text, from group 0 on
@@ -43,19 +42,24 @@ captures_of nfa h =
       slots = slots_of nfa.groups (slot_count nfa.groups) (Some h);
     }
 
+-- which hit a search has
+abbrev pub HitOf : Type 0
+HitOf = List Re → Automaton → Search → Option Hit
+
 -- Captures of a hit give for an explicit group the positions that the match last wrote for it.
-abbrev pub GroupsAreWritten : Type 0
-GroupsAreWritten =
+abbrev pub GroupsAreWritten : HitOf → Type 0
+GroupsAreWritten hit_of_search =
     (res : List Re) (nfa : Automaton) (x : Search) (h : Hit) (group : ℕ) → IsNfaOf res nfa
-    → x.end ≡ length x.haystack → hit res nfa x ≡ Some h
+    → x.end ≡ length x.haystack → hit_of_search res nfa x ≡ Some h
     → 1 ≤ group → group ≤ length (groups_at nfa.groups h.pattern)
     → group_span (captures_of nfa h) group
     ≡ span_between (last_write h.trace.writes (2 * group)) (last_write h.trace.writes (2 * group + 1))
 
 -- So they do for a name: for the first group of this name.
-abbrev pub NamesAreWritten : Type 0
-NamesAreWritten =
+abbrev pub NamesAreWritten : HitOf → Type 0
+NamesAreWritten hit_of_search =
     (res : List Re) (nfa : Automaton) (x : Search) (h : Hit) (name : List ℕ) (group : ℕ) → IsNfaOf res nfa
-    → x.end ≡ length x.haystack → hit res nfa x ≡ Some h → group_named nfa.groups h.pattern name ≡ Some group
+    → x.end ≡ length x.haystack → hit_of_search res nfa x ≡ Some h
+    → group_named nfa.groups h.pattern name ≡ Some group
     → named_span (captures_of nfa h) name
     ≡ span_between (last_write h.trace.writes (2 * group)) (last_write h.trace.writes (2 * group + 1))

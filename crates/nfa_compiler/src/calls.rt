@@ -5,17 +5,18 @@
 //! let found = vm.find(&mut cache, Input::new(line));
 //! match_of_text(&compiler, pattern, vm.get_nfa(), line, found);
 //! ```
-ghost use Rattle.std.specs.Prelude.{◌≡◌, ◌==◌, ◌∷◌, [], IsUtf8, false, true, map, option_map};
+ghost use Rattle.std.specs.Prelude.{◌≡◌, ◌==◌, ◌↔◌, ◌∷◌, [], IsUtf8, false, true, map, option_map};
 ghost use Rattle.regex_hir.specs.Find.{find, find_all, find_all_str, find_str};
 ghost use Rattle.regex_hir.specs.Re.{Re};
 ghost use Rattle.regex_search_core.specs.Found.{found_of};
 ghost use Rattle.regex_search_core.specs.Search.{whole};
 ghost use Rattle.regex_search_core.specs.declared.search.MatchKind.TheVariants.{LeftmostFirst};
-ghost use Rattle.nfa_paths.specs.Paths.{is_utf8_empty, IsMatchAnswer};
+ghost use Rattle.nfa_paths.specs.Paths.{is_utf8_empty, IsFoundAnswer, IsMatchAnswer};
 ghost use Rattle.nfa_search_base.specs.Lists.{AreMatches};
 ghost use Rattle.nfa_compiler.specs.Compiled.{IsCompiled, IsMeant};
 ghost use Rattle.nfa_compiler.specs.Patterns.{found_by};
 ghost use Rattle.nfa_compiler.specs.Settings.{syntax_of};
+ghost use Rattle.nfa_compiler.specs.Written.{IsReadAs, MatchesIn};
 
 use crate::compiler::Compiler;
 use regex_search_core::Match;
@@ -36,6 +37,17 @@ pub fn match_of_text(
     requires answer { IsMatchAnswer nfa.now LeftmostFirst false (whole haystack.now) (option_map found_of found) }
     ensures { (re : Re) → IsMeant (syntax_of compiler.now) pattern.now re
         → option_map found_of found ≡ option_map found_by (find re haystack.now 0) }
+{}
+
+/// Whether a search of the whole haystack finds something: exactly if the pattern that is read in the text matches, in the
+/// textbook sense, from some position. The pattern may be written in any way that matches alike.
+pub fn is_match_of_text(compiler: &Compiler, pattern: &str, nfa: &NFA, haystack: &[u8], found: bool)
+    requires compiled { IsCompiled (syntax_of compiler.now) (pattern.now ∷ []) nfa.now }
+    requires anywhere { is_utf8_empty nfa.now ≡ false }
+    requires free { (nfa.now.anchored == nfa.now.unanchored) ≡ false }
+    requires answer { IsFoundAnswer nfa.now LeftmostFirst false (whole haystack.now) found }
+    ensures { (re : Re) → IsReadAs (syntax_of compiler.now) pattern.now re
+        → (found ≡ true) ↔ MatchesIn haystack.now re }
 {}
 
 /// All matches of a search of the whole haystack are what `find_all` of `regex_hir` gives for that pattern.

@@ -2,11 +2,13 @@
 ghost use Rattle.nfa_compiler.specs.AllLaws.{AllHitsAreFindAll, MatchesAreAllHits, MatchesAreAllOfTexts};
 ghost use Rattle.nfa_compiler.specs.AllLaws.{RowsAreAllHits, RowsAreAllOfTexts};
 ghost use Rattle.nfa_compiler.specs.KindLaws.{AnswersIfMatches, FindsIfMatches};
-ghost use Rattle.nfa_compiler.specs.Laws.{AnswersAreHits, FindsHits, LooksAgree, MatchesAreHits, OneHitIsFind};
+ghost use Rattle.nfa_compiler.specs.BoundaryHits.{boundary_hit};
+ghost use Rattle.nfa_compiler.specs.Laws.{AnswersAreHits, FindsHits, LooksAgree, MatchesAreHits, OneHitIsFind, hit};
 ghost use Rattle.nfa_compiler.specs.Laws.{TextsAreAnswered, TextsAreMatched};
 ghost use Rattle.nfa_compiler.specs.NameLaws.{GroupsAreNamed, GroupsAreWritten, NamesAreWritten};
 ghost use Rattle.nfa_compiler.specs.SetLaws.{SetsHoldMatches};
 ghost use Rattle.nfa_compiler.specs.WayLaws.{PatternsRecordBounds, TextsRecordBounds};
+ghost use Rattle.nfa_compiler.specs.StrHits.{str_hit};
 ghost use Rattle.nfa_compiler.specs.StrLaws.{AllHitsAreFindAllStr, MatchesAreAllOfStrs, OneHitIsFindStr};
 ghost use Rattle.nfa_compiler.specs.StrLaws.{RowsAreAllOfStrs, StrsAreAnswered, StrsAreMatched};
 ghost use Rattle.nfa_compiler.specs.Utf8Laws.{AnswersAreBoundaryHits, FindsBoundaryHits, MatchesAreBoundaryHits};
@@ -79,11 +81,15 @@ pub fn sets_hold_patterns_that_match()
 
 /// The groups of an NFA have the names that the grammar reads in the texts. The captures of a hit give for a group the
 /// span that the match last wrote for it, and for a name that of its first group, as `Captures::get_group_by_name`
-/// does.
+/// does: of a hit in byte mode, of one that ends on a boundary, and of one in a `str`.
 pub fn groups_are_those_of_texts()
     ensures names { GroupsAreNamed }
-    ensures spans { GroupsAreWritten }
-    ensures named { NamesAreWritten }
+    ensures spans { GroupsAreWritten hit }
+    ensures named { NamesAreWritten hit }
+    ensures boundary_spans { GroupsAreWritten boundary_hit }
+    ensures boundary_named { NamesAreWritten boundary_hit }
+    ensures str_spans { GroupsAreWritten str_hit }
+    ensures str_named { NamesAreWritten str_hit }
 {}
 
 /// The same as [`searches_find_hits`] in UTF-8 mode, for patterns that may match the empty string: a search finds the

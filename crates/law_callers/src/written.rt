@@ -1,0 +1,44 @@
+//! Functions whose pattern is written out. The contracts of the last two say what a line holds, and name no NFA and no
+//! compiler.
+ghost use Rattle.std.specs.Prelude.{◌≡◌, ◌↔◌, IfOk, true};
+ghost use Rattle.std.specs.Char.{is_ascii_digit};
+ghost use Rattle.std.specs.List.{list_any};
+ghost use Rattle.regex_hir.specs.Re.{Re};
+ghost use Rattle.nfa_compiler.specs.Written.{IsReadAs, MatchesIn, byte_syntax};
+ghost use Rattle.law_callers.specs.Lines.{HoldsMonth};
+
+use anyhow::Result;
+use nfa_compiler::calls::is_match_of_text;
+use nfa_compiler::{Compiler, Config};
+use nfa_engines::pikevm::PikeVM;
+use regex_search_core::Input;
+use std::alloc::Global;
+
+/// Returns whether the pattern matches somewhere in the line, which is bytes.
+pub fn matches_text(alloc: Global, pattern: &str, line: &[u8]) -> Result<bool>
+    ensures { IfOk result (λ found. (re : Re) → IsReadAs byte_syntax pattern.now re
+        → (found ≡ true) ↔ MatchesIn line.now re) }
+{
+    let compiler = Compiler::new().configure(Config::new().utf8(false));
+    let vm = PikeVM::new_from_nfa(compiler.build(alloc, pattern)?)?;
+    let mut cache = vm.create_cache(alloc)?;
+    let found = vm.is_match(&mut cache, Input::new(line));
+    is_match_of_text(&compiler, pattern, vm.get_nfa(), line, found);
+    Ok(found)
+}
+
+/// Returns whether the line has an ASCII digit.
+pub fn holds_digit(alloc: Global, line: &[u8]) -> Result<bool>
+    ensures { IfOk result (λ found. found ≡ list_any is_ascii_digit line.now) }
+{
+    let found = matches_text(alloc, "[0-9]", line)?;
+    Ok(found)
+}
+
+/// Returns whether the line has a year and a month, such as `2024-02`.
+pub fn holds_month(alloc: Global, line: &[u8]) -> Result<bool>
+    ensures { IfOk result (λ found. (found ≡ true) ↔ HoldsMonth line.now) }
+{
+    let found = matches_text(alloc, "[0-9]{4}-[0-9]{2}", line)?;
+    Ok(found)
+}
