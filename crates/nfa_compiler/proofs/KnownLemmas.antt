@@ -1,4 +1,4 @@
--- A hit of UTF-8 mode is one of the patterns.
+-- A hit is one of the patterns.
 use Rattle.std.proofs.Common.{◌≡◌, ℕ, zero, suc, ◌+◌, ◌-◌, ◌<◌, inl, inr, Bool, true, false, List, [], ◌∷◌, length, refl, arith}
 use Rattle.std.specs.Prelude.{Option, None, Some, option_and_then, slice_get, if◌then◌else◌}
 use Rattle.std.proofs.lemmas.Bool.{cases_lt, lt-ltb, le-ltb}
@@ -11,7 +11,7 @@ use Rattle.regex_search_core.specs.Search.{Search}
 use Rattle.regex_search_core.specs.declared.search.Anchored.{Anchored}
 use Rattle.regex_search_core.specs.declared.search.Anchored.TheVariants.{No, Yes, Pattern}
 use Rattle.nfa_compiler.specs.BoundaryHits.{boundary_hit_at_start, ends_on_boundary, expected_on_boundary, on_boundary, restarted_hit}
-use Rattle.nfa_compiler.specs.Patterns.{Hit, first_hit, hit_of, pick, pick_one}
+use Rattle.nfa_compiler.specs.Patterns.{Hit, expected, first_hit, hit_at_start, hit_of, pick, pick_one}
 use Rattle.nfa_compiler.specs.StrHits.{at_boundary, expected_in_str, str_hit_at_start}
 use Rattle.nfa_compiler.proofs.LiesLemmas.{at-is, kept-is}
 
@@ -63,6 +63,20 @@ module _ (res : List Re) (bound : Bool) (x : Search) (h : Hit) where
 
   at-start : (i : ℕ) (g : Hit) → pick x.haystack res 0 i ≡ Some g → g.pattern < length res
   at-start i g e = omega (arith, pick-known x.haystack res 0 i g e)
+
+  pub hit-pattern : expected res bound x ≡ Some h → Known
+  unfolding expected
+  hit-pattern e = elim (cases_lt x.end x.start) [
+    | inl past ↦ absurd (let none = rw (lt-ltb x.end x.start past) at e in (cc))
+    | inr inside ↦ by_mode x.anchored (rw (le-ltb x.end x.start inside) at e)
+  ]
+    where
+      by_mode : (mode : Anchored) → hit_at_start res bound x mode ≡ Some h → Known
+      by_mode No is =
+          first-known x.haystack (length res) (pick x.haystack res 0) at-start
+          (if bound then 1 else (x.end - x.start + 1)) x.start h is
+      by_mode Yes is = at-start x.start h is
+      by_mode (Pattern pattern) is = one-known x.haystack res (number_of pattern) x.start h is
 
   pub boundary-pattern : expected_on_boundary res bound x ≡ Some h → Known
   unfolding expected_on_boundary

@@ -1,6 +1,6 @@
 -- A pattern that is written out matches where the tree does that is compiled for its text.
 use Rattle.std.proofs.Common.{◌≡◌, ℕ, ◌≤◌, ◌<◌, inl, inr, Bool, true, false, List, [], ◌∷◌, length, refl, sym, ap, ◌∙◌, subst, arith, true≢false, eq-eqb}
-use Rattle.std.specs.Prelude.{Option, None, Some, All, IsSome, IsSomeAnd, is_some, string_bytes, map, option_map, slice_index_or, if◌then◌else◌, ◌==◌, ◌↔◌, chars}
+use Rattle.std.specs.Prelude.{Option, None, Some, All, IsSomeAnd, is_some, string_bytes, map, option_map, slice_index_or, if◌then◌else◌, ◌==◌, ◌↔◌, chars}
 use Rattle.std.specs.List.{AllZip}
 use Rattle.std.proofs.lemmas.Bool.Decides.{eqb_tells}
 use Rattle.regex_search_core.specs.Search.{whole}
@@ -22,8 +22,8 @@ use Rattle.regex_syntax.specs.declared.Parsed.{Parsed}
 use Rattle.regex_syntax.proofs.CapturesLemmas.{◌also◌, alike_of_same, alike_sym}
 use Rattle.thompson_nfa.specs.Automaton.{Automaton}
 use Rattle.nfa_paths.specs.Paths.{is_utf8_empty, IsFoundAnswer, IsScanAnswer}
-use Rattle.nfa_compiler.specs.Compiled.{IsCompiled, IsNfaOf, IsRead, res_of}
-use Rattle.nfa_compiler.specs.KindLaws.{MatchesSomewhere, PatternMatches}
+use Rattle.nfa_compiler.specs.Compiled.{IsCompiled, IsRead, res_of}
+use Rattle.nfa_compiler.specs.KindLaws.{MatchesSomewhere}
 use Rattle.nfa_compiler.specs.Written.{IsReadAs, MatchesIn}
 use Rattle.nfa_compiler.proofs.ExistsLemmas.{path-iff}
 

@@ -5,21 +5,25 @@
 //! let found = vm.find(&mut cache, Input::new(line));
 //! match_of_text(&compiler, pattern, vm.get_nfa(), line, found);
 //! ```
-ghost use Rattle.std.specs.Prelude.{◌≡◌, ◌==◌, ◌↔◌, ◌∷◌, [], IsUtf8, false, true, map, option_map};
+ghost use Rattle.std.specs.Prelude.{◌≡◌, ◌==◌, ◌↔◌, ◌∷◌, [], IsUtf8, List, Option, Some, drop, false};
+ghost use Rattle.std.specs.Prelude.{length, map, option_and_then, option_map, true, ℕ};
 ghost use Rattle.regex_hir.specs.Find.{find, find_all, find_all_str, find_str};
 ghost use Rattle.regex_hir.specs.Re.{Re};
 ghost use Rattle.regex_search_core.specs.Found.{found_of};
+ghost use Rattle.regex_search_core.specs.Groups.{group_named, slot_count};
 ghost use Rattle.regex_search_core.specs.Search.{whole};
+ghost use Rattle.regex_search_core.specs.Slots.{named_span};
 ghost use Rattle.regex_search_core.specs.declared.search.MatchKind.TheVariants.{LeftmostFirst};
-ghost use Rattle.nfa_paths.specs.Paths.{is_utf8_empty, IsFoundAnswer, IsMatchAnswer};
+ghost use Rattle.nfa_paths.specs.Paths.{is_utf8_empty, IsAnswer, IsFoundAnswer, IsMatchAnswer};
 ghost use Rattle.nfa_search_base.specs.Lists.{AreMatches};
 ghost use Rattle.nfa_compiler.specs.Compiled.{IsCompiled, IsMeant};
+ghost use Rattle.nfa_compiler.specs.NameLaws.{IsNamed, written_span};
 ghost use Rattle.nfa_compiler.specs.Patterns.{found_by};
 ghost use Rattle.nfa_compiler.specs.Settings.{syntax_of};
 ghost use Rattle.nfa_compiler.specs.Written.{IsReadAs, MatchesIn};
 
 use crate::compiler::Compiler;
-use regex_search_core::Match;
+use regex_search_core::{Captures, Match};
 use thompson_nfa::NFA;
 
 /// The match of a search of the whole haystack is what `find` of `regex_hir` gives for the pattern that the grammar
@@ -99,4 +103,26 @@ pub fn matches_in_str(
     requires all { AreMatches nfa.now LeftmostFirst false (whole haystack.now) (map found_of found.now) }
     ensures { (re : Re) → IsMeant (syntax_of compiler.now) pattern.now re
         → map found_of found.now ≡ map found_by (find_all_str re haystack.now) }
+{}
+
+/// What captures of a search of the whole `str` give for a name: the span that the match of `find_str` last wrote for the
+/// first group that has the name in the text.
+pub fn named_group_in_str(
+    compiler: &Compiler,
+    pattern: &str,
+    nfa: &NFA,
+    haystack: &[u8],
+    captures: &Captures,
+    name: &str,
+)
+    requires compiled { IsCompiled (syntax_of compiler.now) (pattern.now ∷ []) nfa.now }
+    requires utf8 { nfa.now.utf8 ≡ true }
+    requires text { IsUtf8 haystack.now }
+    requires free { (nfa.now.anchored == nfa.now.unanchored) ≡ false }
+    requires groups { captures.now.groups ≡ nfa.now.groups }
+    requires room { length captures.now.slots ≡ slot_count nfa.now.groups }
+    requires answer { IsAnswer nfa.now LeftmostFirst false (whole haystack.now) captures.now.pattern captures.now.slots }
+    ensures { (re : Re) (names : List (Option (List ℕ))) (group : ℕ) → IsMeant (syntax_of compiler.now) pattern.now re
+        → IsNamed (syntax_of compiler.now) pattern.now names → group_named (drop 1 names ∷ []) 0 name.now ≡ Some group
+        → named_span captures.now name.now ≡ option_and_then (written_span group) (find_str re haystack.now 0) }
 {}

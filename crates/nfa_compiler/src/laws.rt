@@ -5,7 +5,7 @@ ghost use Rattle.nfa_compiler.specs.KindLaws.{AnswersIfMatches, FindsIfMatches};
 ghost use Rattle.nfa_compiler.specs.BoundaryHits.{boundary_hit};
 ghost use Rattle.nfa_compiler.specs.Laws.{AnswersAreHits, FindsHits, LooksAgree, MatchesAreHits, OneHitIsFind, hit};
 ghost use Rattle.nfa_compiler.specs.Laws.{TextsAreAnswered, TextsAreMatched};
-ghost use Rattle.nfa_compiler.specs.NameLaws.{GroupsAreNamed, GroupsAreWritten, NamesAreWritten};
+ghost use Rattle.nfa_compiler.specs.NameLaws.{GroupsAreCounted, GroupsAreNamed, GroupsAreWritten, NamesAreWritten};
 ghost use Rattle.nfa_compiler.specs.SetLaws.{SetsHoldMatches};
 ghost use Rattle.nfa_compiler.specs.WayLaws.{PatternsRecordBounds, TextsRecordBounds};
 ghost use Rattle.nfa_compiler.specs.StrHits.{str_hit};
@@ -84,6 +84,7 @@ pub fn sets_hold_patterns_that_match()
 /// does: of a hit in byte mode, of one that ends on a boundary, and of one in a `str`.
 pub fn groups_are_those_of_texts()
     ensures names { GroupsAreNamed }
+    ensures count { GroupsAreCounted }
     ensures spans { GroupsAreWritten hit }
     ensures named { NamesAreWritten hit }
     ensures boundary_spans { GroupsAreWritten boundary_hit }
