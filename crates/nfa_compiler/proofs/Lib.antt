@@ -21,6 +21,7 @@ pub mod AllSearchLemmas
 pub mod CallLemmas
 pub mod BoundaryLemmas
 pub mod BoundarySearchLemmas
+pub mod KindLemmas
 pub mod CharacterLemmas
 pub mod StrLemmas
 pub mod LiesLemmas

@@ -25,7 +25,7 @@ use Rattle.nfa_paths.specs.Paths.{is_utf8_empty, IsFoundAnswer, IsScanAnswer}
 use Rattle.nfa_compiler.specs.Compiled.{IsCompiled, IsRead, res_of}
 use Rattle.nfa_compiler.specs.KindLaws.{MatchesSomewhere}
 use Rattle.nfa_compiler.specs.Written.{IsReadAs, MatchesIn}
-use Rattle.nfa_compiler.proofs.ExistsLemmas.{path-iff}
+use Rattle.nfa_compiler.proofs.ExistsLemmas.{anywhere-ends, path-iff}
 
 -- what a text is read as
 
@@ -113,7 +113,8 @@ module _ (syntax : Config) (text : List ℕ) (nfa : Automaton) (haystack : List 
   found-as-read found answer =
       let own : (answer.restarts ≡ 0) × IsScanAnswer nfa (whole haystack) LeftmostFirst false answer.path =
       rw anywhere at answer.answers in
-      let both = path-iff (res_of compiled.trees) nfa compiled.made (whole haystack) refl anywhere LeftmostFirst false
-      answer.path own.1 in
+      let own-res = res_of compiled.trees in
+      let both = path-iff own-res nfa compiled.made (whole haystack) refl
+      (anywhere-ends own-res nfa compiled.made (whole haystack) refl anywhere) LeftmostFirst false answer.path own.1 in
       let same = somewhere compiled.trees compiled.read in
       (λ e. same.0 (both.0 (sym answer.found_is ∙ e)), λ m. answer.found_is ∙ both.1 (same.1 m))

@@ -1,12 +1,13 @@
 //! Searches of a compiled NFA find what its patterns mean. Each function is empty: its contract is the theorem.
 ghost use Rattle.nfa_compiler.specs.AllLaws.{AllHitsAreFindAll, MatchesAreAllHits, MatchesAreAllOfTexts};
 ghost use Rattle.nfa_compiler.specs.AllLaws.{RowsAreAllHits, RowsAreAllOfTexts};
-ghost use Rattle.nfa_compiler.specs.KindLaws.{AnswersIfMatches, FindsIfMatches};
+ghost use Rattle.nfa_compiler.specs.KindLaws.{AnswersIfAsciiMatches, AnswersIfMatches, AnswersOnlyMatches};
+ghost use Rattle.nfa_compiler.specs.KindLaws.{FindsIfAsciiMatches, FindsIfMatches, FindsOnlyMatches};
 ghost use Rattle.nfa_compiler.specs.BoundaryHits.{boundary_hit};
 ghost use Rattle.nfa_compiler.specs.Laws.{AnswersAreHits, FindsHits, LooksAgree, MatchesAreHits, OneHitIsFind, hit};
 ghost use Rattle.nfa_compiler.specs.Laws.{TextsAreAnswered, TextsAreMatched};
 ghost use Rattle.nfa_compiler.specs.NameLaws.{GroupsAreCounted, GroupsAreNamed, GroupsAreWritten, NamesAreWritten};
-ghost use Rattle.nfa_compiler.specs.SetLaws.{SetsHoldMatches};
+ghost use Rattle.nfa_compiler.specs.SetLaws.{SetsHoldAsciiMatches, SetsHoldMatches, SetsHoldMatchesOfStrs, SetsHoldOnlyMatches};
 ghost use Rattle.nfa_compiler.specs.WayLaws.{PatternsRecordBounds, TextsRecordBounds};
 ghost use Rattle.nfa_compiler.specs.StrHits.{str_hit};
 ghost use Rattle.nfa_compiler.specs.StrLaws.{AllHitsAreFindAllStr, MatchesAreAllOfStrs, OneHitIsFindStr};
@@ -77,6 +78,27 @@ pub fn searches_find_if_patterns_match()
 /// position where the search may start.
 pub fn sets_hold_patterns_that_match()
     ensures { SetsHoldMatches }
+{}
+
+/// In UTF-8 mode, too, a search of any match kind, `earliest` or not, finds something only if some pattern matches, and a
+/// set of overlapping matches gains only patterns that match. Under `All`, and not `earliest`, in a `str`, a set gains
+/// each pattern that matches whole characters and matches from a boundary.
+///
+/// A pattern may match without being found, if patterns may match the empty string: `earliest` and `All` prefer matches
+/// by where they end, and after one that splits a codepoint a search starts again behind its old start.
+pub fn searches_find_only_matches()
+    ensures found { FindsOnlyMatches }
+    ensures answers { AnswersOnlyMatches }
+    ensures sets { SetsHoldOnlyMatches }
+    ensures strs { SetsHoldMatchesOfStrs }
+{}
+
+/// In a haystack of ASCII the laws [`searches_find_if_patterns_match`] and [`sets_hold_patterns_that_match`] hold in UTF-8
+/// mode, too.
+pub fn ascii_searches_find_if_patterns_match()
+    ensures found { FindsIfAsciiMatches }
+    ensures answers { AnswersIfAsciiMatches }
+    ensures sets { SetsHoldAsciiMatches }
 {}
 
 /// The groups of an NFA have the names that the grammar reads in the texts. The captures of a hit give for a group the
