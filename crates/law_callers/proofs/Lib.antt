@@ -1,2 +1,3 @@
 mod KindLemmas
 mod DigitLemmas
+mod SetKindLemmas

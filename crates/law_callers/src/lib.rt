@@ -4,6 +4,7 @@
 
 pub mod compiled;
 pub mod hits;
+pub mod modes;
 pub mod paths;
 pub mod patterns;
 pub mod sets;
