@@ -29,4 +29,5 @@ pub mod StrSearchLemmas
 pub mod AllBoundaryLemmas
 pub mod StrCallLemmas
 pub mod WrittenLemmas
+pub mod StrWrittenLemmas
 pub mod Literals

@@ -2,6 +2,7 @@
 use Rattle.std.proofs.Common.{◌≡◌, ℕ, zero, suc, ◌+◌, ◌≤◌, ◌<◌, Bool, true, false, List, [], ◌∷◌, refl, sym, ap, ◌∙◌, subst, arith}
 use Rattle.std.specs.Prelude.{Option, None, Some, IsSomeAnd, slice_get, ◌↔◌, ⊤}
 use Rattle.std.specs.List.{list_any}
+use Rattle.std.proofs.lemmas.Bool.Decides.{nat_tests}
 use Rattle.std.proofs.lemmas.List.Folds.{Any-from_list_any}
 use Rattle.std.proofs.lemmas.Map.Keys.{any_passes_from_place}
 use Rattle.std.proofs.lemmas.Option.{none-some, same_Some, slice_get-get_or}
@@ -9,7 +10,7 @@ use Rattle.regex_class.specs.Ranges.{HasExactly, in_range}
 use Rattle.regex_hir.specs.Matches.{Matches}
 use Rattle.regex_hir.specs.Meaning.{copies}
 use Rattle.regex_hir.specs.Re.{Re, byte_in, char_in, empty}
-use Rattle.regex_hir.specs.Text.{has_bytes_at}
+use Rattle.regex_hir.specs.Text.{has_bytes_at, is_boundary}
 use Rattle.regex_hir.proofs.TextLemmas.{has_bytes_at_from, has_bytes_at_parts}
 use Rattle.regex_syntax.specs.Reading.{first}
 use Rattle.regex_syntax.specs.Same.{SameTree}
@@ -19,7 +20,7 @@ use Rattle.regex_syntax.proofs.Written.{grammar}
 pub use Rattle.regex_class.specs.Ranges.{Range, in_ranges}
 pub use Rattle.regex_syntax.proofs.Written.{alone, class_is, same_group, same_plus}
 pub use Rattle.regex_syntax.proofs.TreeLaws.{same_refl, same_sym, ◌then◌, cat_cong, alt_cong, cat-empty, alt-fail, literal-append, byte_in_ascii}
-use Rattle.nfa_compiler.specs.Written.{MatchesIn}
+use Rattle.nfa_compiler.specs.Written.{MatchesIn, MatchesInStr}
 
 -- what an answer unfolds to compute what the grammar reads in a literal
 unfoldable pub on_literals : ⊤
@@ -130,3 +131,30 @@ module _ (haystack : List ℕ) where
               within = omega (arith, b.2);
               matches = (b.1, slice_get-get_or haystack b.0 b.1 b.2 ∙ ap Some b.3, same b.1 ∙ b.4, refl);
             })
+
+-- In a `str`, a pattern whose matches begin with ASCII matches from boundaries only.
+
+ascii-here : (haystack : List ℕ) (i b : ℕ) → slice_get haystack i ≡ Some b → b ≤ 127
+    → is_boundary haystack i ≡ true
+unfolding is_boundary
+ascii-here haystack i b there low = rw there (grind (arith, nat_tests))
+
+pub from-boundaries : (haystack : List ℕ) (re : Re)
+    → ((i j : ℕ) → Matches haystack re i j → IsSomeAnd (slice_get haystack i) (λ b. b ≤ 127))
+    → MatchesInStr haystack re ↔ MatchesIn haystack re
+from-boundaries haystack re ascii = (
+  λ m. record { start = m.start; end = m.end; within = m.within; matches = m.matches },
+  λ m.
+      record {
+        start = m.start;
+        end = m.end;
+        within = m.within;
+        boundary = of m.start (slice_get haystack m.start) refl (ascii m.start m.end m.matches);
+        matches = m.matches;
+      },
+)
+  where
+    of : (i : ℕ) (o : Option ℕ) → slice_get haystack i ≡ o → IsSomeAnd o (λ b. b ≤ 127)
+        → is_boundary haystack i ≡ true
+    of i None is never = absurd never
+    of i (Some b) is low = ascii-here haystack i b is low

@@ -1,7 +1,8 @@
 -- Patterns that are written out: what a text is read as, and where such a pattern matches.
-use Rattle.std.specs.Prelude.{ℕ, ◌≤◌, false, List, length, IsSomeAnd, chars}
+use Rattle.std.specs.Prelude.{◌≡◌, ℕ, ◌≤◌, false, true, List, length, IsSomeAnd, chars}
 use Rattle.regex_hir.specs.Matches.{Matches}
 use Rattle.regex_hir.specs.Re.{Re}
+use Rattle.regex_hir.specs.Text.{is_boundary}
 use Rattle.regex_syntax.specs.Grammar.{read}
 use Rattle.regex_syntax.specs.Same.{SameTree}
 use Rattle.regex_syntax.specs.Verdict.{default_config}
@@ -20,4 +21,12 @@ pub record MatchesIn (haystack : List ℕ) (re : Re) : Type 0 where
   pub start : ℕ
   pub end : ℕ
   pub within : start ≤ length haystack
+  pub matches : Matches haystack re start end
+
+-- the same in a `str`, from a boundary
+pub record MatchesInStr (haystack : List ℕ) (re : Re) : Type 0 where
+  pub start : ℕ
+  pub end : ℕ
+  pub within : start ≤ length haystack
+  pub boundary : is_boundary haystack start ≡ true
   pub matches : Matches haystack re start end

@@ -20,7 +20,7 @@ ghost use Rattle.nfa_compiler.specs.Compiled.{IsCompiled, IsMeant};
 ghost use Rattle.nfa_compiler.specs.NameLaws.{IsNamed, written_span};
 ghost use Rattle.nfa_compiler.specs.Patterns.{found_by};
 ghost use Rattle.nfa_compiler.specs.Settings.{syntax_of};
-ghost use Rattle.nfa_compiler.specs.Written.{IsReadAs, MatchesIn};
+ghost use Rattle.nfa_compiler.specs.Written.{IsReadAs, MatchesIn, MatchesInStr};
 
 use crate::compiler::Compiler;
 use regex_search_core::{Captures, Match};
@@ -86,6 +86,18 @@ pub fn match_in_str(
     requires answer { IsMatchAnswer nfa.now LeftmostFirst false (whole haystack.now) (option_map found_of found) }
     ensures { (re : Re) → IsMeant (syntax_of compiler.now) pattern.now re
         → option_map found_of found ≡ option_map found_by (find_str re haystack.now 0) }
+{}
+
+/// Whether a search of a whole `str` finds something, by an NFA that was compiled in UTF-8 mode: exactly if the pattern
+/// that is read in the text matches from a boundary. The pattern may be written in any way that matches alike.
+pub fn is_match_in_str(compiler: &Compiler, pattern: &str, nfa: &NFA, haystack: &[u8], found: bool)
+    requires compiled { IsCompiled (syntax_of compiler.now) (pattern.now ∷ []) nfa.now }
+    requires utf8 { nfa.now.utf8 ≡ true }
+    requires text { IsUtf8 haystack.now }
+    requires free { (nfa.now.anchored == nfa.now.unanchored) ≡ false }
+    requires answer { IsFoundAnswer nfa.now LeftmostFirst false (whole haystack.now) found }
+    ensures { (re : Re) → IsReadAs (syntax_of compiler.now) pattern.now re
+        → (found ≡ true) ↔ MatchesInStr haystack.now re }
 {}
 
 /// All matches of a search of the whole `str` are what `find_all_str` of `regex_hir` gives for that pattern.
