@@ -123,8 +123,8 @@ pub fn find_all_text_in_str(
     Ok(found)
 }
 
-/// Returns where the group of this name is in the first match of the pattern in the line, which is a `str`: the span that
-/// the reference matcher last writes for the first group that has the name in the text.
+/// Returns where the group of this name is in the first match of the pattern in the line, which is a `str`: the span
+/// that the reference matcher last writes for the first group that has the name in the text.
 ///
 /// Requires a compiler in UTF-8 mode and not anchored.
 pub fn find_group_in_str(

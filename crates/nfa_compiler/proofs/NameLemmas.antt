@@ -44,8 +44,8 @@ groups-named syntax (text ∷ texts) (tree ∷ trees) (n ∷ names) read is =
     ap₂ (λ g gs. g ∷ gs) (names-read syntax text tree n read.0 is.0) (groups-named syntax texts trees names read.1 is.1)
 
 -- as many lists of groups as texts
-pub groups-counted : (syntax : Config) (texts : List (List ℕ)) (trees : List Parsed) → AllZip (IsRead syntax) texts trees
-    → length (groups_of trees) ≡ length texts
+pub groups-counted : (syntax : Config) (texts : List (List ℕ)) (trees : List Parsed)
+    → AllZip (IsRead syntax) texts trees → length (groups_of trees) ≡ length texts
 groups-counted syntax [] [] read = refl
 groups-counted syntax [] (tree ∷ trees) read = absurd read
 groups-counted syntax (text ∷ texts) [] read = absurd read

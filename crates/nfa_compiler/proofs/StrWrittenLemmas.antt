@@ -43,7 +43,8 @@ module _ (haystack : List ℕ) (re : Re) where
   found-matches found =
       let m = value_of_IsSome (find_str re haystack 0) found in
       let first = IsFirst-of_first_between at_place 0 (length haystack) m.0 m.1 in
-      let here = cond_some (is_boundary haystack m.0.start) (attempt haystack re accept m.0.start) m.0.trace first.here in
+      let at = m.0.start in
+      let here = cond_some (is_boundary haystack at) (attempt haystack re accept at) m.0.trace first.here in
       let c = attempt_sound haystack re accept m.0.start m.0.trace here.1 in
       record { start = m.0.start; end = c.at; within = first.to; boundary = here.0; matches = c.leads }
 

@@ -51,8 +51,8 @@ AnswersIfMatches =
     → (is_some pattern ≡ true) ↔ MatchesSomewhere res (nfa.anchored == nfa.unanchored) x
 
 -- In UTF-8 mode, too, a search finds something only if some pattern matches from a position of the span, and from its
--- start if the search is anchored. A pattern may match and the search find nothing: after a match that splits a codepoint
--- it starts again behind its old start.
+-- start if the search is anchored. A pattern may match and the search find nothing: after a match that splits a
+-- codepoint it starts again one byte further on.
 abbrev pub FindsOnlyMatches : Type 0
 FindsOnlyMatches =
     (res : List Re) (nfa : Automaton) (kind : MatchKind) (earliest : Bool) (x : Search) (found : Bool)

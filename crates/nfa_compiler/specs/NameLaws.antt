@@ -69,8 +69,8 @@ GroupsAreWritten hit_of_search =
 -- So they do for a name: for the first group of this name.
 abbrev pub NamesAreWritten : HitOf → Type 0
 NamesAreWritten hit_of_search =
-    (res : List Re) (nfa : Automaton) (x : Search) (h : Hit) (name : List ℕ) (group : ℕ) → length nfa.groups ≡ length res
-    → hit_of_search res nfa x ≡ Some h
+    (res : List Re) (nfa : Automaton) (x : Search) (h : Hit) (name : List ℕ) (group : ℕ)
+    → length nfa.groups ≡ length res → hit_of_search res nfa x ≡ Some h
     → group_named nfa.groups h.pattern name ≡ Some group
     → named_span (captures_of nfa h) name
     ≡ span_between (last_write h.trace.writes (2 * group)) (last_write h.trace.writes (2 * group + 1))

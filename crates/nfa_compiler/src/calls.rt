@@ -43,8 +43,8 @@ pub fn match_of_text(
         → option_map found_of found ≡ option_map found_by (find re haystack.now 0) }
 {}
 
-/// Whether a search of the whole haystack finds something: exactly if the pattern that is read in the text matches, in the
-/// textbook sense, from some position. The pattern may be written in any way that matches alike.
+/// Whether a search of the whole haystack finds something: exactly if the pattern that is read in the text matches, in
+/// the textbook sense, from some position. The pattern may be written in any way that matches alike.
 pub fn is_match_of_text(compiler: &Compiler, pattern: &str, nfa: &NFA, haystack: &[u8], found: bool)
     requires compiled { IsCompiled (syntax_of compiler.now) (pattern.now ∷ []) nfa.now }
     requires anywhere { is_utf8_empty nfa.now ≡ false }
@@ -117,8 +117,8 @@ pub fn matches_in_str(
         → map found_of found.now ≡ map found_by (find_all_str re haystack.now) }
 {}
 
-/// What captures of a search of the whole `str` give for a name: the span that the match of `find_str` last wrote for the
-/// first group that has the name in the text.
+/// What captures of a search of the whole `str` give for a name: the span that the match of `find_str` last wrote for
+/// the first group that has the name in the text.
 pub fn named_group_in_str(
     compiler: &Compiler,
     pattern: &str,
@@ -133,7 +133,8 @@ pub fn named_group_in_str(
     requires free { (nfa.now.anchored == nfa.now.unanchored) ≡ false }
     requires groups { captures.now.groups ≡ nfa.now.groups }
     requires room { length captures.now.slots ≡ slot_count nfa.now.groups }
-    requires answer { IsAnswer nfa.now LeftmostFirst false (whole haystack.now) captures.now.pattern captures.now.slots }
+    requires answer { IsAnswer nfa.now LeftmostFirst false (whole haystack.now) captures.now.pattern
+        captures.now.slots }
     ensures { (re : Re) (names : List (Option (List ℕ))) (group : ℕ) → IsMeant (syntax_of compiler.now) pattern.now re
         → IsNamed (syntax_of compiler.now) pattern.now names → group_named (drop 1 names ∷ []) 0 name.now ≡ Some group
         → named_span captures.now name.now ≡ option_and_then (written_span group) (find_str re haystack.now 0) }

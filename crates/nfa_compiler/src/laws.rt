@@ -80,8 +80,8 @@ pub fn sets_hold_patterns_that_match()
     ensures { SetsHoldMatches }
 {}
 
-/// In UTF-8 mode, too, a search of any match kind, `earliest` or not, finds something only if some pattern matches, and a
-/// set of overlapping matches gains only patterns that match. Under `All`, and not `earliest`, in a `str`, a set gains
+/// In UTF-8 mode, too, a search of any match kind, `earliest` or not, finds something only if some pattern matches, and
+/// a set of overlapping matches gains only patterns that match. Under `All`, and not `earliest`, in a `str`, a set gains
 /// each pattern that matches whole characters and matches from a boundary.
 ///
 /// A pattern may match without being found, if patterns may match the empty string: `earliest` and `All` prefer matches
@@ -93,8 +93,8 @@ pub fn searches_find_only_matches()
     ensures strs { SetsHoldMatchesOfStrs }
 {}
 
-/// In a haystack of ASCII the laws [`searches_find_if_patterns_match`] and [`sets_hold_patterns_that_match`] hold in UTF-8
-/// mode, too.
+/// In a haystack of ASCII the laws [`searches_find_if_patterns_match`] and [`sets_hold_patterns_that_match`] hold in
+/// UTF-8 mode, too.
 pub fn ascii_searches_find_if_patterns_match()
     ensures found { FindsIfAsciiMatches }
     ensures answers { AnswersIfAsciiMatches }

@@ -1,5 +1,5 @@
 -- The text is read as four digits, a dash and two digits, and these match where they stand.
-use Rattle.std.proofs.Common.{◌≡◌, ◌+◌, ◌<◌, Some, arith, refl, subst, length}
+use Rattle.std.proofs.Common.{◌≡◌, ◌+◌, Some, arith, refl, subst}
 use Rattle.std.specs.Prelude.{slice_get}
 use Rattle.std.proofs.lemmas.Option.{slice_get_within}
 use Rattle.std.specs.Char.{is_ascii_digit}
@@ -32,7 +32,11 @@ returns c =
         matches = (
           h.at + 4,
           (run 4 h.at (h.at + 4)).1 (h.year, refl),
-          (h.at + 5, ((byte-match line (h.at + 4) 0x2D).1 h.dash, omega arith), (run 2 (h.at + 5) (h.at + 5 + 2)).1 (h.month, refl)),
+          (
+            h.at + 5,
+            ((byte-match line (h.at + 4) 0x2D).1 h.dash, omega arith),
+            (run 2 (h.at + 5) (h.at + 5 + 2)).1 (h.month, refl),
+          ),
         );
       }),
     )
