@@ -1,1 +1,3 @@
 mod KindLemmas
+mod DigitLemmas
+mod SetKindLemmas

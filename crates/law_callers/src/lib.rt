@@ -4,9 +4,11 @@
 
 pub mod compiled;
 pub mod hits;
+pub mod modes;
 pub mod paths;
 pub mod patterns;
 pub mod sets;
+pub mod written;
 
 ghost use Rattle.std.specs.Prelude.{◌≡◌, ◌<◌, ◌≤◌, false, true, length, option_map, IfOk, IfSome, IsErrOf};
 ghost use Rattle.std.specs.Prelude.{List, Ok, Option, is_some, option_and_then, take, ℕ};

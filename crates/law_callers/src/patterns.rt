@@ -1,18 +1,23 @@
 //! Calls that are given the text of a pattern: their contracts say what the text means.
-ghost use Rattle.std.specs.Prelude.{◌≡◌, IfOk, false, true, map, option_map};
+ghost use Rattle.std.specs.Prelude.{◌≡◌, ◌∷◌, [], IfOk, List, Option, Some, drop, false, true, map};
+ghost use Rattle.std.specs.Prelude.{option_and_then, option_map, ℕ};
 ghost use Rattle.regex_hir.specs.Find.{find, find_all, find_all_str, find_str};
 ghost use Rattle.regex_hir.specs.Re.{Re};
 ghost use Rattle.regex_search_core.specs.Found.{found_of};
+ghost use Rattle.regex_search_core.specs.Groups.{group_named};
 ghost use Rattle.nfa_compiler.specs.Compiled.{IsMeant};
+ghost use Rattle.nfa_compiler.specs.NameLaws.{IsNamed, written_span};
 ghost use Rattle.nfa_compiler.specs.Patterns.{found_by};
 ghost use Rattle.nfa_compiler.specs.Settings.{syntax_of};
 
 use anyhow::Result;
 use nfa_compiler::Compiler;
-use nfa_compiler::calls::{match_in_str, match_of_text, matches_in_str, matches_of_text};
+use nfa_compiler::calls::{
+    match_in_str, match_of_text, matches_in_str, matches_of_text, named_group_in_str,
+};
 use nfa_engines::backtrack::BoundedBacktracker;
 use nfa_engines::pikevm::PikeVM;
-use regex_search_core::{Input, Match};
+use regex_search_core::{Input, Match, Span};
 use std::alloc::Global;
 
 /// Returns the first match of the pattern in the line, by a PikeVM: the match that the reference matcher finds for the
@@ -116,4 +121,31 @@ pub fn find_all_text_in_str(
     let found = vm.find_all(alloc, &mut cache, Input::new(bytes))?;
     matches_in_str(compiler, pattern, vm.get_nfa(), bytes, &found);
     Ok(found)
+}
+
+/// Returns where the group of this name is in the first match of the pattern in the line, which is a `str`: the span
+/// that the reference matcher last writes for the first group that has the name in the text.
+///
+/// Requires a compiler in UTF-8 mode and not anchored.
+pub fn find_group_in_str(
+    alloc: Global,
+    compiler: &Compiler,
+    pattern: &str,
+    name: &str,
+    line: &str,
+) -> Result<Option<Span>>
+    requires text { compiler.now.config.utf8 ≡ true }
+    requires free { compiler.now.config.anchored ≡ false }
+    ensures { IfOk result (λ span. (re : Re) (names : List (Option (List ℕ))) (group : ℕ)
+        → IsMeant (syntax_of compiler.now) pattern.now re → IsNamed (syntax_of compiler.now) pattern.now names
+        → group_named (drop 1 names ∷ []) 0 name.now ≡ Some group
+        → span ≡ option_and_then (written_span group) (find_str re line.now 0)) }
+{
+    let vm = PikeVM::new_from_nfa(compiler.build(alloc, pattern)?)?;
+    let mut cache = vm.create_cache(alloc)?;
+    let mut captures = vm.create_captures(alloc)?;
+    let bytes = line.as_bytes();
+    vm.captures(&mut cache, Input::new(bytes), &mut captures);
+    named_group_in_str(compiler, pattern, vm.get_nfa(), bytes, &captures, name);
+    Ok(captures.get_group_by_name(name))
 }

@@ -30,7 +30,7 @@ unanchored Yes is = absurd (cc)
 unanchored (Pattern pattern) is = absurd (cc)
 
 -- no restart, and one restart before the others
-raised-none : (x : Search) → x ≡ raised x 0
+pub raised-none : (x : Search) → x ≡ raised x 0
 raised-none x = let same : x.start ≡ x.start + 0 = omega arith in ap (λ n. record x { start = n }) same
 
 raised-more : (x : Search) (i : ℕ) → raised x (suc i) ≡ raised (raised x 1) i

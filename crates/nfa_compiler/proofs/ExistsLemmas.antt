@@ -15,7 +15,7 @@ use Rattle.regex_hir.proofs.OptionLemmas.{value_of_IsSome}
 use Rattle.thompson_nfa.specs.Automaton.{Automaton, Union, Fail}
 use Rattle.nfa_paths.specs.Graphs.{Pair, In, HeadIs, Linked, PathTo}
 use Rattle.nfa_paths.specs.FirstPaths.{Accepts, IsFirst}
-use Rattle.nfa_paths.specs.Overlaps.{IsPermitted, IsPatternOf}
+use Rattle.nfa_paths.specs.Overlaps.{IsPermitted, IsPermittedEnd, IsPatternOf}
 use Rattle.nfa_paths.specs.Paths.{IsScanAnswer, path_pattern, pattern_of, node_at, is_match, IsMatch, edges_of, edges, start_state, starts, is_utf8_empty}
 use Rattle.nfa_paths.proofs.PathLemmas.{Path-plain}
 use Rattle.nfa_paths.proofs.PathToLemmas.{EndsWith-last, PathTo-accepts}
@@ -117,12 +117,13 @@ module _ (res : List Re) (a : Automaton) (made : IsNfaOf res a) (x : Search) (wh
           (sym (told-found res a made x whole
           (hit_of j v.1 (attempt x.haystack (slice_index_or res j empty) accept v.1)) (Some p) tells))
 
-  -- a path from the pair to a Match of pattern k
+  -- a path from the pair to a Match of pattern k, which matches up to there
   record LeadsTo (v : Pair) (k : ℕ) : Type 0 where
     pub end : Pair
     pub along : List Pair
     pub path : PathTo (edges a x) (v ∷ []) end along
     pub pattern_is : pattern_of (node_at a end.0) ≡ Some k
+    pub matched : Matches x.haystack (slice_index_or res k empty) v.1 end.1
 
   -- If pattern k matches, a path leads from its start to a Match, and holds none of the pairs that are marked.
   match-leads : (k i : ℕ) → i ≤ x.end → MatchesFrom k i → (marks : List Pair)
@@ -130,16 +131,21 @@ module _ (res : List Re) (a : Automaton) (made : IsNfaOf res a) (x : Search) (wh
       → (p : LeadsTo (start_of k, i) k) × ((w : Pair) → In w p.along → In w marks → ⊥)
   match-leads k i within m marks behind =
       let first = first-of k m.0 i within in
-      of (attempt x.haystack (slice_index_or res k empty) accept i)
+      of (attempt x.haystack (slice_index_or res k empty) accept i) refl
       (one-complete x.haystack (slice_index_or res k empty) k i m.1.0 m.1.1) first.0 first.1 (first.2 marks behind)
     where
-      of : (o : Option Trace) → is_some (hit_of k i o) ≡ true → (r : Option (List Pair)) → TellsHit a (hit_of k i o) r
+      of : (o : Option Trace) → attempt x.haystack (slice_index_or res k empty) accept i ≡ o
+          → is_some (hit_of k i o) ≡ true → (r : Option (List Pair)) → TellsHit a (hit_of k i o) r
           → IsFirst (edges a x) (is_match a) marks (start_of k, i) r
           → (p : LeadsTo (start_of k, i) k) × ((w : Pair) → In w p.along → In w marks → ⊥)
-      of None never r tells is = absurd (cc)
-      of (Some t) some None tells is = absurd tells
-      of (Some t) some (Some p) tells is =
-          let words = (Path-plain (edges a x) (is_match a) (start_of k, i) p).0 is.0.path in (
+      of None tried never r tells is = absurd (cc)
+      of (Some t) tried some None tells is = absurd tells
+      of (Some t) tried some (Some p) tells is =
+          let words = (Path-plain (edges a x) (is_match a) (start_of k, i) p).0 is.0.path in
+          let c = attempt_sound x.haystack (slice_index_or res k empty) accept i t tried in
+          let rest : accept c.at ≡ Some c.rest = c.gave in
+          let last : c.rest.end ≡ c.at = (cc) in
+          let up-to : c.at ≡ tells.end.1 = omega (arith, last, c.same_end, tells.at) in (
             record {
               end = tells.end;
               along = p;
@@ -152,6 +158,7 @@ module _ (res : List Re) (a : Automaton) (made : IsNfaOf res a) (x : Search) (wh
                 ends = tells.ends;
               };
               pattern_is = tells.pattern_is;
+              matched = subst (Matches x.haystack (slice_index_or res k empty) i) up-to c.leads;
             },
             is.0.clear,
           )
@@ -229,6 +236,7 @@ module _ (res : List Re) (a : Automaton) (made : IsNfaOf res a) (x : Search) (wh
               ends = ends-cons (a.anchored, i) p.0.end p.0.along path.ends;
             };
             pattern_is = p.0.pattern_is;
+            matched = p.0.matched;
           }
 
   -- the start of a search
@@ -259,91 +267,101 @@ module _ (res : List Re) (a : Automaton) (made : IsNfaOf res a) (x : Search) (wh
 
   -- a search
 
-  sound : (k : ℕ) → IsPatternOf a x (IsPermitted a x) k → PatternMatches res (is_bound res a made) x k
-  sound k h = of h.along h.path
-    where
-      of : (p : List Pair) → PathTo (edges a x) (starts a x) h.end p → PatternMatches res (is_bound res a made) x k
-      of [] path = absurd path.head
-      of (v ∷ rest) path =
-          let s = starts-sound a x v (subst (λ w. In w (starts a x)) (sym path.head) path.among) in
-          let found = start-matches x.anchored v h.end rest s.0 (within-end a x v.1 s.2 s.3) (record {
-            start = v;
-            among = inl refl;
-            head = refl;
-            once = path.once;
-            linked = path.linked;
-            ends = path.ends;
-          }) h.wanted.matches k h.pattern_is in
-          record {
-            start = v.1;
-            end = found.1.1.0;
-            known = found.1.0;
-            tried = found.0;
-            from = s.1;
-            to = s.3;
-            inside = s.2;
-            matches = found.1.1.1;
-          }
+  -- a path to a Match of pattern k shows that it matches
+  path-sound : (k : ℕ) (m : Pair) (p : List Pair) → PathTo (edges a x) (starts a x) m p → IsMatch a m
+      → pattern_of (node_at a m.0) ≡ Some k → PatternMatches res (is_bound res a made) x k
+  path-sound k m [] path matches is = absurd path.head
+  path-sound k m (v ∷ rest) path matches is =
+      let s = starts-sound a x v (subst (λ w. In w (starts a x)) (sym path.head) path.among) in
+      let found = start-matches x.anchored v m rest s.0 (within-end a x v.1 s.2 s.3) (record {
+        start = v;
+        among = inl refl;
+        head = refl;
+        once = path.once;
+        linked = path.linked;
+        ends = path.ends;
+      }) matches k is in
+      record {
+        start = v.1;
+        end = found.1.1.0;
+        known = found.1.0;
+        tried = found.0;
+        from = s.1;
+        to = s.3;
+        inside = s.2;
+        matches = found.1.1.1;
+      }
 
-  module _ (anywhere : is_utf8_empty a ≡ false) where
-    permitted : (m : Pair) → IsMatch a m → IsPermitted a x m
-    permitted m matches = record { matches = matches; ends = λ e. absurd (cc (e, anywhere)) }
+  pub pattern-sound : (k : ℕ) → IsPatternOf a x (IsPermitted a x) k → PatternMatches res (is_bound res a made) x k
+  pattern-sound k h = path-sound k h.end h.along h.path h.wanted.matches h.pattern_is
 
+  -- so does the answer of a scan of any kind
+  pub scan-sound : (kind : MatchKind) (earliest : Bool) (p : List Pair) → IsScanAnswer a x kind earliest (Some p)
+      → MatchesSomewhere res (is_bound res a made) x
+  scan-sound kind earliest p answer =
+      let leads = scan_answer-leads a x kind earliest p answer in
+      let some = some-pattern (node_at a leads.end.0) leads.matches in
+      record { pattern = some.0; matches = path-sound some.0 leads.end p leads.path leads.matches some.1 }
+
+  -- If pattern k matches, a path of it counts, as long as each match of the pattern from there may end where it does.
+  pub pattern-complete : (k : ℕ) (m : PatternMatches res (is_bound res a made) x k)
+      → ((e : ℕ) → Matches x.haystack (slice_index_or res k empty) m.start e → IsPermittedEnd a x e)
+      → IsPatternOf a x (IsPermitted a x) k
+  pattern-complete k m permits =
+      let s = start-leads x.anchored k m.start (within-end a x m.start m.inside m.to) m.tried
+      (m.known, (m.end, m.matches)) in
+      let path = s.2.path in
+      record {
+        end = s.2.end;
+        along = s.2.along;
+        path = record {
+          start = (s.0, m.start);
+          among = starts-complete a x s.0 m.start s.1 m.from m.inside m.to;
+          head = begins (edges a x) (s.0, m.start) s.2.end s.2.along path;
+          once = path.once;
+          linked = path.linked;
+          ends = path.ends;
+        };
+        wanted = record {
+          matches = ap (λ o. is_some o) s.2.pattern_is;
+          ends = permits s.2.end.1 s.2.matched;
+        };
+        pattern_is = s.2.pattern_is;
+      }
+
+  -- the path of such an answer has a pattern
+  pub path-patterned : (kind : MatchKind) (earliest : Bool) (path : Option (List Pair))
+      → IsScanAnswer a x kind earliest path → is_some (option_and_then (path_pattern a) path) ≡ is_some path
+  path-patterned kind earliest None answer = refl
+  path-patterned kind earliest (Some p) answer =
+      let leads = scan_answer-leads a x kind earliest p answer in
+      ap (λ o. is_some (option_and_then (λ (v : Pair). pattern_of (node_at a v.0)) o))
+      (EndsWith-last None leads.end p leads.path.ends)
+      ∙ leads.matches
+
+  -- where a match may end anywhere
+  module _ (ends : (k i e : ℕ) → i ≤ x.end → Matches x.haystack (slice_index_or res k empty) i e
+      → IsPermittedEnd a x e) where
     complete : (k : ℕ) → PatternMatches res (is_bound res a made) x k → IsPatternOf a x (IsPermitted a x) k
-    complete k m =
-        let s = start-leads x.anchored k m.start (within-end a x m.start m.inside m.to) m.tried
-        (m.known, (m.end, m.matches)) in
-        let path = s.2.path in
-        record {
-          end = s.2.end;
-          along = s.2.along;
-          path = record {
-            start = (s.0, m.start);
-            among = starts-complete a x s.0 m.start s.1 m.from m.inside m.to;
-            head = begins (edges a x) (s.0, m.start) s.2.end s.2.along path;
-            once = path.once;
-            linked = path.linked;
-            ends = path.ends;
-          };
-          wanted = permitted s.2.end (ap (λ o. is_some o) s.2.pattern_is);
-          pattern_is = s.2.pattern_is;
-        }
+    complete k m = pattern-complete k m (λ e. ends k m.start e (within-end a x m.start m.inside m.to))
 
     pub pattern-iff : (k : ℕ) → IsPatternOf a x (IsPermitted a x) k ↔ PatternMatches res (is_bound res a made) x k
-    pattern-iff k = (sound k, complete k)
+    pattern-iff k = (pattern-sound k, complete k)
 
     -- some pattern
-    module _ (kind : MatchKind) (earliest : Bool) where
-      pub path-iff : (path : Option (List Pair)) → IsScanAnswer a x kind earliest path
-          → (is_some path ≡ true) ↔ MatchesSomewhere res (is_bound res a made) x
-      path-iff None answer = (
-        λ never. absurd (cc),
-        λ m.
-            let reached = complete m.pattern m.matches in
-            absurd (scan_answer-none a x kind earliest answer reached.end reached.along reached.path
-            reached.wanted.matches),
-      )
-      path-iff (Some p) answer = (λ e. somewhere, λ m. refl)
-        where
-          somewhere : MatchesSomewhere res (is_bound res a made) x
-          somewhere =
-              let leads = scan_answer-leads a x kind earliest p answer in
-              let some = some-pattern (node_at a leads.end.0) leads.matches in
-              let m = sound some.0 (record {
-                end = leads.end;
-                along = p;
-                path = leads.path;
-                wanted = permitted leads.end leads.matches;
-                pattern_is = some.1;
-              }) in
-              record { pattern = some.0; matches = m }
+    pub path-iff : (kind : MatchKind) (earliest : Bool) (path : Option (List Pair))
+        → IsScanAnswer a x kind earliest path
+        → (is_some path ≡ true) ↔ MatchesSomewhere res (is_bound res a made) x
+    path-iff kind earliest None answer = (
+      λ never. absurd (cc),
+      λ m.
+          let reached = complete m.pattern m.matches in
+          absurd (scan_answer-none a x kind earliest answer reached.end reached.along reached.path
+          reached.wanted.matches),
+    )
+    path-iff kind earliest (Some p) answer = (λ e. scan-sound kind earliest p answer, λ m. refl)
 
-      -- the path of such an answer has a pattern
-      pub path-patterned : (path : Option (List Pair)) → IsScanAnswer a x kind earliest path
-          → is_some (option_and_then (path_pattern a) path) ≡ is_some path
-      path-patterned None answer = refl
-      path-patterned (Some p) answer =
-          let leads = scan_answer-leads a x kind earliest p answer in
-          ap (λ o. is_some (option_and_then (λ (v : Pair). pattern_of (node_at a v.0)) o))
-          (EndsWith-last None leads.end p leads.path.ends)
-          ∙ leads.matches
+  -- no match is left out if the NFA is not in UTF-8 mode, or no pattern may match the empty string
+  pub anywhere-ends : is_utf8_empty a ≡ false → (k i e : ℕ) → i ≤ x.end
+      → Matches x.haystack (slice_index_or res k empty) i e → IsPermittedEnd a x e
+  anywhere-ends anywhere k i e within matches = λ mode. absurd (cc (mode, anywhere))

@@ -15,7 +15,7 @@ use Rattle.nfa_compiler.proofs.BoundLemmas.{LiesFrom, first-lies, of-pick, of-pi
 
 -- what is left of a hit is the hit
 
-kept-is : (haystack : List ℕ) (o : Option Hit) (h : Hit) → on_boundary haystack o ≡ Some h → o ≡ Some h
+pub kept-is : (haystack : List ℕ) (o : Option Hit) (h : Hit) → on_boundary haystack o ≡ Some h → o ≡ Some h
 kept-is haystack None h e = e
 kept-is haystack (Some g) h e = of (ends_on_boundary haystack g) e
   where
@@ -23,7 +23,7 @@ kept-is haystack (Some g) h e = of (ends_on_boundary haystack g) e
     of true e = e
     of false never = absurd (cc)
 
-at-is : (haystack : List ℕ) (at : ℕ → Option Hit) (i : ℕ) (h : Hit) → at_boundary haystack at i ≡ Some h
+pub at-is : (haystack : List ℕ) (at : ℕ → Option Hit) (i : ℕ) (h : Hit) → at_boundary haystack at i ≡ Some h
     → at i ≡ Some h
 at-is haystack at i h e = of (is_boundary haystack i) e
   where

@@ -1,5 +1,5 @@
 -- The names of the groups of a compiled NFA are those that the grammar reads in the texts.
-use Rattle.std.proofs.Common.{◌≡◌, ℕ, ◌≤◌, List, [], ◌∷◌, map, length, refl, ap, ap₂, ◌∙◌}
+use Rattle.std.proofs.Common.{◌≡◌, ℕ, suc, ◌≤◌, List, [], ◌∷◌, map, length, refl, ap, ap₂, ◌∙◌}
 use Rattle.std.specs.Prelude.{Option, None, Some, IsSomeAnd, chars, drop, option_map, string_bytes}
 use Rattle.std.specs.List.{AllZip}
 use Rattle.regex_hir.specs.Meaning.{meaning}
@@ -42,3 +42,11 @@ groups-named syntax (text ∷ texts) [] names read is = absurd read
 groups-named syntax (text ∷ texts) (tree ∷ trees) [] read is = absurd is
 groups-named syntax (text ∷ texts) (tree ∷ trees) (n ∷ names) read is =
     ap₂ (λ g gs. g ∷ gs) (names-read syntax text tree n read.0 is.0) (groups-named syntax texts trees names read.1 is.1)
+
+-- as many lists of groups as texts
+pub groups-counted : (syntax : Config) (texts : List (List ℕ)) (trees : List Parsed)
+    → AllZip (IsRead syntax) texts trees → length (groups_of trees) ≡ length texts
+groups-counted syntax [] [] read = refl
+groups-counted syntax [] (tree ∷ trees) read = absurd read
+groups-counted syntax (text ∷ texts) [] read = absurd read
+groups-counted syntax (text ∷ texts) (tree ∷ trees) read = ap suc (groups-counted syntax texts trees read.1)

@@ -79,7 +79,7 @@ module _ (x : Search) (bytes : All (λ b. b < 256) x.haystack) (res others : Lis
       ]
 
 -- the trees that are read under `utf8`
-trees-match : (syntax : Config) → syntax.utf8 ≡ true → (texts : List (List ℕ)) (trees : List Parsed)
+pub trees-match : (syntax : Config) → syntax.utf8 ≡ true → (texts : List (List ℕ)) (trees : List Parsed)
     → AllZip (IsRead syntax) texts trees → All MatchesCharacters (res_of trees)
 trees-match syntax mode [] [] read = All-nil MatchesCharacters
 trees-match syntax mode [] (tree ∷ trees) read = absurd read

@@ -1,5 +1,5 @@
 -- What searches of every match kind find, `earliest` or not: something, exactly if some pattern matches somewhere.
-use Rattle.std.specs.Prelude.{◌≡◌, ◌↔◌, ℕ, ◌≤◌, ◌<◌, Bool, true, false, ◌||◌, ◌==◌, List, length, Option, is_some, if◌then◌else◌, slice_index_or, ⊤}
+use Rattle.std.specs.Prelude.{◌≡◌, ◌↔◌, ℕ, ◌≤◌, ◌<◌, All, Bool, true, false, ◌||◌, ◌==◌, List, length, Option, is_some, if◌then◌else◌, slice_index_or, ⊤}
 use Rattle.regex_hir.specs.Re.{Re, empty}
 use Rattle.regex_hir.specs.Matches.{Matches}
 use Rattle.regex_search_core.specs.Patterns.{number_of}
@@ -47,5 +47,35 @@ AnswersIfMatches =
     (res : List Re) (nfa : Automaton) (kind : MatchKind) (earliest : Bool) (x : Search) (pattern : Option ℕ)
     (slots : List (Option ℕ))
     → IsNfaOf res nfa → is_utf8_empty nfa ≡ false → x.end ≡ length x.haystack
+    → IsAnswer nfa kind earliest x pattern slots
+    → (is_some pattern ≡ true) ↔ MatchesSomewhere res (nfa.anchored == nfa.unanchored) x
+
+-- In UTF-8 mode, too, a search finds something only if some pattern matches from a position of the span, and from its
+-- start if the search is anchored. A pattern may match and the search find nothing: after a match that splits a
+-- codepoint it starts again one byte further on.
+abbrev pub FindsOnlyMatches : Type 0
+FindsOnlyMatches =
+    (res : List Re) (nfa : Automaton) (kind : MatchKind) (earliest : Bool) (x : Search) (found : Bool)
+    → IsNfaOf res nfa → x.end ≡ length x.haystack → IsFoundAnswer nfa kind earliest x found
+    → found ≡ true → MatchesSomewhere res false x
+
+abbrev pub AnswersOnlyMatches : Type 0
+AnswersOnlyMatches =
+    (res : List Re) (nfa : Automaton) (kind : MatchKind) (earliest : Bool) (x : Search) (pattern : Option ℕ)
+    (slots : List (Option ℕ)) → IsNfaOf res nfa → x.end ≡ length x.haystack
+    → IsAnswer nfa kind earliest x pattern slots → is_some pattern ≡ true → MatchesSomewhere res false x
+
+-- In a haystack of ASCII no position splits a codepoint, so it does not matter whether the NFA is in UTF-8 mode.
+abbrev pub FindsIfAsciiMatches : Type 0
+FindsIfAsciiMatches =
+    (res : List Re) (nfa : Automaton) (kind : MatchKind) (earliest : Bool) (x : Search) (found : Bool)
+    → IsNfaOf res nfa → x.end ≡ length x.haystack → All (λ b. b < 128) x.haystack
+    → IsFoundAnswer nfa kind earliest x found
+    → (found ≡ true) ↔ MatchesSomewhere res (nfa.anchored == nfa.unanchored) x
+
+abbrev pub AnswersIfAsciiMatches : Type 0
+AnswersIfAsciiMatches =
+    (res : List Re) (nfa : Automaton) (kind : MatchKind) (earliest : Bool) (x : Search) (pattern : Option ℕ)
+    (slots : List (Option ℕ)) → IsNfaOf res nfa → x.end ≡ length x.haystack → All (λ b. b < 128) x.haystack
     → IsAnswer nfa kind earliest x pattern slots
     → (is_some pattern ≡ true) ↔ MatchesSomewhere res (nfa.anchored == nfa.unanchored) x

@@ -4,6 +4,7 @@ pub mod Patterns
 pub mod Blocks
 pub mod Added
 pub mod Compiled
+pub mod Written
 pub mod Laws
 pub mod WayLaws
 pub mod KindLaws

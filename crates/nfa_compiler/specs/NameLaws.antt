@@ -2,7 +2,7 @@
 use Rattle.std.specs.Prelude.{◌≡◌, ℕ, ◌+◌, ◌*◌, ◌≤◌, List, drop, length, map, Option, Some, None, IsSomeAnd, chars, option_and_then, if◌then◌else◌, nat_le}
 use Rattle.std.specs.List.{AllZip}
 use Rattle.regex_hir.specs.Re.{Re}
-use Rattle.regex_hir.specs.Find.{last_write}
+use Rattle.regex_hir.specs.Find.{Match, last_write}
 use Rattle.regex_search_core.specs.Groups.{group_named, groups_at, slot_count}
 use Rattle.regex_search_core.specs.Search.{Search}
 use Rattle.regex_search_core.specs.Slots.{Captured, group_span, named_span}
@@ -10,8 +10,7 @@ use Rattle.regex_search_core.specs.declared.search.Span.{Span}
 use Rattle.regex_syntax.specs.declared.Config.{Config}
 use Rattle.regex_syntax.specs.Grammar.{read}
 use Rattle.thompson_nfa.specs.Automaton.{Automaton}
-use Rattle.nfa_compiler.specs.Compiled.{IsCompiled, IsNfaOf}
-use Rattle.nfa_compiler.specs.Laws.{hit}
+use Rattle.nfa_compiler.specs.Compiled.{IsCompiled}
 use Rattle.nfa_compiler.specs.Patterns.{Hit, slots_of}
 
 -- the grammar reads these names in the text, from group 0 on
@@ -43,19 +42,35 @@ captures_of nfa h =
       slots = slots_of nfa.groups (slot_count nfa.groups) (Some h);
     }
 
+-- the NFA has as many lists of groups as there are texts
+abbrev pub GroupsAreCounted : Type 0
+GroupsAreCounted =
+    (syntax : Config) (texts : List (List ℕ)) (nfa : Automaton) → IsCompiled syntax texts nfa
+    → length nfa.groups ≡ length texts
+
+-- the span that a match of `regex_hir` last wrote for the group
+abbrev pub written_span : ℕ → Match → Option Span
+written_span group m =
+    span_between (last_write m.trace.writes (2 * group)) (last_write m.trace.writes (2 * group + 1))
+
+-- which hit a search has
+abbrev pub HitOf : Type 0
+HitOf = List Re → Automaton → Search → Option Hit
+
 -- Captures of a hit give for an explicit group the positions that the match last wrote for it.
-abbrev pub GroupsAreWritten : Type 0
-GroupsAreWritten =
-    (res : List Re) (nfa : Automaton) (x : Search) (h : Hit) (group : ℕ) → IsNfaOf res nfa
-    → x.end ≡ length x.haystack → hit res nfa x ≡ Some h
+abbrev pub GroupsAreWritten : HitOf → Type 0
+GroupsAreWritten hit_of_search =
+    (res : List Re) (nfa : Automaton) (x : Search) (h : Hit) (group : ℕ) → length nfa.groups ≡ length res
+    → hit_of_search res nfa x ≡ Some h
     → 1 ≤ group → group ≤ length (groups_at nfa.groups h.pattern)
     → group_span (captures_of nfa h) group
     ≡ span_between (last_write h.trace.writes (2 * group)) (last_write h.trace.writes (2 * group + 1))
 
 -- So they do for a name: for the first group of this name.
-abbrev pub NamesAreWritten : Type 0
-NamesAreWritten =
-    (res : List Re) (nfa : Automaton) (x : Search) (h : Hit) (name : List ℕ) (group : ℕ) → IsNfaOf res nfa
-    → x.end ≡ length x.haystack → hit res nfa x ≡ Some h → group_named nfa.groups h.pattern name ≡ Some group
+abbrev pub NamesAreWritten : HitOf → Type 0
+NamesAreWritten hit_of_search =
+    (res : List Re) (nfa : Automaton) (x : Search) (h : Hit) (name : List ℕ) (group : ℕ)
+    → length nfa.groups ≡ length res → hit_of_search res nfa x ≡ Some h
+    → group_named nfa.groups h.pattern name ≡ Some group
     → named_span (captures_of nfa h) name
     ≡ span_between (last_write h.trace.writes (2 * group)) (last_write h.trace.writes (2 * group + 1))

@@ -1,12 +1,15 @@
 //! Searches of a compiled NFA find what its patterns mean. Each function is empty: its contract is the theorem.
 ghost use Rattle.nfa_compiler.specs.AllLaws.{AllHitsAreFindAll, MatchesAreAllHits, MatchesAreAllOfTexts};
 ghost use Rattle.nfa_compiler.specs.AllLaws.{RowsAreAllHits, RowsAreAllOfTexts};
-ghost use Rattle.nfa_compiler.specs.KindLaws.{AnswersIfMatches, FindsIfMatches};
-ghost use Rattle.nfa_compiler.specs.Laws.{AnswersAreHits, FindsHits, LooksAgree, MatchesAreHits, OneHitIsFind};
+ghost use Rattle.nfa_compiler.specs.KindLaws.{AnswersIfAsciiMatches, AnswersIfMatches, AnswersOnlyMatches};
+ghost use Rattle.nfa_compiler.specs.KindLaws.{FindsIfAsciiMatches, FindsIfMatches, FindsOnlyMatches};
+ghost use Rattle.nfa_compiler.specs.BoundaryHits.{boundary_hit};
+ghost use Rattle.nfa_compiler.specs.Laws.{AnswersAreHits, FindsHits, LooksAgree, MatchesAreHits, OneHitIsFind, hit};
 ghost use Rattle.nfa_compiler.specs.Laws.{TextsAreAnswered, TextsAreMatched};
-ghost use Rattle.nfa_compiler.specs.NameLaws.{GroupsAreNamed, GroupsAreWritten, NamesAreWritten};
-ghost use Rattle.nfa_compiler.specs.SetLaws.{SetsHoldMatches};
+ghost use Rattle.nfa_compiler.specs.NameLaws.{GroupsAreCounted, GroupsAreNamed, GroupsAreWritten, NamesAreWritten};
+ghost use Rattle.nfa_compiler.specs.SetLaws.{SetsHoldAsciiMatches, SetsHoldMatches, SetsHoldMatchesOfStrs, SetsHoldOnlyMatches};
 ghost use Rattle.nfa_compiler.specs.WayLaws.{PatternsRecordBounds, TextsRecordBounds};
+ghost use Rattle.nfa_compiler.specs.StrHits.{str_hit};
 ghost use Rattle.nfa_compiler.specs.StrLaws.{AllHitsAreFindAllStr, MatchesAreAllOfStrs, OneHitIsFindStr};
 ghost use Rattle.nfa_compiler.specs.StrLaws.{RowsAreAllOfStrs, StrsAreAnswered, StrsAreMatched};
 ghost use Rattle.nfa_compiler.specs.Utf8Laws.{AnswersAreBoundaryHits, FindsBoundaryHits, MatchesAreBoundaryHits};
@@ -77,13 +80,39 @@ pub fn sets_hold_patterns_that_match()
     ensures { SetsHoldMatches }
 {}
 
+/// In UTF-8 mode, too, a search of any match kind, `earliest` or not, finds something only if some pattern matches, and
+/// a set of overlapping matches gains only patterns that match. Under `All`, and not `earliest`, in a `str`, a set gains
+/// each pattern that matches whole characters and matches from a boundary.
+///
+/// A pattern may match without being found, if patterns may match the empty string: `earliest` and `All` prefer matches
+/// by where they end, and after one that splits a codepoint a search starts again behind its old start.
+pub fn searches_find_only_matches()
+    ensures found { FindsOnlyMatches }
+    ensures answers { AnswersOnlyMatches }
+    ensures sets { SetsHoldOnlyMatches }
+    ensures strs { SetsHoldMatchesOfStrs }
+{}
+
+/// In a haystack of ASCII the laws [`searches_find_if_patterns_match`] and [`sets_hold_patterns_that_match`] hold in
+/// UTF-8 mode, too.
+pub fn ascii_searches_find_if_patterns_match()
+    ensures found { FindsIfAsciiMatches }
+    ensures answers { AnswersIfAsciiMatches }
+    ensures sets { SetsHoldAsciiMatches }
+{}
+
 /// The groups of an NFA have the names that the grammar reads in the texts. The captures of a hit give for a group the
 /// span that the match last wrote for it, and for a name that of its first group, as `Captures::get_group_by_name`
-/// does.
+/// does: of a hit in byte mode, of one that ends on a boundary, and of one in a `str`.
 pub fn groups_are_those_of_texts()
     ensures names { GroupsAreNamed }
-    ensures spans { GroupsAreWritten }
-    ensures named { NamesAreWritten }
+    ensures count { GroupsAreCounted }
+    ensures spans { GroupsAreWritten hit }
+    ensures named { NamesAreWritten hit }
+    ensures boundary_spans { GroupsAreWritten boundary_hit }
+    ensures boundary_named { NamesAreWritten boundary_hit }
+    ensures str_spans { GroupsAreWritten str_hit }
+    ensures str_named { NamesAreWritten str_hit }
 {}
 
 /// The same as [`searches_find_hits`] in UTF-8 mode, for patterns that may match the empty string: a search finds the

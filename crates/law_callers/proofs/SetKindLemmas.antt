@@ -1,0 +1,14 @@
+-- A set of a search whose kind is told.
+use Rattle.std.proofs.Common.{◌≡◌, Bool, List, false, subst}
+use Rattle.regex_search_core.specs.Search.{Search}
+use Rattle.regex_search_core.specs.declared.search.MatchKind.{MatchKind}
+use Rattle.regex_search_core.specs.declared.search.MatchKind.TheVariants.{All}
+use Rattle.nfa_engines.specs.Automaton.{Automaton}
+use Rattle.nfa_engines.specs.Overlaps.{IsOverlapResult}
+
+-- a set of `All` that is not asked for the earliest match
+pub of_all : (nfa : Automaton) (x : Search) (kind : MatchKind) (old new : List Bool) → kind ≡ All → x.earliest ≡ false
+    → IsOverlapResult nfa x kind x.earliest old new → IsOverlapResult nfa x All false old new
+of_all nfa x kind old new all off sets =
+    subst (λ (b : Bool). IsOverlapResult nfa x All b old new) off
+    (subst (λ (k : MatchKind). IsOverlapResult nfa x k x.earliest old new) all sets)

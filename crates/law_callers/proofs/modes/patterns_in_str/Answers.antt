@@ -1,0 +1,17 @@
+-- The laws, of this set.
+use Rattle.regex_search_core.specs.Search.{search_of}
+use Rattle.nfa_compiler.specs.Compiled.{res_of}
+use Rattle.law_callers.proofs.SetKindLemmas.{of_all}
+use Rattle.law_callers.proofs.modes.patterns_in_str.Goals as goal
+
+pub returns-clause-only : goal.returns-clause-only
+returns-clause-only c = λ k.
+    c.searches_find_only_matches.ensures.sets (res_of c.args.trees.now) c.args.vm.now.nfa (search_of c.args.input.now)
+    _ _ _ _ c.requires.made c.requires.whole c.which_overlapping_matches.ensures.result k
+
+pub returns-clause-each : goal.returns-clause-each
+returns-clause-each c = λ k below characters m on.
+    c.searches_find_only_matches.ensures.strs (res_of c.args.trees.now) c.args.vm.now.nfa (search_of c.args.input.now)
+    _ _ c.requires.made c.requires.whole c.requires.text
+    (of_all c.args.vm.now.nfa (search_of c.args.input.now) _ _ _ c.requires.kind c.requires.off
+    c.which_overlapping_matches.ensures.result) k below characters m on
