@@ -29,7 +29,7 @@ abbrev pub text_of : List ℕ → Token → List ℕ
 text_of text token = slice_range text token.span.start token.span.end
 
 -- the token has a byte at least, and lies in the text
-pub record LiesIn (text : List ℕ) (token : Token) : Type 0 where
+pub record LiesInText (text : List ℕ) (token : Token) : Type 0 where
   pub some_bytes : token.span.start < token.span.end
   pub within : token.span.end ≤ length text
 

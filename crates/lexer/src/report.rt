@@ -3,7 +3,7 @@ ghost use Rattle.std.specs.Prelude.{◌≡◌, ◌++◌, All, IfOk, IfSome, OnOk
 ghost use Rattle.std.specs.Io.KnownBytes.{Appends};
 ghost use Rattle.lexer.specs.Printed.{PrintsTokens, Takes, rule_line, shown_place, shown_text, stuck_line};
 ghost use Rattle.lexer.specs.Printed.{token_line, unknown_line};
-ghost use Rattle.lexer.specs.Tokens.{AreTokens, IsStuck, LiesIn, end_of_tokens};
+ghost use Rattle.lexer.specs.Tokens.{AreTokens, IsStuck, LiesInText, end_of_tokens};
 
 use crate::lexer::{Lexed, Token, tokens};
 use crate::rules::Rule;
@@ -54,9 +54,10 @@ fn print_tokens<W: Write>(
 
 /// Each of these tokens lies in the text.
 fn lie_in_text(vm: &PikeVM, text: &[u8], lexed: &Lexed)
-    requires tokens { AreTokens vm.now text.now lexed.now.tokens.items (end_of_tokens lexed.now.stuck (length text.now)) }
+    requires tokens { AreTokens vm.now text.now lexed.now.tokens.items
+        (end_of_tokens lexed.now.stuck (length text.now)) }
     requires stuck { IfSome lexed.now.stuck (IsStuck vm.now text.now) }
-    ensures { All (LiesIn text.now) lexed.now.tokens.items }
+    ensures { All (LiesInText text.now) lexed.now.tokens.items }
 {}
 
 /// Writes a line for each token, and one for the place where no token starts.
@@ -67,7 +68,7 @@ fn write_lexed<W: Write>(
     text: &[u8],
     lexed: &Lexed,
 ) -> io::Result<()>
-    requires { All (LiesIn text.now) lexed.now.tokens.items }
+    requires { All (LiesInText text.now) lexed.now.tokens.items }
     ensures { OnOk result (Appends (W.contents out.old) (W.contents out.new)
         (flat_map (token_line rules.now text.now) lexed.now.tokens.items ++ stuck_line lexed.now.stuck)) }
 {
@@ -86,7 +87,7 @@ fn write_tokens<W: Write>(
     text: &[u8],
     tokens: &[Token],
 ) -> io::Result<()>
-    requires { All (LiesIn text.now) tokens.now }
+    requires { All (LiesInText text.now) tokens.now }
     ensures { OnOk result (Appends (W.contents out.old) (W.contents out.new)
         (flat_map (token_line rules.now text.now) tokens.now)) }
 {
@@ -102,7 +103,7 @@ fn write_token<W: Write>(
     text: &[u8],
     token: &Token,
 ) -> io::Result<()>
-    requires { LiesIn text.now token.now }
+    requires { LiesInText text.now token.now }
     ensures { OnOk result (Appends (W.contents out.old) (W.contents out.new)
         (token_line rules.now text.now token.now)) }
 {

@@ -81,8 +81,8 @@ pub fn sets_hold_patterns_that_match()
 {}
 
 /// In UTF-8 mode, too, a search of any match kind, `earliest` or not, finds something only if some pattern matches, and
-/// a set of overlapping matches gains only patterns that match. Under `All`, and not `earliest`, in a `str`, a set gains
-/// each pattern that matches whole characters and matches from a boundary.
+/// a set of overlapping matches gains only patterns that match. Under `All`, and not `earliest`, in a `str`, a set
+/// gains each pattern that matches whole characters and matches from a boundary.
 ///
 /// A pattern may match without being found, if patterns may match the empty string: `earliest` and `All` prefer matches
 /// by where they end, and after one that splits a codepoint a search starts again behind its old start.
