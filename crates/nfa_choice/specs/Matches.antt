@@ -1,9 +1,10 @@
 -- The iterator over the matches of a choice.
-use Rattle.std.specs.Prelude.{◌≡◌, Ok, Option, option_map, ⊤, Bool}
+use Rattle.std.specs.Prelude.{◌≡◌, ◌*◌, length, Ok, Option, option_map, ⊤, Bool}
 use Rattle.std.specs.Borrow.{MutBor}
 use Rattle.regex_search_core.specs.Found.{Found, found_of}
 use Rattle.regex_search_core.specs.Search.{Search}
 use Rattle.regex_search_core.specs.declared.search.Match.{Match}
+use Rattle.nfa_backtrack.specs.Backtrack.{HoldsNoMore}
 use Rattle.nfa_search_base.specs.Lending.{With}
 use Rattle.nfa_search_base.specs.Lent.{Lent, TakesLentStep}
 use Rattle.nfa_search_base.specs.Lists.{TellsMatch}
@@ -39,6 +40,7 @@ pub record AsksByRule (s : With ByRule Choosing) (x : Search) (a : Answer Found)
     : Type 0 where
   pub finds : TellsMatch s.cache.nfa (kind_in s.cache) x.earliest x a
   pub runs : RunsByRule s.cache x x.earliest t.cache
+  pub holds : HoldsNoMore (2 * length s.cache.nfa.groups) s.cache.back t.cache.back
   pub keeps : KeepsEngines s.cache t.cache
 
 -- a call

@@ -9,7 +9,7 @@
 //!     println!(rt; "{}..{}", found.start(), found.end())?;
 //! }
 //! ```
-ghost use Rattle.std.specs.Prelude.{◌≡◌, ◌<◌, length, replicate, not, None, Some, Ok, false, option_map};
+ghost use Rattle.std.specs.Prelude.{◌≡◌, ◌*◌, ◌<◌, length, replicate, not, None, Some, Ok, false, option_map};
 ghost use Rattle.std.specs.Prelude.{All, IfOk, IfNone, IfSome, OnOk, OnErr, IsOkUnless};
 ghost use Rattle.regex_search_core.specs.Search.{search_of};
 ghost use Rattle.regex_search_core.specs.Patterns.{number_of};
@@ -17,7 +17,7 @@ ghost use Rattle.regex_search_core.specs.Found.{found_of};
 ghost use Rattle.nfa_paths.specs.Paths.{IsAnswer, IsMatchAnswer, IsFoundAnswer, is_utf8_empty};
 ghost use Rattle.nfa_search_base.specs.Lists.{IsInside, IsSlotInside};
 ghost use Rattle.nfa_search_base.specs.Spans.{SpansInside};
-ghost use Rattle.nfa_backtrack.specs.Backtrack.{unused};
+ghost use Rattle.nfa_backtrack.specs.Backtrack.{unused, HoldsNoMore};
 ghost use Rattle.nfa_pikevm.specs.Engines.{cache_for};
 ghost use Rattle.nfa_choice.specs.Choosing.{finds_in, is_for_backtracker, kind_in, IsRefitted, KeepsEngines, RunsByRule};
 
@@ -184,6 +184,7 @@ impl Choice {
         ensures pattern { IfSome result (λ p. number_of p < length self.old.nfa.patterns) }
         ensures inside { All (IsSlotInside (search_of input.now)) slots.new }
         ensures runs { RunsByRule self.old (search_of input.now) (search_of input.now).earliest self.new }
+        ensures holds { HoldsNoMore 0 self.old.back self.new.back }
         ensures keeps { KeepsEngines self.old self.new }
     {
         if self.is_for_backtracker(input) {
@@ -213,6 +214,7 @@ impl Choice {
         ensures inside { All (IsSlotInside (search_of input.now)) captures.new.slots }
         ensures spans { SpansInside (search_of input.now) captures.new }
         ensures runs { RunsByRule self.old (search_of input.now) (search_of input.now).earliest self.new }
+        ensures holds { HoldsNoMore 0 self.old.back self.new.back }
         ensures keeps { KeepsEngines self.old self.new }
     {
         if self.is_for_backtracker(input) {
@@ -233,6 +235,7 @@ impl Choice {
         ensures pattern { IfSome result (λ m. (found_of m).pattern < length self.old.nfa.patterns) }
         ensures inside { IfSome result (λ m. IsInside (search_of input.entry) (found_of m)) }
         ensures runs { RunsByRule self.old (search_of input.entry) (search_of input.entry).earliest self.new }
+        ensures holds { HoldsNoMore (2 * length self.old.nfa.groups) self.old.back self.new.back }
         ensures keeps { KeepsEngines self.old self.new }
     {
         if self.is_for_backtracker(&input) {
@@ -251,6 +254,7 @@ impl Choice {
         ensures answer { IsFoundAnswer self.old.nfa (kind_in self.old) false (search_of input.entry) result }
         ensures finds { result ≡ finds_in self.old (search_of input.entry) }
         ensures runs { RunsByRule self.old (search_of input.entry) (not (is_utf8_empty self.old.nfa)) self.new }
+        ensures holds { HoldsNoMore 0 self.old.back self.new.back }
         ensures keeps { KeepsEngines self.old self.new }
     {
         if self.is_for_backtracker(&input) {

@@ -65,12 +65,13 @@ fn expect_warm_with(
     let first = found(seen, engine, cache, TWICE)?;
     expect(first.map(parts) == Some((0, 0, 2)), "the first match")?;
     seen.opens(alloc, "warm searches of the backtracker");
-    let searched = expect_tries(engine, cache, captures);
+    let searched = expect_tries(alloc, engine, cache, captures);
     seen.closes(alloc, "warm searches of the backtracker");
     searched
 }
 
 fn expect_tries(
+    alloc: Global,
     engine: &BoundedBacktracker,
     cache: &mut backtrack::Cache,
     captures: &mut Captures,
@@ -87,7 +88,9 @@ fn expect_tries(
     granted(engine.try_captures(cache, input, captures))?;
     let caught = are_groups(captures.pattern(), captures.slots());
     expect(caught, "the captures of a warm search")?;
-    expect(count_tries(engine, cache) == 2, "the list of a warm cache")
+    expect(count_tries(engine, cache) == 2, "the list of a warm cache")?;
+    let none = granted(engine.try_find_all(alloc, cache, Input::new(b"...")))?;
+    expect(none.is_empty(), "a list of a warm cache without a match")
 }
 
 // How many matches there are, up to an error.
@@ -154,7 +157,7 @@ fn expect_all_with(
 ) -> Result<(), Wrong> {
     let mut set = engines::set(alloc, seen, 4)?;
     seen.opens(alloc, "searches of a PikeVM for all");
-    let searched = expect_long(vm, cache);
+    let searched = expect_long(alloc, vm, cache);
     let found = expect_set(vm, cache, &mut set);
     seen.closes(alloc, "searches of a PikeVM for all");
     searched?;
@@ -163,7 +166,7 @@ fn expect_all_with(
 
 const LONG: &[u8] = &[b'.'; 1500];
 
-fn expect_long(vm: &PikeVM, cache: &mut pikevm::Cache) -> Result<(), Wrong> {
+fn expect_long(alloc: Global, vm: &PikeVM, cache: &mut pikevm::Cache) -> Result<(), Wrong> {
     let mut slots = [NonMaxUsize::new(7); 8];
     if !cache.fits(vm) {
         return Err(Wrong("a cache that does not fit"));
@@ -176,7 +179,17 @@ fn expect_long(vm: &PikeVM, cache: &mut pikevm::Cache) -> Result<(), Wrong> {
     expect(
         vm.find_iter(cache, Input::new(LONG)).count() == 0,
         "matches in a long text",
-    )
+    )?;
+    expect_no_list(alloc, vm, cache)
+}
+
+// A list without an item takes no memory.
+fn expect_no_list(alloc: Global, vm: &PikeVM, cache: &mut pikevm::Cache) -> Result<(), Wrong> {
+    if !cache.fits(vm) {
+        return Err(Wrong("a cache that fits no more"));
+    }
+    let none = granted(vm.find_all(alloc, cache, Input::new(LONG)))?;
+    expect(none.is_empty(), "a list of matches in a long text")
 }
 
 // The patterns 0, 1 and 3 match somewhere in the text, and the long one has none.
@@ -220,7 +233,26 @@ fn expect_reset(
     let reset = vm.reset_cache(cache);
     seen.closes(alloc, "a second reset");
     granted(reset)?;
-    expect(cache.fits(vm), "a cache after a second reset")
+    expect_no_captures(alloc, seen, vm, cache)
+}
+
+// Where there is no match, the captures that are searched with are all that takes memory.
+fn expect_no_captures(
+    alloc: Global,
+    seen: &mut Seen,
+    vm: &PikeVM,
+    cache: &mut pikevm::Cache,
+) -> Result<(), Wrong> {
+    if !cache.fits(vm) {
+        return Err(Wrong("a cache after a second reset"));
+    }
+    seen.opens(alloc, "all captures of no match");
+    let made = vm.captures_all(alloc, cache, Input::new(LONG));
+    seen.closes(alloc, "all captures of no match");
+    match made {
+        Ok(none) => expect(none.is_empty(), "captures of no match"),
+        Err(error) => seen.note(error == SearchError::Memory),
+    }
 }
 
 // The first search takes marks and a stack.

@@ -12,5 +12,6 @@ returns c =
       finds = find-answered c.args.choice.now.nfa (kind_in c.args.choice.now) x.earliest x c.find.result
           e.answer;
       runs = e.runs;
+      holds = e.holds;
       keeps = e.keeps;
     }
