@@ -1,0 +1,2 @@
+mod MeantLemmas
+mod PrintedLemmas
