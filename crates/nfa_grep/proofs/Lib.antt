@@ -1,2 +1,3 @@
+mod GoingLemmas
 mod MeantLemmas
 mod PrintedLemmas

@@ -1,9 +1,10 @@
 -- What is printed of the lines of an input.
 use Rattle.std.specs.Prelude.{ℕ, ◌+◌, Bool, false, true, not, ◌||◌, List, [], ◌∷◌, ◌++◌, length, decimal, if◌then◌else◌, ◌==◌, slice_range}
-use Rattle.std.specs.List.{flat_map}
+use Rattle.std.specs.List.{count_by, flat_map}
 use Rattle.std.specs.Io.BufRead.{ends_with_byte, strip_last}
 use Rattle.regex_hir.specs.Re.{Re}
 use Rattle.regex_search_core.specs.Found.{Found}
+use Rattle.bstr.specs.Records.{records}
 use Rattle.nfa_grep.specs.Meant.{all_found, is_found}
 use Rattle.nfa_grep.specs.declared.options.Options.{Options}
 
@@ -55,7 +56,7 @@ abbrev pub shown_selected : Options → List Re → List ℕ → ℕ → ℕ →
 shown_selected options res label number offset line =
     if options.only
     then (if options.inverted then []
-      else pieces options label number offset line (all_found res (content line)))
+    else pieces options label number offset line (all_found res (content line)))
     else (head options label number offset ++ with_feed line)
 
 -- what is printed of a line
@@ -63,3 +64,31 @@ abbrev pub shown : Options → List Re → List ℕ → ℕ → ℕ → List ℕ
 shown options res label number offset line =
     if options.count || not (is_selected options res line) then []
     else shown_selected options res label number offset line
+
+-- what is printed of these lines: the first one has this number and starts at this offset
+unfoldable pub printed : Options → List Re → List ℕ → ℕ → ℕ → List (List ℕ) → List ℕ
+printed options res label number offset [] = []
+printed options res label number offset (line ∷ lines) =
+    shown options res label number offset line ++ printed options res label (number + 1) (offset + length line) lines
+
+-- the lines of a text, each with its line feed; the last one may have none
+abbrev pub lines_of : List ℕ → List (List ℕ)
+lines_of text = records feed text
+
+-- how many lines of a text are selected
+abbrev pub selected_count : Options → List Re → List ℕ → ℕ
+selected_count options res text = count_by (is_selected options res) (lines_of text)
+
+-- what is printed of the lines of a text
+abbrev pub printed_lines : Options → List Re → List ℕ → List ℕ → List ℕ
+printed_lines options res label text = printed options res label 1 0 (lines_of text)
+
+-- the number of the selected lines, as a line
+abbrev pub count_line : List ℕ → ℕ → List ℕ
+count_line label count = label ++ (decimal count ++ feed ∷ [])
+
+-- all that is printed of a text
+abbrev pub output : Options → List Re → List ℕ → List ℕ → List ℕ
+output options res label text =
+    printed_lines options res label text
+    ++ (if options.count then count_line label (selected_count options res text) else [])

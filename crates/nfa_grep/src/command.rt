@@ -40,9 +40,13 @@ pub fn parse<'w>(alloc: Global, words: &'w [&'w str]) -> Result<Command<'w>> {
         .override_usage(USAGE)
         .after_help(AFTER)
         .arg(flag(alloc, "count", 'c').help("Print only the number of selected lines"))?
-        .arg(flag(alloc, "only-matching", 'o').help("Print each match that is not empty on a line of its own"))?
+        .arg(flag(alloc, "only-matching", 'o').help(
+            "Print each match that is not empty on a line of its own",
+        ))?
         .arg(flag(alloc, "line-number", 'n').help("Print the number of the line, from 1"))?
-        .arg(flag(alloc, "byte-offset", 'b').help("Print the offset in bytes of the line, with -o of the match"))?
+        .arg(flag(alloc, "byte-offset", 'b').help(
+            "Print the offset in bytes of the line, with -o of the match",
+        ))?
         .arg(flag(alloc, "invert-match", 'v').help("Select the lines in which no pattern matches"))?
         .arg(
             Arg::new(alloc, "which")

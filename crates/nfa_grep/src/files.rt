@@ -2,12 +2,11 @@
 use crate::command::Arguments;
 use crate::failure::Failure;
 use crate::grep::Grep;
-use crate::search::search;
+use crate::search::print_matches;
 use anyhow::Result;
 use std::alloc::Global;
-use std::fs;
-use std::io;
 use std::io::{BufReader, BufWriter, Write};
+use std::{fs, io};
 
 /// What the search of all inputs came to.
 #[derive(Clone, Copy, Debug, PartialEq, Eq)]
@@ -54,7 +53,11 @@ pub fn run(rt: &HostRuntime, arguments: &Arguments<'_>) -> Result<Outcome> {
 fn label(alloc: Global, name: &str, several: bool) -> Result<Vec<u8>> {
     let mut label = Vec::new(alloc);
     if several {
-        let shown = if name == "-" { "(standard input)" } else { name };
+        let shown = if name == "-" {
+            "(standard input)"
+        } else {
+            name
+        };
         label.extend_from_slice(shown.as_bytes())?;
         label.extend_from_slice(b":")?;
     }
@@ -85,26 +88,4 @@ fn search_named<W: Write>(
         }
         Err(error) => Err(Failure::Read(error)),
     }
-}
-
-/// Searches the input, and prints the count of its selected lines, if that is wanted.
-fn print_matches<R: io::BufRead, W: Write>(
-    alloc: Global,
-    grep: &mut Grep<'_>,
-    label: &[u8],
-    input: &mut R,
-    out: &mut W,
-) -> Result<u64, Failure> {
-    let count = search(alloc, grep, label, input, out)?;
-    if grep.options().count {
-        if let Err(error) = write_count(label, count, out) {
-            return Err(Failure::Write(error));
-        }
-    }
-    Ok(count)
-}
-
-fn write_count<W: Write>(label: &[u8], count: u64, out: &mut W) -> io::Result<()> {
-    out.write_all(label)?;
-    writeln!(out, "{count}")
 }

@@ -134,11 +134,7 @@ impl<'p> Grep<'p> {
 }
 
 /// Returns all matches of a search of the text, from left to right.
-fn all_matches(
-    alloc: Global,
-    choice: &mut Choice,
-    text: &[u8],
-) -> Result<Vec<Match>, AllocError>
+fn all_matches(alloc: Global, choice: &mut Choice, text: &[u8]) -> Result<Vec<Match>, AllocError>
     ensures all { IfOk result (λ found.
         AreMatches choice.old.nfa (kind_in choice.old) false (whole text.now) (map found_of found.items)) }
     ensures inside { IfOk result (λ found. All (λ m. IsInside (whole text.now) (found_of m)) found.items) }

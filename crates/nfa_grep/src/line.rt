@@ -1,7 +1,7 @@
 //! Parts of a line, and what comes before it where it is printed.
 ghost use Rattle.std.specs.Prelude.{◌≡◌, ◌++◌, OnOk};
 ghost use Rattle.std.specs.Io.BufRead.{ends_with_byte, strip_last};
-ghost use Rattle.nfa_grep.specs.Printed.{content, head, numbered, with_feed};
+ghost use Rattle.nfa_grep.specs.Printed.{content, count_line, head, numbered, with_feed};
 
 use crate::options::Options;
 use itoa::Buffer;
@@ -71,16 +71,23 @@ fn append_number(wanted: bool, number: u64, out: &mut Vec<u8>) -> Result<(), All
 
 /// Appends what comes before a line or a match: the label, then the number of the line and the offset, if they are
 /// wanted.
-pub fn append_head(
-    options: Options,
-    place: Place<'_>,
-    out: &mut Vec<u8>,
-) -> Result<(), AllocError>
+pub fn append_head(options: Options, place: Place<'_>, out: &mut Vec<u8>) -> Result<(), AllocError>
     ensures { OnOk result (out.new.items
         ≡ out.old.items ++ head options place.entry.label.now place.entry.number place.entry.offset) }
 {
     out.extend_from_slice(place.label)?;
     append_number(options.numbers, place.number, out)?;
     append_number(options.offsets, place.offset, out)?;
+    Ok(())
+}
+
+/// Appends the number of selected lines, as a line with this label.
+pub fn append_count(label: &[u8], count: u64, out: &mut Vec<u8>) -> Result<(), AllocError>
+    ensures { OnOk result (out.new.items ≡ out.old.items ++ count_line label.now count) }
+{
+    let mut buffer = Buffer::new();
+    out.extend_from_slice(label)?;
+    out.extend_from_slice(buffer.format(count).as_bytes())?;
+    out.extend_from_slice(b"\n")?;
     Ok(())
 }
