@@ -6,8 +6,10 @@ mod failure;
 mod files;
 mod grep;
 mod line;
+mod marked;
 mod options;
 mod search;
+mod which;
 
 use crate::command::{Command, parse};
 use crate::files::run;
