@@ -1,0 +1,4 @@
+mod GoingLemmas
+mod MeantLemmas
+mod PrintedLemmas
+mod WhichLemmas

@@ -1,0 +1,29 @@
+-- From the laws on searches of texts to what the patterns find in a line.
+use Rattle.std.proofs.Common.{◌≡◌, ◌∙◌, ℕ, ◌+◌, Bool, false, List, length, map, refl, sym, ap}
+use Rattle.std.specs.Prelude.{Option, None, Some, is_some, option_map, ◌==◌}
+use Rattle.regex_hir.specs.Re.{Re}
+use Rattle.regex_search_core.specs.Found.{Found}
+use Rattle.regex_search_core.specs.Search.{whole}
+use Rattle.thompson_nfa.specs.Automaton.{Automaton}
+use Rattle.nfa_compiler.specs.AllHits.{all_hits, hits_from}
+use Rattle.nfa_compiler.specs.Laws.{hit}
+use Rattle.nfa_compiler.specs.Patterns.{Hit, expected, found_at}
+use Rattle.nfa_grep.specs.Meant.{all_found, is_found}
+
+same-is_some : {A B : Type 0} (f : A → B) (o : Option A) → is_some (option_map f o) ≡ is_some o
+same-is_some f None = refl
+same-is_some f (Some x) = refl
+
+module _ (res : List Re) (nfa : Automaton) (text : List ℕ) (free : (nfa.anchored == nfa.unanchored) ≡ false) where
+  -- a search that answers the hit's pattern finds something exactly if there is a hit
+  pub found-of-answer : {A : Type 0} (number : A → ℕ) (o : Option A)
+      → option_map number o ≡ option_map (λ (h : Hit). h.pattern) (hit res nfa (whole text))
+      → is_some o ≡ is_found res text
+  found-of-answer number o e =
+      sym (same-is_some number o) ∙ ap is_some e ∙ same-is_some _ (hit res nfa (whole text))
+      ∙ ap (λ (b : Bool). is_some (expected res b (whole text))) free
+
+  -- the hits of the NFA are those of the patterns
+  pub found-of-hits : (ms : List Found) → ms ≡ map found_at (all_hits res nfa (whole text)) → ms ≡ all_found res text
+  found-of-hits ms e = e ∙ ap (λ (b : Bool). map found_at (hits_from (λ i. expected res b (record (whole text) { start = i }))
+      (length text + 1) (expected res b (whole text)))) free

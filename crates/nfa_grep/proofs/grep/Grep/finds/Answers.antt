@@ -1,0 +1,19 @@
+-- The law, of this answer.
+use Rattle.std.proofs.Common.{◌∙◌, ap, arith, refl, subst, sym}
+use Rattle.regex_search_core.specs.Patterns.{number_of}
+use Rattle.regex_search_core.specs.Search.{Search, whole}
+use Rattle.nfa_compiler.proofs.CallLemmas.{bytes-of}
+use Rattle.nfa_grep.specs.Meant.{Grepping, Mean}
+use Rattle.nfa_grep.proofs.MeantLemmas.{found-of-answer}
+use Rattle.nfa_grep.proofs.grep.Grep.finds.Goals as goal
+
+pub returns-clause-found : goal.returns-clause-found
+returns-clause-found c = λ res meant.
+    let text = c.args.text.now in
+    let bytes = bytes-of text (λ k. omega (arith, c.type_inv.text k)) in
+    let inv = c.self.invariant in
+    let meant-inside = subst (λ (g : Grepping). Mean g.patterns res) (sym c.self.view_is) meant in
+    let law = c.searches_find_texts.ensures.answers _ _ res c.self.inside.choice.nfa _ _ (whole text) _ _ inv.0
+    meant-inside inv.1 (record { leftmost = rw inv.3 refl; latest = ap (λ (s : Search). s.earliest) c.new.ensures; whole = refl }) bytes
+    (rw c.new.ensures at c.search_slots.ensures.answer) in
+    c.is_some.ensures ∙ found-of-answer res c.self.inside.choice.nfa text inv.2 number_of c.search_slots.result law.0

@@ -1,0 +1,11 @@
+-- What is printed of the matches so far was appended.
+use Rattle.std.proofs.Common.{◌≡◌, ◌++◌, take}
+use Rattle.std.specs.List.{flat_map}
+use Rattle.regex_search_core.specs.Found.{found_of}
+use Rattle.nfa_grep.specs.Printed.{piece}
+use Rattle.nfa_grep.proofs.grep.append_pieces.Given as goal
+
+abbrev pub invariant-loop-found : goal.invariant-loop-found
+invariant-loop-found l = l.out.items ≡ l.fn.out.items
+    ++ flat_map (λ m. piece l.options l.place.label.now l.place.number l.place.offset l.line (found_of m))
+    (take l.found-index l.matches)

@@ -1,0 +1,36 @@
+-- What patterns find in a line, in the words of the reference matcher.
+use Rattle.std.specs.Prelude.{ℕ, ◌+◌, Bool, false, not, List, length, map, Option, is_some, if◌then◌else◌}
+use Rattle.regex_hir.specs.Re.{Re}
+use Rattle.regex_search_core.specs.Found.{Found}
+use Rattle.regex_search_core.specs.Search.{Search, whole}
+use Rattle.regex_syntax.specs.Verdict.{default_config}
+use Rattle.regex_syntax.specs.declared.Config.{Config}
+use Rattle.nfa_compiler.specs.AllHits.{hits_from}
+use Rattle.nfa_compiler.specs.Compiled.{AreMeant}
+use Rattle.nfa_compiler.specs.Patterns.{Hit, expected, found_at}
+use Rattle.nfa_grep.specs.declared.options.Options.{Options}
+
+-- The syntax of patterns: the default one, in which bytes that are not text may match.
+abbrev pub line_syntax : Config
+line_syntax = record default_config { utf8 = false }
+
+-- these are what the grammar reads in the texts
+abbrev pub Mean : List (List ℕ) → List Re → Type 0
+Mean texts res = AreMeant line_syntax texts res
+
+-- the first hit that starts at an offset or after it: of the first of the patterns that matches there
+abbrev pub hit_from : List Re → List ℕ → ℕ → Option Hit
+hit_from res text i = expected res false (record (whole text) { start = i })
+
+-- whether some pattern matches somewhere in the text
+abbrev pub is_found : List Re → List ℕ → Bool
+is_found res text = is_some (hit_from res text 0)
+
+-- where all hits in the text are, from left to right
+abbrev pub all_found : List Re → List ℕ → List Found
+all_found res text = map found_at (hits_from (hit_from res text) (length text + 1) (hit_from res text 0))
+
+-- what a search of lines is asked: the texts of the patterns, and the options
+pub record Grepping : Type 0 where
+  pub patterns : List (List ℕ)
+  pub options : Options

@@ -1,0 +1,121 @@
+//! What the arguments of the command line ask for.
+use crate::options::Options;
+use anyhow::Result;
+use clap::{Arg, ArgAction, ArgMatches, Error};
+use std::alloc::{AllocError, Global};
+
+/// How the program is called.
+const USAGE: &str = "nfa_grep [OPTIONS] [-e PATTERN].. [PATTERN] [FILE]..";
+
+/// What the help says below the options.
+const AFTER: &str = "\
+Without -e, the first argument is the pattern. Without a file, or for the file -, standard input is searched.
+A line is of any bytes. It ends at a line feed, and a carriage return before the line feed belongs to the end.
+
+Status: 0 if a line was selected, 1 if none was, 2 after an error.";
+
+/// What is searched for, where, and what is printed.
+#[derive(Drop)]
+pub struct Arguments<'w> {
+    pub options: Options,
+    /// Print the numbers of the patterns that match in a line.
+    pub which: bool,
+    pub patterns: Vec<&'w str>,
+    pub files: Vec<&'w str>,
+}
+
+/// What the arguments ask for.
+#[derive(Drop)]
+pub enum Command<'w> {
+    /// Search.
+    Search(Arguments<'w>),
+    /// Print this, which is the help or says what is wrong with the arguments.
+    Say(Error),
+}
+
+/// Reads the arguments, the first of which is the name of the program. The only error is that allocation failed.
+pub fn parse<'w>(alloc: Global, words: &'w [&'w str]) -> Result<Command<'w>> {
+    let command = clap::Command::new(alloc, "nfa_grep")
+        .about("Prints the lines in which a pattern matches.")
+        .override_usage(USAGE)
+        .after_help(AFTER)
+        .arg(flag(alloc, "count", 'c').help("Print only the number of selected lines"))?
+        .arg(flag(alloc, "only-matching", 'o').help(
+            "Print each match that is not empty on a line of its own",
+        ))?
+        .arg(flag(alloc, "line-number", 'n').help("Print the number of the line, from 1"))?
+        .arg(flag(alloc, "byte-offset", 'b').help(
+            "Print the offset in bytes of the line, with -o of the match",
+        ))?
+        .arg(flag(alloc, "invert-match", 'v').help("Select the lines in which no pattern matches"))?
+        .arg(
+            Arg::new(alloc, "which")
+                .long("which")
+                .action(ArgAction::SetTrue)
+                .help("Print the numbers, from 0, of the patterns that match in the line"),
+        )?
+        .arg(
+            Arg::new(alloc, "regexp")
+                .short('e')
+                .long("regexp")
+                .action(ArgAction::Append)
+                .value_name("PATTERN")
+                .help("Search for this pattern; may be given several times"),
+        )?
+        .arg(words_argument(alloc)?)?;
+    match command.try_get_matches_from(words) {
+        Ok(matches) => Ok(Command::Search(read_matches(alloc, &matches)?)),
+        Err(error) => Ok(Command::Say(error)),
+    }
+}
+
+/// An option without a value, of this name and this letter.
+fn flag<'w>(alloc: Global, name: &'w str, letter: char) -> Arg<'w> {
+    Arg::new(alloc, name)
+        .short(letter)
+        .long(name)
+        .action(ArgAction::SetTrue)
+}
+
+/// The arguments that belong to no option: the pattern if there is no `-e`, and the files.
+fn words_argument<'w>(alloc: Global) -> Result<Arg<'w>, AllocError> {
+    Arg::new(alloc, "words")
+        .action(ArgAction::Append)
+        .num_args(0..)
+        .value_name("PATTERN|FILE")
+        .help("The pattern, unless -e is given, and the files")
+        .required_unless_present("regexp")
+}
+
+fn read_matches<'w>(alloc: Global, matches: &ArgMatches<'w>) -> Result<Arguments<'w>> {
+    let options = Options {
+        count: matches.get_flag("count"),
+        only: matches.get_flag("only-matching"),
+        numbers: matches.get_flag("line-number"),
+        offsets: matches.get_flag("byte-offset"),
+        inverted: matches.get_flag("invert-match"),
+    };
+    let mut patterns = Vec::new(alloc);
+    let mut files = Vec::new(alloc);
+    if let Some(given) = matches.get_strs("regexp") {
+        for pattern in given {
+            patterns.push(*pattern)?;
+        }
+    }
+    if let Some(words) = matches.get_strs("words") {
+        for word in words {
+            // Without -e, the first argument is the pattern.
+            if patterns.is_empty() {
+                patterns.push(*word)?;
+            } else {
+                files.push(*word)?;
+            }
+        }
+    }
+    Ok(Arguments {
+        options,
+        which: matches.get_flag("which"),
+        patterns,
+        files,
+    })
+}

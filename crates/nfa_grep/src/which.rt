@@ -1,0 +1,100 @@
+//! Which of the patterns match in a line.
+ghost use Rattle.std.specs.Prelude.{◌≡◌, ◌↔◌, ◌++◌, IfOk, List, OnOk, false, map, ℕ};
+ghost use Rattle.regex_hir.specs.Re.{Re};
+ghost use Rattle.regex_search_core.specs.PatternSets.{patterns_of};
+ghost use Rattle.regex_search_core.specs.Search.{whole};
+ghost use Rattle.nfa_engines.specs.Overlaps.{HoldsPattern};
+ghost use Rattle.nfa_compiler.specs.Compiled.{IsCompiled, IsNfaOf};
+ghost use Rattle.nfa_compiler.specs.KindLaws.{PatternMatches};
+ghost use Rattle.nfa_grep.specs.Meant.{line_syntax};
+
+use anyhow::Result;
+use itoa::Buffer;
+use nfa_compiler::{Compiler, Config, laws};
+use nfa_engines::pikevm::{Cache, PikeVM};
+use regex_search_core::{Input, MatchKind, PatternSet, Refused};
+use std::alloc::{AllocError, Global};
+use std::marker::Model;
+
+/// A search for all patterns that match in a line. It owns the engine and its cache.
+///
+/// A contract sees the NFA of the patterns.
+#[derive(Drop)]
+pub struct Which {
+    vm: PikeVM,
+    cache: Cache,
+}
+
+impl Model for Which {
+    ghost use Rattle.std.specs.Prelude.{◌≡◌, ◌==◌, false};
+    ghost use Rattle.regex_search_core.specs.declared.search.MatchKind.TheVariants.{All};
+    ghost use Rattle.nfa_engines.specs.Automaton.{Automaton};
+    ghost use Rattle.nfa_engines.specs.Engines.{Fits, kind_of};
+    ghost use Rattle.nfa_engines.specs.Paths.{is_utf8_empty};
+
+    ghost Value = { Automaton };
+
+    ghost view = { λ w. w.vm.nfa };
+
+    ghost invariant = { λ w. Fits w.cache w.vm.nfa × (kind_of w.vm ≡ All) × (is_utf8_empty w.vm.nfa ≡ false)
+        × ((w.vm.nfa.anchored == w.vm.nfa.unanchored) ≡ false) };
+}
+
+impl Which {
+    /// Compiles the patterns. Fails if a text is not a pattern, if the patterns are too large, or if allocation failed.
+    pub fn new(alloc: Global, patterns: &[&str]) -> Result<Which>
+        ensures { IfOk result (λ which. IsCompiled line_syntax (map (λ text. text.now) patterns.now) which) }
+    {
+        let config = Config::new().utf8(false);
+        let nfa = Compiler::new()
+            .configure(config)
+            .build_many(alloc, patterns)?;
+        let kind = PikeVM::config().match_kind(MatchKind::All);
+        let vm = PikeVM::builder().configure(kind).build_from_nfa(nfa)?;
+        let cache = vm.create_cache(alloc)?;
+        Ok(Which { vm, cache })
+    }
+
+    /// Returns the set of the patterns that match somewhere in the text of a line, also where their matches overlap. The
+    /// only error is that allocation failed.
+    pub fn patterns_in(&mut self, alloc: Global, text: &[u8]) -> Result<PatternSet, Refused>
+        ensures held { IfOk result (λ set. (res : List Re) → IsNfaOf res self.old
+            → (k : ℕ) → HoldsPattern set k ↔ PatternMatches res false (whole text.now) k) }
+        ensures kept { self.new ≡ self.old }
+    {
+        laws::sets_hold_patterns_that_match();
+        let mut set = PatternSet::new(alloc, self.vm.pattern_len())?;
+        self.vm
+            .which_overlapping_matches(&mut self.cache, &Input::new(text), &mut set);
+        Ok(set)
+    }
+}
+
+/// Appends the label, and the numbers of the patterns that match in the text of a line.
+pub fn append_mark(
+    alloc: Global,
+    which: &mut Which,
+    label: &[u8],
+    text: &[u8],
+    out: &mut Vec<u8>,
+) -> Result<(), AllocError> {
+    let Ok(set) = which.patterns_in(alloc, text) else {
+        return Err(AllocError);
+    };
+    out.extend_from_slice(label)?;
+    append_numbers(&set, out)
+}
+
+/// Appends the numbers of the patterns in the set, in ascending order, with commas between them, and a colon.
+fn append_numbers(set: &PatternSet, out: &mut Vec<u8>) -> Result<(), AllocError> {
+    let mut buffer = Buffer::new();
+    let mut first = true;
+    for pattern in set.iter() {
+        if !first {
+            out.extend_from_slice(b",")?;
+        }
+        out.extend_from_slice(buffer.format(pattern.as_usize()).as_bytes())?;
+        first = false;
+    }
+    out.extend_from_slice(b":")
+}
