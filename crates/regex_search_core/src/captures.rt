@@ -1,5 +1,5 @@
 //! What the groups of a match captured.
-ghost use Rattle.std.specs.Prelude.{◌≡◌, ◌↔◌, ◌*◌, None, [], length, replicate, IfOk, IsTrue, IsSome, option_map};
+ghost use Rattle.std.specs.Prelude.{◌≡◌, ◌↔◌, ◌*◌, None, Ok, [], length, replicate, IfOk, IsTrue, IsSome, option_map};
 ghost use Rattle.std.specs.Borrow.{sem};
 ghost use Rattle.regex_search_core.specs.Groups.{slot_count};
 ghost use Rattle.regex_search_core.specs.Slots.{match_of, group_span, named_span};
@@ -74,9 +74,9 @@ impl Captures {
         })
     }
 
-    /// Captures with no slot, and no pattern.
+    /// Captures with no slot, and no pattern. To make them takes no memory, so this is always `Ok`.
     pub fn empty(alloc: Global, group_info: GroupInfo) -> Result<Captures, Refused>
-        ensures { IfOk result (λ made. made ≡ record { groups = group_info; pattern = None; slots = [] }) }
+        ensures { result ≡ Ok (record { groups = group_info; pattern = None; slots = [] }) }
     {
         Ok(Captures {
             group_info,
