@@ -5,7 +5,9 @@ mod lexer;
 mod report;
 mod rules;
 
+use crate::rules::RulesError;
 use anyhow::Result;
+use nfa_compiler::CompileError;
 use nfa_engines::pikevm::PikeVM;
 use std::fmt::Display;
 use std::io::BufWriter;
@@ -54,11 +56,11 @@ fn main(rt: HostRuntime) -> Result<ExitCode> {
 fn run(rt: &HostRuntime, text: &str) -> Result<ExitCode> {
     let rules = match rules::parse(rt.alloc(), text) {
         Ok(rules) => rules,
-        Err(error) => return Ok(misused(rt, error)),
+        Err(error) => return refused(rt, error),
     };
     let vm = match rules::compile(rt.alloc(), &rules) {
         Ok(nfa) => PikeVM::new_from_nfa(nfa)?,
-        Err(error) => return Ok(misused(rt, error)),
+        Err(error) => return refused(rt, error),
     };
     let mut out = BufWriter::new(rt.alloc(), io::writer(rt))?;
     let whole = report::run(rt.alloc(), &vm, &rules, rt.reader(), &mut out)?;
@@ -67,6 +69,14 @@ fn run(rt: &HostRuntime, text: &str) -> Result<ExitCode> {
     } else {
         ExitCode::from(STUCK)
     })
+}
+
+// Rules that are wrong are a misuse, and memory that was refused is not.
+fn refused(rt: &HostRuntime, error: RulesError) -> Result<ExitCode> {
+    match error {
+        RulesError::Compile(CompileError::Memory) => Err(error.into()),
+        error => Ok(misused(rt, error)),
+    }
 }
 
 // The status says so even if the line cannot be written.
