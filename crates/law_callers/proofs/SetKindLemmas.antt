@@ -1,4 +1,4 @@
--- A set of a search whose kind is told.
+-- A set of a search of a known kind.
 use Rattle.std.proofs.Common.{◌≡◌, Bool, List, false, subst}
 use Rattle.regex_search_core.specs.Search.{Search}
 use Rattle.regex_search_core.specs.declared.search.MatchKind.{MatchKind}

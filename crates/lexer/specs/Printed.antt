@@ -15,7 +15,7 @@ use Rattle.lexer.specs.declared.rules.Rule.{Rule}
 abbrev pub shown_place : List ℕ → Span → List ℕ
 shown_place name span = name ++ codes " " ++ decimal span.start ++ codes ".." ++ decimal span.end
 
--- a text behind a space, and the end of the line
+-- a space, a text, and the end of the line
 abbrev pub shown_text : List ℕ → List ℕ
 shown_text text = codes " " ++ (text ++ codes "\n")
 
@@ -33,12 +33,13 @@ token_line rules text token =
     unwrap_or (option_map (λ rule. rule_line rule token.span (text_of text token))
     (slice_get rules (number_of token.pattern))) (unknown_line token.span (text_of text token))
 
--- the line of the place where no token starts, if there is one
+-- the line of the place where no token starts, or nothing
 abbrev pub stuck_line : Option Stuck → List ℕ
 stuck_line None = []
 stuck_line (Some stuck) = codes "no token at " ++ decimal stuck.at ++ codes "\n"
 
--- The tokens of the text are printed in lines by these rules, and then where it is stuck. `whole` says that it is not.
+-- The output has a line for each token of the text, and one for the place where no token starts. `whole` says that
+-- there is no such place.
 pub record PrintsTokens (vm : Pike) (rules : List Rule) (text : List ℕ) (whole : Bool) (output : List ℕ) : Type 0 where
   pub tokens : List Token
   pub stuck : Option Stuck

@@ -8,7 +8,7 @@ use Rattle.lexer.specs.declared.rules.Rule.{Rule}
 abbrev pub equals_sign : ℕ
 equals_sign = 61
 
--- The name stands before the first `=` of the line, and the pattern behind it, both without white space around them.
+-- The name is before the first `=` of the line, and the pattern is after it, both without white space around them.
 -- The texts of `space` are not shown.
 pub record IsRuleOf (line : List ℕ) (rule : Rule) : Type 0 where
   pub name_is : rule.name.now ≡ trim (before_first (λ byte. byte == equals_sign) line)

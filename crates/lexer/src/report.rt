@@ -1,9 +1,10 @@
 //! A line for each token.
-ghost use Rattle.std.specs.Prelude.{◌≡◌, ◌++◌, All, IfOk, IfSome, OnOk, codes, flat_map, length, slice_get};
+ghost use Rattle.std.specs.Prelude.{◌≡◌, ◌++◌, All, IfOk, IfSome, OnOk, codes, flat_map, length, map, slice_get};
+ghost use Rattle.nfa_compiler.specs.Compiled.{IsCompiled};
 ghost use Rattle.std.specs.Io.KnownBytes.{Appends};
 ghost use Rattle.lexer.specs.Printed.{PrintsTokens, Takes, rule_line, shown_place, shown_text, stuck_line};
 ghost use Rattle.lexer.specs.Printed.{token_line, unknown_line};
-ghost use Rattle.lexer.specs.Tokens.{AreTokens, IsStuck, LiesInText, end_of_tokens};
+ghost use Rattle.lexer.specs.Tokens.{AreTokens, IsStuck, LiesInText, end_of_tokens, rule_syntax};
 
 use crate::lexer::{Lexed, Token, tokens};
 use crate::rules::Rule;
@@ -27,6 +28,7 @@ pub fn run<R: Read + Drop, W: Write>(
     mut input: R,
     out: &mut W,
 ) -> Result<bool>
+    requires { IsCompiled rule_syntax (map (λ rule. rule.pattern.now) rules.now) vm.now.nfa }
     ensures { IfOk result (λ whole. IfSome (R.remaining input) (λ text. Takes (W.contents out.old) (W.contents out.new)
         (PrintsTokens vm.now rules.now text whole))) }
 {
@@ -149,7 +151,7 @@ fn write_place<W: Write>(out: &mut W, name: &str, span: Span) -> io::Result<()>
     write!(out, "{name} {start}..{end}")
 }
 
-/// Writes the text behind a space, and the end of the line.
+/// Writes a space, the text, and the end of the line.
 #[tactic(auto, using(crate::proofs::WriteLemmas::appends_both))]
 fn write_text<W: Write>(out: &mut W, text: &[u8]) -> io::Result<()>
     ensures { OnOk result (Appends (W.contents out.old) (W.contents out.new) (shown_text text.now)) }

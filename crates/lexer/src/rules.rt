@@ -9,7 +9,7 @@ use std::alloc::{AllocError, AllocFailed, Global};
 use thiserror::Error;
 use thompson_nfa::NFA;
 
-/// The rules that the program has where no others are given.
+/// The rules of the program if no others are given.
 ///
 /// A string is of any bytes without a line feed, and a backslash keeps the byte after it. The operators of two bytes
 /// come before those of one, so they are preferred.
@@ -83,7 +83,7 @@ pub fn parse<'t>(alloc: Global, text: &'t str) -> Result<Vec<Rule<'t>>, RulesErr
     Ok(rules)
 }
 
-/// Returns the rule of a line: the name stands before the first `=`, the pattern behind it, both without white space
+/// Returns the rule of a line: the name is before the first `=` and the pattern after it, both without white space
 /// around them. Returns `None` if one of them is missing.
 fn rule_of<'t>(line: &'t str, number: usize) -> Option<Rule<'t>>
     ensures rule { IfSome result (IsRuleOf line.now) }
@@ -102,7 +102,7 @@ fn rule_of<'t>(line: &'t str, number: usize) -> Option<Rule<'t>>
     })
 }
 
-/// Returns the character, from 1, where the pattern starts: behind what stands before the `=`, the `=` and white space.
+/// Returns the number of the character, from 1, at which the pattern starts: after the `=` and white space.
 fn column_of(before: &str, behind: &str) -> usize {
     let space = behind
         .chars()

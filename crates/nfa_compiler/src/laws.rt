@@ -85,7 +85,7 @@ pub fn sets_hold_patterns_that_match()
 /// gains each pattern that matches whole characters and matches from a boundary.
 ///
 /// A pattern may match without being found, if patterns may match the empty string: `earliest` and `All` prefer matches
-/// by where they end, and after one that splits a codepoint a search starts again behind its old start.
+/// by where they end, and after one that splits a codepoint a search starts again after its old start.
 pub fn searches_find_only_matches()
     ensures found { FindsOnlyMatches }
     ensures answers { AnswersOnlyMatches }

@@ -23,13 +23,13 @@ module _ (options : Options) (res : List Re) (label : List ℕ) where
   HasPrinted input-before input out-before out number offset count =
       IfSome input-before (λ text. IsGoing text input out-before out number offset count)
 
-  -- the lines of the text were printed, and so many of them are selected
+  -- the lines of the text were printed, and `count` of them are selected
   abbrev pub PrintsLines : Option (List ℕ) → Option (List ℕ) → Option (List ℕ) → ℕ → Type 0
   PrintsLines input out-before out count =
       IfSome input (λ text. Appends out-before out (printed_lines options res label text)
       × (count ≡ selected_count options res text))
 
-  -- what is to be printed of the text was printed, and so many of its lines are selected
+  -- what is to be printed of the text was printed, and `count` of its lines are selected
   abbrev pub Prints : Option (List ℕ) → Option (List ℕ) → Option (List ℕ) → ℕ → Type 0
   Prints input out-before out count =
       IfSome input (λ text. Appends out-before out (output options res label text)

@@ -44,7 +44,8 @@ fn searches_of<'p>(
 }
 
 /// Searches the inputs that the arguments name, in order. An input that cannot be read is named on standard error, and
-/// the search goes on with the next one. The error is one that ends the search: of a pattern, of the output, or of memory.
+/// the search goes on with the next one. The error is one that ends the search: of a pattern, of the output, or of
+/// memory.
 pub fn run(rt: &HostRuntime, arguments: &Arguments<'_>) -> Result<Outcome> {
     let options = arguments.options;
     // A count has no numbers before it.

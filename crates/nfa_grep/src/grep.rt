@@ -115,7 +115,8 @@ impl<'p> Grep<'p> {
         ensures selected { IfOk result (λ selected. (res : List Re) → Mean self.old.patterns res
             → selected ≡ is_selected self.old.options res line.now) }
         ensures shown { OnOk result ((res : List Re) → Mean self.old.patterns res → out.new.items
-            ≡ out.old.items ++ shown self.old.options res place.entry.label.now place.entry.number place.entry.offset line.now) }
+            ≡ out.old.items ++ shown self.old.options res place.entry.label.now place.entry.number place.entry.offset
+            line.now) }
         ensures kept { self.new ≡ self.old }
     {
         let selected = self.selects(line);
@@ -158,7 +159,8 @@ fn append_pieces(
     requires counted { place.offset + length line.now < 2 ^ 64 }
     requires inside { All (λ m. (found_of m).end ≤ length line.now) matches.now }
     ensures { OnOk result (out.new.items ≡ out.old.items
-        ++ pieces options place.entry.label.now place.entry.number place.entry.offset line.now (map found_of matches.now)) }
+        ++ pieces options place.entry.label.now place.entry.number place.entry.offset line.now
+        (map found_of matches.now)) }
 {
     for found in matches {
         append_piece(options, place, line, *found, out)?;

@@ -6,8 +6,8 @@ use crate::which::{Which, append_mark};
 use std::alloc::Global;
 use std::io::{BufRead, Write};
 
-/// Prints what is to be printed of the lines of an input, with the numbers of the patterns that match in a line after the
-/// label, and returns how many of the lines are selected.
+/// Prints what is to be printed of the lines of an input, with the numbers of the patterns that match in a line after
+/// the label, and returns how many of the lines are selected.
 pub fn print_marked<R: BufRead, W: Write>(
     alloc: Global,
     grep: &mut Grep<'_>,

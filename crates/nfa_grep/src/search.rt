@@ -19,7 +19,8 @@ pub fn print_matches<R: BufRead, W: Write>(
     out: &mut W,
 ) -> Result<u64, Failure>
     ensures printed { IfOk result (λ count. (res : List Re) → Mean grep.old.patterns res
-        → Prints grep.old.options res label.now (R.remaining input.old) (W.contents out.old) (W.contents out.new) count) }
+        → Prints grep.old.options res label.now (R.remaining input.old) (W.contents out.old) (W.contents out.new)
+        count) }
     ensures kept { grep.new ≡ grep.old }
 {
     let count = search(alloc, grep, label, input, out)?;

@@ -55,7 +55,7 @@ impl Which {
         Ok(Which { vm, cache })
     }
 
-    /// Returns the set of the patterns that match somewhere in the text of a line, also where their matches overlap. The
+    /// Returns the set of the patterns that match somewhere in the text of a line, also if their matches overlap. The
     /// only error is that allocation failed.
     pub fn patterns_in(&mut self, alloc: Global, text: &[u8]) -> Result<PatternSet, Refused>
         ensures held { IfOk result (λ set. (res : List Re) → IsNfaOf res self.old

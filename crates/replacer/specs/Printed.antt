@@ -27,7 +27,7 @@ module _ (vm : Pike) (text : List ℕ) where
     pub are : IsSplit text vm fields
     pub lines : output ≡ field_lines fields
 
-  -- a line for each of at most so many fields, none where the limit is 0
+  -- a line for each of at most `limit` fields, none if the limit is 0
   pub record PrintsFirstFields (limit : ℕ) (output : List ℕ) : Type 0 where
     pub fields : List (List ℕ)
     pub none : limit ≡ 0 → fields ≡ []
