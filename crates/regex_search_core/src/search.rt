@@ -1,5 +1,5 @@
 //! What a search is asked, and what it answers.
-ghost use Rattle.std.specs.Prelude.{◌≡◌, ◌+◌, ◌-◌, ◌<◌, ◌≤◌, ◌↔◌, ◌^◌, length, IsTrue, false};
+ghost use Rattle.std.specs.Prelude.{◌≡◌, ◌+◌, ◌-◌, ◌<◌, ◌≤◌, ◌↔◌, ◌^◌, length, IsTrue, false, option_map};
 ghost use Rattle.regex_search_core.specs.Boundary.{IsBoundary};
 
 use crate::primitives::{NonMaxUsize, PatternID};
@@ -21,6 +21,34 @@ impl Span {
     {
         self.end.saturating_sub(self.start)
     }
+
+    /// Returns whether it has no byte: `end` is at or before `start`.
+    pub fn is_empty(&self) -> bool
+        ensures { IsTrue result ↔ (self.now.end ≤ self.now.start) }
+    {
+        self.start >= self.end
+    }
+
+    /// Returns the same offsets as a range, which can index a slice.
+    pub fn range(&self) -> Range<usize>
+        ensures { result ≡ record { start = self.now.start; end = self.now.end } }
+    {
+        self.start..self.end
+    }
+
+    /// Returns the span that is this many bytes further to the right.
+    ///
+    /// Requires that both offsets are still a `usize` there.
+    pub fn offset(&self, offset: usize) -> Span
+        requires start { self.now.start + offset < 2 ^ 64 }
+        requires end { self.now.end + offset < 2 ^ 64 }
+        ensures { result ≡ record { start = self.now.start + offset; end = self.now.end + offset } }
+    {
+        Span {
+            start: self.start + offset,
+            end: self.end + offset,
+        }
+    }
 }
 
 /// Where a match may start, and of which pattern it may be.
@@ -35,13 +63,24 @@ pub enum Anchored {
 }
 
 impl Anchored {
-    ghost use Rattle.regex_search_core.specs.Search.{is_anchored};
+    ghost use Rattle.regex_search_core.specs.Patterns.{number_of};
+    ghost use Rattle.regex_search_core.specs.Search.{anchored_pattern, is_anchored};
 
     /// Returns whether matches are bound to the start of the span: true but for `No`.
     pub fn is_anchored(&self) -> bool
         ensures { result ≡ is_anchored self.now }
     {
         !matches!(self, Anchored::No)
+    }
+
+    /// Returns the one pattern that may match. `None` if any pattern may.
+    pub fn pattern(&self) -> Option<PatternID>
+        ensures { option_map number_of result ≡ anchored_pattern self.now }
+    {
+        match self {
+            Anchored::Pattern(pattern) => Some(*pattern),
+            _ => None,
+        }
     }
 }
 
@@ -138,6 +177,41 @@ impl<'h> Input<'h> {
         self
     }
 
+    /// Changes the span, under the conditions of [`Input::span`].
+    pub fn set_span(&mut self, span: Span)
+        requires within { span.end ≤ length (search_of self.old).haystack }
+        requires ordered { span.start ≤ span.end + 1 }
+        ensures { search_of self.new ≡ record (search_of self.old) { start = span.start; end = span.end } }
+    {
+        self.span = span;
+    }
+
+    /// Changes the span to that of this range, under the conditions of [`Input::span`].
+    pub fn set_range(&mut self, range: Range<usize>)
+        requires within { range.end ≤ length (search_of self.old).haystack }
+        requires ordered { range.start ≤ range.end + 1 }
+        ensures { search_of self.new ≡ record (search_of self.old) { start = range.start; end = range.end } }
+    {
+        self.set_span(Span {
+            start: range.start,
+            end: range.end,
+        });
+    }
+
+    /// Changes where a match may start, and of which pattern it may be.
+    pub fn set_anchored(&mut self, mode: Anchored)
+        ensures { search_of self.new ≡ record (search_of self.old) { anchored = mode } }
+    {
+        self.anchored = mode;
+    }
+
+    /// Changes whether the search may (`true`) or may not stop at the earliest match.
+    pub fn set_earliest(&mut self, yes: bool)
+        ensures { search_of self.new ≡ record (search_of self.old) { earliest = yes } }
+    {
+        self.earliest = yes;
+    }
+
     /// Moves the start of the span. The caller owes that it is at most one past the span's end.
     pub fn set_start(&mut self, start: usize)
         requires { start ≤ (search_of self.old).end + 1 }
@@ -182,6 +256,13 @@ impl<'h> Input<'h> {
         ensures end { result.end ≡ (search_of self.now).end }
     {
         self.span
+    }
+
+    /// Returns the span that is searched, as a range.
+    pub fn get_range(&self) -> Range<usize>
+        ensures { result ≡ record { start = (search_of self.now).start; end = (search_of self.now).end } }
+    {
+        self.span.range()
     }
 
     /// Returns where a match may start.
@@ -312,6 +393,20 @@ impl Match {
         ensures { result ≡ (found_of self.now).end }
     {
         self.span.end
+    }
+
+    /// Returns the span of the match as a range, which can index the haystack.
+    pub fn range(&self) -> Range<usize>
+        ensures { result ≡ record { start = (found_of self.now).start; end = (found_of self.now).end } }
+    {
+        self.span.range()
+    }
+
+    /// Returns the number of bytes that match.
+    pub fn len(&self) -> usize
+        ensures { result ≡ (found_of self.now).end - (found_of self.now).start }
+    {
+        self.span.len()
     }
 
     /// Returns whether the match is empty.
