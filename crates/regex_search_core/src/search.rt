@@ -145,27 +145,25 @@ impl<'h> Input<'h> {
         requires ordered { span.start ≤ span.end + 1 }
         ensures { search_of result ≡ record (search_of self.entry) { start = span.start; end = span.end } }
     {
-        self.span = span;
+        self.set_span(span);
         self
     }
 
     /// Returns the same search over the span of this range, under the conditions of [`Input::span`].
-    pub fn range(self, range: Range<usize>) -> Input<'h>
+    pub fn range(mut self, range: Range<usize>) -> Input<'h>
         requires within { range.end ≤ length (search_of self).haystack }
         requires ordered { range.start ≤ range.end + 1 }
         ensures { search_of result ≡ record (search_of self.entry) { start = range.start; end = range.end } }
     {
-        self.span(Span {
-            start: range.start,
-            end: range.end,
-        })
+        self.set_range(range);
+        self
     }
 
     /// Returns the same search with matches bound as `mode` says.
     pub fn anchored(mut self, mode: Anchored) -> Input<'h>
         ensures { search_of result ≡ record (search_of self.entry) { anchored = mode } }
     {
-        self.anchored = mode;
+        self.set_anchored(mode);
         self
     }
 
@@ -173,7 +171,7 @@ impl<'h> Input<'h> {
     pub fn earliest(mut self, yes: bool) -> Input<'h>
         ensures { search_of result ≡ record (search_of self.entry) { earliest = yes } }
     {
-        self.earliest = yes;
+        self.set_earliest(yes);
         self
     }
 
@@ -397,7 +395,8 @@ impl Match {
 
     /// Returns the span of the match as a range, which can index the haystack.
     pub fn range(&self) -> Range<usize>
-        ensures { result ≡ record { start = (found_of self.now).start; end = (found_of self.now).end } }
+        ensures start { result.start ≡ (found_of self.now).start }
+        ensures end { result.end ≡ (found_of self.now).end }
     {
         self.span.range()
     }
