@@ -1,7 +1,7 @@
 //! The backtracker: its makers, what it shows, and its searches.
 ghost use Rattle.std.specs.Prelude.{◌≡◌, ◌↔◌, ◌⊎◌, ◌+◌, ◌*◌, ◌/◌, ◌<◌, ◌≤◌, ◌^◌, None, Ok, length, max, vec_len, replicate};
 ghost use Rattle.std.specs.Prelude.{option_map, All, IfOk, OnOk, IfErr, OnErr, IsErrOf, IsOkUnless, IsTrue, false};
-ghost use Rattle.std.specs.Prelude.{IfNone, IfSome};
+ghost use Rattle.std.specs.Prelude.{IfNone, IfSome, IsOk, vec_capacity};
 ghost use Rattle.regex_search_core.specs.Search.{search_of};
 ghost use Rattle.regex_search_core.specs.Groups.{slot_count};
 ghost use Rattle.regex_search_core.specs.Patterns.{number_of};
@@ -67,8 +67,9 @@ fn rounded_bits(bytes: usize) -> usize
     bytes.saturating_mul(8).div_ceil(64).saturating_mul(64)
 }
 
-/// Makes room for so many slots, and for no more.
+/// Makes room for so many slots, and for no more. It fails only if it has to grow.
 fn grow(slots: &mut Vec<Option<NonMaxUsize>>, len: usize) -> Result<(), Refused>
+    ensures granted { len ≤ vec_capacity slots.old → IsOk result }
     ensures room { OnOk result (len ≤ vec_len slots.new) }
     ensures kept { vec_len slots.old ≤ vec_len slots.new }
     ensures needed { vec_len slots.new ≤ max (vec_len slots.old) len }

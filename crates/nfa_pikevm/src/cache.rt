@@ -1,5 +1,5 @@
 //! The cache that a PikeVM searches with, and whether it fits.
-ghost use Rattle.std.specs.Prelude.{◌≡◌, ◌↔◌, IfOk, OnOk, OnErr, IsOkUnless, IsTrue};
+ghost use Rattle.std.specs.Prelude.{◌≡◌, ◌↔◌, IfOk, IsOk, OnOk, OnErr, IsOkUnless, IsTrue};
 ghost use Rattle.nfa_pikevm.specs.Engines.{Fits, cache_for, refitted, pike_memory_of};
 
 use crate::engine::PikeVM;
@@ -73,9 +73,10 @@ impl Cache {
         })
     }
 
-    /// Makes the cache fit the PikeVM, also if that makes it smaller. It keeps the memory that it has. The error is
-    /// `Memory` alone; the cache then is as it was, and fits what it fitted.
+    /// Makes the cache fit the PikeVM, also if that makes it smaller. It keeps the memory that it has, so this is `Ok`
+    /// if the cache fits already. The only error is `Memory`; the cache then is as it was, and fits what it fitted.
     pub fn reset(&mut self, vm: &PikeVM) -> Result<(), SearchError>
+        ensures granted { Fits self.old vm.now.nfa → IsOk result }
         ensures made { OnOk result (self.new ≡ refitted self.old vm.now.nfa) }
         ensures kept { OnErr result (self.new ≡ self.old) }
         ensures memory { IsOkUnless result SearchError.Memory }

@@ -1,5 +1,5 @@
 //! The PikeVM and its searches.
-ghost use Rattle.std.specs.Prelude.{◌≡◌, ◌+◌, ◌*◌, ◌≤◌, None, Ok, false, not, length, min, replicate, option_map, IfOk, IfNone, IfSome, All, ◌<◌, OnOk, OnErr, IsOkUnless};
+ghost use Rattle.std.specs.Prelude.{◌≡◌, ◌+◌, ◌*◌, ◌≤◌, None, Ok, false, not, length, min, replicate, option_map, IfOk, IfNone, IfSome, All, ◌<◌, IsOk, OnOk, OnErr, IsOkUnless};
 ghost use Rattle.regex_search_core.specs.Search.{search_of};
 ghost use Rattle.regex_search_core.specs.Groups.{slot_count};
 ghost use Rattle.regex_search_core.specs.Patterns.{number_of};
@@ -117,9 +117,10 @@ impl PikeVM {
         Cache::new(alloc, self)
     }
 
-    /// Makes the cache fit this PikeVM, also if that makes it smaller. The only error is `Memory`; the cache then is
-    /// as it was.
+    /// Makes the cache fit this PikeVM, also if that makes it smaller. This is `Ok` if the cache fits already. The only
+    /// error is `Memory`; the cache then is as it was.
     pub fn reset_cache(&self, cache: &mut Cache) -> Result<(), SearchError>
+        ensures granted { Fits cache.old self.now.nfa → IsOk result }
         ensures made { OnOk result (cache.new ≡ refitted cache.old self.now.nfa) }
         ensures kept { OnErr result (cache.new ≡ cache.old) }
         ensures memory { IsOkUnless result SearchError.Memory }

@@ -28,6 +28,14 @@ pub record IsSize (size : Size) : Type 0 where
   pub places : size.places ≡ size.states + 1
   pub cells : size.cells ≡ size.places * size.slots
 
+-- The threads, and a row of `found` slots, are at least as large.
+pub record Holds (size : Size) (t : Threads) (found : ℕ) : Type 0 where
+  pub states : size.states ≤ length t.reached.seen.bits
+  pub places : size.places ≤ t.curr.places
+  pub cells : size.cells ≤ t.curr.cells
+  pub frames : size.frames ≤ length t.frames.items
+  pub slots : size.slots ≤ found
+
 -- This is what a search of the NFA needs.
 pub record IsSizeOf (nfa : Automaton) (size : Size) : Type 0 where
   pub states : size.states ≡ length nfa.states
