@@ -7,3 +7,9 @@ pub mod LawLemmas
 pub mod OneLemmas
 pub mod ListOfMatchesLemmas
 pub mod MatchLemmas
+pub mod MovedLemmas
+pub mod MovedAnswerLemmas
+pub mod MovedGraphLemmas
+pub mod FirstStartLemmas
+pub mod StartAnswerLemmas
+pub mod SpanLemmas

@@ -8,6 +8,8 @@ pub mod IterationLaws
 pub mod Laws
 pub mod ListLaws
 pub mod SetLaws
+pub mod SpanLaws
+pub mod StartLaws
 pub use Rattle.nfa_backtrack.specs.Backtrack
 pub use Rattle.nfa_backtrack.specs.CapturesMatches as BacktrackCapturesMatches
 pub use Rattle.nfa_backtrack.specs.Finding as BacktrackFinding

@@ -29,6 +29,10 @@ ghost use Rattle.nfa_engines.specs.ListLaws.{AtMostInList, EverySearchHasAList, 
 ghost use Rattle.nfa_engines.specs.ListLaws.{OneList};
 ghost use Rattle.nfa_engines.specs.SetLaws.{EarliestOfAllPaths, FirstOfAllPaths, FullSetStays, OneSet};
 ghost use Rattle.nfa_engines.specs.SetLaws.{SetHoldsEachPattern, SetIsComplete, SetIsOfEarliest, SetIsOfFirsts};
+ghost use Rattle.nfa_engines.specs.SpanLaws.{AnswersMove, AnswersReadTheSpan, CutOutAnswers, CutOutMatches, MatchesMove};
+ghost use Rattle.nfa_engines.specs.SpanLaws.{MatchesReadTheSpan};
+ghost use Rattle.nfa_engines.specs.StartLaws.{AnswersHaveAStart, FirstStartAnswers, FirstStartMatches};
+ghost use Rattle.nfa_engines.specs.StartLaws.{MatchStartsArePassed, NothingAtEachStart, StartsArePassed};
 
 /// A scan has one answer at most, of each match kind and `earliest`.
 pub fn one_scan_answer()
@@ -212,4 +216,39 @@ pub fn found_is_an_accepting_path()
     ensures no_pattern { NoPatternIsNothing }
     ensures weaker { PatternIsSomething }
     ensures not_both { NotBoth }
+{}
+
+/// An unanchored search may pass over a start at which the anchored search has no accepting path: from the first other
+/// start on it has the same answer and the same match. This holds for each match kind, `earliest` or not.
+///
+/// Premises: neither the search nor the NFA is anchored, and no match has to end on a boundary.
+pub fn starts_may_be_passed()
+    ensures answers { StartsArePassed 0 }
+    ensures matches { MatchStartsArePassed 0 }
+    ensures nothing { NothingAtEachStart }
+{}
+
+/// The leftmost first answer of an unanchored search is the answer of the anchored search at the first start that has
+/// one. An answer with a pattern has such a start, in the span.
+///
+/// Premises: those of [`starts_may_be_passed`].
+pub fn first_start_answers()
+    ensures answers { FirstStartAnswers LeftmostFirst false }
+    ensures matches { FirstStartMatches LeftmostFirst false }
+    ensures start { AnswersHaveAStart LeftmostFirst false }
+{}
+
+/// The answer of an NFA without assertions depends only on the bytes of the span. Two searches with the same bytes in
+/// the same span have the same answer and the same match. If the bytes and the span move by a distance, the slots and
+/// the match move by that distance. So a span and the text cut out of it have the same answer, but for the distance.
+/// This holds for each match kind, `earliest` or not, anchored or not.
+///
+/// Premises: no state of the NFA is a `Look`, and no match has to end on a boundary.
+pub fn answers_read_the_span()
+    ensures same { AnswersReadTheSpan }
+    ensures same_match { MatchesReadTheSpan }
+    ensures moved { AnswersMove 0 }
+    ensures moved_match { MatchesMove 0 }
+    ensures cut_out { CutOutAnswers }
+    ensures cut_out_match { CutOutMatches }
 {}
