@@ -19,7 +19,6 @@ ghost use Rattle.nfa_search_base.specs.Lists.{IsInside, IsSlotInside};
 
 use crate::cache::Cache;
 use crate::config::{Builder, Config};
-use nfa_backtrack_scan::scan::unset;
 use nfa_backtrack_scan::scratch::Scratch;
 use nfa_scanning::first_bytes::FirstBytes;
 use nfa_search_base::error::SearchError;
@@ -261,28 +260,7 @@ impl BoundedBacktracker {
         ensures holds { HoldsNoMore 0 cache.old cache.new }
         ensures early { IsTooLong self.now (search_of input.now) → cache.new ≡ refused_early cache.old }
     {
-        let Cache {
-            scratch,
-            answered,
-            refused,
-            past_scans,
-            past_turns,
-            ..
-        } = cache;
-        past_scans.take(&mut scratch.scans);
-        scratch.visited.restart_turns(past_turns);
-        if self.is_too_long(input) {
-            unset(slots);
-            refused.tick();
-            return Err(SearchError::HaystackTooLong {
-                len: input.get_span().len(),
-            });
-        }
-        let Ok(half) = self.search(input, scratch, slots) else {
-            refused.tick();
-            return Err(SearchError::Memory);
-        };
-        answered.tick();
+        let half = self.search_counted(cache, input, slots)?;
         Ok(pattern_of(half))
     }
 

@@ -2,6 +2,7 @@ pub mod CapacityLemmas
 pub mod FirstSetLemmas
 pub mod FlagLemmas
 pub mod GapLemmas
+pub mod HalfLemmas
 pub mod IterationLemmas
 pub mod LawLemmas
 pub mod OneLemmas

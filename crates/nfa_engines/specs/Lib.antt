@@ -4,6 +4,7 @@ pub mod CapacityLaws
 pub mod CapturesLaws
 pub mod FlagLaws
 pub mod GapLaws
+pub mod HalfLaws
 pub mod IterationLaws
 pub mod Laws
 pub mod ListLaws
@@ -24,6 +25,7 @@ pub use Rattle.nfa_paths.specs.Graphs
 pub use Rattle.nfa_paths.specs.Known
 pub use Rattle.nfa_paths.specs.Overlaps
 pub use Rattle.nfa_paths.specs.Paths
+pub use Rattle.nfa_search_base.specs.Agreement
 pub use Rattle.nfa_search_base.specs.Asking
 pub use Rattle.nfa_search_base.specs.Catching
 pub use Rattle.nfa_search_base.specs.CaughtLists

@@ -20,6 +20,7 @@ ghost use Rattle.nfa_engines.specs.FlagLaws.{AnswerReadsNoFlag, AnswersUnderAnyF
 ghost use Rattle.nfa_engines.specs.FlagLaws.{FoundUnderAnyFlag, MatchReadsNoFlag, MatchUnderAnyFlag};
 ghost use Rattle.nfa_engines.specs.FlagLaws.{MatchesReadNoFlag, PathReadsNoFlag, RowsReadNoFlag, SetReadsNoFlag};
 ghost use Rattle.nfa_engines.specs.GapLaws.{NoneIsNoPath, NoneStartsBefore};
+ghost use Rattle.nfa_engines.specs.HalfLaws.{HalfMatchHasThePattern, OneHalfMatch};
 ghost use Rattle.nfa_engines.specs.IterationLaws.{AtMostMatches, EndsIncrease};
 ghost use Rattle.nfa_engines.specs.Laws.{AnswersAgree, EveryScanHasAnAnswer, EverySearchHasAnAnswer, FewerSlots};
 ghost use Rattle.nfa_engines.specs.Laws.{FoundAsLeftmost, FoundIsPattern, OneFound, OneMatch, OneScanAnswer};
@@ -89,6 +90,14 @@ pub fn one_match()
     ensures found { OneFound }
     ensures sets { OneSet All }
     ensures first_sets { OneSet LeftmostFirst }
+{}
+
+/// A search has one half match at most: both engines' `find_half` give the same. Its pattern is the one that a search for
+/// slots gives, so there is a half match exactly if there is a pattern. That it is the end of the match that `find`
+/// gives is a law of `nfa_bounds`, for an NFA that writes its bounds.
+pub fn one_half_match()
+    ensures one { OneHalfMatch }
+    ensures pattern { HalfMatchHasThePattern }
 {}
 
 /// What a cache did before does not show. The contracts of the searches speak of the NFA, the kind and the input alone,
