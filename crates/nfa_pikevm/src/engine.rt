@@ -337,10 +337,10 @@ impl PikeVM {
         } = cache;
         past_scans.take(&mut threads.scans);
         threads.reached.seen.restart_turns(past_turns);
-        let kind = self.config.get_match_kind();
         // An NFA that can be read is valid, so each Match state is of one of its patterns.
-        self.nfa.pattern_len();
-        search(&self.nfa, &self.first, kind, &input, threads, &mut [])
+        self.nfa.states();
+        let match_kind = self.config.get_match_kind();
+        search(&self.nfa, &self.first, match_kind, &input, threads, &mut [])
     }
 
     /// Returns whether a search of the input finds a match. The flag `earliest` of the input does not change the
