@@ -1,21 +1,29 @@
 -- What the searches of an iteration by a choice answer, and what its iterator may ask.
-use Rattle.std.proofs.Common.{◌≡◌, ◌∙◌, Bool, Option, Ok, refl, ap, subst}
+use Rattle.std.proofs.Common.{◌≡◌, ◌∙◌, Bool, false, List, ◌∷◌, map, Option, Result, Ok, refl, ap, subst}
+use Rattle.std.specs.Iterator.{Yields}
 use Rattle.std.specs.Option.{option_map}
 use Rattle.regex_search_core.specs.Found.{Found, found_of}
 use Rattle.regex_search_core.specs.Search.{Search}
+use Rattle.regex_search_core.specs.declared.search.Match.{Match}
 use Rattle.regex_search_core.specs.declared.search.MatchKind.{MatchKind}
 use Rattle.thompson_nfa.specs.Automaton.{Automaton}
 use Rattle.nfa_search_base.specs.Asking.{SameButStart}
+use Rattle.nfa_search_base.specs.Leaving.{DoesSearch}
 use Rattle.nfa_search_base.specs.Lending.{With}
+use Rattle.nfa_search_base.specs.Lent.{lent_state, lent_walk}
 use Rattle.nfa_search_base.specs.Lists.{TellsMatch}
 use Rattle.nfa_search_base.specs.Steps.{GivesItem}
-use Rattle.nfa_search_base.specs.Stored.{steps_walk, can_step_surely}
-use Rattle.nfa_search_base.specs.Walks.{Answer, span_of, IsSurelyInside}
+use Rattle.nfa_search_base.specs.Stored.{steps_walk, can_step_surely, takes_steps}
+use Rattle.nfa_search_base.specs.Walks.{Answer, fresh, span_of, IsSurelyInside}
+use Rattle.nfa_search_base.specs.declared.error.SearchError.{SearchError}
 use Rattle.nfa_search_base.specs.declared.iter.steps.Steps.{Steps}
 use Rattle.nfa_search_base.proofs.AskingLemmas.{same_start-self, same_start-then, ServesOnAlong-by}
 use Rattle.nfa_search_base.proofs.EngineLemmas.{calls-kept, find-lies}
+use Rattle.nfa_search_base.proofs.LeavingLemmas.{all-leave, calls-in, calls-leave}
+use Rattle.nfa_search_base.proofs.RunLemmas.{Says, item-says}
 use Rattle.nfa_choice.specs.Choosing.{Choosing, KeepsEngines, kind_in}
-use Rattle.nfa_choice.specs.Matches.{AsksByRule, ChoiceGivesKept, choice_finds, choice_finds_next, may_ask}
+use Rattle.nfa_choice.specs.Matches.{AsksByRule, ChoiceFindsBySearches, ChoiceGivesKept, ChoiceTells, FindsByRule}
+use Rattle.nfa_choice.specs.Matches.{choice_finds, choice_finds_next, may_ask}
 use Rattle.nfa_choice.specs.declared.choose.find_iter.ByRule.{ByRule}
 use Rattle.nfa_choice.specs.declared.choose.find_iter.ChoiceMatches.{ChoiceMatches}
 
@@ -75,3 +83,49 @@ gives-choice s = λ xs t r u ran st.
     (λ p x a q asked. asked.keeps) choice_finds_next choice_finds (option_map (λ m. Ok m)) (λ p i q h. h.takes) s xs t r
     u ran st in
     record { choice = k.cache; keeps = k.keeps }
+
+-- ---- what changes
+
+-- An iterator that begins at x.
+module _ (x : Search) (s : ChoiceMatches) (walk : lent_walk (choice_finds s) ≡ fresh x)
+    (going : s.steps.done ≡ false) where
+  abbrev Looks : Choosing → Search → Answer Found → Choosing → Type 0
+  Looks = DoesSearch (ChoiceTells s.choice.now) (λ y a. FindsByRule y)
+
+  looks : (p : With ByRule Choosing) (t : Search) (a : Answer Found) (q : With ByRule Choosing) → IsOf s.choice.now p
+      → AsksByRule p t a q → Looks p.cache t a q.cache × IsOf s.choice.now q
+  looks p t a q is asked =
+      let k = choice-acts s.choice.now t p t a q (same_start-self t) is asked in (
+        record {
+          tells = k.0;
+          work = record { runs = asked.runs; holds = asked.holds; keeps = asked.keeps };
+        },
+        k.1,
+      )
+
+  says : (p : With ByRule Choosing) (a : Answer Found) (r : Option (Result Match SearchError)) → GivesItem found_of a r
+      → Says found_of a (λ q. Unit {0}) r
+  says p a r gives = item-says found_of (λ b. Unit {0}) a r gives tt
+
+  in-steps : (xs : List Match) (t : ChoiceMatches) → Yields choice_finds_next s xs t
+      → Yields (takes_steps span_of AsksByRule (λ q. GivesItem found_of)) (lent_state (choice_finds s))
+      (map (λ m. Ok m) xs) (lent_state (choice_finds t))
+  in-steps xs t ran =
+      calls-in span_of AsksByRule (λ q. GivesItem found_of) found_of says (λ q. q.cache) Looks (IsOf s.choice.now) looks
+      choice_finds_next (λ q. lent_state (choice_finds q)) (λ m. Ok m) (λ p r q st. st.takes.step) xs s t ran
+
+  -- the calls change the choice by their searches alone
+  pub finds-searches : ChoiceFindsBySearches x s
+  finds-searches = record {
+    on = λ xs t r u ran st.
+        let k = calls-leave span_of AsksByRule (λ q. GivesItem found_of) found_of says (λ q. q.cache) Looks
+        (IsOf s.choice.now) looks (map (λ m. Ok m) xs) (lent_state (choice_finds s)) (lent_state (choice_finds t))
+        (lent_state (choice_finds u)) (option_map (λ m. Ok m) r) going (record { nfa = refl; kind = refl })
+        (in-steps xs t ran) st.takes.step in
+        record { answers = k.0 ∷ k.1; steps = rw walk at k.2 };
+    to_end = λ xs t u ran st.
+        let k = all-leave span_of AsksByRule (λ q. GivesItem found_of) found_of says (λ q. q.cache) Looks
+        (IsOf s.choice.now) looks xs (lent_state (choice_finds s)) (lent_state (choice_finds t))
+        (lent_state (choice_finds u)) going (record { nfa = refl; kind = refl }) (in-steps xs t ran) st.takes.step in
+        record { steps = rw walk at k };
+  }

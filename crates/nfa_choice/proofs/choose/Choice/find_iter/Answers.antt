@@ -5,7 +5,7 @@ use Rattle.nfa_search_base.specs.Lent.{lent_state}
 use Rattle.nfa_search_base.proofs.MatchRunLemmas.{matches-first_given, matches-run, matches-next, matches-apart_run, matches-are}
 use Rattle.nfa_choice.specs.Choosing.{kind_in}
 use Rattle.nfa_choice.specs.Matches.{AsksByRule, choice_finds, choice_finds_next}
-use Rattle.nfa_choice.proofs.FindLemmas.{IsOf, choice-acts, gives-choice}
+use Rattle.nfa_choice.proofs.FindLemmas.{IsOf, choice-acts, finds-searches, gives-choice}
 use Rattle.nfa_choice.proofs.choose.Choice.find_iter.Goals as goal
 
 pub returns-clause-runs : goal.returns-clause-runs
@@ -40,3 +40,6 @@ returns-clause-next c = let e = c.args.self.now in let x = search_of c.args.inpu
 
 pub returns-clause-keeps : goal.returns-clause-keeps
 returns-clause-keeps c = gives-choice _
+
+pub returns-clause-searches : goal.returns-clause-searches
+returns-clause-searches c = finds-searches (search_of c.args.input) _ c.new.ensures refl
