@@ -21,8 +21,12 @@ ghost use Rattle.nfa_backtrack.specs.Backtrack.{unused, HoldsNoMore};
 ghost use Rattle.nfa_pikevm.specs.Engines.{cache_for};
 ghost use Rattle.nfa_choice.specs.Choosing.{finds_in, is_for_backtracker, kind_in, IsRefitted, KeepsEngines, RunsByRule};
 
+mod captures;
+mod captures_iter;
 mod find_iter;
+mod overlap;
 
+pub use captures_iter::ChoiceCaptures;
 pub use find_iter::ChoiceMatches;
 use nfa_engines::backtrack::{self, BoundedBacktracker};
 use nfa_engines::error::SearchError;
