@@ -59,7 +59,9 @@ impl Cache {
         ensures memory { IsOkUnless result SearchError.Memory }
     {
         let nfa = vm.get_nfa();
-        let size = size_for(nfa).ok_or(SearchError::Memory)?;
+        let Some(size) = size_for(nfa) else {
+            return Err(SearchError::Memory);
+        };
         let mut threads = Threads::new(alloc)?;
         let mut found = Vec::new(alloc);
         make_room(&mut threads, &mut found, &size, nfa.start_anchored())?;
@@ -81,16 +83,20 @@ impl Cache {
         ensures kept { OnErr result (self.new ≡ self.old) }
         ensures memory { IsOkUnless result SearchError.Memory }
     {
+        let Cache {
+            threads,
+            found,
+            slots,
+            patterns,
+            ..
+        } = self;
         let nfa = vm.get_nfa();
-        let size = size_for(nfa).ok_or(SearchError::Memory)?;
-        make_room(
-            &mut self.threads,
-            &mut self.found,
-            &size,
-            nfa.start_anchored(),
-        )?;
-        self.slots = size.slots;
-        self.patterns = nfa.pattern_len();
+        let Some(size) = size_for(nfa) else {
+            return Err(SearchError::Memory);
+        };
+        make_room(threads, found, &size, nfa.start_anchored())?;
+        *slots = size.slots;
+        *patterns = nfa.pattern_len();
         Ok(())
     }
 
