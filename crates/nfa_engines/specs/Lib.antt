@@ -7,6 +7,7 @@ pub mod GapLaws
 pub mod IterationLaws
 pub mod Laws
 pub mod ListLaws
+pub mod PatternLaws
 pub mod SetLaws
 pub mod SpanLaws
 pub mod StartLaws
