@@ -1,21 +1,15 @@
 -- The paths of an unanchored search are those of the anchored searches at each start.
-use Rattle.std.proofs.Common.{◌≡◌, ◌∙◌, ℕ, zero, suc, ◌+◌, ◌-◌, ◌==◌, ◌≤◌, ◌<◌, ◌⊎◌, ◌↔◌, inl, inr, Bool, false, List, [], ◌∷◌}
+use Rattle.std.proofs.Common.{◌≡◌, ℕ, zero, suc, ◌+◌, ◌-◌, ◌≤◌, ◌<◌, ◌⊎◌, inl, inr, List, [], ◌∷◌}
 use Rattle.std.proofs.Common.{refl, sym, ap, subst, arith, le-ltb}
-use Rattle.std.specs.Prelude.{Option, None, Some, option_map}
 use Rattle.std.proofs.lemmas.Bool.{cases_lt}
-use Rattle.regex_search_core.specs.Found.{Found}
 use Rattle.regex_search_core.specs.Search.{Search}
 use Rattle.regex_search_core.specs.declared.search.Anchored.{Anchored}
-use Rattle.regex_search_core.specs.declared.search.Anchored.TheVariants.{No, Yes}
-use Rattle.regex_search_core.specs.declared.search.MatchKind.{MatchKind}
-use Rattle.regex_search_core.specs.declared.search.MatchKind.TheVariants.{LeftmostFirst}
 use Rattle.thompson_nfa.specs.Automaton.{Automaton, Node}
 use Rattle.thompson_nfa.specs.Automaton.Node.{ByteRange, Sparse, Dense, Look, Union, BinaryUnion, Capture, Fail, Match}
-use Rattle.nfa_paths.specs.Graphs.{Pair, In, HeadIs, ComesBefore, PathTo, NoPath, IsFirstTo}
-use Rattle.nfa_paths.specs.Paths.{edges, edges_of, is_utf8_empty, node_at, pairs_from, starts, IsMatch}
+use Rattle.nfa_paths.specs.Graphs.{Pair, In, HeadIs, ComesBefore, PathTo}
+use Rattle.nfa_paths.specs.Paths.{edges, edges_of, node_at, pairs_from, starts}
 use Rattle.nfa_paths.proofs.StartLemmas.{starts-none}
-use Rattle.nfa_engines.specs.Accepting.{MatchesNothing}
-use Rattle.nfa_engines.specs.StartLaws.{anchored_at, from_start, IsFirstStart, IsUnbound}
+use Rattle.nfa_engines.specs.StartLaws.{anchored_at, from_start, IsUnbound}
 
 -- the search from another start, anchored or not
 abbrev pub begun : Search → ℕ → Anchored → Search

@@ -14,3 +14,6 @@ pub mod MovedGraphLemmas
 pub mod FirstStartLemmas
 pub mod StartAnswerLemmas
 pub mod SpanLemmas
+pub mod AloneLemmas
+pub mod FirstPatternLemmas
+pub mod PatternAnswerLemmas

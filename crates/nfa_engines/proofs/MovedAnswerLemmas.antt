@@ -1,5 +1,6 @@
 -- Where the accepting paths of one search are those of another, moved, so is what it answers.
-use Rattle.std.proofs.Common.{◌≡◌, ◌∙◌, ℕ, ◌+◌, ◌*◌, ◌==◌, ◌≤◌, ◌<◌, inl, inr, Bool, true, false, List, [], ◌∷◌, map, replicate, zero, suc}
+use Rattle.std.proofs.Common.{◌≡◌, ◌∙◌, ℕ, ◌+◌, ◌*◌, ◌==◌, ◌≤◌, ◌<◌, inl, inr, Bool, true, false, List, [], ◌∷◌, map}
+use Rattle.std.proofs.Common.{replicate, zero, suc}
 use Rattle.std.proofs.Common.{length, refl, sym, ap, arith, nat_le, leb, if◌then◌else◌}
 use Rattle.std.specs.Prelude.{Option, None, Some, option_map, option_and_then, slice_get}
 use Rattle.std.specs.List.{last_or, range_with_len}
@@ -10,7 +11,7 @@ use Rattle.std.proofs.lemmas.Option.{slice_get-map}
 use Rattle.regex_search_core.specs.Found.{Found}
 use Rattle.regex_search_core.specs.Groups.{slot_count}
 use Rattle.regex_search_core.specs.Search.{Search}
-use Rattle.regex_search_core.specs.Slots.{offset_at, span_at, match_of}
+use Rattle.regex_search_core.specs.Slots.{offset_at, match_of}
 use Rattle.regex_search_core.specs.declared.search.Span.{Span}
 use Rattle.regex_search_core.specs.declared.search.MatchKind.{MatchKind}
 use Rattle.regex_search_core.specs.declared.search.MatchKind.TheVariants.{All, LeftmostFirst}

@@ -1,5 +1,6 @@
 -- An NFA without assertions reads the bytes of the span alone, and not where the span is.
-use Rattle.std.proofs.Common.{◌≡◌, ◌∙◌, ℕ, zero, suc, ◌+◌, ◌-◌, ◌==◌, ◌||◌, ◌≤◌, ◌<◌, inl, inr, Bool, false, List, [], ◌∷◌, length}
+use Rattle.std.proofs.Common.{◌≡◌, ◌∙◌, ℕ, zero, suc, ◌+◌, ◌-◌, ◌==◌, ◌||◌, ◌≤◌, ◌<◌, inl, inr, Bool, false, List, []}
+use Rattle.std.proofs.Common.{◌∷◌, length}
 use Rattle.std.proofs.Common.{map, take, drop, get_or, refl, sym, ap, subst, arith, le-ltb, lt-ltb, if◌then◌else◌}
 use Rattle.std.specs.Prelude.{Option, None, Some, option_map, option_and_then, option_to_list, slice_get}
 use Rattle.std.specs.Option.{option_map_or}
@@ -17,7 +18,7 @@ use Rattle.nfa_paths.proofs.ScanAnswerLemmas.{edges-onward}
 use Rattle.nfa_paths.proofs.StartLemmas.{pairs_from-ahead}
 use Rattle.nfa_engines.specs.SpanLaws.{cut_out, moved_match, moved_slots, AreBytesMoved, AssertsNothing, HasNoLook}
 use Rattle.nfa_engines.specs.SpanLaws.{IsSameSpan, IsSpanMoved}
-use Rattle.nfa_engines.proofs.MovedLemmas.{moved, moved_path, ArePathsMoved}
+use Rattle.nfa_engines.proofs.MovedLemmas.{moved_path, ArePathsMoved}
 use Rattle.nfa_engines.proofs.MovedAnswerLemmas.{answer-moved, match_answer-moved, moved_match-none, moved_slots-none}
 use Rattle.nfa_engines.proofs.MovedGraphLemmas.{paths-moved}
 
@@ -60,7 +61,7 @@ union-moved k p [] = refl
 union-moved k p (a ∷ alternates) = ap (λ (ps : List Pair). (a, p + k) ∷ ps) (union-moved k p alternates)
 
 module _ (nfa : Automaton) (k : ℕ) (x y : Search) (plain : HasNoLook nfa) (span : IsSpanMoved k x y)
-    (bytes : AreBytesMoved 0 k x y) where
+    (bytes : AreBytesMoved k x y) where
   -- the second search
   abbrev there : Search
   there = record y { start = x.start + k; end = x.end + k; anchored = x.anchored }
@@ -76,7 +77,7 @@ module _ (nfa : Automaton) (k : ℕ) (x y : Search) (plain : HasNoLook nfa) (spa
   byte-moved p past =
       elim (cases_lt p x.end) [
         | inl within ↦
-            rw (lt-ltb p x.end within, lt-ltb (p + k) (x.end + k) (omega arith)) (bytes p past (omega arith))
+            rw (lt-ltb p x.end within, lt-ltb (p + k) (x.end + k) (omega arith)) (bytes p past within)
         | inr over ↦ rw (le-ltb p x.end over, le-ltb (p + k) (x.end + k) (omega arith)) refl
       ]
 
@@ -164,10 +165,10 @@ same-moved x y h =
     let end : y.end ≡ x.end = h.end in
     record { start = omega arith; end = omega arith; anchored = h.anchored }
 
-same-bytes : (x y : Search) → IsSameSpan x y → AreBytesMoved 0 0 x y
+same-bytes : (x y : Search) → IsSameSpan x y → AreBytesMoved 0 x y
 same-bytes x y h = λ i past below.
     let at : i + 0 ≡ i = omega arith in
-    ap (slice_get y.haystack) at ∙ h.bytes i past (omega arith)
+    ap (slice_get y.haystack) at ∙ h.bytes i past below
 
 pub same-answer : (nfa : Automaton) (x y : Search) (kind : MatchKind) (earliest : Bool)
     (pattern : Option ℕ) (slots : List (Option ℕ)) → HasNoLook nfa → is_utf8_empty nfa ≡ false → IsSameSpan x y
@@ -201,9 +202,9 @@ get-drop (x ∷ xs) (suc n) i =
 cut-moved : (x : Search) → x.start ≤ x.end → IsSpanMoved x.start (cut_out x) x
 cut-moved x ordered = record { start = omega arith; end = omega arith; anchored = refl }
 
-cut-bytes : (x : Search) → AreBytesMoved 0 x.start (cut_out x) x
+cut-bytes : (x : Search) → AreBytesMoved x.start (cut_out x) x
 cut-bytes x = λ i past below.
-    sym (get-take (drop x.start x.haystack) (x.end - x.start) i (omega arith) ∙ get-drop x.haystack x.start i)
+    sym (get-take (drop x.start x.haystack) (x.end - x.start) i below ∙ get-drop x.haystack x.start i)
 
 pub cut-answer : (nfa : Automaton) (x : Search) (kind : MatchKind) (earliest : Bool)
     (pattern : Option ℕ) (slots : List (Option ℕ))

@@ -31,26 +31,25 @@ pub record IsSpanMoved (k : ℕ) (x y : Search) : Type 0 where
   pub end : y.end ≡ x.end + k
   pub anchored : y.anchored ≡ x.anchored
 
--- the bytes in the span of the first are those of the second, so many positions to the right; the last `less` ones may
--- differ
-abbrev pub AreBytesMoved : ℕ → ℕ → Search → Search → Type 0
-AreBytesMoved less k x y =
-    (i : ℕ) → x.start ≤ i → i + less < x.end → slice_get y.haystack (i + k) ≡ slice_get x.haystack i
+-- the bytes in the span of the first are in the second, this many positions to the right
+abbrev pub AreBytesMoved : ℕ → Search → Search → Type 0
+AreBytesMoved k x y =
+    (i : ℕ) → x.start ≤ i → i < x.end → slice_get y.haystack (i + k) ≡ slice_get x.haystack i
 
 -- An NFA without assertions reads the bytes of the span alone: where span and bytes are those of another search, moved,
 -- so is the answer, of each kind.
-abbrev pub AnswersMove : ℕ → Type 0
-AnswersMove less =
+abbrev pub AnswersMove : Type 0
+AnswersMove =
     (nfa : Automaton) (k : ℕ) (x y : Search) (kind : MatchKind) (earliest : Bool)
     (pattern : Option ℕ) (slots : List (Option ℕ))
-    → HasNoLook nfa → is_utf8_empty nfa ≡ false → IsSpanMoved k x y → AreBytesMoved less k x y
+    → HasNoLook nfa → is_utf8_empty nfa ≡ false → IsSpanMoved k x y → AreBytesMoved k x y
     → IsAnswer nfa kind earliest x pattern slots → IsAnswer nfa kind earliest y pattern (moved_slots k slots)
 
 -- and so is the match
-abbrev pub MatchesMove : ℕ → Type 0
-MatchesMove less =
+abbrev pub MatchesMove : Type 0
+MatchesMove =
     (nfa : Automaton) (k : ℕ) (x y : Search) (kind : MatchKind) (earliest : Bool) (found : Option Found)
-    → HasNoLook nfa → is_utf8_empty nfa ≡ false → IsSpanMoved k x y → AreBytesMoved less k x y
+    → HasNoLook nfa → is_utf8_empty nfa ≡ false → IsSpanMoved k x y → AreBytesMoved k x y
     → IsMatchAnswer nfa kind earliest x found
     → IsMatchAnswer nfa kind earliest y (option_map (moved_match k) found)
 

@@ -1,10 +1,9 @@
 -- Laws of where the answer of a search starts, over the definitions alone.
-use Rattle.std.specs.Prelude.{◌≡◌, ◌↔◌, ◌==◌, ℕ, ◌+◌, ◌<◌, ◌≤◌, Bool, false, List, Option, None, Some}
+use Rattle.std.specs.Prelude.{◌≡◌, ◌↔◌, ◌==◌, ℕ, ◌<◌, ◌≤◌, Bool, false, List, Option, Some}
 use Rattle.regex_search_core.specs.Found.{Found}
 use Rattle.regex_search_core.specs.Search.{Search}
 use Rattle.regex_search_core.specs.declared.search.Anchored.TheVariants.{No, Yes}
 use Rattle.regex_search_core.specs.declared.search.MatchKind.{MatchKind}
-use Rattle.regex_search_core.specs.declared.search.MatchKind.TheVariants.{LeftmostFirst}
 use Rattle.thompson_nfa.specs.Automaton.{Automaton}
 use Rattle.nfa_paths.specs.Paths.{is_utf8_empty, IsAnswer, IsMatchAnswer}
 use Rattle.nfa_engines.specs.Accepting.{MatchesNothing}
@@ -29,20 +28,20 @@ pub record IsFirstStart (nfa : Automaton) (x : Search) (s : ℕ) : Type 0 where
   pub from : x.start ≤ s
   pub nothing : (i : ℕ) → x.start ≤ i → i < s → MatchesNothing nfa (anchored_at x i)
 
--- A search, of any kind, has the answer of the one that begins at such a start, and so many positions after it.
-abbrev pub StartsArePassed : ℕ → Type 0
-StartsArePassed more =
+-- a search, of any kind, has the answer of the one from such a start on
+abbrev pub StartsArePassed : Type 0
+StartsArePassed =
     (nfa : Automaton) (x : Search) (s : ℕ) (kind : MatchKind) (earliest : Bool)
     (pattern : Option ℕ) (slots : List (Option ℕ))
     → IsUnbound nfa x → IsFirstStart nfa x s
-    → IsAnswer nfa kind earliest x pattern slots ↔ IsAnswer nfa kind earliest (from_start x (s + more)) pattern slots
+    → IsAnswer nfa kind earliest x pattern slots ↔ IsAnswer nfa kind earliest (from_start x s) pattern slots
 
 -- the same of its match
-abbrev pub MatchStartsArePassed : ℕ → Type 0
-MatchStartsArePassed more =
+abbrev pub MatchStartsArePassed : Type 0
+MatchStartsArePassed =
     (nfa : Automaton) (x : Search) (s : ℕ) (kind : MatchKind) (earliest : Bool) (found : Option Found)
     → IsUnbound nfa x → IsFirstStart nfa x s
-    → IsMatchAnswer nfa kind earliest x found ↔ IsMatchAnswer nfa kind earliest (from_start x (s + more)) found
+    → IsMatchAnswer nfa kind earliest x found ↔ IsMatchAnswer nfa kind earliest (from_start x s) found
 
 -- If the anchored search at such a start has a pattern, its answer is that of the search.
 abbrev pub FirstStartAnswers : MatchKind → Bool → Type 0

@@ -28,10 +28,12 @@ ghost use Rattle.nfa_engines.specs.Laws.{OneSearchAnswer, PathsAreOrdered, Paths
 ghost use Rattle.nfa_engines.specs.Laws.{SearchesAgree, SlotsPastAreNone};
 ghost use Rattle.nfa_engines.specs.ListLaws.{AtMostInList, EverySearchHasAList, ListAsLeftmost, MatchesAreApart};
 ghost use Rattle.nfa_engines.specs.ListLaws.{OneList};
+ghost use Rattle.nfa_engines.specs.PatternLaws.{AnswersAreOfPatterns, FirstPatternAnswers, NothingOfEachPattern};
+ghost use Rattle.nfa_engines.specs.PatternLaws.{PatternIsAlone, PatternMatchesAlone};
 ghost use Rattle.nfa_engines.specs.SetLaws.{EarliestOfAllPaths, FirstOfAllPaths, FullSetStays, OneSet};
 ghost use Rattle.nfa_engines.specs.SetLaws.{SetHoldsEachPattern, SetIsComplete, SetIsOfEarliest, SetIsOfFirsts};
-ghost use Rattle.nfa_engines.specs.SpanLaws.{AnswersMove, AnswersReadTheSpan, CutOutAnswers, CutOutMatches, MatchesMove};
-ghost use Rattle.nfa_engines.specs.SpanLaws.{MatchesReadTheSpan};
+ghost use Rattle.nfa_engines.specs.SpanLaws.{AnswersMove, AnswersReadTheSpan, CutOutAnswers, CutOutMatches};
+ghost use Rattle.nfa_engines.specs.SpanLaws.{MatchesMove, MatchesReadTheSpan};
 ghost use Rattle.nfa_engines.specs.StartLaws.{AnswersHaveAStart, FirstStartAnswers, FirstStartMatches};
 ghost use Rattle.nfa_engines.specs.StartLaws.{MatchStartsArePassed, NothingAtEachStart, StartsArePassed};
 
@@ -232,8 +234,8 @@ pub fn found_is_an_accepting_path()
 ///
 /// Premises: neither the search nor the NFA is anchored, and no match has to end on a boundary.
 pub fn starts_may_be_passed()
-    ensures answers { StartsArePassed 0 }
-    ensures matches { MatchStartsArePassed 0 }
+    ensures answers { StartsArePassed }
+    ensures matches { MatchStartsArePassed }
     ensures nothing { NothingAtEachStart }
 {}
 
@@ -247,6 +249,24 @@ pub fn first_start_answers()
     ensures start { AnswersHaveAStart LeftmostFirst false }
 {}
 
+/// A search with `Anchored::Pattern` has the answer and the match of the anchored search of that pattern alone: of the
+/// NFA whose anchored start is the start of the pattern. This holds for each match kind, `earliest` or not.
+pub fn pattern_is_alone()
+    ensures answer { PatternIsAlone }
+    ensures match_of { PatternMatchesAlone }
+{}
+
+/// The leftmost first answer of an anchored search is the answer of the first pattern, in their order, that has one by
+/// itself. A search matches nothing exactly if no pattern by itself matches.
+///
+/// Premises: the anchored start is a union of the starts of the patterns, in their order, and no path from one of these
+/// leads back to it; or the NFA has one pattern, which starts there. No match has to end on a boundary.
+pub fn first_pattern_answers()
+    ensures answers { FirstPatternAnswers LeftmostFirst false }
+    ensures pattern { AnswersAreOfPatterns LeftmostFirst false }
+    ensures nothing { NothingOfEachPattern }
+{}
+
 /// The answer of an NFA without assertions depends only on the bytes of the span. Two searches with the same bytes in
 /// the same span have the same answer and the same match. If the bytes and the span move by a distance, the slots and
 /// the match move by that distance. So a span and the text cut out of it have the same answer, but for the distance.
@@ -256,8 +276,8 @@ pub fn first_start_answers()
 pub fn answers_read_the_span()
     ensures same { AnswersReadTheSpan }
     ensures same_match { MatchesReadTheSpan }
-    ensures moved { AnswersMove 0 }
-    ensures moved_match { MatchesMove 0 }
+    ensures moved { AnswersMove }
+    ensures moved_match { MatchesMove }
     ensures cut_out { CutOutAnswers }
     ensures cut_out_match { CutOutMatches }
 {}
