@@ -1,5 +1,5 @@
 -- Memory is asked for where a match came.
-use Rattle.std.proofs.Common.{◌∷◌, ◌++◌, [], map, subst, sym}
+use Rattle.std.proofs.Common.{subst, sym}
 use Rattle.regex_search_core.specs.Search.{search_of}
 use Rattle.nfa_search_base.specs.MatchRuns.{MatchesNext}
 use Rattle.nfa_pikevm.specs.Engines.{kind_of}
