@@ -24,6 +24,7 @@ ghost use Rattle.nfa_choice.specs.Choosing.{finds_in, is_for_backtracker, kind_i
 mod captures;
 mod captures_iter;
 mod find_iter;
+mod half;
 mod overlap;
 
 pub use captures_iter::ChoiceCaptures;

@@ -136,7 +136,8 @@ pub fn piked_half(
     half_text(alloc, vm.find_half(cache, input))
 }
 
-fn half_text(alloc: Global, half: Option<HalfMatch>) -> Result<String, AllocError> {
+/// The pattern and the offset, as `0 4`, or `none`.
+pub fn half_text(alloc: Global, half: Option<HalfMatch>) -> Result<String, AllocError> {
     match half {
         Some(half) => {
             let pattern = half.pattern().as_usize();
