@@ -75,7 +75,7 @@ impl PatternSet {
         }
     }
 
-    /// Takes the pattern out, and returns whether it was in the set. Any pattern may be passed.
+    /// Removes the pattern, and returns whether it was in the set. Any pattern may be passed.
     pub fn remove(&mut self, pattern: PatternID) -> bool
         ensures answer { result ≡ slice_index_or self.old (number_of pattern) false }
         ensures after { self.new ≡ without_pattern self.old (number_of pattern) }
@@ -88,7 +88,7 @@ impl PatternSet {
         true
     }
 
-    /// Takes all patterns out. The capacity stays.
+    /// Removes all patterns. The capacity stays.
     pub fn clear(&mut self)
         ensures { self.new ≡ replicate (length self.old) false }
     {

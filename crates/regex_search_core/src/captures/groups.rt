@@ -13,7 +13,8 @@ use crate::slots::span_in;
 #[derive(Debug, Drop)]
 pub struct CapturesPatternIter<'a> {
     slots: &'a [Option<NonMaxUsize>],
-    // The slot of the next group, that of the group after it, and the number of groups still to come.
+    // The slot of the next group, that of the group after it, and the number of groups still to come. Slots are far
+    // below these bounds, so no step overflows.
     next: usize,
     explicit: usize,
     left: usize,
