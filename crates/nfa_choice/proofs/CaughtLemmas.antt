@@ -69,8 +69,9 @@ steps-serve s may =
 pub step-may : (s : Steps State) (r : Option (Result Captured SearchError)) (t : Steps State) → RuleSteps s r t
     → MayCatchByRule s.asker → MayCatchByRule t.asker
 step-may s r t st =
-    step-keeps row_span AsksRowByRule (λ q. GivesCaptures q.asker) (λ (p q : State). MayCatchByRule p → MayCatchByRule q)
-    (λ q may. may) (λ p q u f g may. g (f may)) (λ p x a q asked may. may-after p x a q may asked) s r t st
+    step-keeps row_span AsksRowByRule (λ q. GivesCaptures q.asker)
+    (λ (p q : State). MayCatchByRule p → MayCatchByRule q) (λ q may. may) (λ p q u f g may. g (f may))
+    (λ p x a q asked may. may-after p x a q may asked) s r t st
 
 -- ---- what a search answers
 
@@ -101,7 +102,8 @@ step-engines s r t st =
 copied : (s : Steps State) (d : Captured) (t : Steps State) (b : Bool)
     → (let r : Option (Result Captured SearchError) = Some (Ok d) in
     MatchBool b ((r ≡ None) × (t ≡ s))
-    (TakesStep row_span AsksRowByRule (λ q. GivesCaptures q.asker) s.asker (steps_walk s) r t.asker (steps_walk t) t.done))
+    (TakesStep row_span AsksRowByRule (λ q. GivesCaptures q.asker) s.asker (steps_walk s) r t.asker (steps_walk t)
+    t.done))
     → d ≡ t.asker.asker.captures
 copied s d t true h = let k : (let r : Option (Result Captured SearchError) = Some (Ok d) in r ≡ None) = h.0 in cc
 copied s d t false h = copy-of t.asker.asker h.answer d h.item

@@ -1,4 +1,5 @@
-//! The engine that takes one of the two for each search, and never fails.
+//! The engine that takes one of the two for each search. No search fails; only calls that allocate do, with
+//! [`SearchError::Memory`]: those that make a choice, captures or a list.
 //!
 //! Take it where one NFA is searched and neither engine is wanted for its own sake. It holds both and their caches, so
 //! it takes the memory of both; one of the two alone is the leaner choice where its limits suit.

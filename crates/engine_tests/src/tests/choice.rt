@@ -2,6 +2,7 @@
 //! owned by a function with many ways out.
 
 mod grid;
+mod lists;
 
 use super::expected::{Case, expect, expect_answer};
 use nfa_choice::choose::{Choice, Engine};

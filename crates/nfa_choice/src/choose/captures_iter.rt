@@ -55,8 +55,8 @@ impl Choice {
     ghost use Rattle.nfa_choice.specs.Choosing.{kind_in, KeepsEngines};
 
     /// Returns the captures of all matches that do not overlap, from left to right, each with all groups of the NFA.
-    /// To make this searches nothing. The error is that there is no memory for the captures that are searched with:
-    /// [`SearchError::Memory`] only.
+    /// Making the iterator runs no search. The only error is [`SearchError::Memory`]: there is no memory for the captures
+    /// that are searched with.
     ///
     /// The next match is searched for from the end of the last one. In place of an empty match where the last one ended
     /// comes what a search from one byte further on finds. Each search takes the engine that suits. An answer without
@@ -110,7 +110,7 @@ impl Choice {
     }
 
     /// The same, searching with captures that the caller made, with all groups of this NFA
-    /// ([`Choice::create_captures`]). To make this takes no memory, and cannot fail.
+    /// ([`Choice::create_captures`]). Making the iterator allocates nothing, and cannot fail.
     #[inline]
     pub fn captures_iter_with<'c, 'h>(
         &'c mut self,
