@@ -1,5 +1,5 @@
 -- A search that is bound to a pattern is the search of this pattern alone.
-use Rattle.std.proofs.Common.{◌≡◌, ◌∙◌, ℕ, ◌+◌, ◌≤◌, ◌<◌, ◌⊎◌, inl, inr, Bool, true, false, MatchBool, List, [], ◌∷◌}
+use Rattle.std.proofs.Common.{◌≡◌, ◌∙◌, ℕ, inl, inr, Bool, true, false, MatchBool, List, [], ◌∷◌}
 use Rattle.std.proofs.Common.{length}
 use Rattle.std.proofs.Common.{map, refl, sym, ap, subst, nat_lt, if◌then◌else◌, slice_get}
 use Rattle.std.specs.Prelude.{Option, None, Some, option_and_then}
@@ -17,9 +17,9 @@ use Rattle.regex_search_core.specs.declared.search.MatchKind.{MatchKind}
 use Rattle.regex_search_core.specs.declared.search.MatchKind.TheVariants.{All, LeftmostFirst}
 use Rattle.thompson_nfa.specs.Automaton.{Automaton}
 use Rattle.nfa_paths.specs.Graphs.{Pair, IsFirstPath, IsEarliestPath, IsLastPath, IsEarliestLastPath}
-use Rattle.nfa_paths.specs.Paths.{edges, edges_of, is_utf8_empty, node_at, pairs_from, path_pattern, slot_among}
+use Rattle.nfa_paths.specs.Paths.{edges, is_utf8_empty, node_at, pairs_from, path_pattern, slot_among}
 use Rattle.nfa_paths.specs.Paths.{slot_row, starts, EndsOnBoundary, IsAnswer, IsKeptAnswer, IsMatch, IsMatchAnswer}
-use Rattle.nfa_paths.specs.Paths.{IsRestartedAnswer, IsScanAnswer, IsSearchAnswer, SplitsCharacter}
+use Rattle.nfa_paths.specs.Paths.{IsScanAnswer, IsSearchAnswer}
 use Rattle.nfa_engines.specs.PatternLaws.{started_at}
 use Rattle.nfa_engines.proofs.FirstStartLemmas.{same_edges}
 

@@ -1,22 +1,18 @@
 -- Where the anchored start tries the patterns in order, the first pattern that has an accepting path answers.
-use Rattle.std.proofs.Common.{◌≡◌, ◌∙◌, ℕ, zero, suc, ◌+◌, ◌≤◌, ◌<◌, ◌⊎◌, inl, inr, Bool, true, false, List, [], ◌∷◌}
-use Rattle.std.proofs.Common.{length}
-use Rattle.std.proofs.Common.{map, refl, sym, ap, subst, arith, le-ltb, slice_get, if◌then◌else◌}
-use Rattle.std.specs.Prelude.{Option, None, Some, is_some}
-use Rattle.std.specs.List.{range_with_len}
-use Rattle.std.specs.Option.{option_or, option_map_or}
+use Rattle.std.proofs.Common.{◌≡◌, ◌∙◌, ℕ, zero, suc, ◌≤◌, ◌<◌, ◌⊎◌, inl, inr, true, false, List, [], ◌∷◌}
+use Rattle.std.proofs.Common.{map, refl, sym, ap, subst, arith, le-ltb, slice_get}
+use Rattle.std.specs.Prelude.{None, Some, is_some}
 use Rattle.std.proofs.lemmas.Bool.{cases_eq, cases_lt}
 use Rattle.regex_search_core.specs.Search.{Search}
 use Rattle.regex_search_core.specs.declared.search.Anchored.TheVariants.{Yes}
 use Rattle.thompson_nfa.specs.Automaton.{Automaton, Node}
-use Rattle.thompson_nfa.specs.Automaton.Node.{Union}
-use Rattle.nfa_paths.specs.Graphs.{Pair, In, Earlier, HeadIs, NoRepeats, Linked, EndsWith, BeforeAfter, ComesBefore}
-use Rattle.nfa_paths.specs.Graphs.{PathTo, NoPath, IsFirstTo}
-use Rattle.nfa_paths.specs.Paths.{capture, edges, edges_of, node_at, path_pattern, pattern_of, slot_among, slot_of}
-use Rattle.nfa_paths.specs.Paths.{slot_row, starts, is_match, IsMatch}
+use Rattle.thompson_nfa.specs.Automaton.Node.{ByteRange, Sparse, Dense, Look, Union, BinaryUnion, Capture, Fail, Match}
+use Rattle.nfa_paths.specs.Graphs.{Pair, In, Earlier, HeadIs, NoRepeats, Linked, EndsWith, ComesBefore}
+use Rattle.nfa_paths.specs.Graphs.{PathTo}
+use Rattle.nfa_paths.specs.Paths.{capture, edges, edges_of, node_at, pattern_of, slot_of}
+use Rattle.nfa_paths.specs.Paths.{starts, is_match, IsMatch}
 use Rattle.nfa_paths.proofs.StartLemmas.{starts-none}
-use Rattle.nfa_engines.specs.Accepting.{MatchesNothing}
-use Rattle.nfa_engines.specs.PatternLaws.{started_at, IsFirstPattern, IsUnionOfPatterns}
+use Rattle.nfa_engines.specs.PatternLaws.{alternates_of, started_at, IsUnionOfPatterns}
 
 -- lists
 
@@ -143,6 +139,52 @@ module _ (b : ℕ) where
         | inr later ↦ not-earlier es j state other at (λ i less. past (suc i) (omega arith)) later
       ]
 
+-- a union
+
+never-none : (ps : List ℕ) → None ≡ Some ps → ⊥
+never-none ps e = cc
+
+same-list : (ss ps : List ℕ) → Some ss ≡ Some ps → ss ≡ ps
+same-list ss ps e = cc
+
+-- the edges of a union
+union-edges : (x : Search) (b : ℕ) (n : Node) (ps : List ℕ) → alternates_of n ≡ Some ps
+    → edges_of x n b ≡ at_position b ps
+unfolding edges_of
+union-edges x b (Union ss) ps e = ap (at_position b) (same-list ss ps e)
+union-edges x b (BinaryUnion c d) ps e = ap (at_position b) (same-list (c ∷ d ∷ []) ps e)
+union-edges x b (ByteRange t) ps e = absurd (never-none ps e)
+union-edges x b (Sparse ts) ps e = absurd (never-none ps e)
+union-edges x b (Dense targets) ps e = absurd (never-none ps e)
+union-edges x b (Look look next) ps e = absurd (never-none ps e)
+union-edges x b (Capture next slot) ps e = absurd (never-none ps e)
+union-edges x b Fail ps e = absurd (never-none ps e)
+union-edges x b (Match pattern) ps e = absurd (never-none ps e)
+
+-- it is not a Match
+union-plain : (n : Node) (ps : List ℕ) → alternates_of n ≡ Some ps → is_some (pattern_of n) ≡ false
+union-plain (Match pattern) ps e = absurd (never-none ps e)
+union-plain (Union ss) ps e = refl
+union-plain (BinaryUnion c d) ps e = refl
+union-plain (ByteRange t) ps e = refl
+union-plain (Sparse ts) ps e = refl
+union-plain (Dense targets) ps e = refl
+union-plain (Look look next) ps e = refl
+union-plain (Capture next slot) ps e = refl
+union-plain Fail ps e = refl
+
+-- and writes nothing
+union-writes : (n : Node) (ps : List ℕ) → alternates_of n ≡ Some ps → slot_of n ≡ None
+union-writes (Capture next slot) ps e = absurd (never-none ps e)
+union-writes (Union ss) ps e = refl
+union-writes (BinaryUnion c d) ps e = refl
+union-writes (ByteRange t) ps e = refl
+union-writes (Sparse ts) ps e = refl
+union-writes (Dense targets) ps e = refl
+union-writes (Look look next) ps e = refl
+union-writes Fail ps e = refl
+union-writes (Match pattern) ps e = refl
+
 -- a pair is not before itself
 pub not-before-itself : (es : List Pair) (a : Pair) → Earlier es a a → ⊥
 not-before-itself [] a h = h
@@ -176,14 +218,13 @@ module _ (nfa : Automaton) (x : Search) (bound : x.anchored ≡ Yes) where
     top = (nfa.anchored, x.start)
 
     pub top-edges : edges nfa x top ≡ at_position x.start nfa.patterns
-    unfolding edges_of
-    top-edges = ap (λ (n : Node). edges_of x n x.start) h.union
+    top-edges = union-edges x x.start (node_at nfa nfa.anchored) nfa.patterns h.union
 
     top-plain : is_match nfa top ≡ false
-    top-plain = ap (λ (n : Node). is_some (pattern_of n)) h.union
+    top-plain = union-plain (node_at nfa nfa.anchored) nfa.patterns h.union
 
     pub top-writes : capture nfa top ≡ None
-    top-writes = ap slot_of h.union
+    top-writes = union-writes (node_at nfa nfa.anchored) nfa.patterns h.union
 
     -- an accepting path goes on by the start of a pattern
     pub record GoesOn (m : Pair) (p : List Pair) : Type 0 where

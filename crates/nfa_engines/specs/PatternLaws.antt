@@ -1,13 +1,13 @@
 -- Laws of an NFA whose anchored start tries the starts of its patterns in their order, over the definitions alone.
-use Rattle.std.specs.Prelude.{◌≡◌, ◌↔◌, ◌⊎◌, ℕ, ◌<◌, Bool, false, List, [], ◌∷◌, Option, Some, slice_get}
+use Rattle.std.specs.Prelude.{◌≡◌, ◌↔◌, ◌⊎◌, ℕ, ◌<◌, Bool, false, List, [], ◌∷◌, Option, None, Some, slice_get}
 use Rattle.regex_search_core.specs.Found.{Found}
 use Rattle.regex_search_core.specs.Patterns.{number_of}
 use Rattle.regex_search_core.specs.Search.{Search}
 use Rattle.regex_search_core.specs.declared.primitives.PatternID.{PatternID}
 use Rattle.regex_search_core.specs.declared.search.Anchored.TheVariants.{Yes, Pattern}
 use Rattle.regex_search_core.specs.declared.search.MatchKind.{MatchKind}
-use Rattle.thompson_nfa.specs.Automaton.{Automaton}
-use Rattle.thompson_nfa.specs.Automaton.Node.{Union}
+use Rattle.thompson_nfa.specs.Automaton.{Automaton, Node}
+use Rattle.thompson_nfa.specs.Automaton.Node.{Union, BinaryUnion}
 use Rattle.nfa_paths.specs.Graphs.{Pair, PathTo}
 use Rattle.nfa_paths.specs.Paths.{edges, is_utf8_empty, node_at, starts, IsAnswer, IsMatchAnswer}
 use Rattle.nfa_engines.specs.Accepting.{MatchesNothing}
@@ -32,9 +32,15 @@ PatternMatchesAlone =
     → IsMatchAnswer nfa kind earliest (record x { anchored = Pattern pattern }) found
     ↔ IsMatchAnswer (started_at nfa state) kind earliest (record x { anchored = Yes }) found
 
+-- the states that a union tries, in order
+abbrev pub alternates_of : Node → Option (List ℕ)
+alternates_of (Union alternates) = Some alternates
+alternates_of (BinaryUnion alt1 alt2) = Some (alt1 ∷ alt2 ∷ [])
+alternates_of _ = None
+
 -- the anchored start is a union of the patterns' starts, in their order, and no path from one of these leads to it
 pub record IsUnionOfPatterns (nfa : Automaton) (x : Search) : Type 0 where
-  pub union : node_at nfa nfa.anchored ≡ Union nfa.patterns
+  pub union : alternates_of (node_at nfa nfa.anchored) ≡ Some nfa.patterns
   pub apart : (k state at : ℕ) (p : List Pair) → slice_get nfa.patterns k ≡ Some state
       → PathTo (edges nfa x) (starts (started_at nfa state) x) (nfa.anchored, at) p → ⊥
 

@@ -25,19 +25,19 @@ AssertsNothing _ = ⊤
 abbrev pub HasNoLook : Automaton → Type 0
 HasNoLook nfa = All AssertsNothing nfa.states
 
--- the second search has the span of the first, this many positions to the right, and is anchored like it
+-- the second search has the span of the first, this many positions to the right, and is anchored alike
 pub record IsSpanMoved (k : ℕ) (x y : Search) : Type 0 where
   pub start : y.start ≡ x.start + k
   pub end : y.end ≡ x.end + k
   pub anchored : y.anchored ≡ x.anchored
 
--- the bytes in the span of the first are in the second, this many positions to the right
+-- the bytes of the first in its span are those of the second, this many positions to the right
 abbrev pub AreBytesMoved : ℕ → Search → Search → Type 0
 AreBytesMoved k x y =
     (i : ℕ) → x.start ≤ i → i < x.end → slice_get y.haystack (i + k) ≡ slice_get x.haystack i
 
--- An NFA without assertions reads the bytes of the span alone: where span and bytes are those of another search, moved,
--- so is the answer, of each kind.
+-- An NFA without assertions reads only the bytes of the span. If the span and its bytes are those of another search,
+-- moved, then so is the answer, of each kind.
 abbrev pub AnswersMove : Type 0
 AnswersMove =
     (nfa : Automaton) (k : ℕ) (x y : Search) (kind : MatchKind) (earliest : Bool)
@@ -83,7 +83,7 @@ cut_out x = record x {
   end = x.end - x.start;
 }
 
--- it has the same answer, but for the distance of the span from the start of its haystack
+-- it has the same answer, moved by the start of the span
 abbrev pub CutOutAnswers : Type 0
 CutOutAnswers =
     (nfa : Automaton) (x : Search) (kind : MatchKind) (earliest : Bool)

@@ -59,7 +59,7 @@ FirstStartMatches kind earliest =
     → IsMatchAnswer nfa kind earliest (anchored_at x s) (Some m)
     → IsMatchAnswer nfa kind earliest x (Some m)
 
--- the start of the answer: the first one in the span at which the anchored search has a pattern, and this answer
+-- the start of the answer: the first in the span at which the anchored search matches, and it has this answer
 pub record IsAnswerStart (nfa : Automaton) (kind : MatchKind) (earliest : Bool) (x : Search) (pattern : ℕ)
     (slots : List (Option ℕ)) (s : ℕ) : Type 0 where
   pub first : IsFirstStart nfa x s
@@ -73,7 +73,7 @@ AnswersHaveAStart kind earliest =
     → IsUnbound nfa x → IsAnswer nfa kind earliest x (Some pattern) slots
     → (s : ℕ) × IsAnswerStart nfa kind earliest x pattern slots s
 
--- if a search matches nothing, neither does the anchored search at any start from its own on, and the other way round
+-- A search matches nothing exactly if no anchored search does, from its start on.
 abbrev pub NothingAtEachStart : Type 0
 NothingAtEachStart =
     (nfa : Automaton) (x : Search) → IsUnbound nfa x
