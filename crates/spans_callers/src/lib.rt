@@ -164,7 +164,8 @@ pub fn texts_in_turn<'t>(
 ) -> Result<Vec<&'t [u8]>> {
     let mut cut = Vec::new(alloc);
     for item in choice.captures_iter(alloc, Input::new(text))? {
-        if let Some(span) = item?.get_group(1) {
+        let captures = item?;
+        if let Some(span) = captures.get_group(1) {
             cut.push(&text[span.start..span.end])?;
         }
     }
