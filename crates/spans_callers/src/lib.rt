@@ -141,7 +141,7 @@ pub fn choice_text<'t>(
     Some(&text[span.start..span.end])
 }
 
-/// The texts of a group of all matches, and the texts of these, by the engines that suit.
+/// The texts of a group of all matches, by the list of a choice.
 pub fn texts_by_choice<'t>(
     alloc: Global,
     choice: &mut Choice,
@@ -153,12 +153,32 @@ pub fn texts_by_choice<'t>(
             cut.push(&text[span.start..span.end])?;
         }
     }
+    Ok(cut)
+}
+
+/// The same by its iterator.
+pub fn texts_in_turn<'t>(
+    alloc: Global,
+    choice: &mut Choice,
+    text: &'t [u8],
+) -> Result<Vec<&'t [u8]>> {
+    let mut cut = Vec::new(alloc);
     for item in choice.captures_iter(alloc, Input::new(text))? {
         let captures = item?;
         if let Some(span) = captures.get_group(1) {
             cut.push(&text[span.start..span.end])?;
         }
     }
+    Ok(cut)
+}
+
+/// The texts of all matches, by the list of a choice.
+pub fn matches_by_choice<'t>(
+    alloc: Global,
+    choice: &mut Choice,
+    text: &'t [u8],
+) -> Result<Vec<&'t [u8]>> {
+    let mut cut = Vec::new(alloc);
     for found in &choice.find_all(alloc, Input::new(text))? {
         cut.push(&text[found.start()..found.end()])?;
     }
