@@ -1,6 +1,6 @@
 -- A search of an input starts, goes on by a line, and ends.
-use Rattle.std.proofs.Common.{◌≡◌, ◌∙◌, ℕ, zero, suc, ◌+◌, ◌<◌, Bool, true, false, List, [], ◌∷◌, ◌++◌, length}
-use Rattle.std.proofs.Common.{refl, sym, ap, ap₂, subst, arith, append_assoc, append-nil}
+use Rattle.std.proofs.Common.{◌≡◌, ◌∙◌, ℕ, ◌+◌, ◌<◌, Bool, true, false, List, [], ◌∷◌, ◌++◌, length}
+use Rattle.std.proofs.Common.{refl, sym, ap, subst, arith, append_assoc, append-nil}
 use Rattle.std.specs.Prelude.{Option, None, Some, IfSome, cond}
 use Rattle.std.specs.List.{count_by}
 use Rattle.std.specs.Io.BufRead.{take_through, drop_through, DropsThrough}
@@ -10,7 +10,7 @@ use Rattle.std.proofs.KnownBytes.{Appends-nil, Appends-trans}
 use Rattle.std.proofs.lemmas.List.Sums.{sum_by-cons}
 use Rattle.bstr.proofs.lemmas.RecordLemmas.{IfSome-at, records-nil, records-step}
 use Rattle.regex_hir.specs.Re.{Re}
-use Rattle.nfa_grep.specs.Going.{HasPrinted, IsGoing, PrintsLines}
+use Rattle.nfa_grep.specs.Going.{HasPrinted, PrintsLines}
 use Rattle.nfa_grep.specs.Printed.{is_selected, line_feed, lines_of, printed, printed_lines, selected_count, shown}
 use Rattle.nfa_grep.specs.declared.options.Options.{Options}
 

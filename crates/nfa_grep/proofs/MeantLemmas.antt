@@ -1,5 +1,5 @@
 -- From the laws on searches of texts to what the patterns find in a line.
-use Rattle.std.proofs.Common.{◌≡◌, ◌∙◌, ℕ, suc, ◌+◌, Bool, true, false, List, [], length, map, refl, sym, ap}
+use Rattle.std.proofs.Common.{◌≡◌, ◌∙◌, ℕ, suc, ◌+◌, Bool, false, List, [], length, map, refl, sym, ap}
 use Rattle.std.proofs.Common.{add-one, arith}
 use Rattle.std.specs.Prelude.{Option, None, Some, is_some, nat_lt, option_map, ◌==◌}
 use Rattle.std.proofs.lemmas.Bool.{lt-ltb}

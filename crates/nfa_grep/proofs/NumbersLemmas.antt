@@ -1,7 +1,7 @@
 -- A pattern matches somewhere in a text exactly if the reference matcher finds it alone. So a set of the patterns that
 -- match holds those that are found.
 use Rattle.std.proofs.Common.{◌≡◌, ◌∙◌, ℕ, zero, suc, ◌+◌, ◌-◌, ◌≤◌, ◌<◌, Bool, true, false, List, [], ◌∷◌}
-use Rattle.std.proofs.Common.{length, map, refl, sym, ap, arith, get_or}
+use Rattle.std.proofs.Common.{length, refl, sym, ap, arith, get_or}
 use Rattle.std.specs.Prelude.{◌↔◌, All, Option, None, Some, is_some, slice_index_or}
 use Rattle.std.specs.List.{AllZip}
 use Rattle.std.specs.Option.{option_or}
@@ -125,7 +125,7 @@ which-is text trees set room holds =
     each k less =
         same-truth (get_or set k false) (is_found (slice_index_or trees k empty ∷ []) text)
         (λ held. let m = (holds k).0 held in matches-found text (slice_index_or trees k empty)
-            (record { start = m.start; end = m.end; within = m.to; matches = m.matches }))
+        (record { start = m.start; end = m.end; within = m.to; matches = m.matches }))
         (λ found. let m = found-matches text (slice_index_or trees k empty) found in (holds k).1 (record {
           start = m.start;
           end = m.end;

@@ -1,9 +1,9 @@
 -- What patterns find in a line, in the words of the reference matcher.
-use Rattle.std.specs.Prelude.{ℕ, ◌+◌, Bool, false, not, List, [], ◌∷◌, length, map, Option, is_some, if◌then◌else◌}
+use Rattle.std.specs.Prelude.{ℕ, ◌+◌, Bool, false, List, [], ◌∷◌, length, map, Option, is_some}
 use Rattle.regex_hir.specs.Re.{Re}
 use Rattle.regex_search_core.specs.Found.{Found}
 use Rattle.regex_search_core.specs.PatternSets.{patterns_of}
-use Rattle.regex_search_core.specs.Search.{Search, whole}
+use Rattle.regex_search_core.specs.Search.{whole}
 use Rattle.nfa_compiler.specs.AllHits.{hits_from}
 use Rattle.nfa_compiler.specs.Compiled.{AreMeant}
 use Rattle.nfa_compiler.specs.Patterns.{Hit, expected, found_at}

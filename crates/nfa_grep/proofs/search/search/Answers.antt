@@ -1,11 +1,10 @@
 -- The search goes on by a line, and ends where nothing is left to read.
-use Rattle.std.proofs.Common.{rules, ◌≡◌, ◌∙◌, ℕ, ◌+◌, ◌<◌, ◌≤◌, Bool, true, false, List, length}
-use Rattle.std.proofs.Common.{ap, ap₂, arith, refl, subst, sym}
+use Rattle.std.proofs.Common.{rules, ◌≡◌, ◌∙◌, ℕ, ◌+◌, ◌<◌, Bool, length}
+use Rattle.std.proofs.Common.{ap, arith, subst, sym}
 use Rattle.std.specs.Prelude.{cond}
 use Rattle.std.specs.Io.KnownBytes.{Appends}
-use Rattle.nfa_grep.specs.Going.{HasPrinted}
 use Rattle.nfa_grep.specs.Meant.{Grepping, Mean}
-use Rattle.nfa_grep.specs.Printed.{line_feed, is_selected, shown}
+use Rattle.nfa_grep.specs.Printed.{is_selected, shown}
 use Rattle.nfa_grep.proofs.GoingLemmas.{going-end, going-step}
 use Rattle.nfa_grep.proofs.search.search.Goals.{then-branch, else-branch}
 use Rattle.nfa_grep.proofs.search.search.Goals as goal

@@ -9,12 +9,12 @@ pub returns-then-is_empty-clause-found : goal.returns-then-is_empty-clause-found
 returns-then-is_empty-clause-found c = λ res meant.
     let ms = c.in_ok-matches.matches.items in
     let none : false ≡ nat_lt 0 (length ms) = search rules in
-    found-if-any res (content c.args.line.now) ms false (rw c.content.ensures at (c.in_ok-matches.ensures.all res meant))
-    none
+    let all = rw c.content.ensures at (c.in_ok-matches.ensures.all res meant) in
+    found-if-any res (content c.args.line.now) ms false all none
 
 pub returns-clause-found : goal.returns-clause-found
 returns-clause-found c = λ res meant.
     let ms = c.in_ok-matches.matches.items in
     let some : true ≡ nat_lt 0 (length ms) = search rules in
-    found-if-any res (content c.args.line.now) ms true (rw c.content.ensures at (c.in_ok-matches.ensures.all res meant))
-    some
+    let all = rw c.content.ensures at (c.in_ok-matches.ensures.all res meant) in
+    found-if-any res (content c.args.line.now) ms true all some

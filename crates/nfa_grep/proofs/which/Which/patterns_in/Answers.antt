@@ -32,7 +32,13 @@ returns-clause-found c = λ texts res compiled meant.
     let set = c.which_overlapping_matches.new.patterns in
     let made-inside = subst (λ (a : Automaton). IsNfaOf trees a) (sym c.self.view_is) compiled.made in
     let room : length set ≡ length trees =
-    omega (arith, c.which_overlapping_matches.ensures.result.capacity, ap length c.in_ok-set.ensures,
-    length-replicate c.pattern_len.result false, c.pattern_len.ensures, made-inside.patterns) in
+    omega (
+      arith,
+      c.which_overlapping_matches.ensures.result.capacity,
+      ap length c.in_ok-set.ensures,
+      length-replicate c.pattern_len.result false,
+      c.pattern_len.ensures,
+      made-inside.patterns,
+    ) in
     which-is text trees set room (λ k. returns-clause-held c trees compiled.made k)
     ∙ same-which text bytes trees res (all-meant byte_syntax texts compiled.trees res compiled.read meant)
