@@ -1,3 +1,5 @@
--- The lemmas on writes and on tokens.
+-- The lemmas on tokens, on rules and on writes.
+pub mod LexedLemmas
+pub mod RuleLemmas
 pub mod TokenLemmas
-pub mod WriteLemmas
+pub mod Writes

@@ -1,3 +1,4 @@
+pub mod Lexed
 pub mod Lexers
 pub mod Printed
 pub mod Rules

@@ -1,14 +1,10 @@
 -- What is printed for the tokens of a text.
-use Rattle.std.specs.Prelude.{ℕ, ◌≡◌, Bool, List, [], ◌++◌, Option, None, Some, codes, flat_map, option_map, slice_get, unwrap_or, if◌then◌else◌}
-use Rattle.std.specs.Prelude.{IfSome, is_none, length}
-use Rattle.std.specs.Io.KnownBytes.{Appends}
+use Rattle.std.specs.Prelude.{ℕ, List, [], ◌++◌, Option, None, Some, codes, flat_map, option_map, slice_get, slice_range, unwrap_or, if◌then◌else◌}
 use Rattle.std.specs.Fmt.{decimal}
-use Rattle.regex_search_core.specs.Patterns.{number_of}
+use Rattle.regex_hir.specs.Re.{Re}
+use Rattle.regex_search_core.specs.Found.{Found}
 use Rattle.regex_search_core.specs.declared.search.Span.{Span}
-use Rattle.nfa_engines.specs.Engines.{Pike}
-use Rattle.lexer.specs.Tokens.{AreTokens, IsStuck, end_of_tokens, text_of}
-use Rattle.lexer.specs.declared.lexer.Stuck.{Stuck}
-use Rattle.lexer.specs.declared.lexer.Token.{Token}
+use Rattle.lexer.specs.Lexed.{lexed, stuck_in}
 use Rattle.lexer.specs.declared.rules.Rule.{Rule}
 
 -- the name of a rule and a span
@@ -27,29 +23,25 @@ rule_line rule span text = shown_place rule.name.now span ++ (if rule.hidden the
 abbrev pub unknown_line : Span → List ℕ → List ℕ
 unknown_line span text = shown_place (codes "?") span ++ shown_text text
 
+-- the span of a token
+abbrev pub found_span : Found → Span
+found_span m = record { start = m.start; end = m.end }
+
 -- the line of a token by these rules
-abbrev pub token_line : List Rule → List ℕ → Token → List ℕ
-token_line rules text token =
-    unwrap_or (option_map (λ rule. rule_line rule token.span (text_of text token))
-    (slice_get rules (number_of token.pattern))) (unknown_line token.span (text_of text token))
+abbrev pub token_line : List Rule → List ℕ → Found → List ℕ
+token_line rules text m =
+    unwrap_or (option_map (λ rule. rule_line rule (found_span m) (slice_range text m.start m.end))
+    (slice_get rules m.pattern)) (unknown_line (found_span m) (slice_range text m.start m.end))
+
+-- the lines of these tokens
+abbrev pub token_lines : List Rule → List ℕ → List Found → List ℕ
+token_lines rules text ms = flat_map (token_line rules text) ms
 
 -- the line of the place where no token starts, or nothing
-abbrev pub stuck_line : Option Stuck → List ℕ
+abbrev pub stuck_line : Option ℕ → List ℕ
 stuck_line None = []
-stuck_line (Some stuck) = codes "no token at " ++ decimal stuck.at ++ codes "\n"
+stuck_line (Some at) = codes "no token at " ++ decimal at ++ codes "\n"
 
--- The output has a line for each token of the text, and one for the place where no token starts. `whole` says that
--- there is no such place.
-pub record PrintsTokens (vm : Pike) (rules : List Rule) (text : List ℕ) (whole : Bool) (output : List ℕ) : Type 0 where
-  pub tokens : List Token
-  pub stuck : Option Stuck
-  pub are : AreTokens vm text tokens (end_of_tokens stuck (length text))
-  pub is_stuck : IfSome stuck (IsStuck vm text)
-  pub whole_is : whole ≡ is_none stuck
-  pub lines : output ≡ flat_map (token_line rules text) tokens ++ stuck_line stuck
-
--- a writer that held some bytes took this output, and no more
-pub record Takes (old new : Option (List ℕ)) (IsOutput : List ℕ → Type 0) : Type 0 where
-  pub output : List ℕ
-  pub is_output : IsOutput output
-  pub appended : Appends old new output
+-- what is printed of a text by these rules, which mean `res`
+abbrev pub printed_tokens : List Rule → List Re → List ℕ → List ℕ
+printed_tokens rules res text = token_lines rules text (lexed res text) ++ stuck_line (stuck_in res text)

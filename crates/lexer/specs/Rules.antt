@@ -1,18 +1,81 @@
--- How a rule is written in a line.
-use Rattle.std.specs.Prelude.{ℕ, ◌≡◌, ◌≢◌, ◌↔◌, ◌==◌, IsTrue, List, [], codes}
-use Rattle.std.specs.List.{after_first, before_first}
+-- How rules are written, one in a line.
+use Rattle.std.specs.Prelude.{ℕ, ◌+◌, ◌<◌, ◌≡◌, ◌≢◌, ◌↔◌, ◌==◌, ◌||◌, ◌++◌, Bool, false, not, IsTrue, List, [], codes, drop, length, slice_index, slice_index_or}
+use Rattle.std.specs.List.{AllZip, after_first, before_first, enumerate_from, filter, position_or_len}
 use Rattle.std.specs.Str.{trim}
+use Rattle.nfa_compiler.specs.declared.error.CompileError.TheVariants.{Memory}
 use Rattle.lexer.specs.declared.rules.Rule.{Rule}
+use Rattle.lexer.specs.declared.rules.RulesError.{RulesError}
+use Rattle.lexer.specs.declared.rules.RulesError.TheVariants.{NoRule, NoPattern, Compile}
 
--- the byte `=`
+-- the bytes `=` and `#`
 abbrev pub equals_sign : ℕ
 equals_sign = 61
 
+abbrev pub number_sign : ℕ
+number_sign = 35
+
+-- where the first `=` of a line is; its end, if there is none
+abbrev pub sign_place : List ℕ → ℕ
+sign_place line = position_or_len (λ byte. byte == equals_sign) line
+
 -- The name is before the first `=` of the line, and the pattern is after it, both without white space around them.
--- The texts of `space` are not shown.
+abbrev pub name_in : List ℕ → List ℕ
+name_in line = trim (before_first (λ byte. byte == equals_sign) line)
+
+abbrev pub pattern_in : List ℕ → List ℕ
+pattern_in line = trim (after_first (λ byte. byte == equals_sign) line)
+
+-- the line has a name, an `=` and a pattern
+pub record HasRule (line : List ℕ) : Type 0 where
+  pub sign : sign_place line < length line
+  pub some_name : name_in line ≢ []
+  pub some_pattern : pattern_in line ≢ []
+
+-- It is this rule. The texts of `space` are not shown.
 pub record IsRuleOf (line : List ℕ) (rule : Rule) : Type 0 where
-  pub name_is : rule.name.now ≡ trim (before_first (λ byte. byte == equals_sign) line)
-  pub pattern_is : rule.pattern.now ≡ trim (after_first (λ byte. byte == equals_sign) line)
-  pub some_name : rule.name.now ≢ []
-  pub some_pattern : rule.pattern.now ≢ []
+  pub has : HasRule line
+  pub name_is : rule.name.now ≡ name_in line
+  pub pattern_is : rule.pattern.now ≡ pattern_in line
   pub hidden_is : IsTrue rule.hidden ↔ (rule.name.now ≡ codes "space")
+
+-- the line has nothing but white space, or starts with `#`
+abbrev pub is_left_out : List ℕ → Bool
+is_left_out line = (length (trim line) == 0) || (slice_index line 0 == number_sign)
+
+-- The lines that are to have a rule, with their numbers. The first of all lines has this number.
+abbrev pub rule_lines : ℕ → List (List ℕ) → List (ℕ × List ℕ)
+rule_lines number lines = filter (λ l. not (is_left_out l.1)) (enumerate_from number lines)
+
+-- the rule is that of this line, and has its number
+pub record IsRuleAt (numbered : ℕ × List ℕ) (rule : Rule) : Type 0 where
+  pub rule_is : IsRuleOf numbered.1 rule
+  pub line_is : rule.line ≡ numbered.0
+
+-- these are the rules of the lines, in order
+abbrev pub AreRulesOf : List (List ℕ) → List Rule → Type 0
+AreRulesOf lines rules = AllZip IsRuleAt (rule_lines 1 lines) rules
+
+-- the line of this index, from 0, is to have a rule, and has none
+pub record IsWrong (lines : List (List ℕ)) (index : ℕ) : Type 0 where
+  pub within : index < length lines
+  pub kept : is_left_out (slice_index_or lines index []) ≡ false
+  pub no_rule : ¬ HasRule (slice_index_or lines index [])
+
+-- it is the first such line, and has this number
+pub record IsFirstWrong (lines : List (List ℕ)) (number : ℕ) : Type 0 where
+  pub index : ℕ
+  pub number_is : number ≡ index + 1
+  pub wrong : IsWrong lines index
+  pub first : (k : ℕ) → k < index → ¬ IsWrong lines k
+
+-- why these lines are not rules: the first line without one; or allocation failed
+abbrev pub IsRulesError : List (List ℕ) → RulesError → Type 0
+IsRulesError lines (NoRule line) = IsFirstWrong lines line
+IsRulesError lines (NoPattern line column reason) = ⊥
+IsRulesError lines (Compile error) = error ≡ Memory
+
+-- The rules of the first `index` lines were made. With those of the lines that are left, they are the rules of all.
+pub record HasParsed (lines : List (List ℕ)) (index : ℕ) (rules : List Rule) : Type 0 where
+  pub so_far : (more : List Rule) → AllZip IsRuleAt (rule_lines (index + 1) (drop index lines)) more
+      → AreRulesOf lines (rules ++ more)
+  pub fine : (k : ℕ) → k < index → ¬ IsWrong lines k

@@ -1,15 +1,19 @@
 //! The tokens of a text, one after the other, by anchored searches.
 ghost use Rattle.std.specs.Prelude.{◌≡◌, ◌≤◌, ◌<◌, IfErr, IfOk, IfSome, drop, false, flat_map, length, ◌++◌};
-ghost use Rattle.std.specs.Prelude.{option_map};
+ghost use Rattle.std.specs.Prelude.{List, option_map, ℕ};
+ghost use Rattle.regex_hir.specs.Re.{Re};
 ghost use Rattle.regex_search_core.specs.Found.{found_of};
 ghost use Rattle.nfa_engines.specs.Engines.{Fits, SameNumbers, kind_of};
 ghost use Rattle.nfa_engines.specs.Paths.{IsMatchAnswer};
 ghost use Rattle.nfa_bounds.specs.Matches.{HasNoByteAt};
 ghost use Rattle.nfa_bounds.specs.Ways.{RecordsBounds};
-ghost use Rattle.lexer.specs.Tokens.{AreTokens, IsStuck, IsToken, StartsNoToken, StartsToken, end_of_tokens, text_of};
-ghost use Rattle.lexer.specs.Tokens.{search_at};
+ghost use Rattle.nfa_compiler.specs.Compiled.{AreMeant};
+ghost use Rattle.lexer.specs.Lexed.{AreLexed, IsLexerOf};
+ghost use Rattle.lexer.specs.Tokens.{AreTokens, IsStuck, IsToken, StartsNoToken, StartsToken, end_of_tokens, rule_syntax};
+ghost use Rattle.lexer.specs.Tokens.{search_at, text_of};
 
 use nfa_bounds::laws::{anchored_matches_tell_bytes, pikevm_nfa_is_valid};
+use nfa_compiler::laws;
 use nfa_engines::pikevm::{Cache, PikeVM};
 use regex_search_core::{Anchored, Input, Match, PatternID, Span};
 use std::alloc::{AllocError, Global};
@@ -138,11 +142,51 @@ impl<'r, 'c, 't> Iterator for Lexer<'r, 'c, 't> {
     }
 }
 
-/// The tokens of the text, from its start on. The error is that a growth was refused.
+/// Returns the tokens of the text, from its start on. The only error is that allocation failed.
 ///
 /// Requires a cache that fits. Its numbers stay as they are.
-#[tactic(auto, using(std::proofs::lemmas::Grind::common_steps, std::proofs::lemmas::List::Folds::drop_split))]
+///
+/// If the PikeVM is one of some patterns and prefers the first that matches, the tokens are what the patterns mean
+/// (`meant`): each is the hit of the first pattern that matches at its start, as long as that pattern prefers. The
+/// lexer is stuck where no pattern matches, or where the first one that matches prefers the empty string, even if a
+/// later one matches more.
 pub fn tokens(
+    alloc: Global,
+    vm: &PikeVM,
+    cache: &mut Cache,
+    text: &[u8],
+) -> Result<Lexed, AllocError>
+    requires { Fits cache.old vm.now.nfa }
+    ensures meant { IfOk result (λ lexed. (patterns : List (List ℕ)) (res : List Re) → IsLexerOf patterns vm.now
+        → AreMeant rule_syntax patterns res → AreLexed res text.now lexed.tokens.items lexed.stuck) }
+    ensures tokens { IfOk result (λ lexed. AreTokens vm.now text.now lexed.tokens.items
+        (end_of_tokens lexed.stuck (length text.now))) }
+    ensures joined { IfOk result (λ lexed. flat_map (text_of text.now) lexed.tokens.items
+        ++ drop (end_of_tokens lexed.stuck (length text.now)) text.now ≡ text.now) }
+    ensures stuck { IfOk result (λ lexed. IfSome lexed.stuck (IsStuck vm.now text.now)) }
+    ensures starts_none { RecordsBounds vm.now.nfa → IfOk result (λ lexed.
+        IfSome lexed.stuck (λ stuck. StartsNoToken vm.now text.now stuck.at)) }
+    ensures numbers { SameNumbers cache.old cache.new }
+{
+    let lexed = searched_tokens(alloc, vm, cache, text)?;
+    are_meant(vm, text, &lexed);
+    Ok(lexed)
+}
+
+/// What searches of a PikeVM of patterns give are the tokens that the patterns mean.
+fn are_meant(vm: &PikeVM, text: &[u8], lexed: &Lexed)
+    requires tokens { AreTokens vm.now text.now lexed.now.tokens.items
+        (end_of_tokens lexed.now.stuck (length text.now)) }
+    requires stuck { IfSome lexed.now.stuck (IsStuck vm.now text.now) }
+    ensures { (patterns : List (List ℕ)) (res : List Re) → IsLexerOf patterns vm.now
+        → AreMeant rule_syntax patterns res → AreLexed res text.now lexed.now.tokens.items lexed.now.stuck }
+{
+    laws::searches_find_texts();
+}
+
+/// Returns the tokens that the searches give.
+#[tactic(auto, using(std::proofs::lemmas::Grind::common_steps, std::proofs::lemmas::List::Folds::drop_split))]
+fn searched_tokens(
     alloc: Global,
     vm: &PikeVM,
     cache: &mut Cache,

@@ -1,10 +1,13 @@
 //! A line for each token.
-ghost use Rattle.std.specs.Prelude.{◌≡◌, ◌++◌, All, IfOk, IfSome, OnOk, codes, flat_map, length, map, slice_get};
-ghost use Rattle.nfa_compiler.specs.Compiled.{IsCompiled};
+ghost use Rattle.std.specs.Prelude.{◌≡◌, ◌++◌, All, IfOk, IfSome, List, OnOk, codes, is_none, length, map, option_map};
+ghost use Rattle.std.specs.Prelude.{slice_get};
 ghost use Rattle.std.specs.Io.KnownBytes.{Appends};
-ghost use Rattle.lexer.specs.Printed.{PrintsTokens, Takes, rule_line, shown_place, shown_text, stuck_line};
-ghost use Rattle.lexer.specs.Printed.{token_line, unknown_line};
-ghost use Rattle.lexer.specs.Tokens.{AreTokens, IsStuck, LiesInText, end_of_tokens, rule_syntax};
+ghost use Rattle.regex_hir.specs.Re.{Re};
+ghost use Rattle.nfa_compiler.specs.Compiled.{AreMeant};
+ghost use Rattle.lexer.specs.Lexed.{IsLexerOf, rule_patterns, stuck_in};
+ghost use Rattle.lexer.specs.Printed.{printed_tokens, rule_line, shown_place, shown_text, stuck_line, token_line};
+ghost use Rattle.lexer.specs.Printed.{token_lines, unknown_line};
+ghost use Rattle.lexer.specs.Tokens.{AreTokens, IsStuck, LiesInText, end_of_tokens, rule_syntax, token_found};
 
 use crate::lexer::{Lexed, Token, tokens};
 use crate::rules::Rule;
@@ -15,12 +18,14 @@ use std::alloc::Global;
 use std::io;
 use std::io::{Read, Write};
 
-/// Reads the text to its end and prints its tokens by a PikeVM of these rules, and says whether they are the whole of
-/// it. Where they are not, the last line says at which offset no token starts. The error is that the input was not
-/// read, the output not written, or memory refused; nothing more is written then.
+/// Reads the text to its end and prints its tokens, and returns whether they are the whole text. If they are not, the
+/// last line has the offset at which no token starts. Fails if the input cannot be read, the output cannot be written
+/// or allocation failed; nothing more is written then.
 ///
-/// What is printed is said of a reader and a writer of known bytes: the text is all that the reader had left, and the
-/// writer has taken just these lines.
+/// Requires a PikeVM of these rules that prefers the first pattern that matches.
+///
+/// If the reader and the writer have known bytes, the text is all that the reader had left, and the writer has taken
+/// the lines of the tokens that the meanings of the rules give, and nothing else.
 pub fn run<R: Read + Drop, W: Write>(
     alloc: Global,
     vm: &PikeVM,
@@ -28,15 +33,19 @@ pub fn run<R: Read + Drop, W: Write>(
     mut input: R,
     out: &mut W,
 ) -> Result<bool>
-    requires { IsCompiled rule_syntax (map (λ rule. rule.pattern.now) rules.now) vm.now.nfa }
-    ensures { IfOk result (λ whole. IfSome (R.remaining input) (λ text. Takes (W.contents out.old) (W.contents out.new)
-        (PrintsTokens vm.now rules.now text whole))) }
+    requires { IsLexerOf (rule_patterns rules.now) vm.now }
+    ensures printed { OnOk result ((res : List Re) → AreMeant rule_syntax (rule_patterns rules.now) res
+        → IfSome (R.remaining input) (λ text. Appends (W.contents out.old) (W.contents out.new)
+        (printed_tokens rules.now res text))) }
+    ensures whole { IfOk result (λ whole. (res : List Re) → AreMeant rule_syntax (rule_patterns rules.now) res
+        → IfSome (R.remaining input) (λ text. whole ≡ is_none (stuck_in res text))) }
 {
     let mut text = Vec::new(alloc);
     input.read_to_end(&mut text)?;
     print_tokens(alloc, vm, rules, &text, out)
 }
 
+/// Prints the tokens of the text, and returns whether they are the whole text.
 fn print_tokens<W: Write>(
     alloc: Global,
     vm: &PikeVM,
@@ -44,8 +53,11 @@ fn print_tokens<W: Write>(
     text: &[u8],
     out: &mut W,
 ) -> Result<bool>
-    ensures { IfOk result (λ whole. Takes (W.contents out.old) (W.contents out.new)
-        (PrintsTokens vm.now rules.now text.now whole)) }
+    requires { IsLexerOf (rule_patterns rules.now) vm.now }
+    ensures printed { OnOk result ((res : List Re) → AreMeant rule_syntax (rule_patterns rules.now) res
+        → Appends (W.contents out.old) (W.contents out.new) (printed_tokens rules.now res text.now)) }
+    ensures whole { IfOk result (λ whole. (res : List Re) → AreMeant rule_syntax (rule_patterns rules.now) res
+        → whole ≡ is_none (stuck_in res text.now)) }
 {
     let mut cache = vm.create_cache(alloc)?;
     let lexed = tokens(alloc, vm, &mut cache, text)?;
@@ -54,7 +66,7 @@ fn print_tokens<W: Write>(
     Ok(lexed.stuck.is_none())
 }
 
-/// Each of these tokens lies in the text.
+/// Each of these tokens is inside the text.
 fn lie_in_text(vm: &PikeVM, text: &[u8], lexed: &Lexed)
     requires tokens { AreTokens vm.now text.now lexed.now.tokens.items
         (end_of_tokens lexed.now.stuck (length text.now)) }
@@ -63,7 +75,7 @@ fn lie_in_text(vm: &PikeVM, text: &[u8], lexed: &Lexed)
 {}
 
 /// Writes a line for each token, and one for the place where no token starts.
-#[tactic(auto, using(crate::proofs::WriteLemmas::appends_both))]
+#[tactic(auto, using(crate::proofs::Writes::writes))]
 fn write_lexed<W: Write>(
     out: &mut W,
     rules: &[Rule<'_>],
@@ -72,7 +84,8 @@ fn write_lexed<W: Write>(
 ) -> io::Result<()>
     requires { All (LiesInText text.now) lexed.now.tokens.items }
     ensures { OnOk result (Appends (W.contents out.old) (W.contents out.new)
-        (flat_map (token_line rules.now text.now) lexed.now.tokens.items ++ stuck_line lexed.now.stuck)) }
+        (token_lines rules.now text.now (map token_found lexed.now.tokens.items)
+        ++ stuck_line (option_map (λ stuck. stuck.at) lexed.now.stuck))) }
 {
     write_tokens(out, rules, text, &lexed.tokens)?;
     if let Some(stuck) = &lexed.stuck {
@@ -82,7 +95,7 @@ fn write_lexed<W: Write>(
     out.flush()
 }
 
-#[tactic(auto, using(crate::proofs::WriteLemmas::appends_both))]
+#[tactic(auto, using(crate::proofs::Writes::writes))]
 fn write_tokens<W: Write>(
     out: &mut W,
     rules: &[Rule<'_>],
@@ -91,7 +104,7 @@ fn write_tokens<W: Write>(
 ) -> io::Result<()>
     requires { All (LiesInText text.now) tokens.now }
     ensures { OnOk result (Appends (W.contents out.old) (W.contents out.new)
-        (flat_map (token_line rules.now text.now) tokens.now)) }
+        (token_lines rules.now text.now (map token_found tokens.now))) }
 {
     for token in tokens {
         write_token(out, rules, text, token)?;
@@ -107,7 +120,7 @@ fn write_token<W: Write>(
 ) -> io::Result<()>
     requires { LiesInText text.now token.now }
     ensures { OnOk result (Appends (W.contents out.old) (W.contents out.new)
-        (token_line rules.now text.now token.now)) }
+        (token_line rules.now text.now (token_found token.now))) }
 {
     let shown = &text[token.span.start..token.span.end];
     match rule_at(rules, token.pattern.as_usize()) {
@@ -124,7 +137,7 @@ fn rule_at<'t>(rules: &[Rule<'t>], number: usize) -> Option<Rule<'t>>
 }
 
 /// Writes the name of the rule, the span, and the text, if it is not hidden.
-#[tactic(auto, using(crate::proofs::WriteLemmas::appends_both))]
+#[tactic(auto, using(crate::proofs::Writes::writes))]
 fn write_rule<W: Write>(out: &mut W, rule: Rule<'_>, span: Span, text: &[u8]) -> io::Result<()>
     ensures { OnOk result (Appends (W.contents out.old) (W.contents out.new) (rule_line rule.entry span text.now)) }
 {
@@ -135,7 +148,7 @@ fn write_rule<W: Write>(out: &mut W, rule: Rule<'_>, span: Span, text: &[u8]) ->
     write_text(out, text)
 }
 
-#[tactic(auto, using(crate::proofs::WriteLemmas::appends_both))]
+#[tactic(auto, using(crate::proofs::Writes::writes))]
 fn write_unknown<W: Write>(out: &mut W, span: Span, text: &[u8]) -> io::Result<()>
     ensures { OnOk result (Appends (W.contents out.old) (W.contents out.new) (unknown_line span text.now)) }
 {
@@ -152,7 +165,7 @@ fn write_place<W: Write>(out: &mut W, name: &str, span: Span) -> io::Result<()>
 }
 
 /// Writes a space, the text, and the end of the line.
-#[tactic(auto, using(crate::proofs::WriteLemmas::appends_both))]
+#[tactic(auto, using(crate::proofs::Writes::writes))]
 fn write_text<W: Write>(out: &mut W, text: &[u8]) -> io::Result<()>
     ensures { OnOk result (Appends (W.contents out.old) (W.contents out.new) (shown_text text.now)) }
 {
@@ -160,7 +173,7 @@ fn write_text<W: Write>(out: &mut W, text: &[u8]) -> io::Result<()>
     write_line(out, text)
 }
 
-#[tactic(auto, using(crate::proofs::WriteLemmas::appends_both))]
+#[tactic(auto, using(crate::proofs::Writes::writes))]
 fn write_line<W: Write>(out: &mut W, line: &[u8]) -> io::Result<()>
     ensures { OnOk result (Appends (W.contents out.old) (W.contents out.new) (line.now ++ codes "\n")) }
 {

@@ -1,7 +1,9 @@
 //! The rules of a language: in each line of a text the name of a rule, `=`, and its pattern.
-ghost use Rattle.std.specs.Prelude.{◌≡◌, IfOk, IfSome, map};
+ghost use Rattle.std.specs.Prelude.{◌≡◌, ◌+◌, IfErr, IfNone, IfOk, IfSome, map};
+ghost use Rattle.std.specs.Str.Lines.{lines};
 ghost use Rattle.nfa_compiler.specs.Compiled.{IsCompiled};
-ghost use Rattle.lexer.specs.Rules.{IsRuleOf};
+ghost use Rattle.lexer.specs.Lexed.{rule_patterns};
+ghost use Rattle.lexer.specs.Rules.{AreRulesOf, HasRule, IsRuleOf, IsRulesError, is_left_out};
 ghost use Rattle.lexer.specs.Tokens.{rule_syntax};
 
 use nfa_compiler::{CompileError, Compiler, Config, SyntaxError};
@@ -55,38 +57,80 @@ pub enum RulesError {
 }
 
 impl<T: Drop> From<AllocFailed<T>> for RulesError {
+    ghost use Rattle.std.specs.Prelude.{◌≡◌};
+    ghost use Rattle.nfa_compiler.specs.declared.error.CompileError.TheVariants.{Memory};
+    ghost use Rattle.lexer.specs.declared.rules.RulesError.TheVariants as error;
+
+    ghost from_gives = { λ _ made. made ≡ error.Compile Memory };
+
     fn from(_: AllocFailed<T>) -> RulesError {
         RulesError::Compile(CompileError::Memory)
     }
 }
 
 impl From<AllocError> for RulesError {
+    ghost use Rattle.std.specs.Prelude.{◌≡◌};
+    ghost use Rattle.nfa_compiler.specs.declared.error.CompileError.TheVariants.{Memory};
+    ghost use Rattle.lexer.specs.declared.rules.RulesError.TheVariants as error;
+
+    ghost from_gives = { λ _ made. made ≡ error.Compile Memory };
+
     fn from(_: AllocError) -> RulesError {
         RulesError::Compile(CompileError::Memory)
     }
 }
 
-/// Returns the rules that the text has. Empty lines, and lines that start with `#`, have none.
-pub fn parse<'t>(alloc: Global, text: &'t str) -> Result<Vec<Rule<'t>>, RulesError> {
+/// Returns the rules of the lines of the text, in order. Lines that are empty but for white space, and lines that start
+/// with `#`, have none.
+///
+/// Fails with [`RulesError::NoRule`] at the first other line that has no rule, or if allocation failed.
+pub fn parse<'t>(alloc: Global, text: &'t str) -> Result<Vec<Rule<'t>>, RulesError>
+    ensures rules { IfOk result (λ rules. AreRulesOf (lines text.now) rules.items) }
+    ensures error { IfErr result (IsRulesError (lines text.now)) }
+{
+    let lines = lines_of(alloc, text)?;
+    rules_of(alloc, &lines)
+}
+
+/// Returns the lines of the text, each without its end.
+fn lines_of<'t>(alloc: Global, text: &'t str) -> Result<Vec<&'t str>, AllocError>
+    ensures { IfOk result (λ found. map (λ line. line.now) found.items ≡ lines text.now) }
+{
+    text.lines().collect(alloc)
+}
+
+/// Returns the rules of these lines.
+fn rules_of<'t>(alloc: Global, lines: &[&'t str]) -> Result<Vec<Rule<'t>>, RulesError>
+    ensures rules { IfOk result (λ rules. AreRulesOf (map (λ line. line.now) lines.now) rules.items) }
+    ensures error { IfErr result (IsRulesError (map (λ line. line.now) lines.now)) }
+{
     let mut rules = Vec::new(alloc);
-    let mut number = 0usize;
-    for line in text.lines() {
-        number = number.saturating_add(1);
-        if line.trim().is_empty() || line.starts_with('#') {
+    for (index, line) in lines.iter().enumerate() {
+        let number = index + 1;
+        if is_left_out(line) {
             continue;
         }
-        let Some(rule) = rule_of(line, number) else {
-            return Err(RulesError::NoRule { line: number });
-        };
-        rules.push(rule)?;
+        match rule_of(line, number) {
+            Some(rule) => rules.push(rule)?,
+            None => return Err(RulesError::NoRule { line: number }),
+        }
     }
     Ok(rules)
 }
 
-/// Returns the rule of a line: the name is before the first `=` and the pattern after it, both without white space
-/// around them. Returns `None` if one of them is missing.
+/// Returns whether the line is empty but for white space, or starts with `#`.
+fn is_left_out(line: &str) -> bool
+    ensures { result ≡ is_left_out line.now }
+{
+    line.trim().is_empty() || line.starts_with('#')
+}
+
+/// Returns the rule of the line of this number: the name is before the first `=` and the pattern after it, both without
+/// white space around them. Returns `None` if one of the three is missing.
 fn rule_of<'t>(line: &'t str, number: usize) -> Option<Rule<'t>>
     ensures rule { IfSome result (IsRuleOf line.now) }
+    ensures number { IfSome result (λ rule. rule.line ≡ number) }
+    ensures none { IfNone result (¬ HasRule line.now) }
 {
     let (before, behind) = line.split_once('=')?;
     let (name, pattern) = (before.trim(), behind.trim());
@@ -117,7 +161,7 @@ fn column_of(before: &str, behind: &str) -> usize {
 
 /// Compiles the patterns of these rules, each of which is bound to the start of a search and matches bytes.
 pub fn compile(alloc: Global, rules: &[Rule<'_>]) -> Result<NFA, RulesError>
-    ensures compiled { IfOk result (IsCompiled rule_syntax (map (λ rule. rule.pattern.now) rules.now)) }
+    ensures compiled { IfOk result (IsCompiled rule_syntax (rule_patterns rules.now)) }
     ensures anchored { IfOk result (λ nfa. nfa.anchored ≡ nfa.unanchored) }
 {
     let patterns = patterns_of(alloc, rules)?;
@@ -135,7 +179,7 @@ pub fn compile(alloc: Global, rules: &[Rule<'_>]) -> Result<NFA, RulesError>
 /// Returns the patterns of these rules.
 fn patterns_of<'t>(alloc: Global, rules: &[Rule<'t>]) -> Result<Vec<&'t str>, AllocError>
     ensures { IfOk result (λ patterns.
-        map (λ text. text.now) patterns.items ≡ map (λ rule. rule.pattern.now) rules.now) }
+        map (λ text. text.now) patterns.items ≡ rule_patterns rules.now) }
 {
     let mut patterns = Vec::new(alloc);
     for rule in rules {

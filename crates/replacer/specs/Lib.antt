@@ -1,3 +1,4 @@
+pub mod Hits
 pub mod Names
 pub mod Printed
 pub mod Replaced

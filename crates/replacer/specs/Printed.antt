@@ -1,53 +1,51 @@
 -- What is printed for a text.
-use Rattle.std.specs.Prelude.{ℕ, ◌≡◌, ◌<◌, List, [], ◌∷◌, ◌++◌, Option, flat_map, length}
+use Rattle.std.specs.Prelude.{ℕ, ◌≡◌, List, [], ◌∷◌, ◌++◌, Option, flat_map, length}
 use Rattle.std.specs.Io.KnownBytes.{Appends}
-use Rattle.nfa_engines.specs.Engines.{Pike}
-use Rattle.replacer.specs.Replaced.{IsReplaced}
-use Rattle.replacer.specs.Separated.{IsSplit, IsSplitUpTo}
+use Rattle.nfa_compiler.specs.NameLaws.{IsNamed}
+use Rattle.nfa_compiler.specs.Patterns.{Hit}
+use Rattle.nfa_compiler.specs.Rejected.{IsOfOneText}
+use Rattle.replacer.specs.Hits.{groups_named_by, pattern_syntax}
+use Rattle.replacer.specs.Replaced.{replaced_by}
+use Rattle.replacer.specs.Separated.{fields_by, first_fields_by}
 use Rattle.replacer.specs.Writing.{AreParts, IsMistake}
 use Rattle.replacer.specs.declared.command.Command.{Command}
 use Rattle.replacer.specs.declared.command.Command.TheVariants.{Replace, Split, SplitN}
+use Rattle.replacer.specs.declared.report.Mistake.{Mistake}
+use Rattle.replacer.specs.declared.report.Mistake.TheVariants.{Pattern, Template}
 use Rattle.replacer.specs.declared.template.Part.{Part}
-use Rattle.replacer.specs.declared.template.TemplateError.{TemplateError}
 
 -- a line for each field
 abbrev pub field_lines : List (List ℕ) → List ℕ
 field_lines fields = flat_map (λ field. field ++ (10 ∷ [])) fields
 
-module _ (vm : Pike) (text : List ℕ) where
-  -- the template says some parts, by the groups of pattern 0, and they stand in place of each match
-  pub record ReplacesBy (template output : List ℕ) : Type 0 where
+-- A writer that held the bytes `old` has taken what the command prints of the text, and nothing else. The pattern has
+-- these groups and hits.
+module _ (old new : Option (List ℕ)) (groups : List (List (Option (List ℕ)))) (text : List ℕ) (hits : List Hit) where
+  -- the template says some parts, and they replace each hit
+  pub record IsReplacedBy (template : List ℕ) : Type 0 where
     pub parts : List Part
-    pub says : AreParts vm.nfa.groups 0 template parts (length template)
-    pub replaced : IsReplaced vm text parts output
+    pub says : AreParts groups 0 template parts (length template)
+    pub appended : Appends old new (replaced_by groups parts text hits)
 
-  -- a line for each field of the text
-  pub record PrintsFields (output : List ℕ) : Type 0 where
-    pub fields : List (List ℕ)
-    pub are : IsSplit text vm fields
-    pub lines : output ≡ field_lines fields
+  abbrev pub IsPrinted : Command → Type 0
+  IsPrinted (Replace template) = IsReplacedBy template.now
+  IsPrinted Split = Appends old new (field_lines (fields_by text hits))
+  IsPrinted (SplitN limit) = Appends old new (field_lines (first_fields_by limit text hits))
 
-  -- a line for each of at most `limit` fields, none if the limit is 0
-  pub record PrintsFirstFields (limit : ℕ) (output : List ℕ) : Type 0 where
-    pub fields : List (List ℕ)
-    pub none : limit ≡ 0 → fields ≡ []
-    pub are : 0 < limit → IsSplitUpTo text vm limit fields
-    pub lines : output ≡ field_lines fields
-
-  -- what the command prints
-  abbrev pub Prints : Command → List ℕ → Type 0
-  Prints (Replace template) output = ReplacesBy template.now output
-  Prints Split output = PrintsFields output
-  Prints (SplitN limit) output = PrintsFirstFields limit output
+-- This is wrong with the template. The pattern has these groups.
+abbrev pub IsMistakeIn : List (List (Option (List ℕ))) → List ℕ → Mistake → Type 0
+IsMistakeIn groups template (Template error) = IsMistake groups 0 template error
+IsMistakeIn groups template (Pattern error) = ⊥
 
 -- The command has a template, and this is wrong with it.
-abbrev pub IsMisused : Pike → Command → TemplateError → Type 0
-IsMisused vm (Replace template) error = IsMistake vm.nfa.groups 0 template.now error
-IsMisused vm Split error = ⊥
-IsMisused vm (SplitN limit) error = ⊥
+abbrev pub IsTemplateMistake : List (List (Option (List ℕ))) → Command → Mistake → Type 0
+IsTemplateMistake groups (Replace template) mistake = IsMistakeIn groups template.now mistake
+IsTemplateMistake groups Split mistake = ⊥
+IsTemplateMistake groups (SplitN limit) mistake = ⊥
 
--- a writer that held some bytes took this output, and no more
-pub record Takes (old new : Option (List ℕ)) (IsOutput : List ℕ → Type 0) : Type 0 where
-  pub output : List ℕ
-  pub is_output : IsOutput output
-  pub appended : Appends old new output
+-- This is wrong with the pattern, or with the template of the command.
+abbrev pub IsMisused : List ℕ → Command → Mistake → Type 0
+IsMisused pattern command (Pattern error) = IsOfOneText pattern_syntax (pattern ∷ []) error
+IsMisused pattern command (Template error) =
+    (names : List (Option (List ℕ))) → IsNamed pattern_syntax pattern names
+    → IsTemplateMistake (groups_named_by names) command (Template error)

@@ -1,5 +1,5 @@
 -- A text with something else in place of its matches.
-use Rattle.std.specs.Prelude.{ℕ, ◌≡◌, ◌≤◌, false, List, [], ◌∷◌, ◌++◌, All, None, drop, length, map}
+use Rattle.std.specs.Prelude.{ℕ, ◌≡◌, ◌≤◌, false, List, [], ◌∷◌, ◌++◌, All, Option, None, drop, length, map}
 use Rattle.std.specs.Prelude.{slice_range}
 use Rattle.std.specs.List.{AllByRecursion}
 use Rattle.regex_search_core.specs.Search.{whole}
@@ -9,6 +9,8 @@ use Rattle.nfa_engines.specs.CaughtLists.{AreRows, HasGroups}
 use Rattle.nfa_engines.specs.CaughtRuns.{CapturesInside, match_in}
 use Rattle.nfa_engines.specs.Engines.{Pike, kind_of}
 use Rattle.nfa_engines.specs.Lists.{AreApart}
+use Rattle.nfa_compiler.specs.Patterns.{Hit}
+use Rattle.replacer.specs.Hits.{captured_by}
 use Rattle.replacer.specs.Separated.{last_end}
 use Rattle.replacer.specs.Templates.{filled}
 use Rattle.replacer.specs.declared.template.Part.{Part}
@@ -23,6 +25,10 @@ abbrev pub replaced : List ℕ → List Part → ℕ → List Captured → List 
 replaced haystack parts from [] = drop from haystack
 replaced haystack parts from (c ∷ cs) =
     replaced_one haystack parts from c ++ replaced haystack parts (match_in c).end cs
+
+-- the text with these parts in place of each of its hits, for a pattern with these groups
+abbrev pub replaced_by : List (List (Option (List ℕ))) → List Part → List ℕ → List Hit → List ℕ
+replaced_by groups parts text hits = replaced text parts 0 (map (captured_by groups) hits)
 
 -- these are the captures of all matches of the haystack, which lie in it one behind the other
 pub record AreCaught (vm : Pike) (haystack : List ℕ) (cs : List Captured) : Type 0 where

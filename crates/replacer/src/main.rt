@@ -4,16 +4,15 @@
 mod command;
 mod fields;
 mod found;
+mod meant;
 mod name;
 mod replace;
 mod report;
 mod scan;
 mod template;
 
-use crate::command::{Command, USAGE};
+use crate::command::{Command, HELP, USAGE};
 use anyhow::Result;
-use nfa_compiler::{CompileError, Compiler};
-use nfa_engines::pikevm::PikeVM;
 use std::fmt::Display;
 use std::io::BufWriter;
 use std::process::ExitCode;
@@ -27,6 +26,10 @@ fn main(rt: HostRuntime) -> Result<ExitCode> {
     let alloc = rt.alloc();
     let arguments: Vec<String> = env::args(&rt)?.skip(1).collect(alloc)?;
     let words: Vec<&str> = arguments.iter().map(|word| word.as_str()).collect(alloc)?;
+    if let ["--help"] = words.as_slice() {
+        println!(rt; "{USAGE}\n{HELP}")?;
+        return Ok(ExitCode::SUCCESS);
+    }
     match Command::from_words(&words) {
         Some((pattern, command)) => run(&rt, pattern, command),
         None => Ok(misused(&rt, USAGE)),
@@ -34,18 +37,10 @@ fn main(rt: HostRuntime) -> Result<ExitCode> {
 }
 
 fn run(rt: &HostRuntime, pattern: &str, command: Command<'_>) -> Result<ExitCode> {
-    match Compiler::new().build(rt.alloc(), pattern) {
-        Ok(nfa) => run_on(rt, &PikeVM::new_from_nfa(nfa)?, command),
-        Err(CompileError::Memory) => Err(CompileError::Memory.into()),
-        Err(error) => Ok(misused(rt, error)),
-    }
-}
-
-fn run_on(rt: &HostRuntime, vm: &PikeVM, command: Command<'_>) -> Result<ExitCode> {
     let mut out = BufWriter::new(rt.alloc(), io::writer(rt))?;
     Ok(
-        match report::run(rt.alloc(), vm, command, rt.reader(), &mut out)? {
-            Some(error) => misused(rt, error),
+        match report::run(rt.alloc(), pattern, command, rt.reader(), &mut out)? {
+            Some(mistake) => misused(rt, mistake),
             None => ExitCode::SUCCESS,
         },
     )

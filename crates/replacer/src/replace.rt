@@ -1,20 +1,28 @@
 //! A text with something else in place of its matches.
-ghost use Rattle.std.specs.Prelude.{◌≡◌, ◌≤◌, ◌++◌, All, IfOk, None, OnOk, map};
+ghost use Rattle.std.specs.Prelude.{◌≡◌, ◌≤◌, ◌++◌, All, IfOk, List, None, OnOk, map, ℕ};
+ghost use Rattle.regex_hir.specs.Re.{Re};
 ghost use Rattle.regex_search_core.specs.Search.{whole};
 ghost use Rattle.nfa_engines.specs.CaughtRuns.{CapturesInside, match_in};
 ghost use Rattle.nfa_engines.specs.Engines.{Fits, SameNumbers};
 ghost use Rattle.nfa_engines.specs.Lists.{AreApart};
-ghost use Rattle.replacer.specs.Replaced.{IsReplaced, replaced, replaced_one};
+ghost use Rattle.nfa_engines.specs.Paths.{is_utf8_empty};
+ghost use Rattle.nfa_compiler.specs.Patterns.{Hit};
+ghost use Rattle.replacer.specs.Hits.{AreAllHits, SearchesFor};
+ghost use Rattle.replacer.specs.Replaced.{IsReplaced, replaced, replaced_by, replaced_one};
 
+use crate::meant::caught_are_meant;
 use crate::template::Template;
 use nfa_engines::pikevm::{Cache, PikeVM};
 use regex_search_core::{Captures, Input};
 use std::alloc::{AllocError, Global};
 
-/// The haystack with the template, filled by each match, in place of the match. The error is that a growth was refused.
+/// Returns the haystack with the template, filled by each match, in place of the match. The only error is that
+/// allocation failed.
 ///
-/// Where the engine has several patterns, matches of all of them are replaced. The names of the template were resolved
-/// by the one pattern that [`Template::parse`] was given; what another pattern puts there is its group of that number.
+/// If the engine has several patterns, matches of all of them are replaced. The names of the template were resolved by
+/// the one pattern that [`Template::parse`] was given. A match of another pattern fills in its group of that number.
+///
+/// If the PikeVM searches for one pattern, the matches are all hits of what the pattern means (`meant`).
 pub fn replace_all(
     alloc: Global,
     vm: &PikeVM,
@@ -23,16 +31,21 @@ pub fn replace_all(
     template: &Template<'_>,
 ) -> Result<Vec<u8>, AllocError>
     requires { Fits cache.old vm.now.nfa }
+    ensures meant { IfOk result (λ output. (pattern : List ℕ) (re : Re) (hits : List Hit)
+        → SearchesFor pattern re vm.now → AreAllHits re (is_utf8_empty vm.now.nfa) haystack.now hits
+        → output.items ≡ replaced_by vm.now.nfa.groups template.now.parts.items haystack.now hits) }
     ensures replaced { IfOk result (λ output. IsReplaced vm.now haystack.now template.now.parts.items output.items) }
     ensures numbers { SameNumbers cache.old cache.new }
 {
     let Ok(caught) = vm.captures_all(alloc, cache, Input::new(haystack)) else {
         return Err(AllocError);
     };
-    replace_caught(alloc, haystack, caught, template)
+    caught_are_meant(vm, haystack, &caught);
+    let output = replace_caught(alloc, haystack, caught, template)?;
+    Ok(output)
 }
 
-/// The haystack with the filled template in place of the match of each of these captures.
+/// Returns the haystack with the filled template in place of the match of each of these captures.
 #[tactic(auto, using(std::proofs::lemmas::List::Elements::recursion_from_All))]
 fn replace_caught(
     alloc: Global,
@@ -53,8 +66,8 @@ fn replace_caught(
     Ok(output)
 }
 
-/// Appends what stands before the match of these captures, from an offset on, and the template filled by it. The end of
-/// the match.
+/// Appends what is before the match of these captures, from an offset on, and the template filled by it. Returns the end
+/// of the match.
 fn replace_one(
     haystack: &[u8],
     from: usize,

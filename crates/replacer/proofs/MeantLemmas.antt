@@ -1,0 +1,174 @@
+-- From the matches and captures of a text to the hits of what the pattern means.
+use Rattle.std.proofs.Common.{◌≡◌, ◌∙◌, ℕ, zero, suc, ◌+◌, ◌-◌, ◌≤◌, ◌<◌, ◌⊎◌, inl, inr, Bool, true, false, List, [], ◌∷◌, ◌++◌, length, map, take, All, arith, refl, sym, ap, ap₂, subst}
+use Rattle.std.specs.List.{AllByRecursion}
+use Rattle.std.specs.Prelude.{Option, None, Some, option_map, if◌then◌else◌, ◌==◌}
+use Rattle.std.proofs.lemmas.Bool.{cases_lt, lt-ltb, le-ltb}
+use Rattle.std.proofs.lemmas.List.{take-append-le, take_all}
+use Rattle.std.proofs.lemmas.List.Elements.{recursion_from_All}
+use Rattle.regex_hir.specs.Re.{Re}
+use Rattle.regex_hir.specs.Text.{is_boundary}
+use Rattle.regex_search_core.specs.Found.{Found}
+use Rattle.regex_search_core.specs.Search.{Search, whole}
+use Rattle.regex_search_core.specs.Slots.{Captured}
+use Rattle.regex_search_core.specs.declared.search.MatchKind.TheVariants.{LeftmostFirst}
+use Rattle.nfa_engines.specs.Automaton.{Automaton}
+use Rattle.nfa_engines.specs.Catching.{Row, row_of}
+use Rattle.nfa_engines.specs.CaughtLists.{AreRows, HasGroups}
+use Rattle.nfa_engines.specs.Engines.{Pike, kind_of}
+use Rattle.nfa_engines.specs.Lists.{AreFirstMatches, AreMatches}
+use Rattle.nfa_engines.specs.Paths.{IsAnswer, IsMatchAnswer, is_utf8_empty}
+use Rattle.nfa_search_base.proofs.ListLemmas.{matches-exist, matches-rest}
+use Rattle.nfa_compiler.specs.AllHits.{all_hits, hits_from, row_of_hit}
+use Rattle.nfa_compiler.specs.AllLaws.{MatchesAreAllOfTexts, RowsAreAllOfTexts}
+use Rattle.nfa_compiler.specs.BoundaryHits.{boundary_hit, expected_on_boundary, on_boundary}
+use Rattle.nfa_compiler.specs.Compiled.{res_of}
+use Rattle.nfa_compiler.specs.Laws.{IsLeftmostToTheEnd}
+use Rattle.nfa_compiler.specs.Patterns.{Hit, expected, found_at, found_in, pick, slots_of}
+use Rattle.nfa_compiler.specs.StrLaws.{AllHitsAreFindAllStr, MatchesAreAllOfStrs, RowsAreAllOfStrs}
+use Rattle.nfa_compiler.proofs.AllSearchLemmas.{matches-of, rows-of}
+use Rattle.nfa_compiler.proofs.BoundLemmas.{LiesFrom}
+use Rattle.nfa_compiler.proofs.BoundarySearchLemmas.{boundary-answer, boundary-known, boundary-match}
+use Rattle.nfa_compiler.proofs.LiesLemmas.{boundary-lies}
+use Rattle.nfa_compiler.proofs.MeantLemmas.{AreAlike, all-meant, first-alike, found-alike, pattern-alike, pick-alike, slots-alike}
+use Rattle.replacer.specs.Hits.{AreAllHits, SearchesFor, captured_by, hits_in, next_hit, pattern_syntax}
+
+-- alike hits end on a boundary alike
+kept-alike : (text : List ℕ) (h g : Option Hit) → AreAlike h g → AreAlike (on_boundary text h) (on_boundary text g)
+kept-alike text None None a = tt
+kept-alike text None (Some g) a = absurd a
+kept-alike text (Some h) None a = absurd a
+kept-alike text (Some h) (Some g) a =
+    of (is_boundary text h.trace.end) (is_boundary text g.trace.end) (ap (is_boundary text) a.end)
+  where
+    of : (b c : Bool) → b ≡ c → AreAlike (if b then Some h else None) (if c then Some g else None)
+    of true true e = a
+    of false false e = tt
+    of true false e = absurd (cc)
+    of false true e = absurd (cc)
+
+-- captures with these groups are known by their rows
+captures-are : (nfa : Automaton) (cs : List Captured) (hits : List Hit) → AllByRecursion (HasGroups nfa) cs
+    → map row_of cs ≡ map (row_of_hit nfa) hits → cs ≡ map (captured_by nfa.groups) hits
+captures-are nfa [] [] groups rows = refl
+captures-are nfa [] (h ∷ hits) groups rows = absurd (cc)
+captures-are nfa (c ∷ cs) [] groups rows = absurd (cc)
+captures-are nfa (c ∷ cs) (h ∷ hits) groups rows =
+    let one : row_of c ≡ row_of_hit nfa h = (cc) in
+    let rest : map row_of cs ≡ map (row_of_hit nfa) hits = (cc) in
+    let same : c ≡ captured_by nfa.groups h =
+    λ i. record { groups = groups.0.groups i; pattern = (one i).pattern; slots = (one i).slots } in
+    ap₂ (λ x xs. x ∷ xs) same (captures-are nfa cs hits groups.1 rest)
+
+module _ (pattern : List ℕ) (re : Re) (vm : Pike) (text : List ℕ) (bytes : All (λ b. b < 256) text)
+    (of : SearchesFor pattern re vm) where
+  -- the hits that end on a boundary are those of the tree that was compiled
+  module _ (mode : is_utf8_empty vm.nfa ≡ true) where
+    abbrev trees : List Re
+    trees = res_of of.search.compiled.trees
+
+    abbrev at_place : ℕ → Search
+    at_place i = record (whole text) { start = i }
+
+    next-alike : (i : ℕ) → AreAlike (boundary_hit trees vm.nfa (at_place i)) (next_hit re true text i)
+    unfolding expected_on_boundary
+    next-alike i =
+        rw of.search.free (elim (cases_lt (length text) i) [
+          | inl past ↦ rw (lt-ltb (length text) i past) tt
+          | inr inside ↦
+              rw (le-ltb (length text) i inside)
+              (first-alike text bytes (λ k. on_boundary text (pick text trees 0 k))
+              (λ k. on_boundary text (pick text (re ∷ []) 0 k))
+              (λ k. kept-alike text (pick text trees 0 k) (pick text (re ∷ []) 0 k)
+              (pick-alike text bytes trees (re ∷ []) 0 k
+              (all-meant pattern_syntax (pattern ∷ []) of.search.compiled.trees (re ∷ []) of.search.compiled.read (of.meant, tt))))
+              (length text - i + 1) i)
+        ])
+
+    has-matches : (i : ℕ) (found : Option Found) → IsMatchAnswer vm.nfa LeftmostFirst false (at_place i) found
+        → found ≡ found_in (next_hit re true text i)
+    has-matches i found answer =
+        boundary-match trees vm.nfa of.search.compiled.made mode (at_place i) refl found answer
+        ∙ found-alike (boundary_hit trees vm.nfa (at_place i)) (next_hit re true text i) (next-alike i)
+
+    has-answers : (i : ℕ) (found : Option ℕ) (slots : List (Option ℕ))
+        → IsAnswer vm.nfa LeftmostFirst false (at_place i) found slots
+        → (found ≡ option_map (λ (h : Hit). h.pattern) (next_hit re true text i))
+        × (slots ≡ slots_of vm.nfa.groups (length slots) (next_hit re true text i))
+    has-answers i found slots answer =
+        let a = boundary-answer trees vm.nfa of.search.compiled.made mode (at_place i) refl found slots answer in
+        let known = boundary-known trees vm.nfa of.search.compiled.made mode (at_place i) refl answer.restarts answer.path
+        answer.answers in
+        let hit = boundary_hit trees vm.nfa (at_place i) in (
+          a.0 ∙ pattern-alike hit (next_hit re true text i) (next-alike i),
+          a.1 ∙ slots-alike vm.nfa.groups (length slots) hit (next_hit re true text i) known (next-alike i),
+        )
+
+    lies : (i : ℕ) (h : Hit) → next_hit re true text i ≡ Some h → LiesFrom text i (length text + 1) h
+    lies i h is = boundary-lies (re ∷ []) false (at_place i) h refl is
+
+    empty-matches : (ms : List Found) → AreMatches vm.nfa LeftmostFirst false (whole text) ms
+        → ms ≡ map found_at (hits_in re true text)
+    empty-matches ms are = matches-of vm.nfa (whole text) (next_hit re true text) lies has-matches ms are
+
+    empty-rows : (rows : List Row) → AreRows vm.nfa LeftmostFirst false (whole text) rows
+        → rows ≡ map (row_of_hit vm.nfa) (hits_in re true text)
+    empty-rows rows are = rows-of vm.nfa (whole text) (next_hit re true text) lies has-matches has-answers rows are
+
+  abbrev leftmost : IsLeftmostToTheEnd (kind_of vm) false (whole text)
+  leftmost = record { leftmost = of.search.leftmost; latest = refl; whole = refl }
+
+  -- the hits of the NFA are those of the pattern
+  plain : all_hits (re ∷ []) vm.nfa (whole text) ≡ hits_in re false text
+  plain = ap (λ (b : Bool). hits_from (λ i. expected (re ∷ []) b (record (whole text) { start = i })) (length text + 1)
+      (expected (re ∷ []) b (whole text))) of.search.free
+
+  module _ (texts : MatchesAreAllOfTexts) (strs : MatchesAreAllOfStrs) (found : AllHitsAreFindAllStr) where
+    pub matches-are : (ms : List Found) → AreMatches vm.nfa (kind_of vm) false (whole text) ms → (hits : List Hit)
+        → AreAllHits re (is_utf8_empty vm.nfa) text hits → ms ≡ map found_at hits
+    matches-are ms are hits (inl e) = by-mode (is_utf8_empty vm.nfa) refl ∙ ap (map found_at) (sym e)
+      where
+        by-mode : (b : Bool) → is_utf8_empty vm.nfa ≡ b → ms ≡ map found_at (hits_in re b text)
+        by-mode true mode = empty-matches mode ms (rw of.search.leftmost at are)
+        by-mode false mode =
+            texts pattern_syntax (pattern ∷ []) (re ∷ []) vm.nfa (kind_of vm) false (whole text) ms of.search.compiled
+            (of.meant, tt) mode leftmost bytes are
+            ∙ ap (map found_at) plain
+    matches-are ms are hits (inr (utf8, e)) =
+        strs pattern_syntax (pattern ∷ []) (re ∷ []) vm.nfa (kind_of vm) false (whole text) ms of.search.compiled
+        (of.meant, tt) of.search.compiled.mode of.search.free leftmost utf8 are
+        ∙ ap (map found_at) (found re vm.nfa (whole text) of.search.free refl refl refl ∙ sym e)
+
+    pub first-are : (ms : List Found) (count : ℕ) → AreFirstMatches vm.nfa (kind_of vm) false (whole text) ms
+        → (length ms ≡ count) ⊎ AreMatches vm.nfa (kind_of vm) false (whole text) ms → length ms ≤ count
+        → (hits : List Hit) → AreAllHits re (is_utf8_empty vm.nfa) text hits → ms ≡ take count (map found_at hits)
+    first-are ms count first (inl same) few hits h =
+        let all = matches-exist vm.nfa (kind_of vm) false (whole text) in
+        let rest = matches-rest vm.nfa (kind_of vm) false (whole text) ms all.0 first all.1 in
+        let within : count ≤ length ms = omega (arith, same) in
+        sym (ap (take count) (sym (matches-are all.0 all.1 hits h) ∙ rest.1)
+        ∙ take-append-le count ms rest.0 within ∙ take_all count ms few)
+    first-are ms count first (inr are) few hits h =
+        let is = matches-are ms are hits h in
+        is ∙ sym (take_all count (map found_at hits) (subst (λ (l : List Found). length l ≤ count) is few))
+
+  module _ (texts : RowsAreAllOfTexts) (strs : RowsAreAllOfStrs) (found : AllHitsAreFindAllStr) where
+    rows-are : (rows : List Row) → AreRows vm.nfa (kind_of vm) false (whole text) rows → (hits : List Hit)
+        → AreAllHits re (is_utf8_empty vm.nfa) text hits → rows ≡ map (row_of_hit vm.nfa) hits
+    rows-are rows are hits (inl e) = by-mode (is_utf8_empty vm.nfa) refl ∙ ap (map (row_of_hit vm.nfa)) (sym e)
+      where
+        by-mode : (b : Bool) → is_utf8_empty vm.nfa ≡ b → rows ≡ map (row_of_hit vm.nfa) (hits_in re b text)
+        by-mode true mode = empty-rows mode rows (rw of.search.leftmost at are)
+        by-mode false mode =
+            texts pattern_syntax (pattern ∷ []) (re ∷ []) vm.nfa (kind_of vm) false (whole text) rows of.search.compiled
+            (of.meant, tt) mode leftmost bytes are
+            ∙ ap (map (row_of_hit vm.nfa)) plain
+    rows-are rows are hits (inr (utf8, e)) =
+        strs pattern_syntax (pattern ∷ []) (re ∷ []) vm.nfa (kind_of vm) false (whole text) rows of.search.compiled
+        (of.meant, tt) of.search.compiled.mode of.search.free leftmost utf8 are
+        ∙ ap (map (row_of_hit vm.nfa)) (found re vm.nfa (whole text) of.search.free refl refl refl ∙ sym e)
+
+    pub caught-are : (cs : List Captured) → AreRows vm.nfa (kind_of vm) false (whole text) (map row_of cs)
+        → All (HasGroups vm.nfa) cs → (hits : List Hit) → AreAllHits re (is_utf8_empty vm.nfa) text hits
+        → cs ≡ map (captured_by vm.nfa.groups) hits
+    caught-are cs are groups hits h =
+        captures-are vm.nfa cs hits (recursion_from_All (HasGroups vm.nfa) cs groups) (rows-are (map row_of cs) are hits h)

@@ -1,0 +1,55 @@
+-- All hits of a pattern in a text, in the words of the reference matcher.
+use Rattle.std.specs.Prelude.{ℕ, ◌+◌, ◌≡◌, ◌==◌, ◌⊎◌, Bool, false, IsUtf8, List, [], ◌∷◌, drop, length, map, Option, Some, if◌then◌else◌}
+use Rattle.regex_hir.specs.Find.{find_all_str}
+use Rattle.regex_hir.specs.Re.{Re}
+use Rattle.regex_search_core.specs.Groups.{slot_count}
+use Rattle.regex_search_core.specs.Search.{whole}
+use Rattle.regex_search_core.specs.Slots.{Captured}
+use Rattle.regex_search_core.specs.declared.search.MatchKind.TheVariants.{LeftmostFirst}
+use Rattle.regex_syntax.specs.Verdict.{default_config}
+use Rattle.regex_syntax.specs.declared.Config.{Config}
+use Rattle.nfa_engines.specs.Engines.{Pike, kind_of}
+use Rattle.nfa_compiler.specs.AllHits.{hits_from}
+use Rattle.nfa_compiler.specs.BoundaryHits.{expected_on_boundary}
+use Rattle.nfa_compiler.specs.Compiled.{IsCompiled, IsMeant}
+use Rattle.nfa_compiler.specs.Patterns.{Hit, expected, hit_by, slots_of}
+
+-- The syntax of the pattern: the default one, in which a pattern matches characters of a text only.
+abbrev pub pattern_syntax : Config
+pattern_syntax = default_config
+
+-- the PikeVM searches for this pattern, by leftmost first, and from any place
+pub record IsSearchOf (pattern : List ℕ) (vm : Pike) : Type 0 where
+  pub compiled : IsCompiled pattern_syntax (pattern ∷ []) vm.nfa
+  pub leftmost : kind_of vm ≡ LeftmostFirst
+  pub free : (vm.nfa.anchored == vm.nfa.unanchored) ≡ false
+
+-- and the pattern means `re`
+pub record SearchesFor (pattern : List ℕ) (re : Re) (vm : Pike) : Type 0 where
+  pub search : IsSearchOf pattern vm
+  pub meant : IsMeant pattern_syntax pattern re
+
+module _ (re : Re) (empty : Bool) (text : List ℕ) where
+  -- The first hit from this place on. `empty` says that the pattern may match the empty string. Then a match that
+  -- splits a codepoint does not count.
+  abbrev pub next_hit : ℕ → Option Hit
+  next_hit i =
+      if empty then expected_on_boundary (re ∷ []) false (record (whole text) { start = i })
+      else expected (re ∷ []) false (record (whole text) { start = i })
+
+  -- all hits, from left to right
+  abbrev pub hits_in : List Hit
+  hits_in = hits_from next_hit (length text + 1) (next_hit 0)
+
+  -- These are all hits in the text. If it is UTF-8, they are those that `find_all_str` of `regex_hir` gives, too.
+  abbrev pub AreAllHits : List Hit → Type 0
+  AreAllHits hits = (hits ≡ hits_in) ⊎ (IsUtf8 text × (hits ≡ map (hit_by 0) (find_all_str re text)))
+
+-- the explicit groups of a pattern whose groups have these names, from group 0 on
+abbrev pub groups_named_by : List (Option (List ℕ)) → List (List (Option (List ℕ)))
+groups_named_by names = drop 1 names ∷ []
+
+-- the captures of a hit
+abbrev pub captured_by : List (List (Option (List ℕ))) → Hit → Captured
+captured_by groups h =
+    record { groups = groups; pattern = Some h.pattern; slots = slots_of groups (slot_count groups) (Some h) }
