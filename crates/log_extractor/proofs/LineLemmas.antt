@@ -54,12 +54,12 @@ parts-more : (c : ℕ) (a b : List ℕ) → lines_of (a ++ feed ∷ [] ++ b) ≡
 parts-more c a b parts =
     ⊎_elim
     (λ same. subst (λ (d : ℕ). lines_of (d ∷ (a ++ feed ∷ [] ++ b)) ≡ lines_of (d ∷ (a ++ feed ∷ [])) ++ lines_of b)
-        (sym same)
-        (feed-first (a ++ feed ∷ [] ++ b) ∙ ap (λ (ls : List (List ℕ)). (feed ∷ []) ∷ ls) parts
-        ∙ ap (λ (ls : List (List ℕ)). ls ++ lines_of b) (sym (feed-first (a ++ feed ∷ [])))))
+    (sym same)
+    (feed-first (a ++ feed ∷ [] ++ b) ∙ ap (λ (ls : List (List ℕ)). (feed ∷ []) ∷ ls) parts
+    ∙ ap (λ (ls : List (List ℕ)). ls ++ lines_of b) (sym (feed-first (a ++ feed ∷ [])))))
     (λ other. other-first c (a ++ feed ∷ [] ++ b) other ∙ ap (before_first c) parts
-        ∙ before_first-append c (lines_of (a ++ feed ∷ [])) (lines_of b) (nonempty a)
-        ∙ ap (λ (ls : List (List ℕ)). ls ++ lines_of b) (sym (other-first c (a ++ feed ∷ []) other)))
+    ∙ before_first-append c (lines_of (a ++ feed ∷ [])) (lines_of b) (nonempty a)
+    ∙ ap (λ (ls : List (List ℕ)). ls ++ lines_of b) (sym (other-first c (a ++ feed ∷ []) other)))
     (cases_eq c feed)
 
 pub lines-of-parts : (a b : List ℕ) → lines_of (a ++ feed ∷ [] ++ b) ≡ lines_of (a ++ feed ∷ []) ++ lines_of b

@@ -17,5 +17,5 @@ returns-clause-printed g c = λ p is.
     (λ text. Appends between after (printed_lines output p text))
     (λ text. Appends before after (printed output p text))
     (λ text lines. appends_both before between after (head output (columns_of p)) (printed_lines output p text)
-        (printed output p text) (c.in_ok-print_head.ensures p is) lines refl)
+    (printed output p text) (c.in_ok-print_head.ensures p is) lines refl)
     (c.in_ok-print_lines.ensures.printed p is)

@@ -25,7 +25,12 @@ returns-clause-columns c = λ p is none.
 pub invariant_of-result : goal.invariant_of-result
 invariant_of-result c =
     let nfa : c.in-Ok.vm.nfa ≡ c.in_ok-nfa.nfa = search rules in (
-      search rules, search rules, search rules, search rules, search rules, search rules,
+      search rules,
+      search rules,
+      search rules,
+      search rules,
+      search rules,
+      search rules,
       ap (λ (k : Captured). length k.slots) c.in-Ok-create_captures.ensures.made
           ∙ length-replicate (slot_count c.in-Ok.vm.nfa.groups) None,
       rw nfa (compiled-columns c.args.pattern.now c.in_ok-nfa.nfa (map group_of c.in_ok-columns.columns.items)
