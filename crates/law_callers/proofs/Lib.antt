@@ -1,3 +1,4 @@
 mod KindLemmas
 mod DigitLemmas
 mod SetKindLemmas
+mod PlaceLemmas

@@ -7,6 +7,7 @@ pub mod hits;
 pub mod modes;
 pub mod paths;
 pub mod patterns;
+pub mod places;
 pub mod sets;
 pub mod written;
 

@@ -64,8 +64,11 @@ module _ (res : List Re) (text : List ℕ) where
     back end [] rest ends within more n room = rw ends at (more n (omega (arith, room)))
     back end (token ∷ before) rest (ends, one, others) within more n room =
         let here = subst (λ (e : ℕ). (m : ℕ) → length text ≤ m + e → tokens_at m e ≡ rest) (sym ends) more in
-        rw (reverse-append (token ∷ []) before, map-append token_found (reverse before) (token ∷ []),
-        append_assoc (map token_found (reverse before)) (token_found token ∷ []) rest)
+        rw (
+          reverse-append (token ∷ []) before,
+          map-append token_found (reverse before) (token ∷ []),
+          append_assoc (map token_found (reverse before)) (token_found token ∷ []) rest,
+        )
         (back token.span.start before (token_found token ∷ rest) others (omega (arith, one.some_bytes, ends, within))
         (λ m r. one-from m token rest one (omega (arith, ends, within)) r here) n room)
 

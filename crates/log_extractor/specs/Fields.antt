@@ -1,37 +1,76 @@
--- The fields of a log line, in terms of what a search of it captured.
-use Rattle.std.specs.Prelude.{ℕ, ◌≡◌, false, List, [], ◌∷◌, Option, Some, option_and_then, codes}
-use Rattle.std.specs.Option.{ForSome}
-use Rattle.regex_search_core.specs.Slots.{Captured, named_span}
+-- The columns of a pattern and the fields of a line, in the words of the reference matcher.
+use Rattle.std.specs.Prelude.{◌≡◌, ℕ, ◌+◌, false, List, [], ◌∷◌, drop, map, Option, None, Some, option_map, slice_range, string_bytes, ⊤}
+use Rattle.std.specs.Borrow.{Bor}
+use Rattle.regex_hir.specs.Find.{Match}
+use Rattle.regex_hir.specs.Re.{Re, accept, attempt}
 use Rattle.regex_search_core.specs.declared.search.Span.{Span}
-use Rattle.thompson_nfa.specs.Automaton.{Automaton}
 use Rattle.regex_syntax.specs.Verdict.{default_config}
 use Rattle.regex_syntax.specs.declared.Config.{Config}
-use Rattle.log_extractor.specs.Spans.{LieInOrder}
-use Rattle.log_extractor.specs.declared.parser.Fields.{Fields}
+use Rattle.nfa_compiler.specs.Compiled.{IsMeant}
+use Rattle.nfa_compiler.specs.NameLaws.{IsNamed, written_span}
+use Rattle.nfa_compiler.specs.Rejected.{IsOfOneText}
+use Rattle.log_extractor.specs.declared.pattern.Column.{Column}
+use Rattle.log_extractor.specs.declared.pattern.PatternError.{PatternError}
+use Rattle.log_extractor.specs.declared.pattern.PatternError.TheVariants.{Memory, Compile, NoColumns}
 
--- The syntax of the pattern of a line: the default one, in which bytes that are not text may match.
+-- The syntax of patterns: the default one, in which bytes that are not text may match.
 abbrev pub line_syntax : Config
 line_syntax = record default_config { utf8 = false }
 
--- the NFA of a line, and what the last search captured
-pub record LineParser : Type 0 where
-  pub nfa : Automaton
-  pub found : Captured
+-- a pattern of lines: what it matches, and the names of its groups, from group 0 on
+pub record LinePattern : Type 0 where
+  pub tree : Re
+  pub names : List (Option (List ℕ))
 
--- each field is the span between the two slots of its group
-pub record AreFields (found : Captured) (fields : Fields) : Type 0 where
-  pub date : named_span found (codes "date") ≡ Some fields.date
-  pub time : named_span found (codes "time") ≡ Some fields.time
-  pub level : named_span found (codes "level") ≡ Some fields.level
-  pub message : named_span found (codes "message") ≡ Some fields.message
+-- the grammar reads this pattern in the text
+pub record IsPatternOf (text : List ℕ) (p : LinePattern) : Type 0 where
+  pub tree : IsMeant line_syntax text p.tree
+  pub names : IsNamed line_syntax text p.names
 
--- the spans of the four groups, where each has one
-abbrev pub spans_of : Captured → Option (List Span)
-spans_of found =
-    option_and_then (λ date. option_and_then (λ time. option_and_then (λ level. option_and_then
-    (λ message. Some (date ∷ time ∷ level ∷ message ∷ [])) (named_span found (codes "message")))
-    (named_span found (codes "level"))) (named_span found (codes "time"))) (named_span found (codes "date"))
+-- a column: a group that has a name
+pub record NamedGroup : Type 0 where
+  pub number : ℕ
+  pub name : List ℕ
 
--- a group has no span, or they do not lie in order in a line of so many bytes
-abbrev pub NoFields : Captured → ℕ → Type 0
-NoFields found len = ForSome (spans_of found) (λ spans. ¬ LieInOrder 0 spans len)
+-- the groups that have a name, in the order of their numbers, the first of which is n
+abbrev pub named_groups : ℕ → List (Option (List ℕ)) → List NamedGroup
+named_groups n [] = []
+named_groups n (None ∷ names) = named_groups (n + 1) names
+named_groups n (Some name ∷ names) = record { number = n; name = name } ∷ named_groups (n + 1) names
+
+-- the columns: the named groups. Group 0 is the match, and has no name.
+abbrev pub columns_in : List (Option (List ℕ)) → List NamedGroup
+columns_in names = named_groups 1 (drop 1 names)
+
+abbrev pub columns_of : LinePattern → List NamedGroup
+columns_of p = columns_in p.names
+
+-- what a column of the program is
+abbrev pub group_of : Column → NamedGroup
+group_of column = record { number = column.group; name = string_bytes column.name }
+
+-- the bytes of the span
+abbrev pub cut : List ℕ → Option Span → Option (List ℕ)
+cut line span = option_map (λ (s : Span). slice_range line s.start s.end) span
+
+-- the fields of a line that matched so: for each column the text that the match last wrote for its group, if any
+abbrev pub fields_of : LinePattern → List ℕ → Match → List (Option (List ℕ))
+fields_of p line m = map (λ (g : NamedGroup). cut line (written_span g.number m)) (columns_of p)
+
+-- how the pattern matches the line from its start, if it does
+abbrev pub match_at_start : LinePattern → List ℕ → Option Match
+match_at_start p line = option_map (λ t. record { start = 0; trace = t }) (attempt line p.tree accept 0)
+
+-- the row of a line: it has one exactly if the pattern matches it from its start
+abbrev pub row : LinePattern → List ℕ → Option (List (Option (List ℕ)))
+row p line = option_map (fields_of p line) (match_at_start p line)
+
+-- what the slices hold
+abbrev pub texts : List (Option (Bor (List ℕ))) → List (Option (List ℕ))
+texts fields = map (option_map (λ (field : Bor (List ℕ)). field.now)) fields
+
+-- allocation failed, the text is not a pattern that can be compiled, or no group of the pattern has a name
+abbrev pub IsMistakeIn : List ℕ → PatternError → Type 0
+IsMistakeIn text Memory = ⊤
+IsMistakeIn text (Compile error) = IsOfOneText line_syntax (text ∷ []) error
+IsMistakeIn text NoColumns = (p : LinePattern) → IsPatternOf text p → columns_of p ≡ []

@@ -1,36 +1,71 @@
-//! Reads log lines from standard input, and prints their fields as a table, then how many lines each level has.
+//! Reads log lines from standard input, and prints their fields.
 #![tactic(auto)]
 
-mod options;
+mod command;
+mod failure;
+mod line;
+mod object;
+mod output;
 mod parser;
 mod pattern;
 mod report;
+mod row;
 
-use crate::options::{Options, USAGE};
+use crate::command::{Arguments, Command, parse};
+use crate::failure::Failure;
+use crate::parser::Parser;
+use crate::pattern::PatternError;
 use anyhow::Result;
-use std::io::{BufReader, BufWriter};
+use std::fmt::Display;
+use std::io::{BufReader, BufWriter, Write};
 use std::process::ExitCode;
 use std::{env, io};
 
-/// The words on the command line ask for nothing that the program does.
+/// The input, the output or memory failed.
+const FAILED: u8 = 1;
+
+/// The arguments or the pattern are wrong.
 const MISUSED: u8 = 2;
 
-// An error is printed on standard error, and the status then is 1.
-fn main(rt: HostRuntime) -> Result<ExitCode> {
-    let alloc = rt.alloc();
-    let arguments: Vec<String> = env::args(&rt)?.skip(1).collect(alloc)?;
-    let words: Vec<&str> = arguments.iter().map(|word| word.as_str()).collect(alloc)?;
-    let Some(options) = Options::from_words(&words) else {
-        // The status tells of it where this is not written.
-        let _ = eprintln!(rt; "{USAGE}");
-        return Ok(ExitCode::from(MISUSED));
-    };
-    run(&rt, options)?;
-    Ok(ExitCode::SUCCESS)
+fn main(rt: HostRuntime) -> ExitCode {
+    match answer(&rt) {
+        Ok(code) => code,
+        Err(error) => ended(&rt, error, FAILED),
+    }
 }
 
-fn run(rt: &HostRuntime, options: Options) -> Result<()> {
-    let input = BufReader::new(rt.alloc(), rt.reader())?;
-    let mut out = BufWriter::new(rt.alloc(), io::writer(rt))?;
-    report::run(rt.alloc(), options, input, &mut out)
+fn answer(rt: &HostRuntime) -> Result<ExitCode> {
+    let alloc = rt.alloc();
+    let words: Vec<String> = env::args(rt)?.collect(alloc)?;
+    let words: Vec<&str> = words.iter().map(|word| word.as_str()).collect(alloc)?;
+    match parse(alloc, &words)? {
+        Command::Extract(arguments) => extract(rt, arguments),
+        Command::Say(error) => {
+            let code = if error.use_stderr() { MISUSED } else { 0 };
+            error.print(rt)?;
+            Ok(ExitCode::from(code))
+        }
+    }
+}
+
+fn extract(rt: &HostRuntime, arguments: Arguments<'_>) -> Result<ExitCode> {
+    let alloc = rt.alloc();
+    let mut parser = match Parser::new(alloc, arguments.pattern) {
+        Ok(parser) => parser,
+        Err(PatternError::Memory) => return Err(PatternError::Memory.into()),
+        Err(error) => return Ok(ended(rt, error, MISUSED)),
+    };
+    let mut input = BufReader::new(alloc, rt.reader())?;
+    let mut out = BufWriter::new(alloc, io::writer(rt))?;
+    report::run(alloc, &mut parser, arguments.output, &mut input, &mut out)?;
+    match out.flush() {
+        Ok(()) => Ok(ExitCode::SUCCESS),
+        Err(error) => Err(Failure::Write(error).into()),
+    }
+}
+
+/// Prints why the program ended. The status says so even if that cannot be written.
+fn ended<T: Display + Drop>(rt: &HostRuntime, why: T, status: u8) -> ExitCode {
+    let _ = eprintln!(rt; "log_extractor: {why}");
+    ExitCode::from(status)
 }

@@ -1,135 +1,139 @@
-//! A log line and its fields.
-ghost use Rattle.std.specs.Prelude.{◌≡◌, ◌∷◌, [], None, false, length, IfOk, IfSome, IfNone, slice_range};
+//! The fields of a line.
+ghost use Rattle.std.specs.Prelude.{◌≡◌, IfOk, map, option_map};
 ghost use Rattle.regex_search_core.specs.Search.{whole};
-ghost use Rattle.regex_search_core.specs.declared.search.MatchKind.TheVariants as match_kind;
-ghost use Rattle.nfa_engines.specs.Paths.{IsAnswer};
-ghost use Rattle.log_extractor.specs.Spans.{LieInOrder};
+ghost use Rattle.regex_search_core.specs.Slots.{group_span};
+ghost use Rattle.nfa_engines.specs.Spans.{SpansInside};
+ghost use Rattle.log_extractor.specs.Fields.{cut, texts};
 
-use crate::pattern::line_nfa;
-use anyhow::Result;
+use crate::pattern::{Column, PatternError, columns, compile};
+use nfa_compiler::laws;
 use nfa_engines::pikevm::{Cache, PikeVM};
-use regex_search_core::{Captures, Input, Span};
-use std::alloc::Global;
+use regex_search_core::{Captures, Input};
+use std::alloc::{AllocError, Global};
 use std::marker::Model;
 
-/// A line and where its fields lie in it, one behind the other.
-#[derive(Clone, Copy, Debug)]
-pub struct Fields<'l> {
-    pub line: &'l [u8],
-    pub date: Span,
-    pub time: Span,
-    pub level: Span,
-    pub message: Span,
-    pub ghost ordered: { LieInOrder 0 (date ∷ time ∷ level ∷ message ∷ []) (length line.now) },
-}
-
-impl<'l> Fields<'l> {
-    /// The text of the date.
-    pub fn date(&self) -> &'l [u8]
-        ensures { result.now ≡ slice_range self.now.line.now self.now.date.start self.now.date.end }
-    {
-        &self.line[self.date.start..self.date.end]
-    }
-
-    /// The text of the time.
-    pub fn time(&self) -> &'l [u8]
-        ensures { result.now ≡ slice_range self.now.line.now self.now.time.start self.now.time.end }
-    {
-        &self.line[self.time.start..self.time.end]
-    }
-
-    /// The text of the level.
-    pub fn level(&self) -> &'l [u8]
-        ensures { result.now ≡ slice_range self.now.line.now self.now.level.start self.now.level.end }
-    {
-        &self.line[self.level.start..self.level.end]
-    }
-
-    /// The text of the message, which may be of any bytes.
-    pub fn message(&self) -> &'l [u8]
-        ensures { result.now ≡ slice_range self.now.line.now self.now.message.start self.now.message.end }
-    {
-        &self.line[self.message.start..self.message.end]
-    }
-}
-
-/// What finds the fields of lines. It owns an engine, the cache for it, and the captures that a search fills.
+/// Finds the fields of lines. It owns an engine, the cache for it, and the captures that a search fills.
 ///
-/// A contract sees the NFA of a line, and what the last search found.
+/// A contract sees the text of the pattern.
 #[derive(Drop)]
-pub struct Parser {
+pub struct Parser<'p> {
+    alloc: Global,
+    pattern: &'p str,
+    columns: Vec<Column>,
     vm: PikeVM,
     cache: Cache,
     captures: Captures,
 }
 
-impl Model for Parser {
-    ghost use Rattle.std.specs.Prelude.{◌≡◌, None};
+impl<'p> Model for Parser<'p> {
+    ghost use Rattle.std.specs.Prelude.{◌≡◌, ◌∷◌, [], None, List, false, length, map, ℕ};
+    ghost use Rattle.regex_search_core.specs.Groups.{groups_at, slot_count};
     ghost use Rattle.nfa_engines.specs.Engines.{Fits};
-    ghost use Rattle.log_extractor.specs.Fields.{LineParser};
+    ghost use Rattle.nfa_engines.specs.Paths.{is_utf8_empty};
+    ghost use Rattle.nfa_compiler.specs.Compiled.{IsCompiled};
+    ghost use Rattle.log_extractor.specs.Fields.{group_of, line_syntax, named_groups};
 
-    ghost Value = { LineParser };
+    ghost Value = { List ℕ };
 
-    ghost view = { λ p. record { nfa = p.vm.nfa; found = p.captures } };
+    ghost view = { λ p. p.pattern.now };
 
-    ghost invariant = { λ p. Fits p.cache p.vm.nfa × (p.vm.match_kind ≡ None) × (p.captures.groups ≡ p.vm.nfa.groups) };
+    ghost invariant = { λ p. IsCompiled line_syntax (p.pattern.now ∷ []) p.vm.nfa × (is_utf8_empty p.vm.nfa ≡ false)
+        × (p.vm.nfa.anchored ≡ p.vm.nfa.unanchored) × (p.vm.match_kind ≡ None) × Fits p.cache p.vm.nfa
+        × (p.captures.groups ≡ p.vm.nfa.groups) × (length p.captures.slots ≡ slot_count p.vm.nfa.groups)
+        × (map group_of p.columns.items ≡ named_groups 1 (groups_at p.vm.nfa.groups 0)) };
 }
 
-impl Parser {
-    ghost use Rattle.nfa_compiler.specs.Compiled.{IsCompiled};
-    ghost use Rattle.log_extractor.specs.Fields.{AreFields, NoFields, line_syntax};
+impl<'p> Parser<'p> {
+    ghost use Rattle.std.specs.Prelude.{◌≢◌, [], IfErr, OnOk};
+    ghost use Rattle.log_extractor.specs.Fields.{IsMistakeIn, IsPatternOf, LinePattern, columns_of, group_of, row};
 
-    /// Makes a parser of lines of this pattern, whose groups name the fields ([`LINE`](crate::pattern::LINE)).
+    /// Makes a parser of lines of this pattern. Its columns are the named groups, in the order of their numbers.
     ///
-    /// Fails if the pattern cannot be compiled, or if allocation fails.
-    pub fn new(alloc: Global, pattern: &str) -> Result<Parser>
-        ensures compiled { IfOk result (λ parser. IsCompiled line_syntax (pattern.now ∷ []) parser.nfa) }
-        ensures anchored { IfOk result (λ parser. parser.nfa.anchored ≡ parser.nfa.unanchored) }
+    /// Fails if the text is not a pattern, if the pattern is too large or has no named group, or if allocation fails.
+    pub fn new(alloc: Global, pattern: &'p str) -> Result<Parser<'p>, PatternError>
+        ensures pattern { IfOk result (λ parser. parser ≡ pattern.now) }
+        ensures columns { OnOk result ((p : LinePattern) → IsPatternOf pattern.now p → columns_of p ≢ []) }
+        ensures mistake { IfErr result (IsMistakeIn pattern.now) }
     {
-        let nfa = line_nfa(alloc, pattern)?;
-        let vm = PikeVM::new_from_nfa(nfa)?;
-        let cache = vm.create_cache(alloc)?;
-        let captures = vm.create_captures(alloc)?;
+        laws::groups_are_those_of_texts();
+        let nfa = compile(alloc, pattern)?;
+        let columns = columns(alloc, pattern)?;
+        if columns.is_empty() {
+            return Err(PatternError::NoColumns);
+        }
+        let Ok(vm) = PikeVM::new_from_nfa(nfa) else {
+            return Err(PatternError::Memory);
+        };
+        let Ok(cache) = vm.create_cache(alloc) else {
+            return Err(PatternError::Memory);
+        };
+        let Ok(captures) = vm.create_captures(alloc) else {
+            return Err(PatternError::Memory);
+        };
         Ok(Parser {
+            alloc,
+            pattern,
+            columns,
             vm,
             cache,
             captures,
         })
     }
 
-    /// The fields of the line: where the four groups of the search lie, if each has a span and they lie in order.
-    pub fn parse_line<'l>(&mut self, line: &'l [u8]) -> Option<Fields<'l>>
-        ensures nfa { self.new.nfa ≡ self.old.nfa }
-        ensures groups { self.new.found.groups ≡ self.old.nfa.groups }
-        ensures answer { IsAnswer self.old.nfa match_kind.LeftmostFirst false (whole line.now) self.new.found.pattern
-            self.new.found.slots }
-        ensures line { IfSome result (λ fields. fields.line.now ≡ line.now) }
-        ensures fields { IfSome result (AreFields self.new.found) }
-        ensures none { IfNone result (NoFields self.new.found (length line.now)) }
+    /// Returns the columns.
+    pub fn columns(&self) -> &[Column]
+        ensures { (p : LinePattern) → IsPatternOf self.now p → map group_of result.now ≡ columns_of p }
     {
+        laws::groups_are_those_of_texts();
+        &self.columns
+    }
+
+    /// Returns the fields of the line, one for each column: the text that the match last wrote for the group. A field
+    /// is `None` if the match wrote nothing for its group. Returns `None` if the pattern does not match the line from
+    /// its start. The only error is that allocation failed.
+    pub fn parse_line<'l>(
+        &mut self,
+        line: &'l [u8],
+    ) -> Result<Option<Vec<Option<&'l [u8]>>>, AllocError>
+        ensures fields { IfOk result (λ found. (p : LinePattern) → IsPatternOf self.old p
+            → option_map (λ fields. texts fields.items) found ≡ row p line.now) }
+        ensures kept { self.new ≡ self.old }
+    {
+        laws::searches_find_texts();
+        laws::groups_are_those_of_texts();
         self.vm
             .search(&mut self.cache, &Input::new(line), &mut self.captures);
-        let date = self.captures.get_group_by_name("date")?;
-        let time = self.captures.get_group_by_name("time")?;
-        let level = self.captures.get_group_by_name("level")?;
-        let message = self.captures.get_group_by_name("message")?;
-        let ordered = date.start <= date.end
-            && date.end <= time.start
-            && time.start <= time.end
-            && time.end <= level.start
-            && level.start <= level.end
-            && level.end <= message.start
-            && message.start <= message.end
-            && message.end <= line.len();
-        if !ordered {
-            return None;
+        if !self.captures.is_match() {
+            return Ok(None);
         }
-        Some(Fields {
-            line,
-            date,
-            time,
-            level,
-            message,
-        })
+        let fields = cut_fields(self.alloc, line, &self.captures, &self.columns)?;
+        Ok(Some(fields))
     }
+}
+
+/// Returns what the captures give for each column.
+fn cut_fields<'l>(
+    alloc: Global,
+    line: &'l [u8],
+    captures: &Captures,
+    columns: &[Column],
+) -> Result<Vec<Option<&'l [u8]>>, AllocError>
+    requires { SpansInside (whole line.now) captures.now }
+    ensures { IfOk result (λ fields. texts fields.items
+        ≡ map (λ column. cut line.now (group_span captures.now column.group)) columns.now) }
+{
+    let mut fields = Vec::with_capacity(alloc, columns.len())?;
+    for column in columns {
+        fields.push(cut_field(line, captures, column.group))?;
+    }
+    Ok(fields)
+}
+
+/// Returns what the captures give for a group.
+fn cut_field<'l>(line: &'l [u8], captures: &Captures, group: usize) -> Option<&'l [u8]>
+    requires { SpansInside (whole line.now) captures.now }
+    ensures { option_map (λ field. field.now) result ≡ cut line.now (group_span captures.now group) }
+{
+    let span = captures.get_group(group)?;
+    Some(&line[span.start..span.end])
 }

@@ -1,23 +1,124 @@
-//! What a log line looks like: `2026-11-22 14:03:07 ERROR disk full`.
-ghost use Rattle.std.specs.Prelude.{◌≡◌, ◌∷◌, [], IfOk};
+//! The pattern of a line: its columns and its NFA.
+ghost use Rattle.std.specs.Prelude.{◌≡◌, ◌∷◌, ◌++◌, [], IfErr, IfOk, List, OnOk, Option, false, map, option_map, string_bytes, ℕ};
+ghost use Rattle.nfa_engines.specs.Paths.{is_utf8_empty};
 ghost use Rattle.nfa_compiler.specs.Compiled.{IsCompiled};
-ghost use Rattle.log_extractor.specs.Fields.{line_syntax};
+ghost use Rattle.nfa_compiler.specs.NameLaws.{IsNamed};
+ghost use Rattle.log_extractor.specs.Fields.{IsMistakeIn, columns_in, group_of, line_syntax, named_groups};
 
-use nfa_compiler::{CompileError, Compiler, Config};
-use std::alloc::Global;
-use thompson_nfa::NFA;
+use nfa_compiler::{CompileError, Compiler, Config, Syntax};
+use nfa_engines::error::SearchError;
+use nfa_engines::{BuildError, NFA};
+use std::alloc::{AllocError, AllocFailed, Global};
+use thiserror::Error;
 
-/// The pattern of a whole line, with its four fields as groups. A message may be empty, and of bytes that are not text.
+/// What a log line looks like, if no other pattern is given: `2026-11-22 14:03:07 ERROR disk full`. A message may be
+/// empty, and of bytes that are not text.
 pub const LINE: &str = concat!(
     "(?<date>[0-9]{4}-[0-9]{2}-[0-9]{2}) (?<time>[0-9]{2}:[0-9]{2}:[0-9]{2}) ",
     r"(?<level>[A-Z]+) (?<message>(?s-u:.)*)\z",
 );
 
-/// Compiles the pattern of a line, which is bound to the start of the line and matches bytes.
-pub fn line_nfa(alloc: Global, pattern: &str) -> Result<NFA, CompileError>
-    ensures compiled { IfOk result (IsCompiled line_syntax (pattern.now ∷ [])) }
+/// A column: a group of the pattern that has a name.
+#[derive(Debug, Drop)]
+pub struct Column {
+    pub group: usize,
+    pub name: String,
+}
+
+/// Why a text is not a pattern of lines.
+#[derive(Debug, Drop, Error)]
+pub enum PatternError {
+    /// Allocation failed.
+    #[error("out of memory")]
+    Memory,
+    /// The text is not a pattern, or the pattern is too large.
+    #[error("{0}")]
+    Compile(CompileError),
+    /// No group of the pattern has a name, so there are no columns.
+    #[error("the pattern has no named group, such as (?<level>[A-Z]+)")]
+    NoColumns,
+}
+
+impl From<AllocError> for PatternError {
+    ghost use Rattle.std.specs.Prelude.{◌≡◌};
+    ghost use Rattle.log_extractor.specs.declared.pattern.PatternError.TheVariants as error;
+
+    ghost from_gives = { λ _ made. made ≡ error.Memory };
+
+    fn from(_: AllocError) -> PatternError {
+        PatternError::Memory
+    }
+}
+
+impl<T: Drop> From<AllocFailed<T>> for PatternError {
+    ghost use Rattle.std.specs.Prelude.{◌≡◌};
+    ghost use Rattle.log_extractor.specs.declared.pattern.PatternError.TheVariants as error;
+
+    ghost from_gives = { λ _ made. made ≡ error.Memory };
+
+    fn from(_: AllocFailed<T>) -> PatternError {
+        PatternError::Memory
+    }
+}
+
+/// Compiles the text of a pattern. A match is bound to the start of the line, and may be of any bytes.
+pub fn compile(alloc: Global, text: &str) -> Result<NFA, PatternError>
+    ensures compiled { IfOk result (IsCompiled line_syntax (text.now ∷ [])) }
     ensures anchored { IfOk result (λ nfa. nfa.anchored ≡ nfa.unanchored) }
+    ensures anywhere { IfOk result (λ nfa. is_utf8_empty nfa ≡ false) }
+    ensures mistake { IfErr result (IsMistakeIn text.now) }
 {
     let config = Config::new().utf8(false).anchored(true);
-    Compiler::new().configure(config).build(alloc, pattern)
+    match Compiler::new().configure(config).build(alloc, text) {
+        Ok(nfa) => Ok(nfa),
+        Err(CompileError::Memory) => Err(PatternError::Memory),
+        Err(error) => Err(PatternError::Compile(error)),
+    }
+}
+
+/// Reads the columns of a pattern. The text is read once more for that, as an NFA does not give the names of groups.
+pub fn columns(alloc: Global, text: &str) -> Result<Vec<Column>, PatternError>
+    ensures read { IfOk result (λ columns. (names : List (Option (List ℕ))) → IsNamed line_syntax text.now names
+        → map group_of columns.items ≡ columns_in names) }
+    ensures mistake { IfErr result (IsMistakeIn text.now) }
+{
+    let syntax = Syntax {
+        utf8: false,
+        ..Syntax::default()
+    };
+    match regex_syntax::parse(alloc, text, &syntax) {
+        Ok(tree) => Ok(named_columns(alloc, &tree.names)?),
+        // The text was compiled before, so it is a pattern.
+        Err(_) => Err(PatternError::Memory),
+    }
+}
+
+/// Returns the groups that have a name.
+fn named_columns(alloc: Global, names: &[Option<String>]) -> Result<Vec<Column>, AllocError>
+    ensures { IfOk result (λ columns. map group_of columns.items
+        ≡ named_groups 0 (map (option_map string_bytes) names.now)) }
+{
+    let mut columns = Vec::new(alloc);
+    for (group, name) in names.iter().enumerate() {
+        push_named(group, name, &mut columns)?;
+    }
+    Ok(columns)
+}
+
+/// Adds the group to the columns, if it has a name.
+fn push_named(
+    group: usize,
+    name: &Option<String>,
+    columns: &mut Vec<Column>,
+) -> Result<(), AllocError>
+    ensures { OnOk result (map group_of columns.new.items
+        ≡ map group_of columns.old.items ++ named_groups group (option_map string_bytes name.now ∷ [])) }
+{
+    if let Some(name) = name {
+        columns.push(Column {
+            group,
+            name: name.clone()?,
+        })?;
+    }
+    Ok(())
 }

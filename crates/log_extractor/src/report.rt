@@ -1,119 +1,169 @@
-//! The table of all lines, and what stands below it.
+//! What is printed of an input, line by line.
+ghost use Rattle.std.specs.Prelude.{◌≡◌, ◌++◌, OnOk, map, option_map};
+ghost use Rattle.std.specs.Io.KnownBytes.{Appends};
+ghost use Rattle.log_extractor.specs.Fields.{IsPatternOf, LinePattern, columns_of, group_of, texts};
+ghost use Rattle.log_extractor.specs.Going.{Writes};
+ghost use Rattle.log_extractor.specs.Printed.{PartsAreJoined, head, printed, printed_lines};
+ghost use Rattle.log_extractor.specs.Printed.{shown, shown_as, shown_fields, shown_reject};
+ghost use Rattle.log_extractor.specs.declared.output.Output.TheVariants as output;
 
-use crate::options::Options;
-use crate::parser::{Fields, Parser};
-use crate::pattern::LINE;
-use anyhow::Result;
+use crate::failure::Failure;
+use crate::line::{append_whole, content};
+use crate::object::append_object;
+use crate::output::Output;
+use crate::parser::Parser;
+use crate::pattern::Column;
+use crate::row::{append_names, append_row};
 use std::alloc::{AllocError, Global};
-use std::collections::BTreeMap;
-use std::io;
 use std::io::{BufRead, Write};
 
-/// Prints a row for each line of the input that matches, then the counts. The error is that the input was not read, the
-/// output not written, or memory refused; nothing more is written then.
-pub fn run<R: BufRead + Drop, W: Write>(
+/// Prints what is to be printed of an input.
+///
+/// What is printed is said of a reader and a writer of known bytes: the text is all that the reader had left. After an
+/// error, what was printed is a beginning of it.
+pub fn run<R: BufRead, W: Write>(
     alloc: Global,
-    options: Options,
-    input: R,
+    parser: &mut Parser<'_>,
+    output: Output,
+    input: &mut R,
     out: &mut W,
-) -> Result<()> {
-    let mut parser = Parser::new(alloc, LINE)?;
-    let mut report = Report::new(alloc, options);
-    report.write_table(&mut parser, input, out)
+) -> Result<(), Failure>
+    ensures printed { OnOk result (Writes (printed output) parser.old (R.remaining input.old) (W.contents out.old)
+        (W.contents out.new)) }
+    ensures kept { parser.new ≡ parser.old }
+{
+    print_head(alloc, parser, output, out)?;
+    print_lines(alloc, parser, output, input, out)?;
+    Ok(())
 }
 
-/// The line without the carriage return that stands before a line's end in some files.
-fn without_return(line: &[u8]) -> &[u8] {
-    line.strip_suffix(b"\r").unwrap_or(line)
-}
+/// The rows of a text, its objects and its rejects are those of its parts, if it is cut after line feeds. So the parts
+/// of a log can be printed side by side, each by a process of its own.
+pub fn parts_are_joined()
+    ensures rows { PartsAreJoined output.Rows }
+    ensures objects { PartsAreJoined output.Objects }
+    ensures rejects { PartsAreJoined output.Rejects }
+{}
 
-/// What was seen so far.
-#[derive(Drop)]
-struct Report {
+/// Prints what comes before the lines.
+fn print_head<W: Write>(
     alloc: Global,
-    options: Options,
-    /// How many lines each level has, by its name.
-    levels: BTreeMap<Vec<u8>, u64>,
-    matching: u64,
-    rejected: u64,
-}
-
-impl Report {
-    fn new(alloc: Global, options: Options) -> Report {
-        Report {
-            alloc,
-            options,
-            levels: BTreeMap::new(alloc),
-            matching: 0,
-            rejected: 0,
-        }
-    }
-
-    fn write_table<R: BufRead + Drop, W: Write>(
-        &mut self,
-        parser: &mut Parser,
-        input: R,
-        out: &mut W,
-    ) -> Result<()> {
-        out.write_all(b"DATE        TIME      LEVEL  MESSAGE\n")?;
-        for line in input.split(self.alloc, b'\n') {
-            self.add(parser, without_return(&line?), out)?;
-        }
-        self.write_counts(out)?;
-        out.flush()?;
-        Ok(())
-    }
-
-    /// Counts the line, and prints its row; or, where rejects are asked for, that it does not match.
-    fn add<W: Write>(&mut self, parser: &mut Parser, line: &[u8], out: &mut W) -> Result<()> {
-        if let Some(fields) = parser.parse_line(line) {
-            self.matching = self.matching.saturating_add(1);
-            self.count_level(fields.level())?;
-            write_row(out, &fields)?;
-        } else {
-            self.rejected = self.rejected.saturating_add(1);
-            if self.options.rejects {
-                let number = self.matching.saturating_add(self.rejected);
-                write!(out, "line {number} does not match: ")?;
-                out.write_all(line)?;
-                out.write_all(b"\n")?;
-            }
-        }
-        Ok(())
-    }
-
-    fn count_level(&mut self, level: &[u8]) -> Result<(), AllocError> {
-        if let Some(count) = self.levels.get_mut(level) {
-            *count = count.saturating_add(1);
-            return Ok(());
-        }
-        self.levels.insert(Vec::from_slice(self.alloc, level)?, 1)?;
-        Ok(())
-    }
-
-    /// One line: each level with its count, in the order of the bytes of their names, then the lines that do not match.
-    fn write_counts<W: Write>(&self, out: &mut W) -> io::Result<()> {
-        for (level, count) in self.levels.iter() {
-            out.write_all(level)?;
-            write!(out, " {count}, ")?;
-        }
-        let rejected = self.rejected;
-        writeln!(out, "not matching {rejected}")
+    parser: &Parser<'_>,
+    output: Output,
+    out: &mut W,
+) -> Result<(), Failure>
+    ensures { OnOk result ((p : LinePattern) → IsPatternOf parser.now p
+        → Appends (W.contents out.old) (W.contents out.new) (head output (columns_of p))) }
+{
+    let mut shown = Vec::new(alloc);
+    append_head(output, parser.columns(), &mut shown)?;
+    match out.write_all(&shown) {
+        Ok(()) => Ok(()),
+        Err(error) => Err(Failure::Write(error)),
     }
 }
 
-/// The four columns of a line. A level has room for five letters; a longer one shifts its message.
-fn write_row<W: Write>(out: &mut W, fields: &Fields<'_>) -> io::Result<()> {
-    let level = fields.level();
-    out.write_all(fields.date())?;
-    out.write_all(b"  ")?;
-    out.write_all(fields.time())?;
-    out.write_all(b"  ")?;
-    out.write_all(level)?;
-    for _ in level.len()..5 {
-        out.write_all(b" ")?;
+/// Appends what comes before the lines.
+fn append_head(output: Output, columns: &[Column], out: &mut Vec<u8>) -> Result<(), AllocError>
+    ensures { OnOk result (out.new.items ≡ out.old.items ++ head output (map group_of columns.now)) }
+{
+    match output {
+        Output::Table => append_names(columns, out),
+        Output::Rows | Output::Objects | Output::Rejects => Ok(()),
     }
-    out.write_all(b"  ")?;
-    out.write_all(fields.message())?;
-    out.write_all(b"\n")
+}
+
+/// Prints what is to be printed of the lines of an input.
+///
+/// The input is read a line at a time, so the memory is bounded by the longest line and what is printed of it.
+fn print_lines<R: BufRead, W: Write>(
+    alloc: Global,
+    parser: &mut Parser<'_>,
+    output: Output,
+    input: &mut R,
+    out: &mut W,
+) -> Result<(), Failure>
+    ensures printed { OnOk result (Writes (printed_lines output) parser.old (R.remaining input.old) (W.contents out.old)
+        (W.contents out.new)) }
+    ensures kept { parser.new ≡ parser.old }
+{
+    let mut line = Vec::new(alloc);
+    let mut shown = Vec::new(alloc);
+    for _ in 0..u64::MAX {
+        line.clear();
+        shown.clear();
+        match input.read_until(b'\n', &mut line) {
+            Ok(0) => return Ok(()),
+            Ok(_) => {}
+            Err(error) => return Err(Failure::Read(error)),
+        }
+        append_line(alloc, parser, output, &line, &mut shown)?;
+        if let Err(error) = out.write_all(&shown) {
+            return Err(Failure::Write(error));
+        }
+    }
+    Err(Failure::TooLong)
+}
+
+/// Appends what is printed of the line, which may have its end.
+fn append_line(
+    alloc: Global,
+    parser: &mut Parser<'_>,
+    output: Output,
+    line: &[u8],
+    out: &mut Vec<u8>,
+) -> Result<(), AllocError>
+    ensures shown { OnOk result ((p : LinePattern) → IsPatternOf parser.old p
+        → out.new.items ≡ out.old.items ++ shown output p line.now) }
+    ensures kept { parser.new ≡ parser.old }
+{
+    let row = parser.parse_line(content(line))?;
+    append_shown(alloc, output, parser.columns(), line, &row, out)?;
+    Ok(())
+}
+
+/// Appends what is printed of a line that has this row.
+fn append_shown(
+    alloc: Global,
+    output: Output,
+    columns: &[Column],
+    line: &[u8],
+    row: &Option<Vec<Option<&[u8]>>>,
+    out: &mut Vec<u8>,
+) -> Result<(), AllocError>
+    ensures { OnOk result (out.new.items ≡ out.old.items ++ shown_as output (map group_of columns.now) line.now
+        (option_map (λ fields. texts fields.items) row.now)) }
+{
+    match row {
+        Some(fields) => append_fields(alloc, output, columns, fields, out),
+        None => append_reject(output, line, out),
+    }
+}
+
+/// Appends what is printed of a line that has these fields.
+fn append_fields(
+    alloc: Global,
+    output: Output,
+    columns: &[Column],
+    fields: &[Option<&[u8]>],
+    out: &mut Vec<u8>,
+) -> Result<(), AllocError>
+    ensures { OnOk result (out.new.items
+        ≡ out.old.items ++ shown_fields output (map group_of columns.now) (texts fields.now)) }
+{
+    match output {
+        Output::Table | Output::Rows => append_row(fields, out),
+        Output::Objects => append_object(alloc, columns, fields, out),
+        Output::Rejects => Ok(()),
+    }
+}
+
+/// Appends what is printed of a line that has no fields.
+fn append_reject(output: Output, line: &[u8], out: &mut Vec<u8>) -> Result<(), AllocError>
+    ensures { OnOk result (out.new.items ≡ out.old.items ++ shown_reject output line.now) }
+{
+    match output {
+        Output::Rejects => append_whole(line, out),
+        Output::Table | Output::Rows | Output::Objects => Ok(()),
+    }
 }

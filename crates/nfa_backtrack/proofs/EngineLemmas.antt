@@ -1,7 +1,7 @@
 -- From what a search comes to, to what its callers are told.
 use Rattle.std.proofs.Common.{◌≡◌, ℕ, [], ◌∷◌, arith, length, refl, ap, ◌∙◌}
 use Rattle.std.specs.Prelude.{Option, Some, None, Result, Ok, Err, false, option_map, ◌<◌, replicate, All, IfOk, IfSome}
-use Rattle.std.specs.Prelude.{IfNone}
+use Rattle.std.specs.Prelude.{◌≤◌, IfNone}
 use Rattle.std.specs.List.{refill}
 use Rattle.regex_search_core.specs.Found.{half_found_of, found_of}
 use Rattle.regex_search_core.specs.Patterns.{number_of}
@@ -12,12 +12,13 @@ use Rattle.regex_search_core.specs.declared.search.HalfMatch.{HalfMatch}
 use Rattle.regex_search_core.specs.declared.search.Match.{Match}
 use Rattle.regex_search_core.specs.declared.search.MatchKind.TheVariants.{LeftmostFirst}
 use Rattle.thompson_nfa.specs.Automaton.{Automaton, IsAutomaton}
-use Rattle.nfa_paths.specs.Paths.{IsAnswer, IsMatchAnswer}
+use Rattle.nfa_paths.specs.Paths.{IsAnswer, IsHalfAnswer, IsMatchAnswer}
 use Rattle.nfa_paths.specs.Exploring.{Slots}
 use Rattle.nfa_paths.specs.Restarts.{SearchGives}
-use Rattle.nfa_paths.proofs.InsideLemmas.{match-within, match-pattern, slots-within}
+use Rattle.nfa_paths.proofs.InsideLemmas.{half-within, match-within, match-pattern, slots-within}
 use Rattle.nfa_paths.proofs.PatternLemmas.{slots-unset}
-use Rattle.nfa_paths.proofs.RestartLemmas.{pattern-among}
+use Rattle.nfa_paths.proofs.RestartLemmas.{half-of, pattern-among}
+use Rattle.nfa_search_base.specs.declared.error.SearchError.{SearchError}
 use Rattle.nfa_search_base.specs.Lists.{IsInside, IsSlotInside}
 
 -- the pattern that a search answers is one of the NFA's
@@ -44,6 +45,14 @@ unmatched-slots nfa x None slots written n size whole a =
     (whole ∙ size)
 unmatched-slots nfa x (Some p) slots written n size whole a = tt
 
+-- the pattern and the end that a search answers
+pub half-of-search : (nfa : Automaton) (x : Search) (slots : Slots) (scans turns : ℕ)
+    → (r : Result (Option HalfMatch) SearchError)
+    → IfOk r (λ half. SearchGives nfa LeftmostFirst false x half slots scans turns)
+    → IfOk r (λ half. IsHalfAnswer nfa LeftmostFirst false x (option_map half_found_of half))
+half-of-search nfa x slots scans turns (Err e) s = tt
+half-of-search nfa x slots scans turns (Ok half) s = half-of nfa LeftmostFirst false x half s
+
 -- what callers learn of the numbers in a match
 module _ (nfa : Automaton) (x : Search) where
   -- after no match no slot is set
@@ -63,6 +72,14 @@ module _ (nfa : Automaton) (x : Search) where
   inside-of None h = tt
   inside-of (Some m) h =
       let k = match-within nfa LeftmostFirst false x (found_of m) h in record { from = k.0; ordered = k.1; to = k.2 }
+
+  pub half-inside : (r : Result (Option HalfMatch) SearchError)
+      → IfOk r (λ half. IsHalfAnswer nfa LeftmostFirst false x (option_map half_found_of half))
+      → IfOk r (λ half. IfSome half
+      (λ m. (x.start ≤ (half_found_of m).offset) × ((half_found_of m).offset ≤ x.end)))
+  half-inside (Err e) h = tt
+  half-inside (Ok None) h = tt
+  half-inside (Ok (Some m)) h = half-within nfa LeftmostFirst false x (half_found_of m) h
 
   pub pattern-of : IsAutomaton nfa → (r : Option Match)
       → IsMatchAnswer nfa LeftmostFirst false x (option_map found_of r)

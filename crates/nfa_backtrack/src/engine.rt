@@ -1,7 +1,7 @@
 //! The backtracker: its makers, what it shows, and its searches.
 ghost use Rattle.std.specs.Prelude.{◌≡◌, ◌↔◌, ◌⊎◌, ◌+◌, ◌*◌, ◌/◌, ◌<◌, ◌≤◌, ◌^◌, None, Ok, length, max, vec_len, replicate};
 ghost use Rattle.std.specs.Prelude.{option_map, All, IfOk, OnOk, IfErr, OnErr, IsErrOf, IsOkUnless, IsTrue, false};
-ghost use Rattle.std.specs.Prelude.{IfNone, IfSome};
+ghost use Rattle.std.specs.Prelude.{IfNone, IfSome, IsOk, vec_capacity};
 ghost use Rattle.regex_search_core.specs.Search.{search_of};
 ghost use Rattle.regex_search_core.specs.Groups.{slot_count};
 ghost use Rattle.regex_search_core.specs.Patterns.{number_of};
@@ -19,7 +19,6 @@ ghost use Rattle.nfa_search_base.specs.Lists.{IsInside, IsSlotInside};
 
 use crate::cache::Cache;
 use crate::config::{Builder, Config};
-use nfa_backtrack_scan::scan::unset;
 use nfa_backtrack_scan::scratch::Scratch;
 use nfa_scanning::first_bytes::FirstBytes;
 use nfa_search_base::error::SearchError;
@@ -67,8 +66,9 @@ fn rounded_bits(bytes: usize) -> usize
     bytes.saturating_mul(8).div_ceil(64).saturating_mul(64)
 }
 
-/// Makes room for so many slots, and for no more.
+/// Makes room for so many slots, and for no more. It fails only if it has to grow.
 fn grow(slots: &mut Vec<Option<NonMaxUsize>>, len: usize) -> Result<(), Refused>
+    ensures granted { len ≤ vec_capacity slots.old → IsOk result }
     ensures room { OnOk result (len ≤ vec_len slots.new) }
     ensures kept { vec_len slots.old ≤ vec_len slots.new }
     ensures needed { vec_len slots.new ≤ max (vec_len slots.old) len }
@@ -260,28 +260,7 @@ impl BoundedBacktracker {
         ensures holds { HoldsNoMore 0 cache.old cache.new }
         ensures early { IsTooLong self.now (search_of input.now) → cache.new ≡ refused_early cache.old }
     {
-        let Cache {
-            scratch,
-            answered,
-            refused,
-            past_scans,
-            past_turns,
-            ..
-        } = cache;
-        past_scans.take(&mut scratch.scans);
-        scratch.visited.restart_turns(past_turns);
-        if self.is_too_long(input) {
-            unset(slots);
-            refused.tick();
-            return Err(SearchError::HaystackTooLong {
-                len: input.get_span().len(),
-            });
-        }
-        let Ok(half) = self.search(input, scratch, slots) else {
-            refused.tick();
-            return Err(SearchError::Memory);
-        };
-        answered.tick();
+        let half = self.search_counted(cache, input, slots)?;
         Ok(pattern_of(half))
     }
 

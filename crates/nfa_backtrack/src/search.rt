@@ -1,19 +1,22 @@
 //! A search: a scan and, while its answer ends inside a character, further scans.
 ghost use Rattle.std.specs.Prelude.{◌≡◌, ◌+◌, ◌-◌, ◌*◌, ◌/◌, ◌^◌, ◌<◌, ◌≤◌, [], None, Some, false, length};
 ghost use Rattle.std.specs.Prelude.{replicate};
-ghost use Rattle.std.specs.Prelude.{IfOk, IfSome, OnErr};
+ghost use Rattle.std.specs.Prelude.{◌↔◌, ◌⊎◌, IfErr, IfOk, IfSome, IsErrOf, OnErr, OnOk};
 ghost use Rattle.regex_search_core.specs.Found.{half_found_of};
 ghost use Rattle.regex_search_core.specs.Search.{search_of};
 ghost use Rattle.regex_search_core.specs.declared.search.MatchKind.TheVariants.{LeftmostFirst};
-ghost use Rattle.nfa_paths.specs.Paths.{span_len, starts, scan_limit, IsWithinScans};
+ghost use Rattle.nfa_paths.specs.Paths.{span_len, starts, scan_limit, IsWork, IsWithinScans};
 ghost use Rattle.nfa_paths.specs.Restarts.{scan_turns, ScanGives, SearchGives};
-ghost use Rattle.nfa_backtrack.specs.Backtrack.{GrowsBlocks};
+ghost use Rattle.nfa_backtrack.specs.Backtrack.{AddsWork, CountsAnswer, CountsRefusal, GrowsBlocks, HoldsNoMore};
+ghost use Rattle.nfa_backtrack.specs.Backtrack.{IsTooLong, refused_early};
 ghost use Rattle.nfa_backtrack_scan.specs.Walk.{HasBits};
 
+use crate::cache::Cache;
 use crate::engine::BoundedBacktracker;
 use nfa_backtrack_scan::scan::{scan, unset};
 use nfa_backtrack_scan::scratch::Scratch;
 use nfa_scanning::starts::may_end_at;
+use nfa_search_base::error::SearchError;
 use regex_search_core::{HalfMatch, Input, NonMaxUsize, Refused};
 
 impl BoundedBacktracker {
@@ -106,5 +109,60 @@ impl BoundedBacktracker {
             return Err(refused);
         }
         self.search_from(input, scratch, slots)
+    }
+
+    /// The answer of a search, or why it is refused. The cache counts it, and what was done for it.
+    #[inline(always)]
+    pub(super) fn search_counted(
+        &self,
+        cache: &mut Cache,
+        input: &Input<'_>,
+        slots: &mut [Option<NonMaxUsize>],
+    ) -> Result<Option<HalfMatch>, SearchError>
+        ensures answer { IfOk result (λ half. SearchGives self.now.nfa LeftmostFirst false (search_of input.now) half
+            slots.new cache.new.scans cache.new.turns) }
+        ensures pattern { IfOk result (λ half. IfSome half (λ h.
+            (half_found_of h).pattern < length self.now.nfa.patterns)) }
+        ensures cleared { OnErr result (slots.new ≡ replicate (length slots.old) None) }
+        ensures too_long { IsErrOf result (SearchError.HaystackTooLong (span_len (search_of input.now)))
+            ↔ IsTooLong self.now (search_of input.now) }
+        ensures errors { IfErr result (λ e. (e ≡ SearchError.Memory)
+            ⊎ (e ≡ SearchError.HaystackTooLong (span_len (search_of input.now)))) }
+        ensures work { OnOk result (IsWork self.now.nfa LeftmostFirst false (search_of input.now) cache.new.scans
+            cache.new.turns) }
+        ensures within { OnErr result (IsWithinScans self.now.nfa LeftmostFirst false (search_of input.now)
+            cache.new.scans) }
+        ensures scans { cache.new.scans ≤ scan_limit self.now.nfa (search_of input.now) }
+        ensures turns { cache.new.turns ≤ cache.new.scans * scan_turns self.now.nfa (search_of input.now) }
+        ensures answered { OnOk result (CountsAnswer cache.old cache.new) }
+        ensures refused { OnErr result (CountsRefusal cache.old cache.new) }
+        ensures total { AddsWork cache.old cache.new }
+        ensures blocks { GrowsBlocks self.now.nfa (search_of input.now) cache.old.blocks cache.new.blocks }
+        ensures holds { HoldsNoMore 0 cache.old cache.new }
+        ensures early { IsTooLong self.now (search_of input.now) → cache.new ≡ refused_early cache.old }
+    {
+        let Cache {
+            scratch,
+            answered,
+            refused,
+            past_scans,
+            past_turns,
+            ..
+        } = cache;
+        past_scans.take(&mut scratch.scans);
+        scratch.visited.restart_turns(past_turns);
+        if self.is_too_long(input) {
+            unset(slots);
+            refused.tick();
+            return Err(SearchError::HaystackTooLong {
+                len: input.get_span().len(),
+            });
+        }
+        let Ok(half) = self.search(input, scratch, slots) else {
+            refused.tick();
+            return Err(SearchError::Memory);
+        };
+        answered.tick();
+        Ok(half)
     }
 }

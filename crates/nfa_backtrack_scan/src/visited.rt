@@ -1,6 +1,6 @@
 //! The marks of a search, one bit for each pair of a state and a position.
 ghost use Rattle.std.specs.Prelude.{◌≡◌, ℕ, ◌+◌, ◌/◌, ◌<◌, ◌≤◌, max, [], true, false, length, replicate, slice_index};
-ghost use Rattle.std.specs.Prelude.{slice_index_or, slice_set, IfOk, OnOk};
+ghost use Rattle.std.specs.Prelude.{slice_index_or, slice_set, IfOk, IsOk, OnOk};
 
 use nfa_scanning::counter::Counter;
 use regex_search_core::Refused;
@@ -79,8 +79,9 @@ impl Visited {
         total.take(&mut self.turns);
     }
 
-    /// Makes room for so many marks.
+    /// Makes room for so many marks. It fails only if it has to grow.
     pub fn reserve(&mut self, bits: usize) -> Result<(), Refused>
+        ensures granted { bits ≤ length self.old.bits → IsOk result }
         ensures turns { self.new.turns ≡ self.old.turns }
         ensures room { OnOk result (bits ≤ length self.new.bits) }
         ensures kept { length self.old.bits / 64 ≤ length self.new.bits / 64 }

@@ -1,19 +1,21 @@
 -- Where each way writes its bounds, a match is that of the path which its search answers.
 use Rattle.std.proofs.Common.{◌≡◌, ℕ, ◌<◌, ◌≤◌, List, [], ◌∷◌, refl, sym, ap, ◌∙◌, subst, arith}
-use Rattle.std.specs.Prelude.{Option, Some, None, IfSome, true, false, Bool, MatchBool, option_and_then}
-use Rattle.regex_search_core.specs.Found.{Found}
+use Rattle.std.specs.Prelude.{Option, Some, None, IfSome, true, false, Bool, MatchBool, option_and_then, option_map}
+use Rattle.regex_search_core.specs.Found.{Found, HalfFound}
 use Rattle.regex_search_core.specs.Groups.{slot_count}
 use Rattle.regex_search_core.specs.Search.{Search, is_anchored}
 use Rattle.regex_search_core.specs.Slots.{match_of}
 use Rattle.regex_search_core.specs.declared.search.MatchKind.{MatchKind}
 use Rattle.thompson_nfa.specs.Automaton.{Automaton, IsAutomaton}
 use Rattle.nfa_paths.specs.Graphs.{Pair, HeadIs, EndsWith}
-use Rattle.nfa_paths.specs.Paths.{raised, is_utf8_empty, path_pattern, slot_row}
+use Rattle.nfa_paths.specs.Paths.{raised, is_utf8_empty, node_at, path_half, path_pattern, pattern_of, slot_row}
 use Rattle.nfa_paths.specs.Paths.{IsScanAnswer, IsKeptAnswer, IsRestartedAnswer, IsSearchAnswer, IsMatchAnswer}
+use Rattle.nfa_paths.specs.Paths.{IsHalfAnswer}
 use Rattle.nfa_paths.proofs.StartLemmas.{raised-zero}
 use Rattle.nfa_paths.proofs.AnswerLemmas.{scan_answer-leads, search_answer-unique, never_none}
 use Rattle.nfa_paths.proofs.ExistenceLemmas.{scan_answer-none}
 use Rattle.nfa_paths.proofs.PathToLemmas.{EndsWith-last}
+use Rattle.nfa_engines.specs.Agreement.{end_of}
 use Rattle.nfa_engines.proofs.GapLemmas.{path-match}
 use Rattle.nfa_bounds.specs.Matches.{AnswersBytes, AnswersNoBytes, AreOneMatch, HasNoByteAt, MatchesNothing}
 use Rattle.nfa_bounds.specs.Matches.{PathsReadBytes}
@@ -102,6 +104,23 @@ module _ (nfa : Automaton) (kind : MatchKind) (earliest : Bool) (x : Search) whe
         (λ p e. search-scan restarts p (subst (IsSearchAnswer nfa kind earliest x restarts) e h))
         (subst (λ o. found ≡ match_of (option_and_then (path_pattern nfa) o) (slot_row nfa (slot_count nfa.groups) o))
         one.1 answer.found_is)
+
+    -- the end of the path that a search answers is that of its match
+    pub half-is-end : (half : Option HalfFound) (found : Option Found) → IsHalfAnswer nfa kind earliest x half
+        → IsMatchAnswer nfa kind earliest x found
+        → half ≡ option_map end_of found
+    half-is-end half found h answer =
+        h.found_is ∙ of h.path found (match-of-path h.restarts h.path found h.answers answer)
+      where
+        of : (path : Option (List Pair)) (found : Option Found) → AreOneMatch nfa (raised x h.restarts) path found
+            → option_and_then (path_half nfa) path ≡ option_map end_of found
+        of None None one = refl
+        of None (Some m) one = absurd one
+        of (Some p) None one = absurd one
+        of (Some p) (Some m) one =
+            let last = EndsWith-last None one.end p one.path.ends in
+            let pattern : pattern_of (node_at nfa one.end.0) ≡ Some m.pattern = rw last at one.pattern_is in
+            rw (last, pattern, one.end_is) refl
 
     module _ (bound : is_anchored x.anchored ≡ true) where
       -- an anchored search has one scan

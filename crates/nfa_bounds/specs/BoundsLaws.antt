@@ -1,11 +1,12 @@
 -- What follows where each way of an NFA writes its bounds.
-use Rattle.std.specs.Prelude.{◌≡◌, ◌↔◌, ℕ, ◌<◌, Bool, List, false, true, Option, None, Some, IfSome}
-use Rattle.regex_search_core.specs.Found.{Found}
+use Rattle.std.specs.Prelude.{◌≡◌, ◌↔◌, ℕ, ◌<◌, Bool, List, false, true, Option, None, Some, IfSome, option_map}
+use Rattle.regex_search_core.specs.Found.{Found, HalfFound}
 use Rattle.regex_search_core.specs.Search.{Search, is_anchored}
 use Rattle.regex_search_core.specs.declared.search.MatchKind.{MatchKind}
 use Rattle.thompson_nfa.specs.Automaton.{Automaton, IsAutomaton}
 use Rattle.nfa_paths.specs.Graphs.{Pair, NoPath}
-use Rattle.nfa_paths.specs.Paths.{edges, starts, raised, is_utf8_empty, IsMatch, IsSearchAnswer, IsMatchAnswer}
+use Rattle.nfa_paths.specs.Paths.{edges, starts, raised, is_utf8_empty, IsMatch, IsHalfAnswer, IsSearchAnswer, IsMatchAnswer}
+use Rattle.nfa_engines.specs.Agreement.{end_of}
 use Rattle.nfa_engines.specs.GapLaws.{PathsWriteTheirEnds, StartsBeforePaths}
 use Rattle.nfa_bounds.specs.Matches.{AnswersBytes, AnswersNoBytes, AreOneMatch, HasNoByteAt, MatchesNothing}
 use Rattle.nfa_bounds.specs.Ways.{RecordsBounds}
@@ -52,6 +53,15 @@ MatchesAreOfPaths =
     → RecordsBounds nfa
     → IsSearchAnswer nfa kind earliest x restarts path
     → IsMatchAnswer nfa kind earliest x found → AreOneMatch nfa (raised x restarts) path found
+
+-- the half match of a search of any kind is the end of its match
+abbrev pub HalfMatchesAreEnds : Type 0
+HalfMatchesAreEnds =
+    (nfa : Automaton) (kind : MatchKind) (earliest : Bool) (x : Search) (half : Option HalfFound) (found : Option Found)
+    → IsAutomaton nfa
+    → RecordsBounds nfa
+    → IsHalfAnswer nfa kind earliest x half
+    → IsMatchAnswer nfa kind earliest x found → half ≡ option_map end_of found
 
 -- an anchored search answers a path with a byte where its match has one
 abbrev pub BytesAreAnswered : Type 0

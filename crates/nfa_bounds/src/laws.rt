@@ -15,8 +15,8 @@ ghost use Rattle.regex_search_core.specs.declared.search.MatchKind.TheVariants.{
 ghost use Rattle.std.specs.Prelude.{false};
 ghost use Rattle.thompson_nfa.specs.Automaton.{IsAutomaton};
 ghost use Rattle.nfa_bounds.specs.BoundsLaws.{AnchoredStartsTheSpan, BytesAreAnswered, EverySearchIsRecorded};
-ghost use Rattle.nfa_bounds.specs.BoundsLaws.{MatchesAreOfPaths, NoBytesAreAnswered, NoneIsNothing};
-ghost use Rattle.nfa_bounds.specs.BoundsLaws.{NoneIsNoPathThere, NoneStartsBeforeThere};
+ghost use Rattle.nfa_bounds.specs.BoundsLaws.{HalfMatchesAreEnds, MatchesAreOfPaths, NoBytesAreAnswered};
+ghost use Rattle.nfa_bounds.specs.BoundsLaws.{NoneIsNoPathThere, NoneIsNothing, NoneStartsBeforeThere};
 
 use nfa_engines::pikevm::PikeVM;
 
@@ -52,6 +52,12 @@ pub fn anchored_matches_start_the_span()
 /// to end on a boundary.
 pub fn matches_are_of_paths()
     ensures { MatchesAreOfPaths }
+{}
+
+/// The half match that `find_half` gives is the pattern and the end of the match that `find` gives, of each match kind,
+/// `earliest` or not, also if a match has to end on a boundary.
+pub fn half_matches_are_ends()
+    ensures { HalfMatchesAreEnds }
 {}
 
 /// An anchored search tells whether the path that it answers reads a byte: exactly where its match has one. Where it

@@ -1,1 +1,2 @@
+pub mod CaughtLemmas
 pub mod FindLemmas

@@ -1,2 +1,3 @@
+pub mod CapturesMatches
 pub mod Choosing
 pub mod Matches

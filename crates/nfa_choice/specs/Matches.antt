@@ -1,10 +1,12 @@
 -- The iterator over the matches of a choice.
-use Rattle.std.specs.Prelude.{◌≡◌, ◌*◌, length, Ok, Option, option_map, ⊤, Bool}
+use Rattle.std.specs.Prelude.{◌≡◌, ◌*◌, length, List, map, None, Ok, Option, option_map, ⊤, Bool}
 use Rattle.std.specs.Borrow.{MutBor}
+use Rattle.std.specs.Iterator.{Yields}
 use Rattle.regex_search_core.specs.Found.{Found, found_of}
 use Rattle.regex_search_core.specs.Search.{Search}
 use Rattle.regex_search_core.specs.declared.search.Match.{Match}
 use Rattle.nfa_backtrack.specs.Backtrack.{HoldsNoMore}
+use Rattle.nfa_search_base.specs.Leaving.{DoesSearch, Leaves, LeavesAtEnd}
 use Rattle.nfa_search_base.specs.Lending.{With}
 use Rattle.nfa_search_base.specs.Lent.{Lent, TakesLentStep}
 use Rattle.nfa_search_base.specs.Lists.{TellsMatch}
@@ -15,6 +17,24 @@ use Rattle.nfa_search_base.specs.Walks.{Answer, Walk, span_of}
 use Rattle.nfa_choice.specs.Choosing.{Choosing, kind_in, KeepsEngines, RunsByRule}
 use Rattle.nfa_choice.specs.declared.choose.find_iter.ByRule.{ByRule}
 use Rattle.nfa_choice.specs.declared.choose.find_iter.ChoiceMatches.{ChoiceMatches}
+
+-- one search for a match by the engine that the rule names
+pub record FindsByRule (x : Search) (old new : Choosing) : Type 0 where
+  pub runs : RunsByRule old x x.earliest new
+  pub holds : HoldsNoMore (2 * length old.nfa.groups) old.back new.back
+  pub keeps : KeepsEngines old new
+
+-- what one search for a match answers: the match that the kind and its `earliest` mean, and never an error
+abbrev pub ChoiceTells : Choosing → Search → Answer Found → Type 0
+ChoiceTells c x a = TellsMatch c.nfa (kind_in c) x.earliest x a
+
+-- an iteration over the matches of x led from the one choice to the other by its searches alone, as far as it went
+abbrev pub ChoiceFindsOn : Search → Choosing → Choosing → Type 0
+ChoiceFindsOn x old new = Leaves span_of (DoesSearch (ChoiceTells old) (λ y a. FindsByRule y)) x old new
+
+-- and it went to its end, past these matches
+abbrev pub ChoiceFindsToEnd : Search → List Found → Choosing → Choosing → Type 0
+ChoiceFindsToEnd x ms old new = LeavesAtEnd span_of (DoesSearch (ChoiceTells old) (λ y a. FindsByRule y)) x ms old new
 
 -- the steps of the iterator, and the choice that it is lent
 abbrev pub choice_finds : ChoiceMatches → Lent ByRule Choosing
@@ -58,3 +78,10 @@ pub record KeepsChoice (s t : ChoiceMatches) : Type 0 where
 
 abbrev pub ChoiceGivesKept : ChoiceMatches → Type 0
 ChoiceGivesKept s = GivesKept choice_finds_next KeepsChoice s
+
+-- The calls change the choice by the searches of an iteration over x alone; at `None` it went to its end, past the
+-- matches so far.
+pub record ChoiceFindsBySearches (x : Search) (s : ChoiceMatches) : Type 0 where
+  pub on : GivesKept choice_finds_next (λ p q. ChoiceFindsOn x p.choice.now q.choice.now) s
+  pub to_end : (xs : List Match) (t u : ChoiceMatches) → Yields choice_finds_next s xs t → choice_finds_next t None u
+      → ChoiceFindsToEnd x (map found_of xs) s.choice.now u.choice.now

@@ -1,4 +1,5 @@
-//! The engine that takes one of the two for each search, and never fails.
+//! The engine that takes one of the two for each search. No search fails; only calls that allocate do, with
+//! [`SearchError::Memory`]: those that make a choice, captures or a list.
 //!
 //! Take it where one NFA is searched and neither engine is wanted for its own sake. It holds both and their caches, so
 //! it takes the memory of both; one of the two alone is the leaner choice where its limits suit.
@@ -21,8 +22,13 @@ ghost use Rattle.nfa_backtrack.specs.Backtrack.{unused, HoldsNoMore};
 ghost use Rattle.nfa_pikevm.specs.Engines.{cache_for};
 ghost use Rattle.nfa_choice.specs.Choosing.{finds_in, is_for_backtracker, kind_in, IsRefitted, KeepsEngines, RunsByRule};
 
+mod captures;
+mod captures_iter;
 mod find_iter;
+mod half;
+mod overlap;
 
+pub use captures_iter::ChoiceCaptures;
 pub use find_iter::ChoiceMatches;
 use nfa_engines::backtrack::{self, BoundedBacktracker};
 use nfa_engines::error::SearchError;

@@ -13,3 +13,5 @@
 #![tactic(auto)]
 
 pub mod choose;
+
+pub use choose::{Choice, ChoiceCaptures, ChoiceMatches, Engine};

@@ -4,10 +4,14 @@ pub mod CapacityLaws
 pub mod CapturesLaws
 pub mod FlagLaws
 pub mod GapLaws
+pub mod HalfLaws
 pub mod IterationLaws
 pub mod Laws
 pub mod ListLaws
+pub mod PatternLaws
 pub mod SetLaws
+pub mod SpanLaws
+pub mod StartLaws
 pub use Rattle.nfa_backtrack.specs.Backtrack
 pub use Rattle.nfa_backtrack.specs.CapturesMatches as BacktrackCapturesMatches
 pub use Rattle.nfa_backtrack.specs.Finding as BacktrackFinding
@@ -22,6 +26,7 @@ pub use Rattle.nfa_paths.specs.Graphs
 pub use Rattle.nfa_paths.specs.Known
 pub use Rattle.nfa_paths.specs.Overlaps
 pub use Rattle.nfa_paths.specs.Paths
+pub use Rattle.nfa_search_base.specs.Agreement
 pub use Rattle.nfa_search_base.specs.Asking
 pub use Rattle.nfa_search_base.specs.Catching
 pub use Rattle.nfa_search_base.specs.CaughtLists

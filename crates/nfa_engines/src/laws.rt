@@ -20,6 +20,7 @@ ghost use Rattle.nfa_engines.specs.FlagLaws.{AnswerReadsNoFlag, AnswersUnderAnyF
 ghost use Rattle.nfa_engines.specs.FlagLaws.{FoundUnderAnyFlag, MatchReadsNoFlag, MatchUnderAnyFlag};
 ghost use Rattle.nfa_engines.specs.FlagLaws.{MatchesReadNoFlag, PathReadsNoFlag, RowsReadNoFlag, SetReadsNoFlag};
 ghost use Rattle.nfa_engines.specs.GapLaws.{NoneIsNoPath, NoneStartsBefore};
+ghost use Rattle.nfa_engines.specs.HalfLaws.{HalfMatchHasThePattern, OneHalfMatch};
 ghost use Rattle.nfa_engines.specs.IterationLaws.{AtMostMatches, EndsIncrease};
 ghost use Rattle.nfa_engines.specs.Laws.{AnswersAgree, EveryScanHasAnAnswer, EverySearchHasAnAnswer, FewerSlots};
 ghost use Rattle.nfa_engines.specs.Laws.{FoundAsLeftmost, FoundIsPattern, OneFound, OneMatch, OneScanAnswer};
@@ -27,8 +28,14 @@ ghost use Rattle.nfa_engines.specs.Laws.{OneSearchAnswer, PathsAreOrdered, Paths
 ghost use Rattle.nfa_engines.specs.Laws.{SearchesAgree, SlotsPastAreNone};
 ghost use Rattle.nfa_engines.specs.ListLaws.{AtMostInList, EverySearchHasAList, ListAsLeftmost, MatchesAreApart};
 ghost use Rattle.nfa_engines.specs.ListLaws.{OneList};
+ghost use Rattle.nfa_engines.specs.PatternLaws.{AnswersAreOfPatterns, FirstPatternAnswers, NothingOfEachPattern};
+ghost use Rattle.nfa_engines.specs.PatternLaws.{PatternIsAlone, PatternMatchesAlone};
 ghost use Rattle.nfa_engines.specs.SetLaws.{EarliestOfAllPaths, FirstOfAllPaths, FullSetStays, OneSet};
 ghost use Rattle.nfa_engines.specs.SetLaws.{SetHoldsEachPattern, SetIsComplete, SetIsOfEarliest, SetIsOfFirsts};
+ghost use Rattle.nfa_engines.specs.SpanLaws.{AnswersMove, AnswersReadTheSpan, CutOutAnswers, CutOutMatches};
+ghost use Rattle.nfa_engines.specs.SpanLaws.{MatchesMove, MatchesReadTheSpan};
+ghost use Rattle.nfa_engines.specs.StartLaws.{AnswersHaveAStart, FirstStartAnswers, FirstStartMatches};
+ghost use Rattle.nfa_engines.specs.StartLaws.{MatchStartsArePassed, NothingAtEachStart, StartsArePassed};
 
 /// A scan has one answer at most, of each match kind and `earliest`.
 pub fn one_scan_answer()
@@ -85,6 +92,14 @@ pub fn one_match()
     ensures found { OneFound }
     ensures sets { OneSet All }
     ensures first_sets { OneSet LeftmostFirst }
+{}
+
+/// A search has one half match at most: both engines' `find_half` give the same. Its pattern is the one that a search for
+/// slots gives, so there is a half match exactly if there is a pattern. That it is the end of the match that `find`
+/// gives is a law of `nfa_bounds`, for an NFA that writes its bounds.
+pub fn one_half_match()
+    ensures one { OneHalfMatch }
+    ensures pattern { HalfMatchHasThePattern }
 {}
 
 /// What a cache did before does not show. The contracts of the searches speak of the NFA, the kind and the input alone,
@@ -212,4 +227,57 @@ pub fn found_is_an_accepting_path()
     ensures no_pattern { NoPatternIsNothing }
     ensures weaker { PatternIsSomething }
     ensures not_both { NotBoth }
+{}
+
+/// An unanchored search may pass over a start at which the anchored search has no accepting path: from the first other
+/// start on it has the same answer and the same match. This holds for each match kind, `earliest` or not.
+///
+/// Premises: neither the search nor the NFA is anchored, and no match has to end on a boundary.
+pub fn starts_may_be_passed()
+    ensures answers { StartsArePassed }
+    ensures matches { MatchStartsArePassed }
+    ensures nothing { NothingAtEachStart }
+{}
+
+/// The leftmost first answer of an unanchored search is the answer of the anchored search at the first start that has
+/// one. An answer with a pattern has such a start, in the span.
+///
+/// Premises: those of [`starts_may_be_passed`].
+pub fn first_start_answers()
+    ensures answers { FirstStartAnswers LeftmostFirst false }
+    ensures matches { FirstStartMatches LeftmostFirst false }
+    ensures start { AnswersHaveAStart LeftmostFirst false }
+{}
+
+/// A search with `Anchored::Pattern` has the answer and the match of the anchored search of that pattern alone: of the
+/// NFA whose anchored start is the start of the pattern. This holds for each match kind, `earliest` or not.
+pub fn pattern_is_alone()
+    ensures answer { PatternIsAlone }
+    ensures match_of { PatternMatchesAlone }
+{}
+
+/// The leftmost first answer of an anchored search is the answer of the first pattern, in their order, that has one by
+/// itself. A search matches nothing exactly if no pattern by itself matches.
+///
+/// Premises: the anchored start is a union of the starts of the patterns, in their order, and no path from one of these
+/// leads back to it; or the NFA has one pattern, which starts there. No match has to end on a boundary.
+pub fn first_pattern_answers()
+    ensures answers { FirstPatternAnswers LeftmostFirst false }
+    ensures pattern { AnswersAreOfPatterns LeftmostFirst false }
+    ensures nothing { NothingOfEachPattern }
+{}
+
+/// The answer of an NFA without assertions depends only on the bytes of the span. Two searches with the same bytes in
+/// the same span have the same answer and the same match. If the bytes and the span move by a distance, the slots and
+/// the match move by that distance. So a span and the text cut out of it have the same answer, but for the distance.
+/// This holds for each match kind, `earliest` or not, anchored or not.
+///
+/// Premises: no state of the NFA is a `Look`, and no match has to end on a boundary.
+pub fn answers_read_the_span()
+    ensures same { AnswersReadTheSpan }
+    ensures same_match { MatchesReadTheSpan }
+    ensures moved { AnswersMove }
+    ensures moved_match { MatchesMove }
+    ensures cut_out { CutOutAnswers }
+    ensures cut_out_match { CutOutMatches }
 {}

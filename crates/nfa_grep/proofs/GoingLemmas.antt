@@ -1,5 +1,6 @@
 -- A search of an input starts, goes on by a line, and ends.
-use Rattle.std.proofs.Common.{◌≡◌, ◌∙◌, ℕ, zero, suc, ◌+◌, ◌<◌, Bool, true, false, List, [], ◌∷◌, ◌++◌, length, refl, sym, ap, ap₂, subst, arith, append_assoc, append-nil}
+use Rattle.std.proofs.Common.{◌≡◌, ◌∙◌, ℕ, ◌+◌, ◌<◌, Bool, true, false, List, [], ◌∷◌, ◌++◌, length}
+use Rattle.std.proofs.Common.{refl, sym, ap, subst, arith, append_assoc, append-nil}
 use Rattle.std.specs.Prelude.{Option, None, Some, IfSome, cond}
 use Rattle.std.specs.List.{count_by}
 use Rattle.std.specs.Io.BufRead.{take_through, drop_through, DropsThrough}
@@ -9,8 +10,8 @@ use Rattle.std.proofs.KnownBytes.{Appends-nil, Appends-trans}
 use Rattle.std.proofs.lemmas.List.Sums.{sum_by-cons}
 use Rattle.bstr.proofs.lemmas.RecordLemmas.{IfSome-at, records-nil, records-step}
 use Rattle.regex_hir.specs.Re.{Re}
-use Rattle.nfa_grep.specs.Going.{HasPrinted, IsGoing, PrintsLines}
-use Rattle.nfa_grep.specs.Printed.{feed, is_selected, lines_of, printed, printed_lines, selected_count, shown}
+use Rattle.nfa_grep.specs.Going.{HasPrinted, PrintsLines}
+use Rattle.nfa_grep.specs.Printed.{is_selected, line_feed, lines_of, printed, printed_lines, selected_count, shown}
 use Rattle.nfa_grep.specs.declared.options.Options.{Options}
 
 module _ (options : Options) (res : List Re) (label : List ℕ) where
@@ -27,7 +28,8 @@ module _ (options : Options) (res : List Re) (label : List ℕ) where
 
   printed-step : (number offset : ℕ) (line : List ℕ) (lines : List (List ℕ))
       → printed options res label number offset (line ∷ lines)
-      ≡ shown options res label number offset line ++ printed options res label (number + 1) (offset + length line) lines
+      ≡ shown options res label number offset line
+      ++ printed options res label (number + 1) (offset + length line) lines
   unfolding printed
   printed-step number offset line lines = refl
 
@@ -43,8 +45,8 @@ module _ (options : Options) (res : List Re) (label : List ℕ) where
   -- one more line was read, and what is shown of it was written
   pub going-step : (before input after out-before out next : Option (List ℕ)) (number offset count : ℕ) (line : List ℕ)
       → 0 < length line
-      → IfSome input (λ xs. line ≡ take_through feed xs)
-      → DropsThrough input after feed
+      → IfSome input (λ xs. line ≡ take_through line_feed xs)
+      → DropsThrough input after line_feed
       → Appends out next (shown options res label number offset line)
       → HasPrinted options res label before input out-before out number offset count
       → HasPrinted options res label before after out-before next (number + 1) (offset + length line)
@@ -52,27 +54,29 @@ module _ (options : Options) (res : List Re) (label : List ℕ) where
   going-step None input after out-before out next number offset count line some takes drops appends going = tt
   going-step (Some text) input after out-before out next number offset count line some takes drops appends going =
       let rest = going.rest in
-      let line-is : line ≡ take_through feed rest = IfSome-at input rest (λ xs. line ≡ take_through feed xs) going.rest_is takes in
-      let after-is : after ≡ Some (drop_through feed rest) =
-      IfSome-at input rest (λ xs. after ≡ Some (drop_through feed xs)) going.rest_is drops in
-      let lines : lines_of rest ≡ line ∷ lines_of (drop_through feed rest) =
-      records-step feed rest (take_through_nonempty feed rest (subst (λ (l : List ℕ). 0 < length l) line-is some))
-      ∙ ap (λ (l : List ℕ). l ∷ lines_of (drop_through feed rest)) (sym line-is) in
+      let line-is : line ≡ take_through line_feed rest =
+      IfSome-at input rest (λ xs. line ≡ take_through line_feed xs) going.rest_is takes in
+      let left = drop_through line_feed rest in
+      let after-is : after ≡ Some left =
+      IfSome-at input rest (λ xs. after ≡ Some (drop_through line_feed xs)) going.rest_is drops in
+      let nonempty = take_through_nonempty line_feed rest (subst (λ (l : List ℕ). 0 < length l) line-is some) in
+      let lines : lines_of rest ≡ line ∷ lines_of left =
+      records-step line_feed rest nonempty ∙ ap (λ (l : List ℕ). l ∷ lines_of left) (sym line-is) in
       let here = shown options res label number offset line in
-      let later = printed options res label (number + 1) (offset + length line) (lines_of (drop_through feed rest)) in
+      let later = printed options res label (number + 1) (offset + length line) (lines_of left) in
       record {
-        rest = drop_through feed rest;
+        rest = left;
         rest_is = after-is;
         written = going.written ++ here;
         writes = Appends-trans out-before out next going.written here going.writes appends;
         printed_is = going.printed_is
             ∙ ap (λ ls. going.written ++ printed options res label number offset ls) lines
-            ∙ ap (λ l. going.written ++ l) (printed-step number offset line (lines_of (drop_through feed rest)))
+            ∙ ap (λ l. going.written ++ l) (printed-step number offset line (lines_of left))
             ∙ sym (append_assoc going.written here later);
-        count_is = count-step (is_selected options res line) _ count (selected_count options res (drop_through feed rest))
+        count_is = count-step (is_selected options res line) _ count (selected_count options res left)
             (going.count_is ∙ ap (λ (ls : List (List ℕ)). count + count_by (is_selected options res) ls) lines
             ∙ ap (λ (n : ℕ). count + n) (sum_by-cons (λ (l : List ℕ). cond (is_selected options res l) 1 0) line
-            (lines_of (drop_through feed rest))));
+            (lines_of left)));
       }
 
   -- nothing was left to read
@@ -82,7 +86,7 @@ module _ (options : Options) (res : List Re) (label : List ℕ) where
   going-end None input out-before out number offset count end going = tt
   going-end (Some text) input out-before out number offset count end going =
       let none : going.rest ≡ [] = subst (λ (o : Option (List ℕ)). IsAtEnd o) going.rest_is end in
-      let lines : lines_of going.rest ≡ [] = ap (λ l. lines_of l) none ∙ records-nil feed in
+      let lines : lines_of going.rest ≡ [] = ap (λ l. lines_of l) none ∙ records-nil line_feed in
       let all : printed_lines options res label text ≡ going.written =
       going.printed_is ∙ ap (λ ls. going.written ++ printed options res label number offset ls) lines
       ∙ ap (λ l. going.written ++ l) (printed-nil number offset) ∙ append-nil going.written in

@@ -1,4 +1,5 @@
 mod GoingLemmas
 mod MeantLemmas
+mod NumbersLemmas
 mod PrintedLemmas
 mod WhichLemmas

@@ -1,5 +1,6 @@
 -- From the law on sets of patterns to which patterns match in a line.
-use Rattle.std.proofs.Common.{◌≡◌, ℕ, zero, suc, ◌<◌, ◌⊎◌, inr, ⊎_elim, Bool, true, false, List, length, subst, sym, arith}
+use Rattle.std.proofs.Common.{◌≡◌, ℕ, zero, suc, ◌<◌, ◌⊎◌, inr, ⊎_elim, Bool, true, false, List, length}
+use Rattle.std.proofs.Common.{subst, sym, arith}
 use Rattle.std.specs.Prelude.{◌↔◌, ◌==◌, replicate}
 use Rattle.std.proofs.lemmas.List.{length-replicate}
 use Rattle.regex_hir.specs.Re.{Re}
@@ -28,8 +29,8 @@ none-held (suc n) zero e = no e
 none-held (suc n) (suc k) e = none-held n k e
 
 -- an empty set with room for each pattern comes to hold those that match
-pub held : (res : List Re) (nfa : Automaton) (text : List ℕ) → IsNfaOf res nfa → (nfa.anchored == nfa.unanchored) ≡ false
-    → (n : ℕ) → n ≡ length nfa.patterns → (new : List Bool) (k : ℕ)
+pub held : (res : List Re) (nfa : Automaton) (text : List ℕ) → IsNfaOf res nfa
+    → (nfa.anchored == nfa.unanchored) ≡ false → (n : ℕ) → n ≡ length nfa.patterns → (new : List Bool) (k : ℕ)
     → (HoldsPattern new k ↔ (HoldsPattern (replicate n false) k ⊎ ((k < length (replicate n false))
     × PatternMatches res (nfa.anchored == nfa.unanchored) (whole text) k)))
     → HoldsPattern new k ↔ PatternMatches res false (whole text) k

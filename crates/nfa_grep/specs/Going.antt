@@ -30,7 +30,7 @@ module _ (options : Options) (res : List Re) (label : List ℕ) where
       × (count ≡ selected_count options res text))
 
   -- what is to be printed of the text was printed, and `count` of its lines are selected
-  abbrev pub Prints : Option (List ℕ) → Option (List ℕ) → Option (List ℕ) → ℕ → Type 0
-  Prints input out-before out count =
+  abbrev pub PrintsOutput : Option (List ℕ) → Option (List ℕ) → Option (List ℕ) → ℕ → Type 0
+  PrintsOutput input out-before out count =
       IfSome input (λ text. Appends out-before out (output options res label text)
       × (count ≡ selected_count options res text))

@@ -1,16 +1,17 @@
 -- What is printed of the lines of an input.
-use Rattle.std.specs.Prelude.{ℕ, ◌+◌, Bool, false, true, not, ◌||◌, List, [], ◌∷◌, ◌++◌, length, decimal, if◌then◌else◌, ◌==◌, slice_range}
-use Rattle.std.specs.List.{count_by, flat_map}
+use Rattle.std.specs.Prelude.{ℕ, ◌+◌, Bool, not, ◌||◌, List, [], ◌∷◌, ◌++◌, length, map, decimal}
+use Rattle.std.specs.Prelude.{if◌then◌else◌, ◌==◌, slice_range}
+use Rattle.std.specs.List.{count_by, flat_map, join_with_byte}
 use Rattle.std.specs.Io.BufRead.{ends_with_byte, strip_last}
 use Rattle.regex_hir.specs.Re.{Re}
 use Rattle.regex_search_core.specs.Found.{Found}
 use Rattle.bstr.specs.Records.{records}
-use Rattle.nfa_grep.specs.Meant.{all_found, is_found}
+use Rattle.nfa_grep.specs.Meant.{all_found, is_found, numbers_found}
 use Rattle.nfa_grep.specs.declared.options.Options.{Options}
 
--- the line feed, the carriage return and the colon
-abbrev pub feed : ℕ
-feed = 10
+-- the line feed, the carriage return, the colon and the comma
+abbrev pub line_feed : ℕ
+line_feed = 10
 
 abbrev pub carriage_return : ℕ
 carriage_return = 13
@@ -18,18 +19,29 @@ carriage_return = 13
 abbrev pub colon : ℕ
 colon = 58
 
+abbrev pub comma : ℕ
+comma = 44
+
 -- what is searched of a line: all but the line feed at its end and a carriage return before that line feed
 abbrev pub content : List ℕ → List ℕ
 content line =
-    if ends_with_byte feed line then strip_last carriage_return (strip_last feed line) else line
+    if ends_with_byte line_feed line then strip_last carriage_return (strip_last line_feed line) else line
 
 -- the line, with a line feed at its end
 abbrev pub with_feed : List ℕ → List ℕ
-with_feed line = if ends_with_byte feed line then line else (line ++ feed ∷ [])
+with_feed line = if ends_with_byte line_feed line then line else (line ++ line_feed ∷ [])
 
 -- the number and a colon, if it is wanted
 abbrev pub numbered : Bool → ℕ → List ℕ
 numbered wanted n = if wanted then (decimal n ++ colon ∷ []) else []
+
+-- the numbers, with commas between them, and a colon
+abbrev pub number_list : List ℕ → List ℕ
+number_list numbers = join_with_byte comma (map decimal numbers) ++ colon ∷ []
+
+-- what comes after the label of a line: the numbers of the patterns that match in its text, if they are wanted
+abbrev pub mark_of : Options → List Re → List ℕ → List ℕ
+mark_of options res line = if options.which then number_list (numbers_found res (content line)) else []
 
 -- what comes before a line or a match
 abbrev pub head : Options → List ℕ → ℕ → ℕ → List ℕ
@@ -40,7 +52,7 @@ head options label number offset =
 abbrev pub piece : Options → List ℕ → ℕ → ℕ → List ℕ → Found → List ℕ
 piece options label number offset line m =
     if m.start == m.end then []
-    else (head options label number (offset + m.start) ++ (slice_range line m.start m.end ++ feed ∷ []))
+    else (head options label number (offset + m.start) ++ (slice_range line m.start m.end ++ line_feed ∷ []))
 
 -- what is printed of these matches, in order
 abbrev pub pieces : Options → List ℕ → ℕ → ℕ → List ℕ → List Found → List ℕ
@@ -59,11 +71,11 @@ shown_selected options res label number offset line =
     else pieces options label number offset line (all_found res (content line)))
     else (head options label number offset ++ with_feed line)
 
--- what is printed of a line
+-- what is printed of a line, with the numbers of the patterns that match in it after the label
 abbrev pub shown : Options → List Re → List ℕ → ℕ → ℕ → List ℕ → List ℕ
 shown options res label number offset line =
     if options.count || not (is_selected options res line) then []
-    else shown_selected options res label number offset line
+    else shown_selected options res (label ++ mark_of options res line) number offset line
 
 -- what is printed of these lines: the first one has this number and starts at this offset
 unfoldable pub printed : Options → List Re → List ℕ → ℕ → ℕ → List (List ℕ) → List ℕ
@@ -73,7 +85,7 @@ printed options res label number offset (line ∷ lines) =
 
 -- the lines of a text, each with its line feed; the last one may have none
 abbrev pub lines_of : List ℕ → List (List ℕ)
-lines_of text = records feed text
+lines_of text = records line_feed text
 
 -- how many lines of a text are selected
 abbrev pub selected_count : Options → List Re → List ℕ → ℕ
@@ -85,7 +97,7 @@ printed_lines options res label text = printed options res label 1 0 (lines_of t
 
 -- the number of the selected lines, as a line
 abbrev pub count_line : List ℕ → ℕ → List ℕ
-count_line label count = label ++ (decimal count ++ feed ∷ [])
+count_line label count = label ++ (decimal count ++ line_feed ∷ [])
 
 -- all that is printed of a text
 abbrev pub output : Options → List Re → List ℕ → List ℕ → List ℕ

@@ -18,8 +18,6 @@ Status: 0 if a line was selected, 1 if none was, 2 after an error.";
 #[derive(Drop)]
 pub struct Arguments<'w> {
     pub options: Options,
-    /// Print the numbers of the patterns that match in a line.
-    pub which: bool,
     pub patterns: Vec<&'w str>,
     pub files: Vec<&'w str>,
 }
@@ -88,12 +86,15 @@ fn words_argument<'w>(alloc: Global) -> Result<Arg<'w>, AllocError> {
 }
 
 fn read_matches<'w>(alloc: Global, matches: &ArgMatches<'w>) -> Result<Arguments<'w>> {
+    let count = matches.get_flag("count");
     let options = Options {
-        count: matches.get_flag("count"),
+        count,
         only: matches.get_flag("only-matching"),
         numbers: matches.get_flag("line-number"),
         offsets: matches.get_flag("byte-offset"),
         inverted: matches.get_flag("invert-match"),
+        // A count has no numbers of patterns before it.
+        which: matches.get_flag("which") && !count,
     };
     let mut patterns = Vec::new(alloc);
     let mut files = Vec::new(alloc);
@@ -114,7 +115,6 @@ fn read_matches<'w>(alloc: Global, matches: &ArgMatches<'w>) -> Result<Arguments
     }
     Ok(Arguments {
         options,
-        which: matches.get_flag("which"),
         patterns,
         files,
     })

@@ -6,10 +6,11 @@ ghost use Rattle.regex_search_core.specs.Search.{whole};
 ghost use Rattle.nfa_choice.specs.Choosing.{KeepsEngines, kind_in};
 ghost use Rattle.nfa_engines.specs.Lists.{AreMatches, IsInside};
 ghost use Rattle.nfa_grep.specs.Meant.{Mean, all_found, is_found};
-ghost use Rattle.nfa_grep.specs.Printed.{content, is_selected, piece, pieces, shown};
+ghost use Rattle.nfa_grep.specs.Printed.{content, head, is_selected, mark_of, piece, pieces, shown, with_feed};
 
 use crate::line::{Place, append_head, append_whole, content};
 use crate::options::Options;
+use crate::which::Which;
 use anyhow::Result;
 use nfa_choice::choose::Choice;
 use nfa_compiler::{Compiler, Config, laws};
@@ -18,7 +19,8 @@ use regex_search_core::{Input, Match};
 use std::alloc::{AllocError, Global};
 use std::marker::Model;
 
-/// What is searched for in each line, and what is printed of a line that is selected. It owns the engine.
+/// What is searched for in each line, and what is printed of a line that is selected. It owns the engine, and a second
+/// one that finds the numbers of the patterns that match, if they are wanted.
 ///
 /// A contract sees the texts of the patterns and the options.
 #[derive(Drop)]
@@ -27,21 +29,25 @@ pub struct Grep<'p> {
     patterns: &'p [&'p str],
     options: Options,
     choice: Choice,
+    which: Option<Which>,
 }
 
 impl<'p> Model for Grep<'p> {
-    ghost use Rattle.std.specs.Prelude.{◌≡◌, ◌==◌, None, false, map};
+    ghost use Rattle.std.specs.Prelude.{◌≡◌, ◌==◌, MatchOption, None, false, map, true};
     ghost use Rattle.nfa_engines.specs.Paths.{is_utf8_empty};
     ghost use Rattle.nfa_compiler.specs.Compiled.{IsCompiled};
-    ghost use Rattle.nfa_grep.specs.Meant.{Grepping, line_syntax};
+    ghost use Rattle.nfa_compiler.specs.Written.{byte_syntax};
+    ghost use Rattle.nfa_grep.specs.Meant.{Grepping};
 
     ghost Value = { Grepping };
 
     ghost view = { λ g. record { patterns = map (λ text. text.now) g.patterns.now; options = g.options } };
 
-    ghost invariant = { λ g. IsCompiled line_syntax (map (λ text. text.now) g.patterns.now) g.choice.nfa
+    ghost invariant = { λ g. IsCompiled byte_syntax (map (λ text. text.now) g.patterns.now) g.choice.nfa
         × (is_utf8_empty g.choice.nfa ≡ false) × ((g.choice.nfa.anchored == g.choice.nfa.unanchored) ≡ false)
-        × (g.choice.match_kind ≡ None) };
+        × (g.choice.match_kind ≡ None)
+        × MatchOption g.which (g.options.which ≡ false)
+        (λ nfa. (g.options.which ≡ true) × IsCompiled byte_syntax (map (λ text. text.now) g.patterns.now) nfa) };
 }
 
 impl<'p> Grep<'p> {
@@ -55,11 +61,17 @@ impl<'p> Grep<'p> {
             .configure(config)
             .build_many(alloc, patterns)?;
         let choice = Choice::new(alloc, nfa, backtrack::Config::new(), pikevm::Config::new())?;
+        let which = if options.which {
+            Some(Which::new(alloc, patterns)?)
+        } else {
+            None
+        };
         Ok(Grep {
             alloc,
             patterns,
             options,
             choice,
+            which,
         })
     }
 
@@ -119,18 +131,73 @@ impl<'p> Grep<'p> {
             line.now) }
         ensures kept { self.new ≡ self.old }
     {
+        let options = self.options;
+        if options.only && !options.inverted && !options.count {
+            return self.append_matches(place, line, out);
+        }
         let selected = self.selects(line);
-        if !selected || self.options.count {
-            return Ok(selected);
+        if selected && !options.only && !options.count {
+            self.append_selected(place, line, out)?;
         }
-        if !self.options.only {
-            append_head(self.options, place, out)?;
-            append_whole(line, out)?;
-        } else if !self.options.inverted {
-            let matches = self.matches(content(line))?;
-            append_pieces(self.options, place, line, &matches, out)?;
+        Ok(selected)
+    }
+
+    /// Appends each match in the text of the line that is not empty, and returns whether there is any match, which may
+    /// be empty. The line is searched once.
+    fn append_matches(
+        &mut self,
+        place: Place<'_>,
+        line: &[u8],
+        out: &mut Vec<u8>,
+    ) -> Result<bool, AllocError>
+        requires counted { place.offset + length line.now < 2 ^ 64 }
+        ensures found { IfOk result (λ found. (res : List Re) → Mean self.old.patterns res
+            → found ≡ is_found res (content line.now)) }
+        ensures shown { OnOk result ((res : List Re) → Mean self.old.patterns res → out.new.items
+            ≡ out.old.items ++ pieces self.old.options
+            (place.entry.label.now ++ mark_of self.old.options res line.now) place.entry.number place.entry.offset
+            line.now (all_found res (content line.now))) }
+        ensures kept { self.new ≡ self.old }
+    {
+        let matches = self.matches(content(line))?;
+        if matches.is_empty() {
+            return Ok(false);
         }
+        let mark = self.mark(line)?;
+        append_pieces(self.options, place, &mark, line, &matches, out)?;
         Ok(true)
+    }
+
+    /// Appends the line, with what comes before it.
+    fn append_selected(
+        &mut self,
+        place: Place<'_>,
+        line: &[u8],
+        out: &mut Vec<u8>,
+    ) -> Result<(), AllocError>
+        ensures shown { OnOk result ((res : List Re) → Mean self.old.patterns res → out.new.items
+            ≡ out.old.items ++ (head self.old.options
+            (place.entry.label.now ++ mark_of self.old.options res line.now) place.entry.number place.entry.offset
+            ++ with_feed line.now)) }
+        ensures kept { self.new ≡ self.old }
+    {
+        let mark = self.mark(line)?;
+        append_head(self.options, place, &mark, out)?;
+        append_whole(line, out)
+    }
+
+    /// Returns the numbers of the patterns that match in the line, as they are printed, or nothing if they are not
+    /// wanted.
+    fn mark(&mut self, line: &[u8]) -> Result<Vec<u8>, AllocError>
+        ensures mark { IfOk result (λ mark. (res : List Re) → Mean self.old.patterns res
+            → mark.items ≡ mark_of self.old.options res line.now) }
+        ensures kept { self.new ≡ self.old }
+    {
+        let mut mark = Vec::new(self.alloc);
+        if let Some(which) = &mut self.which {
+            which.append_numbers(self.alloc, content(line), &mut mark)?;
+        }
+        Ok(mark)
     }
 }
 
@@ -152,6 +219,7 @@ fn all_matches(alloc: Global, choice: &mut Choice, text: &[u8]) -> Result<Vec<Ma
 fn append_pieces(
     options: Options,
     place: Place<'_>,
+    mark: &[u8],
     line: &[u8],
     matches: &[Match],
     out: &mut Vec<u8>,
@@ -159,11 +227,11 @@ fn append_pieces(
     requires counted { place.offset + length line.now < 2 ^ 64 }
     requires inside { All (λ m. (found_of m).end ≤ length line.now) matches.now }
     ensures { OnOk result (out.new.items ≡ out.old.items
-        ++ pieces options place.entry.label.now place.entry.number place.entry.offset line.now
+        ++ pieces options (place.entry.label.now ++ mark.now) place.entry.number place.entry.offset line.now
         (map found_of matches.now)) }
 {
     for found in matches {
-        append_piece(options, place, line, *found, out)?;
+        append_piece(options, place, mark, line, *found, out)?;
     }
     Ok(())
 }
@@ -172,6 +240,7 @@ fn append_pieces(
 fn append_piece(
     options: Options,
     place: Place<'_>,
+    mark: &[u8],
     line: &[u8],
     found: Match,
     out: &mut Vec<u8>,
@@ -179,7 +248,8 @@ fn append_piece(
     requires counted { place.offset + length line.now < 2 ^ 64 }
     requires inside { (found_of found).end ≤ length line.now }
     ensures { OnOk result (out.new.items ≡ out.old.items
-        ++ piece options place.entry.label.now place.entry.number place.entry.offset line.now (found_of found)) }
+        ++ piece options (place.entry.label.now ++ mark.now) place.entry.number place.entry.offset line.now
+        (found_of found)) }
 {
     if found.start() == found.end() {
         return Ok(());
@@ -188,7 +258,7 @@ fn append_piece(
         offset: place.offset + found.start() as u64,
         ..place
     };
-    append_head(options, at, out)?;
+    append_head(options, at, mark, out)?;
     out.extend_from_slice(&line[found.start()..found.end()])?;
     out.extend_from_slice(b"\n")
 }

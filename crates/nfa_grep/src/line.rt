@@ -69,13 +69,19 @@ fn append_number(wanted: bool, number: u64, out: &mut Vec<u8>) -> Result<(), All
     Ok(())
 }
 
-/// Appends what comes before a line or a match: the label, then the number of the line and the offset, if they are
-/// wanted.
-pub fn append_head(options: Options, place: Place<'_>, out: &mut Vec<u8>) -> Result<(), AllocError>
+/// Appends what comes before a line or a match: the label and the mark, then the number of the line and the offset, if
+/// they are wanted.
+pub fn append_head(
+    options: Options,
+    place: Place<'_>,
+    mark: &[u8],
+    out: &mut Vec<u8>,
+) -> Result<(), AllocError>
     ensures { OnOk result (out.new.items
-        ≡ out.old.items ++ head options place.entry.label.now place.entry.number place.entry.offset) }
+        ≡ out.old.items ++ head options (place.entry.label.now ++ mark.now) place.entry.number place.entry.offset) }
 {
     out.extend_from_slice(place.label)?;
+    out.extend_from_slice(mark)?;
     append_number(options.numbers, place.number, out)?;
     append_number(options.offsets, place.offset, out)?;
     Ok(())

@@ -6,7 +6,6 @@ mod failure;
 mod files;
 mod grep;
 mod line;
-mod marked;
 mod options;
 mod search;
 mod which;

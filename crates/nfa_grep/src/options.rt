@@ -13,4 +13,6 @@ pub struct Options {
     pub offsets: bool,
     /// Select the lines in which no pattern matches.
     pub inverted: bool,
+    /// Print the numbers, from 0, of the patterns that match in the line.
+    pub which: bool,
 }

@@ -1,7 +1,7 @@
 //! The search of one input, line by line.
 ghost use Rattle.std.specs.Prelude.{◌≡◌, IfOk, List};
 ghost use Rattle.regex_hir.specs.Re.{Re};
-ghost use Rattle.nfa_grep.specs.Going.{Prints, PrintsLines};
+ghost use Rattle.nfa_grep.specs.Going.{PrintsLines, PrintsOutput};
 ghost use Rattle.nfa_grep.specs.Meant.{Mean};
 
 use crate::failure::Failure;
@@ -19,7 +19,7 @@ pub fn print_matches<R: BufRead, W: Write>(
     out: &mut W,
 ) -> Result<u64, Failure>
     ensures printed { IfOk result (λ count. (res : List Re) → Mean grep.old.patterns res
-        → Prints grep.old.options res label.now (R.remaining input.old) (W.contents out.old) (W.contents out.new)
+        → PrintsOutput grep.old.options res label.now (R.remaining input.old) (W.contents out.old) (W.contents out.new)
         count) }
     ensures kept { grep.new ≡ grep.old }
 {

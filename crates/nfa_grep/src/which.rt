@@ -6,7 +6,9 @@ ghost use Rattle.regex_search_core.specs.Search.{whole};
 ghost use Rattle.nfa_engines.specs.Overlaps.{HoldsPattern};
 ghost use Rattle.nfa_compiler.specs.Compiled.{IsCompiled, IsNfaOf};
 ghost use Rattle.nfa_compiler.specs.KindLaws.{PatternMatches};
-ghost use Rattle.nfa_grep.specs.Meant.{line_syntax};
+ghost use Rattle.nfa_compiler.specs.Written.{byte_syntax};
+ghost use Rattle.nfa_grep.specs.Meant.{Mean, numbers_found, which_found};
+ghost use Rattle.nfa_grep.specs.Printed.{number_list};
 
 use anyhow::Result;
 use itoa::Buffer;
@@ -43,7 +45,7 @@ impl Model for Which {
 impl Which {
     /// Compiles the patterns. Fails if a text is not a pattern, if the patterns are too large, or if allocation failed.
     pub fn new(alloc: Global, patterns: &[&str]) -> Result<Which>
-        ensures { IfOk result (λ which. IsCompiled line_syntax (map (λ text. text.now) patterns.now) which) }
+        ensures { IfOk result (λ which. IsCompiled byte_syntax (map (λ text. text.now) patterns.now) which) }
     {
         let config = Config::new().utf8(false);
         let nfa = Compiler::new()
@@ -60,6 +62,8 @@ impl Which {
     pub fn patterns_in(&mut self, alloc: Global, text: &[u8]) -> Result<PatternSet, Refused>
         ensures held { IfOk result (λ set. (res : List Re) → IsNfaOf res self.old
             → (k : ℕ) → HoldsPattern set k ↔ PatternMatches res false (whole text.now) k) }
+        ensures found { IfOk result (λ set. (texts : List (List ℕ)) → (res : List Re)
+            → IsCompiled byte_syntax texts self.old → Mean texts res → set ≡ which_found res text.now) }
         ensures kept { self.new ≡ self.old }
     {
         laws::sets_hold_patterns_that_match();
@@ -68,25 +72,31 @@ impl Which {
             .which_overlapping_matches(&mut self.cache, &Input::new(text), &mut set);
         Ok(set)
     }
-}
 
-/// Appends the label, and the numbers of the patterns that match in the text of a line.
-pub fn append_mark(
-    alloc: Global,
-    which: &mut Which,
-    label: &[u8],
-    text: &[u8],
-    out: &mut Vec<u8>,
-) -> Result<(), AllocError> {
-    let Ok(set) = which.patterns_in(alloc, text) else {
-        return Err(AllocError);
-    };
-    out.extend_from_slice(label)?;
-    append_numbers(&set, out)
+    /// Appends the numbers of the patterns that match somewhere in the text of a line, in ascending order, with commas
+    /// between them, and a colon.
+    pub fn append_numbers(
+        &mut self,
+        alloc: Global,
+        text: &[u8],
+        out: &mut Vec<u8>,
+    ) -> Result<(), AllocError>
+        ensures numbers { OnOk result ((texts : List (List ℕ)) → (res : List Re)
+            → IsCompiled byte_syntax texts self.old → Mean texts res
+            → out.new.items ≡ out.old.items ++ number_list (numbers_found res text.now)) }
+        ensures kept { self.new ≡ self.old }
+    {
+        let Ok(set) = self.patterns_in(alloc, text) else {
+            return Err(AllocError);
+        };
+        append_set(&set, out)
+    }
 }
 
 /// Appends the numbers of the patterns in the set, in ascending order, with commas between them, and a colon.
-fn append_numbers(set: &PatternSet, out: &mut Vec<u8>) -> Result<(), AllocError> {
+fn append_set(set: &PatternSet, out: &mut Vec<u8>) -> Result<(), AllocError>
+    ensures { OnOk result (out.new.items ≡ out.old.items ++ number_list (patterns_of set.now)) }
+{
     let mut buffer = Buffer::new();
     let mut first = true;
     for pattern in set.iter() {

@@ -5,17 +5,19 @@ use Rattle.std.specs.Option.{option_or, option_map_or}
 use Rattle.std.specs.List.{slice_get, range_with_len}
 use Rattle.std.proofs.lemmas.Bool.{cases_lt, le-leb, lt-leb}
 use Rattle.std.proofs.lemmas.Option.{slice_get-map}
-use Rattle.regex_search_core.specs.Found.{Found}
+use Rattle.regex_search_core.specs.Found.{Found, HalfFound}
 use Rattle.regex_search_core.specs.Groups.{slot_count}
 use Rattle.regex_search_core.specs.Search.{Search, is_anchored}
 use Rattle.regex_search_core.specs.Slots.{offset_at, span_at, match_of}
 use Rattle.regex_search_core.specs.declared.search.MatchKind.{MatchKind}
 use Rattle.regex_search_core.specs.declared.search.Span.{Span}
 use Rattle.thompson_nfa.specs.Automaton.{Automaton, IsAutomaton}
-use Rattle.nfa_paths.specs.Graphs.{Pair, In, Linked, PathTo}
+use Rattle.nfa_paths.specs.Graphs.{Pair, In, EndsWith, Linked, PathTo}
 use Rattle.nfa_paths.specs.Paths.{edges, starts, capture, raised, path_pattern, pattern_of, node_at, last_of, slot_among, slot_row, is_utf8_empty, IsScanAnswer, IsKeptAnswer, IsRestartedAnswer, IsSearchAnswer, IsAnswer, IsMatchAnswer}
+use Rattle.nfa_paths.specs.Paths.{path_half, IsHalfAnswer}
 use Rattle.nfa_paths.proofs.AnswerLemmas.{scan_answer-leads, never_none}
 use Rattle.std.proofs.lemmas.List.Elements.{All-map, All-replicate}
+use Rattle.nfa_paths.proofs.PathToLemmas.{EndsWith-last}
 use Rattle.nfa_paths.proofs.PatternLemmas.{node-pattern}
 use Rattle.nfa_paths.proofs.ScanAnswerLemmas.{edges-onward, edges-within, starts-from, starts-within}
 
@@ -50,6 +52,12 @@ offsets slots p f = of (offset_at slots (2 * p)) (offset_at slots (2 * p + 1))
                 subst (λ (g : Found). g.start ≤ g.end) found ordered,
               )
         ]
+
+-- the pair that a list ends with stands in it
+EndsWith-in : (m : Pair) (p : List Pair) → EndsWith m p → In m p
+EndsWith-in m [] ends = ends
+EndsWith-in m (x ∷ []) ends = inl (sym ends)
+EndsWith-in m (x ∷ (y ∷ p)) ends = inr (EndsWith-in m (y ∷ p) ends)
 
 -- an offset of a row of values is one of the values
 offset-value : (f : ℕ → Option ℕ) (places : List ℕ) (i k : ℕ) → offset_at (map f places) i ≡ Some k
@@ -163,6 +171,36 @@ module _ (nfa : Automaton) where
             → (x.start ≤ f.start) × (f.start ≤ f.end) × (f.end ≤ x.end)
         of None answers e = cc
         of (Some p) answers e = some p (scanned x a.restarts p answers) (path_pattern nfa p) e
+
+    -- the end of an answer's path, and its pattern
+    ends-within : (x : Search) (p : List Pair) (s : Scanned x p) (h : HalfFound) → Some h ≡ path_half nfa p
+        → IsWithin x h.offset
+    ends-within x p s h e =
+        let to = scan_answer-leads nfa s.from kind earliest p s.answers in
+        let lies = path-within s.from to.end p to.path to.end (EndsWith-in to.end p to.path.ends) in
+        let is : to.end.1 ≡ h.offset = of to.end (EndsWith-last None to.end p to.path.ends) in
+        let on : x.start ≤ s.from.start = s.on in
+        let end : s.from.end ≡ x.end = s.end in
+        (omega (arith, lies.0, is), omega (arith, lies.1, is))
+      where
+        known : (k : Option ℕ) (at : ℕ) → Some h ≡ option_map (λ k. record { pattern = k; offset = at }) k
+            → at ≡ h.offset
+        known None at e = cc
+        known (Some k) at e = let same : h ≡ record { pattern = k; offset = at } = cc in
+            sym (ap (λ (h : HalfFound). h.offset) same)
+
+        of : (v : Pair) → last_of p ≡ Some v → v.1 ≡ h.offset
+        of v last = known (pattern_of (node_at nfa v.0)) v.1 (rw last at e)
+
+    -- the end of a half match lies in the span
+    pub half-within : (x : Search) (h : HalfFound) → IsHalfAnswer nfa kind earliest x (Some h)
+        → (x.start ≤ h.offset) × (h.offset ≤ x.end)
+    half-within x h a = of a.path a.answers a.found_is
+      where
+        of : (path : Option (List Pair)) → IsSearchAnswer nfa kind earliest x a.restarts path
+            → Some h ≡ option_and_then (path_half nfa) path → IsWithin x h.offset
+        of None answers e = cc
+        of (Some p) answers e = ends-within x p (scanned x a.restarts p answers) h e
 
     -- what holds of the number that a slot has
     if-some : (o : Option ℕ) (P : ℕ → Type 0) → ((k : ℕ) → o ≡ Some k → P k) → IfSome o P

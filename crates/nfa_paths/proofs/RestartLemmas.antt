@@ -5,7 +5,7 @@ use Rattle.std.specs.Prelude.{Option, Some, None, true, false, Bool, MatchBool, 
 use Rattle.std.proofs.Math.Nat.{mul-le-mul_left}
 use Rattle.std.proofs.Common.{inl, inr}
 use Rattle.regex_search_core.specs.Boundary.{IsBoundary}
-use Rattle.regex_search_core.specs.Found.{Found, half_found_of}
+use Rattle.regex_search_core.specs.Found.{Found, HalfFound, half_found_of}
 use Rattle.regex_search_core.specs.Search.{Search, is_anchored}
 use Rattle.regex_search_core.specs.Slots.{match_of}
 use Rattle.regex_search_core.specs.declared.search.HalfMatch.{HalfMatch}
@@ -13,7 +13,8 @@ use Rattle.regex_search_core.specs.declared.search.MatchKind.{MatchKind}
 use Rattle.thompson_nfa.specs.Automaton.{Automaton, IsAutomaton}
 use Rattle.nfa_paths.specs.Graphs.{Pair}
 use Rattle.nfa_paths.specs.Exploring.{Slots}
-use Rattle.nfa_paths.specs.Paths.{IsAnswer, IsMatchAnswer, span_len, raised, is_utf8_empty, path_pattern, slot_row, turn_weight, scan_limit}
+use Rattle.nfa_paths.specs.Paths.{IsAnswer, IsHalfAnswer, IsMatchAnswer, span_len, raised, is_utf8_empty, slot_row, turn_weight, scan_limit}
+use Rattle.nfa_paths.specs.Paths.{last_of, node_at, path_half, path_pattern, pattern_of}
 use Rattle.nfa_paths.specs.Paths.{EndsOnBoundary, SplitsCharacter, IsKeptAnswer, IsRestartedAnswer, IsScanAnswer, IsSearchAnswer, IsWhole, IsWithinScans}
 use Rattle.nfa_paths.specs.Restarts.{scan_turns, AreUnset, GivesPath, ScanGives, SearchGives, Restarts}
 use Rattle.nfa_paths.proofs.AnswerLemmas.{ends_on_boundary, split-within_scans, split-bound, one_scan-bound, scan_answer-within}
@@ -52,11 +53,11 @@ raised-start x y i start is next =
     rw (is, at) refl
 
 module _ (nfa : Automaton) (kind : MatchKind) (earliest : Bool) where
-  -- the pattern of what a scan finds is that of the path
-  pattern-found : (y : Search) {half : HalfMatch} {slots : Slots} {turns : ℕ}
+  -- the pattern and the end of what a scan finds are those of the path
+  half-found : (y : Search) {half : HalfMatch} {slots : Slots} {turns : ℕ}
       (f : GivesPath nfa kind earliest y half slots turns)
-      → Some (half_found_of half).pattern ≡ path_pattern nfa f.path
-  pattern-found y f = rw f.ends (sym f.matches)
+      → Some (half_found_of half) ≡ path_half nfa f.path
+  half-found y f = rw (f.ends, f.matches) refl
 
   module _ (x : Search) where
     -- before the first scan
@@ -108,7 +109,7 @@ module _ (nfa : Automaton) (kind : MatchKind) (earliest : Bool) where
         restarts = scans;
         path = None;
         answers = settled None gives.0 (λ mode. tt);
-        pattern_is = refl;
+        half_is = refl;
         slots_are = gives.1 ∙ sym (slot_row-none nfa (length slots));
         scans_are = counted;
         turns_reach = omega arith;
@@ -131,7 +132,7 @@ module _ (nfa : Automaton) (kind : MatchKind) (earliest : Bool) where
         restarts = scans;
         path = Some f.path;
         answers = settled (Some f.path) f.answers (λ mode. (whole-found f).0 (boundary mode));
-        pattern_is = pattern-found y f;
+        half_is = half-found y f;
         slots_are = f.row;
         scans_are = counted;
         turns_reach = omega (arith, f.short);
@@ -162,7 +163,7 @@ module _ (nfa : Automaton) (kind : MatchKind) (earliest : Bool) where
               inr
                   (subst (SplitsCharacter nfa kind earliest) (sym (raised-none x)) (rw once at split)),
             );
-            pattern_is = refl;
+            half_is = refl;
             slots_are = unset ∙ sym (slot_row-none nfa (length slots));
             scans_are = counted;
             turns_reach = omega arith;
@@ -221,7 +222,42 @@ module _ (nfa : Automaton) (kind : MatchKind) (earliest : Bool) where
 
 -- From what a search comes to, to what its callers are told.
 
+-- the pattern of a path's half match is that of the path
+pub half-pattern : (nfa : Automaton) (path : Option (List Pair))
+    → option_map (λ (h : HalfFound). h.pattern) (option_and_then (path_half nfa) path)
+    ≡ option_and_then (path_pattern nfa) path
+half-pattern nfa None = refl
+half-pattern nfa (Some p) = of (last_of p)
+  where
+    known : (k : Option ℕ) (at : ℕ)
+        → option_map (λ (h : HalfFound). h.pattern) (option_map (λ k. record { pattern = k; offset = at }) k) ≡ k
+    known None at = refl
+    known (Some k) at = refl
+
+    of : (v : Option Pair)
+        → option_map (λ (h : HalfFound). h.pattern) (option_and_then
+        (λ v. option_map (λ k. record { pattern = k; offset = v.1 }) (pattern_of (node_at nfa v.0))) v)
+        ≡ option_and_then (λ v. pattern_of (node_at nfa v.0)) v
+    of None = refl
+    of (Some v) = known (pattern_of (node_at nfa v.0)) v.1
+
 module _ (nfa : Automaton) (kind : MatchKind) (earliest : Bool) (x : Search) {slots : Slots} {scans turns : ℕ} where
+  -- the pattern and the end
+  pub half-of : (half : Option HalfMatch) → SearchGives nfa kind earliest x half slots scans turns
+      → IsHalfAnswer nfa kind earliest x (option_map half_found_of half)
+  half-of half s = record { restarts = s.restarts; path = s.path; answers = s.answers; found_is = s.half_is }
+
+  -- the pattern
+  pattern-given : (half : Option HalfMatch) (s : SearchGives nfa kind earliest x half slots scans turns)
+      → option_map (λ h. (half_found_of h).pattern) half ≡ option_and_then (path_pattern nfa) s.path
+  pattern-given half s =
+      patterns half ∙ ap (option_map (λ (h : HalfFound). h.pattern)) s.half_is ∙ half-pattern nfa s.path
+    where
+      patterns : (half : Option HalfMatch) → option_map (λ h. (half_found_of h).pattern) half
+          ≡ option_map (λ (h : HalfFound). h.pattern) (option_map half_found_of half)
+      patterns None = refl
+      patterns (Some h) = refl
+
   -- the pattern and the slots, of which the searched ones are a part
   pub answer-of : (half : Option HalfMatch) (pattern : Option ℕ)
       → pattern ≡ option_map (λ h. (half_found_of h).pattern) half
@@ -233,7 +269,7 @@ module _ (nfa : Automaton) (kind : MatchKind) (earliest : Bool) (x : Search) {sl
     restarts = s.restarts;
     path = s.path;
     answers = s.answers;
-    pattern_is = is ∙ s.pattern_is;
+    pattern_is = is ∙ pattern-given half s;
     slots_are = whole s.path s.slots_are;
   }
 
@@ -256,6 +292,7 @@ module _ (nfa : Automaton) (kind : MatchKind) (earliest : Bool) (x : Search) {sl
     path = s.path;
     answers = s.answers;
     found_is =
-        let pattern : Some k ≡ option_and_then (path_pattern nfa) s.path = ap Some is ∙ s.pattern_is in
+        let pattern : Some k ≡ option_and_then (path_pattern nfa) s.path = ap Some is
+        ∙ pattern-given (Some half) s in
         leads ∙ match-along-path nfa valid k slots size s.path pattern s.slots_are;
   }

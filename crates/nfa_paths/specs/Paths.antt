@@ -3,7 +3,7 @@ use Rattle.std.specs.Prelude.{◌≡◌, ℕ, zero, suc, ◌+◌, ◌-◌, ◌<�
 use Rattle.std.specs.List.{range_with_len, sum_by, last_or}
 use Rattle.std.specs.Option.{option_or, option_map_or}
 use Rattle.regex_search_core.specs.Boundary.{IsBoundary}
-use Rattle.regex_search_core.specs.Found.{Found}
+use Rattle.regex_search_core.specs.Found.{Found, HalfFound}
 use Rattle.regex_search_core.specs.Groups.{slot_count}
 use Rattle.regex_search_core.specs.Search.{Search, is_anchored}
 use Rattle.regex_search_core.specs.Slots.{match_of}
@@ -142,6 +142,11 @@ module _ (nfa : Automaton) where
   abbrev pub path_pattern : List Pair → Option ℕ
   path_pattern p = option_and_then (λ v. pattern_of (node_at v.0)) (last_of p)
 
+  -- that pattern, and where the path ends
+  abbrev pub path_half : List Pair → Option HalfFound
+  path_half p = option_and_then
+      (λ v. option_map (λ k. record { pattern = k; offset = v.1 }) (pattern_of (node_at v.0))) (last_of p)
+
   -- where the last of the pairs that writes the slot stands
   abbrev pub slot_among : List Pair → ℕ → Option ℕ
   slot_among [] slot = None
@@ -212,6 +217,13 @@ module _ (nfa : Automaton) (kind : MatchKind) (earliest : Bool) where
     pub answers : IsSearchAnswer x restarts path
     pub found_is : found ≡ match_of (option_and_then (path_pattern nfa) path)
         (slot_row nfa (slot_count nfa.groups) path)
+
+  -- the pattern of the search's answer, and where its path ends
+  pub record IsHalfAnswer (x : Search) (found : Option HalfFound) : Type 0 where
+    pub restarts : ℕ
+    pub path : Option (List Pair)
+    pub answers : IsSearchAnswer x restarts path
+    pub found_is : found ≡ option_and_then (path_half nfa) path
 
   -- One scan more than restarts were made, and a turn at least for each pair of the answer's path.
   pub record IsWork (x : Search) (scans turns : ℕ) : Type 0 where

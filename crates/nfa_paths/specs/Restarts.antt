@@ -9,7 +9,7 @@ use Rattle.regex_search_core.specs.declared.search.MatchKind.{MatchKind}
 use Rattle.thompson_nfa.specs.Automaton.{Automaton}
 use Rattle.nfa_paths.specs.Graphs.{Pair}
 use Rattle.nfa_paths.specs.Exploring.{Slots}
-use Rattle.nfa_paths.specs.Paths.{span_len, turn_weight, raised, node_at, pattern_of, last_of, path_pattern, slot_row}
+use Rattle.nfa_paths.specs.Paths.{span_len, turn_weight, raised, node_at, pattern_of, last_of, path_half, slot_row}
 use Rattle.nfa_paths.specs.Paths.{is_utf8_empty, IsScanAnswer, IsSearchAnswer, SplitsCharacter}
 
 -- the turns of one scan at most
@@ -41,7 +41,7 @@ module _ (nfa : Automaton) (kind : MatchKind) (earliest : Bool) (x : Search) whe
     pub restarts : ℕ
     pub path : Option (List Pair)
     pub answers : IsSearchAnswer nfa kind earliest x restarts path
-    pub pattern_is : option_map (λ h. (half_found_of h).pattern) half ≡ option_and_then (path_pattern nfa) path
+    pub half_is : option_map half_found_of half ≡ option_and_then (path_half nfa) path
     pub slots_are : slots ≡ slot_row nfa (length slots) path
     pub scans_are : scans ≡ restarts + 1
     pub turns_reach : option_map_or length path 0 ≤ turns

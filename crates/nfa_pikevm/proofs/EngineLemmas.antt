@@ -3,8 +3,9 @@ use Rattle.std.proofs.Common.{◌≡◌, ℕ, ◌+◌, ◌≤◌, min, inl, inr,
 use Rattle.std.specs.Prelude.{Option, Some, None, Bool, option_map, IfSome, IfNone, All, ◌<◌}
 use Rattle.std.proofs.lemmas.Bool.{cases_lt}
 use Rattle.std.proofs.lemmas.List.{append-nil}
-use Rattle.regex_search_core.specs.Found.{found_of}
+use Rattle.regex_search_core.specs.Found.{found_of, half_found_of}
 use Rattle.regex_search_core.specs.Patterns.{number_of}
+use Rattle.regex_search_core.specs.declared.search.HalfMatch.{HalfMatch}
 use Rattle.regex_search_core.specs.declared.search.Match.{Match}
 use Rattle.regex_search_core.specs.declared.primitives.PatternID.{PatternID}
 use Rattle.regex_search_core.specs.Groups.{slot_count}
@@ -12,10 +13,10 @@ use Rattle.regex_search_core.specs.Search.{Search}
 use Rattle.regex_search_core.specs.declared.search.MatchKind.{MatchKind}
 use Rattle.thompson_nfa.specs.Automaton.{Automaton, IsAutomaton}
 use Rattle.nfa_paths.specs.Graphs.{Pair}
-use Rattle.nfa_paths.specs.Paths.{slot_row, IsAnswer, IsMatchAnswer}
+use Rattle.nfa_paths.specs.Paths.{slot_row, IsAnswer, IsHalfAnswer, IsMatchAnswer}
 use Rattle.nfa_paths.specs.Exploring.{Slots}
 use Rattle.nfa_paths.proofs.PatternLemmas.{slot_row-more, slots-unset}
-use Rattle.nfa_paths.proofs.InsideLemmas.{match-within, match-pattern, slots-within, pattern-within}
+use Rattle.nfa_paths.proofs.InsideLemmas.{half-within, match-within, match-pattern, slots-within, pattern-within}
 use Rattle.nfa_pikevm_scan.specs.Scans.{blank}
 use Rattle.nfa_search_base.specs.Lists.{IsInside, IsSlotInside}
 
@@ -51,6 +52,11 @@ module _ (nfa : Automaton) (kind : MatchKind) (earliest : Bool) (x : Search) whe
   inside-of None h = tt
   inside-of (Some m) h = let k = match-within nfa kind earliest x (found_of m) h in
       record { from = k.0; ordered = k.1; to = k.2 }
+
+  pub half-inside : (r : Option HalfMatch) → IsHalfAnswer nfa kind earliest x (option_map half_found_of r)
+      → IfSome r (λ m. (x.start ≤ (half_found_of m).offset) × ((half_found_of m).offset ≤ x.end))
+  half-inside None h = tt
+  half-inside (Some m) h = half-within nfa kind earliest x (half_found_of m) h
 
   pub pattern-of : IsAutomaton nfa → (r : Option Match) → IsMatchAnswer nfa kind earliest x (option_map found_of r)
       → IfSome r (λ m. (found_of m).pattern < length nfa.patterns)

@@ -1,15 +1,18 @@
 -- What the searches of an iteration by a PikeVM answer, and what its iterator may ask and keeps.
-use Rattle.std.proofs.Common.{◌≡◌, ◌∙◌, Bool, false, Option, None, Some, Result, Ok, refl, sym, subst, inl, inr}
+use Rattle.std.proofs.Common.{◌≡◌, ◌∙◌, Bool, false, Option, None, Some, Result, Ok, refl, sym, subst, inl, inr, ap, arith}
+use Rattle.std.proofs.Common.{List, [], ◌∷◌, ◌++◌, length, map, length-append}
+use Rattle.std.proofs.lemmas.List.{length-map}
 use Rattle.std.specs.Option.{option_map}
 use Rattle.regex_search_core.specs.Found.{Found, found_of}
 use Rattle.regex_search_core.specs.Search.{Search}
 use Rattle.regex_search_core.specs.declared.search.Match.{Match}
+use Rattle.regex_search_core.specs.declared.search.MatchKind.{MatchKind}
 use Rattle.nfa_paths.proofs.KnownLemmas.{match-sure, sure-match}
 use Rattle.thompson_nfa.specs.Automaton.{Automaton}
 use Rattle.nfa_search_base.specs.Asking.{SameButStart}
 use Rattle.nfa_search_base.specs.Lending.{With}
 use Rattle.nfa_search_base.specs.Lent.{lent_state, lent_walk}
-use Rattle.nfa_search_base.specs.Lists.{TellsMatch}
+use Rattle.nfa_search_base.specs.Lists.{AreFirstMatches, AreMatches, TellsMatch}
 use Rattle.nfa_search_base.specs.Steps.{GivesItem}
 use Rattle.nfa_search_base.specs.Stored.{steps_walk, can_step_surely, takes_steps}
 use Rattle.nfa_search_base.specs.Walks.{Answer, IsSurelyInside, fresh, span_of}
@@ -18,6 +21,7 @@ use Rattle.nfa_search_base.specs.declared.iter.steps.Steps.{Steps}
 use Rattle.nfa_search_base.proofs.EngineLemmas.{calls-kept, find-lies, finder-acts, finder-goes, finder-serves}
 use Rattle.nfa_search_base.proofs.EngineLemmas.{same-or-made}
 use Rattle.nfa_search_base.proofs.LeavingLemmas.{finds-leave, finds-to_end}
+use Rattle.nfa_search_base.proofs.ListLemmas.{matches-rest}
 use Rattle.nfa_pikevm.specs.Engines.{Fits, Pike, PikeCache, SameNumbers, kind_of}
 use Rattle.nfa_pikevm.specs.FindMatches.{AsksPike, FindsBySearches, GivesCache, MayFindByPike, fits_pike, pike_finds}
 use Rattle.nfa_pikevm.specs.FindMatches.{pike_finds_next, pike_knowing}
@@ -73,6 +77,13 @@ pike-acts vm x s t a s' same is asked =
     let k = finder-acts IsSureOf pike_knowing fits_pike PikeTells (λ vm x a. PikeSearches vm x)
     (λ vm x a. searched-fits vm x) vm s t a s' is asked in
     (subst (λ (b : Bool). TellsMatch vm.nfa (kind_of vm) b t a) same.earliest k.0, k.1)
+
+-- where a match came there is a match
+pub none-before : (nfa : Automaton) (kind : MatchKind) (earliest : Bool) (x : Search) (ms : List Match) (m : Match)
+    → AreFirstMatches nfa kind earliest x (map found_of (ms ++ m ∷ [])) → AreMatches nfa kind earliest x [] → ⊥
+none-before nfa kind earliest x ms m first none =
+    let rest = matches-rest nfa kind earliest x (map found_of (ms ++ m ∷ [])) [] first none in
+    omega (arith, simp (length-append, length-map) at (ap length rest.1))
 
 -- ---- the cache
 

@@ -1,5 +1,5 @@
 //! The cache that a PikeVM searches with, and whether it fits.
-ghost use Rattle.std.specs.Prelude.{◌≡◌, ◌↔◌, IfOk, OnOk, OnErr, IsOkUnless, IsTrue};
+ghost use Rattle.std.specs.Prelude.{◌≡◌, ◌↔◌, IfOk, IsOk, OnOk, OnErr, IsOkUnless, IsTrue};
 ghost use Rattle.nfa_pikevm.specs.Engines.{Fits, cache_for, refitted, pike_memory_of};
 
 use crate::engine::PikeVM;
@@ -59,7 +59,9 @@ impl Cache {
         ensures memory { IsOkUnless result SearchError.Memory }
     {
         let nfa = vm.get_nfa();
-        let size = size_for(nfa).ok_or(SearchError::Memory)?;
+        let Some(size) = size_for(nfa) else {
+            return Err(SearchError::Memory);
+        };
         let mut threads = Threads::new(alloc)?;
         let mut found = Vec::new(alloc);
         make_room(&mut threads, &mut found, &size, nfa.start_anchored())?;
@@ -73,23 +75,28 @@ impl Cache {
         })
     }
 
-    /// Makes the cache fit the PikeVM, also if that makes it smaller. It keeps the memory that it has. The error is
-    /// `Memory` alone; the cache then is as it was, and fits what it fitted.
+    /// Makes the cache fit the PikeVM, also if that makes it smaller. It keeps the memory that it has, so this is `Ok`
+    /// if the cache fits already. The only error is `Memory`; the cache then is as it was, and fits what it fitted.
     pub fn reset(&mut self, vm: &PikeVM) -> Result<(), SearchError>
+        ensures granted { Fits self.old vm.now.nfa → IsOk result }
         ensures made { OnOk result (self.new ≡ refitted self.old vm.now.nfa) }
         ensures kept { OnErr result (self.new ≡ self.old) }
         ensures memory { IsOkUnless result SearchError.Memory }
     {
+        let Cache {
+            threads,
+            found,
+            slots,
+            patterns,
+            ..
+        } = self;
         let nfa = vm.get_nfa();
-        let size = size_for(nfa).ok_or(SearchError::Memory)?;
-        make_room(
-            &mut self.threads,
-            &mut self.found,
-            &size,
-            nfa.start_anchored(),
-        )?;
-        self.slots = size.slots;
-        self.patterns = nfa.pattern_len();
+        let Some(size) = size_for(nfa) else {
+            return Err(SearchError::Memory);
+        };
+        make_room(threads, found, &size, nfa.start_anchored())?;
+        *slots = size.slots;
+        *patterns = nfa.pattern_len();
         Ok(())
     }
 

@@ -1,12 +1,13 @@
 //! The PikeVM and its searches.
-ghost use Rattle.std.specs.Prelude.{◌≡◌, ◌+◌, ◌*◌, ◌≤◌, None, Ok, false, not, length, min, replicate, option_map, IfOk, IfNone, IfSome, All, ◌<◌, OnOk, OnErr, IsOkUnless};
+ghost use Rattle.std.specs.Prelude.{◌≡◌, ◌+◌, ◌*◌, ◌≤◌, None, Ok, false, not, length, min, replicate, option_map, IfOk, IfNone, IfSome, All, ◌<◌, IsOk, OnOk, OnErr, IsOkUnless};
 ghost use Rattle.regex_search_core.specs.Search.{search_of};
 ghost use Rattle.regex_search_core.specs.Groups.{slot_count};
 ghost use Rattle.regex_search_core.specs.Patterns.{number_of};
-ghost use Rattle.regex_search_core.specs.Found.{found_of};
+ghost use Rattle.regex_search_core.specs.Found.{found_of, half_found_of};
 ghost use Rattle.thompson_nfa.specs.Simple.{always, never};
 ghost use Rattle.nfa_paths.specs.Overlaps.{IsOverlapResult};
-ghost use Rattle.nfa_paths.specs.Paths.{span_len, turn_weight, scan_limit, is_utf8_empty, IsAnswer, IsMatchAnswer, IsFoundAnswer, IsWork};
+ghost use Rattle.nfa_paths.specs.Paths.{span_len, turn_weight, scan_limit, is_utf8_empty, IsAnswer, IsFoundAnswer};
+ghost use Rattle.nfa_paths.specs.Paths.{IsHalfAnswer, IsMatchAnswer, IsWork};
 ghost use Rattle.nfa_pikevm.specs.Engines.{AddsPikeWork, Fits, SameNumbers, kind_of, cache_for, refitted};
 ghost use Rattle.nfa_pikevm_scan.specs.Needs.{overlap_scans};
 ghost use Rattle.nfa_pikevm_scan.specs.Scans.{HaveRoom, SameSizes, scan_turns};
@@ -22,7 +23,7 @@ use nfa_pikevm_scan::slot::{Slot, hand_out, match_in};
 use nfa_scanning::first_bytes::FirstBytes;
 use nfa_scanning::starts::is_utf8_empty;
 use nfa_search_base::error::SearchError;
-use regex_search_core::{Captures, Input, Match, NonMaxUsize, PatternID, PatternSet};
+use regex_search_core::{Captures, HalfMatch, Input, Match, NonMaxUsize, PatternID, PatternSet};
 use std::alloc::Global;
 use std::marker::Model;
 use thompson_nfa::{BuildError, NFA};
@@ -117,9 +118,10 @@ impl PikeVM {
         Cache::new(alloc, self)
     }
 
-    /// Makes the cache fit this PikeVM, also if that makes it smaller. The only error is `Memory`; the cache then is
-    /// as it was.
+    /// Makes the cache fit this PikeVM, also if that makes it smaller. This is `Ok` if the cache fits already. The only
+    /// error is `Memory`; the cache then is as it was.
     pub fn reset_cache(&self, cache: &mut Cache) -> Result<(), SearchError>
+        ensures granted { Fits cache.old self.now.nfa → IsOk result }
         ensures made { OnOk result (cache.new ≡ refitted cache.old self.now.nfa) }
         ensures kept { OnErr result (cache.new ≡ cache.old) }
         ensures memory { IsOkUnless result SearchError.Memory }
@@ -302,6 +304,43 @@ impl PikeVM {
         past_scans.take(&mut threads.scans);
         threads.reached.seen.restart_turns(past_turns);
         self.find_with(threads, &input, found.as_mut_slice())
+    }
+
+    /// Returns the pattern of the match that a search of the input finds, and the offset of its end. It writes no slots,
+    /// so the NFA need not write where its matches start and end.
+    ///
+    /// Returns `None` if nothing matches.
+    ///
+    /// Requires a cache that fits. A search leaves its numbers as they are.
+    pub fn find_half<'h>(&self, cache: &mut Cache, input: Input<'h>) -> Option<HalfMatch>
+        requires { Fits cache.old self.now.nfa }
+        ensures answer { IsHalfAnswer self.now.nfa (kind_of self.now) (search_of input.entry).earliest
+            (search_of input.entry) (option_map half_found_of result) }
+        ensures pattern { IfSome result (λ m. (half_found_of m).pattern < length self.now.nfa.patterns) }
+        ensures inside { IfSome result (λ m. ((search_of input.entry).start ≤ (half_found_of m).offset)
+            × ((half_found_of m).offset ≤ (search_of input.entry).end)) }
+
+        ensures numbers { SameNumbers cache.old cache.new }
+        ensures total { AddsPikeWork cache.old cache.new }
+
+        ensures work { IsWork self.now.nfa (kind_of self.now) (search_of input.entry).earliest (search_of input.entry)
+            cache.new.scans cache.new.turns }
+        ensures scans { cache.new.scans ≤ scan_limit self.now.nfa (search_of input.entry) }
+        ensures turns { cache.new.turns ≤ cache.new.scans * ((1 + turn_weight self.now.nfa)
+            * (span_len (search_of input.entry) + 1)) }
+    {
+        let Cache {
+            threads,
+            past_scans,
+            past_turns,
+            ..
+        } = cache;
+        past_scans.take(&mut threads.scans);
+        threads.reached.seen.restart_turns(past_turns);
+        // An NFA that can be read is valid, so each Match state is of one of its patterns.
+        self.nfa.states();
+        let match_kind = self.config.get_match_kind();
+        search(&self.nfa, &self.first, match_kind, &input, threads, &mut [])
     }
 
     /// Returns whether a search of the input finds a match. The flag `earliest` of the input does not change the

@@ -35,7 +35,7 @@ struct Finder<'r> {
 }
 
 impl PikeVM {
-    ghost use Rattle.std.specs.Prelude.{false, All, IfOk, IsOkUnless, None, map};
+    ghost use Rattle.std.specs.Prelude.{false, All, IfOk, IsOk, IsOkUnless, None, [], map};
     ghost use Rattle.regex_search_core.specs.Found.{found_of};
     ghost use Rattle.nfa_search_base.specs.Lists.{AreMatches, AreApart, IsInside};
     ghost use Rattle.nfa_search_base.specs.Walks.{fresh};
@@ -87,8 +87,8 @@ impl PikeVM {
         }
     }
 
-    /// Returns all matches that do not overlap, from left to right. The error is that there was no memory:
-    /// [`SearchError::Memory`] alone.
+    /// Returns all matches that do not overlap, from left to right. Allocates only if there is a match. The only error is
+    /// [`SearchError::Memory`].
     pub fn find_all(
         &self,
         alloc: Global,
@@ -97,6 +97,8 @@ impl PikeVM {
     ) -> Result<Vec<Match>, SearchError>
         requires { Fits cache.old self.now.nfa }
         ensures memory { IsOkUnless result SearchError.Memory }
+        ensures granted { AreMatches self.now.nfa (kind_of self.now) (search_of input.entry).earliest
+            (search_of input.entry) [] → IsOk result }
         ensures all { IfOk result (λ found.
             AreMatches self.now.nfa (kind_of self.now) (search_of input.entry).earliest (search_of input.entry)
             (map found_of found.items)) }

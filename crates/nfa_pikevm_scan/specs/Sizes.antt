@@ -1,5 +1,5 @@
 -- How much the parts of a cache hold, and how much an engine asks for.
-use Rattle.std.specs.Prelude.{◌≡◌, ◌⊎◌, ℕ, ◌+◌, ◌*◌, ◌^◌, ◌≤◌, length}
+use Rattle.std.specs.Prelude.{◌≡◌, ◌⊎◌, ℕ, ◌+◌, ◌*◌, ◌^◌, ◌<◌, ◌≤◌, length}
 use Rattle.regex_search_core.specs.Groups.{slot_count}
 use Rattle.thompson_nfa.specs.Automaton.{Automaton}
 use Rattle.nfa_pikevm_scan.specs.Needs.{stack_places}
@@ -17,16 +17,26 @@ sizes_for states slots frames = record {
   frames = frames;
 }
 
--- The threads of a cache have the sizes for its states and frames, and for so many slots. `found` is the length of the
--- row that a search fills.
+-- The threads of a cache have the sizes for its states and frames, and for so many slots, and a `usize` says how much
+-- that is. `found` is the length of the row that a search fills.
 pub record IsRoomFor (slots : ℕ) (t : Threads) (found : ℕ) : Type 0 where
   pub sized : sizes_of t ≡ sizes_for (length t.reached.seen.bits) slots (length t.frames.items)
   pub row : found ≡ slots
+  pub places : t.curr.places < 2 ^ 64
+  pub cells : t.curr.cells < 2 ^ 64
 
 -- The size tells the places and the cells of a set.
 pub record IsSize (size : Size) : Type 0 where
   pub places : size.places ≡ size.states + 1
   pub cells : size.cells ≡ size.places * size.slots
+
+-- The threads, and a row of `found` slots, are at least as large.
+pub record Holds (size : Size) (t : Threads) (found : ℕ) : Type 0 where
+  pub states : size.states ≤ length t.reached.seen.bits
+  pub places : size.places ≤ t.curr.places
+  pub cells : size.cells ≤ t.curr.cells
+  pub frames : size.frames ≤ length t.frames.items
+  pub slots : size.slots ≤ found
 
 -- This is what a search of the NFA needs.
 pub record IsSizeOf (nfa : Automaton) (size : Size) : Type 0 where

@@ -1,10 +1,11 @@
 //! How much room a cache has.
-ghost use Rattle.std.specs.Prelude.{◌≡◌, ◌≤◌, OnOk, replicate, vec_capacity};
+ghost use Rattle.std.specs.Prelude.{◌≡◌, ◌≤◌, IsOk, OnOk, replicate, vec_capacity};
 
 use regex_search_core::Refused;
 
-/// Makes room for so many elements, and changes none.
+/// Makes room for so many elements, and changes none. It fails only if it has to grow.
 pub fn reserve<T: Drop>(items: &mut Vec<T>, count: usize) -> Result<(), Refused>
+    ensures granted { count ≤ vec_capacity items.old → IsOk result }
     ensures items { items.new.items ≡ items.old.items }
     ensures room { OnOk result (count ≤ vec_capacity items.new) }
 {

@@ -1,10 +1,10 @@
 //! How much room an NFA needs.
-ghost use Rattle.std.specs.Prelude.{◌≡◌, ◌^◌, ◌≤◌, IfSome, IfNone, OnOk, OnErr, length, max};
+ghost use Rattle.std.specs.Prelude.{◌≡◌, ◌^◌, ◌≤◌, IfSome, IfNone, IsOk, OnOk, OnErr, length, max};
 ghost use Rattle.std.specs.List.{sum_by};
 ghost use Rattle.thompson_nfa.specs.Automaton.{node_of};
 ghost use Rattle.nfa_pikevm_scan.specs.Needs.{room_of, stack_places};
 ghost use Rattle.nfa_pikevm_scan.specs.Scans.{sizes_of};
-ghost use Rattle.nfa_pikevm_scan.specs.Sizes.{sizes_for, IsSize, IsSizeOf, IsTooLarge};
+ghost use Rattle.nfa_pikevm_scan.specs.Sizes.{sizes_for, Holds, IsSize, IsSizeOf, IsTooLarge};
 
 use crate::frame::FollowEpsilon;
 use crate::room::{refill, reserve};
@@ -74,7 +74,8 @@ pub fn size_for(nfa: &NFA) -> Option<Size>
     })
 }
 
-/// Makes the parts of a cache as large as this, and no larger. All memory is taken before anything changes.
+/// Makes the parts of a cache as large as this, and no larger. All memory is taken before anything changes. It fails
+/// only if a part has to grow.
 pub fn make_room(
     threads: &mut Threads,
     found: &mut Vec<Slot>,
@@ -82,6 +83,7 @@ pub fn make_room(
     filler: StateID,
 ) -> Result<(), Refused>
     requires { IsSize size.now }
+    ensures granted { Holds size.now threads.old (length found.old.items) → IsOk result }
     ensures sizes { OnOk result (sizes_of threads.new
         ≡ sizes_for size.now.states size.now.slots size.now.frames) }
     ensures row { OnOk result (length found.new.items ≡ size.now.slots) }

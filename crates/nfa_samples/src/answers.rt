@@ -80,6 +80,25 @@ pub const FOUND: &[(&str, &str, &str)] = &[
     ("backwards", "a", "none"),
 ];
 
+/// A haystack, and the pattern and the end of the first match. The last rows are of NFAs that do not write their bounds:
+/// there the end is the position of the Match state that the first path reaches.
+pub const HALVES: &[(&str, &str, &str)] = &[
+    ("abc_a", "xabc", "0 4"),
+    ("ab_b", "xb", "1 2"),
+    ("b_a", "ab", "1 1"),
+    ("foo_bar", "xbarfoo", "1 4"),
+    ("snowman", "a☃b", "0 4"),
+    ("empty_or_a", "a", "0 0"),
+    ("empty", "☃", "0 0"),
+    ("empty_anchored", "☃", "0 0"),
+    ("three_digits", "x 123 y", "0 5"),
+    ("three_digits", "é123", "none"),
+    ("date", "2010-03-14", "0 10"),
+    ("a_bare", "ba", "0 2"),
+    ("a_bare", "b", "none"),
+    ("backwards", "ba", "0 2"),
+];
+
 /// A haystack, the start and the end of the span that is searched, whether the search is anchored, and the pattern and
 /// span of the first match.
 pub const FOUND_IN_SPAN: &[(&str, &str, usize, usize, bool, &str)] = &[

@@ -9,6 +9,10 @@ size_of_set which = count_by (λ b. b) which
 abbrev pub with_pattern : List Bool → ℕ → List Bool
 with_pattern which pattern = if nat_lt pattern (length which) then slice_set which pattern true else which
 
+-- the set without the pattern
+abbrev pub without_pattern : List Bool → ℕ → List Bool
+without_pattern which pattern = if nat_lt pattern (length which) then slice_set which pattern false else which
+
 -- the places that hold true, in order, counted from n
 abbrev pub places_from : ℕ → List Bool → List ℕ
 places_from n [] = []

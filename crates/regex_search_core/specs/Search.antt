@@ -1,5 +1,6 @@
 -- what a search is asked
-use Rattle.std.specs.Prelude.{ℕ, Bool, true, false, List, length}
+use Rattle.std.specs.Prelude.{ℕ, Bool, true, false, List, length, Option, Some, None}
+use Rattle.regex_search_core.specs.Patterns.{number_of}
 use Rattle.regex_search_core.specs.declared.search.Anchored.{Anchored}
 use Rattle.regex_search_core.specs.declared.search.Anchored.TheVariants.{No, Yes, Pattern}
 use Rattle.regex_search_core.specs.declared.search.Input.{Input}
@@ -9,6 +10,12 @@ abbrev pub is_anchored : Anchored → Bool
 is_anchored No = false
 is_anchored Yes = true
 is_anchored (Pattern pattern) = true
+
+-- the one pattern that may match
+abbrev pub anchored_pattern : Anchored → Option ℕ
+anchored_pattern No = None
+anchored_pattern Yes = None
+anchored_pattern (Pattern pattern) = Some (number_of pattern)
 
 -- what a search is asked: the haystack, the span from start to end, and how it is searched
 pub record Search : Type 0 where

@@ -1,7 +1,8 @@
 -- slots, and the match that two of them give
-use Rattle.std.specs.Prelude.{ℕ, ◌+◌, ◌*◌, List, Option, Some, None, option_map, option_and_then, if◌then◌else◌, nat_le, slice_get}
+use Rattle.std.specs.Prelude.{ℕ, zero, suc, ◌+◌, ◌*◌, List, [], ◌∷◌, length, Option, Some, None, option_map, option_and_then, if◌then◌else◌, nat_le, slice_get, slice_range}
+use Rattle.std.specs.Option.{option_map_or}
 use Rattle.regex_search_core.specs.Found.{Found}
-use Rattle.regex_search_core.specs.Groups.{slot_at, group_named}
+use Rattle.regex_search_core.specs.Groups.{group_count, slot_at, group_named}
 use Rattle.regex_search_core.specs.declared.search.Span.{Span}
 
 -- what a search found: the groups, the pattern if one matched, and the slots
@@ -38,3 +39,23 @@ abbrev pub named_span : Captured → List ℕ → Option Span
 named_span captures name =
     option_and_then (λ pattern. option_and_then (λ group. group_span captures group)
     (group_named captures.groups pattern name)) captures.pattern
+
+-- how many groups the pattern has that is set, group 0 among them
+abbrev pub captured_count : Captured → ℕ
+captured_count captures = option_map_or (group_count captures.groups) captures.pattern 0
+
+-- the spans of n groups, from one group on
+abbrev pub spans_from : Captured → ℕ → ℕ → List (Option Span)
+spans_from captures group zero = []
+spans_from captures group (suc n) = group_span captures group ∷ spans_from captures (group + 1) n
+
+-- the spans of all groups of the pattern that is set, in order
+abbrev pub group_spans : Captured → List (Option Span)
+group_spans captures = spans_from captures 0 (captured_count captures)
+
+-- the bytes of the haystack at the span of the group, where there is one and it ends within the haystack
+abbrev pub text_of_group : Captured → List ℕ → ℕ → Option (List ℕ)
+text_of_group captures haystack group =
+    option_and_then (λ (s : Span).
+    if nat_le s.end (length haystack) then Some (slice_range haystack s.start s.end) else None)
+    (group_span captures group)

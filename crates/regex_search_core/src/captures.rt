@@ -2,14 +2,17 @@
 ghost use Rattle.std.specs.Prelude.{◌≡◌, ◌↔◌, ◌*◌, None, Ok, [], length, replicate, IfOk, IsTrue, IsSome, option_map};
 ghost use Rattle.std.specs.Borrow.{sem};
 ghost use Rattle.regex_search_core.specs.Groups.{slot_count};
-ghost use Rattle.regex_search_core.specs.Slots.{match_of, group_span, named_span};
+ghost use Rattle.regex_search_core.specs.Slots.{match_of, captured_count, group_span, named_span, text_of_group};
 ghost use Rattle.regex_search_core.specs.Patterns.{number_of};
+
+mod groups;
 
 use crate::group_info::GroupInfo;
 use crate::primitives::{NonMaxUsize, PatternID};
 use crate::refused::Refused;
 use crate::search::{Match, Span};
 use crate::slots::span_in;
+pub use groups::CapturesPatternIter;
 use std::alloc::Global;
 use std::marker::Model;
 
@@ -151,6 +154,37 @@ impl Captures {
     {
         let index = self.group_info.to_index(self.pattern?, name)?;
         self.get_group(index)
+    }
+
+    /// Returns the bytes of the haystack where the group took part, as [`Captures::get_group`] says. `None` also if the
+    /// haystack is shorter than the end of the group: the captures then are of another haystack.
+    pub fn group_text<'h>(&self, haystack: &'h [u8], index: usize) -> Option<&'h [u8]>
+        ensures { option_map (λ text. text.now) result ≡ text_of_group self.now haystack.now index }
+    {
+        let span = self.get_group(index)?;
+        if span.end > haystack.len() {
+            return None;
+        }
+        Some(&haystack[span.start..span.end])
+    }
+
+    /// Returns the number of groups of the pattern that is set, group 0 among them. It is 0 if no pattern is set, or one
+    /// that is unknown to the groups.
+    pub fn group_len(&self) -> usize
+        ensures { result ≡ captured_count self.now }
+    {
+        match self.pattern {
+            Some(pattern) => self.group_info.group_len(pattern),
+            None => 0,
+        }
+    }
+
+    /// Makes the captures show no match: no pattern, and no slot set. The groups and the number of slots stay.
+    pub fn clear(&mut self)
+        ensures { self.new ≡ record self.old { pattern = None; slots = replicate (length self.old.slots) None } }
+    {
+        self.pattern = None;
+        self.slots.fill(None);
     }
 
     /// Returns equal captures.

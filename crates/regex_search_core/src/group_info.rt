@@ -1,7 +1,7 @@
 //! The capture groups of all patterns, and their slots.
-ghost use Rattle.std.specs.Prelude.{◌≡◌, ◌+◌, ◌*◌, ◌<◌, ◌≤◌, length, map, take, sum_by, position, option_map, string_bytes, IfOk, IfSome};
+ghost use Rattle.std.specs.Prelude.{◌≡◌, ◌+◌, ◌*◌, ◌<◌, ◌≤◌, length, map, take, sum_by, position, option_map, string_bytes, IfOk, IfSome, IsSome, ◌↔◌};
 ghost use Rattle.std.specs.Option.{SomeIff};
-ghost use Rattle.regex_search_core.specs.Groups.{names_of, slot_count, slot_at, groups_at, group_named, is_named};
+ghost use Rattle.regex_search_core.specs.Groups.{names_of, explicit_slot, group_count, slot_count, slot_at, groups_at, group_named, is_named};
 ghost use Rattle.regex_search_core.specs.Patterns.{number_of};
 
 use crate::primitives::PatternID;
@@ -86,6 +86,35 @@ impl GroupInfo {
             return None;
         }
         Some(explicit_start(&self.names, index) + (group - 1) * 2)
+    }
+
+    /// Returns the number of groups of the pattern, group 0 among them. It is 0 for an unknown pattern.
+    #[tactic(auto, using(crate::proofs::GroupLemmas::slots_before))]
+    pub fn group_len(&self, pattern: PatternID) -> usize
+        ensures value { result ≡ group_count self.now (number_of pattern) }
+        ensures within { result ≤ 1073741823 }
+    {
+        let _ = &self.slot_len;
+        let index = pattern.as_usize();
+        if index >= self.names.len() {
+            return 0;
+        }
+        self.names[index].len() + 1
+    }
+
+    // The first slot of the explicit groups of the pattern, and the number of these groups. `None` for an unknown
+    // pattern.
+    pub(crate) fn explicit_groups(&self, pattern: PatternID) -> Option<(usize, usize)>
+        ensures known { IsSome result ↔ (number_of pattern < length self.now) }
+        ensures first { IfSome result (λ r. r.0 ≡ explicit_slot self.now (number_of pattern)) }
+        ensures count { IfSome result (λ r. r.1 ≡ length (groups_at self.now (number_of pattern))) }
+        ensures room { IfSome result (λ r. r.0 + 2 * r.1 ≤ 2147483646) }
+    {
+        let index = pattern.as_usize();
+        if index >= self.names.len() {
+            return None;
+        }
+        Some((explicit_start(&self.names, index), self.names[index].len()))
     }
 
     /// Returns the first group of this name of the pattern. `None` for an unknown pattern, or where no group has the

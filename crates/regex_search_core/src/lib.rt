@@ -23,7 +23,7 @@ mod refused;
 mod search;
 mod slots;
 
-pub use captures::Captures;
+pub use captures::{Captures, CapturesPatternIter};
 pub use group_info::GroupInfo;
 pub use pattern_set::{PatternSet, PatternSetIter};
 pub use primitives::{NonMaxUsize, PatternID, StateID};

@@ -1,6 +1,6 @@
 //! A set of patterns.
 ghost use Rattle.std.specs.Prelude.{◌≡◌, ◌+◌, ◌<◌, ◌↔◌, List, Bool, Some, None, true, false, not, length, replicate, if◌then◌else◌, nat_lt, slice_index_or, IfOk, IsTrue};
-ghost use Rattle.regex_search_core.specs.PatternSets.{with_pattern, size_of_set, AreNumbers};
+ghost use Rattle.regex_search_core.specs.PatternSets.{with_pattern, without_pattern, size_of_set, AreNumbers};
 ghost use Rattle.regex_search_core.specs.Patterns.{number_of};
 
 use crate::primitives::PatternID;
@@ -59,6 +59,41 @@ impl PatternSet {
         self.which[index] = true;
         self.len += 1;
         Some(true)
+    }
+
+    /// Adds the pattern, and returns whether it is new.
+    ///
+    /// Requires that the pattern is below the capacity. [`PatternSet::try_insert`] tests that.
+    pub fn insert(&mut self, pattern: PatternID) -> bool
+        requires { number_of pattern < length self.old }
+        ensures answer { result ≡ not (slice_index_or self.old (number_of pattern) false) }
+        ensures after { self.new ≡ with_pattern self.old (number_of pattern) }
+    {
+        match self.try_insert(pattern) {
+            Some(is_new) => is_new,
+            None => unreachable!(),
+        }
+    }
+
+    /// Takes the pattern out, and returns whether it was in the set. Any pattern may be passed.
+    pub fn remove(&mut self, pattern: PatternID) -> bool
+        ensures answer { result ≡ slice_index_or self.old (number_of pattern) false }
+        ensures after { self.new ≡ without_pattern self.old (number_of pattern) }
+    {
+        if !self.contains(pattern) {
+            return false;
+        }
+        self.which[pattern.as_usize()] = false;
+        self.len -= 1;
+        true
+    }
+
+    /// Takes all patterns out. The capacity stays.
+    pub fn clear(&mut self)
+        ensures { self.new ≡ replicate (length self.old) false }
+    {
+        self.which.fill(false);
+        self.len = 0;
     }
 
     /// Returns whether the pattern is in the set.

@@ -1,5 +1,5 @@
 //! What a search is asked, and what it answers.
-ghost use Rattle.std.specs.Prelude.{◌≡◌, ◌+◌, ◌-◌, ◌<◌, ◌≤◌, ◌↔◌, ◌^◌, length, IsTrue, false};
+ghost use Rattle.std.specs.Prelude.{◌≡◌, ◌+◌, ◌-◌, ◌<◌, ◌≤◌, ◌↔◌, ◌^◌, length, IsTrue, false, option_map};
 ghost use Rattle.regex_search_core.specs.Boundary.{IsBoundary};
 
 use crate::primitives::{NonMaxUsize, PatternID};
@@ -21,6 +21,34 @@ impl Span {
     {
         self.end.saturating_sub(self.start)
     }
+
+    /// Returns whether it has no byte: `end` is at or before `start`.
+    pub fn is_empty(&self) -> bool
+        ensures { IsTrue result ↔ (self.now.end ≤ self.now.start) }
+    {
+        self.start >= self.end
+    }
+
+    /// Returns the same offsets as a range, which can index a slice.
+    pub fn range(&self) -> Range<usize>
+        ensures { result ≡ record { start = self.now.start; end = self.now.end } }
+    {
+        self.start..self.end
+    }
+
+    /// Returns the span that is this many bytes further to the right.
+    ///
+    /// Requires that both offsets are still a `usize` there.
+    pub fn offset(&self, offset: usize) -> Span
+        requires start { self.now.start + offset < 2 ^ 64 }
+        requires end { self.now.end + offset < 2 ^ 64 }
+        ensures { result ≡ record { start = self.now.start + offset; end = self.now.end + offset } }
+    {
+        Span {
+            start: self.start + offset,
+            end: self.end + offset,
+        }
+    }
 }
 
 /// Where a match may start, and of which pattern it may be.
@@ -35,13 +63,24 @@ pub enum Anchored {
 }
 
 impl Anchored {
-    ghost use Rattle.regex_search_core.specs.Search.{is_anchored};
+    ghost use Rattle.regex_search_core.specs.Patterns.{number_of};
+    ghost use Rattle.regex_search_core.specs.Search.{anchored_pattern, is_anchored};
 
     /// Returns whether matches are bound to the start of the span: true but for `No`.
     pub fn is_anchored(&self) -> bool
         ensures { result ≡ is_anchored self.now }
     {
         !matches!(self, Anchored::No)
+    }
+
+    /// Returns the one pattern that may match. `None` if any pattern may.
+    pub fn pattern(&self) -> Option<PatternID>
+        ensures { option_map number_of result ≡ anchored_pattern self.now }
+    {
+        match self {
+            Anchored::Pattern(pattern) => Some(*pattern),
+            _ => None,
+        }
     }
 }
 
@@ -106,27 +145,25 @@ impl<'h> Input<'h> {
         requires ordered { span.start ≤ span.end + 1 }
         ensures { search_of result ≡ record (search_of self.entry) { start = span.start; end = span.end } }
     {
-        self.span = span;
+        self.set_span(span);
         self
     }
 
     /// Returns the same search over the span of this range, under the conditions of [`Input::span`].
-    pub fn range(self, range: Range<usize>) -> Input<'h>
+    pub fn range(mut self, range: Range<usize>) -> Input<'h>
         requires within { range.end ≤ length (search_of self).haystack }
         requires ordered { range.start ≤ range.end + 1 }
         ensures { search_of result ≡ record (search_of self.entry) { start = range.start; end = range.end } }
     {
-        self.span(Span {
-            start: range.start,
-            end: range.end,
-        })
+        self.set_range(range);
+        self
     }
 
     /// Returns the same search with matches bound as `mode` says.
     pub fn anchored(mut self, mode: Anchored) -> Input<'h>
         ensures { search_of result ≡ record (search_of self.entry) { anchored = mode } }
     {
-        self.anchored = mode;
+        self.set_anchored(mode);
         self
     }
 
@@ -134,8 +171,43 @@ impl<'h> Input<'h> {
     pub fn earliest(mut self, yes: bool) -> Input<'h>
         ensures { search_of result ≡ record (search_of self.entry) { earliest = yes } }
     {
-        self.earliest = yes;
+        self.set_earliest(yes);
         self
+    }
+
+    /// Changes the span, under the conditions of [`Input::span`].
+    pub fn set_span(&mut self, span: Span)
+        requires within { span.end ≤ length (search_of self.old).haystack }
+        requires ordered { span.start ≤ span.end + 1 }
+        ensures { search_of self.new ≡ record (search_of self.old) { start = span.start; end = span.end } }
+    {
+        self.span = span;
+    }
+
+    /// Changes the span to that of this range, under the conditions of [`Input::span`].
+    pub fn set_range(&mut self, range: Range<usize>)
+        requires within { range.end ≤ length (search_of self.old).haystack }
+        requires ordered { range.start ≤ range.end + 1 }
+        ensures { search_of self.new ≡ record (search_of self.old) { start = range.start; end = range.end } }
+    {
+        self.set_span(Span {
+            start: range.start,
+            end: range.end,
+        });
+    }
+
+    /// Changes where a match may start, and of which pattern it may be.
+    pub fn set_anchored(&mut self, mode: Anchored)
+        ensures { search_of self.new ≡ record (search_of self.old) { anchored = mode } }
+    {
+        self.anchored = mode;
+    }
+
+    /// Changes whether the search may (`true`) or may not stop at the earliest match.
+    pub fn set_earliest(&mut self, yes: bool)
+        ensures { search_of self.new ≡ record (search_of self.old) { earliest = yes } }
+    {
+        self.earliest = yes;
     }
 
     /// Moves the start of the span. The caller owes that it is at most one past the span's end.
@@ -182,6 +254,13 @@ impl<'h> Input<'h> {
         ensures end { result.end ≡ (search_of self.now).end }
     {
         self.span
+    }
+
+    /// Returns the span that is searched, as a range.
+    pub fn get_range(&self) -> Range<usize>
+        ensures { result ≡ record { start = (search_of self.now).start; end = (search_of self.now).end } }
+    {
+        self.span.range()
     }
 
     /// Returns where a match may start.
@@ -312,6 +391,21 @@ impl Match {
         ensures { result ≡ (found_of self.now).end }
     {
         self.span.end
+    }
+
+    /// Returns the span of the match as a range, which can index the haystack.
+    pub fn range(&self) -> Range<usize>
+        ensures start { result.start ≡ (found_of self.now).start }
+        ensures end { result.end ≡ (found_of self.now).end }
+    {
+        self.span.range()
+    }
+
+    /// Returns the number of bytes that match.
+    pub fn len(&self) -> usize
+        ensures { result ≡ (found_of self.now).end - (found_of self.now).start }
+    {
+        self.span.len()
     }
 
     /// Returns whether the match is empty.

@@ -28,32 +28,32 @@ Groups = List (List (Option (List ℕ)))
 
 module _ (pattern : List ℕ) (groups : Groups) (command : Command)
     (known : (names : List (Option (List ℕ))) → IsNamed pattern_syntax pattern names → groups ≡ groups_named_by names)
-    where
-  -- what is printed for the groups of the NFA is printed for those of the pattern
-  pub printed-by : (all old new : Option (List ℕ)) (re : Re) (empty : Bool) (names : List (Option (List ℕ)))
-      → IsNamed pattern_syntax pattern names
-      → IfSome all (λ text. (hits : List Hit) → AreAllHits re empty text hits
-      → IsPrinted old new groups text hits command)
-      → IfSome all (λ text. (may : Bool) × ((hits : List Hit) → AreAllHits re may text hits
-      → IsPrinted old new (groups_named_by names) text hits command))
-  printed-by None old new re empty names named h = tt
-  printed-by (Some text) old new re empty names named h =
-      let P : Groups → Type 0 =
-      λ gs. (hits : List Hit) → AreAllHits re empty text hits → IsPrinted old new gs text hits command in
-      (empty, subst P (known names named) h)
+  where
+    -- what is printed for the groups of the NFA is printed for those of the pattern
+    pub printed-by : (all old new : Option (List ℕ)) (re : Re) (empty : Bool) (names : List (Option (List ℕ)))
+        → IsNamed pattern_syntax pattern names
+        → IfSome all (λ text. (hits : List Hit) → AreAllHits re empty text hits
+        → IsPrinted old new groups text hits command)
+        → IfSome all (λ text. (may : Bool) × ((hits : List Hit) → AreAllHits re may text hits
+        → IsPrinted old new (groups_named_by names) text hits command))
+    printed-by None old new re empty names named h = tt
+    printed-by (Some text) old new re empty names named h =
+        let P : Groups → Type 0 =
+        λ gs. (hits : List Hit) → AreAllHits re empty text hits → IsPrinted old new gs text hits command in
+        (empty, subst P (known names named) h)
 
-  -- so is a mistake
-  pub misused : (mistake : Option Mistake) → IfSome mistake (IsTemplateMistake groups command)
-      → IfSome mistake (IsMisused pattern command)
-  misused None h = tt
-  misused (Some (Template error)) h = λ names named.
-      let P : Groups → Type 0 = λ gs. IsTemplateMistake gs command (Template error) in subst P (known names named) h
-  misused (Some (Pattern error)) h = absurd (of command h)
-    where
-      of : (c : Command) → IsTemplateMistake groups c (Pattern error) → ⊥
-      of (Replace template) h = h
-      of Split h = h
-      of (SplitN limit) h = h
+    -- so is a mistake
+    pub misused : (mistake : Option Mistake) → IfSome mistake (IsTemplateMistake groups command)
+        → IfSome mistake (IsMisused pattern command)
+    misused None h = tt
+    misused (Some (Template error)) h = λ names named.
+        let P : Groups → Type 0 = λ gs. IsTemplateMistake gs command (Template error) in subst P (known names named) h
+    misused (Some (Pattern error)) h = absurd (of command h)
+      where
+        of : (c : Command) → IsTemplateMistake groups c (Pattern error) → ⊥
+        of (Replace template) h = h
+        of Split h = h
+        of (SplitN limit) h = h
 
 pub map-none : {A P Q : Type 0} (o : Option A) → (P → Q) → IfNone o P → IfNone o Q
 map-none None f h = f h

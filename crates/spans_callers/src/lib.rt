@@ -4,6 +4,7 @@
 ghost use Rattle.nfa_engines.specs.Engines.{Fits};
 
 use anyhow::Result;
+use nfa_choice::Choice;
 use nfa_engines::backtrack::{BoundedBacktracker, Cache as BackCache};
 use nfa_engines::pikevm::{Cache, PikeVM};
 use nfa_engines::{Captures, Input};
@@ -125,6 +126,61 @@ pub fn texts_by_back<'t>(
         if let Some(span) = captures.get_group(2) {
             cut.push(&text[span.start..span.end])?;
         }
+    }
+    Ok(cut)
+}
+
+/// The text of a group, by the engine that suits.
+pub fn choice_text<'t>(
+    choice: &mut Choice,
+    captures: &mut Captures,
+    text: &'t [u8],
+) -> Option<&'t [u8]> {
+    choice.captures(Input::new(text), captures);
+    let span = captures.get_group(1)?;
+    Some(&text[span.start..span.end])
+}
+
+/// The texts of a group of all matches, by the list of a choice.
+pub fn texts_by_choice<'t>(
+    alloc: Global,
+    choice: &mut Choice,
+    text: &'t [u8],
+) -> Result<Vec<&'t [u8]>> {
+    let mut cut = Vec::new(alloc);
+    for captures in &choice.captures_all(alloc, Input::new(text))? {
+        if let Some(span) = captures.get_group_by_name("name") {
+            cut.push(&text[span.start..span.end])?;
+        }
+    }
+    Ok(cut)
+}
+
+/// The same by its iterator.
+pub fn texts_in_turn<'t>(
+    alloc: Global,
+    choice: &mut Choice,
+    text: &'t [u8],
+) -> Result<Vec<&'t [u8]>> {
+    let mut cut = Vec::new(alloc);
+    for item in choice.captures_iter(alloc, Input::new(text))? {
+        let captures = item?;
+        if let Some(span) = captures.get_group(1) {
+            cut.push(&text[span.start..span.end])?;
+        }
+    }
+    Ok(cut)
+}
+
+/// The texts of all matches, by the list of a choice.
+pub fn matches_by_choice<'t>(
+    alloc: Global,
+    choice: &mut Choice,
+    text: &'t [u8],
+) -> Result<Vec<&'t [u8]>> {
+    let mut cut = Vec::new(alloc);
+    for found in &choice.find_all(alloc, Input::new(text))? {
+        cut.push(&text[found.start()..found.end()])?;
     }
     Ok(cut)
 }

@@ -4,7 +4,8 @@ ghost use Rattle.nfa_pikevm.specs.Engines.{Fits};
 
 use crate::made::{MakeError, nfa_named};
 use crate::text::{
-    backtracked_list, backtracked_match, backtracked_slots, piked_list, piked_match, piked_slots,
+    backtracked_half, backtracked_list, backtracked_match, backtracked_slots, piked_half,
+    piked_list, piked_match, piked_slots,
 };
 use nfa_engines::backtrack::{self, BoundedBacktracker};
 use nfa_engines::error::SearchError;
@@ -97,6 +98,18 @@ impl Engines {
         Ok([
             backtracked_match(alloc, &self.backtracker, &mut self.marks, input)?,
             piked_match(alloc, &self.vm, &mut self.threads, input)?,
+        ])
+    }
+
+    /// The pattern and the end of the match that both find, as text.
+    pub fn half_texts(
+        &mut self,
+        alloc: Global,
+        input: Input<'_>,
+    ) -> Result<[String; 2], AllocError> {
+        Ok([
+            backtracked_half(alloc, &self.backtracker, &mut self.marks, input)?,
+            piked_half(alloc, &self.vm, &mut self.threads, input)?,
         ])
     }
 

@@ -5,7 +5,7 @@ ghost use Rattle.nfa_pikevm.specs.Engines.{Fits, SameNumbers};
 use nfa_engines::backtrack::{self, BoundedBacktracker};
 use nfa_engines::error::SearchError;
 use nfa_engines::pikevm::{self, PikeVM};
-use regex_search_core::{Input, Match, NonMaxUsize, PatternID};
+use regex_search_core::{HalfMatch, Input, Match, NonMaxUsize, PatternID};
 use std::alloc::{AllocError, Global};
 
 /// The pattern, the start and the end of a match.
@@ -108,6 +108,44 @@ pub fn piked_match(
     ensures { SameNumbers cache.old cache.new }
 {
     match_text(alloc, vm.find(cache, input))
+}
+
+/// The pattern and the end of the match that the backtracker finds, or its error.
+pub fn backtracked_half(
+    alloc: Global,
+    engine: &BoundedBacktracker,
+    cache: &mut backtrack::Cache,
+    input: Input<'_>,
+) -> Result<String, AllocError> {
+    match engine.try_find_half(cache, input) {
+        Ok(half) => half_text(alloc, half),
+        Err(error) => format!(in alloc; "{error:?}"),
+    }
+}
+
+/// The same of the PikeVM.
+pub fn piked_half(
+    alloc: Global,
+    vm: &PikeVM,
+    cache: &mut pikevm::Cache,
+    input: Input<'_>,
+) -> Result<String, AllocError>
+    requires { Fits cache.old vm.now.nfa }
+    ensures { SameNumbers cache.old cache.new }
+{
+    half_text(alloc, vm.find_half(cache, input))
+}
+
+/// The pattern and the offset, as `0 4`, or `none`.
+pub fn half_text(alloc: Global, half: Option<HalfMatch>) -> Result<String, AllocError> {
+    match half {
+        Some(half) => {
+            let pattern = half.pattern().as_usize();
+            let offset = half.offset();
+            format!(in alloc; "{pattern} {offset}")
+        }
+        None => String::from_str(alloc, "none"),
+    }
 }
 
 /// All items of the backtracker, each with a comma and a blank behind it: the pattern and the span, or the error.

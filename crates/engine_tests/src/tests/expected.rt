@@ -62,6 +62,18 @@ pub fn expect_match(
     expect_texts(rt, case, &texts, want);
 }
 
+/// Both find this pattern and this end.
+pub fn expect_half(
+    rt: &impl Abort,
+    alloc: Global,
+    engines: &mut Engines,
+    case: &Case<'_>,
+    want: &str,
+) {
+    let texts = engines.half_texts(alloc, case.input).expect(rt, "memory");
+    expect_texts(rt, case, &texts, want);
+}
+
 /// Both give these matches, each with a comma and a blank behind it.
 pub fn expect_list(
     rt: &impl Abort,
@@ -90,6 +102,8 @@ pub enum Ask {
     Slots(usize),
     /// The first match.
     Match,
+    /// Its end.
+    Half,
     /// All matches.
     List,
 }
@@ -113,6 +127,7 @@ fn expect_asked_of(
         Ask::AllSlots => expect_slots(rt, alloc, engines, case, slot_len, want),
         Ask::Slots(slot_len) => expect_slots(rt, alloc, engines, case, slot_len, want),
         Ask::Match => expect_match(rt, alloc, engines, case, want),
+        Ask::Half => expect_half(rt, alloc, engines, case, want),
         Ask::List => expect_list(rt, alloc, engines, case, want),
     }
 }

@@ -1,7 +1,9 @@
 //! What both engines answer over the samples.
 
 use super::expected::{Ask, Case, engines_of, expect_asked, expect_is_match, expect_slots};
-use nfa_samples::answers::{ALL, FOUND, FOUND_IN_SPAN, OF_ONE_PATTERN, OF_SLOT_LENS, SLOTS};
+use nfa_samples::answers::{
+    ALL, FOUND, FOUND_IN_SPAN, HALVES, OF_ONE_PATTERN, OF_SLOT_LENS, SLOTS,
+};
 use regex_search_core::{Anchored, Input, PatternID};
 use std::alloc::Global;
 use std::process::Abort;
@@ -21,6 +23,14 @@ fn both_find_the_first_match(rt: HostRuntime) {
     for &(name, haystack, want) in FOUND {
         let input = Input::new(haystack.as_bytes());
         expect_asked(&rt, rt.alloc(), &Case { name, input }, Ask::Match, want);
+    }
+}
+
+#[test]
+fn both_find_the_end_of_the_first_match(rt: HostRuntime) {
+    for &(name, haystack, want) in HALVES {
+        let input = Input::new(haystack.as_bytes());
+        expect_asked(&rt, rt.alloc(), &Case { name, input }, Ask::Half, want);
     }
 }
 

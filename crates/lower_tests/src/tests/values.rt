@@ -1,4 +1,5 @@
 //! Tests of the values that every engine speaks of.
+mod captured;
 mod texts;
 
 ghost use Rattle.std.specs.Prelude.{◌≡◌, ◌<◌, length, map, slice_set, Some, IfOk};
@@ -105,9 +106,30 @@ fn inputs(rt: HostRuntime) {
     assert!(rt; input.is_done());
     assert_eq!(rt; input.get_span().len(), 0);
     assert_eq!(rt; span(1, 3).len(), 2);
+    input.set_span(span(0, 1));
+    assert_eq!(rt; input.get_range(), 0..1);
+    input.set_range(2..3);
+    assert_eq!(rt; input.get_span(), span(2, 3));
+    input.set_anchored(Anchored::Pattern(pattern(&rt, 1)));
+    input.set_earliest(false);
+    assert_eq!(rt; input.get_anchored().pattern(), Some(pattern(&rt, 1)));
+    assert!(rt; !input.get_earliest() && Anchored::Yes.pattern().is_none());
     assert!(rt; Anchored::Pattern(pattern(&rt, 1)).is_anchored() && !Anchored::No.is_anchored());
     assert!(rt; MatchKind::All.continue_past_first_match());
     assert!(rt; !MatchKind::LeftmostFirst.continue_past_first_match());
+}
+
+// A span, and whether it is empty.
+const EMPTY_SPANS: &[(usize, usize, bool)] = &[(1, 3, false), (3, 3, true), (3, 1, true)];
+
+#[test]
+fn spans(rt: HostRuntime) {
+    for &(start, end, empty) in EMPTY_SPANS {
+        let span = span(start, end);
+        assert_eq!(rt; span.is_empty(), empty);
+        assert_eq!(rt; span.range(), start..end);
+        assert_eq!(rt; span.offset(4).range(), start + 4..end + 4);
+    }
 }
 
 // A haystack, and which offsets, those behind it among them, are boundaries of characters.
@@ -176,6 +198,7 @@ fn matches_have_their_parts(rt: HostRuntime) {
         (found.start(), found.end(), found.is_empty()),
         (2, 4, false)
     );
+    assert_eq!(rt; (found.range(), found.len()), (2..4, 2));
     assert!(rt; Match::new(pattern(&rt, 5), span(2, 2)).is_empty());
     let half = HalfMatch::new(pattern(&rt, 5), 4);
     assert_eq!(rt; (half.pattern(), half.offset()), (pattern(&rt, 5), 4));
@@ -197,6 +220,34 @@ fn sets(rt: HostRuntime) {
     expect_members(&rt, alloc, &set, &[0, 2]);
     expect_last_insertion(&rt, &mut set);
     expect_members(&rt, alloc, &set, &[0, 1, 2]);
+    expect_removals(&rt, &mut set);
+    expect_members(&rt, alloc, &set, &[0, 2]);
+    set.clear();
+    expect_members(&rt, alloc, &set, &[]);
+}
+
+// A pattern, and whether it was in the set.
+const REMOVED: &[(usize, bool)] = &[(1, true), (1, false), (2147483646, false)];
+
+fn expect_removals(rt: &impl Abort, set: &mut PatternSet) {
+    for &(number, want) in REMOVED {
+        assert_eq!(rt; set.remove(pattern(rt, number)), want, "{number}");
+    }
+    assert_eq!(rt; (set.len(), set.capacity()), (2, 3));
+}
+
+#[test]
+fn a_set_takes_patterns_below_its_capacity(rt: HostRuntime) {
+    let mut set = PatternSet::new(rt.alloc(), 1).expect(&rt, "memory");
+    expect_insertion(&rt, &mut set);
+}
+
+fn expect_insertion(rt: &impl Abort, set: &mut PatternSet) {
+    assert!(rt; set.capacity() == 1);
+    assert_eq!(rt;
+        (set.insert(pattern(rt, 0)), set.insert(pattern(rt, 0))),
+        (true, false)
+    );
 }
 
 #[test]
@@ -273,6 +324,9 @@ fn expect_two_patterns(rt: &impl Abort, groups: &GroupInfo) {
     for &(number, group, want) in GROUP_SLOTS {
         let slot = groups.slot(pattern(rt, number), group);
         assert_eq!(rt; slot, want, "{number}, {group}");
+    }
+    for (number, want) in [3, 3, 0].iter().enumerate() {
+        assert_eq!(rt; groups.group_len(pattern(rt, number)), *want);
     }
     for &(number, name, want) in NAMED {
         let group = groups.to_index(pattern(rt, number), name);

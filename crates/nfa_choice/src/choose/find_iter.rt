@@ -4,6 +4,7 @@ use nfa_engines::error::SearchError;
 use nfa_engines::iter::finding::{found_item, found_span};
 use nfa_engines::iter::{Searcher, Searches, Steps};
 use regex_search_core::{Input, Match, Span};
+use std::alloc::Global;
 
 /// The matches of an input that do not overlap, from left to right: what [`Choice::find_iter`] gives.
 ///
@@ -19,12 +20,15 @@ pub struct ChoiceMatches<'c, 'h> {
 struct ByRule;
 
 impl Choice {
-    ghost use Rattle.std.specs.Prelude.{◌≡◌, false};
+    ghost use Rattle.std.specs.Prelude.{◌≡◌, false, All, IfOk, IsOkUnless, None, map};
+    ghost use Rattle.regex_search_core.specs.Found.{found_of};
     ghost use Rattle.regex_search_core.specs.Search.{search_of};
+    ghost use Rattle.nfa_search_base.specs.Lists.{AreApart, AreMatches, IsInside};
     ghost use Rattle.nfa_search_base.specs.MatchRuns.{MatchesRun, MatchesAre, MatchesApart, MatchesFirst, MatchesNext};
     ghost use Rattle.nfa_search_base.specs.Walks.{fresh};
-    ghost use Rattle.nfa_choice.specs.Choosing.{kind_in};
-    ghost use Rattle.nfa_choice.specs.Matches.{ChoiceGivesKept, choice_finds_cache, choice_finds_done};
+    ghost use Rattle.nfa_choice.specs.Choosing.{kind_in, KeepsEngines};
+    ghost use Rattle.nfa_choice.specs.Matches.{ChoiceFindsBySearches, ChoiceFindsOn, ChoiceFindsToEnd, ChoiceGivesKept};
+    ghost use Rattle.nfa_choice.specs.Matches.{choice_finds_cache, choice_finds_done};
     ghost use Rattle.nfa_choice.specs.Matches.{choice_finds_next, choice_finds_walk};
 
     /// Returns an iterator over all matches that do not overlap, from left to right. To make this takes no memory.
@@ -47,6 +51,8 @@ impl Choice {
             (search_of input.entry) choice_finds_next result }
         ensures next { MatchesNext self.entry.now.nfa (kind_in self.entry.now)
             (search_of input.entry) choice_finds_next result }
+        // The choice changes by the searches of the steps alone.
+        ensures searches { ChoiceFindsBySearches (search_of input.entry) result }
         ensures keeps { ChoiceGivesKept result }
     {
         ChoiceMatches {
@@ -57,6 +63,28 @@ impl Choice {
                 done: false,
             },
         }
+    }
+
+    /// Returns all matches that do not overlap, from left to right, as [`Choice::find_iter`] gives them.
+    ///
+    /// The only error is [`SearchError::Memory`]: there is no memory for the list of matches. No search fails.
+    pub fn find_all(&mut self, alloc: Global, input: Input<'_>) -> Result<Vec<Match>, SearchError>
+        ensures memory { IsOkUnless result SearchError.Memory }
+        ensures all { IfOk result (λ found. AreMatches self.old.nfa (kind_in self.old) (search_of input.entry).earliest
+            (search_of input.entry) (map found_of found.items)) }
+        ensures apart { IfOk result (λ found. AreApart (search_of input.entry) None (map found_of found.items)) }
+        ensures inside { IfOk result (λ found. All (λ m. IsInside (search_of input.entry) (found_of m)) found.items) }
+        ensures keeps { KeepsEngines self.old self.new }
+        // The choice changes by the searches of an iteration alone; if all matches come, these go to its end.
+        ensures searches { ChoiceFindsOn (search_of input.entry) self.old self.new }
+        ensures to_end { IfOk result (λ found.
+            ChoiceFindsToEnd (search_of input.entry) (map found_of found.items) self.old self.new) }
+    {
+        let mut found = Vec::new(alloc);
+        for item in self.find_iter(input) {
+            found.push(item)?;
+        }
+        Ok(found)
     }
 }
 

@@ -1,10 +1,10 @@
 -- The search goes on by a line, and ends where nothing is left to read.
-use Rattle.std.proofs.Common.{rules, ◌≡◌, ◌∙◌, ℕ, ◌+◌, ◌<◌, ◌≤◌, Bool, true, false, List, length, ap, ap₂, arith, refl, subst, sym}
+use Rattle.std.proofs.Common.{rules, ◌≡◌, ◌∙◌, ℕ, ◌+◌, ◌<◌, Bool, length}
+use Rattle.std.proofs.Common.{ap, arith, subst, sym}
 use Rattle.std.specs.Prelude.{cond}
 use Rattle.std.specs.Io.KnownBytes.{Appends}
-use Rattle.nfa_grep.specs.Going.{HasPrinted}
 use Rattle.nfa_grep.specs.Meant.{Grepping, Mean}
-use Rattle.nfa_grep.specs.Printed.{feed, is_selected, shown}
+use Rattle.nfa_grep.specs.Printed.{is_selected, shown}
 use Rattle.nfa_grep.proofs.GoingLemmas.{going-end, going-step}
 use Rattle.nfa_grep.proofs.search.search.Goals.{then-branch, else-branch}
 use Rattle.nfa_grep.proofs.search.search.Goals as goal
@@ -20,28 +20,32 @@ loop-before-preserved g c =
     let inv = c.loop-before.invariant in
     let line = c.read_until.new.buf.items in
     let before : ℕ = c.loop-before.before in
+    let count : ℕ = c.loop-before.count in
     record {
       printed = λ res meant.
           let options = c.args.grep.now.options in
           let label = c.args.label.now in
-          let count : ℕ = c.loop-before.count in
           let some : 0 < length line = search rules in
           let next-is : c.in-Some.next ≡ c.loop-before.offset + length line = search rules in
           let meant-here = subst (λ (gr : Grepping). Mean gr.patterns res) (sym inv.kept) meant in
-          let here : c.append_line.new.out.items ≡ shown options res label (before + 1) c.loop-before.offset line =
-          rw (c.deref.ensures.value, inv.kept, c.clear-in-loop-before.ensures.items) at (c.in_ok-append_line.ensures.shown res meant-here) in
-          let writes : Appends (g.W.Write.contents c.loop-before.out) (g.W.Write.contents c.write_all.new.self)
-          (shown options res label (before + 1) c.loop-before.offset line) =
+          let printed = shown options res label (before + 1) c.loop-before.offset line in
+          let here : c.append_line.new.out.items ≡ printed =
+          rw (c.deref.ensures.value, inv.kept, c.clear-in-loop-before.ensures.items)
+          at (c.in_ok-append_line.ensures.shown res meant-here) in
+          let written-before = g.W.Write.contents c.loop-before.out in
+          let written = g.W.Write.contents c.write_all.new.self in
+          let writes : Appends written-before written printed =
           rw (c.deref-in-loop-before.ensures.value, here) at c.in_default-write_all.ensures.bytes in
           let selected : c.in_ok-append_line.field-0 ≡ is_selected options res line =
           rw (c.deref.ensures.value, inv.kept) at (c.in_ok-append_line.ensures.selected res meant-here) in
-          let count-is : c.if-branch.count ≡ cond (is_selected options res line) (count + 1) count = elim c.if-branch.branch [
-            | then-branch w ↦ w.count-is ∙ sym (ap (λ (b : Bool). cond b (count + 1) count) (sym selected ∙ w.if-branch.true))
-            | else-branch w ↦ w.count-is ∙ sym (ap (λ (b : Bool). cond b (count + 1) count) (sym selected ∙ w.if-branch.false))
+          let counted : Bool → ℕ = λ (b : Bool). cond b (count + 1) count in
+          let count-is : c.if-branch.count ≡ counted (is_selected options res line) = elim c.if-branch.branch [
+            | then-branch w ↦ w.count-is ∙ sym (ap counted (sym selected ∙ w.if-branch.true))
+            | else-branch w ↦ w.count-is ∙ sym (ap counted (sym selected ∙ w.if-branch.false))
           ] in
-          let step = going-step options res label (g.R.Read.remaining c.args.input.now) (g.R.Read.remaining c.loop-before.input)
-          (g.R.Read.remaining c.read_until.new.self) (g.W.Write.contents c.args.out.now) (g.W.Write.contents c.loop-before.out)
-          (g.W.Write.contents c.write_all.new.self) (before + 1) c.loop-before.offset count line some
+          let step = going-step options res label (g.R.Read.remaining c.args.input.now)
+          (g.R.Read.remaining c.loop-before.input) (g.R.Read.remaining c.read_until.new.self)
+          (g.W.Write.contents c.args.out.now) written-before written (before + 1) c.loop-before.offset count line some
           (rw c.clear.ensures.items at c.in-Ok.ensures.bytes) c.in-Ok.ensures.rest writes (inv.printed res meant) in
           rw (count-is, next-is) step;
       counted = elim c.if-branch.branch [

@@ -39,3 +39,12 @@ returns-in_ok-resize-clause-needed c =
       c.in_ok-resize.ensures.len,
       c.div_ceil-needed.ensures,
     )
+
+pub returns-in_err-resize-clause-granted : goal.returns-in_err-resize-clause-granted
+returns-in_err-resize-clause-granted c = λ enough.
+    absurd (omega (
+      arith,
+      length-bits_of c.self.inside.blocks.items,
+      ap (λ (m : Marks). length m.bits) c.self.view_is,
+      c.div_ceil-needed.ensures,
+    ))

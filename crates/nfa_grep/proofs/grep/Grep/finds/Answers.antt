@@ -14,6 +14,9 @@ returns-clause-found c = λ res meant.
     let inv = c.self.invariant in
     let meant-inside = subst (λ (g : Grepping). Mean g.patterns res) (sym c.self.view_is) meant in
     let law = c.searches_find_texts.ensures.answers _ _ res c.self.inside.choice.nfa _ _ (whole text) _ _ inv.0
-    meant-inside inv.1 (record { leftmost = rw inv.3 refl; latest = ap (λ (s : Search). s.earliest) c.new.ensures; whole = refl }) bytes
-    (rw c.new.ensures at c.search_slots.ensures.answer) in
+    meant-inside inv.1 (record {
+      leftmost = rw inv.3 refl;
+      latest = ap (λ (s : Search). s.earliest) c.new.ensures;
+      whole = refl;
+    }) bytes (rw c.new.ensures at c.search_slots.ensures.answer) in
     c.is_some.ensures ∙ found-of-answer res c.self.inside.choice.nfa text inv.2 number_of c.search_slots.result law.0

@@ -1,0 +1,23 @@
+-- The law, of this answer.
+use Rattle.std.proofs.Common.{Bool, Some, refl}
+use Rattle.regex_search_core.specs.Patterns.{number_of}
+use Rattle.regex_search_core.specs.Search.{Search, search_of}
+use Rattle.regex_search_core.specs.declared.search.Anchored.TheVariants.{Yes}
+use Rattle.regex_search_core.specs.declared.search.MatchKind.{MatchKind}
+use Rattle.nfa_engines.specs.Engines.{kind_of}
+use Rattle.nfa_engines.specs.Paths.{IsAnswer}
+use Rattle.law_callers.proofs.KindLemmas.{as_leftmost}
+use Rattle.law_callers.proofs.PlaceLemmas.{answer_of}
+use Rattle.law_callers.proofs.places.first_of_patterns.Goals as goal
+
+pub returns-in-Some : goal.returns-in-Some
+returns-in-Some c =
+    let x : Search = record (search_of c.args.input) { anchored = Yes } in
+    let pattern = Some (number_of c.in-Some.pattern) in
+    let slots = c.search_slots.new.slots in
+    c.first_pattern_answers.ensures.pattern c.args.vm.now.nfa x (number_of c.in-Some.pattern) slots
+    c.requires.anywhere refl c.requires.tries
+    (as_leftmost (λ (kind : MatchKind) (earliest : Bool). IsAnswer c.args.vm.now.nfa kind earliest x pattern slots)
+    (kind_of c.args.vm.now) x.earliest c.requires.kind c.requires.off
+    (answer_of c.args.vm.now.nfa (kind_of c.args.vm.now) x _ pattern slots c.anchored-anchored.ensures
+    c.in-Some.ensures.answer))

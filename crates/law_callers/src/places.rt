@@ -1,0 +1,128 @@
+//! Callers of the laws on where an answer starts, on the patterns of an NFA, and on spans.
+ghost use Rattle.std.specs.Prelude.{◌≡◌, ◌+◌, ◌≤◌, false, length, option_map, slice_get, IfSome, Some};
+ghost use Rattle.regex_search_core.specs.Found.{found_of};
+ghost use Rattle.regex_search_core.specs.Patterns.{number_of};
+ghost use Rattle.regex_search_core.specs.Search.{search_of};
+ghost use Rattle.regex_search_core.specs.declared.search.Anchored.TheVariants.{Yes};
+ghost use Rattle.regex_search_core.specs.declared.search.MatchKind.TheVariants.{LeftmostFirst};
+ghost use Rattle.nfa_engines.specs.Engines.{Fits, kind_of};
+ghost use Rattle.nfa_engines.specs.Paths.{is_utf8_empty, IsAnswer, IsMatchAnswer};
+ghost use Rattle.nfa_engines.specs.PatternLaws.{IsOfPattern, TriesPatternsInOrder};
+ghost use Rattle.nfa_engines.specs.SpanLaws.{moved_match, HasNoLook};
+ghost use Rattle.nfa_engines.specs.StartLaws.{IsFirstStart, IsUnbound};
+
+use nfa_engines::laws;
+use nfa_engines::pikevm::{Cache, PikeVM};
+use regex_search_core::{Anchored, Input, Match, NonMaxUsize, PatternID};
+
+/// Returns the match of a search, which begins at a start before which nothing matches. It is the match of the whole
+/// input.
+pub fn found_later(vm: &PikeVM, cache: &mut Cache, input: Input<'_>, start: usize) -> Option<Match>
+    requires fits { Fits cache.old vm.now.nfa }
+    requires unbound { IsUnbound vm.now.nfa (search_of input) }
+    requires first { IsFirstStart vm.now.nfa (search_of input) start }
+    requires within { start ≤ (search_of input).end + 1 }
+    ensures { IsMatchAnswer vm.now.nfa (kind_of vm.now) (search_of input.entry).earliest (search_of input.entry)
+        (option_map found_of result) }
+{
+    laws::starts_may_be_passed();
+    let mut later = input;
+    later.set_start(start);
+    vm.find(cache, later)
+}
+
+/// Returns the pattern of the anchored search at the first start that has one, as a search from a prefilter's candidate
+/// does, and fills the slots. They are the answer of the unanchored search.
+pub fn found_at_candidate(
+    vm: &PikeVM,
+    cache: &mut Cache,
+    input: Input<'_>,
+    start: usize,
+    slots: &mut [Option<NonMaxUsize>],
+) -> Option<PatternID>
+    requires fits { Fits cache.old vm.now.nfa }
+    requires kind { kind_of vm.now ≡ LeftmostFirst }
+    requires off { (search_of input).earliest ≡ false }
+    requires unbound { IsUnbound vm.now.nfa (search_of input) }
+    requires first { IsFirstStart vm.now.nfa (search_of input) start }
+    requires within { start ≤ (search_of input).end + 1 }
+    ensures { IfSome result
+        (λ p. IsAnswer vm.now.nfa LeftmostFirst false (search_of input.entry) (Some (number_of p)) slots.new) }
+{
+    laws::first_start_answers();
+    let mut candidate = input.anchored(Anchored::Yes);
+    candidate.set_start(start);
+    match vm.search_slots(cache, &candidate, slots) {
+        Some(pattern) => Some(pattern),
+        None => None,
+    }
+}
+
+/// Returns the match of the pattern that starts at the anchored start, and the anchored match. They are one.
+pub fn only_pattern(
+    vm: &PikeVM,
+    cache: &mut Cache,
+    input: Input<'_>,
+    pattern: PatternID,
+) -> (Option<Match>, Option<Match>)
+    requires fits { Fits cache.old vm.now.nfa }
+    requires only { slice_get vm.now.nfa.patterns (number_of pattern) ≡ Some vm.now.nfa.anchored }
+    ensures { option_map found_of result.0 ≡ option_map found_of result.1 }
+{
+    laws::pattern_is_alone();
+    laws::one_match();
+    let of_pattern = input.anchored(Anchored::Pattern(pattern));
+    let bound = vm.find(cache, of_pattern);
+    let of_start = input.anchored(Anchored::Yes);
+    let anchored = vm.find(cache, of_start);
+    (bound, anchored)
+}
+
+/// Returns the pattern of an anchored search, and fills the slots. They are the answer of the first pattern, in their
+/// order, that has one by itself.
+pub fn first_of_patterns(
+    vm: &PikeVM,
+    cache: &mut Cache,
+    input: Input<'_>,
+    slots: &mut [Option<NonMaxUsize>],
+) -> Option<PatternID>
+    requires fits { Fits cache.old vm.now.nfa }
+    requires kind { kind_of vm.now ≡ LeftmostFirst }
+    requires off { (search_of input).earliest ≡ false }
+    requires anywhere { is_utf8_empty vm.now.nfa ≡ false }
+    requires tries { TriesPatternsInOrder vm.now.nfa (record (search_of input) { anchored = Yes }) }
+    ensures { IfSome result (λ p. IsOfPattern vm.now.nfa LeftmostFirst false
+        (record (search_of input.entry) { anchored = Yes }) (number_of p) slots.new) }
+{
+    laws::first_pattern_answers();
+    let anchored = input.anchored(Anchored::Yes);
+    match vm.search_slots(cache, &anchored, slots) {
+        Some(pattern) => Some(pattern),
+        None => None,
+    }
+}
+
+/// Returns the match in a line of a text, and the match in the line cut out. They differ by the start of the line.
+pub fn line_in_text(
+    vm: &PikeVM,
+    cache: &mut Cache,
+    text: &[u8],
+    start: usize,
+    end: usize,
+) -> (Option<Match>, Option<Match>)
+    requires fits { Fits cache.old vm.now.nfa }
+    requires plain { HasNoLook vm.now.nfa }
+    requires anywhere { is_utf8_empty vm.now.nfa ≡ false }
+    requires ordered { start ≤ end }
+    requires within { end ≤ length text.now }
+    ensures { option_map found_of result.0 ≡ option_map (moved_match start) (option_map found_of result.1) }
+{
+    laws::answers_read_the_span();
+    laws::one_match();
+    let all = Input::new(text);
+    let line = all.range(start..end);
+    let inside = vm.find(cache, line);
+    let cut = Input::new(&text[start..end]);
+    let alone = vm.find(cache, cut);
+    (inside, alone)
+}

@@ -1,0 +1,99 @@
+-- From the laws on searches of texts to the fields of a line.
+use Rattle.std.proofs.Common.{◌≡◌, ◌∙◌, ℕ, suc, ◌+◌, ◌≤◌, ◌<◌, Bool, true, false, List, [], ◌∷◌, map, length, drop, refl, sym, ap, subst, arith, eq-eqb}
+use Rattle.std.specs.Prelude.{Option, None, Some, IsSome, option_map, ◌==◌}
+use Rattle.std.specs.Option.{option_or}
+use Rattle.std.proofs.lemmas.Bool.{le-ltb}
+use Rattle.regex_hir.specs.Find.{Match}
+use Rattle.regex_hir.specs.Re.{Re, Trace, accept, attempt}
+use Rattle.regex_search_core.specs.Groups.{groups_at, slot_count}
+use Rattle.regex_search_core.specs.Search.{Search, whole}
+use Rattle.regex_search_core.specs.declared.search.Anchored.TheVariants.{No}
+use Rattle.regex_search_core.specs.Slots.{Captured, group_span}
+use Rattle.thompson_nfa.specs.Automaton.{Automaton}
+use Rattle.nfa_compiler.specs.Laws.{hit}
+use Rattle.nfa_compiler.specs.NameLaws.{GroupsAreWritten, captures_of, written_span}
+use Rattle.nfa_compiler.specs.Patterns.{Hit, expected, hit_by, hit_of, slots_of}
+use Rattle.log_extractor.specs.declared.pattern.Column.{Column}
+use Rattle.log_extractor.specs.Fields.{LinePattern, NamedGroup, columns_of, cut, fields_of, group_of, match_at_start, named_groups, row}
+
+no : false ≡ true → ⊥
+no e = cc
+
+-- the one hit of a search that is bound to its start
+bound-hit-at : (re : Re) (nfa : Automaton) (x : Search) → nfa.anchored ≡ nfa.unanchored → x.anchored ≡ No
+    → x.start ≤ x.end
+    → hit (re ∷ []) nfa x ≡ hit_of 0 x.start (attempt x.haystack re accept x.start)
+unfolding expected
+bound-hit-at re nfa x bound mode inside =
+    rw (le-ltb x.end x.start inside, mode, eq-eqb nfa.anchored nfa.unanchored bound)
+    (same (hit_of 0 x.start (attempt x.haystack re accept x.start)))
+  where
+    same : (o : Option Hit) → option_or (option_or o None) None ≡ o
+    same None = refl
+    same (Some h) = refl
+
+-- that of a line
+pub bound-hit : (p : LinePattern) (nfa : Automaton) (line : List ℕ) → nfa.anchored ≡ nfa.unanchored
+    → hit (p.tree ∷ []) nfa (whole line) ≡ option_map (hit_by 0) (match_at_start p line)
+bound-hit p nfa line bound =
+    bound-hit-at p.tree nfa (whole line) bound refl (omega arith) ∙ same (attempt line p.tree accept 0)
+  where
+    same : (o : Option Trace) → hit_of 0 0 o ≡ option_map (hit_by 0) (option_map (λ t. record { start = 0; trace = t }) o)
+    same None = refl
+    same (Some t) = refl
+
+-- the numbers of named groups are those of explicit groups
+between : (names : List (Option (List ℕ))) (n : ℕ) (f g : ℕ → Option (List ℕ))
+    → ((k : ℕ) → n ≤ k → k < n + length names → f k ≡ g k)
+    → map (λ (group : NamedGroup). f group.number) (named_groups n names)
+    ≡ map (λ (group : NamedGroup). g group.number) (named_groups n names)
+between [] n f g same = refl
+between (None ∷ names) n f g same = between names (n + 1) f g (λ k low high. same k (omega arith) (omega arith))
+between (Some name ∷ names) n f g same =
+    let here = same n (omega arith) (omega arith) in
+    let later = between names (n + 1) f g (λ k low high. same k (omega arith) (omega arith)) in
+    ap (λ fields. f n ∷ fields) later ∙ ap (λ field. field ∷ map (λ (group : NamedGroup). g group.number) (named_groups (n + 1) names)) here
+
+module _ (p : LinePattern) (nfa : Automaton) (line : List ℕ) (captures : Captured)
+    (bound : nfa.anchored ≡ nfa.unanchored) (groups : nfa.groups ≡ drop 1 p.names ∷ [])
+    (same : captures.groups ≡ nfa.groups)
+    (pattern : captures.pattern ≡ option_map (λ (h : Hit). h.pattern) (hit (p.tree ∷ []) nfa (whole line)))
+    (slots : captures.slots ≡ slots_of nfa.groups (slot_count nfa.groups) (hit (p.tree ∷ []) nfa (whole line)))
+  where
+    -- there is no row if no pattern was captured
+    pub row-none : captures.pattern ≡ None → row p line ≡ None
+    row-none none = of (match_at_start p line) (sym pattern ∙ none) (bound-hit p nfa line bound)
+      where
+        of : (o : Option Match) → option_map (λ (h : Hit). h.pattern) (hit (p.tree ∷ []) nfa (whole line)) ≡ None
+            → hit (p.tree ∷ []) nfa (whole line) ≡ option_map (hit_by 0) o
+            → option_map (fields_of p line) o ≡ None
+        of None e h = refl
+        of (Some m) e h = let bad : Some 0 ≡ None = ap (option_map (λ (one : Hit). one.pattern)) (sym h) ∙ e in cc
+
+    -- what the captures give for the columns is the row
+    pub row-some : IsSome captures.pattern → GroupsAreWritten hit
+        → Some (map (λ (group : NamedGroup). cut line (group_span captures group.number)) (columns_of p)) ≡ row p line
+    row-some some law = of (match_at_start p line) (bound-hit p nfa line bound)
+      where
+        of : (o : Option Match) → hit (p.tree ∷ []) nfa (whole line) ≡ option_map (hit_by 0) o
+            → Some (map (λ (group : NamedGroup). cut line (group_span captures group.number)) (columns_of p))
+            ≡ option_map (fields_of p line) o
+        of None h =
+            absurd (no (subst (λ (o : Option ℕ). IsSome o) (pattern ∙ ap (option_map (λ (one : Hit). one.pattern)) h) some))
+        of (Some m) h =
+            let is : captures.pattern ≡ Some 0 = pattern ∙ ap (option_map (λ (one : Hit). one.pattern)) h in
+            let are : captures.slots ≡ slots_of nfa.groups (slot_count nfa.groups) (Some (hit_by 0 m)) =
+            slots ∙ ap (slots_of nfa.groups (slot_count nfa.groups)) h in
+            let all : captures ≡ captures_of nfa (hit_by 0 m) =
+            λ i. record { groups = same i; pattern = is i; slots = are i } in
+            let counted : length nfa.groups ≡ 1 = ap length groups in
+            let explicit : groups_at nfa.groups 0 ≡ drop 1 p.names = ap (λ gs. groups_at gs 0) groups in
+            ap Some (between (drop 1 p.names) 1 (λ k. cut line (group_span captures k)) (λ k. cut line (written_span k m))
+            (λ k low high. ap (cut line) (ap (λ c. group_span c k) all
+            ∙ law (p.tree ∷ []) nfa (whole line) (hit_by 0 m) k counted h low (omega (arith, ap length explicit, high)))))
+
+-- a function of the numbers of columns
+pub of-groups : {A : Type 0} (f : ℕ → A) (columns : List Column)
+    → map (λ (column : Column). f column.group) columns ≡ map (λ (g : NamedGroup). f g.number) (map group_of columns)
+of-groups f [] = refl
+of-groups f (column ∷ columns) = ap (λ l. f column.group ∷ l) (of-groups f columns)

@@ -1,0 +1,6 @@
+mod FieldLemmas
+mod GoingLemmas
+mod LineLemmas
+mod NameLemmas
+mod ObjectLemmas
+mod WriteLemmas

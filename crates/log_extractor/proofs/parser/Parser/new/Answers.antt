@@ -1,0 +1,38 @@
+-- The columns are those of the NFA.
+use Rattle.std.proofs.Common.{rules, ◌≡◌, ◌∙◌, ℕ, [], ap, true, false, arith, length, map, sym}
+use Rattle.std.specs.Prelude.{None}
+use Rattle.std.proofs.lemmas.List.{length-map, length-replicate}
+use Rattle.regex_search_core.specs.Groups.{slot_count}
+use Rattle.regex_search_core.specs.Slots.{Captured}
+use Rattle.log_extractor.specs.Fields.{group_of, line_syntax}
+use Rattle.log_extractor.proofs.NameLemmas.{compiled-columns, empty-columns}
+use Rattle.log_extractor.proofs.parser.Parser.new.Goals as goal
+
+pub returns-then-is_empty-clause-mistake : goal.returns-then-is_empty-clause-mistake
+returns-then-is_empty-clause-mistake c = λ p is.
+    let none : length c.in_ok-columns.columns.items ≡ 0 = search rules in
+    sym (c.in_ok-columns.ensures.read p.names is.names) ∙ empty-columns c.in_ok-columns.columns.items none
+
+pub returns-clause-columns : goal.returns-clause-columns
+returns-clause-columns c = λ p is none.
+    let same = ap length (c.in_ok-columns.ensures.read p.names is.names ∙ none) in
+    let zero : length c.in_ok-columns.columns.items ≡ 0 =
+    omega (arith, length-map c.in_ok-columns.columns.items group_of, same) in
+    let full : c.is_empty.result ≡ true = search rules in
+    let other : c.is_empty.result ≡ false = search rules in
+    cc
+
+pub invariant_of-result : goal.invariant_of-result
+invariant_of-result c =
+    let nfa : c.in-Ok.vm.nfa ≡ c.in_ok-nfa.nfa = search rules in (
+      search rules,
+      search rules,
+      search rules,
+      search rules,
+      search rules,
+      search rules,
+      ap (λ (k : Captured). length k.slots) c.in-Ok-create_captures.ensures.made
+          ∙ length-replicate (slot_count c.in-Ok.vm.nfa.groups) None,
+      rw nfa (compiled-columns c.args.pattern.now c.in_ok-nfa.nfa (map group_of c.in_ok-columns.columns.items)
+          c.in_ok-nfa.ensures.compiled c.in_ok-columns.ensures.read),
+    )

@@ -1,0 +1,53 @@
+-- The laws, of these captures.
+use Rattle.std.proofs.Common.{rules, ◌≡◌, ◌∙◌, ℕ, List, [], ◌∷◌, ap, arith, length, map, refl, subst, sym}
+use Rattle.std.specs.Prelude.{Option, None, Some, IsSome}
+use Rattle.regex_search_core.specs.Groups.{groups_at}
+use Rattle.regex_search_core.specs.Search.{Search, whole}
+use Rattle.regex_search_core.specs.Slots.{group_span}
+use Rattle.nfa_compiler.specs.Laws.{hit}
+use Rattle.nfa_compiler.specs.Patterns.{slots_of}
+use Rattle.nfa_compiler.proofs.CallLemmas.{bytes-of}
+use Rattle.log_extractor.specs.Fields.{IsPatternOf, NamedGroup, cut, group_of, line_syntax, named_groups}
+use Rattle.log_extractor.proofs.FieldLemmas.{of-groups, row-none, row-some}
+use Rattle.log_extractor.proofs.parser.Parser.parse_line.Goals as goal
+
+pub returns-then-not-is_match-clause-fields : goal.returns-then-not-is_match-clause-fields
+returns-then-not-is_match-clause-fields c = λ p is.
+    let line = c.args.line.now in
+    let inv = c.self.invariant in
+    let nfa = c.self.inside.vm.nfa in
+    let bytes = bytes-of line (λ k. omega (arith, c.type_inv.line k)) in
+    let inside = subst (λ (text : List ℕ). IsPatternOf text p) (sym c.self.view_is) is in
+    let groups = c.groups_are_those_of_texts.ensures.names line_syntax _ (p.names ∷ []) nfa inv.0 (inside.names, tt) in
+    let hits = c.searches_find_texts.ensures.answers line_syntax _ (p.tree ∷ []) nfa _ _ (whole line) _ _ inv.0
+    (inside.tree, tt) inv.1
+    (record { leftmost = rw inv.3 refl; latest = ap (λ (s : Search). s.earliest) c.new.ensures; whole = refl }) bytes
+    (rw c.new.ensures at c.search.ensures.answer) in
+    let none : c.search.new.captures.pattern ≡ None = search rules in
+    sym (row-none p nfa line c.search.new.captures inv.2 groups (c.search.ensures.groups ∙ inv.5) hits.0
+    (hits.1 ∙ ap (λ n. slots_of nfa.groups n (hit (p.tree ∷ []) nfa (whole line))) (c.search.ensures.count ∙ inv.6))
+    none)
+
+pub returns-clause-fields : goal.returns-clause-fields
+returns-clause-fields c = λ p is.
+    let line = c.args.line.now in
+    let inv = c.self.invariant in
+    let nfa = c.self.inside.vm.nfa in
+    let captures = c.search.new.captures in
+    let bytes = bytes-of line (λ k. omega (arith, c.type_inv.line k)) in
+    let inside = subst (λ (text : List ℕ). IsPatternOf text p) (sym c.self.view_is) is in
+    let groups = c.groups_are_those_of_texts.ensures.names line_syntax _ (p.names ∷ []) nfa inv.0 (inside.names, tt) in
+    let hits = c.searches_find_texts.ensures.answers line_syntax _ (p.tree ∷ []) nfa _ _ (whole line) _ _ inv.0
+    (inside.tree, tt) inv.1
+    (record { leftmost = rw inv.3 refl; latest = ap (λ (s : Search). s.earliest) c.new.ensures; whole = refl }) bytes
+    (rw c.new.ensures at c.search.ensures.answer) in
+    let some : IsSome captures.pattern = search rules in
+    let one : ℕ → Option (List ℕ) = λ k. cut line (group_span captures k) in
+    let fields = c.in_ok-fields.ensures ∙ of-groups one c.deref.result.now
+    ∙ ap (λ cs. map (λ (g : NamedGroup). one g.number) (map group_of cs)) c.deref.ensures.value
+    ∙ ap (λ gs. map (λ (g : NamedGroup). one g.number) gs)
+    (inv.7 ∙ ap (λ gs. named_groups 1 (groups_at gs 0)) groups) in
+    ap Some fields
+    ∙ row-some p nfa line captures inv.2 groups (c.search.ensures.groups ∙ inv.5) hits.0
+    (hits.1 ∙ ap (λ n. slots_of nfa.groups n (hit (p.tree ∷ []) nfa (whole line))) (c.search.ensures.count ∙ inv.6))
+    some c.groups_are_those_of_texts.ensures.spans

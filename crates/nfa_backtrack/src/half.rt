@@ -1,0 +1,56 @@
+//! The search for the end of a match alone.
+ghost use Rattle.std.specs.Prelude.{◌≡◌, ◌↔◌, ◌⊎◌, ◌+◌, ◌*◌, ◌<◌, ◌≤◌, length, option_map, false};
+ghost use Rattle.std.specs.Prelude.{IfErr, IfOk, IfSome, IsErrOf, OnErr, OnOk};
+ghost use Rattle.regex_search_core.specs.Found.{half_found_of};
+ghost use Rattle.regex_search_core.specs.Search.{search_of};
+ghost use Rattle.regex_search_core.specs.declared.search.MatchKind.TheVariants.{LeftmostFirst};
+ghost use Rattle.nfa_paths.specs.Paths.{span_len, turn_weight, scan_limit, IsHalfAnswer, IsWork, IsWithinScans};
+ghost use Rattle.nfa_backtrack.specs.Backtrack.{IsTooLong, AddsWork, CountsAnswer, CountsRefusal, GrowsBlocks, HoldsNoMore};
+ghost use Rattle.nfa_backtrack.specs.Backtrack.{refused_early};
+
+use crate::cache::Cache;
+use crate::engine::BoundedBacktracker;
+use nfa_search_base::error::SearchError;
+use regex_search_core::{HalfMatch, Input};
+
+impl BoundedBacktracker {
+    /// Returns the pattern of the match that a search of the input finds, and the offset of its end. It writes no slots,
+    /// so the NFA need not write where its matches start and end.
+    ///
+    /// Returns `None` if nothing matches. Errors are those of [`BoundedBacktracker::try_search_slots`].
+    pub fn try_find_half<'h>(
+        &self,
+        cache: &mut Cache,
+        input: Input<'h>,
+    ) -> Result<Option<HalfMatch>, SearchError>
+        ensures answer { IfOk result (λ half. IsHalfAnswer self.now.nfa LeftmostFirst false (search_of input.entry)
+            (option_map half_found_of half)) }
+        ensures pattern { IfOk result (λ half. IfSome half
+            (λ m. (half_found_of m).pattern < length self.now.nfa.patterns)) }
+        ensures inside { IfOk result (λ half. IfSome half
+            (λ m. ((search_of input.entry).start ≤ (half_found_of m).offset)
+            × ((half_found_of m).offset ≤ (search_of input.entry).end))) }
+
+        ensures too_long { IsErrOf result (SearchError.HaystackTooLong (span_len (search_of input.entry)))
+            ↔ IsTooLong self.now (search_of input.entry) }
+        ensures errors { IfErr result (λ e. (e ≡ SearchError.Memory)
+            ⊎ (e ≡ SearchError.HaystackTooLong (span_len (search_of input.entry)))) }
+
+        ensures work { OnOk result (IsWork self.now.nfa LeftmostFirst false (search_of input.entry) cache.new.scans
+            cache.new.turns) }
+        ensures within { OnErr result (IsWithinScans self.now.nfa LeftmostFirst false (search_of input.entry)
+            cache.new.scans) }
+        ensures scans { cache.new.scans ≤ scan_limit self.now.nfa (search_of input.entry) }
+        ensures turns { cache.new.turns
+            ≤ cache.new.scans * ((1 + turn_weight self.now.nfa) * (span_len (search_of input.entry) + 1)) }
+        // It is counted once.
+        ensures answered { OnOk result (CountsAnswer cache.old cache.new) }
+        ensures refused { OnErr result (CountsRefusal cache.old cache.new) }
+        ensures total { AddsWork cache.old cache.new }
+        ensures blocks { GrowsBlocks self.now.nfa (search_of input.entry) cache.old.blocks cache.new.blocks }
+        ensures holds { HoldsNoMore 0 cache.old cache.new }
+        ensures early { IsTooLong self.now (search_of input.entry) → cache.new ≡ refused_early cache.old }
+    {
+        self.search_counted(cache, &input, &mut [])
+    }
+}

@@ -1,0 +1,326 @@
+-- What the searches of an iteration over captures by a choice answer, and what its iterator may ask and gives.
+use Rattle.std.proofs.Common.{◌≡◌, Bool, true, false, MatchBool, List, [], ◌∷◌, ◌++◌, map, None, Option, Some}
+use Rattle.std.proofs.Common.{Result, Ok, Err, ◌⊎◌, inl, inr, refl, subst}
+use Rattle.std.specs.Prelude.{All, IfErr, IfOk}
+use Rattle.std.proofs.iter.runs.Made.{run_of_exit, run_of_turn}
+use Rattle.std.proofs.lemmas.List.Elements.{All-cons, All-head, All-nil, All-tail}
+use Rattle.regex_search_core.specs.Search.{Search}
+use Rattle.regex_search_core.specs.Slots.{Captured}
+use Rattle.regex_search_core.specs.declared.search.MatchKind.{MatchKind}
+use Rattle.thompson_nfa.specs.Automaton.{Automaton}
+use Rattle.nfa_search_base.specs.Asking.{SameButStart}
+use Rattle.nfa_search_base.specs.CapturesGiven.{CapturesGiven}
+use Rattle.nfa_search_base.specs.Catching.{Catching, GivesCaptures, Row, row_of, row_span}
+use Rattle.nfa_search_base.specs.CaughtLists.{AreRows, HasGroups, TellsRow}
+use Rattle.nfa_search_base.specs.CaughtRuns.{CapturesInside, CapturesMemory, match_in}
+use Rattle.nfa_search_base.specs.Drained.{CallsLead, DrainsAll, DrainsToError}
+use Rattle.nfa_search_base.specs.Leaving.{DoesSearch}
+use Rattle.nfa_search_base.specs.Lending.{With}
+use Rattle.nfa_search_base.specs.Lent.{lent_state, lent_walk}
+use Rattle.nfa_search_base.specs.Lists.{AreApart, AreMatches}
+use Rattle.nfa_search_base.specs.Steps.{TakesStep}
+use Rattle.nfa_search_base.specs.Stored.{can_step, steps_walk, takes_steps}
+use Rattle.nfa_search_base.specs.Walks.{Answer, AnswerIsInside, fresh}
+use Rattle.nfa_search_base.specs.declared.error.SearchError.{SearchError}
+use Rattle.nfa_search_base.specs.declared.error.SearchError.TheVariants.{Memory}
+use Rattle.nfa_search_base.specs.declared.iter.steps.Steps.{Steps}
+use Rattle.nfa_search_base.proofs.AskingLemmas.{same_start-self, same_start-then, ServesOnAlong-by}
+use Rattle.nfa_search_base.proofs.CaughtLemmas.{row-lies}
+use Rattle.nfa_search_base.proofs.CaughtRunLemmas.{captures-apart, captures-first, captures-memory, captures-next}
+use Rattle.nfa_search_base.proofs.CaughtRunLemmas.{captures-run, captures-within, copy-of, copy-says, matches_in-all}
+use Rattle.nfa_search_base.proofs.CaughtRunLemmas.{matches_in-first, matches_in-next, matches_in-run, rows-all}
+use Rattle.nfa_search_base.proofs.CaughtRunLemmas.{rows-first, rows-next, rows-run, runs-hold}
+use Rattle.nfa_search_base.proofs.EngineLemmas.{calls-kept}
+use Rattle.nfa_search_base.proofs.LeavingLemmas.{all-leave, calls-lead, calls-leave}
+use Rattle.nfa_search_base.proofs.ListLemmas.{matches-apart}
+use Rattle.nfa_search_base.proofs.RunLemmas.{Says, calls-keep, step-keeps}
+use Rattle.nfa_choice.specs.CapturesMatches.{AsksRowByRule, CatchesByRule, ChoiceCatchesBySearches, ChoiceCatchesGiveKept}
+use Rattle.nfa_choice.specs.CapturesMatches.{ChoiceCatchesOn, ChoiceCatchesToEnd, ChoiceTellsRow, MayCatchByRule}
+use Rattle.nfa_choice.specs.CapturesMatches.{choice_catches, choice_catches_next}
+use Rattle.nfa_choice.specs.Choosing.{Choosing, KeepsEngines, kind_in}
+use Rattle.nfa_choice.specs.declared.choose.captures_iter.ChoiceCaptures.{ChoiceCaptures}
+use Rattle.nfa_choice.proofs.FindLemmas.{IsOf, is-kept, keeps-self, keeps-then}
+
+-- the captures of an iteration, with the choice that they are lent
+abbrev State : Type 0
+State = With (Catching (Unit {0})) Choosing
+
+-- a call of its steps
+abbrev pub RuleSteps : Steps State → Option (Result Captured SearchError) → Steps State → Type 0
+RuleSteps = takes_steps row_span AsksRowByRule (λ q. GivesCaptures q.asker)
+
+-- ---- what it may ask
+
+may-after : (s : State) (x : Search) (a : Answer Row) (t : State) → MayCatchByRule s → AsksRowByRule s x a t
+    → MayCatchByRule t
+may-after s x a t may asked = rw asked.work.keeps.nfa asked.holds
+
+-- steps may search wherever they stand
+pub steps-serve : (s : Steps State) → MayCatchByRule s.asker
+    → can_step (λ q x. MayCatchByRule q) AsksRowByRule row_span s
+steps-serve s may =
+    ServesOnAlong-by (λ (q : State) (t : Search). MayCatchByRule q) AsksRowByRule SameButStart same_start-self
+    same_start-then (AnswerIsInside row_span) (λ (q : State). MayCatchByRule q) s.asker (steps_walk s).at may
+    (λ q t same may. may)
+    (λ q t a q' same may asked.
+    ((row-lies q.cache.nfa (kind_in q.cache) t.earliest t a asked.tells).0, may-after q t a q' may asked))
+
+-- and after a step
+pub step-may : (s : Steps State) (r : Option (Result Captured SearchError)) (t : Steps State) → RuleSteps s r t
+    → MayCatchByRule s.asker → MayCatchByRule t.asker
+step-may s r t st =
+    step-keeps row_span AsksRowByRule (λ q. GivesCaptures q.asker)
+    (λ (p q : State). MayCatchByRule p → MayCatchByRule q) (λ q may. may) (λ p q u f g may. g (f may))
+    (λ p x a q asked may. may-after p x a q may asked) s r t st
+
+-- ---- what a search answers
+
+-- the choice answers the rows of its searches, and they depend on the same
+row-acts : (c : Choosing) (s : State) (t : Search) (a : Answer Row) (s' : State) → IsOf c s.cache
+    → AsksRowByRule s t a s' → ChoiceTellsRow c t a × IsOf c s'.cache
+row-acts c s t a s' is asked = (
+  subst (λ (k : MatchKind). TellsRow c.nfa k t.earliest t a) is.kind
+      (subst (λ (n : Automaton). TellsRow n (kind_in s.cache) t.earliest t a) is.nfa asked.tells),
+  is-kept c s.cache s'.cache is asked.work.keeps,
+)
+
+-- the searches of an iteration keep `earliest`
+row-told : (c : Choosing) (x : Search) (s : State) (t : Search) (a : Answer Row) (s' : State) → SameButStart x t
+    → IsOf c s.cache → AsksRowByRule s t a s' → TellsRow c.nfa (kind_in c) x.earliest t a × IsOf c s'.cache
+row-told c x s t a s' same is asked =
+    let k = row-acts c s t a s' is asked in
+    (subst (λ (b : Bool). TellsRow c.nfa (kind_in c) b t a) same.earliest k.0, k.1)
+
+-- a call keeps the engines
+step-engines : (s : Steps State) (r : Option (Result Captured SearchError)) (t : Steps State) → RuleSteps s r t
+    → KeepsEngines s.asker.cache t.asker.cache
+step-engines s r t st =
+    step-keeps row_span AsksRowByRule (λ q. GivesCaptures q.asker) (λ (p q : State). KeepsEngines p.cache q.cache)
+    (λ p. keeps-self p.cache) (λ p q u f g. keeps-then p.cache q.cache u.cache f g) (λ p x a q asked. asked.work.keeps)
+    s r t st
+
+copied : (s : Steps State) (d : Captured) (t : Steps State) (b : Bool)
+    → (let r : Option (Result Captured SearchError) = Some (Ok d) in
+    MatchBool b ((r ≡ None) × (t ≡ s))
+    (TakesStep row_span AsksRowByRule (λ q. GivesCaptures q.asker) s.asker (steps_walk s) r t.asker (steps_walk t)
+    t.done))
+    → d ≡ t.asker.asker.captures
+copied s d t true h = let k : (let r : Option (Result Captured SearchError) = Some (Ok d) in r ≡ None) = h.0 in cc
+copied s d t false h = copy-of t.asker.asker h.answer d h.item
+
+-- The state of an iteration by a choice that answers as c does.
+record Holds (c : Choosing) (s : State) : Type 0 where
+  may : MayCatchByRule s
+  is : IsOf c s.cache
+
+-- each item has the groups of the NFA
+call-groups : (c : Choosing) (p : Steps State) (r : Result Captured SearchError) (q : Steps State) → Holds c p.asker
+    → RuleSteps p (Some r) q → IfOk r (HasGroups c.nfa) × Holds c q.asker
+call-groups c p r q holds st = (of r st, left)
+  where
+    left : Holds c q.asker
+    left = record {
+      may = step-may p (Some r) q st holds.may;
+      is = is-kept c p.asker.cache q.asker.cache holds.is (step-engines p (Some r) q st);
+    }
+
+    of : (r : Result Captured SearchError) → RuleSteps p (Some r) q → IfOk r (HasGroups c.nfa)
+    of (Err error) step = tt
+    of (Ok d) step =
+        subst (λ (n : Automaton). HasGroups n d) left.is.nfa
+        (rw (copied p d q p.done step) left.may)
+
+-- ---- what an iterator gives
+
+-- An iterator around such steps, which begins at x.
+module _ {T : Type 0} (calls : T → Option (Result Captured SearchError) → T → Type 0) (inner : T → Steps State)
+    (steps : (s : T) (r : Option (Result Captured SearchError)) (t : T) → calls s r t
+    → RuleSteps (inner s) r (inner t))
+    (c : Choosing) (x : Search) (s : T) (holds : Holds c (inner s).asker) (walk : steps_walk (inner s) ≡ fresh x)
+    (going : (inner s).done ≡ false) where
+  abbrev Rows : Search → Answer Row → Type 0
+  Rows = TellsRow c.nfa (kind_in c) x.earliest
+
+  abbrev Good : State → Type 0
+  Good q = IsOf c q.cache
+
+  -- all that its calls give
+  caught-given : CapturesGiven calls c.nfa (kind_in c) x.earliest Rows x s
+  caught-given = record {
+    runs = captures-run c.nfa (kind_in c) x.earliest Rows (λ t o h. h) x AsksRowByRule Good (row-told c x) calls inner
+        steps s walk going holds.is;
+    first = captures-first c.nfa (kind_in c) x.earliest Rows (λ t o h. h) x AsksRowByRule Good (row-told c x) calls
+        inner steps s walk going holds.is;
+    next = captures-next c.nfa (kind_in c) x.earliest Rows (λ t o h. h) x AsksRowByRule Good (row-told c x) calls inner
+        steps s walk going holds.is;
+    rows = rows-run c.nfa (kind_in c) x.earliest Rows (λ t o h. h) x AsksRowByRule Good (row-told c x) calls inner
+        steps s walk going holds.is;
+    first_rows = rows-first c.nfa (kind_in c) x.earliest Rows (λ t o h. h) x AsksRowByRule Good (row-told c x) calls
+        inner steps s walk going holds.is;
+    next_row = rows-next c.nfa (kind_in c) x.earliest Rows (λ t o h. h) x AsksRowByRule Good (row-told c x) calls inner
+        steps s walk going holds.is;
+    all_rows = rows-all c.nfa (kind_in c) x.earliest Rows (λ t o h. h) x AsksRowByRule Good (row-told c x) calls inner
+        steps s walk going holds.is;
+    matches = matches_in-run c.nfa (kind_in c) x.earliest Rows (λ t o h. h) x AsksRowByRule Good (row-told c x) calls
+        inner steps s walk going holds.is;
+    first_matches = matches_in-first c.nfa (kind_in c) x.earliest Rows (λ t o h. h) x AsksRowByRule Good (row-told c x)
+        calls inner steps s walk going holds.is;
+    next_match = matches_in-next c.nfa (kind_in c) x.earliest Rows (λ t o h. h) x AsksRowByRule Good (row-told c x)
+        calls inner steps s walk going holds.is;
+    all_matches = matches_in-all c.nfa (kind_in c) x.earliest Rows (λ t o h. h) x AsksRowByRule Good (row-told c x)
+        calls inner steps s walk going holds.is;
+    groups = runs-hold calls (λ q. Holds c (inner q).asker) (λ item. IfOk item (HasGroups c.nfa))
+        (λ p r q h st. call-groups c (inner p) r (inner q) h (steps p (Some r) q st)) s holds;
+    inside = captures-within c.nfa (kind_in c) x.earliest Rows (λ t o h. h) x AsksRowByRule Good (row-told c x) calls
+        inner steps s walk going holds.is;
+    apart = captures-apart c.nfa (kind_in c) x.earliest Rows (λ t o h. h) x AsksRowByRule Good (row-told c x) calls
+        inner steps s walk going holds.is;
+  }
+
+  -- and no error but that of memory
+  caught-memory : CapturesMemory calls s
+  caught-memory =
+      captures-memory c.nfa (kind_in c) x.earliest Rows (λ t o h. h) x AsksRowByRule Good (row-told c x) calls inner
+      steps s walk going holds.is (λ t e from to never. absurd never)
+
+-- ---- what the searches change
+
+abbrev Looks : Choosing → Choosing → Search → Answer Row → Choosing → Type 0
+Looks c = DoesSearch (ChoiceTellsRow c) (λ y a. CatchesByRule y)
+
+looks : (c : Choosing) (s : State) (t : Search) (a : Answer Row) (s' : State) → IsOf c s.cache
+    → AsksRowByRule s t a s' → Looks c s.cache t a s'.cache × IsOf c s'.cache
+looks c s t a s' is asked =
+    let k = row-acts c s t a s' is asked in (record { tells = k.0; work = asked.work }, k.1)
+
+says : (s : State) (a : Answer Row) (r : Option (Result Captured SearchError)) → GivesCaptures s.asker a r
+    → Says row_of a (λ q. Unit {0}) r
+says s a r gives = said r (copy-says (λ b. Unit {0}) s.asker a r gives tt)
+  where
+    said : (r : Option (Result Captured SearchError))
+        → Says row_of a (λ q. Unit {0} ⊎ ((q ≡ Memory) × (row : Row) × Unit {0})) r
+        → Says row_of a (λ q. Unit {0}) r
+    said None h = h
+    said (Some (Ok d)) h = h
+    said (Some (Err q)) h = tt
+
+itself : (c : Choosing) → IsOf c c
+itself c = record { nfa = refl; kind = refl }
+
+module _ (x : Search) (s : Steps State) (walk : steps_walk s ≡ fresh x) (going : s.done ≡ false) where
+  -- the choice changes by the searches of the steps alone
+  pub caught-on : (t : Steps State) → CallsLead RuleSteps s t → ChoiceCatchesOn x s.asker.cache t.asker.cache
+  caught-on t lead =
+      let k = calls-leave row_span AsksRowByRule (λ q. GivesCaptures q.asker) row_of says (λ q. q.cache)
+      (Looks s.asker.cache) (λ q. IsOf s.asker.cache q.cache) (looks s.asker.cache) lead.items s lead.last t lead.item
+      going (itself s.asker.cache) lead.ran lead.over in
+      record { answers = k.0 ∷ k.1; steps = rw walk at k.2 }
+
+  -- to their end, where all captures come
+  drained-to_end : (cs : List Captured) (t : Steps State) → DrainsAll RuleSteps s cs t
+      → ChoiceCatchesToEnd x (map row_of cs) s.asker.cache t.asker.cache
+  drained-to_end cs t all =
+      let k = all-leave row_span AsksRowByRule (λ q. GivesCaptures q.asker) row_of says (λ q. q.cache)
+      (Looks s.asker.cache) (λ q. IsOf s.asker.cache q.cache) (looks s.asker.cache) cs s all.last t going
+      (itself s.asker.cache) all.ran all.over in
+      record { steps = rw walk at k }
+
+-- and keeps the engines
+pub caught-engines : (s t : Steps State) → CallsLead RuleSteps s t → KeepsEngines s.asker.cache t.asker.cache
+caught-engines s t lead =
+    calls-keep RuleSteps (λ p q. KeepsEngines p.asker.cache q.asker.cache) (λ p. keeps-self p.asker.cache)
+    (λ p q u f g. keeps-then p.asker.cache q.asker.cache u.asker.cache f g) step-engines s lead.items lead.last
+    lead.item t lead.ran lead.over
+
+-- ---- the iterator
+
+pub catch-serves : (s : ChoiceCaptures)
+    → can_step (λ q x. MayCatchByRule q) AsksRowByRule row_span (lent_state (choice_catches s))
+catch-serves s = steps-serve (lent_state (choice_catches s)) s.holds
+
+module _ (x : Search) (s : ChoiceCaptures) (walk : lent_walk (choice_catches s) ≡ fresh x)
+    (going : (choice_catches s).steps.done ≡ false) where
+  begins : Holds s.choice.now (lent_state (choice_catches s)).asker
+  begins = record { may = s.holds; is = itself s.choice.now }
+
+  pub catches-given : CapturesGiven choice_catches_next s.choice.now.nfa (kind_in s.choice.now) x.earliest
+      (TellsRow s.choice.now.nfa (kind_in s.choice.now) x.earliest) x s
+  catches-given = caught-given choice_catches_next (λ q. lent_state (choice_catches q)) (λ p r q st. st.takes.step)
+      s.choice.now x s begins walk going
+
+  pub catches-memory : CapturesMemory choice_catches_next s
+  catches-memory = caught-memory choice_catches_next (λ q. lent_state (choice_catches q)) (λ p r q st. st.takes.step)
+      s.choice.now x s begins walk going
+
+  pub catches-searches : ChoiceCatchesBySearches x s
+  catches-searches = record {
+    on = λ xs t r u ran st. caught-on x (lent_state (choice_catches s)) walk going (lent_state (choice_catches u))
+        (calls-lead choice_catches_next RuleSteps (λ q. lent_state (choice_catches q)) (λ p r q h. h.takes.step) xs s t
+        r u ran st);
+  }
+
+-- the calls keep the choice, and what its answers depend on
+pub catches-choice : (s : ChoiceCaptures) → ChoiceCatchesGiveKept s
+catches-choice s = λ xs t r u ran st.
+    let k = calls-kept row_span AsksRowByRule GivesCaptures KeepsEngines keeps-self keeps-then
+    (λ p x a q asked. asked.work.keeps) choice_catches_next choice_catches (λ i. i) (λ p i q h. h.takes) s xs t r u ran
+    st in
+    record { choice = k.cache; keeps = k.keeps }
+
+-- ---- all captures
+
+-- what is true of each `Ok` is true of each value
+all_ok : {X E : Type 0} (P : X → Type 0) (xs : List X) → All (λ (item : Result X E). IfOk item P) (map Ok xs) → All P xs
+all_ok P [] h = All-nil P
+all_ok {X} {E} P (x ∷ xs) h =
+    let each : Result X E → Type 0 = λ item. IfOk item P in
+    All-cons P x xs (All-head each (Ok x) (map Ok xs) h) (all_ok P xs (All-tail each (Ok x) (map Ok xs) h))
+
+-- what is true of all is true of the last one
+all-last : {X : Type 0} (P : X → Type 0) (xs : List X) (x : X) → All P (xs ++ x ∷ []) → P x
+all-last P [] x h = All-head P x [] h
+all-last P (y ∷ ys) x h = all-last P ys x (All-tail P y (ys ++ x ∷ []) h)
+
+-- These captures are those of x, by a choice that answers as c does, and they led from c to d.
+pub record AreAllOf (c : Choosing) (x : Search) (cs : List Captured) (d : Choosing) : Type 0 where
+  pub rows : AreRows c.nfa (kind_in c) x.earliest x (map row_of cs)
+  pub matches : AreMatches c.nfa (kind_in c) x.earliest x (map match_in cs)
+  pub groups : All (HasGroups c.nfa) cs
+  pub inside : All (CapturesInside x) cs
+  pub apart : AreApart x None (map match_in cs)
+  pub to_end : ChoiceCatchesToEnd x (map row_of cs) c d
+
+module _ (x : Search) (s : Steps State) (may : MayCatchByRule s.asker) (walk : steps_walk s ≡ fresh x)
+    (going : s.done ≡ false) where
+  begun : Holds s.asker.cache s.asker
+  begun = record { may = may; is = itself s.asker.cache }
+
+  all-given : CapturesGiven RuleSteps s.asker.cache.nfa (kind_in s.asker.cache) x.earliest
+      (TellsRow s.asker.cache.nfa (kind_in s.asker.cache) x.earliest) x s
+  all-given = caught-given RuleSteps (λ q. q) (λ p r q st. st) s.asker.cache x s begun walk going
+
+  -- calls that go on to none give all captures
+  pub drained : (cs : List Captured) (t : Steps State) → DrainsAll RuleSteps s cs t
+      → AreAllOf s.asker.cache x cs t.asker.cache
+  drained cs t all =
+      let run = run_of_exit RuleSteps s (map Ok cs) all.last all.ran t all.over in
+      let items = run.3.0 in
+      record {
+        rows = all-given.all_rows (map Ok cs) all.last t cs all.ran all.over refl;
+        matches = all-given.all_matches (map Ok cs) all.last t cs all.ran all.over refl;
+        groups = all_ok (HasGroups s.asker.cache.nfa) cs (rw items at (all-given.groups run.0 run.0.seen run.1));
+        inside = all_ok (CapturesInside x) cs (rw items at (all-given.inside run.0 run.0.seen run.1));
+        apart = matches-apart s.asker.cache.nfa (kind_in s.asker.cache) x.earliest x (map match_in cs)
+            (all-given.first_matches (map Ok cs) all.last cs all.ran refl);
+        to_end = drained-to_end x s walk going cs t all;
+      }
+
+  -- and an error is that of memory
+  pub error-drained : (error : SearchError) (t : Steps State)
+      → (error ≡ Memory) ⊎ DrainsToError RuleSteps s error t → error ≡ Memory
+  error-drained error t (inl is) = is
+  error-drained error t (inr ends) =
+      let run = run_of_turn RuleSteps s (map Ok ends.items) ends.last ends.ran (Err error) t ends.over in
+      let all = caught-memory RuleSteps (λ q. q) (λ p r q st. st) s.asker.cache x s begun walk going run.0 run.0.seen
+      run.1 in
+      all-last (λ item. IfErr item (λ q. q ≡ Memory)) (map Ok ends.items) (Err error) (rw run.2.0 at all)

@@ -1,0 +1,271 @@
+//! Iteration over the captures of the matches of an input.
+ghost use Rattle.nfa_search_base.specs.CaughtLists.{HasGroups};
+
+use crate::choose::Choice;
+use nfa_engines::error::SearchError;
+use nfa_engines::iter::catching::{caught_item, caught_span};
+use nfa_engines::iter::{Searcher, Searches, Steps};
+use regex_search_core::{Captures, Input, Span};
+use std::alloc::Global;
+use std::marker::Model;
+
+/// The captures of the matches of an input that do not overlap, from left to right: what [`Choice::captures_iter`]
+/// gives.
+///
+/// Its items are `Ok` captures, each a value of its own, at most as many as the span has bytes and one more, and at
+/// most one error, which is [`SearchError::Memory`]: there was no memory for a copy. It ends for good after the last
+/// match and after the error.
+#[derive(Debug, Drop)]
+pub struct ChoiceCaptures<'c, 'h> {
+    choice: &'c mut Choice,
+    steps: Steps<'h, Catcher>,
+    ghost holds: { HasGroups choice.now.nfa steps.asker.captures },
+}
+
+// The captures that the searches of one iteration write to. Each search takes the engine that suits; the choice is
+// lent.
+#[derive(Debug, Drop)]
+struct Catcher {
+    captures: Captures,
+}
+
+impl Model for Catcher {
+    ghost use Rattle.nfa_search_base.specs.Catching.{Catching};
+
+    ghost Value = { Catching (Unit {0}) };
+
+    ghost view = { λ a. record { finder = tt; captures = a.captures } };
+}
+
+impl Choice {
+    ghost use Rattle.std.specs.Prelude.{◌≡◌, false, All, IfOk, IsOkUnless, None, map};
+    ghost use Rattle.regex_search_core.specs.Search.{search_of};
+    ghost use Rattle.nfa_search_base.specs.CapturesGiven.{CapturesGiven};
+    ghost use Rattle.nfa_search_base.specs.Catching.{row_of};
+    ghost use Rattle.nfa_search_base.specs.CaughtLists.{AreRows, TellsRow};
+    ghost use Rattle.nfa_search_base.specs.CaughtRuns.{CapturesApart, CapturesFirst, CapturesGroups, CapturesInside};
+    ghost use Rattle.nfa_search_base.specs.CaughtRuns.{CapturesMemory, CapturesNext, CapturesRun, CapturesWithin};
+    ghost use Rattle.nfa_search_base.specs.CaughtRuns.{MatchesInAll, MatchesInFirst, MatchesInNext, MatchesInRun};
+    ghost use Rattle.nfa_search_base.specs.CaughtRuns.{RowsAll, RowsFirst, RowsNext, RowsRun, match_in};
+    ghost use Rattle.nfa_search_base.specs.Lists.{AreApart, AreMatches};
+    ghost use Rattle.nfa_search_base.specs.Walks.{fresh};
+    ghost use Rattle.nfa_choice.specs.CapturesMatches.{ChoiceCatchesBySearches, ChoiceCatchesGiveKept};
+    ghost use Rattle.nfa_choice.specs.CapturesMatches.{ChoiceCatchesOn, ChoiceCatchesToEnd, choice_catches_choice};
+    ghost use Rattle.nfa_choice.specs.CapturesMatches.{choice_catches_done, choice_catches_next, choice_catches_walk};
+    ghost use Rattle.nfa_choice.specs.Choosing.{kind_in, KeepsEngines};
+
+    /// Returns the captures of all matches that do not overlap, from left to right, each with all groups of the NFA.
+    /// Making the iterator runs no search. The only error is [`SearchError::Memory`]: there is no memory for the captures
+    /// that are searched with.
+    ///
+    /// The next match is searched for from the end of the last one. In place of an empty match where the last one ended
+    /// comes what a search from one byte further on finds. Each search takes the engine that suits. An answer without
+    /// a match, as bare patterns give it, ends the list. Each item is a copy of its own. If there is no memory for it,
+    /// the item is the error, once.
+    pub fn captures_iter<'c, 'h>(
+        &'c mut self,
+        alloc: Global,
+        input: Input<'h>,
+    ) -> Result<ChoiceCaptures<'c, 'h>, SearchError>
+        ensures memory { IsOkUnless result SearchError.Memory }
+        ensures same_reference { IfOk result (λ made. (choice_catches_choice made).ghost_name
+            ≡ self.entry.ghost_name) }
+        ensures same_choice { IfOk result (λ made. (choice_catches_choice made).now ≡ self.entry.now) }
+        ensures walk { IfOk result (λ made. choice_catches_walk made ≡ fresh (search_of input.entry)) }
+        ensures going { IfOk result (λ made. choice_catches_done made ≡ false) }
+        // Each run of calls gives the first captures of the input, and all of them where it goes on to `None`.
+        ensures runs { IfOk result (CapturesRun choice_catches_next (TellsRow self.entry.now.nfa
+            (kind_in self.entry.now) (search_of input.entry).earliest) (search_of input.entry)) }
+        ensures first { IfOk result (CapturesFirst choice_catches_next (TellsRow self.entry.now.nfa
+            (kind_in self.entry.now) (search_of input.entry).earliest) (search_of input.entry)) }
+        ensures next { IfOk result (CapturesNext choice_catches_next (TellsRow self.entry.now.nfa
+            (kind_in self.entry.now) (search_of input.entry).earliest) (search_of input.entry)) }
+        ensures errors { IfOk result (CapturesMemory choice_catches_next) }
+        // Where no copy is refused, their rows and their matches are those of the input.
+        ensures rows { IfOk result (RowsRun choice_catches_next self.entry.now.nfa (kind_in self.entry.now)
+            (search_of input.entry).earliest (search_of input.entry)) }
+        ensures first_rows { IfOk result (RowsFirst choice_catches_next self.entry.now.nfa (kind_in self.entry.now)
+            (search_of input.entry).earliest (search_of input.entry)) }
+        ensures next_row { IfOk result (RowsNext choice_catches_next self.entry.now.nfa (kind_in self.entry.now)
+            (search_of input.entry).earliest (search_of input.entry)) }
+        ensures all_rows { IfOk result (RowsAll choice_catches_next self.entry.now.nfa (kind_in self.entry.now)
+            (search_of input.entry).earliest (search_of input.entry)) }
+        ensures matches { IfOk result (MatchesInRun choice_catches_next self.entry.now.nfa (kind_in self.entry.now)
+            (search_of input.entry).earliest (search_of input.entry)) }
+        ensures first_matches { IfOk result (MatchesInFirst choice_catches_next self.entry.now.nfa
+            (kind_in self.entry.now) (search_of input.entry).earliest (search_of input.entry)) }
+        ensures next_match { IfOk result (MatchesInNext choice_catches_next self.entry.now.nfa
+            (kind_in self.entry.now) (search_of input.entry).earliest (search_of input.entry)) }
+        ensures all_matches { IfOk result (MatchesInAll choice_catches_next self.entry.now.nfa
+            (kind_in self.entry.now) (search_of input.entry).earliest (search_of input.entry)) }
+        ensures groups { IfOk result (CapturesGroups choice_catches_next self.entry.now.nfa) }
+        ensures inside { IfOk result (CapturesWithin choice_catches_next (search_of input.entry)) }
+        ensures apart { IfOk result (CapturesApart choice_catches_next (search_of input.entry)) }
+        // The choice changes by the searches of the steps alone.
+        ensures searches { IfOk result (ChoiceCatchesBySearches (search_of input.entry)) }
+        ensures keeps { IfOk result ChoiceCatchesGiveKept }
+    {
+        let captures = self.create_captures(alloc)?;
+        Ok(self.captures_iter_with(input, captures))
+    }
+
+    /// The same, searching with captures that the caller made, with all groups of this NFA
+    /// ([`Choice::create_captures`]). Making the iterator allocates nothing, and cannot fail.
+    #[inline]
+    pub fn captures_iter_with<'c, 'h>(
+        &'c mut self,
+        input: Input<'h>,
+        captures: Captures,
+    ) -> ChoiceCaptures<'c, 'h>
+        requires { HasGroups self.old.nfa captures }
+        ensures same_reference { (choice_catches_choice result).ghost_name ≡ self.entry.ghost_name }
+        ensures same_choice { (choice_catches_choice result).now ≡ self.entry.now }
+        ensures walk { choice_catches_walk result ≡ fresh (search_of input.entry) }
+        ensures going { choice_catches_done result ≡ false }
+        // Each run of calls gives the first captures of the input, and all of them where it goes on to `None`.
+        ensures runs { CapturesRun choice_catches_next (TellsRow self.entry.now.nfa (kind_in self.entry.now)
+            (search_of input.entry).earliest) (search_of input.entry) result }
+        ensures first { CapturesFirst choice_catches_next (TellsRow self.entry.now.nfa (kind_in self.entry.now)
+            (search_of input.entry).earliest) (search_of input.entry) result }
+        ensures next { CapturesNext choice_catches_next (TellsRow self.entry.now.nfa (kind_in self.entry.now)
+            (search_of input.entry).earliest) (search_of input.entry) result }
+        ensures errors { CapturesMemory choice_catches_next result }
+        // Where no copy is refused, their rows and their matches are those of the input.
+        ensures rows { RowsRun choice_catches_next self.entry.now.nfa (kind_in self.entry.now)
+            (search_of input.entry).earliest (search_of input.entry) result }
+        ensures first_rows { RowsFirst choice_catches_next self.entry.now.nfa (kind_in self.entry.now)
+            (search_of input.entry).earliest (search_of input.entry) result }
+        ensures next_row { RowsNext choice_catches_next self.entry.now.nfa (kind_in self.entry.now)
+            (search_of input.entry).earliest (search_of input.entry) result }
+        ensures all_rows { RowsAll choice_catches_next self.entry.now.nfa (kind_in self.entry.now)
+            (search_of input.entry).earliest (search_of input.entry) result }
+        ensures matches { MatchesInRun choice_catches_next self.entry.now.nfa (kind_in self.entry.now)
+            (search_of input.entry).earliest (search_of input.entry) result }
+        ensures first_matches { MatchesInFirst choice_catches_next self.entry.now.nfa (kind_in self.entry.now)
+            (search_of input.entry).earliest (search_of input.entry) result }
+        ensures next_match { MatchesInNext choice_catches_next self.entry.now.nfa (kind_in self.entry.now)
+            (search_of input.entry).earliest (search_of input.entry) result }
+        ensures all_matches { MatchesInAll choice_catches_next self.entry.now.nfa (kind_in self.entry.now)
+            (search_of input.entry).earliest (search_of input.entry) result }
+        ensures groups { CapturesGroups choice_catches_next self.entry.now.nfa result }
+        ensures inside { CapturesWithin choice_catches_next (search_of input.entry) result }
+        ensures apart { CapturesApart choice_catches_next (search_of input.entry) result }
+        // The choice changes by the searches of the steps alone.
+        ensures searches { ChoiceCatchesBySearches (search_of input.entry) result }
+        ensures keeps { ChoiceCatchesGiveKept result }
+    {
+        self.catch_from(input, captures)
+    }
+
+    /// Returns the captures of all matches that do not overlap, from left to right, each with all groups of the NFA, as
+    /// [`Choice::captures_iter`] gives them.
+    ///
+    /// The only error is [`SearchError::Memory`]: there is no memory for the list or for captures. No search fails.
+    pub fn captures_all(
+        &mut self,
+        alloc: Global,
+        input: Input<'_>,
+    ) -> Result<Vec<Captures>, SearchError>
+        ensures memory { IsOkUnless result SearchError.Memory }
+        ensures rows { IfOk result (λ all. AreRows self.old.nfa (kind_in self.old) (search_of input.entry).earliest
+            (search_of input.entry) (map row_of all.items)) }
+        ensures matches { IfOk result (λ all. AreMatches self.old.nfa (kind_in self.old)
+            (search_of input.entry).earliest (search_of input.entry) (map match_in all.items)) }
+        ensures groups { IfOk result (λ all. All (HasGroups self.old.nfa) all.items) }
+        ensures inside { IfOk result (λ all. All (CapturesInside (search_of input.entry)) all.items) }
+        ensures apart { IfOk result (λ all. AreApart (search_of input.entry) None (map match_in all.items)) }
+        ensures keeps { KeepsEngines self.old self.new }
+        // The choice changes by the searches of an iteration alone; if all captures come, these go to its end.
+        ensures searches { ChoiceCatchesOn (search_of input.entry) self.old self.new }
+        ensures to_end { IfOk result (λ all.
+            ChoiceCatchesToEnd (search_of input.entry) (map row_of all.items) self.old self.new) }
+    {
+        let catcher = Catcher {
+            captures: self.create_captures(alloc)?,
+        };
+        Steps::new(input, catcher).all_with(alloc, self)
+    }
+
+    // The iterator that searches with these captures.
+    #[inline]
+    fn catch_from<'c, 'h>(
+        &'c mut self,
+        input: Input<'h>,
+        captures: Captures,
+    ) -> ChoiceCaptures<'c, 'h>
+        requires { HasGroups self.old.nfa captures }
+        ensures same_reference { (choice_catches_choice result).ghost_name ≡ self.entry.ghost_name }
+        ensures same_choice { (choice_catches_choice result).now ≡ self.entry.now }
+        ensures walk { choice_catches_walk result ≡ fresh (search_of input.entry) }
+        ensures going { choice_catches_done result ≡ false }
+        ensures given { CapturesGiven choice_catches_next self.entry.now.nfa (kind_in self.entry.now)
+            (search_of input.entry).earliest (TellsRow self.entry.now.nfa (kind_in self.entry.now)
+            (search_of input.entry).earliest) (search_of input.entry) result }
+        ensures errors { CapturesMemory choice_catches_next result }
+        ensures searches { ChoiceCatchesBySearches (search_of input.entry) result }
+        ensures keeps { ChoiceCatchesGiveKept result }
+    {
+        ChoiceCaptures {
+            choice: self,
+            steps: Steps {
+                searcher: Searcher::new(input),
+                asker: Catcher { captures },
+                done: false,
+            },
+        }
+    }
+}
+
+impl Searches for Catcher {
+    ghost use Rattle.nfa_search_base.specs.Catching.{Row, caught_by, row_span, GivesCaptures};
+    ghost use Rattle.nfa_choice.specs.CapturesMatches.{AsksRowByRule, MayCatchByRule};
+
+    type Cache = Choice;
+
+    type Reply = Result<(), SearchError>;
+
+    ghost Value = { Row };
+
+    ghost shows = { λ c reply. caught_by c.captures reply };
+
+    ghost span = { row_span };
+
+    ghost accepts = { λ s _. MayCatchByRule s };
+
+    type Item = Captures;
+
+    ghost gives = { GivesCaptures };
+
+    ghost asks = { AsksRowByRule };
+
+    #[inline]
+    fn answer(&mut self, choice: &mut Choice, input: &Input<'_>) -> Result<(), SearchError> {
+        choice.search(input, &mut self.captures);
+        Ok(())
+    }
+
+    #[inline]
+    fn place(&self, reply: Result<(), SearchError>) -> Option<Span> {
+        caught_span(&self.captures, reply)
+    }
+
+    #[inline]
+    fn item(&self, reply: Result<(), SearchError>) -> Option<Result<Captures, SearchError>> {
+        caught_item(&self.captures, reply)
+    }
+}
+
+impl<'c, 'h> Iterator for ChoiceCaptures<'c, 'h> {
+    ghost use Rattle.nfa_search_base.specs.Lent.{lent_left};
+    ghost use Rattle.nfa_choice.specs.CapturesMatches.{choice_catches, choice_catches_next};
+
+    type Item = Result<Captures, SearchError>;
+
+    ghost next_gives = { choice_catches_next };
+
+    ghost remaining = { λ s. lent_left (choice_catches s) };
+
+    fn next(&mut self) -> Option<Result<Captures, SearchError>> {
+        self.steps.next_with(self.choice)
+    }
+}

@@ -1,0 +1,39 @@
+//! The patterns of all matches, also of those that overlap.
+ghost use Rattle.std.specs.Prelude.{◌≡◌, ◌+◌, ◌*◌, ◌≤◌, Some};
+ghost use Rattle.regex_search_core.specs.Search.{search_of};
+ghost use Rattle.nfa_paths.specs.Overlaps.{IsOverlapResult};
+ghost use Rattle.nfa_paths.specs.Paths.{span_len, turn_weight};
+ghost use Rattle.nfa_pikevm.specs.Engines.{AddsPikeWork};
+ghost use Rattle.nfa_pikevm.specs.Needs.{overlap_scans};
+ghost use Rattle.nfa_choice.specs.Choosing.{kind_in, KeepsEngines};
+ghost use Rattle.nfa_choice.specs.declared.choose.Engine.TheVariants as engine;
+
+use crate::choose::{Choice, Engine};
+use regex_search_core::{Input, PatternSet};
+
+impl Choice {
+    /// Puts the patterns of all matches into the set, also of those that overlap. The set keeps what it holds, and gains
+    /// patterns below its capacity only.
+    ///
+    /// The search is always one of the PikeVM, with its match kind: see
+    /// [`PikeVM::which_overlapping_matches`](nfa_engines::pikevm::PikeVM::which_overlapping_matches). The cache of the
+    /// backtracker does not change.
+    pub fn which_overlapping_matches(&mut self, input: &Input<'_>, patterns: &mut PatternSet)
+        ensures result { IsOverlapResult self.old.nfa (search_of input.now) (kind_in self.old)
+            (search_of input.now).earliest patterns.old patterns.new }
+
+        ensures ran { self.new.ran ≡ Some engine.PikeVM }
+        ensures back { self.new.back ≡ self.old.back }
+        ensures keeps { KeepsEngines self.old self.new }
+        ensures total { AddsPikeWork self.old.pike self.new.pike }
+
+        // One scan, or none if only the first match is meant and the set holds a pattern.
+        ensures scans { self.new.pike.scans ≡ overlap_scans (kind_in self.old) patterns.old }
+        ensures turns { self.new.pike.turns ≤ self.new.pike.scans * ((1 + turn_weight self.old.nfa)
+            * (span_len (search_of input.now) + 1)) }
+    {
+        self.ran = Some(Engine::PikeVM);
+        self.pike
+            .which_overlapping_matches(&mut self.pike_cache, input, patterns);
+    }
+}

@@ -1,0 +1,350 @@
+-- Where the anchored start tries the patterns in order, the first pattern that has an accepting path answers.
+use Rattle.std.proofs.Common.{◌≡◌, ◌∙◌, ℕ, zero, suc, ◌≤◌, ◌<◌, ◌⊎◌, inl, inr, true, false, List, [], ◌∷◌}
+use Rattle.std.proofs.Common.{map, refl, sym, ap, subst, arith, le-ltb, slice_get}
+use Rattle.std.specs.Prelude.{None, Some, is_some}
+use Rattle.std.proofs.lemmas.Bool.{cases_eq, cases_lt}
+use Rattle.regex_search_core.specs.Search.{Search}
+use Rattle.regex_search_core.specs.declared.search.Anchored.TheVariants.{Yes}
+use Rattle.thompson_nfa.specs.Automaton.{Automaton, Node}
+use Rattle.thompson_nfa.specs.Automaton.Node.{ByteRange, Sparse, Dense, Look, Union, BinaryUnion, Capture, Fail, Match}
+use Rattle.nfa_paths.specs.Graphs.{Pair, In, Earlier, HeadIs, NoRepeats, Linked, EndsWith, ComesBefore}
+use Rattle.nfa_paths.specs.Graphs.{PathTo}
+use Rattle.nfa_paths.specs.Paths.{capture, edges, edges_of, node_at, pattern_of, slot_of}
+use Rattle.nfa_paths.specs.Paths.{starts, is_match, IsMatch}
+use Rattle.nfa_paths.proofs.StartLemmas.{starts-none}
+use Rattle.nfa_engines.specs.PatternLaws.{alternates_of, started_at, IsUnionOfPatterns}
+
+-- lists
+
+-- a list with a head, after a pair that leads to it, is linked
+pub put-linked : (edges : Pair → List Pair) (v w : Pair) (p : List Pair) → In w (edges v) → HeadIs w p → Linked edges p
+    → Linked edges (v ∷ p)
+put-linked edges v w [] edge head linked = tt
+put-linked edges v w (a ∷ p) edge head linked = (subst (λ z. In z (edges v)) (sym head) edge, linked)
+
+put-ends : (a m : Pair) (p : List Pair) → EndsWith m p → EndsWith m (a ∷ p)
+put-ends a m [] h = absurd h
+put-ends a m (b ∷ p) h = h
+
+-- what is in a path has a path of its own
+record Begins (edges : Pair → List Pair) (s v : Pair) (p : List Pair) : Type 0 where
+  along : List Pair
+  head : HeadIs s along
+  once : NoRepeats along
+  linked : Linked edges along
+  ends : EndsWith v along
+  within : (z : Pair) → In z along → In z p
+
+begins : (edges : Pair → List Pair) (s v : Pair) (p : List Pair) → HeadIs s p → NoRepeats p → Linked edges p → In v p
+    → Begins edges s v p
+begins edges s v [] head once linked i = absurd i
+begins edges s v (a ∷ p) head once linked (inl e) = record {
+  along = a ∷ [];
+  head = head;
+  once = (λ i. i, tt);
+  linked = tt;
+  ends = sym e;
+  within = λ z i. elim i [ inl same ↦ inl same | inr never ↦ absurd never ];
+}
+begins edges s v (a ∷ []) head once linked (inr i) = absurd i
+begins edges s v (a ∷ (b ∷ p)) head once linked (inr i) =
+    let r = begins edges b v (b ∷ p) refl once.1 linked.1 i in
+    record {
+      along = a ∷ r.along;
+      head = head;
+      once = (λ j. once.0 (r.within a j), r.once);
+      linked = put-linked edges a b r.along linked.0 r.head r.linked;
+      ends = put-ends a v r.along r.ends;
+      within = λ z j. elim j [ inl same ↦ inl same | inr later ↦ inr (r.within z later) ];
+    }
+
+pub same_some : (m n : ℕ) → Some m ≡ Some n → m ≡ n
+same_some m n e = cc
+
+-- the first place of a state among the starts of patterns
+module _ (b : ℕ) where
+  -- the pairs of the states at one position
+  abbrev pub at_position : List ℕ → List Pair
+  at_position states = map (λ (next : ℕ). (next, b)) states
+
+  record Place (u : Pair) (states : List ℕ) : Type 0 where
+    k : ℕ
+    state : ℕ
+    is : u ≡ (state, b)
+    at : slice_get states k ≡ Some state
+    before : (j : ℕ) → j < k → slice_get states j ≡ Some state → ⊥
+
+  before-cons : (e state k : ℕ) (es : List ℕ) → (e ≡ state → ⊥)
+      → ((j : ℕ) → j < k → slice_get es j ≡ Some state → ⊥)
+      → (j : ℕ) → j < suc k → slice_get (e ∷ es) j ≡ Some state → ⊥
+  before-cons e state k es apart before zero less at = apart (same_some e state at)
+  before-cons e state k es apart before (suc j) less at = before j (omega arith) at
+
+  place : (states : List ℕ) (u : Pair) → In u (at_position states) → Place u states
+  place [] u i = absurd i
+  place (e ∷ es) u (inl here) =
+      record { k = 0; state = e; is = here; at = refl; before = λ j less. absurd (omega arith) }
+  place (e ∷ es) u (inr later) =
+      let r = place es u later in
+      elim (cases_eq e r.state) [
+        | inl same ↦
+            record {
+              k = 0;
+              state = e;
+              is = r.is ∙ ap (λ (z : ℕ). (z, b)) (sym same);
+              at = refl;
+              before = λ j less. absurd (omega arith);
+            }
+        | inr apart ↦
+            record {
+              k = suc r.k;
+              state = r.state;
+              is = r.is;
+              at = r.at;
+              before = before-cons e r.state r.k es apart r.before;
+            }
+      ]
+
+  -- a state of the list is among its pairs
+  among : (states : List ℕ) (k state : ℕ) → slice_get states k ≡ Some state → In (state, b) (at_position states)
+  among [] k state at = cc
+  among (e ∷ es) zero state at = inl (ap (λ (z : ℕ). (z, b)) (sym (same_some e state at)))
+  among (e ∷ es) (suc k) state at = inr (among es k state at)
+
+  -- a state whose first place is at k or after it, and another one, in order
+  pub earlier : (states : List ℕ) (k state other : ℕ) → slice_get states k ≡ Some state → (state ≡ other → ⊥)
+      → ((j : ℕ) → j < k → slice_get states j ≡ Some other → ⊥)
+      → Earlier (at_position states) (state, b) (other, b)
+  earlier [] k state other at apart before = cc
+  earlier (e ∷ es) zero state other at apart before =
+      let is : e ≡ state = same_some e state at in (
+        λ same. apart (sym is ∙ ap (λ (z : Pair). z.0) same),
+        inl (ap (λ (z : ℕ). (z, b)) is),
+      )
+  earlier (e ∷ es) (suc k) state other at apart before = (
+    λ same. before 0 (omega arith) (ap Some (ap (λ (z : Pair). z.0) same)),
+    inr (earlier es k state other at apart (λ j less. before (suc j) (omega arith))),
+  )
+
+  -- and not the other way round
+  pub not-earlier : (states : List ℕ) (j state other : ℕ) → slice_get states j ≡ Some other
+      → ((i : ℕ) → i ≤ j → slice_get states i ≡ Some state → ⊥)
+      → Earlier (at_position states) (state, b) (other, b) → ⊥
+  not-earlier [] j state other at past h = h
+  not-earlier (e ∷ es) zero state other at past h =
+      h.0 (ap (λ (z : ℕ). (z, b)) (same_some e other at))
+  not-earlier (e ∷ es) (suc j) state other at past h =
+      elim h.1 [
+        | inl here ↦ past 0 (omega arith) (ap Some (ap (λ (z : Pair). z.0) here))
+        | inr later ↦ not-earlier es j state other at (λ i less. past (suc i) (omega arith)) later
+      ]
+
+-- a union
+
+never-none : (ps : List ℕ) → None ≡ Some ps → ⊥
+never-none ps e = cc
+
+same-list : (ss ps : List ℕ) → Some ss ≡ Some ps → ss ≡ ps
+same-list ss ps e = cc
+
+-- the edges of a union
+union-edges : (x : Search) (b : ℕ) (n : Node) (ps : List ℕ) → alternates_of n ≡ Some ps
+    → edges_of x n b ≡ at_position b ps
+unfolding edges_of
+union-edges x b (Union ss) ps e = ap (at_position b) (same-list ss ps e)
+union-edges x b (BinaryUnion c d) ps e = ap (at_position b) (same-list (c ∷ d ∷ []) ps e)
+union-edges x b (ByteRange t) ps e = absurd (never-none ps e)
+union-edges x b (Sparse ts) ps e = absurd (never-none ps e)
+union-edges x b (Dense targets) ps e = absurd (never-none ps e)
+union-edges x b (Look look next) ps e = absurd (never-none ps e)
+union-edges x b (Capture next slot) ps e = absurd (never-none ps e)
+union-edges x b Fail ps e = absurd (never-none ps e)
+union-edges x b (Match pattern) ps e = absurd (never-none ps e)
+
+-- it is not a Match
+union-plain : (n : Node) (ps : List ℕ) → alternates_of n ≡ Some ps → is_some (pattern_of n) ≡ false
+union-plain (Match pattern) ps e = absurd (never-none ps e)
+union-plain (Union ss) ps e = refl
+union-plain (BinaryUnion c d) ps e = refl
+union-plain (ByteRange t) ps e = refl
+union-plain (Sparse ts) ps e = refl
+union-plain (Dense targets) ps e = refl
+union-plain (Look look next) ps e = refl
+union-plain (Capture next slot) ps e = refl
+union-plain Fail ps e = refl
+
+-- and writes nothing
+union-writes : (n : Node) (ps : List ℕ) → alternates_of n ≡ Some ps → slot_of n ≡ None
+union-writes (Capture next slot) ps e = absurd (never-none ps e)
+union-writes (Union ss) ps e = refl
+union-writes (BinaryUnion c d) ps e = refl
+union-writes (ByteRange t) ps e = refl
+union-writes (Sparse ts) ps e = refl
+union-writes (Dense targets) ps e = refl
+union-writes (Look look next) ps e = refl
+union-writes Fail ps e = refl
+union-writes (Match pattern) ps e = refl
+
+-- a pair is not before itself
+pub not-before-itself : (es : List Pair) (a : Pair) → Earlier es a a → ⊥
+not-before-itself [] a h = h
+not-before-itself (e ∷ es) a h = elim h.1 [ inl here ↦ h.0 here | inr later ↦ not-before-itself es a later ]
+
+module _ (nfa : Automaton) (x : Search) (bound : x.anchored ≡ Yes) where
+  -- the one start of an anchored search of an NFA
+
+  pub record StartsThere (n : Automaton) (v : Pair) : Type 0 where
+    pub is : v ≡ (n.anchored, x.start)
+    pub within : x.start ≤ x.end
+
+  starts-there : (n : Automaton) → x.start ≤ x.end → starts n x ≡ (n.anchored, x.start) ∷ []
+  starts-there n within = rw (bound, le-ltb x.end x.start within) refl
+
+  pub start-there : (n : Automaton) (v : Pair) → In v (starts n x) → StartsThere n v
+  start-there n v i =
+      elim (cases_lt x.end x.start) [
+        | inl past ↦ absurd (rw (starts-none n x past) at i)
+        | inr within ↦
+            let one : In v ((n.anchored, x.start) ∷ []) = rw (starts-there n within) at i in
+            elim one [ inl e ↦ record { is = e; within = within } | inr never ↦ absurd never ]
+      ]
+
+  pub there-start : (n : Automaton) (v : Pair) → v ≡ (n.anchored, x.start) → x.start ≤ x.end → In v (starts n x)
+  there-start n v e within = rw (starts-there n within) (inl e)
+
+  module _ (h : IsUnionOfPatterns nfa x) where
+    -- the anchored start
+    abbrev pub top : Pair
+    top = (nfa.anchored, x.start)
+
+    pub top-edges : edges nfa x top ≡ at_position x.start nfa.patterns
+    top-edges = union-edges x x.start (node_at nfa nfa.anchored) nfa.patterns h.union
+
+    top-plain : is_match nfa top ≡ false
+    top-plain = union-plain (node_at nfa nfa.anchored) nfa.patterns h.union
+
+    pub top-writes : capture nfa top ≡ None
+    top-writes = union-writes (node_at nfa nfa.anchored) nfa.patterns h.union
+
+    -- an accepting path goes on by the start of a pattern
+    pub record GoesOn (m : Pair) (p : List Pair) : Type 0 where
+      pub k : ℕ
+      pub state : ℕ
+      pub at : slice_get nfa.patterns k ≡ Some state
+      pub before : (j : ℕ) → j < k → slice_get nfa.patterns j ≡ Some state → ⊥
+      pub rest : List Pair
+      pub is : p ≡ top ∷ rest
+      pub head : HeadIs (state, x.start) rest
+      pub path : PathTo (edges nfa x) (starts (started_at nfa state) x) m rest
+
+    not_match : (m : Pair) → m ≡ top → IsMatch nfa m → ⊥
+    not_match m e t =
+        let one : is_match nfa top ≡ true = subst (IsMatch nfa) e t in
+        let never : true ≡ false = sym one ∙ top-plain in cc
+
+    pub goes : (m : Pair) (p : List Pair) → PathTo (edges nfa x) (starts nfa x) m p → IsMatch nfa m → GoesOn m p
+    goes m p w t = of p w.head w.once w.linked w.ends
+      where
+        from : StartsThere nfa w.start
+        from = start-there nfa w.start w.among
+
+        of : (p : List Pair) → HeadIs w.start p → NoRepeats p → Linked (edges nfa x) p → EndsWith m p → GoesOn m p
+        of [] head once linked ends = absurd head
+        of (v ∷ []) head once linked ends = absurd (not_match m (sym ends ∙ head ∙ from.is) t)
+        of (v ∷ (u ∷ r)) head once linked ends =
+            let first : v ≡ top = head ∙ from.is in
+            let edge : In u (at_position x.start nfa.patterns) =
+            subst (In u) top-edges (subst (λ z. In u (edges nfa x z)) first linked.0) in
+            let to = place x.start nfa.patterns u edge in
+            record {
+              k = to.k;
+              state = to.state;
+              at = to.at;
+              before = to.before;
+              rest = u ∷ r;
+              is = ap (λ (z : Pair). z ∷ (u ∷ r)) first;
+              head = to.is;
+              path = record {
+                start = u;
+                among = there-start (started_at nfa to.state) u to.is from.within;
+                head = refl;
+                once = once.1;
+                linked = linked.1;
+                ends = ends;
+              };
+            }
+
+    -- a path of a pattern is the rest of one of the search
+    pub comes : (k state : ℕ) → slice_get nfa.patterns k ≡ Some state → (m : Pair) (q : List Pair)
+        → PathTo (edges nfa x) (starts (started_at nfa state) x) m q
+        → PathTo (edges nfa x) (starts nfa x) m (top ∷ q)
+    comes k state at m q w =
+        let from = start-there (started_at nfa state) w.start w.among in
+        record {
+          start = top;
+          among = there-start nfa top refl from.within;
+          head = refl;
+          once = (
+            λ i.
+                let r = begins (edges nfa x) w.start top q w.head w.once w.linked i in
+                h.apart k state x.start r.along at (record {
+                  start = w.start;
+                  among = w.among;
+                  head = r.head;
+                  once = r.once;
+                  linked = r.linked;
+                  ends = r.ends;
+                }),
+            w.once,
+          );
+          linked = put-linked (edges nfa x) top w.start q
+              (subst (λ z. In z (edges nfa x top)) (sym from.is)
+              (subst (In (state, x.start)) (sym top-edges) (among x.start nfa.patterns k state at)))
+              w.head w.linked;
+          ends = put-ends top m q w.ends;
+        }
+
+    -- the head of a pattern's path
+    pub head-of : (state : ℕ) (m : Pair) (q : List Pair) → PathTo (edges nfa x) (starts (started_at nfa state) x) m q
+        → HeadIs (state, x.start) q
+    head-of state m q w =
+        subst (λ z. HeadIs z q) (start-there (started_at nfa state) w.start w.among).is w.head
+
+    -- the order of two paths, from that of their rests
+    pub order-same : (s : Pair) (q r : List Pair) → HeadIs s q → HeadIs s r → (r ≡ q) ⊎ ComesBefore (edges nfa x) q r
+        → (top ∷ r ≡ top ∷ q) ⊎ ComesBefore (edges nfa x) (top ∷ q) (top ∷ r)
+    order-same s q r hq hr (inl same) = inl (ap (λ (p : List Pair). top ∷ p) same)
+    order-same s [] r hq hr (inr c) = absurd hq
+    order-same s (a ∷ q) [] hq hr (inr c) = absurd hr
+    order-same s (a ∷ q) (d ∷ r) hq hr (inr (inl less)) =
+        let one : a.1 ≡ s.1 = ap (λ (z : Pair). z.1) hq in
+        let two : d.1 ≡ s.1 = ap (λ (z : Pair). z.1) hr in
+        absurd (omega arith)
+    order-same s (a ∷ q) (d ∷ r) hq hr (inr (inr before)) = inr (inr (refl, inr before))
+
+    pub order-apart : (s t : Pair) (q r : List Pair) → HeadIs s q → HeadIs t r → Earlier (edges nfa x top) s t
+        → ComesBefore (edges nfa x) (top ∷ q) (top ∷ r)
+    order-apart s t [] r hq hr e = absurd hq
+    order-apart s t (a ∷ q) [] hq hr e = absurd hr
+    order-apart s t (a ∷ q) (d ∷ r) hq hr e =
+        inr (
+          refl,
+          inl (subst (λ z. Earlier (edges nfa x top) a z) (sym hr)
+              (subst (λ z. Earlier (edges nfa x top) z t) (sym hq) e)),
+        )
+
+    -- and back
+    pub order-back : (s t : Pair) (q r : List Pair) → HeadIs s q → HeadIs t r
+        → (top ∷ r ≡ top ∷ q) ⊎ ComesBefore (edges nfa x) (top ∷ q) (top ∷ r)
+        → (r ≡ q) ⊎ (Earlier (edges nfa x top) s t ⊎ ((s ≡ t) × ComesBefore (edges nfa x) q r))
+    order-back s t q r hq hr (inl same) = inl (same_tail same)
+      where
+        same_tail : top ∷ r ≡ top ∷ q → r ≡ q
+        same_tail e = cc
+    order-back s t q r hq hr (inr (inl less)) = absurd (omega arith)
+    order-back s t [] r hq hr (inr (inr after)) = absurd hq
+    order-back s t (a ∷ q) [] hq hr (inr (inr after)) = absurd hr
+    order-back s t (a ∷ q) (d ∷ r) hq hr (inr (inr (e, inl first))) =
+        inr (inl (subst (λ z. Earlier (edges nfa x top) s z) hr (subst (λ z. Earlier (edges nfa x top) z d) hq first)))
+    order-back s t (a ∷ q) (d ∷ r) hq hr (inr (inr (e, inr after))) =
+        inr (inr (sym hq ∙ after.0 ∙ hr, inr after))

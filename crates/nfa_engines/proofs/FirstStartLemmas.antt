@@ -1,0 +1,154 @@
+-- The paths of an unanchored search are those of the anchored searches at each start.
+use Rattle.std.proofs.Common.{◌≡◌, ℕ, zero, suc, ◌+◌, ◌-◌, ◌≤◌, ◌<◌, ◌⊎◌, inl, inr, List, [], ◌∷◌}
+use Rattle.std.proofs.Common.{refl, sym, ap, subst, arith, le-ltb}
+use Rattle.std.proofs.lemmas.Bool.{cases_lt}
+use Rattle.regex_search_core.specs.Search.{Search}
+use Rattle.regex_search_core.specs.declared.search.Anchored.{Anchored}
+use Rattle.thompson_nfa.specs.Automaton.{Automaton, Node}
+use Rattle.thompson_nfa.specs.Automaton.Node.{ByteRange, Sparse, Dense, Look, Union, BinaryUnion, Capture, Fail, Match}
+use Rattle.nfa_paths.specs.Graphs.{Pair, In, HeadIs, ComesBefore, PathTo}
+use Rattle.nfa_paths.specs.Paths.{edges, edges_of, node_at, pairs_from, starts}
+use Rattle.nfa_paths.proofs.StartLemmas.{starts-none}
+use Rattle.nfa_engines.specs.StartLaws.{anchored_at, from_start, IsUnbound}
+
+-- the search from another start, anchored or not
+abbrev pub begun : Search → ℕ → Anchored → Search
+begun x s anchored = record x { start = s; anchored = anchored }
+
+-- it has the same edges
+edges-begun : (nfa : Automaton) (x : Search) (s : ℕ) (anchored : Anchored) (v : Pair)
+    → edges nfa (begun x s anchored) v ≡ edges nfa x v
+unfolding edges_of
+edges-begun nfa x s anchored v = of (node_at nfa v.0)
+  where
+    of : (n : Node) → edges_of (begun x s anchored) n v.1 ≡ edges_of x n v.1
+    of (ByteRange t) = refl
+    of (Sparse ts) = refl
+    of (Dense targets) = refl
+    of (Look look next) = refl
+    of (Union alternates) = refl
+    of (BinaryUnion a b) = refl
+    of (Capture next slot) = refl
+    of Fail = refl
+    of (Match pattern) = refl
+
+pub same_edges : (nfa : Automaton) (x : Search) (s : ℕ) (anchored : Anchored)
+    → edges nfa (begun x s anchored) ≡ edges nfa x
+same_edges nfa x s anchored = λ i v. edges-begun nfa x s anchored v i
+
+-- the pairs of a state from a position on
+pub record IsPairFrom (state at count : ℕ) (v : Pair) : Type 0 where
+  pub state_is : v.0 ≡ state
+  pub from : at ≤ v.1
+  pub before : v.1 < at + count
+
+pub pairs_from-in : (state at count : ℕ) (v : Pair) → In v (pairs_from state at count) → IsPairFrom state at count v
+pairs_from-in state at zero v i = absurd i
+pairs_from-in state at (suc count) v (inl e) =
+    let is : v.1 ≡ at = ap (λ (z : Pair). z.1) e in
+    record { state_is = ap (λ (z : Pair). z.0) e; from = omega arith; before = omega arith }
+pairs_from-in state at (suc count) v (inr later) =
+    let r = pairs_from-in state (at + 1) count v later in
+    let low : at + 1 ≤ v.1 = r.from in
+    let high : v.1 < at + 1 + count = r.before in
+    record { state_is = r.state_is; from = omega arith; before = omega arith }
+
+pub pairs_from-has : (state at count i : ℕ) → at ≤ i → i < at + count → In (state, i) (pairs_from state at count)
+pairs_from-has state at zero i low high = absurd (omega arith)
+pairs_from-has state at (suc count) i low high =
+    elim (cases_lt at i) [
+      | inl less ↦ inr (pairs_from-has state (at + 1) count i (omega arith) (omega arith))
+      | inr same ↦ let e : i ≡ at = omega arith in inl (ap (λ (z : ℕ). (state, z)) e)
+    ]
+
+-- of two lists that begin with these pairs, the first that comes first starts not after the other
+pub heads-order : (edges : Pair → List Pair) (start other : Pair) (p q : List Pair) → HeadIs start p → HeadIs other q
+    → (q ≡ p) ⊎ ComesBefore edges p q → start.1 ≤ other.1
+heads-order edges start other [] q head k order = absurd head
+heads-order edges start other (v ∷ p) [] head k order = absurd k
+heads-order edges start other (v ∷ p) (w ∷ q) head k order =
+    let from : v.1 ≡ start.1 = ap (λ (z : Pair). z.1) head in
+    let to : w.1 ≡ other.1 = ap (λ (z : Pair). z.1) k in
+    elim order [
+      | inl same ↦ let heads : w ≡ v = cc in let e : w.1 ≡ v.1 = ap (λ (z : Pair). z.1) heads in omega arith
+      | inr before ↦ elim before [
+        | inl less ↦ omega arith
+        | inr edge ↦ let e : v.1 ≡ w.1 = ap (λ (z : Pair). z.1) edge.0 in omega arith
+      ]
+    ]
+
+-- a list that starts at a smaller position comes first
+pub heads-less : (edges : Pair → List Pair) (start other : Pair) (p q : List Pair) → HeadIs start p → HeadIs other q
+    → start.1 < other.1 → ComesBefore edges p q
+heads-less edges start other [] q head k less = absurd head
+heads-less edges start other (v ∷ p) [] head k less = absurd k
+heads-less edges start other (v ∷ p) (w ∷ q) head k less =
+    let from : v.1 ≡ start.1 = ap (λ (z : Pair). z.1) head in
+    let to : w.1 ≡ other.1 = ap (λ (z : Pair). z.1) k in
+    inl (omega arith)
+
+-- a path of a graph is one from each list of starts that holds its own
+pub with-starts : {edges : Pair → List Pair} {starts others : List Pair} {m : Pair} {p : List Pair}
+    → (w : PathTo edges starts m p) → In w.start others → PathTo edges others m p
+with-starts w among = record {
+  start = w.start;
+  among = among;
+  head = w.head;
+  once = w.once;
+  linked = w.linked;
+  ends = w.ends;
+}
+
+module _ (nfa : Automaton) (x : Search) where
+  -- the one start of an anchored search
+  starts-anchored : (s : ℕ) → s ≤ x.end → starts nfa (anchored_at x s) ≡ (nfa.anchored, s) ∷ []
+  starts-anchored s within = rw (le-ltb x.end s within) refl
+
+  -- a path of an anchored search starts there, within the span
+  pub record StartsAt (s : ℕ) (v : Pair) : Type 0 where
+    pub is : v ≡ (nfa.anchored, s)
+    pub within : s ≤ x.end
+
+  pub start-anchored : (s : ℕ) (v : Pair) → In v (starts nfa (anchored_at x s)) → StartsAt s v
+  start-anchored s v i =
+      elim (cases_lt x.end s) [
+        | inl past ↦ absurd (rw (starts-none nfa (anchored_at x s) past) at i)
+        | inr within ↦
+            let one : In v ((nfa.anchored, s) ∷ []) = rw (starts-anchored s within) at i in
+            elim one [ inl e ↦ record { is = e; within = within } | inr never ↦ absurd never ]
+      ]
+
+  pub anchored-start : (s : ℕ) (v : Pair) → v ≡ (nfa.anchored, s) → s ≤ x.end → In v (starts nfa (anchored_at x s))
+  anchored-start s v e within = rw (starts-anchored s within) (inl e)
+
+  module _ (free : IsUnbound nfa x) where
+    -- the starts of an unanchored search
+    starts-unbound : (s : ℕ) → s ≤ x.end → starts nfa (from_start x s) ≡ pairs_from nfa.anchored s (x.end - s + 1)
+    starts-unbound s within =
+        let no = free.unanchored in
+        let prefixed = free.prefixed in
+        rw (no, prefixed, le-ltb x.end s within) refl
+
+    pub record StartsFrom (s : ℕ) (v : Pair) : Type 0 where
+      pub state_is : v.0 ≡ nfa.anchored
+      pub from : s ≤ v.1
+      pub within : v.1 ≤ x.end
+
+    pub start-unbound : (s : ℕ) (v : Pair) → In v (starts nfa (from_start x s)) → StartsFrom s v
+    start-unbound s v i =
+        elim (cases_lt x.end s) [
+          | inl past ↦ absurd (rw (starts-none nfa (from_start x s) past) at i)
+          | inr within ↦
+              let r = pairs_from-in nfa.anchored s (x.end - s + 1) v (rw (starts-unbound s within) at i) in
+              let high : v.1 < s + (x.end - s + 1) = r.before in
+              record { state_is = r.state_is; from = r.from; within = omega arith }
+        ]
+
+    pub unbound-start : (s : ℕ) (v : Pair) → StartsFrom s v → In v (starts nfa (from_start x s))
+    unbound-start s v h =
+        let low : s ≤ v.1 = h.from in
+        let high : v.1 ≤ x.end = h.within in
+        let within : s ≤ x.end = omega arith in
+        rw (starts-unbound s within)
+        (subst (λ z. In (z, v.1) (pairs_from nfa.anchored s (x.end - s + 1))) (sym h.state_is)
+        (pairs_from-has nfa.anchored s (x.end - s + 1) v.1 low (omega arith)))

@@ -1,0 +1,223 @@
+-- An NFA without assertions reads the bytes of the span alone, and not where the span is.
+use Rattle.std.proofs.Common.{◌≡◌, ◌∙◌, ℕ, zero, suc, ◌+◌, ◌-◌, ◌==◌, ◌||◌, ◌≤◌, ◌<◌, inl, inr, Bool, false, List, []}
+use Rattle.std.proofs.Common.{◌∷◌, length}
+use Rattle.std.proofs.Common.{map, take, drop, get_or, refl, sym, ap, subst, arith, le-ltb, lt-ltb, if◌then◌else◌}
+use Rattle.std.specs.Prelude.{Option, None, Some, option_map, option_and_then, option_to_list, slice_get}
+use Rattle.std.specs.Option.{option_map_or}
+use Rattle.std.proofs.lemmas.Bool.{cases_lt}
+use Rattle.std.proofs.lemmas.List.{get_or_past}
+use Rattle.regex_search_core.specs.Found.{Found}
+use Rattle.regex_search_core.specs.Search.{Search, is_anchored}
+use Rattle.regex_search_core.specs.declared.search.MatchKind.{MatchKind}
+use Rattle.thompson_nfa.specs.Automaton.{Automaton, Node}
+use Rattle.thompson_nfa.specs.Automaton.Node.{ByteRange, Sparse, Dense, Look, Union, BinaryUnion, Capture, Fail, Match}
+use Rattle.nfa_paths.specs.Graphs.{Pair, In}
+use Rattle.nfa_paths.specs.Paths.{byte_at, edges, edges_of, is_utf8_empty, node_at, pairs_from, start_count}
+use Rattle.nfa_paths.specs.Paths.{start_state, starts, target_on, IsAnswer, IsMatch, IsMatchAnswer}
+use Rattle.nfa_paths.proofs.ScanAnswerLemmas.{edges-onward}
+use Rattle.nfa_paths.proofs.StartLemmas.{pairs_from-ahead}
+use Rattle.nfa_engines.specs.SpanLaws.{cut_out, moved_match, moved_slots, AreBytesMoved, AssertsNothing, HasNoLook}
+use Rattle.nfa_engines.specs.SpanLaws.{IsSameSpan, IsSpanMoved}
+use Rattle.nfa_engines.proofs.MovedLemmas.{moved_path, ArePathsMoved}
+use Rattle.nfa_engines.proofs.MovedAnswerLemmas.{answer-moved, match_answer-moved, moved_match-none, moved_slots-none}
+use Rattle.nfa_engines.proofs.MovedGraphLemmas.{paths-moved}
+
+-- no state asserts anything
+plain-at : (nfa : Automaton) → HasNoLook nfa → (state : ℕ) → AssertsNothing (node_at nfa state)
+unfolding node_at
+plain-at nfa plain state =
+    elim (cases_lt state (length nfa.states)) [
+      | inl inside ↦ plain state Fail inside
+      | inr past ↦
+          let fail : get_or nfa.states state Fail ≡ Fail = get_or_past nfa.states state Fail past in
+          subst AssertsNothing (sym fail) tt
+    ]
+
+pairs-moved : (k state at count : ℕ) → pairs_from state (at + k) count ≡ moved_path k (pairs_from state at count)
+pairs-moved k state at zero = refl
+pairs-moved k state at (suc count) =
+    let next : at + k + 1 ≡ at + 1 + k = omega arith in
+    let rest = ap (λ (z : ℕ). pairs_from state z count) next ∙ pairs-moved k state (at + 1) count in
+    ap (λ (ps : List Pair). (state, at + k) ∷ ps) rest
+
+-- the next pair on a byte, moved
+next-moved : (k p : ℕ) (o : Option ℕ)
+    → option_to_list (option_map (λ (next : ℕ). (next, p + k + 1)) o)
+    ≡ moved_path k (option_to_list (option_map (λ (next : ℕ). (next, p + 1)) o))
+next-moved k p None = refl
+next-moved k p (Some next) =
+    let at : p + k + 1 ≡ p + 1 + k = omega arith in λ i. (next, at i) ∷ []
+
+leads-moved : (k p : ℕ) (node : Node) (byte : Option ℕ)
+    → option_to_list (option_and_then (λ b. option_map (λ (next : ℕ). (next, p + k + 1)) (target_on node b)) byte)
+    ≡ moved_path k (option_to_list
+    (option_and_then (λ b. option_map (λ (next : ℕ). (next, p + 1)) (target_on node b)) byte))
+leads-moved k p node None = refl
+leads-moved k p node (Some b) = next-moved k p (target_on node b)
+
+union-moved : (k p : ℕ) (alternates : List ℕ)
+    → map (λ (next : ℕ). (next, p + k)) alternates ≡ moved_path k (map (λ (next : ℕ). (next, p)) alternates)
+union-moved k p [] = refl
+union-moved k p (a ∷ alternates) = ap (λ (ps : List Pair). (a, p + k) ∷ ps) (union-moved k p alternates)
+
+module _ (nfa : Automaton) (k : ℕ) (x y : Search) (plain : HasNoLook nfa) (span : IsSpanMoved k x y)
+    (bytes : AreBytesMoved k x y) where
+  -- the second search
+  abbrev there : Search
+  there = record y { start = x.start + k; end = x.end + k; anchored = x.anchored }
+
+  is_there : y ≡ there
+  is_there =
+      let start : y.start ≡ x.start + k = span.start in
+      let end : y.end ≡ x.end + k = span.end in
+      let anchored : y.anchored ≡ x.anchored = span.anchored in
+      λ i. record y { start = start i; end = end i; anchored = anchored i }
+
+  byte-moved : (p : ℕ) → x.start ≤ p → byte_at there (p + k) ≡ byte_at x p
+  byte-moved p past =
+      elim (cases_lt p x.end) [
+        | inl within ↦
+            rw (lt-ltb p x.end within, lt-ltb (p + k) (x.end + k) (omega arith)) (bytes p past within)
+        | inr over ↦ rw (le-ltb p x.end over, le-ltb (p + k) (x.end + k) (omega arith)) refl
+      ]
+
+  byte_edges-moved : (node : Node) (p : ℕ) → x.start ≤ p
+      → option_to_list (option_and_then (λ b. option_map (λ (next : ℕ). (next, p + k + 1)) (target_on node b))
+      (byte_at there (p + k)))
+      ≡ moved_path k (option_to_list (option_and_then
+      (λ b. option_map (λ (next : ℕ). (next, p + 1)) (target_on node b)) (byte_at x p)))
+  byte_edges-moved node p past =
+      ap (λ (o : Option ℕ). option_to_list
+      (option_and_then (λ b. option_map (λ (next : ℕ). (next, p + k + 1)) (target_on node b)) o)) (byte-moved p past)
+      ∙ leads-moved k p node (byte_at x p)
+
+  edges-at : (node : Node) → AssertsNothing node → (p : ℕ) → x.start ≤ p
+      → edges_of there node (p + k) ≡ moved_path k (edges_of x node p)
+  unfolding edges_of
+  edges-at (ByteRange t) h p past = byte_edges-moved (ByteRange t) p past
+  edges-at (Sparse ts) h p past = byte_edges-moved (Sparse ts) p past
+  edges-at (Dense targets) h p past = byte_edges-moved (Dense targets) p past
+  edges-at (Look look next) h p past = absurd h
+  edges-at (Union alternates) h p past = union-moved k p alternates
+  edges-at (BinaryUnion a b) h p past = refl
+  edges-at (Capture next slot) h p past = refl
+  edges-at Fail h p past = refl
+  edges-at (Match pattern) h p past = refl
+
+  count-moved : start_count nfa there ≡ start_count nfa x
+  count-moved =
+      elim (cases_lt x.end x.start) [
+        | inl past ↦ rw (lt-ltb x.end x.start past, lt-ltb (x.end + k) (x.start + k) (omega arith)) refl
+        | inr within ↦
+            let all : x.end + k - (x.start + k) + 1 ≡ x.end - x.start + 1 = omega arith in
+            rw (le-ltb x.end x.start within, le-ltb (x.end + k) (x.start + k) (omega arith))
+            (ap (λ (z : ℕ). if is_anchored x.anchored || nfa.anchored == nfa.unanchored then 1 else z) all)
+      ]
+
+  starts-moved : starts nfa there ≡ moved_path k (starts nfa x)
+  starts-moved =
+      ap (λ (n : ℕ). option_map_or (λ state. pairs_from state (x.start + k) n) (start_state nfa x.anchored) [])
+      count-moved ∙ of (start_state nfa x.anchored)
+    where
+      of : (o : Option ℕ)
+          → option_map_or (λ state. pairs_from state (x.start + k) (start_count nfa x)) o []
+          ≡ moved_path k (option_map_or (λ state. pairs_from state x.start (start_count nfa x)) o [])
+      of None = refl
+      of (Some state) = pairs-moved k state x.start (start_count nfa x)
+
+  start-past : (v : Pair) → In v (starts nfa x) → x.start ≤ v.1
+  start-past v i = of (start_state nfa x.anchored) i
+    where
+      of : (o : Option ℕ) → In v (option_map_or (λ state. pairs_from state x.start (start_count nfa x)) o [])
+          → x.start ≤ v.1
+      of None i = absurd i
+      of (Some state) i = pairs_from-ahead state x.start (start_count nfa x) v i
+
+  span-paths : ArePathsMoved (edges nfa x) (edges nfa there) (starts nfa x) (starts nfa there) (IsMatch nfa) k
+  span-paths =
+      paths-moved (edges nfa x) (edges nfa there) (starts nfa x) (starts nfa there) k x.start
+      (record {
+        onward = edges-onward nfa x;
+        from = start-past;
+        edges_are = λ v past. edges-at (node_at nfa v.0) (plain-at nfa plain v.0) v.1 past;
+        starts_are = starts-moved;
+      })
+      (IsMatch nfa) (λ m. (λ h. h, λ h. h))
+
+  module _ (anywhere : is_utf8_empty nfa ≡ false) (kind : MatchKind) (earliest : Bool) where
+    pub span-answer : (pattern : Option ℕ) (slots : List (Option ℕ)) → IsAnswer nfa kind earliest x pattern slots
+        → IsAnswer nfa kind earliest y pattern (moved_slots k slots)
+    span-answer pattern slots h =
+        subst (λ (z : Search). IsAnswer nfa kind earliest z pattern (moved_slots k slots)) (sym is_there)
+        (answer-moved nfa k x there span-paths anywhere kind earliest pattern slots h)
+
+    pub span-match : (found : Option Found) → IsMatchAnswer nfa kind earliest x found
+        → IsMatchAnswer nfa kind earliest y (option_map (moved_match k) found)
+    span-match found h =
+        subst (λ (z : Search). IsMatchAnswer nfa kind earliest z (option_map (moved_match k) found)) (sym is_there)
+        (match_answer-moved nfa k x there span-paths anywhere kind earliest found h)
+
+-- the same span
+
+same-moved : (x y : Search) → IsSameSpan x y → IsSpanMoved 0 x y
+same-moved x y h =
+    let start : y.start ≡ x.start = h.start in
+    let end : y.end ≡ x.end = h.end in
+    record { start = omega arith; end = omega arith; anchored = h.anchored }
+
+same-bytes : (x y : Search) → IsSameSpan x y → AreBytesMoved 0 x y
+same-bytes x y h = λ i past below.
+    let at : i + 0 ≡ i = omega arith in
+    ap (slice_get y.haystack) at ∙ h.bytes i past below
+
+pub same-answer : (nfa : Automaton) (x y : Search) (kind : MatchKind) (earliest : Bool)
+    (pattern : Option ℕ) (slots : List (Option ℕ)) → HasNoLook nfa → is_utf8_empty nfa ≡ false → IsSameSpan x y
+    → IsAnswer nfa kind earliest x pattern slots → IsAnswer nfa kind earliest y pattern slots
+same-answer nfa x y kind earliest pattern slots plain anywhere same h =
+    subst (IsAnswer nfa kind earliest y pattern) (moved_slots-none slots)
+    (span-answer nfa 0 x y plain (same-moved x y same) (same-bytes x y same) anywhere kind earliest pattern slots h)
+
+pub same-match : (nfa : Automaton) (x y : Search) (kind : MatchKind) (earliest : Bool) (found : Option Found)
+    → HasNoLook nfa → is_utf8_empty nfa ≡ false → IsSameSpan x y
+    → IsMatchAnswer nfa kind earliest x found → IsMatchAnswer nfa kind earliest y found
+same-match nfa x y kind earliest found plain anywhere same h =
+    subst (IsMatchAnswer nfa kind earliest y) (moved_match-none found)
+    (span-match nfa 0 x y plain (same-moved x y same) (same-bytes x y same) anywhere kind earliest found h)
+
+-- the span cut out
+
+get-take : (xs : List ℕ) (n i : ℕ) → i < n → slice_get (take n xs) i ≡ slice_get xs i
+get-take [] zero i below = refl
+get-take [] (suc n) i below = refl
+get-take (x ∷ xs) zero i below = absurd (omega arith)
+get-take (x ∷ xs) (suc n) zero below = refl
+get-take (x ∷ xs) (suc n) (suc i) below = get-take xs n i (omega arith)
+
+get-drop : (xs : List ℕ) (n i : ℕ) → slice_get (drop n xs) i ≡ slice_get xs (i + n)
+get-drop xs zero i = let at : i ≡ i + 0 = omega arith in ap (slice_get xs) at
+get-drop [] (suc n) i = refl
+get-drop (x ∷ xs) (suc n) i =
+    let at : suc (i + n) ≡ i + suc n = omega arith in get-drop xs n i ∙ ap (slice_get (x ∷ xs)) at
+
+cut-moved : (x : Search) → x.start ≤ x.end → IsSpanMoved x.start (cut_out x) x
+cut-moved x ordered = record { start = omega arith; end = omega arith; anchored = refl }
+
+cut-bytes : (x : Search) → AreBytesMoved x.start (cut_out x) x
+cut-bytes x = λ i past below.
+    sym (get-take (drop x.start x.haystack) (x.end - x.start) i below ∙ get-drop x.haystack x.start i)
+
+pub cut-answer : (nfa : Automaton) (x : Search) (kind : MatchKind) (earliest : Bool)
+    (pattern : Option ℕ) (slots : List (Option ℕ))
+    → HasNoLook nfa → is_utf8_empty nfa ≡ false → x.start ≤ x.end
+    → IsAnswer nfa kind earliest (cut_out x) pattern slots
+    → IsAnswer nfa kind earliest x pattern (moved_slots x.start slots)
+cut-answer nfa x kind earliest pattern slots plain anywhere ordered h =
+    span-answer nfa x.start (cut_out x) x plain (cut-moved x ordered) (cut-bytes x) anywhere kind earliest pattern slots
+    h
+
+pub cut-match : (nfa : Automaton) (x : Search) (kind : MatchKind) (earliest : Bool) (found : Option Found)
+    → HasNoLook nfa → is_utf8_empty nfa ≡ false → x.start ≤ x.end
+    → IsMatchAnswer nfa kind earliest (cut_out x) found
+    → IsMatchAnswer nfa kind earliest x (option_map (moved_match x.start) found)
+cut-match nfa x kind earliest found plain anywhere ordered h =
+    span-match nfa x.start (cut_out x) x plain (cut-moved x ordered) (cut-bytes x) anywhere kind earliest found h

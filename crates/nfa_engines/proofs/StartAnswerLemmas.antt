@@ -1,0 +1,260 @@
+-- The answer of an unanchored search is that of the anchored search at the first start that has one.
+use Rattle.std.proofs.Common.{◌≡◌, ℕ, ◌+◌, ◌≤◌, ◌⊎◌, ◌↔◌, inl, inr, Bool, false, List, length}
+use Rattle.std.proofs.Common.{refl, sym, ap, subst, arith}
+use Rattle.std.specs.Prelude.{Option, None, Some, option_and_then}
+use Rattle.std.proofs.lemmas.Bool.{cases_lt}
+use Rattle.regex_search_core.specs.Found.{Found}
+use Rattle.regex_search_core.specs.Groups.{slot_count}
+use Rattle.regex_search_core.specs.Search.{Search}
+use Rattle.regex_search_core.specs.Slots.{match_of}
+use Rattle.regex_search_core.specs.declared.search.Anchored.TheVariants.{Yes}
+use Rattle.regex_search_core.specs.declared.search.MatchKind.{MatchKind}
+use Rattle.regex_search_core.specs.declared.search.MatchKind.TheVariants.{LeftmostFirst}
+use Rattle.thompson_nfa.specs.Automaton.{Automaton}
+use Rattle.nfa_paths.specs.Graphs.{Pair, ComesBefore, PathTo, IsFirstTo}
+use Rattle.nfa_paths.specs.Paths.{edges, path_pattern, slot_row, starts, IsAnswer, IsMatch}
+use Rattle.nfa_paths.specs.Paths.{IsMatchAnswer, IsScanAnswer, IsSearchAnswer}
+use Rattle.nfa_engines.specs.Accepting.{MatchesNothing}
+use Rattle.nfa_engines.specs.StartLaws.{anchored_at, from_start, IsAnswerStart, IsFirstStart, IsUnbound}
+use Rattle.nfa_engines.proofs.MovedLemmas.{moved, moved_path, moved_path-none, ArePathsMoved}
+use Rattle.nfa_engines.proofs.MovedAnswerLemmas.{answer-moved, match_answer-moved, moved_match-none, moved_slots-none}
+use Rattle.nfa_engines.proofs.FirstStartLemmas.{anchored-start, heads-less, heads-order, same_edges, start-anchored}
+use Rattle.nfa_engines.proofs.FirstStartLemmas.{start-unbound, unbound-start, with-starts}
+
+moved-none : (v : Pair) → moved 0 v ≡ v
+moved-none v = let at : v.1 + 0 ≡ v.1 = omega arith in λ i. (v.0, at i)
+
+-- where two lists of starts have the same paths to wanted pairs, no path moves
+module _ (edges : Pair → List Pair) (starts others : List Pair) (Wanted : Pair → Type 0)
+    (to : (m : Pair) (p : List Pair) → PathTo edges starts m p → Wanted m → PathTo edges others m p)
+    (back : (m : Pair) (p : List Pair) → PathTo edges others m p → Wanted m → PathTo edges starts m p) where
+  paths-stay : ArePathsMoved edges edges starts others Wanted 0
+  paths-stay = record {
+    to = λ m p w t. subst (λ z. PathTo edges others z (moved_path 0 p)) (sym (moved-none m))
+        (subst (λ z. PathTo edges others m z) (sym (moved_path-none p)) (to m p w t));
+    back = λ n q w t. record {
+      end = n;
+      along = q;
+      path = back n q w t;
+      wanted = t;
+      end_is = sym (moved-none n);
+      along_is = sym (moved_path-none q);
+    };
+    order = λ m n p q w v. rw (moved_path-none p, moved_path-none q) (λ c. c, λ c. c);
+    stays = λ m. (subst Wanted (sym (moved-none m)), subst Wanted (moved-none m));
+  }
+
+module _ (nfa : Automaton) (x : Search) (free : IsUnbound nfa x) where
+  -- a path of the search is one of the anchored search at its start
+  anchored-path : (m : Pair) (p : List Pair) (w : PathTo (edges nfa x) (starts nfa x) m p)
+      → PathTo (edges nfa (anchored_at x w.start.1)) (starts nfa (anchored_at x w.start.1)) m p
+  anchored-path m p w =
+      let at = start-unbound nfa x free x.start w.start w.among in
+      let state : w.start.0 ≡ nfa.anchored = at.state_is in
+      subst (λ es. PathTo es (starts nfa (anchored_at x w.start.1)) m p) (sym (same_edges nfa x w.start.1 Yes))
+      (with-starts w (anchored-start nfa x w.start.1 w.start (λ i. (state i, w.start.1)) at.within))
+
+  -- and one of an anchored search in the span is one of the search
+  unbound-path : (i : ℕ) → x.start ≤ i → (m : Pair) (p : List Pair)
+      → PathTo (edges nfa (anchored_at x i)) (starts nfa (anchored_at x i)) m p
+      → PathTo (edges nfa x) (starts nfa x) m p
+  unbound-path i low m p w =
+      let at = start-anchored nfa x i w.start w.among in
+      let position : w.start.1 ≡ i = ap (λ (z : Pair). z.1) at.is in
+      let high : i ≤ x.end = at.within in
+      subst (λ es. PathTo es (starts nfa x) m p) (same_edges nfa x i Yes)
+      (with-starts w (unbound-start nfa x free x.start w.start
+      (record { state_is = ap (λ (z : Pair). z.0) at.is; from = omega arith; within = omega arith })))
+
+  -- a search matches nothing where no anchored search in its span does
+  pub nothing-at : MatchesNothing nfa x → (i : ℕ) → x.start ≤ i → MatchesNothing nfa (anchored_at x i)
+  nothing-at none i low = record { no_path = λ m p w t. none.no_path m p (unbound-path i low m p w) t }
+
+  pub nothing-of : ((i : ℕ) → x.start ≤ i → MatchesNothing nfa (anchored_at x i)) → MatchesNothing nfa x
+  nothing-of none = record {
+    no_path = λ m p w t.
+        let at = start-unbound nfa x free x.start w.start w.among in
+        (none w.start.1 at.from).no_path m p (anchored-path m p w) t;
+  }
+
+  module _ (s : ℕ) (first : IsFirstStart nfa x s) where
+    -- an accepting path starts there or later
+    starts-past : (m : Pair) (p : List Pair) (w : PathTo (edges nfa x) (starts nfa x) m p) → IsMatch nfa m
+        → s ≤ w.start.1
+    starts-past m p w t =
+        elim (cases_lt w.start.1 s) [
+          | inl before ↦
+              let at = start-unbound nfa x free x.start w.start w.among in
+              absurd ((first.nothing w.start.1 at.from before).no_path m p (anchored-path m p w) t)
+          | inr past ↦ past
+        ]
+
+    path-on : (m : Pair) (p : List Pair) → PathTo (edges nfa x) (starts nfa x) m p → IsMatch nfa m
+        → PathTo (edges nfa x) (starts nfa (from_start x s)) m p
+    path-on m p w t =
+        let at = start-unbound nfa x free x.start w.start w.among in
+        with-starts w (unbound-start nfa x free s w.start
+        (record { state_is = at.state_is; from = starts-past m p w t; within = at.within }))
+
+    path-back : (m : Pair) (p : List Pair) → PathTo (edges nfa x) (starts nfa (from_start x s)) m p → IsMatch nfa m
+        → PathTo (edges nfa x) (starts nfa x) m p
+    path-back m p w t =
+        let at = start-unbound nfa x free s w.start w.among in
+        let low : x.start ≤ s = first.from in
+        let past : s ≤ w.start.1 = at.from in
+        with-starts w (unbound-start nfa x free x.start w.start
+        (record { state_is = at.state_is; from = omega arith; within = at.within }))
+
+    on : ArePathsMoved (edges nfa x) (edges nfa (from_start x s)) (starts nfa x) (starts nfa (from_start x s))
+        (IsMatch nfa) 0
+    on = subst
+        (λ es. ArePathsMoved (edges nfa x) es (starts nfa x) (starts nfa (from_start x s)) (IsMatch nfa) 0)
+        (sym (same_edges nfa x s x.anchored))
+        (paths-stay (edges nfa x) (starts nfa x) (starts nfa (from_start x s)) (IsMatch nfa) path-on path-back)
+
+    back : ArePathsMoved (edges nfa (from_start x s)) (edges nfa x) (starts nfa (from_start x s)) (starts nfa x)
+        (IsMatch nfa) 0
+    back = subst
+        (λ es. ArePathsMoved es (edges nfa x) (starts nfa (from_start x s)) (starts nfa x) (IsMatch nfa) 0)
+        (sym (same_edges nfa x s x.anchored))
+        (paths-stay (edges nfa x) (starts nfa (from_start x s)) (starts nfa x) (IsMatch nfa) path-back path-on)
+
+    -- so starts before it may be passed over
+    pub answer-passed : (kind : MatchKind) (earliest : Bool) (pattern : Option ℕ) (slots : List (Option ℕ))
+        → IsAnswer nfa kind earliest x pattern slots ↔ IsAnswer nfa kind earliest (from_start x s) pattern slots
+    answer-passed kind earliest pattern slots = (
+      λ h. subst (IsAnswer nfa kind earliest (from_start x s) pattern) (moved_slots-none slots)
+          (answer-moved nfa 0 x (from_start x s) on free.anywhere kind earliest pattern slots h),
+      λ h. subst (IsAnswer nfa kind earliest x pattern) (moved_slots-none slots)
+          (answer-moved nfa 0 (from_start x s) x back free.anywhere kind earliest pattern slots h),
+    )
+
+    pub match-passed : (kind : MatchKind) (earliest : Bool) (found : Option Found)
+        → IsMatchAnswer nfa kind earliest x found ↔ IsMatchAnswer nfa kind earliest (from_start x s) found
+    match-passed kind earliest found = (
+      λ h. subst (IsMatchAnswer nfa kind earliest (from_start x s)) (moved_match-none found)
+          (match_answer-moved nfa 0 x (from_start x s) on free.anywhere kind earliest found h),
+      λ h. subst (IsMatchAnswer nfa kind earliest x) (moved_match-none found)
+          (match_answer-moved nfa 0 (from_start x s) x back free.anywhere kind earliest found h),
+    )
+
+    -- the first path of the anchored search there is the first of all
+    first-answers : (p : List Pair)
+        → IsFirstTo (edges nfa (anchored_at x s)) (starts nfa (anchored_at x s)) (IsMatch nfa) p
+        → IsFirstTo (edges nfa x) (starts nfa x) (IsMatch nfa) p
+    first-answers p h =
+        let at = start-anchored nfa x s h.path.start h.path.among in
+        let position : h.path.start.1 ≡ s = ap (λ (z : Pair). z.1) at.is in
+        record {
+          end = h.end;
+          path = unbound-path s first.from h.end p h.path;
+          wanted = h.wanted;
+          first = λ m q w t.
+              let past : s ≤ w.start.1 = starts-past m q w t in
+              elim (cases_lt s w.start.1) [
+                | inl later ↦ inr (heads-less (edges nfa x) h.path.start w.start p q h.path.head w.head (omega arith))
+                | inr same ↦
+                    let e : w.start.1 ≡ s = omega arith in
+                    subst (λ es. (q ≡ p) ⊎ ComesBefore es p q) (same_edges nfa x s Yes)
+                    (h.first m q (subst
+                    (λ i. PathTo (edges nfa (anchored_at x i)) (starts nfa (anchored_at x i)) m q) e
+                    (anchored-path m q w)) t)
+              ];
+        }
+
+  -- a path's search answers
+  search-of : (y : Search) (p : List Pair) → IsScanAnswer nfa y LeftmostFirst false (Some p)
+      → IsSearchAnswer nfa LeftmostFirst false y 0 (Some p)
+  search-of y p h = let anywhere = free.anywhere in rw anywhere (refl, h)
+
+  scan-of : (y : Search) (restarts : ℕ) (r : Option (List Pair))
+      → IsSearchAnswer nfa LeftmostFirst false y restarts r → IsScanAnswer nfa y LeftmostFirst false r
+  scan-of y restarts r h =
+      let anywhere = free.anywhere in
+      let scan : (restarts ≡ 0) × IsScanAnswer nfa y LeftmostFirst false r = rw anywhere at h in
+      scan.1
+
+  pub answer-first : (s pattern : ℕ) (slots : List (Option ℕ)) → IsFirstStart nfa x s
+      → IsAnswer nfa LeftmostFirst false (anchored_at x s) (Some pattern) slots
+      → IsAnswer nfa LeftmostFirst false x (Some pattern) slots
+  answer-first s pattern slots first h =
+      of h.path (scan-of (anchored_at x s) h.restarts h.path h.answers) h.pattern_is h.slots_are
+    where
+      of : (r : Option (List Pair)) → IsScanAnswer nfa (anchored_at x s) LeftmostFirst false r
+          → Some pattern ≡ option_and_then (path_pattern nfa) r → slots ≡ slot_row nfa (length slots) r
+          → IsAnswer nfa LeftmostFirst false x (Some pattern) slots
+      of None scan is row = cc
+      of (Some p) scan is row = record {
+        restarts = 0;
+        path = Some p;
+        answers = search-of x p (first-answers s first p scan);
+        pattern_is = is;
+        slots_are = row;
+      }
+
+  pub match-first : (s : ℕ) (m : Found) → IsFirstStart nfa x s
+      → IsMatchAnswer nfa LeftmostFirst false (anchored_at x s) (Some m)
+      → IsMatchAnswer nfa LeftmostFirst false x (Some m)
+  match-first s m first h = of h.path (scan-of (anchored_at x s) h.restarts h.path h.answers) h.found_is
+    where
+      of : (r : Option (List Pair)) → IsScanAnswer nfa (anchored_at x s) LeftmostFirst false r
+          → Some m ≡ match_of (option_and_then (path_pattern nfa) r) (slot_row nfa (slot_count nfa.groups) r)
+          → IsMatchAnswer nfa LeftmostFirst false x (Some m)
+      of None scan is = cc
+      of (Some p) scan is = record {
+        restarts = 0;
+        path = Some p;
+        answers = search-of x p (first-answers s first p scan);
+        found_is = is;
+      }
+
+  -- the first path of all is the first of the anchored search at its start
+  module _ (p : List Pair) (h : IsFirstTo (edges nfa x) (starts nfa x) (IsMatch nfa) p) where
+    first-start : IsFirstStart nfa x h.path.start.1
+    first-start = record {
+      from = (start-unbound nfa x free x.start h.path.start h.path.among).from;
+      nothing = λ i low less. record {
+        no_path = λ m q w t.
+            let at = start-anchored nfa x i w.start w.among in
+            let position : w.start.1 ≡ i = ap (λ (z : Pair). z.1) at.is in
+            let order : h.path.start.1 ≤ w.start.1 =
+            heads-order (edges nfa x) h.path.start w.start p q h.path.head w.head
+            (h.first m q (unbound-path i low m q w) t) in
+            absurd (omega arith);
+      };
+    }
+
+    first-anchored : IsFirstTo (edges nfa (anchored_at x h.path.start.1)) (starts nfa (anchored_at x h.path.start.1))
+        (IsMatch nfa) p
+    first-anchored = record {
+      end = h.end;
+      path = anchored-path h.end p h.path;
+      wanted = h.wanted;
+      first = λ m q w t.
+          subst (λ es. (q ≡ p) ⊎ ComesBefore es p q) (sym (same_edges nfa x h.path.start.1 Yes))
+          (h.first m q (unbound-path h.path.start.1 first-start.from m q w) t);
+    }
+
+  pub answer-start : (pattern : ℕ) (slots : List (Option ℕ))
+      → IsAnswer nfa LeftmostFirst false x (Some pattern) slots
+      → (s : ℕ) × IsAnswerStart nfa LeftmostFirst false x pattern slots s
+  answer-start pattern slots h = of h.path (scan-of x h.restarts h.path h.answers) h.pattern_is h.slots_are
+    where
+      of : (r : Option (List Pair)) → IsScanAnswer nfa x LeftmostFirst false r
+          → Some pattern ≡ option_and_then (path_pattern nfa) r → slots ≡ slot_row nfa (length slots) r
+          → (s : ℕ) × IsAnswerStart nfa LeftmostFirst false x pattern slots s
+      of None scan is row = cc
+      of (Some p) scan is row = (
+        scan.path.start.1,
+        record {
+          first = first-start p scan;
+          within = (start-unbound nfa x free x.start scan.path.start scan.path.among).within;
+          answers = record {
+            restarts = 0;
+            path = Some p;
+            answers = search-of (anchored_at x scan.path.start.1) p (first-anchored p scan);
+            pattern_is = is;
+            slots_are = row;
+          };
+        },
+      )

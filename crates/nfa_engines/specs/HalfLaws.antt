@@ -1,0 +1,20 @@
+-- The pattern and the end of an answer, which `find_half` gives.
+use Rattle.std.specs.Prelude.{◌≡◌, ℕ, Bool, List, Option, option_map}
+use Rattle.regex_search_core.specs.Found.{HalfFound}
+use Rattle.regex_search_core.specs.Search.{Search}
+use Rattle.regex_search_core.specs.declared.search.MatchKind.{MatchKind}
+use Rattle.thompson_nfa.specs.Automaton.{Automaton}
+use Rattle.nfa_paths.specs.Paths.{IsAnswer, IsHalfAnswer}
+
+-- two half matches of one search are one
+abbrev pub OneHalfMatch : Type 0
+OneHalfMatch =
+    (nfa : Automaton) (x : Search) (kind : MatchKind) (earliest : Bool) (a b : Option HalfFound)
+    → IsHalfAnswer nfa kind earliest x a → IsHalfAnswer nfa kind earliest x b → a ≡ b
+
+-- the half match has the pattern that the search for slots gives
+abbrev pub HalfMatchHasThePattern : Type 0
+HalfMatchHasThePattern =
+    (nfa : Automaton) (x : Search) (kind : MatchKind) (earliest : Bool) (half : Option HalfFound) (pattern : Option ℕ)
+    (slots : List (Option ℕ)) → IsHalfAnswer nfa kind earliest x half → IsAnswer nfa kind earliest x pattern slots
+    → pattern ≡ option_map (λ (h : HalfFound). h.pattern) half

@@ -1,0 +1,85 @@
+-- Laws of an NFA whose anchored start tries the starts of its patterns in their order, over the definitions alone.
+use Rattle.std.specs.Prelude.{◌≡◌, ◌↔◌, ◌⊎◌, ℕ, ◌<◌, Bool, false, List, [], ◌∷◌, Option, None, Some, slice_get}
+use Rattle.regex_search_core.specs.Found.{Found}
+use Rattle.regex_search_core.specs.Patterns.{number_of}
+use Rattle.regex_search_core.specs.Search.{Search}
+use Rattle.regex_search_core.specs.declared.primitives.PatternID.{PatternID}
+use Rattle.regex_search_core.specs.declared.search.Anchored.TheVariants.{Yes, Pattern}
+use Rattle.regex_search_core.specs.declared.search.MatchKind.{MatchKind}
+use Rattle.thompson_nfa.specs.Automaton.{Automaton, Node}
+use Rattle.thompson_nfa.specs.Automaton.Node.{Union, BinaryUnion}
+use Rattle.nfa_paths.specs.Graphs.{Pair, PathTo}
+use Rattle.nfa_paths.specs.Paths.{edges, is_utf8_empty, node_at, starts, IsAnswer, IsMatchAnswer}
+use Rattle.nfa_engines.specs.Accepting.{MatchesNothing}
+
+-- the NFA of one pattern alone: its anchored start is that of the pattern
+abbrev pub started_at : Automaton → ℕ → Automaton
+started_at nfa state = record nfa { anchored = state }
+
+-- A search that is bound to a pattern has the answer of the anchored search of this pattern alone, of any kind.
+abbrev pub PatternIsAlone : Type 0
+PatternIsAlone =
+    (nfa : Automaton) (x : Search) (pattern : PatternID) (state : ℕ) (kind : MatchKind) (earliest : Bool)
+    (found : Option ℕ) (slots : List (Option ℕ)) → slice_get nfa.patterns (number_of pattern) ≡ Some state
+    → IsAnswer nfa kind earliest (record x { anchored = Pattern pattern }) found slots
+    ↔ IsAnswer (started_at nfa state) kind earliest (record x { anchored = Yes }) found slots
+
+-- the same of its match
+abbrev pub PatternMatchesAlone : Type 0
+PatternMatchesAlone =
+    (nfa : Automaton) (x : Search) (pattern : PatternID) (state : ℕ) (kind : MatchKind) (earliest : Bool)
+    (found : Option Found) → slice_get nfa.patterns (number_of pattern) ≡ Some state
+    → IsMatchAnswer nfa kind earliest (record x { anchored = Pattern pattern }) found
+    ↔ IsMatchAnswer (started_at nfa state) kind earliest (record x { anchored = Yes }) found
+
+-- the states that a union tries, in order
+abbrev pub alternates_of : Node → Option (List ℕ)
+alternates_of (Union alternates) = Some alternates
+alternates_of (BinaryUnion alt1 alt2) = Some (alt1 ∷ alt2 ∷ [])
+alternates_of _ = None
+
+-- the anchored start is a union of the patterns' starts, in their order, and no path from one of these leads to it
+pub record IsUnionOfPatterns (nfa : Automaton) (x : Search) : Type 0 where
+  pub union : alternates_of (node_at nfa nfa.anchored) ≡ Some nfa.patterns
+  pub apart : (k state at : ℕ) (p : List Pair) → slice_get nfa.patterns k ≡ Some state
+      → PathTo (edges nfa x) (starts (started_at nfa state) x) (nfa.anchored, at) p → ⊥
+
+-- so it is, or the anchored start is that of the only pattern
+abbrev pub TriesPatternsInOrder : Automaton → Search → Type 0
+TriesPatternsInOrder nfa x = (nfa.patterns ≡ nfa.anchored ∷ []) ⊎ IsUnionOfPatterns nfa x
+
+-- pattern k starts at the state, and no earlier pattern has an accepting path
+pub record IsFirstPattern (nfa : Automaton) (x : Search) (k state : ℕ) : Type 0 where
+  pub starts_at : slice_get nfa.patterns k ≡ Some state
+  pub nothing : (j other : ℕ) → j < k → slice_get nfa.patterns j ≡ Some other
+      → MatchesNothing (started_at nfa other) x
+
+-- If the search of such a pattern alone has an answer, it is that of the search of all patterns.
+abbrev pub FirstPatternAnswers : MatchKind → Bool → Type 0
+FirstPatternAnswers kind earliest =
+    (nfa : Automaton) (x : Search) (k state pattern : ℕ) (slots : List (Option ℕ))
+    → is_utf8_empty nfa ≡ false → x.anchored ≡ Yes → TriesPatternsInOrder nfa x → IsFirstPattern nfa x k state
+    → IsAnswer (started_at nfa state) kind earliest x (Some pattern) slots
+    → IsAnswer nfa kind earliest x (Some pattern) slots
+
+-- an answer is that of such a pattern
+pub record IsOfPattern (nfa : Automaton) (kind : MatchKind) (earliest : Bool) (x : Search) (pattern : ℕ)
+    (slots : List (Option ℕ)) : Type 0 where
+  pub k : ℕ
+  pub state : ℕ
+  pub first : IsFirstPattern nfa x k state
+  pub answers : IsAnswer (started_at nfa state) kind earliest x (Some pattern) slots
+
+abbrev pub AnswersAreOfPatterns : MatchKind → Bool → Type 0
+AnswersAreOfPatterns kind earliest =
+    (nfa : Automaton) (x : Search) (pattern : ℕ) (slots : List (Option ℕ))
+    → is_utf8_empty nfa ≡ false → x.anchored ≡ Yes → TriesPatternsInOrder nfa x
+    → IsAnswer nfa kind earliest x (Some pattern) slots
+    → IsOfPattern nfa kind earliest x pattern slots
+
+-- a search matches nothing exactly if no pattern alone does
+abbrev pub NothingOfEachPattern : Type 0
+NothingOfEachPattern =
+    (nfa : Automaton) (x : Search) → x.anchored ≡ Yes → TriesPatternsInOrder nfa x
+    → MatchesNothing nfa x
+    ↔ ((k state : ℕ) → slice_get nfa.patterns k ≡ Some state → MatchesNothing (started_at nfa state) x)

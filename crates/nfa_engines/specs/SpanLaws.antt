@@ -1,0 +1,101 @@
+-- Laws of what an answer depends on: the bytes of the span, and not where the span is.
+use Rattle.std.specs.Prelude.{◌≡◌, ℕ, ◌+◌, ◌-◌, ◌<◌, ◌≤◌, Bool, false, List, map, All, take, drop}
+use Rattle.std.specs.Prelude.{Option, option_map, slice_get, ⊤}
+use Rattle.regex_search_core.specs.Found.{Found}
+use Rattle.regex_search_core.specs.Search.{Search}
+use Rattle.regex_search_core.specs.declared.search.MatchKind.{MatchKind}
+use Rattle.thompson_nfa.specs.Automaton.{Automaton, Node}
+use Rattle.thompson_nfa.specs.Automaton.Node.{Look}
+use Rattle.nfa_paths.specs.Paths.{is_utf8_empty, IsAnswer, IsMatchAnswer}
+
+-- each slot that is set, this many positions to the right
+abbrev pub moved_slots : ℕ → List (Option ℕ) → List (Option ℕ)
+moved_slots k slots = map (option_map (λ at. at + k)) slots
+
+-- the match, this many positions to the right
+abbrev pub moved_match : ℕ → Found → Found
+moved_match k m = record m { start = m.start + k; end = m.end + k }
+
+-- the state asserts nothing of what is around a position
+abbrev pub AssertsNothing : Node → Type 0
+AssertsNothing (Look look next) = ⊥
+AssertsNothing _ = ⊤
+
+-- no state of the NFA does
+abbrev pub HasNoLook : Automaton → Type 0
+HasNoLook nfa = All AssertsNothing nfa.states
+
+-- the second search has the span of the first, this many positions to the right, and is anchored alike
+pub record IsSpanMoved (k : ℕ) (x y : Search) : Type 0 where
+  pub start : y.start ≡ x.start + k
+  pub end : y.end ≡ x.end + k
+  pub anchored : y.anchored ≡ x.anchored
+
+-- the bytes of the first in its span are those of the second, this many positions to the right
+abbrev pub AreBytesMoved : ℕ → Search → Search → Type 0
+AreBytesMoved k x y =
+    (i : ℕ) → x.start ≤ i → i < x.end → slice_get y.haystack (i + k) ≡ slice_get x.haystack i
+
+-- An NFA without assertions reads only the bytes of the span. If the span and its bytes are those of another search,
+-- moved, then so is the answer, of each kind.
+abbrev pub AnswersMove : Type 0
+AnswersMove =
+    (nfa : Automaton) (k : ℕ) (x y : Search) (kind : MatchKind) (earliest : Bool)
+    (pattern : Option ℕ) (slots : List (Option ℕ))
+    → HasNoLook nfa → is_utf8_empty nfa ≡ false → IsSpanMoved k x y → AreBytesMoved k x y
+    → IsAnswer nfa kind earliest x pattern slots → IsAnswer nfa kind earliest y pattern (moved_slots k slots)
+
+-- and so is the match
+abbrev pub MatchesMove : Type 0
+MatchesMove =
+    (nfa : Automaton) (k : ℕ) (x y : Search) (kind : MatchKind) (earliest : Bool) (found : Option Found)
+    → HasNoLook nfa → is_utf8_empty nfa ≡ false → IsSpanMoved k x y → AreBytesMoved k x y
+    → IsMatchAnswer nfa kind earliest x found
+    → IsMatchAnswer nfa kind earliest y (option_map (moved_match k) found)
+
+-- two searches with the same span, the same bytes in it, and anchored alike
+pub record IsSameSpan (x y : Search) : Type 0 where
+  pub start : y.start ≡ x.start
+  pub end : y.end ≡ x.end
+  pub anchored : y.anchored ≡ x.anchored
+  pub bytes : (i : ℕ) → x.start ≤ i → i < x.end → slice_get y.haystack i ≡ slice_get x.haystack i
+
+-- they have the same answer, whatever is around the span
+abbrev pub AnswersReadTheSpan : Type 0
+AnswersReadTheSpan =
+    (nfa : Automaton) (x y : Search) (kind : MatchKind) (earliest : Bool)
+    (pattern : Option ℕ) (slots : List (Option ℕ))
+    → HasNoLook nfa → is_utf8_empty nfa ≡ false → IsSameSpan x y
+    → IsAnswer nfa kind earliest x pattern slots → IsAnswer nfa kind earliest y pattern slots
+
+-- and the same match
+abbrev pub MatchesReadTheSpan : Type 0
+MatchesReadTheSpan =
+    (nfa : Automaton) (x y : Search) (kind : MatchKind) (earliest : Bool) (found : Option Found)
+    → HasNoLook nfa → is_utf8_empty nfa ≡ false → IsSameSpan x y
+    → IsMatchAnswer nfa kind earliest x found → IsMatchAnswer nfa kind earliest y found
+
+-- the search of the span, cut out of its haystack
+abbrev pub cut_out : Search → Search
+cut_out x = record x {
+  haystack = take (x.end - x.start) (drop x.start x.haystack);
+  start = 0;
+  end = x.end - x.start;
+}
+
+-- it has the same answer, moved by the start of the span
+abbrev pub CutOutAnswers : Type 0
+CutOutAnswers =
+    (nfa : Automaton) (x : Search) (kind : MatchKind) (earliest : Bool)
+    (pattern : Option ℕ) (slots : List (Option ℕ))
+    → HasNoLook nfa → is_utf8_empty nfa ≡ false → x.start ≤ x.end
+    → IsAnswer nfa kind earliest (cut_out x) pattern slots
+    → IsAnswer nfa kind earliest x pattern (moved_slots x.start slots)
+
+-- and the same match
+abbrev pub CutOutMatches : Type 0
+CutOutMatches =
+    (nfa : Automaton) (x : Search) (kind : MatchKind) (earliest : Bool) (found : Option Found)
+    → HasNoLook nfa → is_utf8_empty nfa ≡ false → x.start ≤ x.end
+    → IsMatchAnswer nfa kind earliest (cut_out x) found
+    → IsMatchAnswer nfa kind earliest x (option_map (moved_match x.start) found)

@@ -1,0 +1,80 @@
+-- Laws of where the answer of a search starts, over the definitions alone.
+use Rattle.std.specs.Prelude.{◌≡◌, ◌↔◌, ◌==◌, ℕ, ◌<◌, ◌≤◌, Bool, false, List, Option, Some}
+use Rattle.regex_search_core.specs.Found.{Found}
+use Rattle.regex_search_core.specs.Search.{Search}
+use Rattle.regex_search_core.specs.declared.search.Anchored.TheVariants.{No, Yes}
+use Rattle.regex_search_core.specs.declared.search.MatchKind.{MatchKind}
+use Rattle.thompson_nfa.specs.Automaton.{Automaton}
+use Rattle.nfa_paths.specs.Paths.{is_utf8_empty, IsAnswer, IsMatchAnswer}
+use Rattle.nfa_engines.specs.Accepting.{MatchesNothing}
+
+-- the search from another start
+abbrev pub from_start : Search → ℕ → Search
+from_start x s = record x { start = s }
+
+-- the anchored search there
+abbrev pub anchored_at : Search → ℕ → Search
+anchored_at x s = record x { start = s; anchored = Yes }
+
+-- A match of the search may start at each position of its span, and end anywhere: neither the search nor the NFA is
+-- anchored, and no match has to end on a boundary.
+pub record IsUnbound (nfa : Automaton) (x : Search) : Type 0 where
+  pub unanchored : x.anchored ≡ No
+  pub prefixed : (nfa.anchored == nfa.unanchored) ≡ false
+  pub anywhere : is_utf8_empty nfa ≡ false
+
+-- the start is not before that of the search, and no anchored search before it has an accepting path
+pub record IsFirstStart (nfa : Automaton) (x : Search) (s : ℕ) : Type 0 where
+  pub from : x.start ≤ s
+  pub nothing : (i : ℕ) → x.start ≤ i → i < s → MatchesNothing nfa (anchored_at x i)
+
+-- a search, of any kind, has the answer of the one from such a start on
+abbrev pub StartsArePassed : Type 0
+StartsArePassed =
+    (nfa : Automaton) (x : Search) (s : ℕ) (kind : MatchKind) (earliest : Bool)
+    (pattern : Option ℕ) (slots : List (Option ℕ))
+    → IsUnbound nfa x → IsFirstStart nfa x s
+    → IsAnswer nfa kind earliest x pattern slots ↔ IsAnswer nfa kind earliest (from_start x s) pattern slots
+
+-- the same of its match
+abbrev pub MatchStartsArePassed : Type 0
+MatchStartsArePassed =
+    (nfa : Automaton) (x : Search) (s : ℕ) (kind : MatchKind) (earliest : Bool) (found : Option Found)
+    → IsUnbound nfa x → IsFirstStart nfa x s
+    → IsMatchAnswer nfa kind earliest x found ↔ IsMatchAnswer nfa kind earliest (from_start x s) found
+
+-- If the anchored search at such a start has a pattern, its answer is that of the search.
+abbrev pub FirstStartAnswers : MatchKind → Bool → Type 0
+FirstStartAnswers kind earliest =
+    (nfa : Automaton) (x : Search) (s pattern : ℕ) (slots : List (Option ℕ))
+    → IsUnbound nfa x → IsFirstStart nfa x s
+    → IsAnswer nfa kind earliest (anchored_at x s) (Some pattern) slots
+    → IsAnswer nfa kind earliest x (Some pattern) slots
+
+-- the same of its match
+abbrev pub FirstStartMatches : MatchKind → Bool → Type 0
+FirstStartMatches kind earliest =
+    (nfa : Automaton) (x : Search) (s : ℕ) (m : Found)
+    → IsUnbound nfa x → IsFirstStart nfa x s
+    → IsMatchAnswer nfa kind earliest (anchored_at x s) (Some m)
+    → IsMatchAnswer nfa kind earliest x (Some m)
+
+-- the start of the answer: the first in the span at which the anchored search matches, and it has this answer
+pub record IsAnswerStart (nfa : Automaton) (kind : MatchKind) (earliest : Bool) (x : Search) (pattern : ℕ)
+    (slots : List (Option ℕ)) (s : ℕ) : Type 0 where
+  pub first : IsFirstStart nfa x s
+  pub within : s ≤ x.end
+  pub answers : IsAnswer nfa kind earliest (anchored_at x s) (Some pattern) slots
+
+-- an answer with a pattern has such a start
+abbrev pub AnswersHaveAStart : MatchKind → Bool → Type 0
+AnswersHaveAStart kind earliest =
+    (nfa : Automaton) (x : Search) (pattern : ℕ) (slots : List (Option ℕ))
+    → IsUnbound nfa x → IsAnswer nfa kind earliest x (Some pattern) slots
+    → (s : ℕ) × IsAnswerStart nfa kind earliest x pattern slots s
+
+-- A search matches nothing exactly if no anchored search does, from its start on.
+abbrev pub NothingAtEachStart : Type 0
+NothingAtEachStart =
+    (nfa : Automaton) (x : Search) → IsUnbound nfa x
+    → MatchesNothing nfa x ↔ ((i : ℕ) → x.start ≤ i → MatchesNothing nfa (anchored_at x i))

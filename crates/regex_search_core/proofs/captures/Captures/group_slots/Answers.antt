@@ -1,0 +1,14 @@
+-- The spans at the slots are those of the groups.
+use Rattle.std.specs.Prelude.{◌≡◌, ◌*◌, Some, option_map}
+use Rattle.std.proofs.Common.{ap, refl}
+use Rattle.regex_search_core.specs.Patterns.{number_of}
+use Rattle.regex_search_core.proofs.CapturesLemmas.{spans_at-groups}
+use Rattle.regex_search_core.proofs.captures.Captures.group_slots.Goals as goal
+
+pub returns-clause-spans : goal.returns-clause-spans
+returns-clause-spans c =
+    let p = number_of c.in_ok-pattern.pattern in
+    let says = c.in_ok-explicit.ensures in
+    let at : c.as_usize.result * 2 ≡ p * 2 = ap (λ n. n * 2) c.as_usize.ensures.value in
+    let is : option_map number_of c.self.inside.pattern ≡ Some p = rw c.in_ok-pattern.was refl in
+    rw (← c.self.view_is) (spans_at-groups _ p _ _ _ is (says.known.0 refl) at says.first says.count)
