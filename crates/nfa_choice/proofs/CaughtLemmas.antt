@@ -41,7 +41,7 @@ use Rattle.nfa_choice.specs.Choosing.{Choosing, KeepsEngines, kind_in}
 use Rattle.nfa_choice.specs.declared.choose.captures_iter.ChoiceCaptures.{ChoiceCaptures}
 use Rattle.nfa_choice.proofs.FindLemmas.{IsOf, is-kept, keeps-self, keeps-then}
 
--- the captures of an iteration, with the choice that they are lent
+-- the captures of an iteration, with the choice that they borrow
 abbrev State : Type 0
 State = With (Catching (Unit {0})) Choosing
 
@@ -208,7 +208,7 @@ itself : (c : Choosing) → IsOf c c
 itself c = record { nfa = refl; kind = refl }
 
 module _ (x : Search) (s : Steps State) (walk : steps_walk s ≡ fresh x) (going : s.done ≡ false) where
-  -- the choice changes by the searches of the steps alone
+  -- the choice changes only by the searches of the steps
   pub caught-on : (t : Steps State) → CallsLead RuleSteps s t → ChoiceCatchesOn x s.asker.cache t.asker.cache
   caught-on t lead =
       let k = calls-leave row_span AsksRowByRule (λ q. GivesCaptures q.asker) row_of says (λ q. q.cache)

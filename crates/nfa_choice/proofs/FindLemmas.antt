@@ -118,7 +118,7 @@ module _ (x : Search) (s : ChoiceMatches) (walk : lent_walk (choice_finds s) ≡
       calls-in span_of AsksByRule (λ q. GivesItem found_of) found_of says (λ q. q.cache) Looks Good looks
       choice_finds_next (λ q. lent_state (choice_finds q)) (λ m. Ok m) (λ p r q st. st.takes.step) xs s t ran
 
-  -- the calls change the choice by their searches alone
+  -- the calls change the choice only by their searches
   pub finds-searches : ChoiceFindsBySearches x s
   finds-searches = record {
     on = λ xs t r u ran st.

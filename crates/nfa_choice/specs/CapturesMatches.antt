@@ -26,7 +26,7 @@ pub record CatchesByRule (x : Search) (old new : Choosing) : Type 0 where
 abbrev pub ChoiceTellsRow : Choosing → Search → Answer Row → Type 0
 ChoiceTellsRow c x a = TellsRow c.nfa (kind_in c) x.earliest x a
 
--- an iteration over the captures of x led from the one choice to the other by its searches alone, as far as it went
+-- an iteration over the captures of x led from the one choice to the other only by its searches, as far as it went
 abbrev pub ChoiceCatchesOn : Search → Choosing → Choosing → Type 0
 ChoiceCatchesOn x old new = Leaves row_span (DoesSearch (ChoiceTellsRow old) (λ y a. CatchesByRule y)) x old new
 
@@ -35,7 +35,7 @@ abbrev pub ChoiceCatchesToEnd : Search → List Row → Choosing → Choosing �
 ChoiceCatchesToEnd x rows old new =
     LeavesAtEnd row_span (DoesSearch (ChoiceTellsRow old) (λ y a. CatchesByRule y)) x rows old new
 
--- the steps of the iterator, and the choice that it is lent
+-- the steps of the iterator, and the choice that it borrows
 abbrev pub choice_catches : ChoiceCaptures → Lent (Catching (Unit {0})) Choosing
 choice_catches s = record { steps = s.steps; cache = s.choice }
 
@@ -43,7 +43,7 @@ choice_catches s = record { steps = s.steps; cache = s.choice }
 abbrev pub choice_catches_choice : ChoiceCaptures → MutBor Choosing
 choice_catches_choice s = s.choice
 
--- where it stands, and whether it has ended
+-- its next input and last end, and whether it has ended
 abbrev pub choice_catches_walk : ChoiceCaptures → Walk
 choice_catches_walk s = walk_of s.steps.searcher
 
@@ -77,6 +77,6 @@ pub record CatchesKeepChoice (s t : ChoiceCaptures) : Type 0 where
 abbrev pub ChoiceCatchesGiveKept : ChoiceCaptures → Type 0
 ChoiceCatchesGiveKept s = GivesKept choice_catches_next CatchesKeepChoice s
 
--- the calls change the choice by the searches of an iteration over x alone
+-- the calls change the choice only by the searches of an iteration over x
 pub record ChoiceCatchesBySearches (x : Search) (s : ChoiceCaptures) : Type 0 where
   pub on : GivesKept choice_catches_next (λ p q. ChoiceCatchesOn x p.choice.now q.choice.now) s

@@ -28,7 +28,7 @@ pub record FindsByRule (x : Search) (old new : Choosing) : Type 0 where
 abbrev pub ChoiceTells : Choosing → Search → Answer Found → Type 0
 ChoiceTells c x a = TellsMatch c.nfa (kind_in c) x.earliest x a
 
--- an iteration over the matches of x led from the one choice to the other by its searches alone, as far as it went
+-- an iteration over the matches of x led from the one choice to the other only by its searches, as far as it went
 abbrev pub ChoiceFindsOn : Search → Choosing → Choosing → Type 0
 ChoiceFindsOn x old new = Leaves span_of (DoesSearch (ChoiceTells old) (λ y a. FindsByRule y)) x old new
 
@@ -36,7 +36,7 @@ ChoiceFindsOn x old new = Leaves span_of (DoesSearch (ChoiceTells old) (λ y a. 
 abbrev pub ChoiceFindsToEnd : Search → List Found → Choosing → Choosing → Type 0
 ChoiceFindsToEnd x ms old new = LeavesAtEnd span_of (DoesSearch (ChoiceTells old) (λ y a. FindsByRule y)) x ms old new
 
--- the steps of the iterator, and the choice that it is lent
+-- the steps of the iterator, and the choice that it borrows
 abbrev pub choice_finds : ChoiceMatches → Lent ByRule Choosing
 choice_finds s = record { steps = s.steps; cache = s.choice }
 
@@ -44,7 +44,7 @@ choice_finds s = record { steps = s.steps; cache = s.choice }
 abbrev pub choice_finds_cache : ChoiceMatches → MutBor Choosing
 choice_finds_cache s = s.choice
 
--- where it stands, and whether it has ended
+-- its next input and last end, and whether it has ended
 abbrev pub choice_finds_walk : ChoiceMatches → Walk
 choice_finds_walk s = walk_of s.steps.searcher
 
@@ -79,7 +79,7 @@ pub record KeepsChoice (s t : ChoiceMatches) : Type 0 where
 abbrev pub ChoiceGivesKept : ChoiceMatches → Type 0
 ChoiceGivesKept s = GivesKept choice_finds_next KeepsChoice s
 
--- The calls change the choice by the searches of an iteration over x alone; at `None` it went to its end, past the
+-- The calls change the choice only by the searches of an iteration over x; at `None` it went to its end, past the
 -- matches so far.
 pub record ChoiceFindsBySearches (x : Search) (s : ChoiceMatches) : Type 0 where
   pub on : GivesKept choice_finds_next (λ p q. ChoiceFindsOn x p.choice.now q.choice.now) s

@@ -1,5 +1,5 @@
--- A pattern matches somewhere in a text exactly if the reference matcher finds it alone. So a set of the patterns that
--- match holds those that are found.
+-- A pattern matches somewhere in a text exactly if the reference matcher finds it by itself. So a set of the patterns
+-- that match holds those that are found.
 use Rattle.std.proofs.Common.{◌≡◌, ◌∙◌, ℕ, zero, suc, ◌+◌, ◌-◌, ◌≤◌, ◌<◌, Bool, true, false, List, [], ◌∷◌}
 use Rattle.std.proofs.Common.{length, refl, sym, ap, arith, get_or}
 use Rattle.std.specs.Prelude.{◌↔◌, All, Option, None, Some, is_some, slice_index_or}

@@ -13,7 +13,7 @@ use std::marker::Model;
 /// gives.
 ///
 /// Its items are `Ok` captures, each a value of its own, at most as many as the span has bytes and one more, and at
-/// most one error, which is [`SearchError::Memory`]: there was no memory for a copy. It ends for good after the last
+/// most one error, which is [`SearchError::Memory`]: there was no memory for a copy. It is fused: it ends after the last
 /// match and after the error.
 #[derive(Debug, Drop)]
 pub struct ChoiceCaptures<'c, 'h> {
@@ -22,8 +22,8 @@ pub struct ChoiceCaptures<'c, 'h> {
     ghost holds: { HasGroups choice.now.nfa steps.asker.captures },
 }
 
-// The captures that the searches of one iteration write to. Each search takes the engine that suits; the choice is
-// lent.
+// The captures that the searches of one iteration write to. Each search takes the engine that suits, and borrows the
+// choice.
 #[derive(Debug, Drop)]
 struct Catcher {
     captures: Captures,
@@ -101,7 +101,7 @@ impl Choice {
         ensures groups { IfOk result (CapturesGroups choice_catches_next self.entry.now.nfa) }
         ensures inside { IfOk result (CapturesWithin choice_catches_next (search_of input.entry)) }
         ensures apart { IfOk result (CapturesApart choice_catches_next (search_of input.entry)) }
-        // The choice changes by the searches of the steps alone.
+        // The choice changes only by the searches of the steps.
         ensures searches { IfOk result (ChoiceCatchesBySearches (search_of input.entry)) }
         ensures keeps { IfOk result ChoiceCatchesGiveKept }
     {
@@ -150,7 +150,7 @@ impl Choice {
         ensures groups { CapturesGroups choice_catches_next self.entry.now.nfa result }
         ensures inside { CapturesWithin choice_catches_next (search_of input.entry) result }
         ensures apart { CapturesApart choice_catches_next (search_of input.entry) result }
-        // The choice changes by the searches of the steps alone.
+        // The choice changes only by the searches of the steps.
         ensures searches { ChoiceCatchesBySearches (search_of input.entry) result }
         ensures keeps { ChoiceCatchesGiveKept result }
     {
@@ -175,7 +175,7 @@ impl Choice {
         ensures inside { IfOk result (λ all. All (CapturesInside (search_of input.entry)) all.items) }
         ensures apart { IfOk result (λ all. AreApart (search_of input.entry) None (map match_in all.items)) }
         ensures keeps { KeepsEngines self.old self.new }
-        // The choice changes by the searches of an iteration alone; if all captures come, these go to its end.
+        // The choice changes only by the searches of an iteration; if all captures come, these go to its end.
         ensures searches { ChoiceCatchesOn (search_of input.entry) self.old self.new }
         ensures to_end { IfOk result (λ all.
             ChoiceCatchesToEnd (search_of input.entry) (map row_of all.items) self.old self.new) }

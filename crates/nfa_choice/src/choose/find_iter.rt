@@ -8,14 +8,14 @@ use std::alloc::Global;
 
 /// The matches of an input that do not overlap, from left to right: what [`Choice::find_iter`] gives.
 ///
-/// They are at most as many as the span has bytes and one more. It ends for good after the last one.
+/// They are at most as many as the span has bytes and one more. It is fused: it ends after the last one.
 #[derive(Debug, Drop)]
 pub struct ChoiceMatches<'c, 'h> {
     choice: &'c mut Choice,
     steps: Steps<'h, ByRule>,
 }
 
-// Each search of an iteration takes the engine that suits; the choice is lent.
+// Each search of an iteration takes the engine that suits, and borrows the choice.
 #[derive(Debug, Drop)]
 struct ByRule;
 
@@ -51,7 +51,7 @@ impl Choice {
             (search_of input.entry) choice_finds_next result }
         ensures next { MatchesNext self.entry.now.nfa (kind_in self.entry.now)
             (search_of input.entry) choice_finds_next result }
-        // The choice changes by the searches of the steps alone.
+        // The choice changes only by the searches of the steps.
         ensures searches { ChoiceFindsBySearches (search_of input.entry) result }
         ensures keeps { ChoiceGivesKept result }
     {
@@ -75,7 +75,7 @@ impl Choice {
         ensures apart { IfOk result (λ found. AreApart (search_of input.entry) None (map found_of found.items)) }
         ensures inside { IfOk result (λ found. All (λ m. IsInside (search_of input.entry) (found_of m)) found.items) }
         ensures keeps { KeepsEngines self.old self.new }
-        // The choice changes by the searches of an iteration alone; if all matches come, these go to its end.
+        // The choice changes only by the searches of an iteration; if all matches come, these go to its end.
         ensures searches { ChoiceFindsOn (search_of input.entry) self.old self.new }
         ensures to_end { IfOk result (λ found.
             ChoiceFindsToEnd (search_of input.entry) (map found_of found.items) self.old self.new) }

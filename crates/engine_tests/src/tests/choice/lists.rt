@@ -1,5 +1,5 @@
 //! All matches, all captures and the set of patterns of a `Choice`, next to those of the two engines over the same NFA.
-//! What owns an engine lends it to what asks it.
+//! The functions that own an engine let others borrow it.
 
 ghost use Rattle.nfa_engines.specs.Engines.{Fits};
 
