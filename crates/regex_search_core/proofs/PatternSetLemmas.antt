@@ -47,7 +47,7 @@ places_from_contain n (false ∷ bs) (suc i) h =
     let same : n + 1 + i ≡ n + suc i = omega arith in
     subst (Contains (places_from (n + 1) bs)) same (places_from_contain (n + 1) bs i h)
 
--- a number is one of the patterns just where its place holds true
+-- a number is one of the patterns exactly if its index holds true
 pub patterns_of_contain : (which : List Bool) (p : ℕ)
     → Contains (patterns_of which) p ↔ (slice_index_or which p false ≡ true)
 patterns_of_contain which p = (
@@ -75,5 +75,5 @@ places_from_rise n (false ∷ bs) = places_from_rise (n + 1) bs
 pub patterns_of_rise : (which : List Bool) → IsStrictlyIncreasing (patterns_of which)
 patterns_of_rise which = places_from_rise 0 which
 
--- what the patterns of a set are: rising, and just those that it holds
+-- the patterns of a set ascend, and are exactly those that the set holds
 pub ruleset patterns_in_set = (patterns_of_rise, patterns_of_contain)

@@ -5,46 +5,46 @@ use Rattle.regex_search_core.specs.Found.{Found}
 use Rattle.regex_search_core.specs.Groups.{group_count, slot_at, group_named}
 use Rattle.regex_search_core.specs.declared.search.Span.{Span}
 
--- what a search found: the groups, the pattern if one matched, and the slots
+-- the result of a search: the groups, the pattern if one matched, and the slots
 pub record Captured : Type 0 where
   pub groups : List (List (Option (List ℕ)))
   pub pattern : Option ℕ
   pub slots : List (Option ℕ)
 
--- the offset in the slot, where there is one
+-- the offset in the slot, if the slot exists and is set
 abbrev pub offset_at : List (Option ℕ) → ℕ → Option ℕ
 offset_at slots slot = option_and_then (λ offset. offset) (slice_get slots slot)
 
--- the span from one slot to the next, where neither is empty and they are in order
+-- the span from this slot to the next one, if both are set and in order
 abbrev pub span_at : List (Option ℕ) → ℕ → Option Span
 span_at slots slot =
     option_and_then (λ start. option_and_then
     (λ end. if nat_le start end then Some (record { start = start; end = end }) else None)
     (offset_at slots (slot + 1))) (offset_at slots slot)
 
--- the match of the pattern: the span at its two slots, where there is one
+-- the match of the pattern: the span at its two slots, if there is one
 abbrev pub match_of : Option ℕ → List (Option ℕ) → Option Found
 match_of pattern slots =
     option_and_then (λ p. option_map (λ (s : Span). record { pattern = p; start = s.start; end = s.end })
     (span_at slots (2 * p))) pattern
 
--- the span at the two slots of the group of the pattern that is set, where there is one
+-- the span at the two slots of this group of the pattern that is set, if there is one
 abbrev pub group_span : Captured → ℕ → Option Span
 group_span captures group =
     option_and_then (λ pattern. option_and_then (λ slot. span_at captures.slots slot)
     (slot_at captures.groups pattern group)) captures.pattern
 
--- the same of its first group of this name
+-- the span of the first group of this name of the pattern that is set
 abbrev pub named_span : Captured → List ℕ → Option Span
 named_span captures name =
     option_and_then (λ pattern. option_and_then (λ group. group_span captures group)
     (group_named captures.groups pattern name)) captures.pattern
 
--- how many groups the pattern has that is set, group 0 among them
+-- the number of groups of the pattern that is set, including group 0
 abbrev pub captured_count : Captured → ℕ
 captured_count captures = option_map_or (group_count captures.groups) captures.pattern 0
 
--- the spans of n groups, from one group on
+-- the spans of n groups, beginning with this group
 abbrev pub spans_from : Captured → ℕ → ℕ → List (Option Span)
 spans_from captures group zero = []
 spans_from captures group (suc n) = group_span captures group ∷ spans_from captures (group + 1) n
@@ -53,7 +53,7 @@ spans_from captures group (suc n) = group_span captures group ∷ spans_from cap
 abbrev pub group_spans : Captured → List (Option Span)
 group_spans captures = spans_from captures 0 (captured_count captures)
 
--- the bytes of the haystack at the span of the group, where there is one and it ends within the haystack
+-- the bytes of the haystack at the span of the group, if there is one and it ends within the haystack
 abbrev pub text_of_group : Captured → List ℕ → ℕ → Option (List ℕ)
 text_of_group captures haystack group =
     option_and_then (λ (s : Span).

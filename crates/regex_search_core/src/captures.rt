@@ -16,9 +16,9 @@ pub use groups::CapturesPatternIter;
 use std::alloc::Global;
 use std::marker::Model;
 
-/// What a search found: the pattern that matched, if any, and the slots of the groups.
+/// The pattern that a search matched, if any, and the slots of its groups.
 ///
-/// A slot holds the byte offset of an edge of a group, or nothing where the group took no part. A
+/// A slot holds the byte offset of the start or the end of a group, or `None` if the group did not take part. A
 /// contract sees the groups, the pattern's number and the slots.
 #[derive(Debug, Drop)]
 pub struct Captures {
@@ -45,7 +45,7 @@ impl Captures {
     ghost use Rattle.regex_search_core.specs.CapturesLends.{LendsSlots};
     ghost use Rattle.regex_search_core.specs.Found.{found_of};
 
-    /// Captures with a slot for each edge of each group, all unset, and no pattern.
+    /// Makes captures with two slots for each group of each pattern, all unset, and no pattern.
     pub fn all(alloc: Global, group_info: GroupInfo) -> Result<Captures, Refused>
         ensures { IfOk result (λ made. made ≡ record {
           groups = group_info;
@@ -61,7 +61,7 @@ impl Captures {
         })
     }
 
-    /// Captures with a slot for each edge of each pattern's group 0 alone, all unset, and no pattern.
+    /// Makes captures with two slots for each pattern, those of group 0, all unset, and no pattern.
     pub fn matches(alloc: Global, group_info: GroupInfo) -> Result<Captures, Refused>
         ensures { IfOk result (λ made. made ≡ record {
           groups = group_info;
@@ -77,7 +77,7 @@ impl Captures {
         })
     }
 
-    /// Captures with no slot, and no pattern. To make them takes no memory, so this is always `Ok`.
+    /// Makes captures without slots and without a pattern. It allocates nothing, so it always returns `Ok`.
     pub fn empty(alloc: Global, group_info: GroupInfo) -> Result<Captures, Refused>
         ensures { result ≡ Ok (record { groups = group_info; pattern = None; slots = [] }) }
     {
@@ -95,7 +95,7 @@ impl Captures {
         &self.group_info
     }
 
-    /// Returns the pattern that matched.
+    /// Returns the pattern that matched. `None` if no pattern is set.
     pub fn pattern(&self) -> Option<PatternID>
         ensures { option_map number_of result ≡ self.now.pattern }
     {
@@ -109,15 +109,15 @@ impl Captures {
         self.pattern = pattern;
     }
 
-    /// Returns the slots. Pattern `p` itself has the slots `2 * p` and `2 * p + 1`; `GroupInfo::slot` says where the
-    /// other groups lie.
+    /// Returns the slots. Group 0 of pattern `p` has the slots `2 * p` and `2 * p + 1`. `GroupInfo::slot` returns the
+    /// slots of the other groups.
     pub fn slots(&self) -> &[Option<NonMaxUsize>]
         ensures { result.now ≡ self.now.slots }
     {
         &self.slots
     }
 
-    /// Returns the slots, to be written. Their number stays, and so does the rest of the captures.
+    /// Returns the slots for writing. Their number and everything else in the captures stay as they are.
     pub fn slots_mut(&mut self) -> &mut [Option<NonMaxUsize>]
         ensures* writes_back { sem 𝓛 (LendsSlots self.entry result) }
         ensures value { result.now ≡ self.old.slots }
@@ -125,22 +125,22 @@ impl Captures {
         &mut self.slots
     }
 
-    /// Returns whether there is a match: a pattern is set.
+    /// Returns whether there is a match, that is, whether a pattern is set.
     pub fn is_match(&self) -> bool
         ensures { IsTrue result ↔ IsSome self.now.pattern }
     {
         self.pattern.is_some()
     }
 
-    /// The match of the pattern that is set, as [`Match::from_slots`] reads it off the slots.
+    /// Returns the match of the pattern that is set, read from the slots as [`Match::from_slots`] does.
     pub fn get_match(&self) -> Option<Match>
         ensures { option_map found_of result ≡ match_of self.now.pattern self.now.slots }
     {
         Match::from_slots(self.pattern?, &self.slots)
     }
 
-    /// Where the group of the pattern that is set took part, by the rule of [`Match::from_slots`] at the
-    /// group's two slots. `None` also where no pattern is set or it has no such group.
+    /// Returns the span of this group of the pattern that is set, by the rule of [`Match::from_slots`] at the group's
+    /// two slots. `None` also if no pattern is set, or if the pattern has no such group.
     pub fn get_group(&self, index: usize) -> Option<Span>
         ensures { result ≡ group_span self.now index }
     {
@@ -148,7 +148,7 @@ impl Captures {
         span_in(&self.slots, slot)
     }
 
-    /// Where the first group of this name took part, as [`Captures::get_group`] says.
+    /// Returns the span of the first group of this name, as [`Captures::get_group`] does.
     pub fn get_group_by_name(&self, name: &str) -> Option<Span>
         ensures { result ≡ named_span self.now name.now }
     {
@@ -156,8 +156,8 @@ impl Captures {
         self.get_group(index)
     }
 
-    /// Returns the bytes of the haystack where the group took part, as [`Captures::get_group`] says. `None` also if the
-    /// haystack is shorter than the end of the group: the captures then are of another haystack.
+    /// Returns the bytes of the haystack that the group matched, by the rule of [`Captures::get_group`]. `None` also if
+    /// the group ends after the end of the haystack. The captures are then those of another haystack.
     pub fn group_text<'h>(&self, haystack: &'h [u8], index: usize) -> Option<&'h [u8]>
         ensures { option_map (λ text. text.now) result ≡ text_of_group self.now haystack.now index }
     {
@@ -168,8 +168,8 @@ impl Captures {
         Some(&haystack[span.start..span.end])
     }
 
-    /// Returns the number of groups of the pattern that is set, group 0 among them. It is 0 if no pattern is set, or one
-    /// that is unknown to the groups.
+    /// Returns the number of groups of the pattern that is set, including group 0. It is 0 if no pattern is set or if
+    /// `GroupInfo` does not know the pattern.
     pub fn group_len(&self) -> usize
         ensures { result ≡ captured_count self.now }
     {
@@ -179,7 +179,7 @@ impl Captures {
         }
     }
 
-    /// Makes the captures show no match: no pattern, and no slot set. The groups and the number of slots stay.
+    /// Unsets the pattern and all slots, so that there is no match. The groups and the number of slots stay.
     pub fn clear(&mut self)
         ensures { self.new ≡ record self.old { pattern = None; slots = replicate (length self.old.slots) None } }
     {

@@ -8,15 +8,15 @@ use crate::primitives::PatternID;
 use crate::refused::Refused;
 use std::marker::Model;
 
-/// The greatest number of slots, as in regex-automata.
+/// The maximum number of slots, as in regex-automata.
 const MAX_SLOTS: usize = 2147483646;
 
-/// The groups of each pattern, and where their slots lie.
+/// The groups of each pattern, and their slots.
 ///
-/// Each pattern has group 0, the match itself, and its explicit groups 1, 2, .., some with a name.
-/// A group has two slots, one for the byte offset where it starts and one for where it ends. The
-/// slots of the groups 0 come first, pattern by pattern; then those of the explicit groups, pattern
-/// by pattern and in order. There are at most 2147483646 slots.
+/// Each pattern has group 0, which is the match itself, and explicit groups 1, 2, .., some of them with a name. A group
+/// has two slots, one for the byte offset of its start and one for that of its end. The slots of all groups 0 come
+/// first, in the order of the patterns. The slots of the explicit groups follow, pattern by pattern and in order. There
+/// are at most 2147483646 slots.
 ///
 /// A contract sees, for each pattern, the names of its explicit groups as bytes.
 #[derive(Debug, Drop)]
@@ -37,8 +37,8 @@ impl Model for GroupInfo {
 }
 
 impl GroupInfo {
-    /// Groups of these names: for each pattern its explicit groups, each with its name if it has one.
-    /// `None` if they have more than 2147483646 slots.
+    /// Makes the groups of these patterns. Each pattern is the list of its explicit groups, each with its name if it
+    /// has one. `None` if they have more than 2147483646 slots.
     pub fn new(names: Vec<Vec<Option<String>>>) -> Option<GroupInfo>
         ensures { SomeIff result (slot_count (names_of names.items) ≤ 2147483646) (names_of names.items) }
     {
@@ -61,7 +61,7 @@ impl GroupInfo {
         self.names.len() * 2
     }
 
-    /// Returns the number of slots of all groups: two for each.
+    /// Returns the number of slots of all groups: two for each group.
     pub fn slot_len(&self) -> usize
         ensures value { result ≡ slot_count self.now }
         ensures within { result ≤ 2147483646 }
@@ -69,8 +69,8 @@ impl GroupInfo {
         self.slot_len
     }
 
-    /// The slot of where the pattern's group starts; the slot after it is of where the group ends.
-    /// `None` for an unknown pattern or group.
+    /// Returns the slot of the start of this group of the pattern. The slot of its end is the next one. `None` for an
+    /// unknown pattern or group.
     pub fn slot(&self, pattern: PatternID, group: usize) -> Option<usize>
         ensures value { result ≡ slot_at self.now (number_of pattern) group }
         ensures within { IfSome result (λ slot. slot + 1 < slot_count self.now) }
@@ -88,7 +88,7 @@ impl GroupInfo {
         Some(explicit_start(&self.names, index) + (group - 1) * 2)
     }
 
-    /// Returns the number of groups of the pattern, group 0 among them. It is 0 for an unknown pattern.
+    /// Returns the number of groups of the pattern, including group 0. It is 0 for an unknown pattern.
     #[tactic(auto, using(crate::proofs::GroupLemmas::slots_before))]
     pub fn group_len(&self, pattern: PatternID) -> usize
         ensures value { result ≡ group_count self.now (number_of pattern) }
@@ -117,8 +117,8 @@ impl GroupInfo {
         Some((explicit_start(&self.names, index), self.names[index].len()))
     }
 
-    /// Returns the first group of this name of the pattern. `None` for an unknown pattern, or where no group has the
-    /// name. Explicit groups count from 1, since group 0 has no name here.
+    /// Returns the number of the pattern's first group of this name. `None` if the pattern is unknown or if no group
+    /// has the name. Explicit groups count from 1, since group 0 has no name here.
     pub fn to_index(&self, pattern: PatternID, name: &str) -> Option<usize>
         ensures { result ≡ group_named self.now (number_of pattern) name.now }
     {
@@ -137,7 +137,7 @@ impl GroupInfo {
     }
 }
 
-/// The first place of a group of this name.
+/// The index of the first group of this name.
 fn place_named(groups: &[Option<String>], name: &str) -> Option<usize>
     ensures { result ≡ position (is_named name.now) (map (option_map string_bytes) groups.now) }
 {
@@ -154,7 +154,7 @@ fn is_named(group: &Option<String>, name: &str) -> bool
     }
 }
 
-/// Where the slots of the pattern's explicit groups begin.
+/// The first slot of the pattern's explicit groups.
 #[tactic(auto, using(crate::proofs::GroupLemmas::slots_before))]
 fn explicit_start(names: &[Vec<Option<String>>], index: usize) -> usize
     requires inside { index < length names.now }
@@ -169,7 +169,7 @@ fn explicit_start(names: &[Vec<Option<String>>], index: usize) -> usize
     slot
 }
 
-/// How many slots the groups of these names have. `None` above 2147483646.
+/// The number of slots of the groups of these names. `None` above 2147483646.
 fn count_slots(names: &[Vec<Option<String>>]) -> Option<usize>
     ensures { SomeIff result (slot_count (names_of names.now) ≤ 2147483646) (slot_count (names_of names.now)) }
 {

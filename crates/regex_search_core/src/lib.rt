@@ -1,9 +1,9 @@
-//! The values that every engine speaks of: what a search is asked ([`Input`]), what it answers ([`Match`],
-//! [`Captures`], [`PatternSet`]), and the numbers in both.
+//! The types that every engine uses: the input of a search ([`Input`]), its results ([`Match`], [`Captures`],
+//! [`PatternSet`]), and the numbers in both.
 //!
-//! Take them from here, or from `nfa_engines`, which hands them on; a library that only passes them along needs no
-//! engine. All positions are byte offsets. What allocates takes the allocator and answers [`Refused`] where a growth
-//! was refused.
+//! They are also re-exported by `nfa_engines`. A library that only passes them along needs no engine, so it can take
+//! them from here. All positions are byte offsets. A function that allocates takes the allocator, and returns
+//! [`Refused`] if an allocation failed.
 //!
 //! ```
 //! let input = Input::new(b"ab, abb").range(4..7).anchored(Anchored::Yes);

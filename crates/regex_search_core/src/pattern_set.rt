@@ -8,7 +8,7 @@ use crate::refused::Refused;
 use std::alloc::Global;
 use std::marker::Model;
 
-/// A set of patterns, each of a number below the set's capacity, which is fixed when it is made.
+/// A set of patterns whose numbers are below the set's capacity. The capacity is fixed when the set is made.
 ///
 /// A contract sees, for each number below the capacity, whether that pattern is in the set.
 #[derive(Debug, Drop)]
@@ -42,8 +42,8 @@ impl PatternSet {
         Ok(PatternSet { which, len: 0 })
     }
 
-    /// Adds the pattern, and returns whether it is new. `None`, and nothing is added, where the pattern is not below
-    /// the capacity.
+    /// Adds the pattern, and returns whether it is new. `None` if the pattern is not below the capacity; the set then
+    /// stays as it was.
     pub fn try_insert(&mut self, pattern: PatternID) -> Option<bool>
         ensures answer { result ≡ (if nat_lt (number_of pattern) (length self.old)
             then Some (not (slice_index_or self.old (number_of pattern) false)) else None) }
@@ -63,7 +63,7 @@ impl PatternSet {
 
     /// Adds the pattern, and returns whether it is new.
     ///
-    /// Requires that the pattern is below the capacity. [`PatternSet::try_insert`] tests that.
+    /// Requires that the pattern is below the capacity. [`PatternSet::try_insert`] checks that.
     pub fn insert(&mut self, pattern: PatternID) -> bool
         requires { number_of pattern < length self.old }
         ensures answer { result ≡ not (slice_index_or self.old (number_of pattern) false) }
@@ -75,7 +75,7 @@ impl PatternSet {
         }
     }
 
-    /// Takes the pattern out, and returns whether it was in the set. Any pattern may be passed.
+    /// Removes the pattern, and returns whether it was in the set. Any pattern may be passed.
     pub fn remove(&mut self, pattern: PatternID) -> bool
         ensures answer { result ≡ slice_index_or self.old (number_of pattern) false }
         ensures after { self.new ≡ without_pattern self.old (number_of pattern) }
@@ -88,7 +88,7 @@ impl PatternSet {
         true
     }
 
-    /// Takes all patterns out. The capacity stays.
+    /// Removes all patterns. The capacity stays.
     pub fn clear(&mut self)
         ensures { self.new ≡ replicate (length self.old) false }
     {
@@ -111,7 +111,7 @@ impl PatternSet {
         self.len
     }
 
-    /// Returns the capacity: each pattern in the set is below this number.
+    /// Returns the capacity. Each pattern in the set is below this number.
     pub fn capacity(&self) -> usize
         ensures { result ≡ length self.now }
     {
@@ -146,9 +146,9 @@ impl PatternSet {
     }
 }
 
-/// The patterns of a set that are still to come, from the least number on.
+/// An iterator over the patterns of a set, in ascending order.
 ///
-/// A contract sees their numbers as `patterns_left`.
+/// A contract sees the numbers of the patterns still to come as `patterns_left`.
 #[derive(Debug, Drop)]
 pub struct PatternSetIter<'a> {
     which: &'a [bool],

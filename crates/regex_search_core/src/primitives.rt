@@ -1,10 +1,10 @@
-//! Numbers of patterns and of states, and offsets.
+//! Numbers of patterns and states, and byte offsets.
 ghost use Rattle.std.specs.Prelude.{◌≡◌, ℕ, ◌<◌, ◌≤◌};
 ghost use Rattle.std.specs.Option.{SomeIff};
 
 use std::marker::Model;
 
-/// The greatest number of a pattern or a state: two less than 2 ^ 31, as in regex-automata.
+/// The maximum number of a pattern or a state: two less than 2 ^ 31, as in regex-automata.
 const MAX_INDEX: usize = 2147483646;
 
 /// The number of a pattern, at most 2147483646. Patterns count from 0.
@@ -20,7 +20,7 @@ impl PatternID {
     ghost use Rattle.std.specs.Prelude.{option_map};
     ghost use Rattle.regex_search_core.specs.Patterns.{number_of};
 
-    /// Makes the pattern of this number. `None` above 2147483646.
+    /// Makes the pattern of this number. `None` if the number is above 2147483646.
     pub fn new(index: usize) -> Option<PatternID>
         ensures { SomeIff (option_map number_of result) (index ≤ 2147483646) index }
     {
@@ -43,7 +43,7 @@ impl PatternID {
 
 /// The number of a state of an NFA, at most 2147483646. States count from 0.
 ///
-/// A contract sees it as that number.
+/// A contract sees it as its number.
 #[derive(Clone, Copy, Debug, PartialEq, Eq, PartialOrd, Ord, Hash)]
 pub struct StateID(u32);
 
@@ -58,7 +58,7 @@ impl Model for StateID {
 }
 
 impl StateID {
-    /// Returns the state of this number. `None` above 2147483646.
+    /// Makes the state of this number. `None` if the number is above 2147483646.
     pub fn new(index: usize) -> Option<StateID>
         ensures { SomeIff result (index ≤ 2147483646) index }
     {
@@ -77,9 +77,9 @@ impl StateID {
     }
 }
 
-/// A byte offset that is not the greatest `usize`, as a slot holds it.
+/// A byte offset below `usize::MAX`, as a slot holds it.
 ///
-/// A contract sees it as that number.
+/// A contract sees it as its number.
 #[derive(Clone, Copy, Debug, PartialEq, Eq, PartialOrd, Ord, Hash)]
 pub struct NonMaxUsize(usize);
 
@@ -96,7 +96,7 @@ impl Model for NonMaxUsize {
 }
 
 impl NonMaxUsize {
-    /// Makes this offset. `None` for the greatest `usize`.
+    /// Makes this offset. `None` for `usize::MAX`.
     pub fn new(value: usize) -> Option<NonMaxUsize>
         ensures { SomeIff result (value < usize.MAX) value }
     {

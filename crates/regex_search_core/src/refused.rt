@@ -1,8 +1,8 @@
-//! That memory was refused.
+//! The error of a failed allocation.
 use std::alloc::{AllocError, AllocFailed};
 use thiserror::Error;
 
-/// A growth was refused: the allocator had no memory for it.
+/// An allocation failed: the allocator had no memory for it.
 #[derive(Clone, Copy, Debug, PartialEq, Eq, Hash, Error)]
 #[error("out of memory")]
 pub struct Refused;

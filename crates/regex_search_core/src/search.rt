@@ -1,4 +1,4 @@
-//! What a search is asked, and what it answers.
+//! The input of a search, and its matches.
 ghost use Rattle.std.specs.Prelude.{◌≡◌, ◌+◌, ◌-◌, ◌<◌, ◌≤◌, ◌↔◌, ◌^◌, length, IsTrue, false, option_map};
 ghost use Rattle.regex_search_core.specs.Boundary.{IsBoundary};
 
@@ -7,7 +7,7 @@ use crate::slots::span_in;
 use std::ops::Range;
 use thiserror::Error;
 
-/// The bytes from offset `start` up to, and not including, offset `end`.
+/// The bytes from offset `start` up to, but not including, offset `end`.
 #[derive(Clone, Copy, Debug, PartialEq, Eq, Hash)]
 pub struct Span {
     pub start: usize,
@@ -15,14 +15,14 @@ pub struct Span {
 }
 
 impl Span {
-    /// How many bytes it has: `end - start`, and 0 where `end` is before `start`.
+    /// Returns the number of bytes in the span: `end - start`, or 0 if `end` is less than `start`.
     pub fn len(&self) -> usize
         ensures { result ≡ self.now.end - self.now.start }
     {
         self.end.saturating_sub(self.start)
     }
 
-    /// Returns whether it has no byte: `end` is at or before `start`.
+    /// Returns whether the span has no bytes: `end` is at most `start`.
     pub fn is_empty(&self) -> bool
         ensures { IsTrue result ↔ (self.now.end ≤ self.now.start) }
     {
@@ -36,9 +36,9 @@ impl Span {
         self.start..self.end
     }
 
-    /// Returns the span that is this many bytes further to the right.
+    /// Returns the span moved to the right by this number of bytes.
     ///
-    /// Requires that both offsets are still a `usize` there.
+    /// Requires that both of its offsets still fit into a `usize`.
     pub fn offset(&self, offset: usize) -> Span
         requires start { self.now.start + offset < 2 ^ 64 }
         requires end { self.now.end + offset < 2 ^ 64 }
@@ -51,14 +51,14 @@ impl Span {
     }
 }
 
-/// Where a match may start, and of which pattern it may be.
+/// Where a match may start, and which pattern may match.
 #[derive(Clone, Copy, Debug, PartialEq, Eq, Hash)]
 pub enum Anchored {
-    /// Anywhere in the span, any pattern.
+    /// Anywhere in the span, for any pattern.
     No,
-    /// At the span's start alone, any pattern.
+    /// Only at the start of the span, for any pattern.
     Yes,
-    /// At the span's start alone, this pattern alone.
+    /// Only at the start of the span, and only for this pattern.
     Pattern(PatternID),
 }
 
@@ -66,7 +66,7 @@ impl Anchored {
     ghost use Rattle.regex_search_core.specs.Patterns.{number_of};
     ghost use Rattle.regex_search_core.specs.Search.{anchored_pattern, is_anchored};
 
-    /// Returns whether matches are bound to the start of the span: true but for `No`.
+    /// Returns whether a match may only start at the start of the span: true for `Yes` and `Pattern`.
     pub fn is_anchored(&self) -> bool
         ensures { result ≡ is_anchored self.now }
     {
@@ -84,17 +84,17 @@ impl Anchored {
     }
 }
 
-/// Which of the matches that begin at one place is answered.
+/// Which of the matches that begin at one position a search returns.
 #[derive(Clone, Copy, Debug, PartialEq, Eq, Hash)]
 pub enum MatchKind {
     /// Each of them counts, whatever was found before.
     All,
-    /// The one that comes first in the order of preference.
+    /// Only the first in the order of preference.
     LeftmostFirst,
 }
 
 impl MatchKind {
-    /// Returns whether a search continues past the first match that it meets: true for `All` only.
+    /// Returns whether a search continues past the first match that it finds: true for `All` only.
     pub fn continue_past_first_match(&self) -> bool
         ensures { IsTrue result ↔ (self.now ≡ MatchKind.All) }
     {
@@ -102,11 +102,11 @@ impl MatchKind {
     }
 }
 
-/// What a search is asked: a haystack, the span of it that is searched, where a match may start,
-/// and whether the search may stop at the earliest match.
+/// The parameters of a search: a haystack, the span to search, where a match may start, and whether the search may stop
+/// at the earliest match.
 ///
-/// The span ends within the haystack and starts at most one past its end. Look-around sees the
-/// whole haystack. A contract sees an input as `search_of`.
+/// The span ends within the haystack, and starts at most one past its own end. Look-around sees the whole haystack. A
+/// contract sees an input as `search_of`.
 #[derive(Clone, Copy, Debug)]
 pub struct Input<'h> {
     haystack: &'h [u8],
@@ -123,7 +123,7 @@ pub struct Input<'h> {
 impl<'h> Input<'h> {
     ghost use Rattle.regex_search_core.specs.Search.{search_of, whole};
 
-    /// Makes a search of the whole haystack, not anchored and not `earliest`.
+    /// Makes an input that searches the whole haystack, not anchored and not `earliest`.
     pub fn new(haystack: &'h [u8]) -> Input<'h>
         ensures { search_of result ≡ whole haystack.now }
     {
@@ -138,8 +138,8 @@ impl<'h> Input<'h> {
         }
     }
 
-    /// Returns the same search over this span. The caller owes that it ends within the haystack and starts at most one
-    /// past its end.
+    /// Returns the same input with this span. Requires that the span ends within the haystack and starts at most one
+    /// past its own end.
     pub fn span(mut self, span: Span) -> Input<'h>
         requires within { span.end ≤ length (search_of self).haystack }
         requires ordered { span.start ≤ span.end + 1 }
@@ -149,7 +149,7 @@ impl<'h> Input<'h> {
         self
     }
 
-    /// Returns the same search over the span of this range, under the conditions of [`Input::span`].
+    /// Returns the same input with the span of this range. Requires the same as [`Input::span`].
     pub fn range(mut self, range: Range<usize>) -> Input<'h>
         requires within { range.end ≤ length (search_of self).haystack }
         requires ordered { range.start ≤ range.end + 1 }
@@ -159,7 +159,7 @@ impl<'h> Input<'h> {
         self
     }
 
-    /// Returns the same search with matches bound as `mode` says.
+    /// Returns the same input with this anchoring.
     pub fn anchored(mut self, mode: Anchored) -> Input<'h>
         ensures { search_of result ≡ record (search_of self.entry) { anchored = mode } }
     {
@@ -167,7 +167,7 @@ impl<'h> Input<'h> {
         self
     }
 
-    /// Returns the same search, which may (`true`) or may not stop at the earliest match.
+    /// Returns the same input with a search that may stop at the earliest match (`true`) or may not (`false`).
     pub fn earliest(mut self, yes: bool) -> Input<'h>
         ensures { search_of result ≡ record (search_of self.entry) { earliest = yes } }
     {
@@ -175,7 +175,7 @@ impl<'h> Input<'h> {
         self
     }
 
-    /// Changes the span, under the conditions of [`Input::span`].
+    /// Sets the span. Requires the same as [`Input::span`].
     pub fn set_span(&mut self, span: Span)
         requires within { span.end ≤ length (search_of self.old).haystack }
         requires ordered { span.start ≤ span.end + 1 }
@@ -184,7 +184,7 @@ impl<'h> Input<'h> {
         self.span = span;
     }
 
-    /// Changes the span to that of this range, under the conditions of [`Input::span`].
+    /// Sets the span to that of this range. Requires the same as [`Input::span`].
     pub fn set_range(&mut self, range: Range<usize>)
         requires within { range.end ≤ length (search_of self.old).haystack }
         requires ordered { range.start ≤ range.end + 1 }
@@ -196,21 +196,21 @@ impl<'h> Input<'h> {
         });
     }
 
-    /// Changes where a match may start, and of which pattern it may be.
+    /// Sets where a match may start, and which pattern may match.
     pub fn set_anchored(&mut self, mode: Anchored)
         ensures { search_of self.new ≡ record (search_of self.old) { anchored = mode } }
     {
         self.anchored = mode;
     }
 
-    /// Changes whether the search may (`true`) or may not stop at the earliest match.
+    /// Sets whether the search may stop at the earliest match (`true`) or may not (`false`).
     pub fn set_earliest(&mut self, yes: bool)
         ensures { search_of self.new ≡ record (search_of self.old) { earliest = yes } }
     {
         self.earliest = yes;
     }
 
-    /// Moves the start of the span. The caller owes that it is at most one past the span's end.
+    /// Sets the start of the span, a byte offset. Requires that it is at most one past the span's end.
     pub fn set_start(&mut self, start: usize)
         requires { start ≤ (search_of self.old).end + 1 }
         ensures { search_of self.new ≡ record (search_of self.old) { start = start } }
@@ -218,7 +218,8 @@ impl<'h> Input<'h> {
         self.span.start = start;
     }
 
-    /// Moves the end of the span. The caller owes that it is within the haystack and at least the start less one.
+    /// Sets the end of the span, a byte offset. Requires that it is within the haystack and at least the span's start
+    /// less one.
     pub fn set_end(&mut self, end: usize)
         requires within { end ≤ length (search_of self.old).haystack }
         requires ordered { (search_of self.old).start ≤ end + 1 }
@@ -227,28 +228,28 @@ impl<'h> Input<'h> {
         self.span.end = end;
     }
 
-    /// Returns the haystack: the bytes of the span, and those around it.
+    /// Returns the whole haystack, including the bytes outside the span.
     pub fn haystack(&self) -> &'h [u8]
         ensures { result.now ≡ (search_of self.now).haystack }
     {
         self.haystack
     }
 
-    /// Returns the start of the span, an offset in bytes.
+    /// Returns the start of the span, a byte offset into the haystack.
     pub fn start(&self) -> usize
         ensures { result ≡ (search_of self.now).start }
     {
         self.span.start
     }
 
-    /// Returns the end of the span, an offset in bytes.
+    /// Returns the end of the span, a byte offset into the haystack.
     pub fn end(&self) -> usize
         ensures value { result ≡ (search_of self.now).end }
     {
         self.span.end
     }
 
-    /// Returns the span that is searched.
+    /// Returns the span to search.
     pub fn get_span(&self) -> Span
         ensures start { result.start ≡ (search_of self.now).start }
         ensures end { result.end ≡ (search_of self.now).end }
@@ -256,14 +257,14 @@ impl<'h> Input<'h> {
         self.span
     }
 
-    /// Returns the span that is searched, as a range.
+    /// Returns the span to search, as a range.
     pub fn get_range(&self) -> Range<usize>
         ensures { result ≡ record { start = (search_of self.now).start; end = (search_of self.now).end } }
     {
         self.span.range()
     }
 
-    /// Returns where a match may start.
+    /// Returns where a match may start, and which pattern may match.
     pub fn get_anchored(&self) -> Anchored
         ensures { result ≡ (search_of self.now).anchored }
     {
@@ -277,15 +278,15 @@ impl<'h> Input<'h> {
         self.earliest
     }
 
-    /// Returns whether nothing is left to search: the start is past the end.
+    /// Returns whether nothing is left to search: the span's start is greater than its end.
     pub fn is_done(&self) -> bool
         ensures { IsTrue result ↔ ((search_of self.now).end < (search_of self.now).start) }
     {
         self.span.start > self.span.end
     }
 
-    /// Whether the offset may be the edge of a character of UTF-8 (RFC 3629): it is the haystack's
-    /// end, or its byte is no continuation byte, that is, at most 0x7F or at least 0xC0.
+    /// Returns whether the offset does not split a codepoint of UTF-8 (RFC 3629): it is the haystack's length, or its
+    /// byte is not a continuation byte, that is, at most 0x7F or at least 0xC0.
     pub fn is_char_boundary(&self, offset: usize) -> bool
         ensures { IsTrue result ↔ IsBoundary (search_of self.now).haystack offset }
     {
@@ -296,7 +297,7 @@ impl<'h> Input<'h> {
     }
 }
 
-/// A pattern, and the byte offset where a match of it ends.
+/// A pattern, and the byte offset at which a match of it ends.
 ///
 /// A contract sees it as `half_found_of`.
 #[derive(Clone, Copy, Debug, PartialEq, Eq, Hash)]
@@ -323,7 +324,7 @@ impl HalfMatch {
         self.pattern
     }
 
-    /// Returns the end of the match, an offset in bytes.
+    /// Returns the end of the match, a byte offset into the haystack.
     pub fn offset(&self) -> usize
         ensures { result ≡ (half_found_of self.now).offset }
     {
@@ -331,7 +332,7 @@ impl HalfMatch {
     }
 }
 
-/// A pattern, and the span where it matches, which does not end before it starts.
+/// A pattern, and the span of a match of it. The start of the span is at most its end.
 ///
 /// A contract sees it as `found_of`.
 #[derive(Clone, Copy, Debug, PartialEq, Eq, Hash)]
@@ -347,7 +348,7 @@ impl Match {
     ghost use Rattle.regex_search_core.specs.Found.{found_of};
     ghost use Rattle.regex_search_core.specs.Slots.{match_of};
 
-    /// Makes a match of the pattern at the span. The caller owes that the span does not end before it starts.
+    /// Makes a match of the pattern at the span. Requires that the start of the span is at most its end.
     pub fn new(pattern: PatternID, span: Span) -> Match
         requires { span.start ≤ span.end }
         ensures { found_of result ≡ record { pattern = number_of pattern; start = span.start; end = span.end } }
@@ -355,9 +356,9 @@ impl Match {
         Match { pattern, span }
     }
 
-    /// The match that a row of slots gives for the pattern: from the offset in its slot `2 * pattern`
-    /// to the one in the slot after it. `None` where the row lacks one of the two, one is `None`, or
-    /// the first offset is past the second.
+    /// Returns the match of the pattern that a row of slots gives. It starts at the offset in slot `2 * pattern` and
+    /// ends at the offset in the next slot. `None` if the row is too short, if one of the two slots is `None`, or if
+    /// the start is greater than the end.
     pub fn from_slots(pattern: PatternID, slots: &[Option<NonMaxUsize>]) -> Option<Match>
         ensures { option_map found_of result ≡ match_of (Some (number_of pattern)) slots.now }
     {
@@ -379,14 +380,14 @@ impl Match {
         self.span
     }
 
-    /// Returns the start of the match, an offset in bytes.
+    /// Returns the start of the match, a byte offset into the haystack.
     pub fn start(&self) -> usize
         ensures { result ≡ (found_of self.now).start }
     {
         self.span.start
     }
 
-    /// Returns the end of the match, an offset in bytes.
+    /// Returns the end of the match, a byte offset into the haystack.
     pub fn end(&self) -> usize
         ensures { result ≡ (found_of self.now).end }
     {
@@ -401,7 +402,7 @@ impl Match {
         self.span.range()
     }
 
-    /// Returns the number of bytes that match.
+    /// Returns the number of bytes in the match.
     pub fn len(&self) -> usize
         ensures { result ≡ (found_of self.now).end - (found_of self.now).start }
     {
@@ -416,20 +417,19 @@ impl Match {
     }
 }
 
-/// Why a search gave no answer, in the words of regex-automata. A finder that a caller hands in
-/// may fail by it.
+/// Why a search failed, with the variants of regex-automata. A finder that a caller passes in may fail with it.
 #[derive(Clone, Copy, Debug, PartialEq, Eq, Hash, Error)]
 pub enum MatchError {
-    /// The search came to a byte, at this offset, at which it has to stop.
+    /// The search stopped at this byte, which it may not go past, at this offset.
     #[error("the search may not go on at the byte {byte} at offset {offset}")]
     Quit { byte: u8, offset: usize },
-    /// The search stopped at this offset, since going on would not have paid.
+    /// The search gave up at this offset, since going on would have been inefficient.
     #[error("the search gave up at offset {offset}")]
     GaveUp { offset: usize },
-    /// The search does not take a haystack of this many bytes.
+    /// The haystack has this number of bytes, too many for the search.
     #[error("the haystack of {len} bytes is too long to search")]
     HaystackTooLong { len: usize },
-    /// The search does not offer this binding of matches.
+    /// The search does not support this anchoring.
     #[error("the search does not offer matches that are bound by {mode:?}")]
     UnsupportedAnchored { mode: Anchored },
 }

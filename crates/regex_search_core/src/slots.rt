@@ -1,11 +1,11 @@
-//! The match that slots tell of.
+//! The match that a row of slots gives.
 ghost use Rattle.std.specs.Prelude.{◌≡◌, ◌<◌};
 ghost use Rattle.regex_search_core.specs.Slots.{offset_at, span_at};
 
 use crate::primitives::NonMaxUsize;
 use crate::search::Span;
 
-/// The offset in the slot. `None` where there is no such slot, or it is not set.
+/// The offset in the slot. `None` if there is no such slot or if it is not set.
 fn offset_in(slots: &[Option<NonMaxUsize>], slot: usize) -> Option<usize>
     ensures { result ≡ offset_at slots.now slot }
 {
@@ -15,8 +15,7 @@ fn offset_in(slots: &[Option<NonMaxUsize>], slot: usize) -> Option<usize>
     }
 }
 
-/// The span from the offset in the slot to the one in the slot after it, where both are there and
-/// in order.
+/// The span from the offset in this slot to the offset in the next one. `None` unless both are set and in order.
 pub(crate) fn span_in(slots: &[Option<NonMaxUsize>], slot: usize) -> Option<Span>
     requires { slot < usize.MAX }
     ensures { result ≡ span_at slots.now slot }

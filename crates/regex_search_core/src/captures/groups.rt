@@ -7,13 +7,13 @@ use crate::primitives::NonMaxUsize;
 use crate::search::Span;
 use crate::slots::span_in;
 
-/// Where the groups of a pattern took part, in order: what [`Captures::iter`] gives.
+/// An iterator over the spans of the groups of a pattern, in order. [`Captures::iter`] makes it.
 ///
-/// An item is `None` for a group that took no part. A contract sees the items that are still to come as `spans_left`.
+/// An item is `None` for a group that did not take part. A contract sees the items still to come as `spans_left`.
 #[derive(Debug, Drop)]
 pub struct CapturesPatternIter<'a> {
     slots: &'a [Option<NonMaxUsize>],
-    // The slot of the next group, that of the group after it, and the number of groups still to come.
+    // The slot of the next group, the slot of the group after it, and the number of groups still to come.
     next: usize,
     explicit: usize,
     left: usize,
@@ -24,10 +24,10 @@ pub struct CapturesPatternIter<'a> {
 impl Captures {
     ghost use Rattle.regex_search_core.specs.CapturesIters.{spans_at, spans_left};
 
-    /// Returns an iterator over the groups of the pattern that is set, in order, from group 0 on. Each item is where the
-    /// group took part, as [`Captures::get_group`] gives it.
+    /// Returns an iterator over the groups of the pattern that is set, in order, beginning with group 0. Each item is
+    /// the span that [`Captures::get_group`] returns for the group.
     ///
-    /// There are no items if no pattern is set, or one that is unknown to the groups.
+    /// There are no items if no pattern is set or if `GroupInfo` does not know the pattern.
     #[tactic(auto, using(crate::proofs::CapturesLemmas::spans_are_of_groups))]
     pub fn iter(&self) -> CapturesPatternIter<'_>
         ensures all { spans_left result ≡ group_spans self.now }

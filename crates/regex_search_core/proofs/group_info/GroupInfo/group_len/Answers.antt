@@ -1,4 +1,4 @@
--- The groups of a pattern are no more than there are slots for.
+-- A pattern has at most as many groups as there are slots for.
 use Rattle.std.proofs.Common.{◌<◌, length, arith}
 use Rattle.regex_search_core.proofs.GroupLemmas.{group_len, group_room}
 use Rattle.regex_search_core.proofs.group_info.GroupInfo.group_len.Goals as goal

@@ -1,4 +1,4 @@
--- The patterns that are passed over are not in the set.
+-- The patterns that are skipped are not in the set.
 use Rattle.std.proofs.Common.{◌≡◌, ◌-◌, ◌≤◌, length}
 use Rattle.regex_search_core.specs.PatternSetIters.{patterns_left}
 use Rattle.regex_search_core.proofs.pattern_set.PatternSetIterIterator.next.Given as goal
