@@ -7,7 +7,7 @@ use Rattle.thompson_nfa.specs.declared.state.Transition.{Transition}
 use Rattle.thompson_nfa.specs.declared.state.State as code
 use Rattle.thompson_nfa.specs.declared.state.State.TheVariants as variant
 
--- a state, with lists in place of vectors
+-- a state, with lists instead of vectors
 pub data Node : Type 0 where
   ByteRange : (trans : Transition) → Node
   Sparse : (transitions : List Transition) → Node
@@ -19,7 +19,7 @@ pub data Node : Type 0 where
   Fail : Node
   Match : (pattern : ℕ) → Node
 
--- what the state is, with lists in place of vectors and numbers in place of patterns
+-- the state as a value, with lists instead of vectors and numbers instead of patterns
 abbrev pub node_of : code.State → Node
 node_of (variant.ByteRange trans) = ByteRange trans
 node_of (variant.Sparse transitions) = Sparse transitions.items
@@ -31,12 +31,12 @@ node_of (variant.Capture next slot) = Capture next slot
 node_of variant.Fail = Fail
 node_of (variant.Match pattern) = Match (number_of pattern)
 
--- an NFA: its states, where a search starts, and what its patterns and groups are
+-- an NFA as a value: its states, its starts, its patterns and groups, and two flags
 pub record Automaton : Type 0 where
   pub states : List Node
   pub anchored : ℕ
   pub unanchored : ℕ
-  -- where each pattern starts
+  -- the start state of each pattern
   pub patterns : List ℕ
   -- the names of each pattern's explicit groups, or the groups of no pattern
   pub groups : List (List (Option (List ℕ)))
@@ -55,17 +55,17 @@ LeadsBelow n (Capture next slot) = next < n
 LeadsBelow n Fail = ⊤
 LeadsBelow n (Match pattern) = ⊤
 
--- a Capture's slot is below n
+-- if the state is a Capture, its slot is below n
 abbrev pub SlotBelow : ℕ → Node → Type 0
 SlotBelow n (Capture next slot) = slot < n
 SlotBelow n _ = ⊤
 
--- a Match's pattern is below n
+-- if the state is a Match, its pattern is below n
 abbrev pub PatternBelow : ℕ → Node → Type 0
 PatternBelow n (Match pattern) = pattern < n
 PatternBelow n _ = ⊤
 
--- each number names a state
+-- each of these numbers names a state
 pub record AreStatesNumbered (states : List Node) (anchored unanchored : ℕ) (patterns : List ℕ) : Type 0 where
   pub anchored_in : anchored < length states
   pub unanchored_in : unanchored < length states
@@ -76,19 +76,19 @@ pub record AreStatesNumbered (states : List Node) (anchored unanchored : ℕ) (p
 abbrev pub IsNumbered : Automaton → Type 0
 IsNumbered a = AreStatesNumbered a.states a.anchored a.unanchored a.patterns
 
--- each slot is one of the groups'
+-- each Capture writes a slot of the groups
 abbrev pub AreSlotsWithin : Automaton → Type 0
 AreSlotsWithin a = All (SlotBelow (slot_count a.groups)) a.states
 
--- each Match is of a pattern
+-- each Match is of a pattern of the NFA
 abbrev pub ArePatternsWithin : Automaton → Type 0
 ArePatternsWithin a = All (PatternBelow (length a.patterns)) a.states
 
--- the groups are those of the patterns, or of none
+-- the groups are given for each pattern, or for none
 abbrev pub AreGroupsOfPatterns : Automaton → Type 0
 AreGroupsOfPatterns a = (length a.groups ≡ length a.patterns) ⊎ (length a.groups ≡ 0)
 
--- what each NFA keeps
+-- what every NFA keeps
 pub record IsAutomaton (a : Automaton) : Type 0 where
   pub filled : 0 < length a.states
   pub numbered : IsNumbered a

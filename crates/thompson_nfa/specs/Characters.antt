@@ -1,4 +1,4 @@
--- the characters of UTF-8 beside a position (RFC 3629), and which of them are of words
+-- the characters of UTF-8 next to a position (RFC 3629), and which of them are word characters
 use Rattle.std.specs.Prelude.{ℕ, ◌+◌, ◌-◌, Bool, false, ◌||◌, ◌==◌, nat_le, List, [], ◌∷◌, length, Option, Some, None, if◌then◌else◌, slice_range, chars}
 use Rattle.std.specs.Option.{option_or}
 use Rattle.std.specs.Str.{is_utf8}
@@ -6,7 +6,7 @@ use Rattle.unicode.specs.Binary.{is_alphabetic}
 use Rattle.unicode.specs.GeneralCategory.{general_category}
 use Rattle.unicode.specs.Perl.{is_word_category}
 
--- the element of a list of one
+-- the element of a list of one element
 abbrev pub only : {X : Type 0} → List X → Option X
 only (x ∷ []) = Some x
 only _ = None
@@ -40,7 +40,7 @@ char_after haystack at =
 unfoldable pub is_word_char : ℕ → Bool
 is_word_char c = is_alphabetic c || is_word_category (general_category c) || (c == 0x200C || c == 0x200D)
 
--- there is a character, and it is of words
+-- there is a character, and it is a word character
 abbrev pub is_some_word : Option ℕ → Bool
 is_some_word None = false
 is_some_word (Some c) = is_word_char c

@@ -10,7 +10,7 @@ use Rattle.thompson_nfa.specs.declared.flaw.Holder.TheVariants as holder
 use Rattle.thompson_nfa.specs.declared.flaw.Flaw.{Flaw}
 use Rattle.thompson_nfa.specs.declared.flaw.Flaw.TheVariants.{Empty, State, Slot, Pattern, Groups}
 
--- the first place whose element fails; past the last one is x, which passes
+-- the index of the first element that fails; x, which passes, is read past the last element
 abbrev pub IsFirstFailing : {X : Type 0} → (X → Type 0) → X → List X → Option ℕ → Type 0
 IsFirstFailing P x xs None = All P xs
 IsFirstFailing P x xs (Some i) = All P (take i xs) × (¬ P (slice_index_or xs i x))
@@ -20,24 +20,24 @@ abbrev pub slot_of : Node → Option ℕ
 slot_of (Capture next slot) = Some slot
 slot_of _ = None
 
--- the pattern that a Match is of
+-- the pattern that a Match matches
 abbrev pub pattern_of : Node → Option ℕ
 pattern_of (Match pattern) = Some pattern
 pattern_of _ = None
 
--- the first state that writes a slot from n on, and that slot
+-- the first state that writes a slot not below n, and that slot
 abbrev pub NamesFirstSlot : ℕ → List Node → Option (ℕ × ℕ) → Type 0
 NamesFirstSlot n states None = All (SlotBelow n) states
 NamesFirstSlot n states (Some (i, slot)) =
     IsFirstFailing (SlotBelow n) Fail states (Some i) × (slot_of (slice_index_or states i Fail) ≡ Some slot)
 
--- the first state that matches a pattern from n on, and that pattern
+-- the first state that matches a pattern not below n, and that pattern
 abbrev pub NamesFirstPattern : ℕ → List Node → Option (ℕ × ℕ) → Type 0
 NamesFirstPattern n states None = All (PatternBelow n) states
 NamesFirstPattern n states (Some (i, pattern)) =
     IsFirstFailing (PatternBelow n) Fail states (Some i) × (pattern_of (slice_index_or states i Fail) ≡ Some pattern)
 
--- what first has a number that names no state: the starts, those of the patterns, then the states
+-- the first holder of a number that names no state: the two starts, then those of the patterns, then the states
 abbrev pub NamesFirstHolder : List Node → ℕ → ℕ → List ℕ → Option Holder → Type 0
 NamesFirstHolder states anchored unanchored patterns None = AreStatesNumbered states anchored unanchored patterns
 NamesFirstHolder states anchored unanchored patterns (Some holder.Anchored) = ¬ (anchored < length states)
@@ -50,7 +50,7 @@ NamesFirstHolder states anchored unanchored patterns (Some (holder.State i)) =
     (anchored < length states) × (unanchored < length states) × All (λ s. s < length states) patterns
     × IsFirstFailing (LeadsBelow (length states)) Fail states (Some i)
 
--- the first of the tests of an NFA that fails, with what fails it first; none where it is one
+-- the first test of an NFA that fails, and the first place that fails it; none if all tests pass
 abbrev pub IsFirstFlaw : Automaton → Option Flaw → Type 0
 IsFirstFlaw a None = IsAutomaton a
 IsFirstFlaw a (Some Empty) = length a.states ≡ 0

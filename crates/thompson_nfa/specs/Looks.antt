@@ -1,27 +1,27 @@
--- where each assertion holds
+-- the positions at which each assertion holds
 use Rattle.std.specs.Prelude.{ℕ, ◌-◌, Bool, not, ◌&&◌, ◌||◌, ◌==◌, nat_lt, nat_le, List, length, slice_index, if◌then◌else◌, is_some}
 use Rattle.thompson_nfa.specs.Characters.{char_before, char_after, is_some_word}
 use Rattle.thompson_nfa.specs.declared.look.Look.{Look}
 use Rattle.thompson_nfa.specs.declared.look.Look.TheVariants.{Start, End, StartLF, EndLF, StartCRLF, EndCRLF, WordAscii, WordAsciiNegate, WordUnicode, WordUnicodeNegate, WordStartAscii, WordEndAscii, WordStartUnicode, WordEndUnicode, WordStartHalfAscii, WordEndHalfAscii, WordStartHalfUnicode, WordEndHalfUnicode}
 
--- a byte of 0-9, A-Z, `_`, a-z
+-- the byte is 0-9, A-Z, `_` or a-z
 abbrev pub is_word_byte : ℕ → Bool
 is_word_byte b =
     (nat_le 48 b && nat_le b 57) || (nat_le 65 b && nat_le b 90) || (nat_le 97 b && nat_le b 122) || b == 95
 
--- this byte stands just before the position
+-- this byte is just before the position
 abbrev pub is_byte_before : List ℕ → ℕ → ℕ → Bool
 is_byte_before haystack at b = nat_lt 0 at && slice_index haystack (at - 1) == b
 
--- this byte stands at the position
+-- this byte is at the position
 abbrev pub is_byte_at : List ℕ → ℕ → ℕ → Bool
 is_byte_at haystack at b = nat_lt at (length haystack) && slice_index haystack at == b
 
--- a word byte stands just before the position
+-- a word byte is just before the position
 abbrev pub is_word_before : List ℕ → ℕ → Bool
 is_word_before haystack at = nat_lt 0 at && is_word_byte (slice_index haystack (at - 1))
 
--- a word byte stands at the position
+-- a word byte is at the position
 abbrev pub is_word_after : List ℕ → ℕ → Bool
 is_word_after haystack at = nat_lt at (length haystack) && is_word_byte (slice_index haystack at)
 
@@ -33,11 +33,11 @@ is_whole_before haystack at = at == 0 || is_some (char_before haystack at)
 abbrev pub is_whole_after : List ℕ → ℕ → Bool
 is_whole_after haystack at = at == length haystack || is_some (char_after haystack at)
 
--- a character of words ends at the position
+-- a word character ends at the position
 abbrev pub is_word_char_before : List ℕ → ℕ → Bool
 is_word_char_before haystack at = is_some_word (char_before haystack at)
 
--- a character of words begins at the position
+-- a word character begins at the position
 abbrev pub is_word_char_after : List ℕ → ℕ → Bool
 is_word_char_after haystack at = is_some_word (char_after haystack at)
 
@@ -45,7 +45,7 @@ is_word_char_after haystack at = is_some_word (char_after haystack at)
 abbrev pub differ : Bool → Bool → Bool
 differ a b = if a then not b else b
 
--- a line starts at the position, where carriage return (13), line feed (10) and the two in this order end a line
+-- a line starts at the position; carriage return (13), line feed (10) and the two in this order end a line
 abbrev pub is_crlf_start : List ℕ → ℕ → Bool
 is_crlf_start haystack at =
     at == 0 || is_byte_before haystack at 10 || (is_byte_before haystack at 13 && not (is_byte_at haystack at 10))
@@ -56,7 +56,7 @@ is_crlf_end haystack at =
     at == length haystack || is_byte_at haystack at 13
     || (is_byte_at haystack at 10 && not (is_byte_before haystack at 13))
 
--- no word starts or ends at the position, and it splits no character and touches no bytes that are none
+-- no word starts or ends at the position, and on each side there is a whole character or the end of the haystack
 abbrev pub is_not_word_boundary : List ℕ → ℕ → Bool
 is_not_word_boundary haystack at =
     is_whole_before haystack at && is_whole_after haystack at

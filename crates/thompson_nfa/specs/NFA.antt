@@ -1,4 +1,4 @@
--- an NFA's fields as an automaton
+-- the fields of an NFA as an automaton
 use Rattle.std.specs.Prelude.{map}
 use Rattle.thompson_nfa.specs.Automaton.{Automaton, node_of}
 use Rattle.thompson_nfa.specs.declared.nfa.NFA.TheInside.{Inside}

@@ -1,8 +1,8 @@
--- the NFA that matches the empty text everywhere, and the one that matches nothing
+-- the NFA that matches the empty string everywhere, and the one that matches nothing
 use Rattle.std.specs.Prelude.{[], ◌∷◌, true, false}
 use Rattle.thompson_nfa.specs.Automaton.{Automaton, Capture, Match, Fail}
 
--- one pattern, the empty one: its start is written, then its end
+-- one pattern, the empty one: the states write its start, then its end, and match
 abbrev pub always : Automaton
 always = record {
   states = Capture 1 0 ∷ Capture 2 1 ∷ Match 0 ∷ [];
@@ -14,7 +14,7 @@ always = record {
   utf8 = false;
 }
 
--- no pattern, and one state that goes nowhere
+-- no pattern, and one Fail state
 abbrev pub never : Automaton
 never = record {
   states = Fail ∷ [];

@@ -15,14 +15,14 @@ fn all_below(ids: &[StateID], len: usize) -> bool
     ids.iter().all(|id| id.as_usize() < len)
 }
 
-/// Whether each of these transitions leads below `len`.
+/// Whether each of these transitions leads to a state below `len`.
 fn transitions_below(transitions: &[Transition], len: usize) -> bool
     ensures { IsTrue result ↔ All (λ t. t.next < len) transitions.now }
 {
     transitions.iter().all(|t| t.next.as_usize() < len)
 }
 
-/// Whether each of these targets, where it is there, is below `len`.
+/// Whether each of these targets that is `Some` is below `len`.
 fn targets_below(targets: &[Option<StateID>], len: usize) -> bool
     ensures { IsTrue result ↔ All (λ o. IfSome o (λ s. s < len)) targets.now }
 {
@@ -52,7 +52,7 @@ fn leads_below(state: &State, len: usize) -> bool
     }
 }
 
-/// The slot that the state writes, unless it is below `len` or there is none.
+/// The slot that the state writes. `None` if it writes none, or one that is below `len`.
 fn slot_outside(state: &State, len: usize) -> Option<usize>
     ensures none { IsNone result ↔ SlotBelow len (node_of state.now) }
     ensures slot { IfSome result (λ slot. slot_of (node_of state.now) ≡ Some slot) }
@@ -63,7 +63,7 @@ fn slot_outside(state: &State, len: usize) -> Option<usize>
     }
 }
 
-/// The pattern that the state matches, unless it is below `len` or there is none.
+/// The pattern that the state matches. `None` if it matches none, or one that is below `len`.
 fn pattern_outside(state: &State, len: usize) -> Option<usize>
     ensures none { IsNone result ↔ PatternBelow len (node_of state.now) }
     ensures pattern { IfSome result (λ pattern. pattern_of (node_of state.now) ≡ Some pattern) }
@@ -74,7 +74,7 @@ fn pattern_outside(state: &State, len: usize) -> Option<usize>
     }
 }
 
-/// The place of the first of these states that is not below `len`.
+/// The index of the first of these states that is not below `len`.
 fn first_outside(ids: &[StateID], len: usize) -> Option<usize>
     ensures { IsFirstFailing (λ s. s < len) 0 ids.now result }
 {
@@ -86,7 +86,7 @@ fn first_outside(ids: &[StateID], len: usize) -> Option<usize>
     None
 }
 
-/// The place of the first of these states that does not lead below `len` alone.
+/// The index of the first of these states that leads to one not below `len`.
 fn first_leading_outside(states: &[State], len: usize) -> Option<usize>
     ensures { IsFirstFailing (LeadsBelow len) Fail (map node_of states.now) result }
 {
@@ -98,7 +98,7 @@ fn first_leading_outside(states: &[State], len: usize) -> Option<usize>
     None
 }
 
-/// The place of the first of these states that writes a slot not below `len`, and that slot.
+/// The index of the first of these states that writes a slot not below `len`, and that slot.
 pub(crate) fn first_slot_outside(states: &[State], len: usize) -> Option<(usize, usize)>
     ensures { NamesFirstSlot len (map node_of states.now) result }
 {
@@ -110,7 +110,7 @@ pub(crate) fn first_slot_outside(states: &[State], len: usize) -> Option<(usize,
     None
 }
 
-/// The place of the first of these states that matches a pattern not below `len`, and that pattern.
+/// The index of the first of these states that matches a pattern not below `len`, and that pattern.
 pub(crate) fn first_pattern_outside(states: &[State], len: usize) -> Option<(usize, usize)>
     ensures { NamesFirstPattern len (map node_of states.now) result }
 {
@@ -122,7 +122,7 @@ pub(crate) fn first_pattern_outside(states: &[State], len: usize) -> Option<(usi
     None
 }
 
-/// What first has a state number that names none of the states: the starts, those of the patterns, then the states.
+/// The first holder of a number that names no state: the two starts, then those of the patterns, then the states.
 pub(crate) fn first_unnumbered(
     states: &[State],
     anchored: StateID,

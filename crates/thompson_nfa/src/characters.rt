@@ -1,4 +1,4 @@
-//! Characters of UTF-8 beside an offset.
+//! Characters of UTF-8 next to an offset.
 ghost use Rattle.std.specs.Prelude.{◌≡◌, ◌≤◌, length, chars};
 ghost use Rattle.thompson_nfa.specs.Characters.{char_of, char_of_len_before, char_of_len_after, char_before, char_after, is_word_char, is_some_word, only};
 ghost use Rattle.thompson_nfa.specs.Looks.{is_whole_before, is_whole_after};
@@ -43,7 +43,7 @@ pub(crate) fn is_whole_after(haystack: &[u8], at: usize) -> bool
     at == haystack.len() || char_after(haystack, at).is_some()
 }
 
-/// Whether the character is of words, by Unicode Technical Standard 18, Annex C.
+/// Whether this is a word character, by Unicode Technical Standard 18, Annex C.
 #[tactic(auto, using(crate::proofs::WordLemmas::is_word_char_as_classed))]
 fn is_word_char(c: char) -> bool
     ensures { result ≡ is_word_char c }
@@ -114,7 +114,7 @@ fn char_of_len_after(haystack: &[u8], at: usize, len: usize) -> Option<char>
 fn char_of(bytes: &[u8]) -> Option<char>
     ensures { result ≡ char_of bytes.now }
 {
-    // Spares the usual case a call.
+    // Saves a call in the common case.
     if bytes.len() == 1 && bytes[0] < 0x80 {
         return Some(bytes[0] as char);
     }
@@ -124,7 +124,7 @@ fn char_of(bytes: &[u8]) -> Option<char>
     }
 }
 
-/// The character of a text of one character.
+/// The character of a string of one character.
 #[tactic(auto, using(crate::proofs::CharacterLemmas::only_chars))]
 fn only_char(text: &str) -> Option<char>
     ensures { result ≡ only (chars text.now) }

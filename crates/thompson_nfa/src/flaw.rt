@@ -9,14 +9,14 @@ use regex_search_core::{GroupInfo, StateID};
 use std::fmt;
 use thiserror::Error;
 
-/// What has the number of a state: a start, or a state that leads on.
+/// A place in an NFA that holds the number of a state: a start, or a state that leads to others.
 #[derive(Clone, Copy, Debug, PartialEq, Eq, Hash)]
 pub enum Holder {
-    /// The start of searches that are bound to their start.
+    /// The start state of anchored searches.
     Anchored,
-    /// The start of all others.
+    /// The start state of unanchored searches.
     Unanchored,
-    /// The start of the pattern of this number.
+    /// The start state of the pattern of this number.
     Pattern(usize),
     /// The state of this number.
     State(usize),
@@ -39,32 +39,31 @@ pub enum Flaw {
     /// There are no states.
     #[error("the NFA has no states")]
     Empty,
-    /// The holder has the number of a state that does not exist.
+    /// The holder refers to a state that does not exist.
     #[error("{0} refers to a state that does not exist")]
     State(Holder),
-    /// The state of this number is a `Capture` of a slot that belongs to no group.
+    /// The state of this number is a `Capture` that writes a slot which belongs to no group.
     #[error("state {state} writes slot {slot}, which belongs to no group")]
     Slot { state: usize, slot: usize },
     /// The state of this number is a `Match` of a pattern that has no start state.
     #[error("state {state} matches pattern {pattern}, which has no start state")]
     Pattern { state: usize, pattern: usize },
-    /// Groups are given for another number of patterns than start states, and not for none.
+    /// The groups are given for a number of patterns that is neither 0 nor the number of start states.
     #[error("groups are given for {groups} patterns, but start states for {patterns}")]
     Groups { groups: usize, patterns: usize },
 }
 
 /// Returns the first flaw in the parts of an NFA, or `None` if `NFA::from_states` makes an NFA of them.
 ///
-/// The flaws are looked for in this order:
+/// The flaws are checked in this order:
 ///
 /// 1. `Empty`: there are no states.
-/// 2. `State`: the number of a state is out of range, in `anchored`, in `unanchored`, in a pattern's start, or in a
-///    state.
+/// 2. `State`: a state number is out of range, in `anchored`, in `unanchored`, in a pattern's start, or in a state.
 /// 3. `Slot`: the slot of a `Capture` is not below the number of slots.
 /// 4. `Pattern`: the pattern of a `Match` is not below the number of patterns.
-/// 5. `Groups`: the groups are those of another number of patterns, and not of none.
+/// 5. `Groups`: the groups are given for a number of patterns that is neither 0 nor the number of start states.
 ///
-/// Each names the first place that has it. No memory is taken.
+/// Each flaw names the first place that has it. This function allocates nothing.
 pub fn first_flaw(
     states: &[State],
     anchored: StateID,
@@ -72,7 +71,7 @@ pub fn first_flaw(
     patterns: &[StateID],
     groups: &GroupInfo,
 ) -> Option<Flaw>
-    // Whatever the two flags say.
+    // Holds for any values of the two flags.
     ensures { (has_empty utf8 : Bool) → IsFirstFlaw (record {
       states = map node_of states.now;
       anchored = anchored;

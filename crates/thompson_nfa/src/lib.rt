@@ -1,9 +1,9 @@
-//! Nondeterministic automata over bytes: their states ([`State`]), the assertions that a state may
-//! make about a position ([`Look`]), and whole automata ([`NFA`]), which are made from their states
-//! and keep what a search relies on.
+//! Nondeterministic finite automata over bytes: their states ([`State`]), the assertions that a state may make about a
+//! position ([`Look`]), and whole automata ([`NFA`]). An `NFA` is made from its states, and keeps the invariants that a
+//! search relies on.
 //!
-//! Take it where each state is chosen by hand. `nfa_draft` makes the states from an expression, and `nfa_samples` has
-//! some automata by name; `nfa_engines` searches with them.
+//! Use this crate if you choose each state yourself. `nfa_draft` makes the states from an expression, `nfa_samples` has
+//! some automata by name, and `nfa_engines` searches with them.
 //!
 //! ```
 //! let zero = StateID::new(0).context("there is a state 0")?;
@@ -19,8 +19,8 @@
 //! let nfa = NFA::from_states(states, zero, zero, vec![in alloc; zero]?, groups, false, true)?;
 //! ```
 //!
-//! This one says whether a letter stands at the start; Captures of the slots 0 and 1 would tell where the match lies.
-//! Names and behaviour follow the public documentation of the crate regex-automata.
+//! This NFA only says whether the haystack starts with a letter. Captures of the slots 0 and 1 would also give the span
+//! of the match. Names and behaviour follow the public documentation of the crate regex-automata.
 #![tactic(auto)]
 
 mod bounds;

@@ -1,18 +1,18 @@
-//! Assertions, and where they hold.
+//! Assertions, and the positions at which they hold.
 ghost use Rattle.std.specs.Prelude.{◌≡◌, ◌≤◌, length};
 ghost use Rattle.thompson_nfa.specs.Looks.{look_holds, is_byte_before, is_byte_at, is_word_before, is_word_after, is_word_byte};
 ghost use Rattle.thompson_nfa.specs.Looks.{is_crlf_start, is_crlf_end, is_not_word_boundary};
 
 use crate::characters::{is_whole_after, is_whole_before, is_word_char_after, is_word_char_before};
 
-/// An assertion about a position of a haystack: an offset from 0 to the haystack's length.
+/// An assertion about a position of a haystack, that is, an offset from 0 to the haystack's length.
 ///
 /// A word byte is one of 0-9, A-Z, `_` and a-z. A word character is Alphabetic, a Mark, a Decimal_Number,
 /// Connector_Punctuation, U+200C or U+200D, as in Unicode Technical Standard 18, Annex C.
 ///
 /// Assertions on characters look at the character whose UTF-8 ends at the position and at the one whose UTF-8 begins
-/// there. At an edge of the haystack and in bytes that are not UTF-8 there is no character, so no word character. A
-/// side is broken if there are bytes on it, but no whole character.
+/// there. At the start or end of the haystack, and in bytes that are not UTF-8, there is no character, so no word
+/// character. A side is broken if there are bytes on it, but no whole character.
 #[derive(Clone, Copy, Debug, PartialEq, Eq, Hash)]
 pub enum Look {
     /// `\A`: the position is 0.
@@ -27,35 +27,35 @@ pub enum Look {
     StartCRLF,
     /// `(?mR:$)`: the position is the haystack's length, before `\r`, or before `\n` and not after `\r`.
     EndCRLF,
-    /// `(?-u:\b)`: just one of the bytes before and after the position is a word byte.
+    /// `(?-u:\b)`: exactly one of the bytes before and after the position is a word byte.
     WordAscii,
     /// `(?-u:\B)`: both of the bytes before and after the position are word bytes, or neither is.
     WordAsciiNegate,
-    /// `\b`: just one of the characters before and after the position is a word character.
+    /// `\b`: exactly one of the characters before and after the position is a word character.
     WordUnicode,
     /// `\B`: both of the characters before and after the position are word characters, or neither is, and no side is
-    /// broken. Inside a character neither this nor [`Look::WordUnicode`] holds.
+    /// broken. Inside a codepoint neither this nor [`Look::WordUnicode`] holds.
     WordUnicodeNegate,
-    /// `(?-u:\b{start})`: the byte after the position is a word byte, the one before is not.
+    /// `(?-u:\b{start})`: the byte after the position is a word byte, and the byte before is not.
     WordStartAscii,
-    /// `(?-u:\b{end})`: the byte before the position is a word byte, the one after is not.
+    /// `(?-u:\b{end})`: the byte before the position is a word byte, and the byte after is not.
     WordEndAscii,
-    /// `\b{start}`: the character after the position is a word character, the one before is not.
+    /// `\b{start}`: the character after the position is a word character, and the character before is not.
     WordStartUnicode,
-    /// `\b{end}`: the character before the position is a word character, the one after is not.
+    /// `\b{end}`: the character before the position is a word character, and the character after is not.
     WordEndUnicode,
-    /// `(?-u:\b{start-half})`: the byte before the position is no word byte.
+    /// `(?-u:\b{start-half})`: the byte before the position is not a word byte.
     WordStartHalfAscii,
-    /// `(?-u:\b{end-half})`: the byte after the position is no word byte.
+    /// `(?-u:\b{end-half})`: the byte after the position is not a word byte.
     WordEndHalfAscii,
-    /// `\b{start-half}`: the character before the position is no word character, and that side is not broken.
+    /// `\b{start-half}`: the character before the position is not a word character, and that side is not broken.
     WordStartHalfUnicode,
-    /// `\b{end-half}`: the character after the position is no word character, and that side is not broken.
+    /// `\b{end-half}`: the character after the position is not a word character, and that side is not broken.
     WordEndHalfUnicode,
 }
 
-/// Returns whether the assertion holds at the position `at`, over the whole haystack. The caller owes that `at` is at
-/// most the haystack's length.
+/// Returns whether the assertion holds at the offset `at` of the whole haystack. Requires that `at` is at most the
+/// haystack's length.
 pub fn look_matches(look: Look, haystack: &[u8], at: usize) -> bool
     requires { at ≤ length haystack.now }
     ensures { result ≡ look_holds look haystack.now at }
@@ -92,7 +92,7 @@ pub fn look_matches(look: Look, haystack: &[u8], at: usize) -> bool
     }
 }
 
-/// Whether this byte stands just before the position.
+/// Whether this byte is just before the position.
 fn is_byte_before(haystack: &[u8], at: usize, byte: u8) -> bool
     requires { at ≤ length haystack.now }
     ensures { result ≡ is_byte_before haystack.now at byte }
@@ -100,14 +100,14 @@ fn is_byte_before(haystack: &[u8], at: usize, byte: u8) -> bool
     at > 0 && haystack[at - 1] == byte
 }
 
-/// Whether this byte stands at the position.
+/// Whether this byte is at the position.
 fn is_byte_at(haystack: &[u8], at: usize, byte: u8) -> bool
     ensures { result ≡ is_byte_at haystack.now at byte }
 {
     at < haystack.len() && haystack[at] == byte
 }
 
-/// Whether a line starts at the position, where `\r`, `\n` and `\r\n` end one.
+/// Whether a line starts at the position. `\r`, `\n` and `\r\n` end a line.
 fn is_crlf_start(haystack: &[u8], at: usize) -> bool
     requires { at ≤ length haystack.now }
     ensures { result ≡ is_crlf_start haystack.now at }
@@ -117,7 +117,7 @@ fn is_crlf_start(haystack: &[u8], at: usize) -> bool
         || (is_byte_before(haystack, at, b'\r') && !is_byte_at(haystack, at, b'\n'))
 }
 
-/// Whether a line ends at the position, where `\r`, `\n` and `\r\n` end one.
+/// Whether a line ends at the position. `\r`, `\n` and `\r\n` end a line.
 fn is_crlf_end(haystack: &[u8], at: usize) -> bool
     requires { at ≤ length haystack.now }
     ensures { result ≡ is_crlf_end haystack.now at }
@@ -127,7 +127,7 @@ fn is_crlf_end(haystack: &[u8], at: usize) -> bool
         || (is_byte_at(haystack, at, b'\n') && !is_byte_before(haystack, at, b'\r'))
 }
 
-/// Whether both of the characters beside the position are of words, or neither is, and no side is broken.
+/// Whether both of the characters next to the position are word characters, or neither is, and no side is broken.
 fn is_not_word_boundary(haystack: &[u8], at: usize) -> bool
     requires { at ≤ length haystack.now }
     ensures { result ≡ is_not_word_boundary haystack.now at }
@@ -137,7 +137,7 @@ fn is_not_word_boundary(haystack: &[u8], at: usize) -> bool
         && is_word_char_before(haystack, at) == is_word_char_after(haystack, at)
 }
 
-/// Whether a word byte stands just before the position.
+/// Whether a word byte is just before the position.
 fn word_before(haystack: &[u8], at: usize) -> bool
     requires { at ≤ length haystack.now }
     ensures { result ≡ is_word_before haystack.now at }
@@ -145,7 +145,7 @@ fn word_before(haystack: &[u8], at: usize) -> bool
     at > 0 && is_word_byte(haystack[at - 1])
 }
 
-/// Whether a word byte stands at the position.
+/// Whether a word byte is at the position.
 fn word_after(haystack: &[u8], at: usize) -> bool
     ensures { result ≡ is_word_after haystack.now at }
 {

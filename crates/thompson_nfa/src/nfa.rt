@@ -12,10 +12,11 @@ use std::fmt;
 use std::marker::Model;
 use thiserror::Error;
 
-/// Why an NFA was not made: no memory, or the kind of its first flaw. [`first_flaw`] says which one it is.
+/// Why an NFA was not made: an allocation failed, or its parts have a flaw of this kind. [`first_flaw`] also says where
+/// the flaw is.
 #[derive(Clone, Copy, Debug, PartialEq, Eq, Hash, Error)]
 pub enum BuildError {
-    /// Memory was refused.
+    /// An allocation failed.
     #[error("out of memory")]
     Memory,
     /// There are no states.
@@ -30,7 +31,7 @@ pub enum BuildError {
     /// A `Match` is of a pattern that has no start state.
     #[error("a state matches a pattern that has no start state")]
     Pattern,
-    /// Groups are given for another number of patterns than start states, and not for none.
+    /// The groups are given for a number of patterns that is neither 0 nor the number of start states.
     #[error("groups and start states are given for different numbers of patterns")]
     Groups,
 }
@@ -85,11 +86,11 @@ impl<T: Drop> From<AllocFailed<T>> for BuildError {
     }
 }
 
-/// A nondeterministic finite automaton over bytes, in the form of Thompson's construction: its
-/// states, where searches start, the groups of its patterns, and two flags.
+/// A nondeterministic finite automaton over bytes, as Thompson's construction makes it: its states, where searches
+/// start, the groups of its patterns, and two flags.
 ///
-/// Each state number in it names one of its states, each `Capture` writes a slot of its groups, each
-/// `Match` is of one of its patterns, and its groups are those of as many patterns, or of none.
+/// Each state number in it names one of its states. Each `Capture` writes a slot of its groups. Each `Match` is of one
+/// of its patterns. Its groups are given for each of its patterns, or for none.
 ///
 /// A contract sees the NFA as an `Automaton`.
 #[derive(Debug, Drop)]
@@ -120,12 +121,11 @@ impl NFA {
     ghost use Rattle.thompson_nfa.specs.Built.{IsBuilt};
     ghost use Rattle.thompson_nfa.specs.Simple.{always, never};
 
-    /// The NFA of these states; a state's number is its place. `anchored` is where a search starts
-    /// that is bound to its start, and `unanchored` where any other does; `patterns` has the start of
-    /// each pattern.
+    /// Makes the NFA of these states. The number of a state is its index. Anchored searches start at `anchored`, all
+    /// others at `unanchored`; `patterns` has the start state of each pattern.
     ///
-    /// The states are refused exactly if [`first_flaw`] finds a flaw in them, and the error is the flaw's variant.
-    /// No memory is taken, so the error is never `Memory`.
+    /// Returns an error exactly if [`first_flaw`] finds a flaw in the parts. The error is the flaw's variant. Nothing
+    /// is allocated, so the error is never `Memory`.
     pub fn from_states(
         states: Vec<State>,
         anchored: StateID,
@@ -159,7 +159,7 @@ impl NFA {
         })
     }
 
-    /// Makes the NFA of one pattern, the empty one, which matches the empty string at each position. It has no explicit
+    /// Makes an NFA of one pattern, the empty one, which matches the empty string at each position. It has no explicit
     /// groups, `has_empty` is true, and it is not in UTF-8 mode. The only error is `Memory`.
     pub fn always_match(alloc: Global) -> Result<NFA, BuildError>
         ensures made { IfOk result (λ made. made ≡ always) }
@@ -184,7 +184,7 @@ impl NFA {
         NFA::from_states(states, start, start, patterns, groups, true, false)
     }
 
-    /// Makes the NFA of no pattern, which matches nothing. Both flags are false. The only error is `Memory`.
+    /// Makes an NFA without patterns, which matches nothing. Both flags are false. The only error is `Memory`.
     pub fn never_match(alloc: Global) -> Result<NFA, BuildError>
         ensures made { IfOk result (λ made. made ≡ never) }
         ensures memory { IsOkUnless result BuildError.Memory }
@@ -203,7 +203,7 @@ impl NFA {
         &self.states
     }
 
-    /// Returns the state of this number. The caller owes that it is below the number of states.
+    /// Returns the state of this number. Requires that the number is below the number of states.
     pub fn state(&self, id: StateID) -> &State
         requires { id < length self.now.states }
         ensures node { slice_get self.now.states id ≡ Some (node_of result.now) }
@@ -242,21 +242,21 @@ impl NFA {
         self.patterns.get(pattern.as_usize()).copied()
     }
 
-    /// Returns whether each search is bound to its start: the two start states are equal.
+    /// Returns whether every search is anchored, that is, whether the two start states are equal.
     pub fn is_always_start_anchored(&self) -> bool
         ensures { IsTrue result ↔ (self.now.anchored ≡ self.now.unanchored) }
     {
         self.anchored == self.unanchored
     }
 
-    /// Returns whether the NFA may match the empty string, as its maker said.
+    /// Returns the flag `has_empty`: whether the NFA's maker said that it can match the empty string.
     pub fn has_empty(&self) -> bool
         ensures { result ≡ self.now.has_empty }
     {
         self.has_empty
     }
 
-    /// Returns whether empty matches that split a codepoint are skipped, as its maker said.
+    /// Returns the flag `utf8`, as the NFA's maker set it: whether empty matches that split a codepoint are skipped.
     pub fn is_utf8(&self) -> bool
         ensures { result ≡ self.now.utf8 }
     {
@@ -287,7 +287,7 @@ impl NFA {
         })
     }
 
-    /// Returns the groups of its patterns, or of no pattern.
+    /// Returns the groups of its patterns. They may be given for no pattern.
     pub fn group_info(&self) -> &GroupInfo
         ensures value { result.now ≡ self.now.groups }
         ensures valid { IsAutomaton self.now }
@@ -296,7 +296,7 @@ impl NFA {
     }
 }
 
-/// The number of a state.
+/// The state of this number.
 fn numbered(number: usize) -> StateID
     requires { number ≤ 2147483646 }
     ensures { result ≡ number }
@@ -319,7 +319,7 @@ fn groups_named(names: Vec<Vec<Option<String>>>) -> GroupInfo
     GroupInfo::new(names).unwrap()
 }
 
-/// Equal states.
+/// Clones the states.
 fn clone_states(alloc: Global, states: &[State]) -> Result<Vec<State>, BuildError>
     ensures copy { IfOk result (λ copy. map node_of copy.items ≡ map node_of states.now) }
     ensures memory { IsOkUnless result BuildError.Memory }

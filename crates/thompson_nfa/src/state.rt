@@ -6,7 +6,7 @@ use crate::look::Look;
 use regex_search_core::{PatternID, StateID};
 use std::alloc::AllocError;
 
-/// A step on a byte: from `start` to `end`, both included, to the state `next`.
+/// A transition to the state `next`, on each byte from `start` to `end`, both included.
 #[derive(Clone, Copy, Debug, PartialEq, Eq, Hash)]
 pub struct Transition {
     pub start: u8,
@@ -14,33 +14,33 @@ pub struct Transition {
     pub next: StateID,
 }
 
-/// A state of an NFA: where a search goes from it, and what it does there.
+/// A state of an NFA: which states follow it, and what it does.
 ///
-/// A contract sees it as its node, `node_of`, which has lists where the state has vectors.
+/// A contract sees it as its node, `node_of`, which has lists instead of vectors.
 #[derive(Debug, Drop)]
 pub enum State {
-    /// Goes on by this transition alone.
+    /// Moves on by this transition only.
     ByteRange { trans: Transition },
-    /// Goes on by the first transition that holds the byte.
+    /// Moves on by the first transition that contains the byte.
     Sparse(Vec<Transition>),
-    /// Goes on to the target at the byte's place. None at a place past the last.
+    /// Moves on to the target at the index of the byte. Moves nowhere if the index is past the last target.
     Dense(Vec<Option<StateID>>),
-    /// Goes on without a byte, where the assertion holds.
+    /// Moves on without a byte, if the assertion holds.
     Look { look: Look, next: StateID },
-    /// Goes on without a byte to any of these, the first preferred, then the second, and so on.
+    /// Moves on without a byte to any of these, in order of preference.
     Union { alternates: Vec<StateID> },
-    /// Goes on without a byte to either of the two, `alt1` preferred.
+    /// Moves on without a byte to either of these two. `alt1` is preferred.
     BinaryUnion { alt1: StateID, alt2: StateID },
-    /// Goes on without a byte, and writes the position into the slot.
+    /// Moves on without a byte, and writes the position into the slot.
     Capture { next: StateID, slot: usize },
-    /// Goes nowhere.
+    /// Moves nowhere.
     Fail,
-    /// Goes nowhere: the pattern matches here.
+    /// Moves nowhere. The pattern matches here.
     Match { pattern_id: PatternID },
 }
 
 impl State {
-    /// An equal state.
+    /// Returns an equal state.
     pub fn clone(&self) -> Result<State, AllocError>
         ensures { IfOk result (λ copy. node_of copy ≡ node_of self.now) }
     {
