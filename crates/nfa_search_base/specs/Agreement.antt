@@ -22,23 +22,23 @@ abbrev pub end_item : Item Found → Item HalfFound
 end_item (Ok m) = Ok (end_of m)
 end_item (Err e) = Err e
 
--- the answer's match, if there is one, lies in the span of the search, and does not end before it starts
+-- the answer's match, if there is one, is in the span of the search, and its start is at most its end
 abbrev pub IsFoundIn : Search → Answer Found → Type 0
 IsFoundIn s (Ok (Some m)) = (s.start ≤ m.start) × (m.start ≤ m.end) × (m.end ≤ s.end)
 IsFoundIn s (Ok None) = Unit {0}
 IsFoundIn s (Err e) = Unit {0}
 
--- the iteration is one that a searcher may come to
+-- a searcher may have this iteration
 pub record IsWalk (w : Walk) : Type 0 where
   pub behind : IsBehind w.last w.at.start
   pub ordered : w.at.start ≤ w.at.end + 1
 
--- on each search like s, h finds a match in the span, and k finds its end
+-- on each search like s, h finds a match in the span, and k finds the end of that match
 pub record FindsEnds (h : Search → Answer Found) (k : Search → Answer HalfFound) (s : Search) : Type 0 where
   pub inside : (t : Search) → SameButStart s t → t.start ≤ t.end + 1 → IsFoundIn t (h t)
   pub ends : (t : Search) → SameButStart s t → t.start ≤ t.end + 1 → k t ≡ end_answer (h t)
 
--- half iteration gives the ends of full iteration
+-- an iteration over half matches gives the ends of the iteration over full matches
 abbrev pub HalfAndFullAgree : Type 0
 HalfAndFullAgree = (h : Search → Answer Found) (k : Search → Answer HalfFound) (w : Walk) → IsWalk w
     → FindsEnds h k w.at

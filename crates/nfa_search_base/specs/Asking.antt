@@ -1,4 +1,4 @@
--- calls of a finder that a caller hands in
+-- calls of a caller's finder
 use Rattle.std.specs.Prelude.{◌≡◌}
 use Rattle.std.specs.Fn.{Called, Mut}
 use Rattle.std.specs.Borrow.{Bor}
@@ -19,6 +19,6 @@ module _ {F R : Type 0} (g : Mut F (Bor Input × Unit {0}) R) where
   IsCallableOn f s = (p : Bor Input) → search_of p.now ≡ s → g.pre f (p, tt)
 
   module _ (Same : Search → Search → Type 0) where
-    -- wherever calls on searches that are the same as s lead, the next may be made, and P holds of what it replies
+    -- after any calls on searches that are the same as s, the next call may be made, and P holds of its reply
     abbrev pub ServesAlong : (Search → R → Type 0) → F → Search → Type 0
     ServesAlong P f s = ServesOnAlong IsCallableOn Asks Same P f s

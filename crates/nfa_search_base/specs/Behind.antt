@@ -2,6 +2,6 @@
 use Rattle.std.specs.Prelude.{ℕ, ◌≤◌, Option}
 use Rattle.std.specs.Option.{ForSome}
 
--- the last match, if there was one, does not end past the start
+-- the last match, if there was one, ends at or before the start
 abbrev pub IsBehind : Option ℕ → ℕ → Type 0
 IsBehind last start = ForSome last (λ e. e ≤ start)

@@ -1,4 +1,4 @@
--- All that the calls of an engine's iterator over captures have given, wherever they stop.
+-- All that the calls of an engine's iterator over captures have given so far.
 use Rattle.std.specs.Prelude.{Bool, Option, Result}
 use Rattle.regex_search_core.specs.Search.{Search}
 use Rattle.regex_search_core.specs.Slots.{Captured}
@@ -11,7 +11,8 @@ use Rattle.nfa_search_base.specs.CaughtRuns.{MatchesInRun, MatchesInFirst, Match
 use Rattle.nfa_search_base.specs.Walks.{Answer}
 use Rattle.nfa_search_base.specs.declared.error.SearchError.{SearchError}
 
--- The calls of an iterator at s are `steps`; its searches of x `Tell` the rows of the NFA, or err.
+-- `steps` is a call of the iterator, which is at s. `Tells` gives the answers of its searches of x: rows of the NFA, or
+-- errors.
 pub record CapturesGiven {T : Type 0} (steps : T → Option (Result Captured SearchError) → T → Type 0)
     (nfa : Automaton) (kind : MatchKind) (earliest : Bool) (Tells : Search → Answer Row → Type 0) (x : Search)
     (s : T) : Type 0 where

@@ -16,7 +16,7 @@ use Rattle.nfa_search_base.specs.Serving.{ServesOnAlong}
 use Rattle.nfa_search_base.specs.declared.error.SearchError.{SearchError}
 use Rattle.nfa_search_base.specs.declared.error.SearchError.TheVariants.{Memory}
 
--- what captures hold of a search: the pattern and the slots
+-- the result of a search in captures: the pattern and the slots
 pub record Row : Type 0 where
   pub pattern : Option ℕ
   pub slots : List (Option ℕ)
@@ -24,19 +24,19 @@ pub record Row : Type 0 where
 abbrev pub row_of : Captured → Row
 row_of c = record { pattern = c.pattern; slots = c.slots }
 
--- the match of a row; a row without one is no match, and this is never asked of it
+-- the match of a row; rows without a match, to which it is never applied, get a dummy
 abbrev pub row_found : Row → Found
 row_found x = unwrap_or (match_of x.pattern x.slots) (record { pattern = 0; start = 0; end = 0 })
 
--- where it lies
+-- the span of that match
 abbrev pub row_span : Row → Span
 row_span x = span_of (row_found x)
 
--- the row that captures hold, where they have a match
+-- the row of the captures, if they have a match
 abbrev pub caught : Captured → Option Row
 caught c = option_map (λ m. row_of c) (match_of c.pattern c.slots)
 
--- what a call that left these captures and gave this reply answers
+-- the answer of a call that left these captures and gave this reply
 abbrev pub caught_by : Captured → Result (Unit {0}) SearchError → Answer Row
 caught_by c (Ok u) = Ok (caught c)
 caught_by c (Err e) = Err e
@@ -46,17 +46,17 @@ pub record Catching (F : Type 0) : Type 0 where
   pub finder : F
   pub captures : Captured
 
--- the item is a copy of these captures, which hold the row; or memory for the copy was refused
+-- the item is a copy of these captures, which hold the row, or the copy could not be allocated
 abbrev pub GivesCopy : Captured → Answer Row → Option (Result Captured SearchError) → Type 0
 GivesCopy c (Ok (Some x)) r = ((r ≡ Some (Ok c)) × (row_of c ≡ x)) ⊎ (r ≡ Some (Err Memory))
 GivesCopy c (Ok None) r = r ≡ None
 GivesCopy c (Err e) r = r ≡ Some (Err e)
 
--- it is one of the captures that were left
+-- the item is a copy of the captures that the call left
 abbrev pub GivesCaptures : {F : Type 0} → Catching F → Answer Row → Option (Result Captured SearchError) → Type 0
 GivesCaptures c a r = GivesCopy c.captures a r
 
--- the item is no error but a refusal of memory
+-- the only error that the item may be is that of memory
 abbrev pub IsAtMostMemory : {Y : Type 0} → Option (Result Y SearchError) → Type 0
 IsAtMostMemory None = Unit {0}
 IsAtMostMemory (Some (Ok y)) = Unit {0}
@@ -69,7 +69,7 @@ UpToRefusal (y ∷ ys) [] = ⊥
 UpToRefusal [] (x ∷ xs) = ⊥
 UpToRefusal (y ∷ ys) (x ∷ xs) = ((x ≡ y) × UpToRefusal ys xs) ⊎ ((x ≡ Err Memory) × (xs ≡ []))
 
--- whoever runs the iterator s to its end has the items of the list, up to a refusal
+-- an iterator s that runs to its end gives the items of the list, up to a failed allocation
 pub record YieldsUpToRefusal {T R X : Type 0} (steps : T → Option R → T → Type 0) (value : R → Item X) (s : T)
     (all : List (Item X)) : Type 0 where
   pub at : (xs : List R) → Drains steps s xs → UpToRefusal all (map value xs)
@@ -92,21 +92,21 @@ module _ {F : Type 0} (g : Mut F (Bor Input × (MutBor Captured × Unit {0}))
     pub called : Called g f (shown, (lent, tt)) (reply, (left, tt)) f'
     pub leaves : left.now ≡ c'
 
-  -- the finder may be called on this search, with the captures that are kept
+  -- the finder may be called on this search, with the captures that it keeps
   abbrev pub CanCatch : Catching F → Search → Type 0
   CanCatch c s = IsCallableWith c.finder c.captures s
 
-  -- such a call answers this
+  -- such a call gives this answer
   pub record Catches (c : Catching F) (s : Search) (a : Answer Row) (c' : Catching F) : Type 0 where
     pub reply : Result (Unit {0}) SearchError
     pub asked : AsksWith c.finder c.captures s reply c'.finder c'.captures
     pub answers : a ≡ caught_by c'.captures reply
 
-  -- wherever calls on searches that differ from s in their start alone lead, the next may be made, and P holds of its
+  -- after any calls on searches that differ from s only in their start, the next call may be made, and P holds of its
   -- answer
   abbrev pub CatchesAlong : (Search → Answer Row → Type 0) → Catching F → Search → Type 0
   CatchesAlong P c s = ServesOnAlong CanCatch Catches SameButStart P c s
 
-  -- it answers each search like s as h does, for as long as it is called
+  -- each call on a search like s answers as h does
   abbrev pub CatchesBy : (Search → Answer Row) → Catching F → Search → Type 0
   CatchesBy h c s = CatchesAlong (λ t a. a ≡ h t) c s

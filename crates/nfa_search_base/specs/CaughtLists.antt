@@ -1,4 +1,4 @@
--- The captures of a search, as one list: said by its steps alone. And so the captures of a search of an NFA.
+-- The captures of a search, and of a search of an NFA, as one list. It is defined by the steps only.
 use Rattle.std.specs.Prelude.{◌≡◌, Bool, List, length, map, None, Some, Result, Ok, Err}
 use Rattle.regex_search_core.specs.Groups.{slot_count}
 use Rattle.regex_search_core.specs.Search.{Search}
@@ -12,19 +12,19 @@ use Rattle.nfa_search_base.specs.Lists.{Fails, FailsOrIsRefused, ItemsNext, Item
 use Rattle.nfa_search_base.specs.Walks.{Answer, Walk, fresh}
 use Rattle.nfa_search_base.specs.declared.error.SearchError.{SearchError}
 
--- the captures have the groups of the NFA, and a slot for each edge of them
+-- the captures have the groups of the NFA, and two slots for each group
 pub record HasGroups (nfa : Automaton) (c : Captured) : Type 0 where
   pub groups : c.groups ≡ nfa.groups
   pub count : length c.slots ≡ slot_count nfa.groups
 
 module _ (nfa : Automaton) (kind : MatchKind) (earliest : Bool) where
-  -- the row is that of the search's answer, with all slots of the NFA, and has a match
+  -- the row is that of the search's answer, has all slots of the NFA, and has a match
   pub record IsRow (x : Search) (row : Row) : Type 0 where
     pub answer : IsAnswer nfa kind earliest x row.pattern row.slots
     pub count : length row.slots ≡ slot_count nfa.groups
     pub is_match : match_of row.pattern row.slots ≡ Some (row_found row)
 
-  -- a search tells its row where it has a match, and never errs
+  -- the search's answer is its row if it has a match, and is never an error
   abbrev pub TellsRow : Search → Answer Row → Type 0
   TellsRow x (Ok (Some row)) = IsRow x row
   TellsRow x (Ok None) = IsMatchAnswer nfa kind earliest x None
@@ -34,26 +34,26 @@ module _ (nfa : Automaton) (kind : MatchKind) (earliest : Bool) where
   pub record AreFirstRows (x : Search) (rows : List Row) : Type 0 where
     pub come : ItemsNext row_span TellsRow (Fails row_span TellsRow) (fresh x) (map (λ row. Ok row) rows)
 
-  -- these are the rows of x, all of them
+  -- these are all rows of x
   pub record AreRows (x : Search) (rows : List Row) : Type 0 where
     pub come : ItemsLast row_span TellsRow (Fails row_span TellsRow) (fresh x) (map (λ row. Ok row) rows)
 
--- A search `tells` an answer. A copy of captures may be refused.
+-- `tells` gives the answers of a search. The allocation of a copy of captures may fail.
 module _ (tells : Search → Answer Row → Type 0) where
   module _ (w : Walk) where
-    -- the first items of the captures from w on
+    -- these are the first items of the captures from w on
     pub record AreFirstCaught (items : List (Result Captured SearchError)) : Type 0 where
       pub come : ItemsNext row_span tells (FailsOrIsRefused row_span tells) w (map (item_by row_of) items)
 
-    -- all of them
+    -- these are all items
     pub record AreAllCaught (items : List (Result Captured SearchError)) : Type 0 where
       pub come : ItemsLast row_span tells (FailsOrIsRefused row_span tells) w (map (item_by row_of) items)
 
   module _ (x : Search) where
-    -- the first items of the captures of x
+    -- these are the first items of the captures of x
     pub record AreFirstCaptures (items : List (Result Captured SearchError)) : Type 0 where
       pub come : ItemsNext row_span tells (FailsOrIsRefused row_span tells) (fresh x) (map (item_by row_of) items)
 
-    -- all of them
+    -- these are all items
     pub record AreAllCaptures (items : List (Result Captured SearchError)) : Type 0 where
       pub come : ItemsLast row_span tells (FailsOrIsRefused row_span tells) (fresh x) (map (item_by row_of) items)

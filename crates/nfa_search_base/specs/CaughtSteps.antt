@@ -11,7 +11,7 @@ use Rattle.nfa_search_base.specs.declared.iter.steps.Steps.{Steps}
 
 module _ {F : Type 0} (g : Mut F (Bor Input × (MutBor Captured × Unit {0}))
     (Result (Unit {0}) SearchError × (MutBor Captured × Unit {0}))) where
-  -- a step with no error but a refusal of memory
+  -- a step whose only error is that of memory
   abbrev pub takes_sure_catches : Steps (Catching F) → Option (Result Captured SearchError)
       → Steps (Catching F) → Type 0
   takes_sure_catches s r t = takes_steps row_span (Catches g) GivesCaptures s r t × IsAtMostMemory r

@@ -10,17 +10,17 @@ use Rattle.nfa_search_base.specs.CaughtLists.{HasGroups}
 use Rattle.nfa_search_base.specs.Lending.{With}
 use Rattle.nfa_search_base.specs.Walks.{Answer}
 
--- an engine of one iteration, and the match that is known of the next search, if one is
+-- an engine of an iteration, and the match of the next search if it is already known
 pub record Knowing (E : Type 0) : Type 0 where
   pub engine : E
   pub known : Option Match
 
--- a cache, and the match that is known of the next search, if one is
+-- a cache, and the match of the next search if it is already known
 pub record Keeping (C : Type 0) : Type 0 where
   pub cache : C
   pub known : Option Found
 
--- the match, if it ends there
+-- the match, if it ends at n
 abbrev pub if_ends_at : ℕ → Option Found → Option Found
 if_ends_at n None = None
 if_ends_at n (Some m) = if m.end == n then Some m else None
@@ -32,35 +32,35 @@ found_in (Err e) = None
 
 -- A search does `Work` with the cache.
 module _ {C : Type 0} (Work : Search → Answer Found → C → C → Type 0) (x : Search) (a : Answer Found) where
-  -- A match that is known is the answer, and then nothing changes. Where none is, one search is made, and its match is
-  -- known next if it ends where the search starts.
+  -- If a match is known, it is the answer, and nothing changes. Otherwise one search is made, and its match becomes
+  -- known for the next search if it ends where this search starts.
   abbrev pub AnswersBy : Option Found → Keeping C → Keeping C → Type 0
   AnswersBy (Some m) s t = (a ≡ Ok (Some m)) × (t ≡ s)
   AnswersBy None s t = Work x a s.cache t.cache × (t.known ≡ if_ends_at x.start (found_in a))
 
-  -- What is known answers where it ends at the start of x, and there alone.
+  -- The known match is the answer exactly if it ends at the start of x.
   pub record SearchesUnlessKnown (s t : Keeping C) : Type 0 where
     pub by_known : AnswersBy (if_ends_at x.start s.known) s t
 
--- the cache, and what is known by what asks with it
+-- the cache, and the match that is known to the engine that searches with it
 abbrev pub keeping : {E A C : Type 0} → (A → Knowing E) → With A C → Keeping C
 keeping shown s = record { cache = s.cache; known = option_map found_of (shown s.asker).known }
 
--- A match that is `Sure` is what a search finds, whoever makes it.
+-- A `Sure` match is the only one that a search can find.
 module _ {E : Type 0} (Sure : E → Search → Found → Type 0) where
-  -- what is known of the searches like x: nothing, or the match of the one that starts where this match ends
+  -- what is known about searches like x: nothing, or the match of the search that starts where this match ends
   abbrev pub IsKnownFrom : E → Search → Option Match → Type 0
   IsKnownFrom e x known = ForSome known (λ m. Sure e (record x { start = m.span.end }) (found_of m))
 
-  -- What asks is `shown` as an engine and what is known.
+  -- `shown` is the engine, and what is known.
   module _ {A C : Type 0} (shown : A → Knowing E) where
-    -- the cache fits, and what is known is so of searches like this one
+    -- the cache fits, and what is known holds of searches like this one
     pub record MayFind (Fits : C → E → Type 0) (s : With A C) (x : Search) : Type 0 where
       pub fits : Fits s.cache (shown s.asker).engine
       pub knows : IsKnownFrom (shown s.asker).engine x (shown s.asker).known
 
-    -- A search by the engine may answer this, which is what it `Tells`. It does `Work` with the cache, once, and is not
-    -- made exactly where its answer was known.
+    -- A search by the engine may give an answer that it `Tells`. Exactly if that answer was known, no search is made.
+    -- Otherwise the search does `Work` with the cache, once.
     pub record AsksEngine (Tells : E → Search → Answer Found → Type 0)
         (Work : E → Search → Answer Found → C → C → Type 0) (s : With A C) (x : Search) (a : Answer Found)
         (t : With A C) : Type 0 where
@@ -69,15 +69,15 @@ module _ {E : Type 0} (Sure : E → Search → Found → Type 0) where
       pub knows : IsKnownFrom (shown t.asker).engine x (shown t.asker).known
       pub work : SearchesUnlessKnown (Work (shown s.asker).engine) x a (keeping shown s) (keeping shown t)
 
--- An engine that fills captures, of an NFA.
+-- An engine that fills captures, with its NFA.
 module _ {E C : Type 0} (nfa : E → Automaton) where
   -- the cache fits, and the captures have the groups of the NFA
   pub record MayCatch (Fits : C → E → Type 0) (s : With (Catching E) C) : Type 0 where
     pub fits : Fits s.cache s.asker.finder
     pub holds : HasGroups (nfa s.asker.finder) s.asker.captures
 
-  -- A search by the engine may answer this, which is what it `Tells`. It does `Work` with the cache, once, and keeps
-  -- the groups of the captures.
+  -- A search by the engine may give an answer that it `Tells`. It does `Work` with the cache once, and keeps the groups
+  -- of the captures.
   pub record AsksEngineRow (Tells : E → Search → Answer Row → Type 0)
       (Work : E → Search → Answer Row → C → C → Type 0) (s : With (Catching E) C) (x : Search) (a : Answer Row)
       (t : With (Catching E) C) : Type 0 where

@@ -1,4 +1,4 @@
--- finders of matches, as what an iteration asks
+-- finders of matches that answer the searches of an iteration
 use Rattle.std.specs.Prelude.{◌≡◌, Option, None, Some, Result, Ok, Err}
 use Rattle.std.specs.Fn.{Mut}
 use Rattle.std.specs.Borrow.{Bor}
@@ -19,7 +19,7 @@ answer_by view (Ok (Some m)) = Ok (Some (view m))
 answer_by view (Ok None) = Ok None
 answer_by view (Err e) = Err e
 
--- A finder replies with an A, of which `view` is the value.
+-- A finder replies with an A. `view` is its value.
 module _ {A X F : Type 0} (view : A → X) (g : Mut F (Bor Input × Unit {0}) (Result (Option A) SearchError)) where
   -- a call of the finder f on the search gave this answer, and left the finder as f'
   pub record Finds (f : F) (s : Search) (a : Answer X) (f' : F) : Type 0 where
@@ -27,35 +27,35 @@ module _ {A X F : Type 0} (view : A → X) (g : Mut F (Bor Input × Unit {0}) (R
     pub asked : Asks g f s reply f'
     pub shows : a ≡ answer_by view reply
 
-  -- P holds of the answers of f for a step of the iteration w, for which it may be called once, and again one on where
-  -- the first answer is an empty match at the last end
+  -- P holds of the answers of f for a step of the iteration w. The step may call f once, and again one byte on if the
+  -- first answer is an empty match at the last end.
   abbrev pub ServesStep : (X → Span) → (Search → Answer X → Type 0) → F → Walk → Type 0
   ServesStep span P f w = ServesTurn (IsCallableOn g) Finds span P f w
 
-  -- wherever calls on searches that differ from s in their start alone lead from f, the next may be made, and P holds
-  -- of its answer
+  -- after any calls of f on searches that differ from s only in their start, the next call may be made, and P holds of
+  -- its answer
   abbrev pub AnswersAlong : (Search → Answer X → Type 0) → F → Search → Type 0
   AnswersAlong P f s = ServesOnAlong (IsCallableOn g) Finds SameButStart P f s
 
-  -- f answers each search like s as h does, for as long as it is called
+  -- each call of f on a search like s answers as h does
   abbrev pub Computes : (Search → Answer X) → F → Search → Type 0
   Computes h f s = AnswersAlong (λ t a. a ≡ h t) f s
 
--- where the match that was replied lies
+-- the span of the match in the reply
 abbrev pub match_place : Result (Option Match) SearchError → Option Span
 match_place reply = place_of span_of (answer_by found_of reply)
 
--- where the half match that was replied is taken to lie
+-- the span of the half match in the reply: its offset, without bytes
 abbrev pub half_place : Result (Option HalfMatch) SearchError → Option Span
 half_place reply = place_of half_span_of (answer_by half_found_of reply)
 
 -- Finders of matches.
 module _ {F : Type 0} (g : Mut F (Bor Input × Unit {0}) (Result (Option Match) SearchError)) where
-  -- the finder may be asked for a step, and answers matches in the span
+  -- the finder may be called for a step, and answers matches in the span
   abbrev pub FindsStep : F → Walk → Type 0
   FindsStep f w = ServesStep found_of g span_of (AnswerIsInside span_of) f w
 
-  -- and never errs
+  -- and it never fails
   abbrev pub FindsStepSurely : F → Walk → Type 0
   FindsStepSurely f w = ServesStep found_of g span_of (IsSurelyInside span_of) f w
 
@@ -65,11 +65,11 @@ module _ {F : Type 0} (g : Mut F (Bor Input × Unit {0}) (Result (Option Match) 
 
 -- Finders of half matches.
 module _ {F : Type 0} (g : Mut F (Bor Input × Unit {0}) (Result (Option HalfMatch) SearchError)) where
-  -- the finder may be asked for a step, and answers offsets in the span
+  -- the finder may be called for a step, and answers offsets in the span
   abbrev pub FindsHalfStep : F → Walk → Type 0
   FindsHalfStep f w = ServesStep half_found_of g half_span_of (AnswerIsInside half_span_of) f w
 
-  -- and never errs
+  -- and it never fails
   abbrev pub FindsHalfStepSurely : F → Walk → Type 0
   FindsHalfStepSurely f w = ServesStep half_found_of g half_span_of (IsSurelyInside half_span_of) f w
 

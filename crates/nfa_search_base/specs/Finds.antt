@@ -1,11 +1,11 @@
--- whether a search finds something, as a function
+-- whether a search finds a match, as a function
 use Rattle.std.specs.Prelude.{Bool, is_some}
 use Rattle.regex_search_core.specs.Search.{Search}
 use Rattle.regex_search_core.specs.declared.search.MatchKind.{MatchKind}
 use Rattle.thompson_nfa.specs.Automaton.{Automaton}
 use Rattle.nfa_paths.proofs.ExistenceLemmas.{search_answer-exists}
 
--- Each search has an answer, and one alone: whether it is a path. So `IsFoundAnswer nfa kind earliest x b` holds of
--- this `b` and of no other.
+-- Each search has exactly one answer, which is a path or none. So `IsFoundAnswer nfa kind earliest x b` holds for this
+-- `b` and for no other.
 unfoldable pub finds : Automaton → MatchKind → Bool → Search → Bool
 finds nfa kind earliest x = is_some (search_answer-exists nfa kind earliest x).1

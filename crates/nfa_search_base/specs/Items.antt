@@ -1,4 +1,4 @@
--- what an iterator over the matches of a haystack gives
+-- the items of an iterator over the matches of a haystack
 use Rattle.std.specs.Prelude.{◌≡◌, ℕ, zero, suc, ◌+◌, ◌<◌, Bool, true, false, if◌then◌else◌, List, [], ◌∷◌, Option, None, Some, Result, Ok, Err, OnSome}
 use Rattle.regex_search_core.specs.Search.{Search}
 use Rattle.regex_search_core.specs.declared.search.Span.{Span}
@@ -15,13 +15,13 @@ abbrev pub item_by : {A X : Type 0} → (A → X) → Result A SearchError → I
 item_by view (Ok m) = Ok (view m)
 item_by view (Err e) = Err e
 
--- the item that an answer makes
+-- the item of an answer
 abbrev pub item_of : {X : Type 0} → Answer X → Option (Item X)
 item_of (Ok (Some x)) = Some (Ok x)
 item_of (Ok None) = None
 item_of (Err e) = Some (Err e)
 
--- the iterator ends with this answer: with none and with an error
+-- the iterator ends with this answer: no match, or an error
 abbrev pub ends_with : {X : Type 0} → Answer X → Bool
 ends_with (Ok (Some x)) = false
 ends_with (Ok None) = true
@@ -33,19 +33,21 @@ matches_in [] = []
 matches_in (Ok x ∷ items) = x ∷ matches_in items
 matches_in (Err e ∷ items) = matches_in items
 
--- how many items may come, of an iterator that has ended or not: one for each end that is left, and an error
+-- the maximum number of items still to come, by whether the iterator has ended: one for each end that is left, and an
+-- error
 abbrev pub items_left : Bool → Walk → ℕ
 items_left true w = 0
 items_left false w = ends_left w + 1
 
--- and where no error comes
+-- and the same without an error
 abbrev pub matches_left : Bool → Walk → ℕ
 matches_left true w = 0
 matches_left false w = ends_left w
 
--- A match is an X, which lies at `span`.
+-- A match is an X. `span` gives its span.
 module _ {X : Type 0} (span : X → Span) where
-  -- a turn of an iterator that has not ended: a step of the iteration gives its item, and says whether it ends
+  -- a step of an iterator that has not ended gives the item of a step of the iteration, and says whether the iterator
+  -- ends
   pub record TakesTurn {S : Type 0} (asks : S → Search → Answer X → S → Type 0) (s : S) (w : Walk)
       (item : Option (Item X)) (s' : S) (w' : Walk) (done' : Bool) : Type 0 where
     pub answer : Answer X
@@ -56,7 +58,7 @@ module _ {X : Type 0} (span : X → Span) where
     pub same : SameButStart w.at w'.at
     pub fewer : OnSome item (items_left done' w' < items_left false w)
 
-  -- the answer of a step where the search is the function h
+  -- the answer of a step, if the search is the function h
   abbrev pub step_answer : (Search → Answer X) → Walk → Answer X
   step_answer h w = if repeats w (place_of span (h w.at)) then h (shifted w).at else h w.at
 
@@ -65,7 +67,7 @@ module _ {X : Type 0} (span : X → Span) where
   step_walk h w = if repeats w (place_of span (h w.at)) then after (shifted w) (place_of span (h (shifted w).at)) else
       after w (place_of span (h w.at))
 
-  -- a match and the items after it; an error alone; nothing
+  -- a match and the items after it; only an error; or nothing
   abbrev pub items_from : Answer X → List (Item X) → List (Item X)
   items_from (Ok (Some x)) rest = Ok x ∷ rest
   items_from (Ok None) rest = []
@@ -76,12 +78,12 @@ module _ {X : Type 0} (span : X → Span) where
   items_within h zero w = []
   items_within h (suc n) w = items_from (step_answer h w) (items_within h n (step_walk h w))
 
-  -- all items from w on of a search that is the function h, from left to right; each step leaves fewer ends, so that
-  -- these steps are enough
+  -- All items from w on, from left to right, if the search is the function h. Each step leaves fewer ends, so this
+  -- number of steps is enough.
   unfoldable pub greedy : (Search → Answer X) → Walk → List (Item X)
   greedy h w = items_within h (suc (ends_left w)) w
 
-  -- the items of an iterator that has ended or not
+  -- the items of an iterator, by whether it has ended
   abbrev pub greedy_unless : Bool → (Search → Answer X) → Walk → List (Item X)
   greedy_unless true h w = []
   greedy_unless false h w = greedy h w

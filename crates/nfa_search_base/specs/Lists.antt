@@ -1,5 +1,5 @@
--- The items of an iteration, from left to right, as one list: said by its steps alone, whoever asks for them. And the
--- list of the matches of a search of an NFA, which is such a list.
+-- The items of an iteration as one list, from left to right. It is defined by the steps only. The list of the matches
+-- of a search of an NFA is such a list.
 use Rattle.std.specs.Prelude.{ℕ, ◌≡◌, ◌⊎◌, ◌<◌, ◌≤◌, Bool, List, [], ◌∷◌, map, Option, None, Some, Result, Ok, Err, MatchBool}
 use Rattle.std.specs.Prelude.{IfSome, ⊤}
 use Rattle.std.specs.Option.{ForSome}
@@ -14,79 +14,79 @@ use Rattle.nfa_search_base.specs.Walks.{Answer, Walk, fresh, after, place_of, re
 use Rattle.nfa_search_base.specs.declared.error.SearchError.{SearchError}
 use Rattle.nfa_search_base.specs.declared.error.SearchError.TheVariants.{Memory}
 
--- the match lies in the span
+-- the match is in the span
 pub record IsInside (x : Search) (m : Found) : Type 0 where
   pub from : x.start ≤ m.start
   pub ordered : m.start ≤ m.end
   pub to : m.end ≤ x.end
 
--- each lies in the span, starts at or behind the end of the one before, and ends behind it
+-- each match is in the span, starts at or after the end of the one before, and ends after it
 abbrev pub AreApart : Search → Option ℕ → List Found → Type 0
 AreApart x last [] = ⊤
 AreApart x last (m ∷ ms) = IsInside x m × ForSome last (λ e. (e ≤ m.start) × (e < m.end)) × AreApart x (Some m.end) ms
 
--- the same of where the matches of any finder lie
+-- the same for the spans of the matches of any finder
 abbrev pub AreSpansApart : Search → Option ℕ → List Span → Type 0
 AreSpansApart x last [] = ⊤
 AreSpansApart x last (p ∷ ps) = ((x.start ≤ p.start) × (p.start ≤ p.end) × (p.end ≤ x.end))
     × ForSome last (λ e. (e ≤ p.start) × (e < p.end)) × AreSpansApart x (Some p.end) ps
 
--- the slot is none, or lies in the span
+-- the slot is none, or its offset is in the span
 abbrev pub IsSlotInside : Search → Option ℕ → Type 0
 IsSlotInside x slot = IfSome slot (λ k. (x.start ≤ k) × (k ≤ x.end))
 
--- A match is an X, which lies at `span`; a search `tells` an answer.
+-- A match is an X, and `span` gives its span. `tells` gives the answers of a search.
 module _ {X : Type 0} (span : X → Span) (tells : Search → Answer X → Type 0) where
-  -- A step from w answers this: what its search tells, or, where that is an empty match at the last end, what a search
-  -- from one byte on tells.
+  -- A step from w gives this answer: the answer of its search, or, if that is an empty match at the last end, the
+  -- answer of a search from one byte further on.
   pub record IsStep (w : Walk) (a : Answer X) : Type 0 where
     pub first : Answer X
     pub is_first : tells w.at first
     pub rest : MatchBool (repeats w (place_of span first)) (tells (shifted w).at a) (a ≡ first)
 
-  -- the step errs
+  -- the step fails
   abbrev pub Fails : Walk → SearchError → Type 0
   Fails w error = IsStep w (Err error)
 
-  -- the step errs, or has a match of which memory for a copy was refused
+  -- the step fails, or has a match whose copy could not be allocated
   abbrev pub FailsOrIsRefused : Walk → SearchError → Type 0
   FailsOrIsRefused w error = IsStep w (Err error) ⊎ ((error ≡ Memory) × (x : X) × IsStep w (Ok (Some x)))
 
-  -- An error comes where it `ends` the list.
+  -- `ends` says which error may end the list.
   module _ (ends : Walk → SearchError → Type 0) where
-    -- from w on these come next: matches, one after the other, and, as the last, maybe an error
+    -- the next items from w on: matches in order, and maybe an error as the last item
     abbrev pub ItemsNext : Walk → List (Item X) → Type 0
     ItemsNext w [] = ⊤
     ItemsNext w (Ok x ∷ items) = IsStep w (Ok (Some x)) × ItemsNext (after w (Some (span x))) items
     ItemsNext w (Err error ∷ items) = ends w error × (items ≡ [])
 
-    -- and none after them
+    -- these are the last items
     abbrev pub ItemsLast : Walk → List (Item X) → Type 0
     ItemsLast w [] = IsStep w (Ok None)
     ItemsLast w (Ok x ∷ items) = IsStep w (Ok (Some x)) × ItemsLast (after w (Some (span x))) items
     ItemsLast w (Err error ∷ items) = ends w error × (items ≡ [])
 
-  -- An item holds a Y, of which `view` is the match; an error comes where a step errs.
+  -- An item holds a Y, and `view` is its match. An error comes if a step fails.
   module _ {Y : Type 0} (view : Y → X) (w : Walk) where
     -- these are the first items from w on
     pub record AreFirstFound (items : List (Result Y SearchError)) : Type 0 where
       pub come : ItemsNext Fails w (map (item_by view) items)
 
-    -- all of them
+    -- these are all items from w on
     pub record AreAllFound (items : List (Result Y SearchError)) : Type 0 where
       pub come : ItemsLast Fails w (map (item_by view) items)
 
 module _ (nfa : Automaton) (kind : MatchKind) (earliest : Bool) where
-  -- a search tells its match, and never errs
+  -- a search gives its match, and never fails
   abbrev pub TellsMatch : Search → Answer Found → Type 0
   TellsMatch x (Ok found) = IsMatchAnswer nfa kind earliest x found
   TellsMatch x (Err error) = ⊥
 
-  -- from w on these come next, one after the other
+  -- these are the next matches from w on, in order
   abbrev pub ComeNext : Walk → List Found → Type 0
   ComeNext w ms = ItemsNext span_of TellsMatch (Fails span_of TellsMatch) w (map (λ m. Ok m) ms)
 
-  -- and none after them
+  -- these are the last matches
   abbrev pub ComeLast : Walk → List Found → Type 0
   ComeLast w ms = ItemsLast span_of TellsMatch (Fails span_of TellsMatch) w (map (λ m. Ok m) ms)
 
@@ -94,6 +94,6 @@ module _ (nfa : Automaton) (kind : MatchKind) (earliest : Bool) where
   pub record AreFirstMatches (x : Search) (ms : List Found) : Type 0 where
     pub come : ComeNext (fresh x) ms
 
-  -- these are the matches of x, all of them
+  -- these are all matches of x
   pub record AreMatches (x : Search) (ms : List Found) : Type 0 where
     pub come : ComeLast (fresh x) ms

@@ -1,4 +1,4 @@
--- What the calls of an iterator over the matches of an NFA have given, wherever they stop.
+-- What the calls of an iterator over the matches of an NFA have given so far.
 use Rattle.std.specs.Prelude.{List, map, All, None, Option}
 use Rattle.std.specs.Iterator.Runs.{EachRunFrom, ItemsMapTo}
 use Rattle.regex_search_core.specs.Found.{Found, found_of}
@@ -14,12 +14,12 @@ module _ (nfa : Automaton) (kind : MatchKind) (x : Search) where
   abbrev pub AreFirst : List Match → Type 0
   AreFirst xs = AreFirstMatches nfa kind x.earliest x (map found_of xs)
 
-  -- and these all of them
+  -- these items are all matches of x
   abbrev pub AreAll : List Match → Type 0
   AreAll xs = AreMatches nfa kind x.earliest x (map found_of xs)
 
   module _ {T : Type 0} (steps : T → Option Match → T → Type 0) where
-    -- each run of calls gives the first matches of x, and all of them where it goes on to `None`
+    -- the items of each run of calls are the first matches of x, and all of them if the run reaches `None`
     abbrev pub MatchesRun : T → Type 0
     MatchesRun s = RunsGive steps AreFirst AreAll s
 
@@ -27,17 +27,17 @@ module _ (nfa : Automaton) (kind : MatchKind) (x : Search) where
     abbrev pub MatchesFirst : T → Type 0
     MatchesFirst s = GivesFirst steps AreFirst s
 
-    -- after an item the items so far and that one are
+    -- after an item, the items so far with that item are the first matches
     abbrev pub MatchesNext : T → Type 0
     MatchesNext s = GivesNext steps AreFirst s
 
-    -- Where a list is that of the matches of x, the items of each run are its first elements, and all of them where the
-    -- run goes on to `None`.
+    -- If a list is that of the matches of x, the items of each run are its first elements, and all of them if the run
+    -- reaches `None`.
     abbrev pub MatchesAre : T → Type 0
     MatchesAre s = EachRunFrom steps s (λ p. (all : List Found) → AreMatches nfa kind x.earliest x all
         → ItemsMapTo p found_of all)
 
-    -- the items of each run are apart, in order, and in the span
+    -- the items of each run are in the span, in order and without overlap
     abbrev pub MatchesApart : T → Type 0
     MatchesApart s = EachRunFrom steps s (λ p. AreApart x None (map found_of p.items)
         × All (λ m. IsInside x (found_of m)) p.items)

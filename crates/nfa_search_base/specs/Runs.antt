@@ -1,12 +1,12 @@
--- What the calls of an iterator have given, wherever they stop: as clauses that a caller's loops and folds can use.
+-- What the calls of an iterator have given so far, as clauses that a caller's loops and folds can use.
 use Rattle.std.specs.Prelude.{◌≡◌, true, List, [], ◌∷◌, ◌++◌, Option, None, Some}
 use Rattle.std.specs.Iterator.{Yields}
 use Rattle.std.specs.Iterator.Runs.{EachRunFrom}
 
--- A call of the iterator `steps`. Of the items of a search some are `First`, and these may be `Whole`.
+-- `steps` is a call of the iterator. `First` are the first items of a search, and `Whole` are all of them.
 module _ {T R : Type 0} (steps : T → Option R → T → Type 0) where
   module _ (First Whole : List R → Type 0) where
-    -- each run of calls gives first items, and all of them where it goes on to `None`
+    -- the items of each run of calls are first items, and all of them if the run reaches `None`
     abbrev pub RunsGive : T → Type 0
     RunsGive s = EachRunFrom steps s (λ p. First p.items × (p.whole ≡ true → Whole p.items))
 
@@ -19,11 +19,11 @@ module _ {T R : Type 0} (steps : T → Option R → T → Type 0) where
     abbrev pub GivesFirst : T → Type 0
     GivesFirst s = (xs : List R) (t : T) → Yields steps s xs t → First xs
 
-    -- after an item the items so far and that one are
+    -- after an item, the items so far with that item are first items
     abbrev pub GivesNext : T → Type 0
     GivesNext s = (xs : List R) (t : T) (r : R) (u : T) → Yields steps s xs t → steps t (Some r) u
         → First (xs ++ r ∷ [])
 
-  -- the calls keep what `Keeps` says
+  -- calls lead only to states that `Keeps` relates to s
   abbrev pub GivesKept : (T → T → Type 0) → T → Type 0
   GivesKept Keeps s = (xs : List R) (t : T) (r : Option R) (u : T) → Yields steps s xs t → steps t r u → Keeps s u

@@ -9,22 +9,22 @@ use Rattle.nfa_search_base.specs.declared.iter.searcher.Searcher.{Searcher}
 use Rattle.nfa_search_base.specs.declared.iter.searcher.Offered.{Offered}
 use Rattle.nfa_search_base.specs.declared.iter.searcher.Offered.TheVariants.{Done, Again}
 
--- where the searcher stands
+-- the iteration of the searcher
 abbrev pub walk_of : Searcher → Walk
 walk_of s = record { at = search_of s.input; last = s.last_match_end }
 
--- what becomes of an answer that is offered: it is done, and moves the iteration, or it is an empty match at the last
--- end, and the start moves one on
+-- The result of offering an answer. Either it is done, and moves the iteration, or it is an empty match at the last
+-- end, and the start moves one byte on.
 abbrev pub OfferGives : Walk → Option Match → Offered → Walk → Type 0
 OfferGives w o (Done p) w' = (p ≡ o) × (repeats w (match_place (Ok o)) ≡ false) × (w' ≡ after w (match_place (Ok o)))
 OfferGives w o Again w' = (repeats w (match_place (Ok o)) ≡ true) × (w' ≡ shifted w) × IsPast w'
 
--- the answer is done with
+-- the answer is done
 abbrev pub IsDone : Offered → Type 0
 IsDone (Done p) = Unit {0}
 IsDone Again = ⊥
 
--- where the match lies that is done with
+-- the span of the match that is done
 abbrev pub offered_place : Offered → Option Span
 offered_place (Done p) = match_place (Ok p)
 offered_place Again = None

@@ -1,4 +1,4 @@
--- whatever answers searches
+-- what answers searches
 use Rattle.std.specs.Prelude.{◌≡◌, true, List}
 use Rattle.std.specs.List.{FoldsTo}
 use Rattle.regex_search_core.specs.Search.{Search}
@@ -6,9 +6,9 @@ use Rattle.regex_search_core.specs.declared.search.Span.{Span}
 use Rattle.nfa_search_base.specs.Likes.{SameButStart}
 use Rattle.nfa_search_base.specs.Walks.{Answer, Walk, place_of, repeats, shifted, Advances, LiesIn, ComesAfter, LeavesFewer}
 
--- In the state s it `accepts` a search t, and then a call on t `asks` it, which gives a reply and leaves a state.
+-- In the state s it `accepts` a search t. A call on t, as `asks` says, then gives a reply and leaves a state.
 module _ {S R : Type 0} (accepts : S → Search → Type 0) (asks : S → Search → R → S → Type 0) where
-  -- it may be called on this search, and P holds of what it then replies
+  -- it may be called on this search, and P holds of its reply
   pub record ServesOn (P : Search → R → Type 0) (s : S) (t : Search) : Type 0 where
     pub callable : accepts s t
     pub replies : (reply : R) (s' : S) → asks s t reply s' → P t reply
@@ -18,7 +18,7 @@ module _ {S R : Type 0} (accepts : S → Search → Type 0) (asks : S → Search
     abbrev pub LeadsOn : Search → S → List (Search × R) → S → Type 0
     LeadsOn t s calls s' = FoldsTo (λ p x q. Same t x.0 × asks p x.0 x.1 q) s calls s'
 
-    -- wherever such calls lead from s, the next, on u, may give this reply
+    -- after some such calls from s, the next call, on u, may give this reply
     pub record MayReply (s : S) (t u : Search) (reply : R) : Type 0 where
       pub calls : List (Search × R)
       pub between : S
@@ -27,22 +27,22 @@ module _ {S R : Type 0} (accepts : S → Search → Type 0) (asks : S → Search
       pub same : Same t u
       pub asked : asks between u reply left
 
-    -- wherever such calls lead, the next may be made, and P holds of what it replies
+    -- after any such calls, the next call may be made, and P holds of its reply
     pub record ServesOnAlong (P : Search → R → Type 0) (s : S) (t : Search) : Type 0 where
       pub at : (calls : List (Search × R)) (s' : S) (u : Search) → LeadsOn t s calls s' → Same t u → ServesOn P s' u
 
--- Its replies are answers, whose matches lie at `span`.
+-- Its replies are answers. `span` gives the spans of their matches.
 module _ {S X : Type 0} (accepts : S → Search → Type 0) (asks : S → Search → Answer X → S → Type 0)
     (span : X → Span) where
-  -- P holds of its answers for a step of the iteration w, for which it may be called once, and again one on where the
-  -- first answer is an empty match at the last end
+  -- P holds of its answers for a step of the iteration w. The step may call it once, and again one byte on if the first
+  -- answer is an empty match at the last end.
   pub record ServesTurn (P : Search → Answer X → Type 0) (s : S) (w : Walk) : Type 0 where
     pub first : ServesOn accepts asks P s w.at
     pub second : (a : Answer X) (s' : S) → asks s w.at a s' → repeats w (place_of span a) ≡ true
         → ServesOn accepts asks P s' (shifted w).at
 
-  -- what a step gives: it is one of the iteration, its match lies in the search's span, comes after the last one and
-  -- leaves fewer ends, and only the search's start moved
+  -- The result of a step. It is one of the iteration. Its match is in the search's span, comes after the last one and
+  -- leaves fewer ends. Only the search's start moved.
   pub record StepDone (s : S) (w : Walk) (a : Answer X) (s' : S) (w' : Walk) : Type 0 where
     pub step : Advances span asks s w a s' w'
     pub inside : LiesIn w.at (place_of span a)

@@ -1,4 +1,4 @@
--- the steps of an iterator that keeps what it asks
+-- the steps of an iterator that keeps its finder or engine
 use Rattle.std.specs.Prelude.{◌≡◌, ◌<◌, Bool, true, false, Option, None, Some, Result, Ok, Err, OnSome, option_map}
 use Rattle.regex_search_core.specs.Search.{Search}
 use Rattle.regex_search_core.specs.declared.search.Span.{Span}
@@ -13,13 +13,13 @@ HasMatch (Ok (Some x)) = Unit {0}
 HasMatch (Ok None) = ⊥
 HasMatch (Err e) = ⊥
 
--- an item that is no error comes of a match
+-- an item that is not an error is that of a match
 abbrev pub ComesOfMatch : {X Y : Type 0} → Answer X → Option (Result Y SearchError) → Type 0
 ComesOfMatch a None = Unit {0}
 ComesOfMatch a (Some (Ok y)) = HasMatch a
 ComesOfMatch a (Some (Err e)) = Unit {0}
 
--- the iterator ends with this item: with none and with an error
+-- the iterator ends with this item: `None` or an error
 abbrev pub ends_at : {Y : Type 0} → Option (Result Y SearchError) → Bool
 ends_at None = true
 ends_at (Some (Ok y)) = false
@@ -29,8 +29,8 @@ ends_at (Some (Err e)) = true
 abbrev pub GivesItem : {X Y : Type 0} → (Y → X) → Answer X → Option (Result Y SearchError) → Type 0
 GivesItem view a r = option_map (item_by view) r ≡ item_of a
 
--- A match is an X, which lies at `span`; a call `asks`; an item is a Y, and `gives` says which an answer gives, in the
--- state that the call left.
+-- A match is an X, and `span` gives its span. `asks` is a call. An item is a Y, and `gives` says which item an answer
+-- gives in the state that the call left.
 module _ {S X Y : Type 0} (span : X → Span) (asks : S → Search → Answer X → S → Type 0)
     (gives : S → Answer X → Option (Result Y SearchError) → Type 0) where
   -- a step of an iterator that has not ended

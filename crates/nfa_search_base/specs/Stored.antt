@@ -1,4 +1,4 @@
--- the iterators that keep what they ask
+-- the iterators that keep their finder or engine
 use Rattle.std.specs.Prelude.{◌≡◌, Option, None, Result, Ok, MatchBool, option_map}
 use Rattle.std.specs.Iterator.{Count, at_most}
 use Rattle.regex_search_core.specs.Search.{Search}
@@ -12,36 +12,36 @@ use Rattle.nfa_search_base.specs.Steps.{TakesStep}
 use Rattle.nfa_search_base.specs.declared.error.SearchError.{SearchError}
 use Rattle.nfa_search_base.specs.declared.iter.steps.Steps.{Steps}
 
--- where the iterator stands
+-- the iteration of the iterator
 abbrev pub steps_walk : {S : Type 0} → Steps S → Walk
 steps_walk s = walk_of s.searcher
 
--- how many items may come
+-- the maximum number of items still to come
 abbrev pub steps_left : {S : Type 0} → Steps S → Count
 steps_left s = at_most (items_left s.done (steps_walk s))
 
--- how many matches may come
+-- the maximum number of matches still to come
 abbrev pub sure_left : {S : Type 0} → Steps S → Count
 sure_left s = at_most (matches_left s.done (steps_walk s))
 
 module _ {S X : Type 0} (accepts : S → Search → Type 0) (asks : S → Search → Answer X → S → Type 0)
     (span : X → Span) where
-  -- wherever calls lead, the next on a search of the iteration may be made, and its match lies in the span
+  -- after any calls, the next call on a search of the iteration may be made, and its match is in the span
   abbrev pub can_step : Steps S → Type 0
   can_step s = ServesOnAlong accepts asks SameButStart (AnswerIsInside span) s.asker (steps_walk s).at
 
-  -- and is no error
+  -- and its answer is not an error
   abbrev pub can_step_surely : Steps S → Type 0
   can_step_surely s = ServesOnAlong accepts asks SameButStart (IsSurelyInside span) s.asker (steps_walk s).at
 
 module _ {S X Y : Type 0} (span : X → Span) (asks : S → Search → Answer X → S → Type 0)
     (gives : S → Answer X → Option (Result Y SearchError) → Type 0) where
-  -- nothing comes, and nothing changes, once it has ended; else it takes a step
+  -- if the iterator has ended, it gives nothing and nothing changes; otherwise it takes a step
   abbrev pub takes_steps : Steps S → Option (Result Y SearchError) → Steps S → Type 0
   takes_steps s r t = MatchBool s.done
       ((r ≡ None) × (t ≡ s))
       (TakesStep span asks gives s.asker (steps_walk s) r t.asker (steps_walk t) t.done)
 
-  -- a step with no error
+  -- a step without an error
   abbrev pub takes_sure_steps : Steps S → Option Y → Steps S → Type 0
   takes_sure_steps s r t = takes_steps s (option_map (λ m. Ok m) r) t

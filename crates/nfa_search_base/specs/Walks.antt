@@ -7,11 +7,11 @@ use Rattle.regex_search_core.specs.Search.{Search}
 use Rattle.regex_search_core.specs.declared.search.Span.{Span}
 use Rattle.nfa_search_base.specs.declared.error.SearchError.{SearchError}
 
--- what a search for an X answers: one, none, or an error
+-- the answer of a search for an X: one, none, or an error
 abbrev pub Answer : Type 0 → Type 0
 Answer X = Result (Option X) SearchError
 
--- where an iteration stands: the search that it asks next, and the end of the last match
+-- the state of an iteration: its next search, and the end of the last match
 pub record Walk : Type 0 where
   pub at : Search
   pub last : Option ℕ
@@ -29,11 +29,11 @@ abbrev pub ended_at : Option ℕ → ℕ → Bool
 ended_at None e = false
 ended_at (Some x) e = x == e
 
--- the iteration with its start one on
+-- the iteration with its start moved one byte on
 abbrev pub shifted : Walk → Walk
 shifted w = record w { at = record w.at { start = w.at.start + 1 } }
 
--- how many ends a match may still have
+-- the number of ends that a match may still have
 abbrev pub ends_left : Walk → ℕ
 ends_left w = w.at.end + 1 - first_end w.last
   where
@@ -41,59 +41,59 @@ ends_left w = w.at.end + 1 - first_end w.last
     first_end None = w.at.start
     first_end (Some e) = max w.at.start (e + 1)
 
--- An answer moves the iteration by where its match lies: `Some` span, or `None` where it has no match.
+-- An answer moves the iteration by the span of its match: `Some` span, or `None` if it has no match.
 
--- the match lies in the span of the search
+-- the match is in the span of the search
 abbrev pub LiesIn : Search → Option Span → Type 0
 LiesIn s (Some p) = (s.start ≤ p.start) × (p.end ≤ s.end)
 LiesIn s None = Unit {0}
 
--- the match is an empty one where the last one ended
+-- the match is empty and at the end of the last match
 abbrev pub repeats : Walk → Option Span → Bool
 repeats w (Some p) = (p.start == p.end) && ended_at w.last p.end
 repeats w None = false
 
--- the iteration after it: a match moves the start, and the last end, to its end
+-- the iteration after an answer: a match moves the start, and the last end, to its end
 abbrev pub after : Walk → Option Span → Walk
 after w (Some p) = record { at = record w.at { start = p.end }; last = Some p.end }
 after w None = w
 
--- the match starts not before the last end, and ends after it
+-- the match starts at or after the last end, and ends after it
 abbrev pub ComesAfter : Walk → Option Span → Type 0
 ComesAfter w (Some p) = ForSome w.last (λ e. (e ≤ p.start) × (e < p.end))
 ComesAfter w None = Unit {0}
 
--- a match leaves fewer ends, and no match not more
+-- a match leaves fewer ends, and no match leaves at most as many
 abbrev pub LeavesFewer : Walk → Option Span → Walk → Type 0
 LeavesFewer w (Some p) w' = ends_left w' < ends_left w
 LeavesFewer w None w' = ends_left w' ≤ ends_left w
 
--- where a match lies
+-- the span of a match
 abbrev pub span_of : Found → Span
 span_of m = record { start = m.start; end = m.end }
 
--- where a half match is taken to lie: at its offset, without bytes
+-- the span of a half match: its offset, without bytes
 abbrev pub half_span_of : HalfFound → Span
 half_span_of m = record { start = m.offset; end = m.offset }
 
--- A match is an X, which lies at `span`.
+-- A match is an X, and `span` gives its span.
 module _ {X : Type 0} (span : X → Span) where
-  -- where the answer's match lies
+  -- the span of the answer's match
   abbrev pub place_of : Answer X → Option Span
   place_of (Ok (Some x)) = Some (span x)
   place_of (Ok None) = None
   place_of (Err e) = None
 
-  -- the answer's match, if there is one, lies in the span of the search
+  -- the answer's match, if there is one, is in the span of the search
   abbrev pub AnswerIsInside : Search → Answer X → Type 0
   AnswerIsInside s a = LiesIn s (place_of a)
 
-  -- and the answer is no error
+  -- and the answer is not an error
   abbrev pub IsSurelyInside : Search → Answer X → Type 0
   IsSurelyInside s a = AnswerIsInside s a × IsOk a
 
-  -- A step, of what is asked in the state s and of the iteration w, gave r: the first answer, or, where that is an
-  -- empty match at the last end, the answer one on.
+  -- A step from the state s and the iteration w gave r: the first answer, or, if that is an empty match at the last
+  -- end, the answer from one byte further on.
   pub record Advances {S : Type 0} (asks : S → Search → Answer X → S → Type 0) (s : S) (w : Walk) (r : Answer X)
       (s' : S) (w' : Walk) : Type 0 where
     pub answer : Answer X

@@ -1,4 +1,4 @@
-//! A call of a finder that is lent.
+//! A call of a finder that is borrowed.
 ghost use Rattle.regex_search_core.specs.Search.{search_of};
 ghost use Rattle.nfa_search_base.specs.Asking.{Asks, IsCallableOn};
 ghost use Rattle.nfa_search_base.specs.Catching.{AsksWith, IsCallableWith};
@@ -6,7 +6,7 @@ ghost use Rattle.nfa_search_base.specs.Catching.{AsksWith, IsCallableWith};
 use crate::error::SearchError;
 use regex_search_core::{Captures, Input};
 
-// One call of a finder that a caller handed in.
+// Calls a caller's finder once.
 pub(crate) fn ask<F, R>(finder: &mut F, input: &Input<'_>) -> R
 where
     F: FnMut(&Input<'_>) -> R,
@@ -16,7 +16,7 @@ where
     finder(input)
 }
 
-// One call of a finder of captures that a caller handed in.
+// Calls a caller's finder of captures once.
 pub(crate) fn ask_with<F>(
     finder: &mut F,
     input: &Input<'_>,

@@ -1,11 +1,10 @@
-//! The skipping of empty matches that split a character.
+//! Skips empty matches that split a codepoint.
 //!
-//! Where matches are to be UTF-8, a match without bytes that lies inside a character does not
-//! count. A search that found one goes on from one byte further, as often as it takes. The rule is
-//! that of regex-automata's `util::empty`.
+//! In UTF-8 mode, an empty match that splits a codepoint does not count. A search that found one searches again from
+//! one byte further on, as often as needed. The rule is that of regex-automata's `util::empty`.
 //!
-//! The engines skip by themselves. Take these functions for an engine of another make, which finds matches inside
-//! characters: they are handed its first answer and call it again where that does not count.
+//! The engines skip by themselves. Use these functions with an engine of your own that finds matches inside codepoints.
+//! They take its first answer, and call it again if that answer does not count.
 //!
 //! ```
 //! // `search` gives a match and its end, wherever it lies.
@@ -26,15 +25,15 @@ use regex_search_core::Input;
 
 /// Returns the first answer whose offset does not split a codepoint, as the start of the search moves on.
 ///
-/// `init` and `offset` are what a search of `input` found: a value, and the byte offset where the
-/// match lies. If the offset is an edge of a character, the value is the answer. If it is not, the
-/// finder is called on the input with its start raised by 1, then by 2, and so on, until it answers
-/// none, an error, or an offset that is an edge: that answer is handed on. An anchored search is
-/// not moved: the finder is not called, and the answer is the value or none.
+/// `init` and `offset` are what a search of `input` found: a value, and the byte offset of its match. If the offset is
+/// a boundary, the value is the answer. Otherwise the finder is called on the input with its start raised by 1, then by
+/// 2, and so on, until it returns `None`, an error, or an offset that is a boundary. That answer is returned. An
+/// anchored search does not move: the finder is not called, and the answer is the value, or `None` if its offset is not
+/// a boundary.
 ///
-/// The caller owes that `offset` lies in the input's span, and that the finder may be called on the
-/// inputs on which it is called, and answers offsets in their spans: on the first only where `offset`
-/// is not the edge of a character, on each further one only after such an answer.
+/// Requires that `offset` is in the input's span. Requires that the finder may be called on each input on which it is
+/// called, and returns offsets in that input's span. The first call is made only if `offset` is not a boundary, and
+/// each further one only after an answer whose offset is not one.
 pub fn skip_splits_fwd<T: Drop, F>(
     input: &Input<'_>,
     init: T,
@@ -61,8 +60,8 @@ where
     skip_splits_fwd_by_ref(input, init, offset, &mut find)
 }
 
-/// The same as [`skip_splits_fwd`], with a finder that is lent: it is left as its last call left it, and as it was
-/// where none was made.
+/// The same as [`skip_splits_fwd`], but borrows the finder. The finder keeps the state that its last call left. If it
+/// is not called, it stays as it was.
 pub fn skip_splits_fwd_by_ref<T: Drop, F>(
     input: &Input<'_>,
     init: T,
@@ -94,12 +93,12 @@ where
 
 /// Returns the first answer whose offset does not split a codepoint, as the end of the search moves back.
 ///
-/// The same as [`skip_splits_fwd`] for a search that goes from right to left: the finder is called
-/// on the input with its end lowered by 1, then by 2, and so on. Where the end is 0 the answer is
-/// none, without a call. An anchored search is not moved.
+/// The same as [`skip_splits_fwd`] for a search from right to left. The finder is called on the input with its end
+/// lowered by 1, then by 2, and so on. If the end is 0, the answer is `None` without a call. An anchored search does
+/// not move.
 ///
-/// The caller owes that `offset` lies in the input's span, and that the finder may be called on the
-/// inputs on which it is called, and answers offsets in their spans.
+/// Requires that `offset` is in the input's span, and that the finder may be called on each input on which it is
+/// called, and returns offsets in that input's span.
 pub fn skip_splits_rev<T: Drop, F>(
     input: &Input<'_>,
     init: T,
@@ -126,8 +125,8 @@ where
     skip_splits_rev_by_ref(input, init, offset, &mut find)
 }
 
-/// The same as [`skip_splits_rev`], with a finder that is lent: it is left as its last call left it, and as it was
-/// where none was made.
+/// The same as [`skip_splits_rev`], but borrows the finder. The finder keeps the state that its last call left. If it
+/// is not called, it stays as it was.
 pub fn skip_splits_rev_by_ref<T: Drop, F>(
     input: &Input<'_>,
     init: T,
@@ -157,7 +156,7 @@ where
     skip_backward(*input, init, offset, find)
 }
 
-// The value, if its offset is an edge of a character.
+// Returns the value if its offset is a boundary.
 fn keep_whole<T: Drop>(input: &Input<'_>, value: T, offset: usize) -> Option<T>
     ensures whole { IsBoundary (search_of input.now).haystack offset → result ≡ Some value }
     ensures split { ¬ (IsBoundary (search_of input.now).haystack offset) → result ≡ None }
@@ -169,7 +168,7 @@ fn keep_whole<T: Drop>(input: &Input<'_>, value: T, offset: usize) -> Option<T>
     }
 }
 
-// The search that is not anchored, with its start going up.
+// Skips in a search that is not anchored, raising its start.
 fn skip_forward<T: Drop, F>(
     mut input: Input<'_>,
     init: T,
@@ -201,7 +200,7 @@ where
     Ok(Some(value))
 }
 
-// The search that is not anchored, with its end going down.
+// Skips in a search that is not anchored, lowering its end.
 fn skip_backward<T: Drop, F>(
     mut input: Input<'_>,
     init: T,

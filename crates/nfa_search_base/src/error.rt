@@ -1,7 +1,7 @@
-//! Why a search gives no answer.
+//! Why a search fails.
 //!
-//! A PikeVM's searches have no error, but what takes memory for it has, and so has every search of a backtracker. `?`
-//! turns a [`Refused`], the error of a `push` and the [`MatchError`] of a finder of one's own into this one.
+//! A search of a PikeVM has no error. Its calls that allocate have one, and so does every search of a backtracker. `?`
+//! turns a [`Refused`], the error of a `push`, and the [`MatchError`] of a finder of your own into this error.
 //!
 //! ```
 //! match engine.try_find(&mut cache, Input::new(text)) {
@@ -14,16 +14,16 @@ use regex_search_core::{MatchError, Refused};
 use std::alloc::AllocFailed;
 use thiserror::Error;
 
-/// Why a search, or a step of an iteration, gave no answer. Making one takes no memory.
+/// Why a search, or a step of an iteration, failed. Making an error allocates nothing.
 #[derive(Clone, Copy, Debug, PartialEq, Eq, Error)]
 pub enum SearchError {
     /// The span has `len` bytes, more than the engine's visited capacity allows for its NFA.
     #[error("the span of {len} bytes is too long to search")]
     HaystackTooLong { len: usize },
-    /// A growth was refused.
+    /// An allocation failed.
     #[error("out of memory")]
     Memory,
-    /// A finder of the caller's failed; its error is handed on and never looked into.
+    /// The caller's finder failed with this error, which is passed on unread.
     #[error("the finder failed: {0}")]
     Finder(MatchError),
 }

@@ -1,13 +1,12 @@
-//! Iteration over the matches of a haystack, which always moves on.
+//! Iteration over the matches of a haystack, which always moves forward.
 //!
-//! A [`Searcher`] keeps an input and the end of the last match. Each step asks for a match in the
-//! input, and moves the input's start to the match's end. A match without bytes where the last one
-//! ended would come again and again; in its place the step asks once more from one byte further.
-//! So the ends of the matches go up, and there are at most as many matches as the span has bytes,
-//! and one more. The rule is that of regex-automata's `util::iter`.
+//! A [`Searcher`] keeps an input and the end of the last match. Each step searches the input for a match, and moves the
+//! input's start to the match's end. An empty match at the end of the last match would be found again and again, so the
+//! step then searches once more from one byte further on. The ends of the matches therefore rise, and there are at most
+//! as many matches as the span has bytes, plus one. The rule is that of regex-automata's `util::iter`.
 //!
-//! The engines have iterators of their own (`find_iter`, `captures_iter`). Take a searcher for a search of another
-//! make, or where something is to happen between the steps.
+//! The engines have iterators of their own (`find_iter`, `captures_iter`). Use a searcher for a search of your own, or
+//! to do something between the steps.
 //!
 //! ```
 //! let mut searcher = Searcher::new(Input::new(text));

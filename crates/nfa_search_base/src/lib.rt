@@ -1,8 +1,8 @@
-//! What all searches share, whichever engine makes them: the [`error`] of a search, the skipping of matches that split
-//! a character ([`empty`]), and iteration over matches ([`iter`]). What a search answers is defined in `nfa_paths`.
+//! What the searches of all engines share: the [`error`] of a search, the skipping of matches that split a codepoint
+//! ([`empty`]), and iteration over matches ([`iter`]). `nfa_paths` defines the answer of a search.
 //!
-//! Take it to build an engine, or an iteration over a search of another make. Who uses the engines finds all of it in
-//! `nfa_engines`, which hands these modules on.
+//! Use this crate to build an engine, or an iteration over a search of your own. Callers of the engines find it all in
+//! `nfa_engines`, which re-exports these modules.
 //!
 //! ```
 //! let mut searcher = Searcher::new(Input::new(text));

@@ -1,4 +1,4 @@
-//! The iterators over the captures that a stored finder gives.
+//! Iterators over the captures of a stored finder.
 use crate::error::SearchError;
 use crate::iter::finder::OnCaptures;
 use crate::iter::searcher::Searcher;
@@ -7,13 +7,12 @@ use regex_search_core::{Captures, Input};
 use std::fmt;
 use std::marker::Model;
 
-/// The captures of the matches that a finder gives, from left to right, by the steps of
+/// An iterator over the captures of the matches of a finder, from left to right, by the steps of
 /// [`Searcher::try_advance`].
 ///
-/// It keeps the finder and captures that the finder writes to. Its items are `Ok` copies of these
-/// captures, at most as many as the span has bytes and one more, and at most one error: that of the
-/// finder, or [`SearchError::Memory`] where there is no memory for a copy. It ends for good after
-/// the first none and after the error.
+/// It owns the finder and the captures that the finder writes. Its items are `Ok` copies of these captures, at most as
+/// many as the span has bytes plus one, and at most one error: that of the finder, or [`SearchError::Memory`] if the
+/// allocation of a copy failed. It is fused: it ends permanently after the first `None` and after the error.
 #[derive(Drop)]
 pub struct TryCapturesIter<'h, F> {
     steps: Steps<'h, OnCaptures<F>>,
@@ -40,9 +39,9 @@ impl<'h> Searcher<'h> {
 
     /// Returns an iterator over the captures that the finder gives from here on.
     ///
-    /// The caller owes that the finder, wherever earlier calls have led it and these captures, may
-    /// be called on each input of this haystack, anchoring, `earliest` flag and span end, and leaves
-    /// captures whose match lies in that input's span.
+    /// Requires that the finder, after any earlier calls and with the captures that they left, may be called on each
+    /// input with this haystack, anchoring, `earliest` flag and span end, and leaves captures whose match is in that
+    /// input's span.
     pub fn into_captures_iter<F>(self, captures: Captures, finder: F) -> TryCapturesIter<'h, F>
     where
         F: FnMut(&Input<'_>, &mut Captures) -> Result<(), SearchError>,
@@ -52,16 +51,16 @@ impl<'h> Searcher<'h> {
         ensures walk { steps_walk result ≡ walk_of self.entry }
         ensures finder { result.asker ≡ record { finder = finder; captures = captures } }
         ensures going { result.done ≡ false }
-        // Each run of calls gives the first captures, and all of them where it goes on to `None`.
+        // The items of each run of calls are the first captures, and all of them if the run reaches `None`.
         ensures runs { CaughtRun F.FnMut (record { finder = finder; captures = captures }) (walk_of self.entry) result }
         ensures first { CaughtFirst F.FnMut (record { finder = finder; captures = captures }) (walk_of self.entry)
             result }
         ensures next { CaughtNext F.FnMut (record { finder = finder; captures = captures }) (walk_of self.entry)
             result }
         ensures all { CaughtAll F.FnMut (record { finder = finder; captures = captures }) (walk_of self.entry) result }
-        // Their matches lie in the span, in order and apart.
+        // Their matches are in the span, in order and without overlap.
         ensures apart { CaughtApart F.FnMut (walk_of self.entry) result }
-        // Where the finder computes h, the items hold the rows of the greedy list of h, up to a refusal of memory.
+        // If the finder computes h, the items hold the rows of the greedy list of h, up to a failed allocation.
         ensures list { (h : Search → Answer Row) → CatchesBy F.FnMut h (record { finder = finder; captures = captures })
             (walk_of self.entry).at → YieldsUpToRefusal (takes_steps row_span (Catches F.FnMut) GivesCaptures)
             (item_by row_of) result (greedy row_span h (walk_of self.entry)) }
@@ -86,22 +85,22 @@ impl<'h, F> TryCapturesIter<'h, F> {
     ghost use Rattle.nfa_search_base.specs.StoredRuns.{SureCaughtAll, SureCaughtApart, SureCaughtFirst, SureCaughtNext, SureCaughtRun};
     ghost use Rattle.nfa_search_base.specs.Walks.{Answer, IsSurelyInside};
 
-    /// The input that the next step searches.
+    /// Returns the input of the next search.
     pub fn input(&self) -> &Input<'h>
         ensures { search_of result.now ≡ (steps_walk self.now).at }
     {
         self.steps.searcher.input()
     }
 
-    /// The same captures, with no error but a refusal of memory. The caller owes that the finder
-    /// never errs, wherever calls lead it.
+    /// Returns an iterator over the same captures whose only error is [`SearchError::Memory`]. Requires that the finder
+    /// never fails, after any calls.
     pub fn infallible(self) -> CapturesIter<'h, F>
     where
         F: FnMut(&Input<'_>, &mut Captures) -> Result<(), SearchError>,
         requires { CatchesAlong F.FnMut (IsSurelyInside row_span) self.asker (steps_walk self).at }
         ensures can { can_step_surely (CanCatch F.FnMut) (Catches F.FnMut) row_span result }
         ensures same { result ≡ self.entry }
-        // Each run of calls gives the first captures, and all of them where it goes on to `None`.
+        // The items of each run of calls are the first captures, and all of them if the run reaches `None`.
         ensures runs { self.entry.done ≡ false
             → SureCaughtRun F.FnMut self.entry.asker (steps_walk self.entry) result }
         ensures first { self.entry.done ≡ false
@@ -110,9 +109,9 @@ impl<'h, F> TryCapturesIter<'h, F> {
             → SureCaughtNext F.FnMut self.entry.asker (steps_walk self.entry) result }
         ensures all { self.entry.done ≡ false
             → SureCaughtAll F.FnMut self.entry.asker (steps_walk self.entry) result }
-        // Their matches lie in the span, in order and apart.
+        // Their matches are in the span, in order and without overlap.
         ensures apart { self.entry.done ≡ false → SureCaughtApart F.FnMut (steps_walk self.entry) result }
-        // Where the finder computes h, the items hold the rows of the greedy list of h, up to a refusal of memory.
+        // If the finder computes h, the items hold the rows of the greedy list of h, up to a failed allocation.
         ensures list { (h : Search → Answer Row) → CatchesBy F.FnMut h self.entry.asker (steps_walk self.entry).at
             → YieldsUpToRefusal (takes_sure_catches F.FnMut) (item_by row_of) result
             (greedy_unless row_span self.entry.done h (steps_walk self.entry)) }
@@ -141,7 +140,7 @@ where
     }
 }
 
-/// Leaves the finder out of the text.
+/// Formats the iterator without the finder.
 impl<'h, F> fmt::Debug for TryCapturesIter<'h, F> {
     fn fmt<W: fmt::Write>(&self, f: &mut fmt::Formatter<W>) -> fmt::Result {
         f.debug_struct("TryCapturesIter")
@@ -152,10 +151,10 @@ impl<'h, F> fmt::Debug for TryCapturesIter<'h, F> {
     }
 }
 
-/// The captures of the matches that a finder that never errs gives, from left to right.
+/// An iterator over the captures of the matches of a finder that never fails, from left to right.
 ///
-/// There are at most as many as the span has bytes, and one more. It ends for good after the first
-/// none and after a refusal of memory.
+/// There are at most as many as the span has bytes, plus one. It ends permanently after the first `None` and after a
+/// failed allocation.
 #[derive(Drop)]
 pub struct CapturesIter<'h, F> {
     tries: TryCapturesIter<'h, F>,
@@ -175,7 +174,7 @@ impl<'h, F> CapturesIter<'h, F> {
     ghost use Rattle.regex_search_core.specs.Search.{search_of};
     ghost use Rattle.nfa_search_base.specs.Stored.{steps_walk};
 
-    /// The input that the next step searches.
+    /// Returns the input of the next search.
     pub fn input(&self) -> &Input<'h>
         ensures { search_of result.now ≡ (steps_walk self.now).at }
     {
@@ -204,7 +203,7 @@ where
     }
 }
 
-/// Leaves the finder out of the text.
+/// Formats the iterator without the finder.
 impl<'h, F> fmt::Debug for CapturesIter<'h, F> {
     fn fmt<W: fmt::Write>(&self, f: &mut fmt::Formatter<W>) -> fmt::Result {
         f.debug_struct("CapturesIter")

@@ -1,5 +1,5 @@
-//! What an iterator over captures makes of a search that filled them. Engines build their iterators on it; who uses an
-//! engine takes its `captures_iter` instead, and for a search of another make `Searcher::into_captures_iter`.
+//! The items of an iterator over captures. Engines build their iterators on these functions. To use an engine, call its
+//! `captures_iter`; for a search of your own, call `Searcher::into_captures_iter`.
 //!
 //! ```
 //! let reply = engine.try_search(&mut cache, &input, &mut captures);
@@ -15,8 +15,8 @@ ghost use Rattle.nfa_search_base.specs.Walks.{place_of};
 use crate::error::SearchError;
 use regex_search_core::{Captures, Span};
 
-/// Where the match lies of a search that left these captures and gave this reply. `None` where there is none, and after
-/// an error.
+/// Returns the span of the match of a search that left these captures and returned this reply. `None` if there is no
+/// match, and after an error.
 #[inline]
 pub fn caught_span(captures: &Captures, reply: Result<(), SearchError>) -> Option<Span>
     ensures place { result ≡ place_of row_span (caught_by captures.now reply) }
@@ -28,8 +28,8 @@ pub fn caught_span(captures: &Captures, reply: Result<(), SearchError>) -> Optio
     }
 }
 
-/// The item of that search: a copy of the captures where they have a match, [`SearchError::Memory`] where memory for
-/// the copy is refused, else the error of the reply, or none.
+/// Returns the item of that search. An error of the reply is the item. Otherwise it is a copy of the captures if they
+/// have a match, [`SearchError::Memory`] if the copy could not be allocated, and `None` without a match.
 #[inline]
 pub fn caught_item(
     captures: &Captures,

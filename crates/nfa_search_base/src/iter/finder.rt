@@ -1,4 +1,4 @@
-//! What an iteration asks: a finder that it keeps.
+//! Finders that an iteration owns.
 ghost use Rattle.std.specs.Prelude.{◌≡◌, ◌≤◌, Option, Result};
 ghost use Rattle.std.specs.Option.{ForSome};
 ghost use Rattle.regex_search_core.specs.Search.{Search, search_of};
@@ -14,18 +14,18 @@ use crate::iter::place::{half_match_span, match_span};
 use regex_search_core::{Captures, HalfMatch, Input, Match, Span};
 use std::marker::Model;
 
-/// Whatever answers the searches of an iteration by itself: a finder that is kept. The iterators over a stored finder
-/// are built on it; who uses one does not need it.
+/// A finder that an iteration owns, which answers its searches. The iterators over a stored finder are built on it.
+/// Callers of these iterators do not need it.
 pub trait Answers: Drop {
-    // What a call gives.
+    // The result of a call.
     type Reply: Copy;
 
     ghost Value: { Type 0 };
 
-    // What it stands for, in the state that the call left.
+    // The answer that a reply stands for, in the state that the call left.
     ghost shows: { Self → Self.Reply → Answer Value };
 
-    // Where a match lies.
+    // The span of a match.
     ghost span: { Value → Span };
 
     // It may be called on this search.
@@ -34,17 +34,17 @@ pub trait Answers: Drop {
     // The item of an iterator.
     type Item;
 
-    // The item that an answer gives, in the state that the call left.
+    // The item of an answer, in the state that the call left.
     ghost gives: { Self → Answer Value → Option (Result Self.Item SearchError) → Type 0 };
 
-    // A call on this search may give this answer and leave this.
+    // A call on this search may give this answer and leave this state.
     ghost asks: { Self → Search → Answer Value → Self → Type 0 };
 
     fn answer(&mut self, input: &Input<'_>) -> Self::Reply
         requires { accepts self.old (search_of input.now) }
         ensures { asks self.old (search_of input.now) (shows self.new result) self.new };
 
-    // Where the match of the answer lies.
+    // The span of the answer's match.
     fn place(&self, reply: Self::Reply) -> Option<Span>
         ensures place { result ≡ place_of span (shows self.now reply) }
         ensures ordered { ForSome result (λ p. p.start ≤ p.end) };
@@ -163,7 +163,7 @@ where
     }
 }
 
-// A finder of captures, and the captures that it writes to.
+// A finder of captures, and the captures that it writes.
 #[derive(Drop)]
 pub(crate) struct OnCaptures<F> {
     pub(crate) finder: F,

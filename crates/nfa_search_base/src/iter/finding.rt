@@ -1,5 +1,5 @@
-//! What an engine's iterator over matches makes of the matches that its searches find. Engines build
-//! on it; who uses an engine does not need it.
+//! The items of an engine's iterator over matches. Engines build on these functions. Callers of an engine do not need
+//! them.
 ghost use Rattle.std.specs.Prelude.{◌≡◌, ◌≤◌, Ok, Some, option_map};
 ghost use Rattle.std.specs.Option.{ForSome};
 ghost use Rattle.regex_search_core.specs.Found.{found_of};
@@ -10,7 +10,7 @@ ghost use Rattle.nfa_search_base.specs.Steps.{ComesOfMatch, GivesItem};
 use crate::error::SearchError;
 use regex_search_core::{Match, Span};
 
-/// Where the match lies.
+/// Returns the span of the match.
 #[inline]
 pub fn found_span(found: Option<Match>) -> Option<Span>
     ensures place { result ≡ match_place (Ok found) }
@@ -22,7 +22,7 @@ pub fn found_span(found: Option<Match>) -> Option<Span>
     }
 }
 
-/// The match as an item.
+/// Returns the match as an item.
 #[inline]
 pub fn found_item(found: Option<Match>) -> Option<Result<Match, SearchError>>
     ensures gives { GivesItem found_of (answer_by found_of (Ok found)) result }
@@ -34,7 +34,7 @@ pub fn found_item(found: Option<Match>) -> Option<Result<Match, SearchError>>
     }
 }
 
-/// The match if it ends there, else none.
+/// Returns the match if it ends at `end`, otherwise `None`.
 #[inline]
 pub fn ending_at(end: usize, found: Option<Match>) -> Option<Match>
     ensures kept { ForSome result (λ m. (found ≡ Some m) × (m.span.end ≡ end)) }

@@ -1,4 +1,4 @@
-//! The iterators over the half matches that a stored finder gives.
+//! Iterators over the half matches of a stored finder.
 use crate::error::SearchError;
 use crate::iter::finder::OnHalfMatches;
 use crate::iter::searcher::Searcher;
@@ -7,12 +7,10 @@ use regex_search_core::{HalfMatch, Input};
 use std::fmt;
 use std::marker::Model;
 
-/// The half matches that a finder gives, from left to right, by the steps of
-/// [`Searcher::try_advance_half`].
+/// An iterator over the half matches of a finder, from left to right, by the steps of [`Searcher::try_advance_half`].
 ///
-/// It keeps the finder. Its items are `Ok` half matches, at most as many as the span has bytes and one
-/// more, and at most one error, that of the finder. It ends for good after the first none and after
-/// the error.
+/// It owns the finder. Its items are `Ok` half matches, at most as many as the span has bytes plus one, and at most one
+/// error, that of the finder. It is fused: it ends permanently after the first `None` and after the error.
 #[derive(Drop)]
 pub struct TryHalfMatchesIter<'h, F> {
     steps: Steps<'h, OnHalfMatches<F>>,
@@ -42,9 +40,8 @@ impl<'h> Searcher<'h> {
 
     /// Returns an iterator over the half matches that the finder gives from here on.
     ///
-    /// The caller owes that the finder, wherever earlier calls have led it, may be called on each
-    /// input of this haystack, anchoring, `earliest` flag and span end, and answers an offset in that
-    /// input's span.
+    /// Requires that the finder, after any earlier calls, may be called on each input with this haystack, anchoring,
+    /// `earliest` flag and span end, and returns an offset in that input's span.
     pub fn into_half_matches_iter<F>(self, finder: F) -> TryHalfMatchesIter<'h, F>
     where
         F: FnMut(&Input<'_>) -> Result<Option<HalfMatch>, SearchError>,
@@ -53,14 +50,14 @@ impl<'h> Searcher<'h> {
         ensures walk { steps_walk result ≡ walk_of self.entry }
         ensures finder { result.asker ≡ finder }
         ensures going { result.done ≡ false }
-        // Each run of calls gives the first items, and all of them where it goes on to `None`.
+        // The items of each run of calls are the first items, and all of them if the run reaches `None`.
         ensures runs { FoundRun half_found_of half_span_of F.FnMut finder (walk_of self.entry) result }
         ensures first { FoundFirst half_found_of half_span_of F.FnMut finder (walk_of self.entry) result }
         ensures next { FoundNext half_found_of half_span_of F.FnMut finder (walk_of self.entry) result }
         ensures all { FoundAll half_found_of half_span_of F.FnMut finder (walk_of self.entry) result }
-        // They lie in the span, in order and apart.
+        // They are in the span, in order and without overlap.
         ensures apart { FoundApart half_found_of half_span_of F.FnMut (walk_of self.entry) result }
-        // Where the finder computes h, the items are the greedy list of h, whoever asks for them.
+        // If the finder computes h, the items are the greedy list of h.
         ensures list { (h : Search → Answer HalfFound) → Computes half_found_of F.FnMut h finder (walk_of self.entry).at
             → YieldsList (takes_steps half_span_of (Finds half_found_of F.FnMut) (λ _. GivesItem half_found_of))
             (item_by half_found_of) result (greedy half_span_of h (walk_of self.entry)) }
@@ -88,22 +85,22 @@ impl<'h, F> TryHalfMatchesIter<'h, F> {
     ghost use Rattle.nfa_search_base.specs.Stored.{steps_walk, can_step_surely, takes_sure_steps};
     ghost use Rattle.nfa_search_base.specs.StoredRuns.{SureFoundAll, SureFoundApart, SureFoundFirst, SureFoundNext, SureFoundRun};
 
-    /// The input that the next step searches.
+    /// Returns the input of the next search.
     pub fn input(&self) -> &Input<'h>
         ensures { search_of result.now ≡ (steps_walk self.now).at }
     {
         self.steps.searcher.input()
     }
 
-    /// The same half matches, plainly. The caller owes that the finder never errs, wherever calls lead
-    /// it.
+    /// Returns an iterator over the same half matches, without `Result`. Requires that the finder never fails, after
+    /// any calls.
     pub fn infallible(self) -> HalfMatchesIter<'h, F>
     where
         F: FnMut(&Input<'_>) -> Result<Option<HalfMatch>, SearchError>,
         requires { AnswersAlong half_found_of F.FnMut (IsSurelyInside half_span_of) self.asker (steps_walk self).at }
         ensures can { can_step_surely (IsCallableOn F.FnMut) (Finds half_found_of F.FnMut) half_span_of result }
         ensures same { result ≡ self.entry }
-        // Each run of calls gives the first matches, and all of them where it goes on to `None`.
+        // The items of each run of calls are the first matches, and all of them if the run reaches `None`.
         ensures runs { self.entry.done ≡ false
             → SureFoundRun half_found_of half_span_of F.FnMut self.entry.asker (steps_walk self.entry) result }
         ensures first { self.entry.done ≡ false
@@ -112,10 +109,10 @@ impl<'h, F> TryHalfMatchesIter<'h, F> {
             → SureFoundNext half_found_of half_span_of F.FnMut self.entry.asker (steps_walk self.entry) result }
         ensures all { self.entry.done ≡ false
             → SureFoundAll half_found_of half_span_of F.FnMut self.entry.asker (steps_walk self.entry) result }
-        // They lie in the span, in order and apart.
+        // They are in the span, in order and without overlap.
         ensures apart { self.entry.done ≡ false
             → SureFoundApart half_found_of half_span_of F.FnMut (steps_walk self.entry) result }
-        // Where the finder computes h, the matches are those of the greedy list of h.
+        // If the finder computes h, the matches are those of the greedy list of h.
         ensures list { (h : Search → Answer HalfFound) → Computes half_found_of F.FnMut h self.entry.asker
             (steps_walk self.entry).at → YieldsList
             (takes_sure_steps half_span_of (Finds half_found_of F.FnMut) (λ _. GivesItem half_found_of))
@@ -149,7 +146,7 @@ where
     }
 }
 
-/// Leaves the finder out of the text.
+/// Formats the iterator without the finder.
 impl<'h, F> fmt::Debug for TryHalfMatchesIter<'h, F> {
     fn fmt<W: fmt::Write>(&self, f: &mut fmt::Formatter<W>) -> fmt::Result {
         f.debug_struct("TryHalfMatchesIter")
@@ -159,10 +156,9 @@ impl<'h, F> fmt::Debug for TryHalfMatchesIter<'h, F> {
     }
 }
 
-/// The half matches that a finder that never errs gives, from left to right.
+/// An iterator over the half matches of a finder that never fails, from left to right.
 ///
-/// There are at most as many as the span has bytes, and one more. It ends for good after the first
-/// none.
+/// There are at most as many as the span has bytes, plus one. It ends permanently after the first `None`.
 #[derive(Drop)]
 pub struct HalfMatchesIter<'h, F> {
     tries: TryHalfMatchesIter<'h, F>,
@@ -181,7 +177,7 @@ impl<'h, F> HalfMatchesIter<'h, F> {
     ghost use Rattle.regex_search_core.specs.Search.{search_of};
     ghost use Rattle.nfa_search_base.specs.Stored.{steps_walk};
 
-    /// The input that the next step searches.
+    /// Returns the input of the next search.
     pub fn input(&self) -> &Input<'h>
         ensures { search_of result.now ≡ (steps_walk self.now).at }
     {
@@ -217,7 +213,7 @@ where
     }
 }
 
-/// Leaves the finder out of the text.
+/// Formats the iterator without the finder.
 impl<'h, F> fmt::Debug for HalfMatchesIter<'h, F> {
     fn fmt<W: fmt::Write>(&self, f: &mut fmt::Formatter<W>) -> fmt::Result {
         f.debug_struct("HalfMatchesIter")

@@ -1,4 +1,4 @@
-//! What an iteration asks: a finder that it is lent for each call.
+//! Finders that an iteration borrows for each call.
 
 use crate::asking::ask;
 use crate::error::SearchError;
@@ -7,7 +7,7 @@ use crate::iter::searches::Searches;
 use regex_search_core::{HalfMatch, Input, Match, Span};
 use std::marker::PhantomData;
 
-// A finder of matches that is lent for each call.
+// A finder of matches that is borrowed for each call.
 #[derive(Drop)]
 pub(crate) struct LentMatches<F> {
     finder: PhantomData<F>,
@@ -66,7 +66,7 @@ where
     }
 }
 
-// A finder of half matches that is lent for each call.
+// A finder of half matches that is borrowed for each call.
 #[derive(Drop)]
 pub(crate) struct LentHalfMatches<F> {
     finder: PhantomData<F>,

@@ -1,4 +1,4 @@
-//! Where a match lies.
+//! The span of a match.
 ghost use Rattle.std.specs.Prelude.{◌≡◌, ◌≤◌};
 ghost use Rattle.std.specs.Option.{ForSome};
 ghost use Rattle.nfa_search_base.specs.Finders.{match_place, half_place};
@@ -6,7 +6,7 @@ ghost use Rattle.nfa_search_base.specs.Finders.{match_place, half_place};
 use crate::error::SearchError;
 use regex_search_core::{HalfMatch, Match, Span};
 
-// Where the match of an answer lies.
+// The span of the answer's match.
 pub(crate) fn match_span(answer: Result<Option<Match>, SearchError>) -> Option<Span>
     ensures place { result ≡ match_place answer }
     ensures ordered { ForSome result (λ p. p.start ≤ p.end) }
@@ -18,7 +18,7 @@ pub(crate) fn match_span(answer: Result<Option<Match>, SearchError>) -> Option<S
     }
 }
 
-// Where the half match of an answer is taken to lie.
+// The span of the answer's half match: its offset, without bytes.
 pub(crate) fn half_match_span(answer: Result<Option<HalfMatch>, SearchError>) -> Option<Span>
     ensures place { result ≡ half_place answer }
     ensures ordered { ForSome result (λ p. p.start ≤ p.end) }

@@ -1,4 +1,4 @@
-//! An iteration over matches, step by step, whoever finds them.
+//! Iteration over matches step by step, with any finder.
 ghost use Rattle.nfa_search_base.specs.Behind.{IsBehind};
 
 use crate::error::SearchError;
@@ -9,10 +9,10 @@ use crate::iter::searches::Searches;
 use regex_search_core::{HalfMatch, Input, Match, Span};
 use std::alloc::AllocError;
 
-/// An iteration over the matches of an input that do not overlap.
+/// An iteration over the matches of an input, which do not overlap.
 ///
-/// It keeps the input that is searched next and the end of the last match, and no finder: each step
-/// is given one. A contract sees it as `walk_of`. To make a copy takes no memory.
+/// It keeps the input of the next search and the end of the last match, but no finder: each step takes one. A contract
+/// sees it as `walk_of`. Copying it allocates nothing.
 #[derive(Debug, Drop)]
 pub struct Searcher<'h> {
     input: Input<'h>,
@@ -20,13 +20,13 @@ pub struct Searcher<'h> {
     pub ghost behind: { IsBehind last_match_end input.span.start },
 }
 
-/// What becomes of an answer that is offered to a [`Searcher`].
+/// The result of offering an answer to a [`Searcher`].
 #[derive(Clone, Copy, Debug, PartialEq, Eq)]
 pub enum Offered {
-    /// The answer is the step's.
+    /// This is the answer of the step.
     Done(Option<Match>),
-    /// The answer was an empty match where the last match ended. The searcher's input now starts
-    /// one byte further: search it, and offer that answer, which will be `Done`.
+    /// The answer was an empty match at the end of the last match. The searcher's input now starts one byte further on.
+    /// Search it and offer that answer, which will be `Done`.
     Again,
 }
 
@@ -55,7 +55,7 @@ impl<'h> Searcher<'h> {
     ghost use Rattle.nfa_search_base.specs.Searchers.{walk_of, offered_place, OfferGives, IsDone};
     ghost use Rattle.nfa_search_base.specs.Serving.{ServesTurn, StepDone};
 
-    /// Makes an iteration over the matches of this input, before its first.
+    /// Makes an iteration over the matches of this input, before its first match.
     pub fn new(input: Input<'h>) -> Searcher<'h>
         ensures { walk_of result ≡ fresh (search_of input.entry) }
     {
@@ -65,24 +65,23 @@ impl<'h> Searcher<'h> {
         }
     }
 
-    /// The input that the next step searches: the one that the iteration began with, from the end
-    /// of the last match on.
+    /// Returns the input of the next search: the input that the iteration began with, from the end of the last match
+    /// on.
     pub fn input(&self) -> &Input<'h>
         ensures { search_of result.now ≡ (walk_of self.now).at }
     {
         &self.input
     }
 
-    /// Takes the answer of a search of [`Searcher::input`]. The caller owes that a match lies in
-    /// the input's span.
+    /// Takes the answer of a search of [`Searcher::input`]. Requires that its match, if any, is in the input's span.
     ///
-    /// An empty match where the last match ended moves the input's start one byte on, and gives
-    /// [`Offered::Again`]. Any other match moves the start, and the last end, to its end. None
-    /// changes nothing. Both come back in [`Offered::Done`].
+    /// An empty match at the end of the last match moves the input's start one byte on, and gives [`Offered::Again`].
+    /// Any other match moves the start, and the last end, to its end. `None` changes nothing. Both of these give
+    /// [`Offered::Done`].
     pub fn offer(&mut self, answer: Option<Match>) -> Offered
         requires { LiesIn (walk_of self.old).at (match_place (Ok answer)) }
         ensures gives { OfferGives (walk_of self.old) answer result (walk_of self.new) }
-        // The answer that follows an `Again` is done.
+        // The answer after an `Again` is done.
         ensures once { IsPast (walk_of self.old) → IsDone result }
         ensures rises { ComesAfter (walk_of self.old) (offered_place result) }
         ensures fewer { LeavesFewer (walk_of self.old) (offered_place result) (walk_of self.new) }
@@ -98,15 +97,14 @@ impl<'h> Searcher<'h> {
 
     /// Returns the next match that the finder gives.
     ///
-    /// The finder is called on [`Searcher::input`]. If it answers an empty match where the last
-    /// match ended, the input's start moves one byte on, the finder is called once more, and that
-    /// answer is taken as it is. A match then moves the start, and the last end, to its end. An
-    /// error of the finder is handed on; after an error or none of the first call the searcher is
-    /// as it was, after one of the second its start stands one further.
+    /// The finder is called on [`Searcher::input`]. If it returns an empty match at the end of the last match, the
+    /// input's start moves one byte on, and the finder is called once more. That answer is returned as it is. A match
+    /// then moves the start, and the last end, to its end. An error of the finder is returned. If the first call
+    /// returns an error or `None`, the searcher stays as it was. If the second call does, the start stays one byte
+    /// further on.
     ///
-    /// So the ends of the matches go up over all calls, and there are at most as many matches as
-    /// the span has bytes, and one more. The caller owes that the finder answers matches in its
-    /// input's span.
+    /// So the ends of the matches rise over all calls, and there are at most as many matches as the span has bytes,
+    /// plus one. Requires that the finder returns matches in its input's span.
     pub fn try_advance<F>(&mut self, finder: F) -> Result<Option<Match>, SearchError>
     where
         F: FnMut(&Input<'_>) -> Result<Option<Match>, SearchError>,
@@ -121,7 +119,7 @@ impl<'h> Searcher<'h> {
         self.try_advance_by_ref(&mut finder)
     }
 
-    /// The step of [`Searcher::try_advance`] by a finder that is lent: it is left as its last call left it.
+    /// The same as [`Searcher::try_advance`], but borrows the finder, which keeps the state that its last call left.
     pub fn try_advance_by_ref<F>(&mut self, finder: &mut F) -> Result<Option<Match>, SearchError>
     where
         F: FnMut(&Input<'_>) -> Result<Option<Match>, SearchError>,
@@ -135,8 +133,8 @@ impl<'h> Searcher<'h> {
         self.step_with(&mut LentMatches::new(), finder)
     }
 
-    /// The next match that a finder that never errs gives, by the step of
-    /// [`Searcher::try_advance`]. That it never errs the caller owes too.
+    /// Returns the next match of a finder that never fails, by the step of [`Searcher::try_advance`]. Requires also
+    /// that the finder never fails.
     pub fn advance<F>(&mut self, finder: F) -> Option<Match>
     where
         F: FnMut(&Input<'_>) -> Result<Option<Match>, SearchError>,
@@ -151,7 +149,7 @@ impl<'h> Searcher<'h> {
         self.advance_by_ref(&mut finder)
     }
 
-    /// The step of [`Searcher::advance`] by a finder that is lent: it is left as its last call left it.
+    /// The same as [`Searcher::advance`], but borrows the finder, which keeps the state that its last call left.
     pub fn advance_by_ref<F>(&mut self, finder: &mut F) -> Option<Match>
     where
         F: FnMut(&Input<'_>) -> Result<Option<Match>, SearchError>,
@@ -170,9 +168,9 @@ impl<'h> Searcher<'h> {
 
     /// Returns the next half match that the finder gives.
     ///
-    /// The same as [`Searcher::try_advance`] where only the ends of matches are known: the finder
-    /// is called a second time where its first answer has the offset at which the last match
-    /// ended. The caller owes that the finder answers offsets in its input's span.
+    /// The same as [`Searcher::try_advance`] if only the ends of matches are known. The finder is called a second time
+    /// if its first answer has the offset at which the last match ended. Requires that the finder returns offsets in
+    /// its input's span.
     pub fn try_advance_half<F>(&mut self, finder: F) -> Result<Option<HalfMatch>, SearchError>
     where
         F: FnMut(&Input<'_>) -> Result<Option<HalfMatch>, SearchError>,
@@ -187,7 +185,8 @@ impl<'h> Searcher<'h> {
         self.try_advance_half_by_ref(&mut finder)
     }
 
-    /// The step of [`Searcher::try_advance_half`] by a finder that is lent: it is left as its last call left it.
+    /// The same as [`Searcher::try_advance_half`], but borrows the finder, which keeps the state that its last call
+    /// left.
     pub fn try_advance_half_by_ref<F>(
         &mut self,
         finder: &mut F,
@@ -204,8 +203,8 @@ impl<'h> Searcher<'h> {
         self.step_with(&mut LentHalfMatches::new(), finder)
     }
 
-    /// The next half match that a finder that never errs gives, by the step of
-    /// [`Searcher::try_advance_half`]. That it never errs the caller owes too.
+    /// Returns the next half match of a finder that never fails, by the step of [`Searcher::try_advance_half`].
+    /// Requires also that the finder never fails.
     pub fn advance_half<F>(&mut self, finder: F) -> Option<HalfMatch>
     where
         F: FnMut(&Input<'_>) -> Result<Option<HalfMatch>, SearchError>,
@@ -220,7 +219,7 @@ impl<'h> Searcher<'h> {
         self.advance_half_by_ref(&mut finder)
     }
 
-    /// The step of [`Searcher::advance_half`] by a finder that is lent: it is left as its last call left it.
+    /// The same as [`Searcher::advance_half`], but borrows the finder, which keeps the state that its last call left.
     pub fn advance_half_by_ref<F>(&mut self, finder: &mut F) -> Option<HalfMatch>
     where
         F: FnMut(&Input<'_>) -> Result<Option<HalfMatch>, SearchError>,
@@ -237,7 +236,7 @@ impl<'h> Searcher<'h> {
         }
     }
 
-    // A step, of whatever answers searches.
+    // Takes a step with a finder of the iteration.
     pub(crate) fn step_by<A: Answers>(&mut self, asker: &mut A) -> A::Reply
         requires { ServesTurn A.accepts A.asks A.span (AnswerIsInside A.span) asker.old (walk_of self.old) }
         ensures { StepDone A.accepts A.asks A.span asker.old (walk_of self.old) (A.shows asker.new result) asker.new
@@ -255,7 +254,7 @@ impl<'h> Searcher<'h> {
         second
     }
 
-    // The same step, where each search is lent a cache.
+    // Takes the same step, with a cache that is borrowed for each search.
     #[inline]
     pub(crate) fn step_with<A: Searches>(&mut self, asker: &mut A, cache: &mut A::Cache) -> A::Reply
         requires { ServesTurn A.accepts A.asks A.span (AnswerIsInside A.span)
@@ -276,7 +275,7 @@ impl<'h> Searcher<'h> {
         twice
     }
 
-    // Whether the match is an empty one at the last end. The start then moves one on.
+    // Returns whether the match is an empty one at the last end, and if so moves the start one byte on.
     #[inline]
     fn moves_on(&mut self, place: Option<Span>) -> bool
         requires { LiesIn (walk_of self.old).at place }

@@ -1,4 +1,4 @@
-//! The turns of every iterator that keeps what it asks.
+//! The steps of every iterator that owns its finder or engine.
 ghost use Rattle.std.specs.Prelude.{◌≡◌};
 ghost use Rattle.nfa_search_base.specs.Steps.{ends_at};
 
@@ -9,15 +9,14 @@ use crate::iter::searches::Searches;
 use regex_search_core::Input;
 use std::alloc::Global;
 
-/// An iteration that keeps what it asks: the core of each iterator, of engines too.
+/// An iteration that owns its finder or engine: the core of each iterator, including those of engines.
 ///
-/// It gives the items of the steps of a [`Searcher`], and ends for good after the first none and
-/// after an error.
+/// Its items are those of the steps of a [`Searcher`]. It ends permanently after the first `None` and after an error.
 #[derive(Debug, Drop)]
 pub struct Steps<'h, A> {
-    /// Where the iteration stands.
+    /// The state of the iteration.
     pub searcher: Searcher<'h>,
-    /// What answers its searches.
+    /// The finder or engine that answers its searches.
     pub asker: A,
     /// Whether it has ended.
     pub done: bool,
@@ -31,7 +30,7 @@ impl<'h, A: Searches> Steps<'h, A> {
     ghost use Rattle.nfa_search_base.specs.Stored.{can_step, steps_walk, takes_steps};
     ghost use Rattle.nfa_search_base.specs.Walks.{fresh};
 
-    /// An iteration over this input that has not begun.
+    /// Makes an iteration over this input that has not begun.
     #[inline]
     pub fn new(input: Input<'h>, asker: A) -> Steps<'h, A>
         ensures walk { steps_walk result ≡ fresh (search_of input.entry) }
@@ -45,8 +44,8 @@ impl<'h, A: Searches> Steps<'h, A> {
         }
     }
 
-    /// The next item, by searches with this cache. The caller owes that each search of the iteration
-    /// may be asked, wherever searches lead, and answers a match in its span.
+    /// Returns the next item, by searches with this cache. Requires that each search of the iteration may be made,
+    /// after any earlier searches, and answers a match in its span.
     #[inline]
     pub fn next_with(&mut self, cache: &mut A::Cache) -> Option<Result<A::Item, SearchError>>
         requires { can_step A.accepts A.asks A.span (lend self.old cache.old) }
@@ -62,8 +61,8 @@ impl<'h, A: Searches> Steps<'h, A> {
         given
     }
 
-    /// All items that are left, by searches with this cache: up to the first error, which is then the result, as
-    /// [`SearchError::Memory`] is where they cannot be kept. The caller owes what [`Steps::next_with`] asks.
+    /// Returns all items that are left, by searches with this cache. Stops at the first error and returns it. Returns
+    /// [`SearchError::Memory`] if an allocation for the list failed. Requires the same as [`Steps::next_with`].
     pub fn all_with(
         &mut self,
         alloc: Global,
@@ -88,7 +87,7 @@ impl<'h, A: Searches> Steps<'h, A> {
     }
 }
 
-// Whether an iterator ends with this item: with none and with an error.
+// Whether an iterator ends with this item: with `None` or an error.
 fn is_last<T>(item: &Option<Result<T, SearchError>>) -> bool
     ensures { result ≡ ends_at item.now }
 {
