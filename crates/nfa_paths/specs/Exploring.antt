@@ -1,4 +1,4 @@
--- What is left to do in a depth first search, and the answer that it leads to.
+-- The work that is left in a depth-first search, and the answer that it leads to.
 use Rattle.std.specs.Prelude.{◌≡◌, ℕ, suc, ◌+◌, ◌≤◌, ◌⊎◌, ◌↔◌, Bool, List, [], ◌∷◌, Option, None, Some, slice_set, map, ◌++◌, length}
 use Rattle.std.specs.List.{last_or}
 use Rattle.std.specs.Option.{option_map}
@@ -9,7 +9,7 @@ use Rattle.nfa_paths.specs.FirstPaths.{IsFirst}
 abbrev pub Slots : Type 0
 Slots = List (Option ℕ)
 
--- what a search finds: the pair that it ends with, and the slots there
+-- the result of a search: the pair that it ends with, and the slots there
 abbrev pub Hit : Type 0
 Hit = Option (Pair × Slots)
 
@@ -19,7 +19,7 @@ pub data Item : Type 0 where
   Restore : ℕ → Option ℕ → Item
   Load : Slots → Item
 
--- a pair writes its position
+-- the slots after a pair wrote its position
 abbrev pub write : Option ℕ → ℕ → Slots → Slots
 write None at slots = slots
 write (Some k) at slots = slice_set slots k (Some at)
@@ -30,23 +30,23 @@ module _ (capture : Pair → Option ℕ) where
   apply [] slots = slots
   apply (v ∷ p) slots = apply p (write (capture v) v.1 slots)
 
-  -- what is found along a list: its last pair, and the slots there
+  -- the result along a list: its last pair, and the slots there
   abbrev pub found : List Pair → Slots → Hit
   found p slots = option_map (λ e. (e, apply p slots)) (last_or None p)
 
--- what was put aside, as the work of the next position, above what waits
+-- the pairs of a front as the work of the next position, before the work that waits
 unfoldable pub round : (Pair → List Pair) → List (Pair × Slots) → List Item → List Item
 round edges [] waiting = waiting
 round edges (a ∷ front) waiting = Load a.1 ∷ (map Explore (edges a.0) ++ round edges front waiting)
 
--- the starts, each with the slots to load behind it
+-- the starts, each followed by the slots to load after it
 unfoldable pub seeds : Slots → List Pair → List Item
 seeds slots [] = []
 seeds slots (s ∷ starts) = Explore s ∷ Load slots ∷ seeds slots starts
 
 module _ (space : Space) (target : Pair → Bool) where
-  -- The first explored pair from which a path is left has the answer. If there is none, it is `otherwise`.
-  -- A turn tries to mark one pair, and `left` turns are left: as many as the pairs of the answer's path, or more.
+  -- The answer is that of the first explored pair from which a path is left. If there is none, it is `otherwise`. A
+  -- turn tries to mark one pair. `left` turns are left, at least as many as the pairs of the answer's path.
   unfoldable pub ExploresTo : ℕ → Hit → List Pair → List Item → Slots → Hit → Type 0
   ExploresTo left otherwise marks [] slots g = g ≡ otherwise
   ExploresTo left otherwise marks (Explore v ∷ rest) slots g =
@@ -57,7 +57,7 @@ module _ (space : Space) (target : Pair → Bool) where
       ExploresTo left otherwise marks rest (slice_set slots k old) g
   ExploresTo left otherwise marks (Load old ∷ rest) slots g = ExploresTo left otherwise marks rest old g
 
-  -- the same behind pairs that were put aside, each with its slots, after its turn
+  -- the same after the pairs of a front, each with its slots, which come first
   unfoldable pub ExploresBehind : ℕ → List (Pair × Slots) → Hit → List Pair → List Item → Slots → Hit → Type 0
   ExploresBehind left [] otherwise marks work slots g = ExploresTo left otherwise marks work slots g
   ExploresBehind left (a ∷ front) otherwise marks work slots g =
@@ -65,8 +65,8 @@ module _ (space : Space) (target : Pair → Bool) where
       × (length p ≤ suc left))
       ⊎ (IsFirst space.edges target [] a.0 None × ExploresBehind left front otherwise marks work slots g)
 
-  -- A search under way, in the form that a loop keeps: some list holds just the pairs that are `Seen`, and whatever is
-  -- the answer from here on meets `goal`, with the number of turns when the search ends. `spent` turns were taken.
+  -- A search in progress, in the form of a loop invariant. Some list holds exactly the pairs that are `Seen`. Any
+  -- answer from here on meets `goal`, with the number of turns at the end of the search. `spent` turns were taken.
   pub record Searching (goal : Hit → ℕ → Type 0) (Seen : Pair → Type 0) (spent : ℕ) (front : List (Pair × Slots))
       (otherwise : Hit) (work : List Item) (slots : Slots) : Type 0 where
     pub marks : List Pair

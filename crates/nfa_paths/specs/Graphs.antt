@@ -1,16 +1,16 @@
--- Paths of a graph of pairs, and which of two comes first. Nothing here is a search.
+-- Paths of a graph of pairs, and which of two paths comes first. Nothing here depends on a search.
 use Rattle.std.specs.Prelude.{◌≡◌, ℕ, ◌≤◌, ◌<◌, ◌⊎◌, List, [], ◌∷◌, Option, None, Some}
 
 -- a state and a position
 abbrev pub Pair : Type 0
 Pair = ℕ × ℕ
 
--- the element stands in the list
+-- the element is in the list
 abbrev pub In : {A : Type 0} → A → List A → Type 0
 In x [] = ⊥
 In x (y ∷ ys) = (x ≡ y) ⊎ In x ys
 
--- a stands in the list, and b does not stand up to there: the first a stands before the first b
+-- a is in the list, and no b comes before it or is equal to it: the first a comes before the first b
 abbrev pub Earlier : List Pair → Pair → Pair → Type 0
 Earlier [] a b = ⊥
 Earlier (e ∷ es) a b = ¬ (e ≡ b) × ((e ≡ a) ⊎ Earlier es a b)
@@ -20,7 +20,7 @@ abbrev pub HeadIs : Pair → List Pair → Type 0
 HeadIs v [] = ⊥
 HeadIs v (x ∷ p) = x ≡ v
 
--- no pair stands in the list twice
+-- no pair is in the list twice
 abbrev pub NoRepeats : List Pair → Type 0
 NoRepeats [] = Unit {0}
 NoRepeats (x ∷ p) = ¬ (In x p) × NoRepeats p
@@ -37,38 +37,39 @@ EndsWith m [] = ⊥
 EndsWith m (x ∷ []) = x ≡ m
 EndsWith m (x ∷ (y ∷ p)) = EndsWith m (y ∷ p)
 
--- wanted, and at position e
+-- the pair is wanted, and is at position e
 pub record WantedAt (Wanted : Pair → Type 0) (e : ℕ) (m : Pair) : Type 0 where
   pub wanted : Wanted m
   pub at : m.1 ≡ e
 
--- what a search explores: where each pair leads, the slot that it writes, and where the paths start
+-- what a search explores: the edges of each pair, the slot that a pair writes, and the starts of paths
 pub record Space : Type 0 where
   pub edges : Pair → List Pair
   pub capture : Pair → Option ℕ
   pub starts : List Pair
 
 module _ (edges : Pair → List Pair) where
-  -- Of two lists that follow v: where they first differ, the first has the earlier edge.
+  -- Two lists that follow v. Where they first differ, the first list takes the earlier edge.
   abbrev pub BeforeAfter : Pair → List Pair → List Pair → Type 0
   BeforeAfter v [] q = ⊥
   BeforeAfter v (a ∷ p) [] = ⊥
   BeforeAfter v (a ∷ p) (b ∷ q) = Earlier (edges v) a b ⊎ ((a ≡ b) × BeforeAfter a p q)
 
-  -- Of two lists that begin with one pair: where they first differ, the first has the earlier edge.
+  -- Two lists that begin with the same pair. Where they first differ, the first list takes the earlier edge.
   abbrev pub Before : List Pair → List Pair → Type 0
   Before [] q = ⊥
   Before (x ∷ p) [] = ⊥
   Before (x ∷ p) (y ∷ q) = (x ≡ y) × BeforeAfter x p q
 
-  -- p starts at the smaller position; or they begin with one pair, and where they first differ p has the earlier edge
+  -- p starts at the smaller position; or both begin with the same pair, and p takes the earlier edge where they first
+  -- differ
   abbrev pub ComesBefore : List Pair → List Pair → Type 0
   ComesBefore [] q = ⊥
   ComesBefore (x ∷ p) [] = ⊥
   ComesBefore (x ∷ p) (y ∷ q) = (x.1 < y.1) ⊎ Before (x ∷ p) (y ∷ q)
 
 module _ (edges : Pair → List Pair) (starts : List Pair) where
-  -- the list is a path from one of the starts to the pair: it follows edges and holds no pair twice
+  -- the list is a path from one of the starts to the pair: it follows edges and contains no pair twice
   pub record PathTo (m : Pair) (p : List Pair) : Type 0 where
     pub start : Pair
     pub among : In start starts
@@ -78,11 +79,11 @@ module _ (edges : Pair → List Pair) (starts : List Pair) where
     pub ends : EndsWith m p
 
   module _ (Wanted : Pair → Type 0) where
-    -- no path leads to a pair that is wanted
+    -- no path leads to a wanted pair
     abbrev pub NoPath : Type 0
     NoPath = (m : Pair) (p : List Pair) → PathTo m p → Wanted m → ⊥
 
-    -- of all paths to wanted pairs the first
+    -- the first of all paths to wanted pairs
     pub record IsFirstTo (p : List Pair) : Type 0 where
       pub end : Pair
       pub path : PathTo end p
@@ -102,13 +103,13 @@ module _ (edges : Pair → List Pair) (starts : List Pair) where
       pub is_end : IsEnd e
       pub least : (m : Pair) (p : List Pair) → PathTo m p → Wanted m → e ≤ m.1
 
-    -- no path to a wanted pair ends behind e, and one ends there
+    -- no path to a wanted pair ends after e, and one ends there
     pub record IsGreatestEnd (e : ℕ) : Type 0 where
       pub is_end : IsEnd e
       pub greatest : (m : Pair) (p : List Pair) → PathTo m p → Wanted m → m.1 ≤ e
 
   module _ (Wanted : Pair → Type 0) where
-    -- Each wanted pair at e to which a path leads has its first path: of these paths p is the last.
+    -- Each wanted pair at e that some path reaches has a first path. Of these paths, p is the last.
     pub record IsLastOfFirsts (e : ℕ) (p : List Pair) : Type 0 where
       pub end : Pair
       pub wanted : WantedAt Wanted e end
@@ -116,17 +117,17 @@ module _ (edges : Pair → List Pair) (starts : List Pair) where
       pub last : (m : Pair) (q : List Pair) → WantedAt Wanted e m → IsFirstTo (λ x. x ≡ m) q
           → (q ≡ p) ⊎ ComesBefore edges q p
 
-    -- the first path, or that there is none
+    -- the first path, or none if there is none
     abbrev pub IsFirstPath : Option (List Pair) → Type 0
     IsFirstPath None = NoPath Wanted
     IsFirstPath (Some p) = IsFirstTo Wanted p
 
-    -- of the paths with the least end the first
+    -- of the paths with the least end, the first
     abbrev pub IsEarliestPath : Option (List Pair) → Type 0
     IsEarliestPath None = NoPath Wanted
     IsEarliestPath (Some p) = (e : ℕ) × IsLeastEnd Wanted e × IsFirstTo (WantedAt Wanted e) p
 
-    -- of the first paths to each of the pairs with the greatest end the last
+    -- of the first paths to each of the pairs with the greatest end, the last
     abbrev pub IsLastPath : Option (List Pair) → Type 0
     IsLastPath None = NoPath Wanted
     IsLastPath (Some p) = (e : ℕ) × IsGreatestEnd Wanted e × IsLastOfFirsts e p

@@ -1,4 +1,4 @@
--- What a search that goes position by position finds, for each kind of scan, and what it keeps at a position.
+-- What a search that goes position by position finds for each kind of scan, and what it keeps at a position.
 use Rattle.std.specs.Prelude.{◌≡◌, ℕ, ◌≤◌, ◌<◌, Bool, true, false, cond, List, [], ◌∷◌, map, length, Option, None, Some}
 use Rattle.std.specs.Option.{option_map_or}
 use Rattle.thompson_nfa.specs.Automaton.{Automaton, Node}
@@ -13,22 +13,22 @@ use Rattle.nfa_paths.specs.Paths.{node_at}
 abbrev pub Passes : (Pair → Bool) → Pair → Type 0
 Passes test m = test m ≡ true
 
--- wanted, and at a position before e
+-- the pair is wanted, and is before position e
 pub record WantedBefore (Wanted : Pair → Type 0) (e : ℕ) (m : Pair) : Type 0 where
   pub wanted : Wanted m
   pub before : m.1 < e
 
--- the last of the first paths to the wanted pairs at e, or that no path leads to one
+-- the last of the first paths to the wanted pairs at e, or none if no path leads to one
 abbrev pub IsLastAt : (Pair → List Pair) → List Pair → (Pair → Type 0) → ℕ → Option (List Pair) → Type 0
 IsLastAt edges starts Wanted e None = NoPath edges starts (WantedAt Wanted e)
 IsLastAt edges starts Wanted e (Some p) = IsLastOfFirsts edges starts Wanted e p
 
--- what is found along a path, if there is one
+-- the result along a path, if there is one
 abbrev pub found_along : (Pair → Option ℕ) → Option (List Pair) → Slots → Hit
 found_along capture None slots = None
 found_along capture (Some p) slots = found capture p slots
 
--- the found pair and slots are those of the path that is meant, which has no more pairs than there were turns
+-- the pair and slots found are those of the path that is `Meant`, which has at most as many pairs as there were turns
 pub record IsFoundBy (capture : Pair → Option ℕ) (slots : Slots) (Meant : Option (List Pair) → Type 0) (turns : ℕ)
     (g : Hit) : Type 0 where
   pub path : Option (List Pair)
@@ -49,7 +49,7 @@ pub record IsReached (edges : Pair → List Pair) (starts : List Pair) (Wanted :
 abbrev pub NoneBefore : Space → (Pair → Bool) → ℕ → Type 0
 NoneBefore space is_match e = NoPath space.edges space.starts (WantedBefore (Passes is_match) e)
 
--- g is what the last of the first paths that end before e finds: of those with the greatest end
+-- g is the result of the last of the first paths that end before e: of those with the greatest end
 abbrev pub LastBefore : Space → (Pair → Bool) → Slots → ℕ → ℕ → Hit → Type 0
 LastBefore space is_match slots e turns g =
     IsFoundBy space.capture slots (IsLastPath space.edges space.starts (WantedBefore (Passes is_match) e)) turns g
@@ -74,12 +74,12 @@ abbrev pub before_match : (Pair → Bool) → List (Pair × Slots) → List (Pai
 before_match is_match [] = []
 before_match is_match (a ∷ front) = cond (is_match a.0) [] (a ∷ before_match is_match front)
 
--- what waits behind a front, if it has no match pair
+-- the work that waits after a front, if the front has no match pair
 abbrev pub behind_match : Hit → List Item → List Item
 behind_match None waiting = waiting
 behind_match (Some a) waiting = []
 
--- its last match pair, or what was found before
+-- the last match pair of a front, or the result g from before
 abbrev pub last_match : (Pair → Bool) → Hit → List (Pair × Slots) → Hit
 last_match is_match g [] = g
 last_match is_match g (a ∷ front) = last_match is_match (cond (is_match a.0) (Some a) g) front
@@ -88,7 +88,7 @@ last_match is_match g (a ∷ front) = last_match is_match (cond (is_match a.0) (
 abbrev pub NoMatch : (Pair → Bool) → List (Pair × Slots) → Type 0
 NoMatch is_match front = (b : Pair × Slots) → In b front → is_match b.0 ≡ true → ⊥
 
--- the front holds a match pair of pattern k
+-- the front contains a match pair of pattern k
 pub record HoldsMatch (is_match : Pair → Bool) (pattern : Pair → Option ℕ) (k : ℕ)
     (front : List (Pair × Slots)) : Type 0 where
   pub item : Pair × Slots
@@ -96,8 +96,8 @@ pub record HoldsMatch (is_match : Pair → Bool) (pattern : Pair → Option ℕ)
   pub matches : is_match item.0 ≡ true
   pub pattern_is : pattern item.0 ≡ Some k
 
--- What a scan goes over: positions never fall along an edge and rise at a resting pair, a match pair leads nowhere and
--- writes nothing, and the starts rise.
+-- The properties of the graph of a scan. Positions never fall along an edge, and rise after a resting pair. A match
+-- pair leads nowhere and writes nothing. The starts ascend.
 pub record Scanned (space : Space) (resting is_match : Pair → Bool) : Type 0 where
   pub onward : (x y : Pair) → In y (space.edges x) → x.1 ≤ y.1
   pub rises : (x y : Pair) → resting x ≡ true → In y (space.edges x) → x.1 < y.1
@@ -109,12 +109,12 @@ pub record Scanned (space : Space) (resting is_match : Pair → Bool) : Type 0 w
 abbrev pub MatchesAt : (Pair → Bool) → ℕ → (Pair → Bool) → Type 0
 MatchesAt is_match e target = (x : Pair) → target x ≡ true → (is_match x ≡ true) × (x.1 ≡ e)
 
--- a set of match pairs at position e or behind it
+-- a set of match pairs at position e or after it
 abbrev pub MatchesFrom : (Pair → Bool) → ℕ → (Pair → Bool) → Type 0
 MatchesFrom is_match e target = (x : Pair) → target x ≡ true → (is_match x ≡ true) × (e ≤ x.1)
 
--- `front` holds the resting pairs that are reached at e, as the search finds them in `turns` turns, whichever match
--- pairs at e it is for
+-- `front` holds the resting pairs that are reached at e, as the search finds them in `turns` turns, for any set of
+-- match pairs at e
 pub record IsFront (space : Space) (resting is_match : Pair → Bool) (slots : Slots) (turns : ℕ)
     (front : List (Pair × Slots)) (e : ℕ) : Type 0 where
   pub waiting : List Item
@@ -127,20 +127,20 @@ pub record IsFront (space : Space) (resting is_match : Pair → Bool) (slots : S
       × ((g : Hit) → ExploresBehind space target 0 front None marks waiting current g
       → ExploresTo space target turns None [] (map Explore space.starts) slots g)
 
--- nothing is left to explore at position e or behind it: whichever match pairs there the search is for, it finds none
+-- nothing is left to explore at position e or after it: a search for any match pairs there finds none
 pub record IsOver (space : Space) (is_match : Pair → Bool) (slots : Slots) (turns e : ℕ) : Type 0 where
   pub none : (target : Pair → Bool) → MatchesFrom is_match e target
       → ExploresTo space target turns None [] (map Explore space.starts) slots None
 
--- A scan at position e, in the form that a loop keeps: the searches for every set of match pairs at e or behind it, all
--- in one state, after `spent` turns.
+-- A scan at position e, in the form of a loop invariant. It stands for the searches for every set of match pairs at e
+-- or after it, all in one state, after `spent` turns.
 pub record Scanning (space : Space) (is_match : Pair → Bool) (slots : Slots) (e : ℕ) (Seen : Pair → Type 0) (spent : ℕ)
     (front : List (Pair × Slots)) (work : List Item) (current : Slots) : Type 0 where
   pub searching : (target : Pair → Bool) → MatchesFrom is_match e target
       → Searching space target (λ g total. ExploresTo space target total None [] (map Explore space.starts) slots g)
       Seen spent front None work current
 
--- a state whose edges lead to the next position or nowhere, and that writes nothing: a byte state, a Fail or a Match
+-- a state that leads to the next position or nowhere, and writes nothing: a byte state, a Fail or a Match
 abbrev pub rests : Node → Bool
 rests (ByteRange trans) = true
 rests (Sparse transitions) = true

@@ -1,4 +1,4 @@
--- What a search for the patterns of all matches, also of those that overlap, puts into a set of patterns.
+-- The patterns that a search for overlapping matches puts into a set of patterns.
 use Rattle.std.specs.Prelude.{◌≡◌, ◌↔◌, ◌⊎◌, ℕ, ◌<◌, Bool, true, false, List, length, Option, Some, None, slice_index_or}
 use Rattle.regex_search_core.specs.Boundary.{IsBoundary}
 use Rattle.regex_search_core.specs.PatternSets.{size_of_set}
@@ -19,12 +19,12 @@ abbrev pub pattern_at : Automaton → Pair → Option ℕ
 pattern_at nfa v = pattern_of (node_at nfa v.0)
 
 module _ (nfa : Automaton) (x : Search) where
-  -- a match may end at the position: at any, or where empty matches are possible and text is UTF-8 at boundaries of
-  -- characters alone
+  -- a match may end at the position: at any one, or only on a boundary if empty matches are possible and the NFA is in
+  -- UTF-8 mode
   abbrev pub IsPermittedEnd : ℕ → Type 0
   IsPermittedEnd at = is_utf8_empty nfa ≡ true → IsBoundary x.haystack at
 
-  -- a match that may end where it does
+  -- a match that ends where a match may end
   pub record IsPermitted (v : Pair) : Type 0 where
     pub matches : IsMatch nfa v
     pub ends : IsPermittedEnd v.1
@@ -36,35 +36,35 @@ module _ (nfa : Automaton) (x : Search) where
     pub pattern_is : pattern_at nfa v ≡ Some pattern
     pub below : pattern < capacity
 
-  -- some accepting path of the pattern ends at a pair that is wanted
+  -- some accepting path of the pattern ends at a wanted pair
   abbrev pub IsPatternOf : (Pair → Type 0) → ℕ → Type 0
   IsPatternOf Wanted pattern = IsReached (edges nfa x) (starts nfa x) Wanted (pattern_at nfa) pattern
 
-  -- the first accepting path with a permitted end, of a pattern below the capacity, or that there is none
+  -- the first accepting path with a permitted end, of a pattern below the capacity, or none if there is none
   abbrev pub IsFirstHeld : ℕ → Option (List Pair) → Type 0
   IsFirstHeld capacity = IsFirstPath (edges nfa x) (starts nfa x) (IsHeld capacity)
 
-  -- of such paths with the least end the first, or that there is none
+  -- of such paths with the least end, the first, or none if there is none
   abbrev pub IsEarliestHeld : ℕ → Option (List Pair) → Type 0
   IsEarliestHeld capacity = IsEarliestPath (edges nfa x) (starts nfa x) (IsHeld capacity)
 
-  -- The pattern is meant by `All`: some accepting path of it has a permitted end. With `earliest` that end is the least
-  -- one of those of all patterns below the capacity.
+  -- `All` adds this pattern: some accepting path of it has a permitted end. With `earliest`, that end is the least one
+  -- of all patterns below the capacity.
   abbrev pub IsMeantByAll : Bool → ℕ → ℕ → Type 0
   IsMeantByAll false capacity pattern = IsPatternOf IsPermitted pattern
   IsMeantByAll true capacity pattern = (e : ℕ) × IsLeastEnd (edges nfa x) (starts nfa x) (IsHeld capacity) e
       × IsPatternOf (WantedAt IsPermitted e) pattern
 
-  -- The pattern of the first accepting path with a permitted end before some limit, of those of patterns below the
-  -- capacity: what a search that ends at the limit would answer.
+  -- Among patterns below the capacity, the pattern of the first accepting path with a permitted end before some limit.
+  -- A search that ends at the limit would answer it.
   pub record IsFirstBefore (capacity pattern : ℕ) : Type 0 where
     pub limit : ℕ
     pub along : List Pair
     pub first : IsFirstTo (edges nfa x) (starts nfa x) (WantedBefore (IsHeld capacity) limit) along
     pub pattern_is : path_pattern nfa along ≡ Some pattern
 
-  -- The set holds the pattern of the path, and else only patterns of accepting paths with a permitted end before that
-  -- of the path. They are those of the first paths before any limit.
+  -- The set holds the pattern of the path. Its other patterns have accepting paths with a permitted end before that of
+  -- the path, which are the first paths before some limit.
   pub record HoldsUpTo (path : List Pair) (set : List Bool) : Type 0 where
     pub end : Pair
     pub ends : last_of path ≡ Some end
@@ -82,41 +82,41 @@ module _ (nfa : Automaton) (x : Search) where
     pub pattern_is : pattern_at nfa end ≡ Some pattern
     pub holds : (k : ℕ) → HoldsPattern set k ↔ (k ≡ pattern)
 
-  -- what the empty set becomes by the path that is meant, if there is one
+  -- the set that the empty set becomes, given the path that is meant, if there is one
   abbrev pub HoldsPath : Bool → Option (List Pair) → List Bool → Type 0
   HoldsPath earliest None set = size_of_set set ≡ 0
   HoldsPath false (Some path) set = HoldsUpTo path set
   HoldsPath true (Some path) set = HoldsOnly path set
 
-  -- The path that is meant by `LeftmostFirst`. Matches of patterns at or above the capacity do not count: with room for
-  -- each pattern of the NFA those are none.
+  -- The path that `LeftmostFirst` means. Matches of patterns at or above the capacity do not count. There are none of
+  -- these if the capacity covers each pattern of the NFA.
   abbrev pub IsMeantPath : Bool → ℕ → Option (List Pair) → Type 0
   IsMeantPath false capacity path = IsFirstHeld capacity path
   IsMeantPath true capacity path = IsEarliestHeld capacity path
 
-  -- what `LeftmostFirst` makes of the empty set of this capacity
+  -- the set that `LeftmostFirst` makes of the empty set of this capacity
   pub record HoldsMeant (earliest : Bool) (capacity : ℕ) (set : List Bool) : Type 0 where
     pub path : Option (List Pair)
     pub meant : IsMeantPath earliest capacity path
     pub holds : HoldsPath earliest path set
 
-  -- what the set gains
+  -- the patterns that the set gains
   pub record GainsAll (earliest : Bool) (old new : List Bool) : Type 0 where
     pub gained : (k : ℕ) → HoldsPattern new k
         ↔ (HoldsPattern old k ⊎ ((k < length old) × IsMeantByAll earliest (length old) k))
 
   pub record GainsFirst (earliest : Bool) (old new : List Bool) : Type 0 where
-    -- a set that holds a pattern gains none
+    -- a set that holds a pattern gains nothing
     pub full : 0 < size_of_set old → new ≡ old
     pub empty : size_of_set old ≡ 0 → HoldsMeant earliest (length old) new
 
-  -- what it gains by the kind
+  -- the patterns that the set gains, by match kind
   abbrev pub Gains : MatchKind → Bool → List Bool → List Bool → Type 0
   Gains All earliest old new = GainsAll earliest old new
   Gains LeftmostFirst earliest old new = GainsFirst earliest old new
 
-  -- The set after is what the search makes of the set before. It keeps its capacity and loses nothing, and gains only
-  -- patterns below its capacity, each of an accepting path with a permitted end.
+  -- The search turns the old set into the new one. The set keeps its capacity and its patterns. It gains only patterns
+  -- below its capacity, each of an accepting path with a permitted end.
   pub record IsOverlapResult (kind : MatchKind) (earliest : Bool) (old new : List Bool) : Type 0 where
     pub capacity : length new ≡ length old
     pub keeps : (k : ℕ) → HoldsPattern old k → HoldsPattern new k

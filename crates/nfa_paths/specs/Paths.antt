@@ -1,4 +1,4 @@
--- What a search of an NFA answers, in terms of its paths.
+-- The answer of a search of an NFA, in terms of the NFA's paths.
 use Rattle.std.specs.Prelude.{◌≡◌, ℕ, zero, suc, ◌+◌, ◌-◌, ◌<◌, ◌≤◌, ◌⊎◌, Bool, true, false, ◌&&◌, ◌||◌, MatchBool, not, is_some, replicate, List, [], ◌∷◌, length, map, count_by, Option, Some, None, option_map, option_and_then, option_to_list, if◌then◌else◌, ◌==◌, nat_lt, nat_le, slice_get, slice_index_or, ⊤}
 use Rattle.std.specs.List.{range_with_len, sum_by, last_or}
 use Rattle.std.specs.Option.{option_or, option_map_or}
@@ -19,23 +19,23 @@ use Rattle.thompson_nfa.specs.Looks.{look_holds}
 pub use Rattle.thompson_nfa.specs.Flaws.{pattern_of, slot_of}
 use Rattle.nfa_paths.specs.Graphs.{Pair, Space, IsFirstPath, IsEarliestPath, IsLastPath, IsEarliestLastPath}
 
--- the transition holds the byte
+-- the byte is in the range of the transition
 abbrev pub holds_byte : Transition → ℕ → Bool
 holds_byte t b = nat_le t.start b && nat_le b t.end
 
--- where the first transition that holds the byte leads
+-- the target of the first transition whose range has the byte
 abbrev pub first_target : List Transition → ℕ → Option ℕ
 first_target [] b = None
 first_target (t ∷ ts) b = if holds_byte t b then Some t.next else first_target ts b
 
--- where a byte state leads on the byte
+-- the target of a byte state on the byte
 abbrev pub target_on : Node → ℕ → Option ℕ
 target_on (ByteRange t) b = if holds_byte t b then Some t.next else None
 target_on (Sparse ts) b = first_target ts b
 target_on (Dense targets) b = option_and_then (λ target. target) (slice_get targets b)
 target_on _ b = None
 
--- the state at each of `count` positions from this one on
+-- the state at each of `count` positions, beginning with this one
 abbrev pub pairs_from : ℕ → ℕ → ℕ → List Pair
 pairs_from state at zero = []
 pairs_from state at (suc count) = (state, at) ∷ pairs_from state (at + 1) count
@@ -44,11 +44,11 @@ pairs_from state at (suc count) = (state, at) ∷ pairs_from state (at + 1) coun
 abbrev pub raised : Search → ℕ → Search
 raised x i = record x { start = x.start + i }
 
--- the length of the span, not below 0
+-- the length of the span; 0 if its end is before its start
 abbrev pub span_len : Search → ℕ
 span_len x = x.end - x.start
 
--- how many edges a state has at most at one position
+-- the maximum number of edges of a state at one position
 abbrev pub degree : Node → ℕ
 degree (ByteRange t) = 1
 degree (Sparse ts) = length ts
@@ -61,7 +61,7 @@ degree Fail = 0
 degree (Match pattern) = 0
 
 module _ (x : Search) where
-  -- the byte that the search reads at p, before the end of its span
+  -- the byte at p, if p is before the end of the span
   abbrev pub byte_at : ℕ → Option ℕ
   byte_at p = if nat_lt p x.end then slice_get x.haystack p else None
 
@@ -96,17 +96,17 @@ module _ (nfa : Automaton) where
   abbrev pub capture : Pair → Option ℕ
   capture v = slot_of (node_at v.0)
 
-  -- empty matches are possible and text is UTF-8, so a match has to end on a boundary
+  -- empty matches are possible and the NFA is in UTF-8 mode, so a match has to end on a boundary
   abbrev pub is_utf8_empty : Bool
   is_utf8_empty = nfa.has_empty && nfa.utf8
 
-  -- where a path starts; none for an unknown pattern
+  -- the first state of a path; none for an unknown pattern
   abbrev pub start_state : Anchored → Option ℕ
   start_state No = Some nfa.anchored
   start_state Yes = Some nfa.anchored
   start_state (Pattern pattern) = slice_get nfa.patterns (number_of pattern)
 
-  -- the edges of all states at one position: what a search may try there
+  -- the number of edges of all states at one position, which bounds the turns there
   abbrev pub turn_weight : ℕ
   turn_weight = sum_by degree nfa.states
 
@@ -115,8 +115,8 @@ module _ (nfa : Automaton) where
     abbrev pub edges : Pair → List Pair
     edges v = edges_of x (node_at v.0) v.1
 
-    -- how many positions a path may start at: none past the end of the span, the first alone where the search or the
-    -- NFA is anchored, else each position of the span, its end included
+    -- The number of positions that a path may start at: 0 if the span's start is past its end; 1, the first, if the
+    -- search or the NFA is anchored; otherwise one for each position of the span, including its end.
     abbrev pub start_count : ℕ
     start_count =
         if nat_lt x.end x.start then 0
@@ -126,12 +126,12 @@ module _ (nfa : Automaton) where
     abbrev pub starts : List Pair
     starts = option_map_or (λ state. pairs_from state x.start start_count) (start_state x.anchored) []
 
-    -- all that a scan explores
+    -- the graph that a scan explores
     abbrev pub space : Space
     space = record { edges = edges; capture = capture; starts = starts }
 
-    -- What a scan answers: the accepting path that is meant by the kind and by `earliest`, or none where there is no
-    -- accepting path. A path is accepting if its last state is a Match.
+    -- The answer of a scan: the accepting path that the kind and `earliest` choose, or none if there is no accepting
+    -- path. A path is accepting if its last state is a Match.
     abbrev pub IsScanAnswer : MatchKind → Bool → Option (List Pair) → Type 0
     IsScanAnswer LeftmostFirst false = IsFirstPath edges starts IsMatch
     IsScanAnswer LeftmostFirst true = IsEarliestPath edges starts IsMatch
@@ -142,18 +142,19 @@ module _ (nfa : Automaton) where
   abbrev pub path_pattern : List Pair → Option ℕ
   path_pattern p = option_and_then (λ v. pattern_of (node_at v.0)) (last_of p)
 
-  -- that pattern, and where the path ends
+  -- that pattern, and the position at which the path ends
   abbrev pub path_half : List Pair → Option HalfFound
   path_half p = option_and_then
       (λ v. option_map (λ k. record { pattern = k; offset = v.1 }) (pattern_of (node_at v.0))) (last_of p)
 
-  -- where the last of the pairs that writes the slot stands
+  -- the position of the last pair that writes the slot
   abbrev pub slot_among : List Pair → ℕ → Option ℕ
   slot_among [] slot = None
   slot_among (v ∷ p) slot = option_or (slot_among p slot)
       (if option_map_or (λ k. k == slot) (capture v) false then Some v.1 else None)
 
-  -- the first `count` slots of the path: each the position of the last Capture of the slot; of no path all are none
+  -- the first `count` slots of the path, each with the position of the last Capture of the slot; without a path all are
+  -- none
   unfoldable pub slot_row : ℕ → Option (List Pair) → List (Option ℕ)
   slot_row count None = replicate count None
   slot_row count (Some p) = map (slot_among p) (range_with_len 0 count)
@@ -170,24 +171,25 @@ IsWhole x None = ⊤
 IsWhole x (Some p) = EndsOnBoundary x p
 
 module _ (nfa : Automaton) (kind : MatchKind) (earliest : Bool) where
-  -- the scan's answer ends inside a character
+  -- the scan's answer ends inside a codepoint
   pub record SplitsCharacter (x : Search) : Type 0 where
     pub path : List Pair
     pub answers : IsScanAnswer nfa x kind earliest (Some path)
     pub splits : ¬ EndsOnBoundary x path
 
-  -- an anchored search: an answer inside a character does not count
+  -- the answer of an anchored search: one that ends inside a codepoint does not count
   abbrev pub IsKeptAnswer : Search → Option (List Pair) → Type 0
   IsKeptAnswer x None = IsScanAnswer nfa x kind earliest None ⊎ SplitsCharacter x
   IsKeptAnswer x (Some p) = IsScanAnswer nfa x kind earliest (Some p) × EndsOnBoundary x p
 
-  -- the first restart, each one byte on from the old start, whose scan is none or ends on a boundary
+  -- Restarts begin one byte further on each time. This answer is that of the first one whose scan is none or ends on a
+  -- boundary.
   pub record IsRestartedAnswer (x : Search) (restarts : ℕ) (answer : Option (List Pair)) : Type 0 where
     pub skipped : (i : ℕ) → i < restarts → SplitsCharacter (raised x i)
     pub answers : IsScanAnswer nfa (raised x restarts) kind earliest answer
     pub whole : IsWhole x answer
 
-  -- what the search answers, after so many restarts
+  -- the search's answer, after this number of restarts
   abbrev pub IsSearchAnswer : Search → ℕ → Option (List Pair) → Type 0
   IsSearchAnswer x restarts answer =
       MatchBool (is_utf8_empty nfa)
@@ -195,7 +197,7 @@ module _ (nfa : Automaton) (kind : MatchKind) (earliest : Bool) where
       (IsRestartedAnswer x restarts answer))
       ((restarts ≡ 0) × IsScanAnswer nfa x kind earliest answer)
 
-  -- pattern and slots are those of the search's answer
+  -- the pattern and the slots of the search's answer
   pub record IsAnswer (x : Search) (pattern : Option ℕ) (slots : List (Option ℕ)) : Type 0 where
     pub restarts : ℕ
     pub path : Option (List Pair)
@@ -203,14 +205,14 @@ module _ (nfa : Automaton) (kind : MatchKind) (earliest : Bool) where
     pub pattern_is : pattern ≡ option_and_then (path_pattern nfa) path
     pub slots_are : slots ≡ slot_row nfa (length slots) path
 
-  -- the search has an answer, or has none
+  -- whether the search has an answer
   pub record IsFoundAnswer (x : Search) (found : Bool) : Type 0 where
     pub restarts : ℕ
     pub path : Option (List Pair)
     pub answers : IsSearchAnswer x restarts path
     pub found_is : found ≡ is_some path
 
-  -- the match of the search's answer, which its pattern's two slots give
+  -- the match of the search's answer, from its pattern's two slots
   pub record IsMatchAnswer (x : Search) (found : Option Found) : Type 0 where
     pub restarts : ℕ
     pub path : Option (List Pair)
@@ -218,14 +220,15 @@ module _ (nfa : Automaton) (kind : MatchKind) (earliest : Bool) where
     pub found_is : found ≡ match_of (option_and_then (path_pattern nfa) path)
         (slot_row nfa (slot_count nfa.groups) path)
 
-  -- the pattern of the search's answer, and where its path ends
+  -- the pattern of the search's answer, and the position at which its path ends
   pub record IsHalfAnswer (x : Search) (found : Option HalfFound) : Type 0 where
     pub restarts : ℕ
     pub path : Option (List Pair)
     pub answers : IsSearchAnswer x restarts path
     pub found_is : found ≡ option_and_then (path_half nfa) path
 
-  -- One scan more than restarts were made, and a turn at least for each pair of the answer's path.
+  -- The number of scans is one more than that of restarts. The number of turns is at least that of the pairs of the
+  -- answer's path.
   pub record IsWork (x : Search) (scans turns : ℕ) : Type 0 where
     pub restarts : ℕ
     pub path : Option (List Pair)
@@ -233,11 +236,11 @@ module _ (nfa : Automaton) (kind : MatchKind) (earliest : Bool) where
     pub scans_are : scans ≡ restarts + 1
     pub turns_reach : option_map_or length path 0 ≤ turns
 
-  -- no more scans than the search's answer takes
+  -- at most as many scans as the search's answer takes
   abbrev pub IsWithinScans : Search → ℕ → Type 0
   IsWithinScans x scans = (restarts : ℕ) (path : Option (List Pair)) → IsSearchAnswer x restarts path
       → scans ≤ restarts + 1
 
--- how many scans a search makes at most
+-- the maximum number of scans of a search
 abbrev pub scan_limit : Automaton → Search → ℕ
 scan_limit nfa x = if is_utf8_empty nfa && not (is_anchored x.anchored) then (span_len x + 2) else 1

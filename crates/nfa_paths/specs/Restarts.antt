@@ -1,4 +1,4 @@
--- What a scan and a search come to, whichever engine makes them: the match, the slots, and how much was done for it.
+-- The results of a scan and of a search by either engine: the match, the slots, and the work.
 use Rattle.std.specs.Prelude.{◌≡◌, ℕ, ◌+◌, ◌*◌, ◌<◌, ◌≤◌, Bool, true, false, List, Option, None, Some}
 use Rattle.std.specs.Prelude.{length, replicate, option_map, option_and_then}
 use Rattle.std.specs.Option.{option_map_or}
@@ -12,7 +12,7 @@ use Rattle.nfa_paths.specs.Exploring.{Slots}
 use Rattle.nfa_paths.specs.Paths.{span_len, turn_weight, raised, node_at, pattern_of, last_of, path_half, slot_row}
 use Rattle.nfa_paths.specs.Paths.{is_utf8_empty, IsScanAnswer, IsSearchAnswer, SplitsCharacter}
 
--- the turns of one scan at most
+-- the maximum number of turns of one scan
 abbrev pub scan_turns : Automaton → Search → ℕ
 scan_turns nfa x = (1 + turn_weight nfa) * (span_len x + 1)
 
@@ -21,7 +21,7 @@ abbrev pub AreUnset : Slots → Type 0
 AreUnset slots = slots ≡ replicate (length slots) None
 
 module _ (nfa : Automaton) (kind : MatchKind) (earliest : Bool) (x : Search) where
-  -- the scan's answer is this path, of which the match and the slots are
+  -- the scan's answer is a path with this match and these slots
   pub record GivesPath (half : HalfMatch) (slots : Slots) (turns : ℕ) : Type 0 where
     pub path : List Pair
     pub state : ℕ
@@ -31,12 +31,12 @@ module _ (nfa : Automaton) (kind : MatchKind) (earliest : Bool) (x : Search) whe
     pub row : slots ≡ slot_row nfa (length slots) (Some path)
     pub short : length path ≤ turns
 
-  -- what a scan comes to, in so many turns
+  -- the result of a scan in `turns` turns
   abbrev pub ScanGives : Option HalfMatch → Slots → ℕ → Type 0
   ScanGives None slots turns = IsScanAnswer nfa x kind earliest None × AreUnset slots
   ScanGives (Some half) slots turns = GivesPath half slots turns
 
-  -- what a search comes to, in so many scans and turns
+  -- the result of a search in `scans` scans and `turns` turns
   pub record SearchGives (half : Option HalfMatch) (slots : Slots) (scans turns : ℕ) : Type 0 where
     pub restarts : ℕ
     pub path : Option (List Pair)
@@ -46,8 +46,7 @@ module _ (nfa : Automaton) (kind : MatchKind) (earliest : Bool) (x : Search) whe
     pub scans_are : scans ≡ restarts + 1
     pub turns_reach : option_map_or length path 0 ≤ turns
 
-  -- A search that is not over: it scans y next, after so many scans, each of which had its answer end inside a
-  -- character.
+  -- A search in progress. It scans y next, after `scans` scans, each with an answer that ends inside a codepoint.
   pub record Restarts (y : Search) (scans turns : ℕ) : Type 0 where
     pub is : y ≡ raised x scans
     pub split : (i : ℕ) → i < scans → SplitsCharacter nfa kind earliest (raised x i)

@@ -1,3 +1,3 @@
-//! What the paths of an NFA are, and what a search of it answers in terms of them: the definitions (in `specs/`) that
-//! the contracts of all engines cite, and the theory over them. It has no code of its own.
+//! The paths of an NFA, and the answer of a search in terms of them. This crate has the definitions (in `specs/`) that
+//! the contracts of all engines use, and the theory of them. It has no code.
 #![tactic(auto)]
