@@ -19,7 +19,7 @@ use Rattle.nfa_scanning.specs.declared.first_bytes.Reached.{Reached}
 
 -- tables
 
--- what the first of some transitions that holds the byte is let through by
+-- a table that admits the bytes of some transitions admits those of the first one that has the byte
 pub admits-first : (table : List Bool) (ts : List Transition)
     → All (λ t. (b : ℕ) → holds_byte t b ≡ true → Admits table b) ts
     → (b u : ℕ) → first_target ts b ≡ Some u → Admits table b
@@ -109,7 +109,7 @@ lands-if r next at w true (inl e) reached = lands r next at w e reached
 lands-if r next at w true (inr never) reached = absurd never
 lands-if r next at w false i reached = absurd i
 
--- a state that reads only what is let through leads nowhere on a byte that is refused
+-- a state that reads only admitted bytes leads nowhere on a byte that is refused
 no-target : (table : List Bool) (x : Search) (node : Node) (at : ℕ) → IsRefused table x at
     → ((b t : ℕ) → target_on node b ≡ Some t → Admits table b)
     → (w : Pair) → In w (option_to_list (option_and_then (λ b. option_map (λ next. (next, at + 1)) (target_on node b))
@@ -153,7 +153,7 @@ no-match r table (Capture next slot) c e = cc
 no-match r table Fail c e = cc
 
 module _ (nfa : Automaton) (table : List Bool) where
-  -- where all that is reached is covered, a path from there on a byte that is refused ends nowhere
+  -- if all states that were reached are covered, no path from them on a refused byte ends at a match
   no-path : (r : Reached) → ((s : ℕ) → WasReached r s → Covers r table (node_at nfa s)) → (x : Search)
       → {v : Pair} {p : List Pair}
       → Path (edges nfa x) (is_match nfa) v p → WasReached r v.0 → IsRefused table x v.1 → ⊥
@@ -171,7 +171,7 @@ module _ (nfa : Automaton) (table : List Bool) where
     least = least;
   }
 
-  -- a table that lets all through
+  -- a table that admits all bytes
   pub IsFirstBytes-all : (n : ℕ) → table ≡ replicate n true → ((b : ℕ) → MayBegin nfa b) → IsFirstBytes nfa table
   IsFirstBytes-all n all may = record {
     none = λ x at f marks p a. never n f.byte (rw all at f.refused);

@@ -1,4 +1,4 @@
--- A table lets no more bytes through than a match may begin with.
+-- A table admits only bytes that a match may begin with.
 use Rattle.std.proofs.Common.{◌≡◌, ℕ, suc, zero, ◌+◌, ◌<◌, ◌≤◌, inl, inr, List, [], ◌∷◌, length, get_or, replicate, refl, sym, arith}
 use Rattle.std.specs.Prelude.{Some, None, true, false, Bool, All, is_some, if◌then◌else◌}
 use Rattle.std.specs.List.{slice_get}
@@ -46,7 +46,7 @@ In-at [] i d less = absurd (omega arith)
 In-at (x ∷ xs) zero d less = inl refl
 In-at (x ∷ xs) (suc i) d less = inr (In-at xs i d (omega arith))
 
--- what stands in a list of one state that is among others
+-- the only state of a list is among others if the list is
 pub In-one : (y : ℕ) (ys : List ℕ) → In y ys → (x : ℕ) → In x (y ∷ []) → In x ys
 In-one y ys i x (inl e) = rw e i
 In-one y ys i x (inr never) = absurd never
@@ -90,7 +90,7 @@ pub admits-none : (n b : ℕ) → b < n → Admits (replicate n false) b → ⊥
 admits-none n b less e = let no = get_or-replicate n b false true less in cc
 
 module _ (nfa : Automaton) where
-  -- where following a state stops, a match may begin with any byte
+  -- if following a state stops, a match may begin with any byte
   MayBegin-stopped : (r : Reached) (s : ℕ) (node : Node) → node_at nfa s ≡ node → IsReachedAtStart nfa s
       → length r.states ≡ 64 → ((k : ℕ) → k < r.len → IsReachedAtStart nfa (get_or r.states k 0)) → Differ r
       → Stops r node → (b : ℕ) → MayBegin nfa b

@@ -1,4 +1,4 @@
--- A counter takes no bytes and owns nothing, so one of any count can be made.
+-- A counter has no bytes and owns nothing, so a counter of any count can be made.
 use Rattle.std.proofs.Common.{ℕ, [], ◌∷◌, refl}
 use seplogic.Ra.Ura.{Ura}
 use mir.Val.{Val, vstruct, vnil}

@@ -1,4 +1,4 @@
--- Where a byte state leads.
+-- The targets of byte states.
 use Rattle.std.proofs.Common.{◌≡◌, ℕ, suc, zero, ◌<◌, ◌≤◌, List, [], ◌∷◌, length, refl, arith}
 use Rattle.std.specs.Prelude.{Option, Some, None, true, false, Bool, All, IfSome, option_and_then, is_some, count_by, cond, nat_lt, if◌then◌else◌}
 use Rattle.std.specs.List.{slice_get}
@@ -10,7 +10,7 @@ use Rattle.thompson_nfa.specs.Automaton.Node.{ByteRange, Sparse, Dense, Look, Un
 use Rattle.thompson_nfa.specs.declared.state.Transition.{Transition}
 use Rattle.nfa_paths.specs.Paths.{degree, byte_at, target_on, first_target, holds_byte}
 
--- what a choice between something and nothing says
+-- the properties of an optional value that is chosen by a condition
 then-some : {A : Type 0} (c : Bool) (a u : A) → (if c then Some a else None) ≡ Some u → (c ≡ true) × (a ≡ u)
 then-some true a u e = (refl, cc)
 then-some false a u e = cc

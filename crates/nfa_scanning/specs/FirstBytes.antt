@@ -8,11 +8,11 @@ use Rattle.nfa_paths.specs.FirstPaths.{IsFirst}
 use Rattle.nfa_paths.specs.Paths.{byte_at, target_on, node_at, pattern_of, edges, is_match}
 use Rattle.nfa_scanning.specs.declared.first_bytes.Reached.{Reached}
 
--- the table lets the byte through
+-- the table admits the byte
 abbrev pub Admits : List Bool → ℕ → Type 0
 Admits table b = slice_index_or table b true ≡ true
 
--- what the one table lets through the other does too
+-- the table after admits each byte that the table before admits
 pub record Grows (table after : List Bool) : Type 0 where
   pub still : (b : ℕ) → Admits table b → Admits after b
 
@@ -22,7 +22,7 @@ pub record WasReached (reached : Reached) (s : ℕ) : Type 0 where
   pub below : place < reached.len
   pub is : slice_index reached.states place ≡ s
 
--- what was reached is still, at its place, of as many places
+-- each state that was reached stays at its index, and the number of places stays
 pub record Extends (reached after : Reached) : Type 0 where
   pub size : length after.states ≡ length reached.states
   pub more : reached.len ≤ after.len
@@ -32,7 +32,8 @@ pub record Extends (reached after : Reached) : Type 0 where
 abbrev pub AreBelow : ℕ → Reached → Type 0
 AreBelow n reached = (k : ℕ) → k < reached.len → slice_index reached.states k < n
 
--- the state is no match, what it leads to without a byte was reached, and the bytes that it reads are let through
+-- the state is not a match, the states that it leads to without a byte were reached, and the bytes that it reads are
+-- admitted
 abbrev pub Covers : Reached → List Bool → Node → Type 0
 Covers reached table (ByteRange trans) = (b t : ℕ) → target_on (ByteRange trans) b ≡ Some t → Admits table b
 Covers reached table (Sparse transitions) = (b t : ℕ) → target_on (Sparse transitions) b ≡ Some t → Admits table b
@@ -60,7 +61,7 @@ Reads node b = is_some (target_on node b) ≡ true
 abbrev pub Matches : Node → Type 0
 Matches node = is_some (pattern_of node) ≡ true
 
--- what the second table lets through beyond the first, the state reads
+-- the state reads each byte that only the second table admits
 pub record GrowsBy (table after : List Bool) (node : Node) : Type 0 where
   pub only : (b : ℕ) → Admits after b → Admits table b ⊎ Reads node b
 
@@ -69,27 +70,27 @@ abbrev pub Differ : Reached → Type 0
 Differ reached = (j k : ℕ) → j < k → k < reached.len
     → slice_index reached.states j ≡ slice_index reached.states k → ⊥
 
--- what was reached since is among the states
+-- each state that was added is one of these
 pub record AddsOnly (reached after : Reached) (sids : List ℕ) : Type 0 where
   pub among : (k : ℕ) → reached.len ≤ k → k < after.len → In (slice_index after.states k) sids
 
--- there is no room left, and one of the states was not reached
+-- there is no room left, and one of these states was not reached
 pub record LacksRoom (reached : Reached) (sids : List ℕ) : Type 0 where
   pub state : ℕ
   pub among : In state sids
   pub full : reached.len ≡ 64
   pub other : WasReached reached state → ⊥
 
--- the state is a match, or there was no room for what it leads to without a byte
+-- the state is a match, or there was no room for the states that it leads to without a byte
 abbrev pub Stops : Reached → Node → Type 0
 Stops reached node = Matches node ⊎ LacksRoom reached (epsilon_targets node)
 
--- no state stands in the list twice
+-- no state is in the list twice
 abbrev pub AreDistinct : List ℕ → Type 0
 AreDistinct states = (j k : ℕ) → j < k → k < length states → slice_index states j ≡ slice_index states k → ⊥
 
 module _ (nfa : Automaton) where
-  -- the state is reached from the anchored start before a byte is read, where every assertion is taken to hold
+  -- the state is reached from the anchored start before a byte is read, if every assertion holds
   pub data IsReachedAtStart : ℕ → Type 0 where
     begin : IsReachedAtStart nfa.anchored
     on : {s t : ℕ} → IsReachedAtStart s → In t (epsilon_targets (node_at nfa s)) → IsReachedAtStart t
@@ -100,21 +101,21 @@ module _ (nfa : Automaton) where
     pub at_start : IsReachedAtStart state
     pub by : Reads (node_at nfa state) b
 
-  -- A match may begin with the byte, as far as states are followed: one that is reached reads the byte, or one is a
-  -- match, or 65 are reached, where 64 are followed.
+  -- A match may begin with the byte, as far as states are followed: a state that is reached reads the byte or is a
+  -- match, or 65 states are reached, one more than are followed.
   pub data MayBegin (b : ℕ) : Type 0 where
     reads : IsRead b → MayBegin b
     matches : (s : ℕ) → IsReachedAtStart s → Matches (node_at nfa s) → MayBegin b
     many : (states : List ℕ) → length states ≡ 65 → All IsReachedAtStart states → AreDistinct states → MayBegin b
 
--- the byte at the position, before the end of the span, is one that the table refuses
+-- the table refuses the byte at the position, which is before the end of the span
 pub record IsRefused (table : List Bool) (x : Search) (at : ℕ) : Type 0 where
   pub byte : ℕ
   pub read : byte_at x at ≡ Some byte
   pub refused : slice_index_or table byte true ≡ false
 
--- From where an anchored search starts, no path leads to a match from a position that the table refuses; and the table
--- lets no more bytes through than a match may begin with.
+-- No path from the start of an anchored search leads to a match from a position that the table refuses. The table
+-- admits only bytes that a match may begin with.
 pub record IsFirstBytes (nfa : Automaton) (table : List Bool) : Type 0 where
   pub none : (x : Search) (at : ℕ) → IsRefused table x at → (marks : List Pair)
       → IsFirst (edges nfa x) (is_match nfa) marks (nfa.anchored, at) None

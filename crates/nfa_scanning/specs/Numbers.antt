@@ -1,6 +1,6 @@
--- Numbers as a machine keeps them.
+-- Numbers as a machine stores them.
 use Rattle.std.specs.Prelude.{ℕ, ◌-◌, ◌^◌, min}
 
--- a number that stops at the greatest `usize`
+-- the number, or the maximum `usize` if it is greater
 abbrev pub saturated : ℕ → ℕ
 saturated n = min n (2 ^ 64 - 1)

@@ -1,7 +1,7 @@
 //! The bytes that a match may begin with.
 //!
-//! From where an anchored search starts, some states are reached before a byte is read. Where none of them is a match
-//! and none reads the byte at a position, no match begins there, and a search passes the position over.
+//! Some states are reached from the start of anchored searches before a byte is read. If none of them is a match and
+//! none reads the byte at a position, no match begins there, and a search skips the position.
 ghost use Rattle.std.specs.Prelude.{◌≡◌, ℕ, ◌<◌, ◌≤◌, [], ◌∷◌, Some, true, false, slice_index_or, All, IfSome, IfNone};
 ghost use Rattle.thompson_nfa.specs.Automaton.{LeadsBelow, node_of};
 ghost use Rattle.thompson_nfa.specs.Automaton.Node.{ByteRange, Sparse, Dense};
@@ -13,18 +13,18 @@ use regex_search_core::StateID;
 use std::fmt;
 use thompson_nfa::{NFA, State, Transition};
 
-/// How many states are followed at most.
+/// The maximum number of states that are followed.
 const LIMIT: usize = 64;
 
-/// Which bytes a match may begin with. No match begins with a byte that is refused; where that was not found out for
-/// lack of room, or where a match may be empty, no byte is refused.
+/// The bytes that a match may begin with. No match begins with a byte that is refused. No byte is refused if a match
+/// may be empty, or if more than 64 states would have to be followed.
 #[derive(Clone, Copy)]
 pub struct FirstBytes {
-    /// Whether a match may begin with a byte, at the byte's place.
+    /// For each byte, whether a match may begin with it.
     pub may_begin: [bool; 256],
 }
 
-// The table would hide all else that is shown beside it.
+// Leaves the table out, which would hide everything printed next to it.
 impl fmt::Debug for FirstBytes {
     fn fmt<W: fmt::Write>(&self, f: &mut fmt::Formatter<W>) -> fmt::Result {
         f.debug_struct("FirstBytes").finish_non_exhaustive()
@@ -32,7 +32,7 @@ impl fmt::Debug for FirstBytes {
 }
 
 impl FirstBytes {
-    /// The bytes that a match of the NFA may begin with.
+    /// Returns the bytes that a match of the NFA may begin with.
     pub fn new(nfa: &NFA) -> FirstBytes
         ensures { IsFirstBytes nfa.now result.may_begin }
     {
@@ -44,7 +44,7 @@ impl FirstBytes {
         }
     }
 
-    /// Whether no match begins with the byte.
+    /// Returns whether no match begins with the byte.
     #[inline(always)]
     pub fn refuses(&self, byte: u8) -> bool
         ensures refused { result ≡ true → slice_index_or self.now.may_begin byte true ≡ false }
@@ -54,7 +54,7 @@ impl FirstBytes {
     }
 }
 
-/// The states that were reached before a byte is read: the first `len` of these.
+/// The states that are reached before a byte is read: the first `len` of these.
 #[derive(Drop)]
 struct Reached {
     states: [StateID; LIMIT],
@@ -76,7 +76,7 @@ impl Reached {
         false
     }
 
-    /// Reaches the state, and says whether there was room for it.
+    /// Adds the state, and returns whether there was room for it.
     fn add(&mut self, sid: StateID) -> bool
         requires { self.old.len ≤ 64 }
         ensures room { self.new.len ≤ 64 }
@@ -98,7 +98,7 @@ impl Reached {
         true
     }
 
-    /// Reaches each of the states, and says whether there was room for them.
+    /// Adds each of the states, and returns whether there was room for them.
     fn add_all(&mut self, sids: &[StateID]) -> bool
         requires { self.old.len ≤ 64 }
         ensures room { self.new.len ≤ 64 }
@@ -118,7 +118,7 @@ impl Reached {
     }
 }
 
-/// Lets the bytes of the transition through.
+/// Admits the bytes of the transition.
 fn admit(table: &mut [bool; 256], trans: &Transition)
     ensures grows { Grows table.old table.new }
     ensures admits { (b : ℕ) → holds_byte trans.now b ≡ true → Admits table.new b }
@@ -129,7 +129,7 @@ fn admit(table: &mut [bool; 256], trans: &Transition)
     }
 }
 
-/// Lets the bytes of the transitions through.
+/// Admits the bytes of the transitions.
 fn admit_all(table: &mut [bool; 256], transitions: &[Transition])
     ensures grows { Grows table.old table.new }
     ensures admits { (b t : ℕ) → target_on (Sparse transitions.now) b ≡ Some t → Admits table.new b }
@@ -140,7 +140,7 @@ fn admit_all(table: &mut [bool; 256], transitions: &[Transition])
     }
 }
 
-/// Lets the bytes through that have a target.
+/// Admits the bytes that have a target.
 fn admit_targets(table: &mut [bool; 256], targets: &[Option<StateID>])
     ensures grows { Grows table.old table.new }
     ensures admits { (b t : ℕ) → target_on (Dense targets.now) b ≡ Some t → Admits table.new b }
@@ -153,8 +153,8 @@ fn admit_targets(table: &mut [bool; 256], targets: &[Option<StateID>])
     }
 }
 
-/// Reaches the states that the state leads to without a byte, and lets the bytes through that it reads. False where the
-/// state is a match, or where there was no room.
+/// Adds the states that this state leads to without a byte, and admits the bytes that it reads. Returns false if the
+/// state is a match or if there was no room.
 fn follow(state: &State, reached: &mut Reached, table: &mut [bool; 256]) -> bool
     requires { reached.old.len ≤ 64 }
     ensures room { reached.new.len ≤ 64 }
@@ -189,7 +189,7 @@ fn follow(state: &State, reached: &mut Reached, table: &mut [bool; 256]) -> bool
     }
 }
 
-/// Follows all that is reached before a byte is read: none where a match is reached, or where there is no room.
+/// Follows all states that are reached before a byte is read. `None` if one of them is a match or if there is no room.
 fn follow_all(nfa: &NFA) -> Option<FirstBytes>
     ensures some { IfSome result (λ first. IsFirstBytes nfa.now first.may_begin) }
     ensures none { IfNone result ((b : ℕ) → MayBegin nfa.now b) }

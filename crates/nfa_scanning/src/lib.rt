@@ -1,5 +1,5 @@
-//! What both engines are made of: a count that only contracts see, the bytes that a match may begin with, where a byte
-//! leads, and where a search starts. Users take the engines from `nfa_engines`.
+//! The parts that both engines share: a count that only contracts see, the bytes that a match may begin with, the
+//! target of a byte, and the start of a search. Callers take the engines from `nfa_engines`.
 #![tactic(auto)]
 
 pub mod counter;

@@ -1,4 +1,4 @@
-//! Where a search starts, which starts it passes over, and where its answer may end.
+//! The starts of a search, which of them it skips, and where its answer may end.
 ghost use Rattle.std.specs.Prelude.{◌≡◌, ℕ, ◌+◌, ◌-◌, ◌<◌, ◌≤◌, Some, true, false, length, IfSome};
 ghost use Rattle.regex_search_core.specs.Boundary.{IsBoundary};
 ghost use Rattle.regex_search_core.specs.Search.{search_of};
@@ -10,7 +10,7 @@ use crate::first_bytes::FirstBytes;
 use regex_search_core::{Anchored, Input, StateID};
 use thompson_nfa::NFA;
 
-/// The state that a path starts with; none for an unknown pattern.
+/// Returns the first state of a path. `None` for an unknown pattern.
 pub fn start_state(nfa: &NFA, input: &Input<'_>) -> Option<StateID>
     ensures value { result ≡ start_state nfa.now (search_of input.now).anchored }
     ensures within { IfSome result (λ sid. sid < length nfa.now.states) }
@@ -22,7 +22,7 @@ pub fn start_state(nfa: &NFA, input: &Input<'_>) -> Option<StateID>
     }
 }
 
-/// The position behind the last one that a path may start at, where the input is not done.
+/// Returns the position after the last one at which a path may start. Requires that the input is not done.
 pub fn start_limit(nfa: &NFA, input: &Input<'_>) -> usize
     requires { (search_of input.now).start ≤ (search_of input.now).end }
     ensures starts { (sid : ℕ) → start_state nfa.now (search_of input.now).anchored ≡ Some sid
@@ -39,7 +39,8 @@ pub fn start_limit(nfa: &NFA, input: &Input<'_>) -> usize
     }
 }
 
-/// The position behind the last one that may be passed over for its byte: none where a path may start at one alone.
+/// Returns the position after the last one that may be skipped for its byte. If a path may start at one position only,
+/// none may be skipped.
 pub fn skip_limit(nfa: &NFA, input: &Input<'_>) -> usize
     requires { (search_of input.now).start ≤ (search_of input.now).end }
     ensures count { result + 1 ≡ (search_of input.now).start + start_count nfa.now (search_of input.now) }
@@ -50,8 +51,8 @@ pub fn skip_limit(nfa: &NFA, input: &Input<'_>) -> usize
     start_limit(nfa, input) - 1
 }
 
-/// The first position, from this one on, that is not passed over for its byte. It is a call of its own, so that its
-/// values take no registers from the walk.
+/// Returns the first position, beginning with `from`, that is not skipped for its byte. This is a separate call, so
+/// that its values take no registers from the walk.
 #[inline(never)]
 pub fn next_start(first: &FirstBytes, input: &Input<'_>, from: usize, stop: usize) -> usize
     requires from { from ≤ (search_of input.now).end + 1 }
@@ -71,15 +72,15 @@ pub fn next_start(first: &FirstBytes, input: &Input<'_>, from: usize, stop: usiz
     at
 }
 
-/// Whether an answer counts only if it ends on the boundary of a character: the NFA matches the empty text, and its
-/// matches are to be whole characters.
+/// Returns whether an answer counts only if it ends on a boundary: the NFA can match the empty string and is in UTF-8
+/// mode.
 pub fn is_utf8_empty(nfa: &NFA) -> bool
     ensures { result ≡ is_utf8_empty nfa.now }
 {
     nfa.has_empty() && nfa.is_utf8()
 }
 
-/// Whether an answer that ends at the position counts.
+/// Returns whether an answer that ends at the position counts.
 pub fn may_end_at(nfa: &NFA, input: &Input<'_>, at: usize) -> bool
     ensures counts { result ≡ true → is_utf8_empty nfa.now ≡ true → IsBoundary (search_of input.now).haystack at }
     ensures splits { result ≡ false → is_utf8_empty nfa.now ≡ true }

@@ -1,4 +1,4 @@
-//! Where a byte leads from a state.
+//! The target of a state on a byte.
 ghost use Rattle.std.specs.Prelude.{◌≡◌, [], ◌∷◌, option_and_then};
 ghost use Rattle.regex_search_core.specs.Search.{search_of};
 ghost use Rattle.thompson_nfa.specs.Automaton.Node.{ByteRange, Sparse, Dense};
@@ -7,7 +7,7 @@ ghost use Rattle.nfa_paths.specs.Paths.{byte_at, first_target, holds_byte, targe
 use regex_search_core::{Input, StateID};
 use thompson_nfa::Transition;
 
-/// The byte at the position, before the end of the span.
+/// Returns the byte at the position, if it is before the end of the span.
 #[inline(always)]
 pub fn byte_at(input: &Input<'_>, at: usize) -> Option<u8>
     ensures { result ≡ byte_at (search_of input.now) at }
@@ -19,7 +19,7 @@ pub fn byte_at(input: &Input<'_>, at: usize) -> Option<u8>
     }
 }
 
-/// Where a `ByteRange` leads on the byte.
+/// Returns the target of a `ByteRange` on the byte.
 pub fn range_target(trans: &Transition, byte: Option<u8>) -> Option<StateID>
     ensures { result ≡ option_and_then (target_on (ByteRange trans.now)) byte }
 {
@@ -31,8 +31,8 @@ pub fn range_target(trans: &Transition, byte: Option<u8>) -> Option<StateID>
     }
 }
 
-/// Whether the transition holds the byte. Ranges mostly ascend: those that end before the byte are then passed over by
-/// one test.
+/// Whether the range of the transition has the byte. Ranges mostly ascend, so one test skips those that end before the
+/// byte.
 #[inline(always)]
 fn holds(trans: &Transition, byte: u8) -> bool
     ensures { result ≡ holds_byte trans.now byte }
@@ -40,7 +40,7 @@ fn holds(trans: &Transition, byte: u8) -> bool
     byte <= trans.end && trans.start <= byte
 }
 
-/// Where the first transition that holds the byte leads.
+/// The target of the first transition whose range has the byte.
 fn first_target(transitions: &[Transition], byte: u8) -> Option<StateID>
     ensures { result ≡ first_target transitions.now byte }
 {
@@ -52,7 +52,7 @@ fn first_target(transitions: &[Transition], byte: u8) -> Option<StateID>
     None
 }
 
-/// Where the first of two transitions that holds the byte leads.
+/// The target of the first of two transitions whose range has the byte.
 #[inline(always)]
 fn first_target_of_two(first: &Transition, second: &Transition, byte: u8) -> Option<StateID>
     ensures { result ≡ first_target (first.now ∷ second.now ∷ []) byte }
@@ -66,12 +66,12 @@ fn first_target_of_two(first: &Transition, second: &Transition, byte: u8) -> Opt
     }
 }
 
-/// Where a `Sparse` leads on the byte: by the first transition that holds it.
+/// Returns the target of a `Sparse` on the byte: that of the first transition whose range has the byte.
 pub fn sparse_target(transitions: &[Transition], byte: Option<u8>) -> Option<StateID>
     ensures { result ≡ option_and_then (target_on (Sparse transitions.now)) byte }
 {
     let byte = byte?;
-    // Most classes have two or three ranges: these are tested without a loop.
+    // Most classes have two or three ranges. These are tested without a loop.
     match transitions {
         [first, second, third] => {
             if holds(first, byte) {
@@ -85,7 +85,7 @@ pub fn sparse_target(transitions: &[Transition], byte: Option<u8>) -> Option<Sta
     }
 }
 
-/// Where a `Dense` leads on the byte.
+/// Returns the target of a `Dense` on the byte.
 pub fn dense_target(targets: &[Option<StateID>], byte: Option<u8>) -> Option<StateID>
     ensures { result ≡ option_and_then (target_on (Dense targets.now)) byte }
 {

@@ -1,4 +1,4 @@
--- The bytes so far are let through.
+-- The bytes so far are admitted.
 use Rattle.std.proofs.Common.{ℕ, ◌<◌, ◌≤◌}
 use Rattle.thompson_nfa.specs.Automaton.Node.{ByteRange}
 use Rattle.nfa_scanning.specs.FirstBytes.{Admits, Grows, GrowsBy}

@@ -1,4 +1,4 @@
--- The bytes of each transition are let through, and no more.
+-- The bytes of each transition are admitted, and no others.
 use Rattle.std.proofs.Common.{◌<◌, length, arith}
 use Rattle.std.proofs.lemmas.Grind.{common_steps}
 use Rattle.nfa_scanning.proofs.FirstLemmas.{admits-first}

@@ -1,4 +1,4 @@
--- The transitions so far are let through.
+-- The bytes of the transitions so far are admitted.
 use Rattle.std.proofs.Common.{◌≡◌, ℕ, ◌<◌, get_or, true}
 use Rattle.thompson_nfa.specs.Automaton.Node.{Sparse}
 use Rattle.thompson_nfa.specs.declared.state.Transition.{Transition}

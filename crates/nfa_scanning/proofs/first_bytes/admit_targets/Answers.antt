@@ -1,4 +1,4 @@
--- Each byte that has a target is let through.
+-- Each byte that has a target is admitted.
 use Rattle.std.proofs.Common.{arith, inl, inr, true}
 use Rattle.std.proofs.lemmas.Bool.{cases_lt}
 use Rattle.std.proofs.lemmas.List.{get_or_past}

@@ -1,4 +1,4 @@
--- The bytes so far that have a target are let through.
+-- The bytes so far that have a target are admitted.
 use Rattle.std.proofs.Common.{◌≡◌, ℕ, ◌<◌, length}
 use Rattle.std.specs.Prelude.{Some}
 use Rattle.thompson_nfa.specs.Automaton.Node.{Dense}

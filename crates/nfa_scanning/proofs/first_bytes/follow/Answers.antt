@@ -1,4 +1,4 @@
--- What a state leads to without a byte is reached, and what it reads is let through.
+-- The states that a state leads to without a byte are reached, and the bytes that it reads are admitted.
 use Rattle.nfa_scanning.proofs.first_bytes.follow.Goals as goal
 
 pub returns-then-add-clause-below : goal.returns-then-add-clause-below

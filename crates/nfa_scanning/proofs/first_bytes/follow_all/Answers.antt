@@ -1,4 +1,4 @@
--- Where all that is reached was followed, the table has the bytes that a match may begin with.
+-- If all states that were reached were followed, the table has the bytes that a match may begin with.
 use Rattle.std.proofs.Common.{◌<◌, length, arith}
 use Rattle.nfa_scanning.proofs.FirstLemmas.{WasReached-extends, covers-step, covers-all, IsFirstBytes-covered}
 use Rattle.nfa_scanning.proofs.LeastLemmas.{admits-none, each-first, at_start-step, least-step, stops-step}

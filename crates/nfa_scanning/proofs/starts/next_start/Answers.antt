@@ -1,4 +1,4 @@
--- The first position that is not passed over.
+-- The first position that is not skipped.
 use Rattle.std.proofs.Common.{◌≡◌, ◌≤◌, ◌<◌, length, get_or, arith, inl, inr}
 use Rattle.std.proofs.lemmas.Bool.{cases_lt}
 use Rattle.regex_search_core.specs.Search.{search_of}

@@ -1,4 +1,4 @@
--- The positions so far are passed over.
+-- The positions so far are skipped.
 use Rattle.std.proofs.Common.{◌≡◌, ℕ, ◌+◌, ◌-◌, ◌<◌, ◌≤◌}
 use Rattle.regex_search_core.specs.Search.{search_of}
 use Rattle.nfa_scanning.specs.FirstBytes.{IsRefused}

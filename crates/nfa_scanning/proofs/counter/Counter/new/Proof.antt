@@ -1,4 +1,4 @@
--- A counter of no count can be made, since it takes no bytes.
+-- A counter of 0 can be made, since it has no bytes.
 use Rattle.std.proofs.Common.{[], ◌∷◌, refl}
 use Rattle.std.proofs.raw_atomic.Walks.{proved}
 use contract.Running.{tables}

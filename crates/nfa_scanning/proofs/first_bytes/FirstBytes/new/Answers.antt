@@ -1,4 +1,4 @@
--- Where not all was followed, every byte is let through.
+-- If not all states were followed, every byte is admitted.
 use Rattle.std.proofs.Common.{refl}
 use Rattle.nfa_scanning.proofs.FirstLemmas.{IsFirstBytes-all}
 use Rattle.nfa_scanning.proofs.first_bytes.FirstBytes.new.Goals as goal
