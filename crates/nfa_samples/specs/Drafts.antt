@@ -1,4 +1,4 @@
--- What a draft of a table says, and when it is sound.
+-- The meaning of a draft of a table, and when a draft is sound.
 use Rattle.std.specs.Prelude.{ℕ, ◌+◌, ◌≤◌, Bool, ◌&&◌, ◌||◌, nat_lt, nat_le, nat_eq}
 use Rattle.std.specs.Borrow.{Bor}
 use Rattle.std.specs.Prelude.{List, [], ◌∷◌, ◌++◌, map, length, All, Option, option_map}
@@ -11,7 +11,7 @@ use Rattle.nfa_samples.specs.declared.draft.Row.{Row}
 use Rattle.nfa_samples.specs.declared.draft.Row.TheVariants.{Byte, Range, Ranges, Either, Union, Capture, Assert, Match}
 use Rattle.nfa_samples.specs.declared.draft.Draft.{Draft}
 
--- the step on a byte from one to another
+-- the transition to `next` on a byte from `start` to `end`
 abbrev pub transition_in : ℕ → ℕ → ℕ → Transition
 transition_in start end next = record { start = start; end = end; next = next }
 
@@ -26,7 +26,7 @@ node_in (Capture slot next) = nfa.Capture next slot
 node_in (Assert look next) = nfa.Look look next
 node_in (Match pattern) = nfa.Match pattern
 
--- the numbers of states and patterns in a row are ones that a state or a pattern may have
+-- each number of a state or a pattern in the row is one that a state or a pattern may have
 abbrev pub IsSmall : Row → Type 0
 IsSmall (Byte byte next) = next ≤ 2147483646
 IsSmall (Range start end next) = next ≤ 2147483646
@@ -37,7 +37,7 @@ IsSmall (Capture slot next) = next ≤ 2147483646
 IsSmall (Assert look next) = next ≤ 2147483646
 IsSmall (Match pattern) = pattern ≤ 2147483646
 
--- a row leads to states, writes a slot and matches a pattern that are there: of so many each
+-- the row leads only to states, writes only a slot and matches only a pattern below these numbers
 abbrev pub is_row : ℕ → ℕ → ℕ → Row → Bool
 is_row states slots patterns (Byte byte next) = nat_lt next states
 is_row states slots patterns (Range start end next) = nat_lt next states
@@ -52,11 +52,11 @@ is_row states slots patterns (Match pattern) = nat_lt pattern patterns
 abbrev pub names_in : List (Option (Bor (List ℕ))) → List (Option (List ℕ))
 names_in names = map (option_map (λ name. name.now)) names
 
--- and of all patterns'
+-- the names of all patterns' groups as bytes
 abbrev pub groups_in : List (Bor (List (Option (Bor (List ℕ))))) → List (List (Option (List ℕ)))
 groups_in patterns = map (λ names. names_in names.now) patterns
 
--- the draft, of which so many more states are made than it has rows, is one of an NFA
+-- the draft, with `more` states than it has rows, is that of an NFA
 abbrev pub is_sound : ℕ → Draft → Bool
 is_sound more d =
     nat_lt 0 (length d.rows.now) && nat_le (length d.rows.now + more) 2147483647
@@ -67,7 +67,7 @@ is_sound more d =
     && (nat_eq (length d.groups.now) (length d.starts.now) || nat_eq (length d.groups.now) 0)
     && nat_le (slot_count (groups_in d.groups.now)) 2147483646
 
--- the draft with these states
+-- the NFA of the draft with these states
 abbrev pub automaton_in : List Node → ℕ → Draft → Automaton
 automaton_in states unanchored d = record {
   states = states;
@@ -79,15 +79,15 @@ automaton_in states unanchored d = record {
   utf8 = d.utf8;
 }
 
--- the draft whose matches start where the search does
+-- the NFA of the draft whose matches start at the start of the search
 abbrev pub anchored_nfa : Draft → Automaton
 anchored_nfa d = automaton_in (map node_in d.rows.now) 0 d
 
--- two states, of this number and the next, that skip bytes before state 0
+-- two states, with this number and the next, that skip bytes before state 0
 abbrev pub prefix_at : ℕ → List Node
 prefix_at prefix = nfa.BinaryUnion 0 (prefix + 1) ∷ nfa.ByteRange (transition_in 0 255 prefix) ∷ []
 
--- the draft whose matches may start anywhere
+-- the NFA of the draft whose matches may start anywhere
 abbrev pub prefixed_nfa : Draft → Automaton
 prefixed_nfa d =
     automaton_in (map node_in d.rows.now ++ prefix_at (length d.rows.now)) (length d.rows.now) d

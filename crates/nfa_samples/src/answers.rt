@@ -1,8 +1,8 @@
-//! What searches of the samples answer, leftmost first. Rows begin with the sample's name. These are the answers of
-//! regex-automata 0.4.18, whose two engines agree on them; what it leaves open is none here: slots past those of the
-//! NFA, and a match whose slots give no span (`a_bare`, `a_pair`, `backwards`).
+//! Answers of searches of the samples, leftmost first. Each row begins with the sample's name. These are the answers of
+//! regex-automata 0.4.18, whose two engines agree. Where regex-automata leaves the answer open, it is none here: for
+//! slots past those of the NFA, and for a match whose slots give no span (`a_bare`, `a_pair`, `backwards`).
 
-/// A haystack, and the pattern with as many slots as the NFA has, `-` where there is no offset.
+/// A haystack, and the pattern followed by all slots of the NFA. A slot that is not set is `-`.
 pub const SLOTS: &[(&str, &str, &str)] = &[
     ("abc", "xabcabc", "0 1 4"),
     ("abc", "ab", "none - -"),
@@ -74,14 +74,14 @@ pub const FOUND: &[(&str, &str, &str)] = &[
     ("foo_num", "foo1 foo12 foo123", "0 0..4"),
     ("date", "2010-03-14", "0 0..10"),
     ("six", "foo123", "0 0..6"),
-    // There is no span without both slots, or where the end is before the start.
+    // There is no span if a slot is missing or if the end is before the start.
     ("a_bare", "a", "none"),
     ("a_pair", "a", "none"),
     ("backwards", "a", "none"),
 ];
 
-/// A haystack, and the pattern and the end of the first match. The last rows are of NFAs that do not write their bounds:
-/// there the end is the position of the Match state that the first path reaches.
+/// A haystack, and the pattern and the end of the first match. The NFAs of the last rows do not write their bounds. The
+/// end is then the position of the Match state that the first path reaches.
 pub const HALVES: &[(&str, &str, &str)] = &[
     ("abc_a", "xabc", "0 4"),
     ("ab_b", "xb", "1 2"),
@@ -99,8 +99,8 @@ pub const HALVES: &[(&str, &str, &str)] = &[
     ("backwards", "ba", "0 2"),
 ];
 
-/// A haystack, the start and the end of the span that is searched, whether the search is anchored, and the pattern and
-/// span of the first match.
+/// A haystack, the start and the end of the span to search, whether the search is anchored, and the pattern and span of
+/// the first match.
 pub const FOUND_IN_SPAN: &[(&str, &str, usize, usize, bool, &str)] = &[
     ("empty", "☃", 1, 3, true, "none"),
     ("empty", "☃", 1, 3, false, "0 3..3"),
@@ -113,7 +113,7 @@ pub const FOUND_IN_SPAN: &[(&str, &str, usize, usize, bool, &str)] = &[
     ("abc", "abc", 0, 2, false, "none"),
 ];
 
-/// A haystack, and the pattern and span of each match that iteration gives.
+/// A haystack, and the pattern and span of each match of an iteration.
 pub const ALL: &[(&str, &[u8], &str)] = &[
     ("a_or_empty", b"abba", "0 0..1, 0 2..2, 0 3..4, "),
     ("a_or_empty", b"\x80a", "0 1..2, "),
@@ -146,8 +146,8 @@ pub const ALL: &[(&str, &[u8], &str)] = &[
     ("backwards", b"aa", ""),
 ];
 
-/// Of `abc`, anchored, with no name in the rows: a haystack, a number of slots, and the pattern with as many slots, `-`
-/// where there is no offset.
+/// Anchored searches of `abc`, without a name in the rows: a haystack, a number of slots, and the pattern followed by
+/// that number of slots. A slot that is not set is `-`.
 pub const OF_SLOT_LENS: &[(&str, usize, &str)] = &[
     ("abc", 0, "0"),
     ("abc", 1, "0 0"),
@@ -156,7 +156,7 @@ pub const OF_SLOT_LENS: &[(&str, usize, &str)] = &[
     ("abx", 4, "none - - - -"),
 ];
 
-/// A haystack, a pattern, and what an anchored search for it answers, with four slots.
+/// A haystack, a pattern, and the answer of a search anchored to that pattern, with four slots.
 pub const OF_ONE_PATTERN: &[(&str, &str, usize, &str)] = &[
     ("six", "foo123", 0, "0 0 6 - -"),
     ("six", "foo123", 1, "1 - - 0 6"),
@@ -164,5 +164,5 @@ pub const OF_ONE_PATTERN: &[(&str, &str, usize, &str)] = &[
     ("abc", "abc", 5, "none - - - -"),
 ];
 
-/// The slots of `groups` on `ab`, whose pattern is the first.
+/// The slots of `groups` on `ab`. The first pattern matches.
 pub const GROUPS_ON_AB: [Option<usize>; 6] = [Some(0), Some(2), None, None, Some(0), Some(2)];

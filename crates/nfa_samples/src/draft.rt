@@ -1,4 +1,4 @@
-//! A draft of an NFA, as a table has it: state by state.
+//! A draft of an NFA: a table of its states.
 ghost use Rattle.std.specs.Prelude.{◌≡◌, ◌≤◌, map, option_map, string_bytes, All, IfOk, IsOkUnless, IsTrue};
 ghost use Rattle.regex_search_core.specs.Groups.{slot_count};
 ghost use Rattle.regex_search_core.specs.Patterns.{number_of};
@@ -19,29 +19,29 @@ use regex_search_core::{GroupInfo, PatternID, StateID};
 use std::alloc::{AllocError, Global};
 use thompson_nfa::{BuildError, Look, NFA, State, Transition};
 
-/// A state as a table has it. The last number of each but `Union` and `Match` is the state after it.
+/// A state, as a table gives it. The last number of each row, except of `Union` and `Match`, is the next state.
 #[derive(Clone, Copy, Debug)]
 pub enum Row<'a> {
-    /// One byte.
+    /// Reads this byte.
     Byte(u8, usize),
-    /// A byte from the first to the second, both included.
+    /// Reads a byte from the first to the second, both included.
     Range(u8, u8, usize),
-    /// A byte of one of these ranges.
+    /// Reads a byte of one of these ranges.
     Ranges(&'a [(u8, u8)], usize),
-    /// Either of two states, the first preferred.
+    /// Leads to either of two states. The first is preferred.
     Either(usize, usize),
-    /// Any of these states, in order of preference.
+    /// Leads to any of these states, in order of preference.
     Union(&'a [usize]),
-    /// The slot of this number takes the position.
+    /// Writes the position into the slot of this number.
     Capture(usize, usize),
-    /// What has to hold at the position.
+    /// Requires that the assertion holds at the position.
     Assert(Look, usize),
-    /// The pattern of this number matches.
+    /// Matches the pattern of this number.
     Match(usize),
 }
 
 impl Row<'_> {
-    /// The state of the row.
+    /// Makes the state of the row.
     fn state(self, alloc: Global) -> Result<State, AllocError>
         requires { IsSmall self }
         ensures { IfOk result (λ state. node_of state ≡ node_in self.entry) }
@@ -76,7 +76,7 @@ impl Row<'_> {
     }
 }
 
-/// The step on a byte of the range.
+/// The transition on a byte of the range.
 fn transition(start: u8, end: u8, next: usize) -> Transition
     requires { next ≤ 2147483646 }
     ensures { result ≡ transition_in start end next }
@@ -88,7 +88,7 @@ fn transition(start: u8, end: u8, next: usize) -> Transition
     }
 }
 
-/// The steps on a byte of one of the ranges.
+/// The transitions on a byte of one of the ranges.
 fn transitions(
     alloc: Global,
     ranges: &[(u8, u8)],
@@ -170,23 +170,23 @@ fn group_info(alloc: Global, patterns: &[&[Option<&str>]]) -> Result<GroupInfo, 
     Ok(GroupInfo::new(names).unwrap())
 }
 
-/// An NFA as a table has it.
+/// An NFA, as a table gives it.
 #[derive(Clone, Copy, Debug)]
 pub struct Draft<'a> {
-    /// The states, in the order of their numbers. The first one is where a search starts.
+    /// The states, in the order of their numbers. A search starts at the first one.
     pub rows: &'a [Row<'a>],
-    /// Where each pattern begins.
+    /// The start state of each pattern.
     pub starts: &'a [usize],
-    /// The explicit groups of each pattern, each with its name if it has one; or those of no pattern.
+    /// The explicit groups of each pattern, each with its name if it has one; or the groups of no pattern.
     pub groups: &'a [&'a [Option<&'a str>]],
-    /// Whether the NFA may match without a byte.
+    /// Whether the NFA can match the empty string.
     pub has_empty: bool,
-    /// Whether it is in UTF-8 mode.
+    /// Whether the NFA is in UTF-8 mode.
     pub utf8: bool,
 }
 
 impl Draft<'_> {
-    /// The NFA whose matches start where the search does.
+    /// Makes an NFA whose matches start at the start of the search.
     pub fn anchored(&self, alloc: Global) -> Result<NFA, BuildError>
         requires { IsTrue (is_sound 0 self.now) }
         ensures made { IfOk result (λ made. made ≡ anchored_nfa self.now) }
@@ -195,8 +195,7 @@ impl Draft<'_> {
         self.build(states(alloc, self.rows)?, 0)
     }
 
-    /// The NFA whose matches may start anywhere: a prefix of two more states skips bytes until one
-    /// starts.
+    /// Makes an NFA whose matches may start anywhere. A prefix of two more states skips bytes until a match starts.
     pub fn with_prefix(&self, alloc: Global) -> Result<NFA, BuildError>
         requires { IsTrue (is_sound 2 self.now) }
         ensures made { IfOk result (λ made. made ≡ prefixed_nfa self.now) }
@@ -209,7 +208,7 @@ impl Draft<'_> {
         self.build(states, prefix)
     }
 
-    /// The NFA of these states.
+    /// Makes the NFA of these states.
     fn build(&self, states: Vec<State>, unanchored: usize) -> Result<NFA, BuildError>
         requires start { unanchored ≤ 2147483646 }
         requires starts { All (λ start. start ≤ 2147483646) self.now.starts.now }

@@ -1,4 +1,4 @@
-//! The states of samples that may match the empty text.
+//! The states of the samples that can match the empty string.
 ghost use Rattle.std.specs.Prelude.{◌↔◌, IfErr, IfOk, IsNone, IsOkUnless};
 ghost use Rattle.nfa_samples.specs.Names.{IsNoneOf, empty_names};
 
@@ -8,7 +8,7 @@ use crate::some;
 use std::alloc::Global;
 use thompson_nfa::{BuildError, Look, NFA};
 
-/// The sample of that name, or None where no sample that may match the empty text has it.
+/// Returns the sample of this name. `None` if no sample that can match the empty string has the name.
 pub fn named(alloc: Global, name: &str) -> Result<Option<NFA>, BuildError>
     ensures none { IfOk result (λ found. IsNone found ↔ IsNoneOf name.now empty_names) }
     ensures known { IfErr result (λ _. ¬ (IsNoneOf name.now empty_names)) }
@@ -150,7 +150,7 @@ fn a_star_bytes(alloc: Global) -> Result<NFA, BuildError>
     .with_prefix(alloc)
 }
 
-/// A loop that takes no byte and sets the start of group 1, whose end is never set.
+/// A loop that reads no byte and sets the start of group 1. The end of the group is never set.
 fn empty_loop(alloc: Global) -> Result<NFA, BuildError>
     ensures { IsOkUnless result BuildError.Memory }
 {

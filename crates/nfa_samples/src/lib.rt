@@ -1,7 +1,7 @@
-//! Sample NFAs by name, for tests and for trying the engines out.
+//! Sample NFAs by name, for tests and for trying out the engines.
 //!
-//! Take it to try a search before an NFA of one's own is written; `nfa_draft` makes one from an expression, and
-//! `thompson_nfa` from its states. [`answers`] has what searches of the samples answer.
+//! Use this crate to try a search before you write an NFA of your own. `nfa_draft` makes an NFA from an expression, and
+//! `thompson_nfa` from its states. [`answers`] has the answers of searches of the samples.
 //!
 //! ```
 //! let nfa = sample(alloc, "foo_num")?.context("there is no NFA of this name")?;
@@ -21,9 +21,9 @@ mod words;
 use std::alloc::Global;
 use thompson_nfa::{BuildError, NFA};
 
-/// The sample NFA of that name, or None exactly for an unknown name.
+/// Returns the sample NFA of this name, or `None` exactly if the name is unknown.
 ///
-/// The samples are well formed, so the error is `Memory` alone, where a growth was refused.
+/// The samples are well formed, so the only error is `Memory`, if an allocation failed.
 pub fn sample(alloc: Global, name: &str) -> Result<Option<NFA>, BuildError>
     ensures none { IfOk result (λ found. IsNone found ↔ IsNoneOf name.now sample_names) }
     ensures known { IfErr result (λ _. ¬ (IsNoneOf name.now sample_names)) }
@@ -38,7 +38,7 @@ pub fn sample(alloc: Global, name: &str) -> Result<Option<NFA>, BuildError>
     tables::named(alloc, name)
 }
 
-// The NFA that was made, or why it was not.
+// Returns the NFA if it was made, or the error.
 fn some(made: Result<NFA, BuildError>) -> Result<Option<NFA>, BuildError>
     ensures made { IfOk result IsSome }
     ensures error { IfErr result (λ error. made ≡ Err error) }

@@ -10,7 +10,7 @@ use crate::some;
 use std::alloc::{AllocError, Global};
 use thompson_nfa::{BuildError, Look, NFA};
 
-/// The sample of that name, or None where no other sample has it.
+/// Returns the sample of this name. `None` if none of the other samples has the name.
 pub fn named(alloc: Global, name: &str) -> Result<Option<NFA>, BuildError>
     ensures none { IfOk result (λ found. IsNone found ↔ IsNoneOf name.now table_names) }
     ensures known { IfErr result (λ _. ¬ (IsNoneOf name.now table_names)) }
@@ -86,7 +86,7 @@ fn a_pair(alloc: Global) -> Result<NFA, BuildError>
     .anchored(alloc)
 }
 
-/// `a`, whose end is captured before the byte and whose start after it.
+/// `a`, with its end captured before the byte and its start after it.
 fn backwards(alloc: Global) -> Result<NFA, BuildError>
     ensures { IsOkUnless result BuildError.Memory }
 {
@@ -138,7 +138,7 @@ fn alnum100(alloc: Global) -> Result<NFA, BuildError>
     .with_prefix(alloc)
 }
 
-/// The states of `alnum100`: a chain.
+/// The states of `alnum100`, which form a chain.
 fn alnum100_rows(alloc: Global) -> Result<Vec<Row<'static>>, AllocError>
     ensures { IfOk result (λ rows. (length rows.items ≡ 103) × (list_all (is_row 105 2 1) rows.items ≡ true)) }
 {

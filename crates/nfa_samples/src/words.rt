@@ -1,4 +1,4 @@
-//! The states of samples whose patterns are words.
+//! The states of the samples whose patterns are words.
 ghost use Rattle.std.specs.Prelude.{◌↔◌, IfErr, IfOk, IsNone, IsOkUnless};
 ghost use Rattle.nfa_samples.specs.Names.{IsNoneOf, word_names};
 
@@ -8,7 +8,7 @@ use crate::some;
 use std::alloc::Global;
 use thompson_nfa::{BuildError, NFA};
 
-/// The sample of that name, or None where no sample of words has it.
+/// Returns the sample of this name. `None` if no sample of words has the name.
 pub fn named(alloc: Global, name: &str) -> Result<Option<NFA>, BuildError>
     ensures none { IfOk result (λ found. IsNone found ↔ IsNoneOf name.now word_names) }
     ensures known { IfErr result (λ _. ¬ (IsNoneOf name.now word_names)) }
@@ -200,7 +200,7 @@ fn foo_bar(alloc: Global) -> Result<NFA, BuildError>
     .with_prefix(alloc)
 }
 
-/// `b` and `a`, of which the second pattern is preferred.
+/// `b` and `a`. The second pattern is preferred.
 fn b_a(alloc: Global) -> Result<NFA, BuildError>
     ensures { IsOkUnless result BuildError.Memory }
 {
@@ -224,8 +224,8 @@ fn b_a(alloc: Global) -> Result<NFA, BuildError>
     .with_prefix(alloc)
 }
 
-/// `abc|a`. The end of the pattern comes before the branches, so an order by state numbers is not
-/// the order of preference.
+/// `abc|a`. The end of the pattern is numbered before the branches, so the order of state numbers is not the order of
+/// preference.
 fn abc_a(alloc: Global) -> Result<NFA, BuildError>
     ensures { IsOkUnless result BuildError.Memory }
 {
