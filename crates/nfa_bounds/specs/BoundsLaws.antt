@@ -1,4 +1,4 @@
--- What follows where each way of an NFA writes its bounds.
+-- What follows if each way of an NFA writes its bounds.
 use Rattle.std.specs.Prelude.{◌≡◌, ◌↔◌, ℕ, ◌<◌, Bool, List, false, true, Option, None, Some, IfSome, option_map}
 use Rattle.regex_search_core.specs.Found.{Found, HalfFound}
 use Rattle.regex_search_core.specs.Search.{Search, is_anchored}
@@ -15,7 +15,7 @@ use Rattle.nfa_bounds.specs.Ways.{RecordsBounds}
 abbrev pub EverySearchIsRecorded : Type 0
 EverySearchIsRecorded = (nfa : Automaton) (x : Search) → RecordsBounds nfa → PathsWriteTheirEnds nfa x
 
--- a search of any kind answers none exactly where there is no accepting path
+-- a search of any kind answers none exactly if there is no accepting path
 abbrev pub NoneIsNoPathThere : Type 0
 NoneIsNoPathThere =
     (nfa : Automaton) (kind : MatchKind) (earliest : Bool) (x : Search) (found : Option Found) → IsAutomaton nfa
@@ -23,7 +23,7 @@ NoneIsNoPathThere =
     → RecordsBounds nfa
     → IsMatchAnswer nfa kind earliest x found → (found ≡ None) ↔ NoPath (edges nfa x) (starts nfa x) (IsMatch nfa)
 
--- where it answers none, there is no accepting path
+-- if the search answers none, there is no accepting path
 abbrev pub NoneIsNothing : Type 0
 NoneIsNothing =
     (nfa : Automaton) (kind : MatchKind) (earliest : Bool) (x : Search) → IsAutomaton nfa → is_utf8_empty nfa ≡ false
@@ -37,7 +37,7 @@ NoneStartsBeforeThere kind earliest =
     → RecordsBounds nfa
     → IsMatchAnswer nfa kind earliest x found → IfSome found (StartsBeforePaths nfa x)
 
--- the match of an anchored search of any kind starts where its span does
+-- the match of an anchored search of any kind starts at the start of its span
 abbrev pub AnchoredStartsTheSpan : Type 0
 AnchoredStartsTheSpan =
     (nfa : Automaton) (kind : MatchKind) (earliest : Bool) (x : Search) (found : Option Found) → IsAutomaton nfa
@@ -45,7 +45,7 @@ AnchoredStartsTheSpan =
     → RecordsBounds nfa
     → IsMatchAnswer nfa kind earliest x found → IfSome found (λ m. m.start ≡ x.start)
 
--- the match that a search of any kind answers is that of the path which it answers, and none where there is no path
+-- the match of a search of any kind is that of the path which it answers, and there is none if there is no path
 abbrev pub MatchesAreOfPaths : Type 0
 MatchesAreOfPaths =
     (nfa : Automaton) (kind : MatchKind) (earliest : Bool) (x : Search) (restarts : ℕ) (path : Option (List Pair))
@@ -54,7 +54,7 @@ MatchesAreOfPaths =
     → IsSearchAnswer nfa kind earliest x restarts path
     → IsMatchAnswer nfa kind earliest x found → AreOneMatch nfa (raised x restarts) path found
 
--- the half match of a search of any kind is the end of its match
+-- the half match of a search of any kind is the end of the search's match
 abbrev pub HalfMatchesAreEnds : Type 0
 HalfMatchesAreEnds =
     (nfa : Automaton) (kind : MatchKind) (earliest : Bool) (x : Search) (half : Option HalfFound) (found : Option Found)
@@ -63,7 +63,7 @@ HalfMatchesAreEnds =
     → IsHalfAnswer nfa kind earliest x half
     → IsMatchAnswer nfa kind earliest x found → half ≡ option_map end_of found
 
--- an anchored search answers a path with a byte where its match has one
+-- an anchored search answers a path with a byte if its match has one
 abbrev pub BytesAreAnswered : Type 0
 BytesAreAnswered =
     (nfa : Automaton) (kind : MatchKind) (earliest : Bool) (x : Search) (m : Found) → IsAutomaton nfa
@@ -71,7 +71,7 @@ BytesAreAnswered =
     → RecordsBounds nfa
     → IsMatchAnswer nfa kind earliest x (Some m) → x.start < m.end → AnswersBytes nfa kind earliest x
 
--- and none where its match has no byte, or there is no match
+-- and no such path if its match has no byte, or if there is no match
 abbrev pub NoBytesAreAnswered : Type 0
 NoBytesAreAnswered =
     (nfa : Automaton) (kind : MatchKind) (earliest : Bool) (x : Search) (found : Option Found) → IsAutomaton nfa

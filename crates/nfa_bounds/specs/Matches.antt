@@ -1,4 +1,4 @@
--- What a match tells of the path that its search answers, where each way of the NFA writes its bounds.
+-- What a match says about the path that its search answers, if each way of the NFA writes its bounds.
 use Rattle.std.specs.Prelude.{◌≡◌, ℕ, ◌<◌, ◌≤◌, Bool, false, List, Option, None, Some, IfSome, ⊤}
 use Rattle.regex_search_core.specs.Found.{Found}
 use Rattle.regex_search_core.specs.Search.{Search}
@@ -8,7 +8,7 @@ use Rattle.nfa_paths.specs.Graphs.{Pair, EndsWith, PathTo}
 use Rattle.nfa_paths.specs.Paths.{edges, starts, is_utf8_empty, path_pattern, IsMatch, IsSearchAnswer}
 pub use Rattle.nfa_engines.specs.Accepting.{MatchesNothing}
 
--- the match is that of this accepting path: its pattern, where it starts and where it ends
+-- the match is that of this accepting path: its pattern, its start and its end
 pub record IsMatchOfPath (nfa : Automaton) (x : Search) (p : List Pair) (m : Found) : Type 0 where
   pub end : Pair
   pub path : PathTo (edges nfa x) (starts nfa x) end p
@@ -17,25 +17,25 @@ pub record IsMatchOfPath (nfa : Automaton) (x : Search) (p : List Pair) (m : Fou
   pub start_is : m.start ≡ path.start.1
   pub end_is : m.end ≡ end.1
 
--- the match is that of the path, or there is neither
+-- the match is that of the path, or there is no match and no path
 abbrev pub AreOneMatch : Automaton → Search → Option (List Pair) → Option Found → Type 0
 AreOneMatch nfa x None None = ⊤
 AreOneMatch nfa x (Some p) (Some m) = IsMatchOfPath nfa x p m
 AreOneMatch nfa x None (Some m) = ⊥
 AreOneMatch nfa x (Some p) None = ⊥
 
--- the match starts at the position and has no byte, or starts elsewhere, or there is none
+-- the match starts at the position and has no byte, or starts elsewhere, or there is no match
 abbrev pub HasNoByteAt : ℕ → Option Found → Type 0
 HasNoByteAt at found = IfSome found (λ m. m.start ≡ at → m.end ≤ at)
 
--- each accepting path of the search ends behind the start of the span, so where it is anchored no empty text matches
+-- each accepting path of the search ends after the start of the span, so an anchored search has no empty match
 abbrev pub PathsReadBytes : Automaton → Search → Type 0
 PathsReadBytes nfa x =
     (end : Pair) (p : List Pair) → PathTo (edges nfa x) (starts nfa x) end p → IsMatch nfa end → x.start < end.1
 
 module _ (nfa : Automaton) (kind : MatchKind) (earliest : Bool) where
-  -- The path that the anchored search answers, of all its accepting paths, reads a byte at least: it ends behind the
-  -- start of the span.
+  -- Of all accepting paths, the one that the anchored search answers reads at least one byte: it ends after the start
+  -- of the span.
   pub record AnswersBytes (x : Search) : Type 0 where
     pub along : List Pair
     pub answers : IsSearchAnswer nfa kind earliest x 0 (Some along)
@@ -43,8 +43,8 @@ module _ (nfa : Automaton) (kind : MatchKind) (earliest : Bool) where
     pub ends : EndsWith end along
     pub some_bytes : x.start < end.1
 
-  -- That path reads no byte, or there is none. Where a match may end anywhere, and each accepting path reads a byte,
-  -- there is no accepting path.
+  -- That path reads no byte, or there is no such path. If a match may end anywhere and each accepting path reads a
+  -- byte, there is no accepting path.
   pub record AnswersNoBytes (x : Search) : Type 0 where
     pub no_bytes : ¬ AnswersBytes x
     pub nothing : is_utf8_empty nfa ≡ false → PathsReadBytes nfa x → MatchesNothing nfa x

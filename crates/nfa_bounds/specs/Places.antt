@@ -1,4 +1,4 @@
--- States with what the ways to them have done: what a test of all ways goes over.
+-- States with what the ways to them have done. A test of all ways visits these.
 use Rattle.std.specs.Prelude.{◌≡◌, ℕ, ◌+◌, ◌*◌, ◌≤◌, ◌<◌, ◌↔◌, Bool, true, false, not, ◌&&◌, ◌==◌, List, [], ◌∷◌}
 use Rattle.std.specs.Prelude.{◌++◌, map, take, length, slice_index_or, Option, Some, if◌then◌else◌}
 use Rattle.std.specs.List.{sum_by}
@@ -9,7 +9,7 @@ use Rattle.nfa_paths.specs.Paths.{node_at, pattern_of, slot_among}
 use Rattle.nfa_bounds.specs.Ways.{targets, reads, open_edges, IsStart}
 use Rattle.nfa_bounds.specs.declared.place.Place.{Place}
 
--- a state that a way starts with: nothing is done
+-- the place of a state that a way starts with: nothing is done
 abbrev pub fresh_place : ℕ → Place
 fresh_place s = record { state = s; has_read = false; start_written = false; end_written = false }
 
@@ -17,11 +17,11 @@ fresh_place s = record { state = s; has_read = false; start_written = false; end
 abbrev pub at_state : Place → ℕ → Place
 at_state v s = record v { state = s }
 
--- the place is one that a search starts with
+-- a search starts with the place
 abbrev pub IsFresh : Automaton → Place → Type 0
 IsFresh nfa v = IsStart nfa v.state × (v ≡ fresh_place v.state)
 
--- what is done once a way leaves the place, whose state is this node
+-- the place after the turn of its state, which is this node
 unfoldable pub after_node : ℕ → Node → Place → Place
 after_node pattern (Capture next slot) v =
     record v {
@@ -30,7 +30,7 @@ after_node pattern (Capture next slot) v =
     }
 after_node pattern node v = if reads node then record v { has_read = true; end_written = false } else v
 
--- the places that follow
+-- the places that follow this one
 abbrev pub next_places : Automaton → ℕ → Place → List Place
 next_places nfa pattern v =
     map (at_state (after_node pattern (node_at nfa v.state) v)) (targets (node_at nfa v.state))
@@ -39,26 +39,26 @@ next_places nfa pattern v =
 abbrev pub is_recorded : Place → Bool
 is_recorded v = v.start_written && v.end_written
 
--- 1 for true, else 0
+-- 1 for true, 0 for false
 abbrev pub bit : Bool → ℕ
 bit true = 1
 bit false = 0
 
--- the place's number: there are eight for each state
+-- the place's number: there are eight numbers for each state
 abbrev pub place_number : Place → ℕ
 place_number v = 8 * v.state + 4 * bit v.has_read + 2 * bit v.start_written + bit v.end_written
 
--- 1 for a place that is not marked
+-- 0 for a place that is marked, 1 for one that is not
 abbrev pub unmarked_place : Bool → ℕ
 unmarked_place true = 0
 unmarked_place false = 1
 
--- Each place is marked by its number. So many marks are set as there are places.
+-- Each place is marked at its number. The number of marks that are set is the number of places.
 pub record IsTable (marks : List Bool) (places : List Place) : Type 0 where
   pub count : length places + sum_by unmarked_place marks ≡ length marks
   pub listed : (v : Place) → slice_index_or marks (place_number v) false ≡ true → In v places
 
--- the places that were reached, and how many may be at most
+-- the places that were reached, and their maximum number
 pub record Reach : Type 0 where
   pub room : ℕ
   pub places : List Place
@@ -70,8 +70,8 @@ pub record GainsPlaces (old new wanted : List Place) : Type 0 where
   pub only : (v : Place) → In v more → In v wanted
   pub all : (v : Place) → In v wanted → In v new
 
--- What a way did that started at position `start` and now stands at `position`, before its state's own turn: the two
--- slots of the pattern are these.
+-- What a way has done that started at `start` and is now at `position`, before the turn of its state. The two slots of
+-- the pattern have these values.
 pub record Describes (start position : ℕ) (start_slot end_slot : Option ℕ) (v : Place) : Type 0 where
   pub onward : start ≤ position
   pub unread : v.has_read ≡ false → position ≡ start
@@ -92,18 +92,19 @@ module _ (nfa : Automaton) (pattern : ℕ) where
     pub done : Describes start.1 position (slot_among nfa before (2 * pattern))
         (slot_among nfa before (2 * pattern + 1)) v
 
-  -- the place is no Match of the pattern, or both bounds are written
+  -- the place is not a Match of the pattern, or both bounds are written
   abbrev pub IsFine : Place → Type 0
   IsFine v = pattern_of (node_at nfa v.state) ≡ Some pattern → is_recorded v ≡ true
 
-  -- what every search starts with is there, what follows each place too, and no Match lacks a bound
+  -- the list has the start places of every search and what follows each of its places, and none of its Matches lacks a
+  -- bound
   pub record IsClosed (places : List Place) : Type 0 where
     pub starts : (s : ℕ) → IsStart nfa s → In (fresh_place s) places
     pub covers : (v : Place) → In v places → (w : Place) → In w (next_places nfa pattern v) → In w places
     pub fine : (v : Place) → In v places → IsFine v
 
-  -- Ways lead to these places alone. Of the first `done` what follows is there too, and none is a Match that lacks a
-  -- bound.
+  -- Ways lead to each of these places. The list also has what follows its first `done` places, and none of these is a
+  -- Match that lacks a bound.
   pub record IsUnderWay (done : ℕ) (places : List Place) : Type 0 where
     pub inside : done ≤ length places
     pub starts : (s : ℕ) → IsStart nfa s → In (fresh_place s) places

@@ -1,4 +1,4 @@
--- The ways through the states of an NFA, whatever the haystack, and whether each writes its bounds.
+-- The ways through the states of an NFA, for any haystack, and whether each way writes its bounds.
 use Rattle.std.specs.Prelude.{◌≡◌, ℕ, ◌+◌, Bool, true, false, List, [], ◌∷◌, map, filter_map, Some, if◌then◌else◌}
 use Rattle.regex_search_core.specs.declared.search.Anchored.{Anchored}
 use Rattle.thompson_nfa.specs.Automaton.{Automaton, Node}
@@ -26,21 +26,21 @@ reads (Sparse transitions) = true
 reads (Dense places) = true
 reads _ = false
 
--- the position behind the state
+-- the position after the state
 abbrev pub position_after : Node → ℕ → ℕ
 position_after node at = if reads node then at + 1 else at
 
 module _ (nfa : Automaton) where
-  -- the pairs that may follow this one: each byte is taken to be there, and each assertion to hold
+  -- the pairs that may follow this one, if each byte may be read and each assertion holds
   abbrev pub open_edges : Pair → List Pair
   open_edges v = map (λ s. (s, position_after (node_at nfa v.0) v.1)) (targets (node_at nfa v.0))
 
-  -- some search starts with the state
+  -- some search starts with this state
   abbrev pub IsStart : ℕ → Type 0
   IsStart s = (anchored : Anchored) × (start_state nfa anchored ≡ Some s)
 
-  -- The list is a way to the pair: it begins with a state that a search starts with, at any position, and goes on as
-  -- the states lead. It may hold a pair twice.
+  -- The list is a way to the pair: it begins with a start state of a search, at any position, and follows the targets
+  -- of states. It may contain a pair twice.
   pub record IsWay (end : Pair) (p : List Pair) : Type 0 where
     pub start : Pair
     pub starts : IsStart start.0
@@ -48,12 +48,12 @@ module _ (nfa : Automaton) where
     pub linked : Linked open_edges p
     pub ends : EndsWith end p
 
-  -- each way to a Match of the pattern writes where it starts and where it ends into the pattern's two slots
+  -- each way to a Match of the pattern writes its start and its end into the pattern's two slots
   abbrev pub PatternRecordsBounds : ℕ → Type 0
   PatternRecordsBounds pattern =
       (end : Pair) (p : List Pair) → IsWay end p → pattern_of (node_at nfa end.0) ≡ Some pattern
       → WritesItsEnds nfa end p
 
-  -- each way to a Match does
+  -- each way to a Match writes its start and its end
   abbrev pub RecordsBounds : Type 0
   RecordsBounds = (end : Pair) (p : List Pair) → IsWay end p → IsMatch nfa end → WritesItsEnds nfa end p

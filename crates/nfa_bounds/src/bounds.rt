@@ -1,4 +1,4 @@
-//! The test of all ways of an NFA, pattern by pattern.
+//! A test of all ways through an NFA, pattern by pattern.
 ghost use Rattle.std.specs.Prelude.{◌≡◌, ℕ, ◌+◌, ◌*◌, ◌<◌, ◌≤◌, ◌↔◌, IfOk, IfSome, IsTrue, length, slice_get};
 ghost use Rattle.thompson_nfa.specs.Automaton.{IsAutomaton};
 ghost use Rattle.nfa_paths.specs.Graphs.{In};
@@ -12,15 +12,15 @@ use regex_search_core::{PatternID, StateID};
 use std::alloc::{AllocError, Global};
 use thompson_nfa::NFA;
 
-/// Whether each match of the NFA can be told from its slots: every way from a state that a search starts with to a
-/// `Match` writes, into the two slots of its pattern, where it starts and where it ends. The start's slot is written
-/// before the first byte and not after it, and the end's slot behind the last byte.
+/// Returns whether the slots of the NFA give the bounds of each match: every way from a start state of a search to a
+/// `Match` writes its start and its end into the two slots of its pattern. The slot of the start is written before the
+/// first byte and not after it. The slot of the end is written after the last byte.
 ///
-/// Each byte is taken to be there on some way, and each assertion to hold, so the answer is about the states alone.
-/// Where it is true, no search passes over a match (`laws`).
+/// Each byte is assumed to be in some haystack, and each assertion to hold, so the result depends on the states only.
+/// If it is true, no search misses a match (`laws`).
 ///
-/// For each pattern it takes time for eight places a state at most, and the edges of each. The error is that a growth
-/// was refused.
+/// For each pattern the test visits at most eight places per state, and the edges of each place. The only error is that
+/// an allocation failed.
 pub fn records_bounds(alloc: Global, nfa: &NFA) -> Result<bool, AllocError>
     ensures records { IfOk result (λ records. IsTrue records ↔ RecordsBounds nfa.now) }
     ensures valid { IsAutomaton nfa.now }
@@ -33,7 +33,7 @@ pub fn records_bounds(alloc: Global, nfa: &NFA) -> Result<bool, AllocError>
     Ok(true)
 }
 
-/// Whether each way to a `Match` of the pattern does.
+/// Whether each way to a `Match` of the pattern writes its bounds.
 fn pattern_records_bounds(alloc: Global, nfa: &NFA, pattern: usize) -> Result<bool, AllocError>
     ensures { IfOk result (λ records. IsTrue records ↔ PatternRecordsBounds nfa.now pattern) }
 {
@@ -51,7 +51,7 @@ fn pattern_records_bounds(alloc: Global, nfa: &NFA, pattern: usize) -> Result<bo
     Ok(true)
 }
 
-/// What searches start with.
+/// The places that searches start with.
 fn starts(alloc: Global, nfa: &NFA) -> Result<Reached, AllocError>
     ensures room { IfOk result (λ made. made.room ≡ 8 * length nfa.now.states) }
     ensures all { IfOk result (λ made. (s : ℕ) → IsStart nfa.now s → In (fresh_place s) made.places) }
@@ -68,8 +68,8 @@ fn starts(alloc: Global, nfa: &NFA) -> Result<Reached, AllocError>
     Ok(reached)
 }
 
-/// Where a search for the pattern of this number alone starts. None where there is none, or where no search can be
-/// asked for it.
+/// The start state of a search for the pattern of this number only. `None` if there is none, or if no search can name
+/// the pattern.
 fn pattern_start(nfa: &NFA, index: usize) -> Option<StateID>
     ensures value { index ≤ 2147483646 → result ≡ slice_get nfa.now.patterns index }
     ensures start { IfSome result (IsStart nfa.now) }

@@ -1,7 +1,7 @@
 //! What `records_bounds` means for searches. Each function is empty, or only reads: its contract is the theorem.
 //!
-//! Take one where a proof needs that no match is missed: the call costs nothing when it runs, and its clauses are at
-//! hand in the proof of the function that makes it. What holds of every NFA stands in the laws of `nfa_engines`.
+//! Call a law in a function whose proof needs that no match is missed. The call costs nothing at run time, and the
+//! proof of that function can use its clauses. The laws of `nfa_engines` hold for every NFA.
 //!
 //! ```
 //! no_match_is_passed_over();
@@ -20,48 +20,48 @@ ghost use Rattle.nfa_bounds.specs.BoundsLaws.{NoneIsNoPathThere, NoneIsNothing, 
 
 use nfa_engines::pikevm::PikeVM;
 
-/// The NFA that a PikeVM searches for is one that `NFA::from_states` takes. The laws ask for that.
+/// The NFA of a PikeVM is one that `NFA::from_states` accepts, which the laws require.
 pub fn pikevm_nfa_is_valid(vm: &PikeVM)
     ensures { IsAutomaton vm.now.nfa }
 {
     vm.get_nfa().pattern_len();
 }
 
-/// Where `records_bounds` is true, each accepting path of each search writes its start and its end into the two slots
-/// of its pattern: what `nfa_engines::laws::no_gap` asks of an NFA.
+/// If `records_bounds` is true, each accepting path of each search writes its start and its end into the two slots of
+/// its pattern. `nfa_engines::laws::no_gap` requires this of an NFA.
 pub fn bounds_are_written()
     ensures { EverySearchIsRecorded }
 {}
 
-/// So no match of such an NFA is passed over, where a match may end anywhere: of each match kind, `earliest` or not,
-/// there is none exactly where there is no accepting path; and leftmost first no accepting path starts before the
-/// match.
+/// No match of such an NFA is missed, if a match may end anywhere. For each match kind, `earliest` or not, there is no
+/// match exactly if there is no accepting path. Under leftmost first, no accepting path starts before the match.
 pub fn no_match_is_passed_over()
     ensures none { NoneIsNoPathThere }
     ensures nothing { NoneIsNothing }
     ensures start { NoneStartsBeforeThere LeftmostFirst false }
 {}
 
-/// And the match of an anchored search starts where its span does, of each match kind, `earliest` or not.
+/// The match of an anchored search of such an NFA starts at the start of its span, for each match kind, `earliest` or
+/// not.
 pub fn anchored_matches_start_the_span()
     ensures { AnchoredStartsTheSpan }
 {}
 
-/// The match of a search is that of the path which the search answers: its pattern, its start and its end. Where the
-/// search answers no path there is no match. So it is of each match kind, `earliest` or not, and also where a match has
-/// to end on a boundary.
+/// The match of a search is that of the path which the search answers: its pattern, its start and its end. If the
+/// search answers no path, there is no match. This holds for each match kind, `earliest` or not, and also if a match
+/// has to end on a boundary.
 pub fn matches_are_of_paths()
     ensures { MatchesAreOfPaths }
 {}
 
-/// The half match that `find_half` gives is the pattern and the end of the match that `find` gives, of each match kind,
-/// `earliest` or not, also if a match has to end on a boundary.
+/// The half match of `find_half` has the pattern and the end of the match of `find`. This holds for each match kind,
+/// `earliest` or not, and also if a match has to end on a boundary.
 pub fn half_matches_are_ends()
     ensures { HalfMatchesAreEnds }
 {}
 
-/// An anchored search tells whether the path that it answers reads a byte: exactly where its match has one. Where it
-/// has none, though each accepting path reads a byte, and a match may end anywhere, there is no such path.
+/// The path that an anchored search answers reads a byte exactly if the search's match has one. If the match has none,
+/// each accepting path reads a byte and a match may end anywhere, there is no accepting path.
 pub fn anchored_matches_tell_bytes()
     ensures some { BytesAreAnswered }
     ensures none { NoBytesAreAnswered }

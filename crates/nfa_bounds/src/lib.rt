@@ -1,7 +1,7 @@
-//! A test of NFAs that were written by hand: whether each match writes where it starts and where it ends.
+//! A test of hand-written NFAs: whether each match writes its start and its end.
 //!
-//! An NFA that fails it is no mistake to a search, but a match may then be none, or lie where nobody meant it to. Run
-//! it once on what was made by hand.
+//! Searches accept an NFA that fails the test, but a match may then be missing or have a span that nobody intended. Run
+//! the test once on each NFA that you write by hand.
 //!
 //! ```
 //! if !records_bounds(alloc, &nfa)? {

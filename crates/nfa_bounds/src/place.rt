@@ -1,4 +1,4 @@
-//! A state with what a way to it has done.
+//! A state, with what a way to it has done.
 ghost use Rattle.std.specs.Prelude.{◌≡◌, ◌+◌, ◌*◌, ◌<◌, ◌&&◌, ◌==◌, ◌↔◌, IsTrue, Some, false};
 ghost use Rattle.thompson_nfa.specs.Automaton.{node_of};
 ghost use Rattle.nfa_paths.specs.Paths.{pattern_of};
@@ -7,21 +7,21 @@ ghost use Rattle.nfa_bounds.specs.Places.{after_node, at_state, fresh_place, is_
 use regex_search_core::StateID;
 use thompson_nfa::State;
 
-/// A state, and what a way that leads to it has done before the state's own turn: as much of it as tells, for one
-/// pattern, whether a match writes where it starts and where it ends.
+/// A state, and what a way to it has done before the state's own turn. For one pattern, this is enough to decide
+/// whether a match writes its start and its end.
 #[derive(Clone, Copy, Debug)]
 pub struct Place {
     pub state: StateID,
-    /// A byte was read.
+    /// Whether a byte was read.
     pub has_read: bool,
-    /// The pattern's first slot holds where the way starts.
+    /// Whether the pattern's first slot holds the start of the way.
     pub start_written: bool,
-    /// The pattern's second slot holds where the way has come to.
+    /// Whether the pattern's second slot holds the current position of the way.
     pub end_written: bool,
 }
 
 impl Place {
-    /// A state that a way starts with.
+    /// Makes the place of a state that a way starts with.
     pub fn fresh(state: StateID) -> Place
         ensures { result ≡ fresh_place state }
     {
@@ -33,14 +33,14 @@ impl Place {
         }
     }
 
-    /// The same done, at another state.
+    /// Returns the place of another state with the same done.
     pub fn at_state(&self, state: StateID) -> Place
         ensures { result ≡ at_state self.now state }
     {
         Place { state, ..*self }
     }
 
-    /// The place's number. There are eight for each state.
+    /// Returns the place's number. There are eight numbers for each state.
     pub fn number(&self) -> usize
         ensures value { result ≡ place_number self.now }
         ensures below { result < 8 * self.now.state + 8 }
@@ -51,7 +51,7 @@ impl Place {
             + bit(self.end_written)
     }
 
-    /// What is done once a way leaves the place, whose state this is.
+    /// Returns the place after the turn of its state, which is passed as `state`.
     #[tactic(auto, unfolding(crate::specs::Places::after_node, crate::specs::Ways::reads))]
     pub fn after(&self, state: &State, pattern: usize) -> Place
         ensures { result ≡ after_node pattern (node_of state.now) self.now }
@@ -79,7 +79,7 @@ impl Place {
         }
     }
 
-    /// Whether the place's state, which this is, is a match of the pattern that lacks one of its bounds.
+    /// Returns whether the place's state, passed as `state`, is a match of the pattern that lacks one of its bounds.
     pub fn is_unrecorded(&self, state: &State, pattern: usize) -> bool
         ensures { IsTrue result ↔ ((pattern_of (node_of state.now) ≡ Some pattern) × (is_recorded self.now ≡ false)) }
     {
@@ -92,21 +92,21 @@ impl Place {
     }
 }
 
-/// 1 for true, else 0.
+/// 1 for true, 0 for false.
 fn bit(value: bool) -> usize
     ensures { result ≡ bit value }
 {
     value as usize
 }
 
-/// Whether the slot takes the start of the pattern's matches.
+/// Whether this is the slot of the start of the pattern's matches.
 fn is_start_slot(slot: usize, pattern: usize) -> bool
     ensures { result ≡ (slot == 2 * pattern) }
 {
     slot % 2 == 0 && slot / 2 == pattern
 }
 
-/// Whether the slot takes the end of the pattern's matches.
+/// Whether this is the slot of the end of the pattern's matches.
 fn is_end_slot(slot: usize, pattern: usize) -> bool
     ensures { result ≡ (slot == 2 * pattern + 1) }
 {

@@ -10,11 +10,11 @@ use std::marker::Model;
 
 /// The places that were reached, each once, in order.
 ///
-/// A contract sees them, and how many there may be at most.
+/// A contract sees the places, and their maximum number.
 #[derive(Drop)]
 pub struct Reached {
     places: Vec<Place>,
-    /// Whether a place was reached, at the place's number.
+    /// For each place's number, whether the place was reached.
     marks: Vec<bool>,
 }
 
@@ -30,7 +30,7 @@ impl Model for Reached {
 }
 
 impl Reached {
-    /// None so far, of this many states.
+    /// Makes an empty list for this number of states. The only error is that an allocation failed.
     pub fn new(alloc: Global, states: usize) -> Result<Reached, AllocError>
         requires { 8 * states < 2 ^ 64 }
         ensures { IfOk result (λ made. made ≡ record { room = 8 * states; places = [] }) }
@@ -41,7 +41,7 @@ impl Reached {
         })
     }
 
-    /// How many were reached.
+    /// Returns the number of places that were reached.
     pub fn len(&self) -> usize
         ensures value { result ≡ length self.now.places }
         ensures within { result ≤ self.now.room }
@@ -49,7 +49,7 @@ impl Reached {
         self.places.len()
     }
 
-    /// The place that was reached as this one in order.
+    /// Returns the place at this index.
     pub fn place(&self, index: usize) -> Place
         requires { index < length self.now.places }
         ensures { slice_get self.now.places index ≡ Some result }
@@ -57,7 +57,7 @@ impl Reached {
         self.places[index]
     }
 
-    /// Adds the place, if it was not reached before. The error is that a growth was refused.
+    /// Adds the place, if it was not reached before. The only error is that an allocation failed.
     pub fn add(&mut self, place: &Place) -> Result<(), AllocError>
         requires { 8 * place.now.state + 8 ≤ self.old.room }
         ensures room { self.new.room ≡ self.old.room }
@@ -71,7 +71,7 @@ impl Reached {
         Ok(())
     }
 
-    /// Adds these states, each with what is done at the place. The error is that a growth was refused.
+    /// Adds the places of these states, with what is done at `place`. The only error is that an allocation failed.
     pub fn add_all(&mut self, place: &Place, states: &[StateID]) -> Result<(), AllocError>
         requires { All (λ s. 8 * s + 8 ≤ self.old.room) states.now }
         ensures room { self.new.room ≡ self.old.room }

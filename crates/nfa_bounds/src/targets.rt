@@ -1,4 +1,4 @@
-//! Where a state leads, whatever the haystack.
+//! The targets of a state, for any haystack.
 ghost use Rattle.std.specs.Prelude.{◌≡◌, IfOk, filter_map};
 ghost use Rattle.thompson_nfa.specs.Automaton.{node_of};
 ghost use Rattle.nfa_bounds.specs.Ways.{targets};
@@ -7,7 +7,7 @@ use regex_search_core::StateID;
 use std::alloc::{AllocError, Global};
 use thompson_nfa::State;
 
-/// Each state that the state may lead to. The error is that a growth was refused.
+/// Returns each state that the state may lead to. The only error is that an allocation failed.
 #[tactic(auto, unfolding(crate::specs::Ways::targets))]
 pub fn targets(alloc: Global, state: &State) -> Result<Vec<StateID>, AllocError>
     ensures { IfOk result (λ found. found.items ≡ targets (node_of state.now)) }
@@ -23,7 +23,7 @@ pub fn targets(alloc: Global, state: &State) -> Result<Vec<StateID>, AllocError>
     }
 }
 
-/// The targets that are there.
+/// The targets that are `Some`.
 fn present(alloc: Global, targets: &[Option<StateID>]) -> Result<Vec<StateID>, AllocError>
     ensures { IfOk result (λ found. found.items ≡ filter_map (λ target. target) targets.now) }
 {
