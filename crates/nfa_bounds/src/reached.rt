@@ -30,7 +30,7 @@ impl Model for Reached {
 }
 
 impl Reached {
-    /// Makes an empty list for this number of states. The only error is that an allocation failed.
+    /// Makes an empty list for this number of states.
     pub fn new(alloc: Global, states: usize) -> Result<Reached, AllocError>
         requires { 8 * states < 2 ^ 64 }
         ensures { IfOk result (λ made. made ≡ record { room = 8 * states; places = [] }) }

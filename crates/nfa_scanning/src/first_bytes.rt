@@ -44,7 +44,7 @@ impl FirstBytes {
         }
     }
 
-    /// Returns whether no match begins with the byte.
+    /// Returns whether the byte is refused, so that no match begins with it.
     #[inline(always)]
     pub fn refuses(&self, byte: u8) -> bool
         ensures refused { result ≡ true → slice_index_or self.now.may_begin byte true ≡ false }

@@ -40,7 +40,7 @@ pub fn start_limit(nfa: &NFA, input: &Input<'_>) -> usize
 }
 
 /// Returns the position after the last one that may be skipped for its byte. If a path may start at one position only,
-/// none may be skipped.
+/// none may be skipped. Requires that the input is not done.
 pub fn skip_limit(nfa: &NFA, input: &Input<'_>) -> usize
     requires { (search_of input.now).start ≤ (search_of input.now).end }
     ensures count { result + 1 ≡ (search_of input.now).start + start_count nfa.now (search_of input.now) }

@@ -7,7 +7,7 @@
 //! They take its first answer, and call it again if that answer does not count.
 //!
 //! ```
-//! // `search` gives a match and its end, wherever it lies.
+//! // `search` returns a match and its end, at any offset.
 //! let found = match search(&input)? {
 //!     Some((found, end)) => skip_splits_fwd(&input, found, end, |input: &Input<'_>| search(input))?,
 //!     None => None,
@@ -33,7 +33,7 @@ use regex_search_core::Input;
 ///
 /// Requires that `offset` is in the input's span. Requires that the finder may be called on each input on which it is
 /// called, and returns offsets in that input's span. The first call is made only if `offset` is not a boundary, and
-/// each further one only after an answer whose offset is not one.
+/// each further one only after an answer whose offset is not a boundary.
 pub fn skip_splits_fwd<T: Drop, F>(
     input: &Input<'_>,
     init: T,

@@ -1,7 +1,7 @@
 //! Why a search fails.
 //!
-//! A search of a PikeVM has no error. Its calls that allocate have one, and so does every search of a backtracker. `?`
-//! turns a [`Refused`], the error of a `push`, and the [`MatchError`] of a finder of your own into this error.
+//! Searches of a PikeVM cannot fail. Its calls that allocate can, and so can every search of a backtracker. `?` turns a
+//! [`Refused`], the error of a `push`, and the [`MatchError`] of a finder of your own into this error.
 //!
 //! ```
 //! match engine.try_find(&mut cache, Input::new(text)) {

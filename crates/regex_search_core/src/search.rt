@@ -15,14 +15,14 @@ pub struct Span {
 }
 
 impl Span {
-    /// Returns the number of bytes in the span: `end - start`, or 0 if `end` is less than `start`.
+    /// Returns the number of bytes in the span. It is `end - start`, or 0 if `end` is less than `start`.
     pub fn len(&self) -> usize
         ensures { result ≡ self.now.end - self.now.start }
     {
         self.end.saturating_sub(self.start)
     }
 
-    /// Returns whether the span has no bytes: `end` is at most `start`.
+    /// Returns whether the span has no bytes, that is, whether `end` is at most `start`.
     pub fn is_empty(&self) -> bool
         ensures { IsTrue result ↔ (self.now.end ≤ self.now.start) }
     {

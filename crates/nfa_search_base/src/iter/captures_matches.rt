@@ -92,7 +92,7 @@ impl<'h, F> TryCapturesIter<'h, F> {
         self.steps.searcher.input()
     }
 
-    /// Returns an iterator over the same captures whose only error is [`SearchError::Memory`]. Requires that the finder
+    /// Returns an iterator over the same captures. Its only error is [`SearchError::Memory`]. Requires that the finder
     /// never fails, after any calls.
     pub fn infallible(self) -> CapturesIter<'h, F>
     where
