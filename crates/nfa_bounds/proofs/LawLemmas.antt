@@ -1,4 +1,4 @@
--- Each accepting path of a search is a way, and so writes its bounds where each way does.
+-- Each accepting path of a search is a way, and so writes its bounds if each way does.
 use Rattle.std.proofs.Common.{◌≡◌, ℕ, suc, zero, ◌+◌, ◌-◌, inl, inr, List, [], ◌∷◌, map, refl, ap, sym}
 use Rattle.std.proofs.Common.{◌∙◌, subst}
 use Rattle.std.specs.Prelude.{Option, Some, None, true, false, Bool, ◌||◌, ◌==◌, option_map}
@@ -16,7 +16,7 @@ use Rattle.nfa_engines.specs.GapLaws.{PathsWriteTheirEnds}
 use Rattle.nfa_bounds.specs.Ways.{targets, reads, position_after, open_edges, IsStart, IsWay, RecordsBounds}
 use Rattle.nfa_bounds.proofs.WayLemmas.{In-map}
 
--- where a byte leads is a target
+-- the target on a byte is a target of the state
 
 first-in : (ts : List Transition) (b t : ℕ) → first_target ts b ≡ Some t → In t (map (λ u. u.next) ts)
 first-in [] b t e = cc
@@ -100,7 +100,7 @@ module _ (nfa : Automaton) (x : Search) where
       of None e i = absurd i
       of (Some s) e i = (x.anchored, e ∙ ap Some (sym (pairs_from-state s x.start (start_count nfa x) v i)))
 
-  -- an anchored search starts where its span does
+  -- an anchored search starts at the start of its span
   pub start-anchored : is_anchored x.anchored ≡ true → (v : Pair) → In v (starts nfa x) → v.1 ≡ x.start
   start-anchored bound v i = of (start_state nfa x.anchored) i
     where
@@ -116,7 +116,7 @@ module _ (nfa : Automaton) (x : Search) where
       of None i = absurd i
       of (Some s) i = counted (nat_lt x.end x.start) s i
 
-  -- where edges are linked, so are open ones
+  -- linked edges are linked open edges
   pub linked-open : (p : List Pair) → Linked (edges nfa x) p → Linked (open_edges nfa) p
   linked-open [] l = tt
   linked-open (v ∷ []) l = tt

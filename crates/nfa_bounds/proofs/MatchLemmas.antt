@@ -62,7 +62,7 @@ module _ (nfa : Automaton) (kind : MatchKind) (earliest : Bool) (x : Search) whe
       of true h = let kept : (restarts ≡ 0) × IsKeptAnswer nfa kind earliest x path = rw bound at h in kept.0
 
   module _ (valid : IsAutomaton nfa) (records : RecordsBounds nfa) where
-    -- what the slots of a scan's path tell is its match
+    -- the slots of a scan's path give its match
     told-path : (y : Search) (p : List Pair) (found : Option Found) → IsScanAnswer nfa y kind earliest (Some p)
         → found ≡ match_of (path_pattern nfa p) (slot_row nfa (slot_count nfa.groups) (Some p))
         → AreOneMatch nfa y (Some p) found
@@ -136,7 +136,7 @@ module _ (nfa : Automaton) (kind : MatchKind) (earliest : Bool) (x : Search) whe
       own-path found answer =
           rw (anchored-once bound answer.restarts answer.path answer.answers) at answer.answers
 
-      -- the match of an anchored search starts where the span does
+      -- the match of an anchored search starts at the start of the span
       pub starts-the-span : (found : Option Found) → IsMatchAnswer nfa kind earliest x found
           → IfSome found (λ m. m.start ≡ x.start)
       starts-the-span None answer = tt
@@ -179,7 +179,7 @@ module _ (nfa : Automaton) (kind : MatchKind) (earliest : Bool) (x : Search) whe
           let less : x.start < bytes.end.1 = bytes.some_bytes in
           omega arith
 
-      -- where each path has a byte, there is none
+      -- if each path has a byte, there is no path
       no-path-answered : is_utf8_empty nfa ≡ false → PathsReadBytes nfa x → (found : Option Found)
           → IsMatchAnswer nfa kind earliest x found → HasNoByteAt x.start found → MatchesNothing nfa x
       no-path-answered anywhere read found answer none = of answer.path (own-path found answer)

@@ -1,4 +1,4 @@
--- What a place tells of the two slots.
+-- What a place says about the two slots.
 use Rattle.std.proofs.Common.{◌≡◌, ℕ, ◌+◌, ◌*◌, ◌<◌, ◌≤◌, ◌==◌, List, [], ◌∷◌, ◌++◌, refl, ap, sym, arith}
 use Rattle.std.specs.Prelude.{Option, Some, None, true, false, Bool, ◌↔◌, not, if◌then◌else◌}
 use Rattle.std.specs.Option.{option_or, option_map_or}
@@ -10,7 +10,7 @@ use Rattle.nfa_bounds.specs.Ways.{reads, position_after}
 use Rattle.nfa_bounds.specs.Places.{fresh_place, at_state, after_node, Describes}
 use Rattle.nfa_bounds.specs.declared.place.Place.{Place}
 
--- what the slot holds behind the state, which stands at the position
+-- the value of the slot after the state, which is at this position
 abbrev pub written : Node → ℕ → ℕ → Option ℕ → Option ℕ
 written node slot position held =
     option_or (if option_map_or (λ k. k == slot) (slot_of node) false then Some position else None) held
@@ -67,7 +67,7 @@ module _ {start position : ℕ} {start_slot end_slot : Option ℕ} {v : Place} w
     behind = h.behind;
   }
 
-  -- behind a byte
+  -- after a byte
   Describes-read : (s : ℕ) → Describes start position start_slot end_slot v
       → Describes start (position + 1) start_slot end_slot
       (record v { state = s; has_read = true; end_written = false })
@@ -124,7 +124,7 @@ module _ {start position : ℕ} {start_slot end_slot : Option ℕ} {v : Place} w
     behind = end-behind (slot == 2 * pattern + 1) h;
   }
 
-  -- behind the place's state
+  -- after the turn of the place's state
   pub Describes-after : (pattern : ℕ) (node : Node) (s : ℕ) → Describes start position start_slot end_slot v
       → Describes start (position_after node position) (written node (2 * pattern) position start_slot)
       (written node (2 * pattern + 1) position end_slot) (at_state (after_node pattern node v) s)

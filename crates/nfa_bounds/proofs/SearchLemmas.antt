@@ -127,7 +127,7 @@ patterns-more nfa old new index start gains before here =
     let same : start ≡ s = cc (here small, e) in
     gains.all (fresh_place s) (inl (ap fresh_place (sym same))))
 
--- or where the pattern has none
+-- or if the pattern has none
 pub patterns-same : (nfa : Automaton) (places : List Place) (index : ℕ) (found : Option ℕ)
     → ((k s : ℕ) → k < index → k ≤ 2147483646 → slice_get nfa.patterns k ≡ Some s → In (fresh_place s) places)
     → (index ≤ 2147483646 → found ≡ slice_get nfa.patterns index) → found ≡ None

@@ -11,7 +11,7 @@ use Rattle.nfa_paths.proofs.MemberLemmas.{In-append_left, In-append_right}
 use Rattle.nfa_bounds.specs.Places.{bit, place_number, unmarked_place, IsTable, GainsPlaces}
 use Rattle.nfa_bounds.specs.declared.place.Place.{Place}
 
--- what stands in two lists in a row stands in one of them
+-- an element of two concatenated lists is in one of them
 pub In-append : {A : Type 0} (x : A) (xs ys : List A) → In x (xs ++ ys) → In x xs ⊎ In x ys
 In-append x [] ys i = inr i
 In-append x (y ∷ xs) ys i = elim i [
@@ -19,7 +19,7 @@ In-append x (y ∷ xs) ys i = elim i [
   | inr j ↦ elim (In-append x xs ys j) [ inl k ↦ inl (inr k) | inr k ↦ inr k ]
 ]
 
--- a bit tells its value
+-- a bit determines its value
 bit-tells : (a b : Bool) → bit a ≡ bit b → a ≡ b
 bit-tells true true e = refl
 bit-tells false false e = refl
@@ -35,7 +35,7 @@ same-place : {s t : ℕ} {a b c d e f : Bool} → s ≡ t → a ≡ b → c ≡ 
     (record { state = t; has_read = b; start_written = d; end_written = f })
 same-place one two three four = rw (one, two, three, four) refl
 
--- a place's number tells the place
+-- a place's number determines the place
 pub place_number-tells : (v w : Place) → place_number v ≡ place_number w → v ≡ w
 place_number-tells v w e =
     let r = bit-small v.has_read in let r' = bit-small w.has_read in

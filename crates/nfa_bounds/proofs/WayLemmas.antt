@@ -16,12 +16,12 @@ use Rattle.nfa_bounds.proofs.PlaceLemmas.{written, option_or-none, option_or_ass
 use Rattle.nfa_bounds.proofs.PlaceLemmas.{written-match, Describes-fresh, Describes-after}
 use Rattle.nfa_bounds.specs.declared.place.Place.{Place}
 
--- what comes of an element stands among what comes of the list
+-- what an element gives is among what the list gives
 pub In-map : {A B : Type 0} (f : A → B) (x : A) (xs : List A) → In x xs → In (f x) (map f xs)
 In-map f x [] i = absurd i
 In-map f x (y ∷ xs) i = elim i [ inl e ↦ inl (ap f e) | inr j ↦ inr (In-map f x xs j) ]
 
--- and each of those comes of one
+-- and each of those is given by an element
 pub In-mapped : {A B : Type 0} (f : A → B) (y : B) (xs : List A) → In y (map f xs) → (x : A) × In x xs × (y ≡ f x)
 In-mapped f y [] i = absurd i
 In-mapped f y (x ∷ xs) i = elim i [
@@ -87,7 +87,7 @@ module _ (nfa : Automaton) (pattern : ℕ) where
             (Describes-after pattern (node_at nfa v.state) s led.done);
       }
 
-  -- where a way leads to a Match that lacks a bound, not each way writes its bounds
+  -- if a way leads to a Match that lacks a bound, not each way writes its bounds
   pub unrecorded : (v : Place) → IsLedTo nfa pattern v → pattern_of (node_at nfa v.state) ≡ Some pattern
       → is_recorded v ≡ false → PatternRecordsBounds nfa pattern → ⊥
   unrecorded v led matches lacks all =

@@ -111,7 +111,7 @@ module _ (nfa : Automaton) where
       ∙ sym (get_or-map-range_with_len (slot_among nfa p) 0 count slot slot None below (omega arith)))
 
   module _ (x : Search) where
-    -- a search that finds nothing: there is no accepting path
+    -- if a search finds nothing, there is no accepting path
     pub scan_none : (total : ℕ) (slots : Slots)
         → ExploresTo (space nfa x) (is_match nfa) total None [] (map Explore (starts nfa x)) slots None
         → IsScanAnswer nfa x LeftmostFirst false None
@@ -156,7 +156,7 @@ module _ (nfa : Automaton) where
 
 -- a path's end, and boundaries
 
--- a path ends on a boundary where its last pair stands on one
+-- a path ends on a boundary if its last pair is on one
 pub ends_on_boundary : (x : Search) (p : List Pair) {v : Pair} → last_of p ≡ Some v
     → EndsOnBoundary x p ↔ IsBoundary x.haystack v.1
 ends_on_boundary x [] e = absurd (never_none _ (sym e))
@@ -214,18 +214,18 @@ module _ (nfa : Automaton) where
       ]
 
   module _ (kind : MatchKind) (earliest : Bool) where
-    -- a scan whose answer splits a character starts within its span
+    -- a scan whose answer splits a codepoint starts within its span
     SplitsCharacter-within : {x : Search} → SplitsCharacter nfa kind earliest x → x.start ≤ x.end
     SplitsCharacter-within {x} h = scan_answer-within x kind earliest h.path h.answers
 
-    -- as many scans split a character as starts are left, at most
+    -- at most as many scans split a codepoint as starts are left
     skipped-bound : (x : Search) (n : ℕ) → ((i : ℕ) → i < n → SplitsCharacter nfa kind earliest (raised x i))
         → n + 1 ≤ span_len x + 2
     skipped-bound x zero skipped = omega arith
     skipped-bound x (suc n) skipped =
         let last : x.start + n ≤ x.end = SplitsCharacter-within (skipped n (omega arith)) in omega arith
 
-    -- a scan whose answer splits a character has no answer that is whole
+    -- a scan whose answer splits a codepoint has no answer that is whole
     SplitsCharacter-whole : (x : Search) (r : Option (List Pair)) → SplitsCharacter nfa kind earliest x
         → IsScanAnswer nfa x kind earliest r → IsWhole x r → ⊥
     SplitsCharacter-whole x None h answers whole =
@@ -294,7 +294,7 @@ module _ (nfa : Automaton) where
 
     module _ (x : Search) (empty : is_utf8_empty nfa ≡ true) (free : is_anchored x.anchored ≡ false) (k : ℕ)
         (skipped : (i : ℕ) → i < k → SplitsCharacter nfa kind earliest (raised x i)) where
-      -- where k scans split a character, one more is no more than the answer takes
+      -- if k scans split a codepoint, one more is at most what the answer takes
       pub split-within_scans : IsWithinScans nfa kind earliest x (k + 1)
       split-within_scans restarts path answers =
           let restarted : IsRestartedAnswer nfa kind earliest x restarts path = rw (empty, free) at answers in

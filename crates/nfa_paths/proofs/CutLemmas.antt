@@ -1,4 +1,4 @@
--- The first match pair of a front, also where a search did not follow what is behind it.
+-- The first match pair of a front, also if a search did not follow the pairs after it.
 use Rattle.std.proofs.Common.{◌≡◌, ℕ, suc, ◌≤◌, inl, inr, Bool, true, false, List, [], ◌∷◌, length, refl, sym, ◌∙◌, arith}
 use Rattle.std.specs.Prelude.{Option, None, Some}
 use Rattle.std.specs.Option.{option_map_or}

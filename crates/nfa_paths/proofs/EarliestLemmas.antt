@@ -1,5 +1,4 @@
--- What an input says of `earliest` changes no path: only the kind of answer that is asked for does. And whether there
--- is a match.
+-- The `earliest` flag of an input changes no path. Only the kind of the answer does. Also whether there is a match.
 use Rattle.std.proofs.Common.{◌≡◌, ℕ, inl, inr, Bool, true, false, List, [], ◌∷◌, refl, subst}
 use Rattle.std.specs.Prelude.{Option, None, Some, is_some, not, MatchBool}
 use Rattle.std.proofs.lemmas.Bool.{cases_Bool}
@@ -12,7 +11,7 @@ use Rattle.nfa_paths.specs.Graphs.{Pair, IsFirstPath, IsEarliestPath, IsLastPath
 use Rattle.nfa_paths.specs.Paths.{raised, node_at, IsMatch, is_utf8_empty, edges_of, edges, starts, IsScanAnswer, EndsOnBoundary, IsWhole, SplitsCharacter, IsKeptAnswer, IsRestartedAnswer, IsSearchAnswer, IsFoundAnswer}
 use Rattle.nfa_paths.proofs.ExistenceLemmas.{is_match-agrees}
 
--- the search, asked to be earliest or not
+-- the search with this `earliest` flag
 abbrev pub asked : Search → Bool → Search
 asked x sooner = record x { earliest = sooner }
 
@@ -64,7 +63,7 @@ module _ (nfa : Automaton) where
     EndsOnBoundary-unasked x sooner (v ∷ []) h = h
     EndsOnBoundary-unasked x sooner (v ∷ (w ∷ p)) h = EndsOnBoundary-unasked x sooner (w ∷ p) h
 
-    -- an answer that splits a character
+    -- an answer that splits a codepoint
     SplitsCharacter-asked : (x : Search) (sooner : Bool) → SplitsCharacter nfa kind earliest (asked x sooner)
         → SplitsCharacter nfa kind earliest x
     SplitsCharacter-asked x sooner h = record {
@@ -115,13 +114,13 @@ module _ (nfa : Automaton) where
         of true false h = IsRestartedAnswer-asked x sooner n r h
         of false c h = (h.0, scan_answer-asked x sooner kind earliest r h.1)
 
-  -- where a match may end anywhere, a scan's answer is the search's
+  -- if a match may end anywhere, a scan's answer is the search's
   scan_answer-search : (kind : MatchKind) (earliest : Bool) (x : Search) (r : Option (List Pair))
       → is_utf8_empty nfa ≡ false
       → IsScanAnswer nfa x kind earliest r → IsSearchAnswer nfa kind earliest x 0 r
   scan_answer-search kind earliest x r anywhere h = rw anywhere (refl, h)
 
-  -- a search that is earliest wherever a match may end anywhere tells whether there is a match
+  -- a search that is earliest if a match may end anywhere finds whether there is a match
   pub found_answer-earliest : (kind : MatchKind) (x : Search) (n : ℕ) (p : Option (List Pair))
       → IsSearchAnswer nfa kind (not (is_utf8_empty nfa)) x n p → IsFoundAnswer nfa kind false x (is_some p)
   found_answer-earliest kind x n p h =

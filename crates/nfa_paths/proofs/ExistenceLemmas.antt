@@ -1,4 +1,4 @@
--- Every scan and every search has an answer, whatever the NFA.
+-- Every scan and every search of any NFA has an answer.
 use Rattle.std.proofs.Common.{◌≡◌, ℕ, zero, suc, ◌+◌, ◌≤◌, ◌<◌, ◌⊎◌, inl, inr, Bool, true, false, List, [], ◌∷◌, ◌++◌, length, refl, sym, ap, ◌∙◌, subst, arith}
 use Rattle.std.specs.Prelude.{Option, None, Some, is_some, MatchBool, slice_index}
 use Rattle.std.proofs.Math.Decide.{ℕ_discrete}
@@ -55,7 +55,7 @@ module _ (nfa : Automaton) where
   unfolding node_at
   node_at-past state past = get_or_past nfa.states state Fail past
 
-  -- which is no match
+  -- and a Fail is not a match
   is_match-past : (v : Pair) → length nfa.states ≤ v.0 → is_match nfa v ≡ true → ⊥
   is_match-past v past t = none (sym (ap (λ (k : Node). is_some (pattern_of k)) (node_at-past v.0 past)) ∙ t)
     where
@@ -128,7 +128,7 @@ module _ (nfa : Automaton) where
         absurd (scan_answer-none other sooner k leads.end p leads.path leads.matches)
     scan_answers-agree kind other earliest sooner (Some p) (Some q) h k = refl
 
-    -- so do searches, where a match may end anywhere
+    -- so do searches, if a match may end anywhere
     pub search_answers-agree : is_utf8_empty nfa ≡ false
         → (kind other : MatchKind) (earliest sooner : Bool) (i j : ℕ) (r s : Option (List Pair))
         → IsSearchAnswer nfa kind earliest x i r → IsSearchAnswer nfa other sooner x j s → is_some r ≡ is_some s
@@ -172,7 +172,7 @@ module _ (nfa : Automaton) where
   EndsOnBoundary-cases x (v ∷ (w ∷ p)) = EndsOnBoundary-cases x (w ∷ p)
 
   module _ (kind : MatchKind) (earliest : Bool) where
-    -- a scan splits a character, or has an answer that is whole
+    -- a scan splits a codepoint, or has an answer that is whole
     scan-cases : (x : Search) → SplitsCharacter nfa kind earliest x
         ⊎ ((r : Option (List Pair)) × IsScanAnswer nfa x kind earliest r × IsWhole x r)
     scan-cases x = let r = scan_answer-exists x kind earliest in of r.0 r.1
@@ -200,7 +200,7 @@ module _ (nfa : Automaton) where
         of None h whole = (None, inl h)
         of (Some p) h whole = (Some p, (h, whole))
 
-    -- with so many positions left, a search that has restarted so often has an answer
+    -- with `left` positions left, a search that has restarted `restarts` times has an answer
     restarted_from : (x : Search) (left restarts : ℕ) → x.end < x.start + restarts + left
         → ((i : ℕ) → i < restarts → SplitsCharacter nfa kind earliest (raised x i))
         → (n : ℕ) × (r : Option (List Pair)) × IsRestartedAnswer nfa kind earliest x n r
@@ -238,7 +238,7 @@ module _ (nfa : Automaton) where
         of true false = restarted_from x (x.end + 1) 0 (omega arith) (λ i below. absurd (omega arith))
         of false c = let r = scan_answer-exists x kind earliest in (0, r.0, (refl, r.1))
 
-  -- where a match may end anywhere, the earliest path and the one that is meant are both there or both none
+  -- if a match may end anywhere, the earliest path exists exactly if the one that is meant does
   pub is_match-agrees : (x : Search) (kind : MatchKind) → is_utf8_empty nfa ≡ false → (p : Option (List Pair))
       → IsScanAnswer nfa x kind true p
       → (q : Option (List Pair)) × IsScanAnswer nfa x kind false q × (is_some p ≡ is_some q)

@@ -12,7 +12,7 @@ use Rattle.nfa_paths.proofs.FinitePathLemmas.{IsFinite, first_to, first_in}
 
 -- the order goes on
 
--- what stands before a pair stands before all that stands behind that pair
+-- what comes before a pair comes before all that comes after that pair
 Earlier-transitive : (es : List Pair) (a b c : Pair) → Earlier es a b → Earlier es b c → Earlier es a c
 Earlier-transitive [] a b c h k = h
 Earlier-transitive (e ∷ es) a b c h k =
@@ -72,7 +72,7 @@ module _ (edges : Pair → List Pair) where
       inl (omega arith)
   ComesBefore-transitive (x ∷ p) (y ∷ q) (z ∷ r) (inr h) (inr k) = inr (Before-transitive (x ∷ p) (y ∷ q) (z ∷ r) h k)
 
--- the least and the greatest of the numbers below k that have A, where each number has A or B
+-- the least and the greatest of the numbers below k that have A, if each number has A or B
 
 -- what holds below k and at k
 up_to : (B : ℕ → Type 0) (k : ℕ) → ((e : ℕ) → e < k → B e) → B k → (e : ℕ) → e < suc k → B e
@@ -134,7 +134,7 @@ module _ {edges : Pair → List Pair} {starts all : List Pair} {n : ℕ} (finite
   ends_within : (m : Pair) (p : List Pair) → PathTo edges starts m p → is_match m ≡ true → m.1 < n + 1
   ends_within = EndsBefore-within edges starts is_match n finite.stays finite.begins
 
-  -- so where no path ends at any of these positions there is none
+  -- so if no path ends at any of these positions, there is no path
   none_at_all : ((e : ℕ) → e < n + 1 → NoneAt e) → NoPath edges starts (Passes is_match)
   none_at_all none m p w t = none m.1 (ends_within m p w t) m p w (record { wanted = t; at = refl })
 
@@ -153,7 +153,7 @@ module _ {edges : Pair → List Pair} {starts all : List Pair} {n : ℕ} (finite
         ];
   }
 
-  -- or none behind e
+  -- and none after e
   is_greatest : (e : ℕ) → FirstAt e → ((d : ℕ) → e < d → d < n + 1 → NoneAt d)
       → IsGreatestEnd edges starts (Passes is_match) e
   is_greatest e f none = record {
@@ -188,7 +188,7 @@ module _ {edges : Pair → List Pair} {starts all : List Pair} {n : ℕ} (finite
       → IsFirstTo edges starts (λ x. x ≡ k) q
   first_along {q = q} is f = subst (λ y. IsFirstTo edges starts (λ x. x ≡ y) q) is f
 
-  -- one more pair, which is no match pair at e or is not reached
+  -- one more pair, which is not a match pair at e or is not reached
   Sought-skip : (e : ℕ) (m : Pair) (es : List Pair)
       → (WantedAt (Passes is_match) e m → NoPath edges starts (λ x. x ≡ m)) → Sought e es → Sought e (m ∷ es)
   Sought-skip e m es none sought =
@@ -260,7 +260,7 @@ module _ {edges : Pair → List Pair} {starts all : List Pair} {n : ℕ} (finite
             ];
       }
 
-      -- it comes behind the last one so far
+      -- it comes after the last one so far
       take_up : (r : List Pair) → LastAmong e es r → ComesBefore edges r p → LastAmong e (m ∷ es) p
       take_up r b behind = record {
         end = m;
@@ -294,7 +294,7 @@ module _ {edges : Pair → List Pair} {starts all : List Pair} {n : ℕ} (finite
   reached_in : (m : Pair) (p : List Pair) → PathTo edges starts m p → is_match m ≡ true → In m all
   reached_in m p w t = let k : m.1 < n + 1 = ends_within m p w t in matches_in m (omega arith) t
 
-  -- where a path ends at e, there is a last of the first paths
+  -- if a path ends at e, there is a last of the first paths
   last_at : (e : ℕ) → FirstAt e → (p : List Pair) × IsLastOfFirsts edges starts (Passes is_match) e p
   last_at e f =
       elim (sought e all) [

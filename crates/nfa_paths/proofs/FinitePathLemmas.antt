@@ -17,7 +17,7 @@ record Without (v : Pair) (xs : List Pair) : Type 0 where
   shorter : length xs ≡ suc (length rest)
   covers : (x : Pair) → In x xs → (x ≡ v) ⊎ In x rest
 
--- a pair that stands in a list can be taken out
+-- a pair of a list can be taken out
 without : (v : Pair) (xs : List Pair) → In v xs → Without v xs
 without v [] i = absurd i
 without v (y ∷ xs) (inl here) =
@@ -78,7 +78,7 @@ module _ {edges : Pair → List Pair} {starts all : List Pair} {n : ℕ} (finite
               ]
         ]
 
-    -- a pair has a first path or none where that is so behind it
+    -- a pair has a first path or none if each pair after it does
     first_step : (left marks : List Pair) → Covers left marks → (v : Pair) → v.1 ≤ n
         → (Without v left → (e : Pair) → In e (edges v) → FirstFrom (v ∷ marks) e) → FirstFrom marks v
     first_step left marks covers v h behind =
@@ -101,7 +101,7 @@ module _ {edges : Pair → List Pair} {starts all : List Pair} {n : ℕ} (finite
               ]
         ]
 
-    -- with so many pairs left, a pair has a first path or none
+    -- with `left` pairs left, a pair has a first path or none
     first_from : (size : ℕ) (left marks : List Pair) → length left ≡ size → Covers left marks → (v : Pair) → v.1 ≤ n
         → FirstFrom marks v
     first_from zero left marks is covers v h = first_step left marks covers v h (λ w e i. absurd (no_rest w.shorter))

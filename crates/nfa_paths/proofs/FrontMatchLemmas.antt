@@ -110,7 +110,7 @@ module _ (is_match : Pair → Bool) where
         matches = h.matches;
       }
 
-  -- no match pair stands before the first
+  -- no match pair comes before the first
   pub before_match-plain : (front : List (Pair × Slots)) → NoMatch is_match (before_match is_match front)
   before_match-plain [] = λ b i t. i
   before_match-plain (a ∷ front) = of (is_match a.0) refl (before_match-plain front)
@@ -123,7 +123,7 @@ module _ (is_match : Pair → Bool) where
       of true e rest b i t = i
       of false e rest b i t = elim i [ inl here ↦ plain (is_match a.0) e (rw (← here) t) | inr later ↦ rest b later t ]
 
-  -- what stands before it stands in the front
+  -- what comes before it is in the front
   pub before_match-among : (front : List (Pair × Slots)) (b : Pair × Slots) → In b (before_match is_match front)
       → In b front
   before_match-among [] b = λ i. i
@@ -134,7 +134,7 @@ module _ (is_match : Pair → Bool) where
       of true rest i = absurd i
       of false rest i = elim i [ inl here ↦ inl here | inr later ↦ inr (rest later) ]
 
-  -- the items before the first match pair, that pair, and those behind it
+  -- the items before the first match pair, that pair, and the items after it
   pub record FirstCut (front : List (Pair × Slots)) (a : Pair × Slots) : Type 0 where
     pub after : List (Pair × Slots)
     pub split : front ≡ before_match is_match front ++ a ∷ after
@@ -165,7 +165,7 @@ module _ (is_match : Pair → Bool) where
             }
       ]
 
-  -- where there is no match pair, all stand before the first
+  -- if there is no match pair, all items come before the first
   pub before_match-all : (front : List (Pair × Slots)) → first_match is_match front ≡ None
       → before_match is_match front ≡ front
   before_match-all [] e = refl

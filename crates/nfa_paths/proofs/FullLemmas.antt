@@ -62,7 +62,7 @@ module _ (nfa : Automaton) (x : Search) (old : List Bool) (wants : Pair → Bool
         }) r
       ]
 
-  -- the first path of all is that of the best match, or it ends at e or behind
+  -- the first path of all is that of the best match, or it ends at e or after it
   up_to : (p : List Pair) → IsFirstTo (edges nfa x) (starts nfa x) (Passes wants) p → HoldsUpTo nfa x p new
   up_to p first =
       let held = (tells first.end).0 first.wanted in

@@ -26,7 +26,7 @@ module _ (nfa : Automaton) (x : Search) (old : List Bool) (wants : Pair → Bool
   permitted_at : (e : ℕ) (v : Pair) → WantedAt (Passes wants) e v → WantedAt (IsPermitted nfa x) e v
   permitted_at e v w = record { wanted = ((tells v).0 w.wanted).permitted; at = w.at }
 
-  -- a permitted match counts where its pattern is below the capacity
+  -- a permitted match counts if its pattern is below the capacity
   counts : {k : ℕ} → k < length old → (v : Pair) → IsPermitted nfa x v → pattern_at nfa v ≡ Some k → wants v ≡ true
   counts {k} less v may is = (tells v).1 (record { permitted = may; pattern = k; pattern_is = is; below = less })
 
@@ -88,7 +88,7 @@ module _ (nfa : Automaton) (x : Search) (old : List Bool) (wants : Pair → Bool
       );
     }
 
-  -- where every path has ended it gained all
+  -- if every path has ended, the set gained all
   pub GainsBefore-end : {e : ℕ} {new : List Bool} → GainsBefore e new → EndsBefore (space nfa x) wants e
       → IsOverlapResult nfa x All false old new
   GainsBefore-end {e} {new} g ends = record {
@@ -120,7 +120,7 @@ module _ (nfa : Automaton) (x : Search) (old : List Bool) (wants : Pair → Bool
     };
   }
 
-  -- a full set gains no more
+  -- a full set gains nothing
   pub GainsBefore-full : {e : ℕ} {new : List Bool} → GainsBefore e new → size_of_set new ≡ length new
       → IsOverlapResult nfa x All false old new
   GainsBefore-full {e} {new} g full = record {
@@ -172,7 +172,7 @@ module _ (nfa : Automaton) (x : Search) (old : List Bool) (wants : Pair → Bool
           λ h. IsReached-along (permitted_at e) (at.1 h),
         )
 
-    -- the first front with a match of a pattern below the capacity stands at the least end
+    -- the first front with a match of a pattern below the capacity is at the least end
     held-least : NoneHeld e → (k : ℕ) → k < length old → HoldsMatch wants (pattern_at nfa) k front
         → IsLeastEnd (edges nfa x) (starts nfa x) (IsHeld nfa x (length old)) e
     held-least none k less here =
@@ -236,7 +236,7 @@ module _ (nfa : Automaton) (x : Search) (old : List Bool) (wants : Pair → Bool
       };
     }
 
-  -- where every path has ended nothing is gained
+  -- if every path has ended, nothing is gained
   pub NoneHeld-end : {e : ℕ} → NoneHeld e → EndsBefore (space nfa x) wants e → IsOverlapResult nfa x All true old old
   NoneHeld-end {e} none ends = record {
     capacity = refl;

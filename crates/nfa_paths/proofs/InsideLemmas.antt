@@ -1,4 +1,4 @@
--- The match of a search's answer lies in its span.
+-- The match of a search's answer is in its span.
 use Rattle.std.proofs.Common.{◌∙◌, ◌≡◌, ℕ, ◌+◌, ◌*◌, ◌≤◌, inl, inr, Bool, true, false, List, [], ◌∷◌, map, refl, ap, sym, subst, MatchBool, arith}
 use Rattle.std.specs.Prelude.{◌<◌, length, All, IfSome, Option, None, Some, cond, nat_le, option_and_then, option_map, ◌==◌}
 use Rattle.std.specs.Option.{option_or, option_map_or}
@@ -21,7 +21,7 @@ use Rattle.nfa_paths.proofs.PathToLemmas.{EndsWith-last}
 use Rattle.nfa_paths.proofs.PatternLemmas.{node-pattern}
 use Rattle.nfa_paths.proofs.ScanAnswerLemmas.{edges-onward, edges-within, starts-from, starts-within}
 
--- the position lies in the span
+-- the position is in the span
 abbrev IsWithin : Search → ℕ → Type 0
 IsWithin x i = (x.start ≤ i) × (i ≤ x.end)
 
@@ -53,7 +53,7 @@ offsets slots p f = of (offset_at slots (2 * p)) (offset_at slots (2 * p + 1))
               )
         ]
 
--- the pair that a list ends with stands in it
+-- the last pair of a list is in it
 EndsWith-in : (m : Pair) (p : List Pair) → EndsWith m p → In m p
 EndsWith-in m [] ends = ends
 EndsWith-in m (x ∷ []) ends = inl (sym ends)
@@ -70,7 +70,7 @@ offset-value f places i k e = of (slice_get places i) (rw (slice_get-map f place
 
 module _ (nfa : Automaton) where
   module _ (x : Search) where
-    -- each pair of a linked list that begins in the span lies there
+    -- each pair of a linked list that begins in the span is in it
     linked-within : (y : Pair) (p : List Pair) → Linked (edges nfa x) (y ∷ p) → IsWithin x y.1 → (w : Pair)
         → In w (y ∷ p) → IsWithin x w.1
     linked-within y [] linked here w i = elim i [
@@ -86,7 +86,7 @@ module _ (nfa : Automaton) where
               linked-within z p linked.1 (low, edges-within nfa x y z linked.0 here.1) w later
         ]
 
-    -- each pair of a path lies in the span
+    -- each pair of a path is in the span
     path-within : (m : Pair) (p : List Pair) → PathTo (edges nfa x) (starts nfa x) m p → (w : Pair) → In w p
         → IsWithin x w.1
     path-within m [] path w i = absurd i
@@ -150,7 +150,7 @@ module _ (nfa : Automaton) where
           | false ↦ λ h. record { from = x; answers = h.1; on = omega arith; end = refl }
         ]
 
-    -- the match lies in the span
+    -- the match is in the span
     pub match-within : (x : Search) (f : Found) → IsMatchAnswer nfa kind earliest x (Some f) → (x.start ≤ f.start)
         × (f.start ≤ f.end) × (f.end ≤ x.end)
     match-within x f a = of a.path a.answers a.found_is
@@ -192,7 +192,7 @@ module _ (nfa : Automaton) where
         of : (v : Pair) → last_of p ≡ Some v → v.1 ≡ h.offset
         of v last = known (pattern_of (node_at nfa v.0)) v.1 (rw last at e)
 
-    -- the end of a half match lies in the span
+    -- the end of a half match is in the span
     pub half-within : (x : Search) (h : HalfFound) → IsHalfAnswer nfa kind earliest x (Some h)
         → (x.start ≤ h.offset) × (h.offset ≤ x.end)
     half-within x h a = of a.path a.answers a.found_is
@@ -207,7 +207,7 @@ module _ (nfa : Automaton) where
     if-some None P holds = tt
     if-some (Some k) P holds = holds k refl
 
-    -- each slot of an answer is none, or lies in the span
+    -- each slot of an answer is none, or is in the span
     pub slots-within : (x : Search) (pattern : Option ℕ) (slots : List (Option ℕ))
         → IsAnswer nfa kind earliest x pattern slots
         → All (λ o. IfSome o (λ k. (x.start ≤ k) × (k ≤ x.end))) slots

@@ -28,7 +28,7 @@ module _ (space : Space) (target : Pair → Bool) where
     IsFirst-later : (marks : List Pair) (v : Pair) → e < v.1 → IsFirst space.edges target marks v None
     IsFirst-later marks v l p a = Path-later a.path l
 
-    -- a pair that rises and is no target
+    -- a pair that rises and is not a target
     pub IsFirst-rises : (marks : List Pair) (v : Pair) → ((w : Pair) → In w (space.edges v) → e < w.1)
         → (target v ≡ true → ⊥) → IsFirst space.edges target marks v None
     IsFirst-rises marks v rises plain p a = none a.path rises plain
@@ -38,7 +38,7 @@ module _ (space : Space) (target : Pair → Bool) where
         none (stop t) r f = f t
         none (go {w = w} t i n h) r f = Path-later h (r w i)
 
-    -- work at later positions alone finds nothing
+    -- work at later positions only finds nothing
     Answer-later : (left : ℕ) (marks : List Pair) (work : List Item) (slots : Slots)
         → ((k : Pair) → In (Explore k) work → e < k.1) → ExploresTo space target left None marks work slots None
     unfolding ExploresTo
@@ -86,7 +86,7 @@ In-map : (a : Pair × Slots) (xs : List (Pair × Slots)) → In a xs → In a.0 
 In-map a [] i = i
 In-map a (x ∷ xs) i = elim i [ inl e ↦ inl (ap (λ b. b.0) e) | inr j ↦ inr (In-map a xs j) ]
 
--- no pair twice: what stands before an item is another pair
+-- no pair occurs twice: the items before an item are other pairs
 apart : (before : List (Pair × Slots)) (a : Pair × Slots) (after : List (Pair × Slots))
     → NoRepeats (map (λ b. b.0) (before ++ a ∷ after))
     → (b : Pair × Slots) → In b before → b.0 ≡ a.0 → ⊥
@@ -154,11 +154,11 @@ module _ (space : Space) (resting is_match : Pair → Bool) (slots : Slots) (tur
     stops : (x : Pair) → target x ≡ true → space.edges x ≡ []
     stops x t = shape.leads_nowhere x (at_matches x t).0
 
-    -- targets lie at e
+    -- targets are at e
     at_end : (x : Pair) → target x ≡ true → x.1 ≡ e
     at_end x t = (at_matches x t).1
 
-    -- the edges of the front's pairs lead behind e
+    -- the edges of the front's pairs lead past e
     rising : (a : Pair × Slots) → In a front → (w : Pair) → In w (space.edges a.0) → e < w.1
     rising a i w j = let r = f.rest a i in rw (← r.1) (shape.rises a.0 w r.0 j)
 
@@ -275,7 +275,7 @@ module _ (space : Space) (resting is_match : Pair → Bool) (slots : Slots) (tur
         ],
   )
 
-  -- the first path to a pair that stands before another in the front comes before every path to that one
+  -- the first path to a pair that comes before another in the front comes before every path to the other
   IsFront-order : (before : List (Pair × Slots)) (b : Pair × Slots) (after : List (Pair × Slots))
       → front ≡ before ++ b ∷ after
       → (m n : Pair) → WantedAt (Passes is_match) e m → WantedAt (Passes is_match) e n → b.0 ≡ m
@@ -299,7 +299,8 @@ module _ (space : Space) (resting is_match : Pair → Bool) (slots : Slots) (tur
       IsFirstTo-unique space.edges space.starts (λ x. x ≡ m) found_first.0 p to_m first in
       subst (λ x. (q ≡ x) ⊎ ComesBefore space.edges x q) same_path (both.first n q w (inr refl))
 
-  -- the first path to any match pair at e is p or comes before it, where p is that to the last match pair of the front
+  -- the first path to any match pair at e is p or comes before it, if p is the first path to the last match pair of the
+  -- front
   first_before : (a : Pair × Slots) (l : LastMatch is_match front a)
       → ((b : Pair × Slots) → In b l.before → b.0 ≡ a.0 → ⊥)
       → (p : List Pair) → IsFirstTo space.edges space.starts (λ x. x ≡ a.0) p

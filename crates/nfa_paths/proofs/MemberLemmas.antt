@@ -1,18 +1,18 @@
--- What stands in a list.
+-- Elements of lists.
 use Rattle.std.proofs.Common.{◌⊎◌, inl, inr, List, [], ◌∷◌, ◌++◌, refl}
 use Rattle.nfa_paths.specs.Graphs.{In}
 
--- what stands in the first of two lists
+-- the elements of the first of two lists
 pub In-append_left : {A : Type 0} (x : A) (xs ys : List A) → In x xs → In x (xs ++ ys)
 In-append_left x [] ys i = absurd i
 In-append_left x (y ∷ xs) ys i = elim i [ inl e ↦ inl e | inr j ↦ inr (In-append_left x xs ys j) ]
 
--- what stands in the second of two lists
+-- the elements of the second of two lists
 pub In-append_right : {A : Type 0} (x : A) (xs ys : List A) → In x ys → In x (xs ++ ys)
 In-append_right x [] ys i = i
 In-append_right x (y ∷ xs) ys i = inr (In-append_right x xs ys i)
 
--- what stands in two lists stands in one of them
+-- an element of two concatenated lists is in one of them
 pub In-append : {A : Type 0} (x : A) (xs ys : List A) → In x (xs ++ ys) → In x xs ⊎ In x ys
 In-append x [] ys i = inr i
 In-append x (y ∷ xs) ys i = elim i [

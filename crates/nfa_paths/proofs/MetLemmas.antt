@@ -1,4 +1,4 @@
--- The first path that ends before a limit, as a search that drops what is behind a match finds it, and the set of the
+-- The first path that ends before a limit, as a search that drops what is after a match finds it, and the set of the
 -- patterns of such paths.
 use Rattle.std.proofs.Common.{◌≡◌, ℕ, ◌+◌, ◌<◌, ◌≤◌, ◌⊎◌, ◌↔◌, ◌∙◌, inl, inr, Bool, true, false, List, [], ◌∷◌, map, length, refl, sym, ap, subst, arith}
 use Rattle.std.specs.Prelude.{Option, None, Some, cond, option_and_then}
@@ -62,7 +62,7 @@ before_match-same t u [] same = refl
 before_match-same t u (a ∷ front) same =
     rw (same a (inl refl), before_match-same t u front (λ b i. same b (inr i))) refl
 
--- a test that wants nothing else, and whatever is wanted before e
+-- a test that accepts only wanted pairs, and all wanted pairs before e
 pub record Between (wants : Pair → Bool) (e : ℕ) (target : Pair → Bool) : Type 0 where
   pub sub : (v : Pair) → target v ≡ true → wants v ≡ true
   pub all : (v : Pair) → wants v ≡ true → v.1 < e → target v ≡ true
@@ -173,7 +173,7 @@ module _ (nfa : Automaton) (x : Search) (old : List Bool) (wants : Pair → Bool
       best.1 first in
       ap (path_pattern nfa) (sym same) ∙ ends-pattern best.0 a.0 best.2
 
-  -- The set holds the patterns of the first paths before each limit up to e, of which the last is what was found.
+  -- The set holds the patterns of the first paths before each limit up to e. The last of these is what was found.
   pub record Exact (e : ℕ) (g : Hit) (new : List Bool) : Type 0 where
     pub best : Best e g
     pub sound : (k : ℕ) → HoldsPattern new k → IsFirstBefore nfa x (length old) k

@@ -20,12 +20,12 @@ same a b =
 
 -- the order
 
--- nothing stands before itself
+-- no pair comes before itself
 Earlier-irreflexive : (es : List Pair) (a : Pair) → Earlier es a a → ⊥
 Earlier-irreflexive [] a h = h
 Earlier-irreflexive (e ∷ es) a h = elim h.1 [ inl here ↦ h.0 here | inr later ↦ Earlier-irreflexive es a later ]
 
--- of two pairs one alone stands before the other
+-- of two pairs, only one comes before the other
 Earlier-asymmetric : (es : List Pair) (a b : Pair) → Earlier es a b → Earlier es b a → ⊥
 Earlier-asymmetric [] a b h k = h
 Earlier-asymmetric (e ∷ es) a b h k =
@@ -34,7 +34,7 @@ Earlier-asymmetric (e ∷ es) a b h k =
       | inr later ↦ elim k.1 [ inl there ↦ h.0 there | inr after ↦ Earlier-asymmetric es a b later after ]
     ]
 
--- of two different pairs of a list, one stands before the other
+-- of two different pairs of a list, one comes before the other
 pub Earlier-total : (es : List Pair) (a b : Pair) → ¬ (a ≡ b) → In a es → In b es → Earlier es a b ⊎ Earlier es b a
 Earlier-total [] a b apart i j = absurd i
 Earlier-total (e ∷ es) a b apart i j =
@@ -58,7 +58,7 @@ Earlier-total (e ∷ es) a b apart i j =
           ]
     ]
 
--- what stands earlier in a rising list is at a smaller position
+-- what comes earlier in an ascending list is at a smaller position
 pub Earlier-increasing : (es : List Pair) (a b : Pair) → Increasing es → Earlier es a b → In b es → a.1 < b.1
 Earlier-increasing [] a b rise h i = absurd i
 Earlier-increasing (e ∷ es) a b rise h (inl here) = absurd (h.0 (sym here))
@@ -66,7 +66,7 @@ Earlier-increasing (e ∷ es) a b rise h (inr later) =
     elim h.1 [ inl first ↦ rw (← first) (rise.0 b later) | inr after ↦ Earlier-increasing es a b rise.1 after later ]
 
 module _ (edges : Pair → List Pair) where
-  -- of two lists that follow a pair, one alone is before the other
+  -- of two lists that follow a pair, only one comes before the other
   BeforeAfter-asymmetric : (v : Pair) (p q : List Pair) → BeforeAfter edges v p q → BeforeAfter edges v q p → ⊥
   BeforeAfter-asymmetric v [] q h k = h
   BeforeAfter-asymmetric v (a ∷ p) [] h k = h
@@ -84,7 +84,7 @@ module _ (edges : Pair → List Pair) where
             ]
       ]
 
-  -- of two lists, one alone is before the other
+  -- of two lists, only one comes before the other
   pub Before-asymmetric : (p q : List Pair) → Before edges p q → Before edges q p → ⊥
   Before-asymmetric [] q h k = h
   Before-asymmetric (x ∷ p) [] h k = h
@@ -99,7 +99,7 @@ module _ (edges : Pair → List Pair) (target : Pair → Bool) where
   Path-head (stop t) = inl refl
   Path-head (go t e n h) = inl refl
 
-  -- what stands in a path has a path of its own in it
+  -- each pair of a path has a path of its own in it
   Path-suffix : {u v : Pair} {p : List Pair} → Path edges target v p → In u p
       → (q : List Pair) × Path edges target u q × ((x : Pair) → In x q → In x p)
   Path-suffix {u} (stop {v = v} t) i = (v ∷ [], elim i [ inl e ↦ rw e (stop t) | inr never ↦ absurd never ], λ x h. h)
@@ -128,7 +128,7 @@ module _ (edges : Pair → List Pair) (target : Pair → Bool) where
       → Path edges target v p ↔ (HeadIs v p × NoRepeats p × Linked edges p × StopsAtTarget target p)
   Path-plain v p = (λ h. Path-words h, λ w. Path-from_words v p w.0 w.1 w.2 w.3)
 
-  -- the order of two paths behind v
+  -- the order of two paths after v
   Before-cons : {v w x : Pair} {p q : List Pair} → Path edges target w p → Path edges target x q
       → Earlier (edges v) w x ⊎ Before edges p q → Before edges (v ∷ p) (v ∷ q)
   Before-cons (stop t) (stop u) h = (refl, h)
@@ -160,7 +160,7 @@ module _ (edges : Pair → List Pair) (target : Pair → Bool) where
   pub IsFirst-marked : (marks : List Pair) (v : Pair) → In v marks → IsFirst edges target marks v None
   IsFirst-marked marks v m p a = a.clear v (Path-head a.path) m
 
-  -- a pair with no edge that is no target, marked or not
+  -- a pair with no edge that is not a target, marked or not
   pub IsFirst-dead : (marks : List Pair) (v : Pair) → target v ≡ false → edges v ≡ []
       → IsFirst edges target marks v None
   IsFirst-dead marks v plain leads p a = never a.path plain leads
@@ -222,7 +222,7 @@ module _ (edges : Pair → List Pair) (target : Pair → Bool) where
             ],
       )
 
-  -- one step along the edges of an unmarked pair that is no target
+  -- one step along the edges of an unmarked pair that is not a target
   module _ (marks : List Pair) (v : Pair) (free : ¬ (In v marks)) (plain : target v ≡ false) where
     -- a path from v goes on from one of its edges, clear of v
     Accepts-rest : (q : List Pair) → Accepts edges target marks v q
@@ -290,7 +290,7 @@ module _ (edges : Pair → List Pair) (target : Pair → Bool) where
             ];
       }
 
-  -- marks behind a set that no edge leaves
+  -- marks outside a set that no edge leaves
   module _ (ahead : Pair → Type 0) (closed : (x y : Pair) → ahead x → In y (edges x) → ahead y) where
     -- a path from a pair ahead stays ahead
     Path-ahead : {v : Pair} {p : List Pair} → Path edges target v p → ahead v → (x : Pair) → In x p → ahead x
@@ -342,7 +342,7 @@ module _ (edges : Pair → List Pair) (target : Pair → Bool) where
         | inr k ↦ elim (f.1 q g.0) [ inl e ↦ ap Some (sym e) | inr l ↦ absurd (Before-asymmetric edges p q l k) ]
       ]
 
-  -- where the starts rise, the first start is that at the smallest position
+  -- if the starts ascend, the first start is that at the smallest position
   pub IsLeast-from_first : (starts : List Pair) → Increasing starts → (r : Option (List Pair))
       → IsFirstOfAll edges target [] starts r → IsLeast edges target starts r
   IsLeast-from_first starts rise None f = f

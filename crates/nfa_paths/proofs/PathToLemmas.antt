@@ -20,7 +20,7 @@ EndsWith-last o m [] e = absurd e
 EndsWith-last o m (x ∷ []) e = ap Some e
 EndsWith-last o m (x ∷ (y ∷ p)) e = EndsWith-last (Some x) m (y ∷ p) e
 
--- where targets lead nowhere, a linked list that ends with a target holds no other one
+-- if targets lead nowhere, a linked list that ends with a target contains no other one
 EndsWith-stops : (edges : Pair → List Pair) (target : Pair → Bool) → ((x : Pair) → target x ≡ true → edges x ≡ [])
     → (m : Pair) (p : List Pair) → Linked edges p → EndsWith m p → target m ≡ true → StopsAtTarget target p
 EndsWith-stops edges target stops m [] l e t = absurd e
@@ -76,7 +76,7 @@ module _ (edges : Pair → List Pair) where
 
 -- paths grow
 
--- a pair stands in a list, or not
+-- a pair is in a list, or is not
 pub In-cases : (x : Pair) (p : List Pair) → In x p ⊎ ¬ (In x p)
 In-cases x [] = inr (λ i. i)
 In-cases x (y ∷ p) =
@@ -162,7 +162,7 @@ module _ (edges : Pair → List Pair) (starts : List Pair) where
         let end = StopsAtTarget-ends target p words.3 in
         (end.0, record { start = e; among = i; head = words.0; once = words.1; linked = words.2; ends = end.1 }, end.2)
 
-    -- where a search finds none, no path leads to a target
+    -- if a search finds none, no path leads to a target
     pub IsLeast-none : ((x : Pair) → target x ≡ true → edges x ≡ []) → IsLeast edges target starts None
         → NoPath edges starts (λ m. target m ≡ true)
     IsLeast-none stops none m p w t = none w.start w.among p (PathTo-accepts target stops w t)
@@ -184,7 +184,7 @@ module _ (edges : Pair → List Pair) (starts : List Pair) where
 
   -- one answer of each kind
 
-  -- two lists of which each is the other or comes before it are one
+  -- two lists that are equal to or before each other are equal
   one_of : (p q : List Pair) → (q ≡ p) ⊎ ComesBefore edges p q → (p ≡ q) ⊎ ComesBefore edges q p → p ≡ q
   one_of p q (inl e) k = sym e
   one_of p q (inr h) (inl e) = e
@@ -215,7 +215,7 @@ module _ (edges : Pair → List Pair) (starts : List Pair) where
         let l : k.is_end.end.1 ≡ d = k.is_end.at in
         omega arith
 
-    -- there is one greatest end
+    -- there is only one greatest end
     pub IsGreatestEnd-unique : (e d : ℕ) → IsGreatestEnd edges starts P e → IsGreatestEnd edges starts P d → e ≡ d
     IsGreatestEnd-unique e d h k =
         let a : k.is_end.end.1 ≤ e = h.greatest k.is_end.end k.is_end.along k.is_end.path k.is_end.wanted in
@@ -224,7 +224,7 @@ module _ (edges : Pair → List Pair) (starts : List Pair) where
         let l : k.is_end.end.1 ≡ d = k.is_end.at in
         omega arith
 
-    -- where there is an end there is a path
+    -- if there is an end, there is a path
     IsEnd-some : (e : ℕ) → IsEnd edges starts P e → NoPath edges starts P → ⊥
     IsEnd-some e h none = none h.end h.along h.path h.wanted
 

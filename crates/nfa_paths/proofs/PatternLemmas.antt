@@ -1,4 +1,4 @@
--- What an accepting path tells of its pattern and its slots.
+-- What an accepting path says about its pattern and its slots.
 use Rattle.std.proofs.Common.{◌≡◌, ℕ, zero, suc, ◌+◌, ◌*◌, ◌<◌, ◌≤◌, ◌==◌, inl, inr, List, [], ◌∷◌, ◌++◌, length, map, take, get_or, replicate, refl, ap, sym, ◌∙◌, arith}
 use Rattle.std.specs.Prelude.{Option, Some, None, true, false, Bool, MatchBool, option_and_then, is_some, if◌then◌else◌}
 use Rattle.std.specs.List.{range_with_len}
@@ -56,7 +56,7 @@ below-slot n k (BinaryUnion alt1 alt2) e below = cc
 below-slot n k (Match pattern) e below = cc
 below-slot n k Fail e below = cc
 
--- where nothing is written, what stood there stays
+-- if nothing is written, the value stays
 unwritten : (o : Option ℕ) (i at : ℕ) → ((k : ℕ) → o ≡ Some k → k < i)
     → (if option_map_or (λ k. k == i) o false then Some at else None) ≡ None
 unwritten None i at below = refl

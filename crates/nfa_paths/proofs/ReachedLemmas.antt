@@ -99,7 +99,7 @@ module _ (space : Space) (resting is_match : Pair → Bool) (slots : Slots) (sha
           ],
     )
 
-    -- where every path has ended: all that are reached
+    -- if every path has ended: all that are reached
     pub ReachedBefore-end : {e : ℕ} → EndsBefore space is_match e
         → ReachedBefore space is_match pattern e k ↔ IsReached space.edges space.starts (Passes is_match) pattern k
     ReachedBefore-end ends = (

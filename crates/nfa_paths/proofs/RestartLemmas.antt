@@ -1,5 +1,5 @@
--- A search scans, and while the answer ends inside a character it scans again from one byte further on: what holds at
--- each scan, what the search comes to, and what its callers are told.
+-- A search scans. While the answer ends inside a codepoint, it scans again from one byte further on. These lemmas say
+-- what holds at each scan, what the result of the search is, and what its contract says.
 use Rattle.std.proofs.Common.{◌≡◌, ℕ, zero, suc, ◌+◌, ◌*◌, ◌<◌, ◌≤◌, List, length, replicate, refl, ap, sym, ◌∙◌, arith, subst, below_more}
 use Rattle.std.specs.Prelude.{Option, Some, None, true, false, Bool, MatchBool, IfSome, option_map, option_and_then}
 use Rattle.std.proofs.Math.Nat.{mul-le-mul_left}
@@ -26,12 +26,12 @@ pub slot_row-none : (nfa : Automaton) (count : ℕ) → slot_row nfa count None 
 unfolding slot_row
 slot_row-none nfa count = refl
 
--- a scan from further on takes no more turns
+-- a scan from further on takes at most as many turns
 scan_turns-raised : (nfa : Automaton) (x : Search) (i : ℕ) → scan_turns nfa (raised x i) ≤ scan_turns nfa x
 scan_turns-raised nfa x i =
     let few : span_len (raised x i) + 1 ≤ span_len x + 1 = omega arith in mul-le-mul_left (1 + turn_weight nfa) few
 
--- one scan more, of no more turns than each has
+-- one more scan, with at most as many turns as each
 turns-more : (limit scans turns extra after : ℕ) → turns ≤ scans * limit → extra ≤ limit → after ≤ turns + extra
     → after ≤ (scans + 1) * limit
 turns-more limit scans turns extra after h k l = omega arith
@@ -115,14 +115,14 @@ module _ (nfa : Automaton) (kind : MatchKind) (earliest : Bool) where
         turns_reach = omega arith;
       }
 
-      -- its end is where the path ends
+      -- its end is the end of the path
       whole-found : {half : HalfMatch} {slots : Slots} {last : ℕ} (f : GivesPath nfa kind earliest y half slots last)
           → (IsBoundary x.haystack (half_found_of half).offset → EndsOnBoundary x f.path)
           × (EndsOnBoundary (raised x scans) f.path → IsBoundary x.haystack (half_found_of half).offset)
       whole-found f = let b = ends_on_boundary x f.path f.ends in let r =
           ends_on_boundary (raised x scans) f.path f.ends in (b.1, r.0)
 
-      -- what was found does not split a character, or need not be whole
+      -- what was found does not split a codepoint, or need not be whole
       pub settled-some : (half : HalfMatch) (slots : Slots) (after last total : ℕ)
           → GivesPath nfa kind earliest y half slots last
           → (is_utf8_empty nfa ≡ true → IsBoundary x.haystack (half_found_of half).offset)
@@ -138,7 +138,7 @@ module _ (nfa : Automaton) (kind : MatchKind) (earliest : Bool) where
         turns_reach = omega (arith, f.short);
       }
 
-      -- what was found splits a character
+      -- what was found splits a codepoint
       splits : {half : HalfMatch} {slots : Slots} {last : ℕ} → GivesPath nfa kind earliest y half slots last
           → (IsBoundary x.haystack (half_found_of half).offset → ⊥) → SplitsCharacter nfa kind earliest (raised x scans)
       splits f off = record {
@@ -199,7 +199,7 @@ module _ (nfa : Automaton) (kind : MatchKind) (earliest : Bool) where
           → y.start ≤ y.end
       start-left half found last f = scan_answer-within nfa y kind earliest f.path f.answers
 
-      -- one scan more is no more than the answer takes
+      -- one more scan is at most what the answer takes
       pub scans-within : IsWithinScans nfa kind earliest x (scans + 1)
       scans-within = of scans s.split s.free
         where
@@ -220,7 +220,7 @@ module _ (nfa : Automaton) (kind : MatchKind) (earliest : Bool) where
           of (suc n) split free = let modes = free (omega arith) in
               split-bound nfa kind earliest x modes.0 modes.1 (suc n) split
 
--- From what a search comes to, to what its callers are told.
+-- From the result of a search to what its contract says.
 
 -- the pattern of a path's half match is that of the path
 pub half-pattern : (nfa : Automaton) (path : Option (List Pair))
@@ -258,7 +258,7 @@ module _ (nfa : Automaton) (kind : MatchKind) (earliest : Bool) (x : Search) {sl
       patterns None = refl
       patterns (Some h) = refl
 
-  -- the pattern and the slots, of which the searched ones are a part
+  -- the pattern and the slots, given a part of the slots
   pub answer-of : (half : Option HalfMatch) (pattern : Option ℕ)
       → pattern ≡ option_map (λ h. (half_found_of h).pattern) half
       → SearchGives nfa kind earliest x half slots scans turns

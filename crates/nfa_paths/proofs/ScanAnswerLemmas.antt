@@ -23,7 +23,7 @@ use Rattle.nfa_paths.proofs.ScanLemmas.{EndsBefore-within, IsEarliestPath-found,
 -- the edges
 
 module _ (nfa : Automaton) (x : Search) where
-  -- a byte that is read lies before the end of the span
+  -- a byte that is read is before the end of the span
   byte_at-within : (p b : ℕ) → byte_at x p ≡ Some b → p < x.end
   byte_at-within p b e =
       elim (cases_Bool (nat_lt p x.end)) [
@@ -52,7 +52,7 @@ module _ (nfa : Automaton) (x : Search) where
   stays p [] y i = absurd i
   stays p (t ∷ targets) y i = elim i [ inl e ↦ ap (λ z. z.1) e | inr later ↦ stays p targets y later ]
 
-  -- an edge stays at its position, where the state does not rest, or leads to the next one within the span
+  -- an edge stays at its position, if the state does not rest, or leads to the next one within the span
   pub edges_of-next : (n : Node) (p : ℕ) (y : Pair) → In y (edges_of x n p)
       → ((rests n ≡ false) × (y.1 ≡ p)) ⊎ ((y.1 ≡ p + 1) × (p < x.end))
   unfolding edges_of
@@ -108,7 +108,7 @@ module _ (nfa : Automaton) (x : Search) where
     increasing = starts-increase nfa x;
   }
 
-  -- the starts lie at the span's start or behind it
+  -- the starts are at the span's start or after it
   pub starts-from : (s : Pair) → In s (starts nfa x) → x.start ≤ s.1
   starts-from s = of (start_state nfa x.anchored)
     where
@@ -117,7 +117,7 @@ module _ (nfa : Automaton) (x : Search) where
       of None i = absurd i
       of (Some state) i = pairs_from-ahead state x.start (start_count nfa x) s i
 
-  -- and not behind its end
+  -- and not after its end
   pub starts-within : (s : Pair) → In s (starts nfa x) → s.1 ≤ x.end
   starts-within s i =
       elim (cases_lt x.end x.start) [
@@ -152,7 +152,7 @@ module _ (nfa : Automaton) (x : Search) where
 
 -- the starts that wait
 
--- so it is where the slots are loaded behind each
+-- and so if slots are loaded after each start
 pub Explore-among_seeds : (k : Pair) (slots : Slots) (es : List Pair) → In (Explore k) (seeds slots es) → In k es
 unfolding seeds
 Explore-among_seeds k slots [] i = absurd i
@@ -168,7 +168,7 @@ Explore-among_seeds k slots (e ∷ es) i =
     no_load : (k : Pair) (slots : Slots) → Explore k ≡ Load slots → ⊥
     no_load k slots e = cc
 
--- the starts that wait behind a position
+-- the starts that wait are after the position
 pub seeds-later : (slots : Slots) (state at count : ℕ) (k : Pair)
     → In (Explore k) (seeds slots (pairs_from state (at + 1) count)) → at < k.1
 seeds-later slots state at count k i =
@@ -226,7 +226,7 @@ module _ (nfa : Automaton) (x : Search) (kind : MatchKind) (earliest : Bool) whe
 -- each kind from what the scan knows of its positions
 
 module _ (nfa : Automaton) (x : Search) where
-  -- where no path to a match is left to end, no kind of scan has an answer
+  -- if no path to a match is left to end, no kind of scan has an answer
   pub scan_answer-none : (kind : MatchKind) (earliest : Bool) {e : ℕ} → NoneBefore (space nfa x) (is_match nfa) e
       → EndsBefore (space nfa x) (is_match nfa) e → IsScanAnswer nfa x kind earliest None
   scan_answer-none kind earliest {e} none ends =
@@ -248,7 +248,7 @@ module _ (nfa : Automaton) (x : Search) (slots : Slots) where
       IsFirstPath-found (space nfa x) (is_resting nfa) (is_match nfa) slots
       (Scanned-matches nfa x (is_match nfa) (λ v m. m)) turns g answer
 
-  -- the first front with a match has the earliest path, also where what is behind it was not followed
+  -- the first front with a match has the earliest path, also if the pairs after it were not followed
   pub scan_earliest-cut : {e : ℕ} {Seen : Pair → Type 0} {spent : ℕ} {front : List (Pair × Slots)} {work : List Item}
       {current : Slots} {a : Pair × Slots} → NoneBefore (space nfa x) (is_match nfa) e
       → Scanning (space nfa x) (is_match nfa) slots e Seen spent front work current
@@ -260,7 +260,7 @@ module _ (nfa : Automaton) (x : Search) (slots : Slots) where
       IsEarliestPath-found (space nfa x) (is_resting nfa) (is_match nfa) slots shape none
       (first_match-cut (space nfa x) (is_resting nfa) (is_match nfa) shape s rests is)
 
-  -- and the earliest last path, where all was followed
+  -- and the earliest last path, if all were followed
   pub scan_earliest_last-found : {turns e : ℕ} {front : List (Pair × Slots)} → NoneBefore (space nfa x) (is_match nfa) e
       → IsFront (space nfa x) (is_resting nfa) (is_match nfa) slots turns front e
       → (a : Pair × Slots) → last_match (is_match nfa) None front ≡ Some a

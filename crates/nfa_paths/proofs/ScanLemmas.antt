@@ -120,7 +120,7 @@ module _ (space : Space) (resting is_match : Pair → Bool) (slots : Slots) (sha
       → EndsBefore space is_match e → NoPath space.edges space.starts (Passes is_match)
   NoneBefore-end none ends m p w t = none m p w (record { wanted = t; before = ends m p w t })
 
-  -- where no path ends before e and one ends there, e is the least end
+  -- if no path ends before e and one ends there, e is the least end
   least_end : {e : ℕ} → NoneBefore space is_match e → (m : Pair) (p : List Pair) → PathTo space.edges space.starts m p
       → WantedAt (Passes is_match) e m → IsLeastEnd space.edges space.starts (Passes is_match) e
   least_end {e} none m p w h = record {
@@ -131,7 +131,7 @@ module _ (space : Space) (resting is_match : Pair → Bool) (slots : Slots) (sha
     ];
   }
 
-  -- the first path that ends at e, where none ends before: the earliest
+  -- the first path that ends at e, if none ends before: the earliest
   pub IsEarliestPath-found : {turns e : ℕ} {a : Pair × Slots} → NoneBefore space is_match e
       → IsFoundBy space.capture slots (IsFirstPath space.edges space.starts (WantedAt (Passes is_match) e)) turns
       (Some a)
@@ -236,7 +236,7 @@ module _ (space : Space) (resting is_match : Pair → Bool) (slots : Slots) (sha
         last = λ m q w k. h.last m q (record { wanted = w.wanted.wanted; at = w.at }) k;
       }
 
-  -- where every path has ended: the last path of all
+  -- if every path has ended: the last path of all
   pub LastBefore-end : {turns e : ℕ} {g : Hit} → LastBefore space is_match slots e turns g → EndsBefore space is_match e
       → IsFoundBy space.capture slots (IsLastPath space.edges space.starts (Passes is_match)) turns g
   LastBefore-end {e = e} so_far ends = record {
@@ -271,7 +271,7 @@ module _ (space : Space) (resting is_match : Pair → Bool) (slots : Slots) (sha
 
   -- nothing is left to explore: no path ends later
   module _ (e : ℕ) where
-    -- the match pairs at e or behind it can be told
+    -- it is decidable whether a pair is a match pair at e or after it
     later : (x : Pair) → ((is_match x ≡ true) × (e ≤ x.1)) ⊎ ¬ ((is_match x ≡ true) × (e ≤ x.1))
     later x =
         elim (cases_Bool (is_match x)) [
@@ -291,7 +291,7 @@ module _ (space : Space) (resting is_match : Pair → Bool) (slots : Slots) (sha
     unfolding later_target
     later_is x = test-true (later x)
 
-    -- a match pair at e or behind it is in the set
+    -- a match pair at e or after it is in the set
     is_later : (x : Pair) → (is_match x ≡ true) × (e ≤ x.1) → later_target x ≡ true
     unfolding later_target
     is_later x = true-test (later x)
@@ -307,7 +307,7 @@ module _ (space : Space) (resting is_match : Pair → Bool) (slots : Slots) (sha
               (IsLeast-from_first space.edges later_target space.starts shape.increasing None k.0) m p w (is_later m h)
         ]
 
-    -- where nothing is left to explore, every path has ended
+    -- if nothing is left to explore, every path has ended
     pub EndsBefore-over : {turns : ℕ} → IsOver space is_match slots turns e → EndsBefore space is_match e
     EndsBefore-over over m p w t =
         elim (cases_lt m.1 e) [

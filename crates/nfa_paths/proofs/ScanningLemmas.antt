@@ -45,7 +45,7 @@ module _ (space : Space) (is_match : Pair → Bool) (slots : Slots) where
         comes (λ x h a. let k : x.1 ≤ e = past x h in let l : e < x.1 = a in omega arith) fresh after;
   }
 
-  -- the scan has no more to explore at e: its front is complete
+  -- the scan has nothing left to explore at e: its front is complete
   pub Scanning-front : {resting : Pair → Bool} {e : ℕ} {Seen : Pair → Type 0} {spent : ℕ} {front : List (Pair × Slots)}
       {waiting : List Item} {current : Slots} → Scanning space is_match slots e Seen spent front waiting current
       → ((a : Pair × Slots) → In a front → (resting a.0 ≡ true) × (a.0.1 ≡ e)) → NoRepeats (map (λ a. a.0) front)
@@ -83,7 +83,7 @@ once-keep (b ∷ front) v slots n other = (
       | inr j ↦ elim (in_more front x j) [ inl h ↦ inl (inr h) | inr h ↦ inr h ]
     ]
 
--- The search for any match pair, whose answer is the first path: a match pair in the front drops what stands behind it.
+-- The search for any match pair, whose answer is the first path: a match pair in the front drops what comes after it.
 module _ (space : Space) (target : Pair → Bool) where
   -- a target that was put aside answers, if nothing before it does
   AnswerBehind-cut : (left : ℕ) (before : List (Pair × Slots)) (a : Pair × Slots) (after : List (Pair × Slots))
@@ -99,7 +99,7 @@ module _ (space : Space) (target : Pair → Bool) where
   AnswerBehind-cut left (b ∷ before) a after otherwise m n work current slots g t (inr h) =
       inr (h.0, AnswerBehind-cut left before a after otherwise m n work current slots g t h.1)
 
-  -- what stands behind a target is dropped, and the target becomes the answer otherwise
+  -- what comes after a target is dropped, and the target becomes the answer otherwise
   pub Searching-cut : {goal : Hit → ℕ → Type 0} {Seen : Pair → Type 0} {spent : ℕ} {otherwise : Hit}
       {work : List Item} {slots : Slots}
       (before : List (Pair × Slots)) (a : Pair × Slots) (after : List (Pair × Slots))
@@ -127,8 +127,8 @@ module _ (space : Space) (target : Pair → Bool) where
         (Load old ∷ []) [] slots slots g (λ k. k) h);
   }
 
-  -- The next position of the search that drops what stands behind a match pair: the items before the front's first
-  -- match pair go on.
+  -- The next position of the search that drops what comes after a match pair: the items before the front's first match
+  -- pair go on.
   pub Searching-before_round : {goal : Hit → ℕ → Type 0} {e : ℕ} {Seen After : Pair → Type 0} {spent : ℕ}
       {otherwise : Hit} {waiting : List Item} {slots old : Slots} (front : List (Pair × Slots))
       → Searching space target goal Seen spent (before_match target front) otherwise (Load old ∷ waiting) slots

@@ -39,7 +39,7 @@ module _ (space : Space) (target : Pair → Bool) where
   unfolding ExploresTo
   Answer-load left otherwise marks old rest slots g = (λ h. h, λ h. h)
 
-  -- what the pairs at the head of the work come to
+  -- the result of the pairs at the head of the work
   pub Answer-among : (left : ℕ) (otherwise : Hit) (marks es : List Pair) (rest : List Item)
       (slots : Slots) (g : Hit) → ExploresTo space target left otherwise marks (map Explore es ++ rest) slots g
       → ((p : List Pair) × FirstAmong space.edges target marks es (Some p) × (g ≡ found space.capture p slots)
@@ -158,7 +158,7 @@ module _ (space : Space) (target : Pair → Bool) where
           → ExploresTo space target (suc left) otherwise marks (Explore v ∷ rest) slots g
       Answer-unkept k e past = Answer-step rest slots (rw e (set_past slots k _ past)) (λ a. a)
 
-    -- a pair with no edge is dropped, whatever it writes
+    -- a pair with no edge is dropped, whether it writes or not
     pub Answer-end : ¬ (In v marks) → target v ≡ false → space.edges v ≡ []
         → ExploresTo space target left otherwise (v ∷ marks) rest slots g
         → ExploresTo space target (suc left) otherwise marks (Explore v ∷ rest) slots g
@@ -187,7 +187,7 @@ module _ (space : Space) (target : Pair → Bool) where
         | inr k ↦ inr (IsFirstOfAll-from_among space.edges target [] starts None k.0, k.1)
       ]
 
-  -- the starts with their slots loaded anew are the starts
+  -- the starts, with their slots loaded again, are the starts
   pub Answer-seeds : (left : ℕ) (otherwise : Hit) (marks starts : List Pair) (slots : Slots) (g : Hit)
       → ExploresTo space target left otherwise marks (seeds slots starts) slots g
       → ExploresTo space target left otherwise marks (map Explore starts) slots g
@@ -197,7 +197,7 @@ module _ (space : Space) (target : Pair → Bool) where
   Answer-seeds left otherwise marks (s ∷ starts) slots g (inr h) =
       inr (h.0, Answer-seeds left otherwise marks starts slots g h.1)
 
-  -- behind what was put aside, each step goes on as before
+  -- after a front, each step goes on as before
   pub AnswerBehind-along : (front : List (Pair × Slots)) (left more : ℕ) → left ≤ more
       → (o u : Hit) (m n : List Pair) (work later : List Item) (slots after : Slots) (g : Hit)
       → (ExploresTo space target left o m work slots g → ExploresTo space target more u n later after g)

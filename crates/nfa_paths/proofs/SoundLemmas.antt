@@ -1,4 +1,4 @@
--- What the first wanted pair of a front stands for, also where a search drops what is behind it.
+-- What the first wanted pair of a front stands for, also if a search drops what comes after it.
 use Rattle.std.proofs.Common.{◌≡◌, ℕ, ◌+◌, ◌≤◌, ◌<◌, ◌⊎◌, ◌↔◌, inl, inr, Bool, true, List, [], ◌∷◌, ◌++◌, map, length, refl, sym, ap, ◌∙◌, arith, set}
 use Rattle.std.specs.Prelude.{Option, None, Some, option_map}
 use Rattle.std.specs.List.{last_or}
@@ -56,7 +56,7 @@ module _ (space : Space) (target : Pair → Bool) where
       heads-Answer left marks rest (set slots k old) other h a
   heads-Answer left marks (Load old ∷ rest) slots other h a = heads-Answer left marks rest old other h a
 
-  -- what is behind a part of a front is dropped: nothing is found, or what was found is found with it
+  -- what comes after a part of a front is dropped: nothing is found, or what was found is found with it
   pub AnswerBehind-drop : (left : ℕ) (before after : List (Pair × Slots)) (m n : List Pair) (old : Slots)
       (work : List Item) (slots current : Slots) (g : Hit)
       → ExploresBehind space target left before None m (Load old ∷ []) slots g
@@ -77,7 +77,7 @@ module _ (nfa : Automaton) (x : Search) (old : List Bool) (wants : Pair → Bool
   shape : Scanned (space nfa x) (is_resting nfa) wants
   shape = wanted-shape nfa x old wants tells
 
-  -- what the search for a set finds, where it finds something
+  -- what the search for a set finds, if it finds something
   pub record Reaches (target : Pair → Bool) : Type 0 where
     pub path : List Pair
     pub first : IsFirstTo (edges nfa x) (starts nfa x) (λ v. target v ≡ true) path
@@ -107,7 +107,7 @@ module _ (nfa : Automaton) (x : Search) (old : List Bool) (wants : Pair → Bool
     pub first : IsFirstTo (edges nfa x) (starts nfa x) (WantedAt (Passes wants) e) path
     pub is : first.end ≡ a.0
 
-  -- the first wanted pair of a front is, also where what is behind it was not followed
+  -- the first wanted pair of a front is, also if the pairs after it were not followed
   pub FirstAt-front : {slots : Slots} {e : ℕ} {Seen : Pair → Type 0} {spent : ℕ} {front : List (Pair × Slots)}
       {work : List Item} {current : Slots} → Scanning (space nfa x) wants slots e Seen spent front work current
       → ((b : Pair × Slots) → In b front → (is_resting nfa b.0 ≡ true) × (b.0.1 ≡ e)) → (a : Pair × Slots)
@@ -126,8 +126,8 @@ module _ (nfa : Automaton) (x : Search) (old : List Bool) (wants : Pair → Bool
             is = (same_parts (first.end, apply (capture nfa) p slots) a (sym end ∙ leads)).0;
           }
 
-  -- What some work leads to was reached by the starts, whichever wanted pairs at e or behind it it leads to: so it
-  -- stays where work is dropped.
+  -- What some work leads to was reached from the starts, for any wanted pairs at e or after it. So this still holds if
+  -- work is dropped.
   pub record Sound (e : ℕ) (pairs : List Pair) : Type 0 where
     pub reaches : (target : Pair → Bool) → MatchesFrom wants e target → (left : ℕ) (slots : Slots) (g : Hit)
         → ExploresTo (space nfa x) target left None [] (map Explore pairs) slots g → (g ≡ None) ⊎ Reaches target
@@ -228,7 +228,7 @@ module _ (nfa : Automaton) (x : Search) (old : List Bool) (wants : Pair → Bool
   Sound-round {front = front} {loaded = loaded} {waiting = waiting} sound s rests_at comes =
       Sound-next sound s rests_at front loaded waiting (λ b i. i) comes (λ target marks left g h. inr h)
 
-  -- what is behind the first wanted pair is dropped
+  -- what comes after the first wanted pair is dropped
   pub Sound-cut : {e : ℕ} {pairs : List Pair} {front : List (Pair × Slots)} {work : List Item} {written : Slots}
       (loaded : Slots)
       → Sound e pairs → Searched e pairs front work written

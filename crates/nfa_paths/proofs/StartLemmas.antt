@@ -1,4 +1,4 @@
--- Where the paths of an NFA start, and where its pairs lead.
+-- The starts of the paths of an NFA, and the edges of its pairs.
 use Rattle.std.proofs.Common.{◌≡◌, ℕ, zero, suc, ◌+◌, ◌-◌, ◌≤◌, ◌<◌, inl, inr, true, [], ◌∷◌, refl, ap, arith}
 use Rattle.std.specs.Prelude.{Option, None, Some, is_some}
 use Rattle.std.specs.Option.{option_map_or}
@@ -11,7 +11,7 @@ use Rattle.nfa_paths.specs.FirstPaths.{Increasing}
 use Rattle.nfa_paths.specs.Kinds.{rests, is_resting}
 use Rattle.nfa_paths.specs.Paths.{pattern_of, slot_of, pairs_from, raised, node_at, is_match, capture, start_state, edges_of, edges, start_count, starts}
 
--- the pairs from a position on lie at it or behind it
+-- the pairs from a position on are at it or after it
 pub pairs_from-ahead : (state at count : ℕ) (d : Pair) → In d (pairs_from state at count) → at ≤ d.1
 pairs_from-ahead state at zero d i = absurd i
 pairs_from-ahead state at (suc count) d i =
@@ -28,7 +28,7 @@ pairs_from-increase state at (suc count) = (
   pairs_from-increase state (at + 1) count,
 )
 
--- the pairs up to a position: the first, and those behind it
+-- the pairs up to a position: the first, and those after it
 pub pairs_from-step : (state : ℕ) {at stop : ℕ} → at < stop
     → pairs_from state at (stop - at) ≡ (state, at) ∷ pairs_from state (at + 1) (stop - (at + 1))
 pairs_from-step state {at} {stop} less =

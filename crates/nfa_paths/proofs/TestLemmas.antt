@@ -9,18 +9,18 @@ use Rattle.nfa_paths.specs.Kinds.{Passes}
 abbrev pub Tested : (Pair → Type 0) → Type 0
 Tested P = (x : Pair) → P x ⊎ ¬ (P x)
 
--- whether a property that can be told holds
+-- whether a decidable property holds
 pub test : {A : Type 0} → A ⊎ ¬ A → Bool
 test (inl a) = true
 test (inr n) = false
 
--- where the test succeeds, the property holds
+-- if the test succeeds, the property holds
 pub test-true : {A : Type 0} (d : A ⊎ ¬ A) → test d ≡ true → A
 unfolding test
 test-true (inl a) e = a
 test-true (inr n) e = cc
 
--- where the property holds, the test succeeds
+-- if the property holds, the test succeeds
 pub true-test : {A : Type 0} (d : A ⊎ ¬ A) → A → test d ≡ true
 unfolding test
 true-test (inl a) h = refl
@@ -30,7 +30,7 @@ true-test (inr n) h = absurd (n h)
 pub is_plain : (b : Bool) → b ≡ false → b ≡ true → ⊥
 is_plain b f t = cc
 
--- the pairs at e that pass a test can be told
+-- it is decidable whether a pair is at e and passes a test
 pub tell_at : (wanted : Pair → Bool) (e : ℕ) → Tested (WantedAt (Passes wanted) e)
 tell_at wanted e v =
     elim (cases_Bool (wanted v)) [

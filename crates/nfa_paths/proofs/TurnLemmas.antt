@@ -23,7 +23,7 @@ marked_sum-set (w ∷ ws) (false ∷ marks) zero clear = omega arith
 marked_sum-set (w ∷ ws) (true ∷ marks) (suc k) clear = omega (arith, marked_sum-set ws marks k clear)
 marked_sum-set (w ∷ ws) (false ∷ marks) (suc k) clear = marked_sum-set ws marks k clear
 
--- what is marked weighs no more than all
+-- what is marked weighs at most as much as all
 pub marked_sum-le : (ws : List ℕ) (marks : List Bool) → marked_sum ws marks ≤ sum ws
 unfolding marked_sum
 marked_sum-le [] marks = omega arith

@@ -124,8 +124,8 @@ module _ (nfa : Automaton) (x : Search) (old : List Bool) (wants : Pair → Bool
         };
       }
 
-  -- The set of LeftmostFirst after a match that dropped what is behind it: it holds its pattern, and else only those of
-  -- ends before it.
+  -- The set of LeftmostFirst after a match that dropped what comes after it. It holds the match's pattern, and
+  -- otherwise only patterns of ends before it.
   pub record UpToMatch (e : ℕ) (v : Pair) (new : List Bool) : Type 0 where
     pub capacity : length new ≡ length old
     pub pattern : ℕ
@@ -205,7 +205,7 @@ module _ (nfa : Automaton) (x : Search) (old : List Bool) (wants : Pair → Bool
             }) r
           ]
 
-  -- what the search comes to in the end
+  -- the result of the search in the end
   pub UpTo-end : (e turns : ℕ) (slots : Slots) (g : Hit) (new : List Bool) → size_of_set old ≡ 0 → UpTo e g new
       → ((k : ℕ) → HoldsPattern new k ↔ IsFirstBefore nfa x (length new) k)
       → ExploresTo (space nfa x) wants turns None [] (map Explore (starts nfa x)) slots g

@@ -177,7 +177,7 @@ pub memory-alone : (a : Automaton) (r : Result Automaton BuildError) → IsAutom
     → IsOkUnless r error.Memory
 memory-alone a r is built = rw (IsBuilt-made a r is built) tt
 
--- the states of the rows alone
+-- the states of the rows only
 pub anchored-makes : (d : Draft) → Sound 0 d → IsAutomaton (automaton_in (map node_in d.rows.now) 0 d)
 anchored-makes d is =
     let filled = is.filled in

@@ -1,4 +1,4 @@
--- A name that stands among the names is not none of them, and what two lists of names tell together.
+-- A name in a list is one of its names, and what two lists of names say together.
 use Rattle.std.proofs.Common.{◌≡◌, ℕ, zero, suc, ◌<◌, ◌↔◌, List, [], ◌∷◌, Option, None, Some, Result, Ok, Err, length}
 use Rattle.std.proofs.Common.{◌++◌, slice_index_or, arith, rules}
 use Rattle.std.specs.Prelude.{IsNone, IsSome, IfOk, IfErr}
@@ -11,7 +11,7 @@ among k name [] below is none = absurd (omega arith)
 among zero name (n ∷ names) below is none = none.0 is
 among (suc k) name (n ∷ names) below is none = among k name names (omega arith) is none.1
 
--- where it is, and something is found, none is found exactly of none of the names
+-- if the name is there and something is found, nothing is found exactly if the name is none of the names
 pub found-among : {A E : Type 0} (r : Result (Option A) E) (k : ℕ) (name : List ℕ) (names : List (List ℕ))
     → k < length names → name ≡ slice_index_or names k [] → IfOk r IsSome
     → IfOk r (λ found. IsNone found ↔ IsNoneOf name names)
@@ -53,7 +53,7 @@ pub rest-known : {A E : Type 0} (r : Result (Option A) E) (name : List ℕ) (xs 
 rest-known (Ok found) name xs ys known = search rules
 rest-known (Err e) name xs ys known = λ none. known (none-right name xs ys none)
 
--- behind a list that lacks the name, what tells of the second tells of both
+-- if the first list lacks the name, what holds of the second list holds of both
 pub rest-none : {A E : Type 0} (r : Result (Option A) E) (name : List ℕ) (xs ys : List (List ℕ))
     → IsNoneOf name xs → IfOk r (λ found. IsNone found ↔ IsNoneOf name ys)
     → IfOk r (λ found. IsNone found ↔ IsNoneOf name (xs ++ ys))

@@ -11,7 +11,7 @@ use Rattle.nfa_search_base.specs.Walks.{Answer, Walk, place_of, repeats, after, 
 use Rattle.nfa_search_base.proofs.AskingLemmas.{same_start-self, same_start-then}
 use Rattle.nfa_search_base.proofs.StepLemmas.{same_start-after, same_start-shifted, same_start-after_shifted}
 
--- an end is the last end just where an empty match is there
+-- an end is the last end exactly if an empty match is there
 same_test : (last : Option ℕ) (n a b : ℕ) → IsBehind last n → n ≤ a → a ≤ b
     → ((b == b) && ended_at last b) ≡ ((a == b) && ended_at last b)
 same_test None n a b behind low ordered = grind (arith, nat_tests)
@@ -39,7 +39,7 @@ same_items (Ok (Some m)) rest = refl
 same_items (Ok None) rest = refl
 same_items (Err e) rest = refl
 
--- an answer that is taken leads to an iteration that a searcher may come to
+-- taking an answer leads to an iteration that a searcher may have
 walk_after : (w : Walk) (a : Answer Found) → IsWalk w → IsFoundIn w.at a → IsWalk (after w (place_of span_of a))
 walk_after w (Ok (Some m)) is found = record {
   behind = λ e at. let same : m.end ≡ e = cc in omega arith;
@@ -49,7 +49,7 @@ walk_after w (Ok (Some m)) is found = record {
 walk_after w (Ok None) is found = is
 walk_after w (Err e) is found = is
 
--- so does going one on, where an empty match is in the span
+-- so does moving one byte on, if an empty match is in the span
 walk_shifted : (w : Walk) (a : Answer Found) → IsWalk w → IsFoundIn w.at a → repeats w (place_of span_of a) ≡ true
     → IsWalk (shifted w)
 walk_shifted w (Ok (Some m)) is found again = record {

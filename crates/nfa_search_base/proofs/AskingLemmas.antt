@@ -66,7 +66,7 @@ module _ {S R : Type 0} (accepts : S → Search → Type 0) (asks : S → Search
         → ServesOn accepts asks P f t
     ServesOn-now f s t same serves = serves.at [] f t refl same
 
-    -- where an invariant of the state holds now and after each call, what it gives holds along the calls
+    -- if an invariant of the state holds now and after each call, what it implies holds along the calls
     pub ServesOnAlong-by : (Inv : S → Type 0) (f : S) (s : Search) → Inv f
         → ((q : S) (t : Search) → Same s t → Inv q → accepts q t)
         → ((q : S) (t : Search) (reply : R) (q' : S) → Same s t → Inv q → asks q t reply q' → P t reply × Inv q')
@@ -98,7 +98,7 @@ module _ {S R : Type 0} (accepts : S → Search → Type 0) (asks : S → Search
 module _ {F R : Type 0} (g : Mut F (Bor Input × Unit {0}) R) (Same : Search → Search → Type 0)
     (same-self : (s : Search) → Same s s) (same-then : (s t u : Search) → Same s t → Same t u → Same s u)
     (P : Search → R → Type 0) where
-  -- where an invariant of the finder holds now and after each call, what it gives holds along the calls
+  -- if an invariant of the finder holds now and after each call, what it implies holds along the calls
   pub ServesAlong-by : (Inv : F → Type 0) (f : F) (s : Search) → Inv f
       → ((q : F) (p : Bor Input) → Same s (search_of p.now) → Inv q → g.pre q (p, tt))
       → ((q : F) (p : Bor Input) (reply : R) (q' : F) → Same s (search_of p.now) → Inv q → Called g q (p, tt) reply q'

@@ -62,7 +62,7 @@ goes_on : (x : Caught) → (ends_at (Some x) ≡ true) ⊎ (ends_at (Some x) ≡
 goes_on (Ok d) = inr refl
 goes_on (Err e) = inl refl
 
--- where the finder does not err, the only error is a refusal
+-- if the finder does not fail, the only error is `Memory`
 at_most : {F : Type 0} (c : Catching F) (a : Answer Row) (r : Option Caught) → IsOk a → GivesCaptures c a r
     → IsAtMostMemory r
 at_most c a None ok h = tt
@@ -96,7 +96,7 @@ module _ {F : Type 0} (g : Mut F (Bor Input × (MutBor Captured × Unit {0}))
       of true e m = m.0
       of false e m = cc
 
-  -- where the finder never errs, a step has no error but a refusal
+  -- if the finder never fails, the only error of a step is `Memory`
   pub sure-step : (s t : Steps (Catching F)) (r : Option Caught) → can_step_surely (CanCatch g) (Catches g) row_span s
       → steps s r t → takes_sure_catches g s r t
   sure-step s t r can st = (st, at_done s.done st)
@@ -157,7 +157,7 @@ module _ {F : Type 0} (g : Mut F (Bor Input × (MutBor Captured × Unit {0}))
           (within n q xs t u (moves q.asker (steps_walk s).at (steps_walk q).at x.same e.2) going
           (omega arith) ran.2 over))
 
-      -- whoever runs the iterator to its end has the greedy list, up to a refusal
+      -- an iterator that runs to its end gives the greedy list, up to a failed allocation
       pub catches-list : (s : Steps (Catching F)) → CatchesBy g h s.asker (steps_walk s).at
           → YieldsUpToRefusal R value s (greedy_unless row_span s.done h (steps_walk s))
       unfolding greedy
@@ -173,7 +173,7 @@ module _ {F : Type 0} (g : Mut F (Bor Input × (MutBor Captured × Unit {0}))
           at_done false d xs t u ran over = within (suc (ends_left (steps_walk s))) s xs t u computes d
               (omega arith) ran over
 
--- where an invariant of the finder and its captures holds now and after each call, what it gives holds along the calls
+-- if an invariant of the finder and its captures holds now and after each call, what it implies holds along the calls
 module _ {F : Type 0} (g : Mut F (Bor Input × (MutBor Captured × Unit {0}))
     (Result (Unit {0}) SearchError × (MutBor Captured × Unit {0}))) (P : Search → Answer Row → Type 0) where
   pub CatchesAlong-by : (Inv : F → Captured → Type 0) (c : Catching F) (s : Search) → Inv c.finder c.captures

@@ -59,7 +59,7 @@ module _ (nfa : Automaton) (kind : MatchKind) (earliest : Bool) where
   as_match (Ok None) = Ok None
   as_match (Err e) = Err e
 
-  -- a search that tells a row tells its match
+  -- a search that gives a row gives its match
   pub row-tells : (t : Search) (a : Answer Row) → tells t a → TellsMatch nfa kind earliest t (as_match a)
   row-tells t (Ok (Some row)) h = row-match t row h
   row-tells t (Ok None) h = h
@@ -70,7 +70,7 @@ module _ (nfa : Automaton) (kind : MatchKind) (earliest : Bool) where
   place-as_match (Ok None) = refl
   place-as_match (Err e) = refl
 
-  -- what is told lies in the span
+  -- each of these is in the span
   pub row-lies : (t : Search) (a : Answer Row) → tells t a
       → AnswerIsInside row_span t a × IsOrdered (place_of row_span a)
   row-lies t (Ok (Some row)) h = match-lies nfa kind earliest t (Ok (Some (row_found row))) (row-match t row h)
@@ -91,7 +91,7 @@ module _ (nfa : Automaton) (kind : MatchKind) (earliest : Bool) where
       ap (λ (o : Option ℕ). record { pattern = o; slots = p.slots }) pattern
       ∙ ap (λ (s : List (Option ℕ)). record { pattern = q.pattern; slots = s }) slots
 
-  -- a search tells one row
+  -- a search gives only one row
   pub one-row : (t : Search) (a b : Answer Row) → tells t a → tells t b → a ≡ b
   one-row t (Ok (Some p)) (Ok (Some q)) h k =
       ap (λ (r : Row). let a : Answer Row = Ok (Some r) in a) (rows-same t p q h k)
@@ -107,7 +107,7 @@ module _ (nfa : Automaton) (kind : MatchKind) (earliest : Bool) where
   one-row t (Ok o) (Err e) h k = absurd k
   one-row t (Err e) b h k = absurd h
 
-  -- what captures with all slots hold after a search is what it tells
+  -- after a search, captures with all slots hold the row that the search gives
   pub caught-tells : (t : Search) (c : Captured) → IsAnswer nfa kind earliest t c.pattern c.slots
       → length c.slots ≡ slot_count nfa.groups → tells t (caught_by c (Ok tt))
   caught-tells t c answer count = of (match_of c.pattern c.slots) refl
@@ -186,7 +186,7 @@ module _ (nfa : Automaton) (kind : MatchKind) (earliest : Bool) where
     | inr p ↦ subst (λ (a : Answer Row). tells w.at a) (sym p.1) h.is_first
   ]
 
-  -- where copies were refused, the items are those of the list, up to the refusal
+  -- if copies could not be allocated, the items are those of the list up to that point
   up-to : (w : Walk) (rows : List Row) (items : List (Item Row))
       → ItemsLast row_span tells (Fails row_span tells) w (as_items rows)
       → ItemsLast row_span tells (FailsOrIsRefused row_span tells) w items → UpToRefusal (as_items rows) items

@@ -1,4 +1,4 @@
--- The calls of an iterator that asks an engine for captures give the captures of the engine's NFA.
+-- The calls of an iterator over captures by an engine give the captures of the engine's NFA.
 use Rattle.std.proofs.Common.{◌≡◌, ◌∙◌, ℕ, ◌≤◌, ◌⊎◌, inl, inr, Bool, false, MatchBool, refl, sym, ap, subst}
 use Rattle.std.proofs.Common.{Option, None, Some, Result, Ok, Err, List, [], ◌∷◌, ◌++◌, map, arith}
 use Rattle.std.specs.Prelude.{All, IfOk, IfErr}
@@ -115,7 +115,7 @@ module _ {T R : Type 0} (steps : T → Option R → T → Type 0) (Good : T → 
   runs-hold s good = λ p seen from.
       let ran = p.gave.0 in all-hold p.items s ran.0 good (subst (λ (q : T). Yields steps q p.items ran.0) from ran.1)
 
--- What a search `tells` without an error is its row.
+-- A search that gives an answer without an error gives its row.
 module _ (nfa : Automaton) (kind : MatchKind) (earliest : Bool) (tells : Search → Answer Row → Type 0)
     (row : (t : Search) (o : Option Row) → tells t (Ok o) → TellsRow nfa kind earliest t (Ok o)) where
   abbrev Refuses : Walk → SearchError → Type 0
@@ -169,7 +169,7 @@ module _ (nfa : Automaton) (kind : MatchKind) (earliest : Bool) (tells : Search 
     }
   ]
 
-  -- each lies in the span
+  -- each is in the span
   items-inside : (x : Search) (xs : List Caught) (w : Walk) → x.start ≤ w.at.start → w.at.end ≡ x.end
       → ItemsNext row_span tells Refuses w (map (item_by row_of) xs) → All (λ item. IfOk item (CapturesInside x)) xs
   items-inside x [] w from to h = All-nil (λ item. IfOk item (CapturesInside x))
@@ -192,7 +192,7 @@ module _ (nfa : Automaton) (kind : MatchKind) (earliest : Bool) (tells : Search 
       rw (no-items xs h.1) (All-cons (λ item. IfOk item (CapturesInside x)) (Err r) [] tt
       (All-nil (λ item. IfOk item (CapturesInside x))))
 
-  -- where a search in the span has no error but a refusal of memory, no item has another
+  -- if the only error of a search in the span is `Memory`, it is the only error of an item
   items-memory : (x : Search)
       → ((t : Search) (e : SearchError) → x.start ≤ t.start → t.end ≡ x.end → tells t (Err e) → e ≡ Memory)
       → (xs : List Caught) (w : Walk) → x.start ≤ w.at.start → w.at.end ≡ x.end
@@ -220,7 +220,7 @@ module _ (nfa : Automaton) (kind : MatchKind) (earliest : Bool) (tells : Search 
   error-same : (a b : SearchError) → (let x : Answer Row = Err a in let y : Answer Row = Err b in x ≡ y) → a ≡ b
   error-same a b e = cc
 
-  -- where the search has one error alone, so has its first step
+  -- if the search can only give one error, so can its first step
   only-step : (x : Search) (error : SearchError) → ((a : Answer Row) → tells x a → a ≡ Err error) → (a : Answer Row)
       → IsStep row_span tells (fresh x) a → a ≡ Err error
   only-step x error only a h = of h.first (only h.first h.is_first) h.rest
@@ -230,7 +230,7 @@ module _ (nfa : Automaton) (kind : MatchKind) (earliest : Bool) (tells : Search 
       of (Ok o) is rest = let k : Ok o ≡ Err error = is in cc
       of (Err q) is rest = rest ∙ is
 
-  -- and it alone comes
+  -- and this error is the only item
   pub only-item : (x : Search) (error : SearchError) → ((a : Answer Row) → tells x a → a ≡ Err error)
       → (xs : List Caught)
       → ItemsLast row_span tells Refuses (fresh x) (map (item_by row_of) xs) → xs ≡ Err error ∷ []
@@ -245,8 +245,8 @@ module _ (nfa : Automaton) (kind : MatchKind) (earliest : Bool) (tells : Search 
         let k : Ok (Some refused.1) ≡ Err error = only-step x error only (Ok (Some refused.1)) refused.2 in cc
   ]
 
-  -- The calls of a shell are those of the iterator in it, which asks whoever stays `Good` and answers what a search
-  -- tells.
+  -- The calls of a shell are those of the iterator in it. What answers its searches stays `Good`, and gives the answers
+  -- of a search.
   module _ {E C T : Type 0} (x : Search)
       (asks : With (Catching E) C → Search → Answer Row → With (Catching E) C → Type 0)
       (Good : With (Catching E) C → Type 0)

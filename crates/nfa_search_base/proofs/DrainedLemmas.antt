@@ -1,4 +1,4 @@
--- What an engine's steps over captures give, where they go on until none, or an error, comes.
+-- What an engine's steps over captures give, if they go on until `None` or an error.
 use Rattle.std.proofs.Common.{◌≡◌, ◌∙◌, ◌≤◌, Bool, true, false, MatchBool, refl, Option, None, Some}
 use Rattle.std.proofs.Common.{◌⊎◌, inl, inr, replicate}
 use Rattle.std.proofs.Common.{Result, Ok, Err, List, [], ◌∷◌, ◌++◌, map}
@@ -73,7 +73,7 @@ module _ {E C : Type 0} (nfa : E → Automaton) (Fits : C → E → Type 0) (Tel
       (λ p x a q asked. kept p.asker.finder x a p.cache q.cache asked.work) p r q st)
       s lead.items lead.last lead.item t lead.ran lead.over
 
-  -- What the engine tells of searches like x is `Told`, which without an error is the row of its NFA.
+  -- The engine gives answers as in `Told` on searches like x. Without an error, that is the row of its NFA.
   module _ (e : E) (kind : MatchKind) (earliest : Bool) (Told : Search → Answer Row → Type 0)
       (row : (t : Search) (o : Option Row) → Told t (Ok o) → TellsRow (nfa e) kind earliest t (Ok o)) (x : Search)
       (tells : (t : Search) (a : Answer Row) → SameButStart x t → Tells e t a → Told t a)
@@ -114,7 +114,8 @@ module _ {E C : Type 0} (nfa : E → Automaton) (Fits : C → E → Type 0) (Tel
             let copied = copy-of q.asker.asker h.answer d h.item in
             rw (copied, ← left.1) (left.0.holds)
 
-    -- the items of calls that go on to none are the captures of all matches of x, which lie in it one behind the other
+    -- the items of calls that go on to none are the captures of all matches of x, which are in its span, one after the
+    -- other
     drained : (cs : List Captured) (t : Steps (With (Catching E) C)) → DrainsAll Calls s cs t
         → AreRows (nfa e) kind earliest x (map row_of cs) × AreMatches (nfa e) kind earliest x (map match_in cs)
         × All (HasGroups (nfa e)) cs × All (CapturesInside x) cs × AreApart x None (map match_in cs)
@@ -136,7 +137,7 @@ module _ {E C : Type 0} (nfa : E → Automaton) (Fits : C → E → Type 0) (Tel
           matches-apart (nfa e) kind earliest x (map match_in cs) first,
         )
 
-    -- so they are where a result holds them
+    -- and so if a result holds them
     pub all-drained : {V : Type 0} (r : Result V SearchError) (items : V → List Captured)
         (t : Steps (With (Catching E) C)) → IfOk r (λ v. DrainsAll Calls s (items v) t)
         → IfOk r (λ v. AreRows (nfa e) kind earliest x (map row_of (items v)))
@@ -146,7 +147,7 @@ module _ {E C : Type 0} (nfa : E → Automaton) (Fits : C → E → Type 0) (Tel
     all-drained (Ok v) items t all = drained (items v) t all
     all-drained (Err error) items t all = (tt, tt, tt, tt, tt)
 
-    -- and an error is that of memory, where no search has another
+    -- and an error is that of memory, if no search has another
     pub error-drained : ((t : Search) (error : SearchError) → x.start ≤ t.start → t.end ≡ x.end → Told t (Err error)
         → error ≡ Memory)
         → (error : SearchError) (t : Steps (With (Catching E) C))

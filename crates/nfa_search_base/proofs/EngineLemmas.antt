@@ -1,4 +1,4 @@
--- What the searches of an iteration by an engine leave, what its iterators may ask, and what their calls keep.
+-- What the searches of an iteration by an engine leave, which calls its iterators may make, and what these calls keep.
 use Rattle.std.proofs.Common.{◌≡◌, ◌∙◌, ℕ, Bool, true, false, Option, None, Some, Result, Ok, Err, refl, sym, ap, subst}
 use Rattle.std.proofs.Common.{◌⊎◌, inl, inr, List, MatchBool}
 use Rattle.std.specs.Prelude.{IfErr, IfOk, IsTrue, is_some}
@@ -93,7 +93,7 @@ pub find-answered : (nfa : Automaton) (kind : MatchKind) (earliest : Bool) (t : 
 find-answered nfa kind earliest t (Some m) h = h
 find-answered nfa kind earliest t None h = h
 
--- it lies in the span, and is no error
+-- it is in the span, and is not an error
 pub find-lies : (nfa : Automaton) (kind : MatchKind) (earliest : Bool) (t : Search) (a : Answer Found)
     → TellsMatch nfa kind earliest t a → IsSurelyInside span_of t a
 find-lies nfa kind earliest t (Ok found) h = ((match-lies nfa kind earliest t (Ok found) h).0, refl)
@@ -137,7 +137,7 @@ module _ {E : Type 0} (Sure : E → Search → Found → Type 0) where
   known-like e x t known same knows = λ m is. subst (λ (y : Search). Sure e y (found_of m))
       (like-is x t m.span.end same) (knows m is)
 
-  -- the match that is known answers, where it is some
+  -- the match that is known answers, if there is one
   pub known-answer : (e : E) (t : Search) (known kept : Option Match) (Tells : Answer Found → Type 0)
       → ((m : Found) → Sure e t m → Tells (Ok (Some m))) → IsKnownFrom Sure e t known
       → ForSome kept (λ m. (known ≡ Some m) × (m.span.end ≡ t.start)) → IsTrue (is_some kept)
@@ -148,7 +148,7 @@ module _ {E : Type 0} (Sure : E → Search → Found → Type 0) where
       let here : record t { start = m.span.end } ≡ t = ap (λ (n : ℕ). record t { start = n }) k.1 in
       tells (found_of m) (subst (λ (y : Search). Sure e y (found_of m)) here (knows m k.0))
 
-  -- a match that ends where its search starts is known of the searches from there
+  -- a match that ends at the start of its search is known for the searches from there
   pub known-kept : (e : E) (t : Search) (kept : Option Match)
       → ForSome kept (λ m. Sure e t (found_of m) × (m.span.end ≡ t.start)) → IsKnownFrom Sure e t kept
   known-kept e t kept ends = λ m is.
@@ -217,7 +217,7 @@ module _ {E : Type 0} (Sure : E → Search → Found → Type 0) where
                   on.knows;
             }
 
-    -- the engine answers what its searches tell, and stays the one that it is
+    -- the engine gives the answers of its searches, and stays the same
     pub finder-acts : (e : E) (s : With A C) (t : Search) (a : Answer Found) (s' : With A C)
         → (shown s.asker).engine ≡ e → Asks s t a s' → Tells e t a × ((shown s'.asker).engine ≡ e)
     finder-acts e s t a s' is asked = (subst (λ (b : E). Tells b t a) is asked.finds, asked.engine ∙ is)
@@ -262,7 +262,7 @@ module _ {E C : Type 0} (nfa : E → Automaton) (Fits : C → E → Type 0) (Tel
       step-keeps row_span AsksRow (λ q. GivesCaptures q.asker) (λ (p q : With (Catching E) C). MayRow p → MayRow q)
       (λ q may. may) (λ p q u f g may. g (f may)) (λ p x a q asked may. may_row-after p x a q may asked) s r t st
 
-  -- the engine answers what its searches tell, and stays the one that it is
+  -- the engine gives the answers of its searches, and stays the same
   pub catcher-acts : (e : E) (s : With (Catching E) C) (t : Search) (a : Answer Row) (s' : With (Catching E) C)
       → s.asker.finder ≡ e → AsksRow s t a s' → Tells e t a × (s'.asker.finder ≡ e)
   catcher-acts e s t a s' is asked = (subst (λ (b : E). Tells b t a) is asked.tells, asked.engine ∙ is)
@@ -302,7 +302,7 @@ module _ {E C : Type 0} (nfa : E → Automaton) (Fits : C → E → Type 0) (Tel
             (subst (λ (b : E). HasGroups (nfa b) (inner t).asker.asker.captures) there (holds t))
         of (Err q) step = tt
 
-    -- What the engine tells of searches like x is `Told`, which without an error is the row of its NFA.
+    -- The engine gives answers as in `Told` on searches like x. Without an error, that is the row of its NFA.
     module _ (e : E) (kind : MatchKind) (earliest : Bool) (Told : Search → Answer Row → Type 0)
         (row : (t : Search) (o : Option Row) → Told t (Ok o) → TellsRow (nfa e) kind earliest t (Ok o)) (x : Search)
         (tells : (t : Search) (a : Answer Row) → SameButStart x t → Tells e t a → Told t a) where

@@ -1,4 +1,4 @@
--- whoever takes the steps of a search that is a function gets its greedy list
+-- the steps of a search that is a function give its greedy list
 use Rattle.std.proofs.Common.{◌≡◌, ℕ, zero, suc, ◌+◌, ◌<◌, true, false, Bool, Option, None, Some, Ok, Err, List, [], refl, sym, ◌∙◌, ap, subst, ◌⊎◌, inl, inr, MatchBool, if◌then◌else◌, arith}
 use Rattle.std.specs.Option.{option_map}
 use Rattle.std.specs.Iterator.{AlwaysYields}
@@ -78,7 +78,7 @@ module _ {X : Type 0} (span : X → Span) where
           moves s' w.at w'.at turn.same e.2,
         )
 
-  -- an iterator in a state of which Good holds takes the turns of h
+  -- an iterator in a `Good` state takes the steps of h
   module _ {T R : Type 0} (steps : T → Option R → T → Type 0) (value : R → Item X) (walk : T → Walk) (done : T → Bool)
       (h : Search → Answer X) (Good : T → Type 0)
       (turns : (s : T) (r : Option R) (t : T) → Good s → steps s r t
@@ -95,7 +95,7 @@ module _ {X : Type 0} (span : X → Span) where
     ended : (s : T) → Good s → done s ≡ true → AlwaysYields steps value s []
     ended s good d = λ x j st. let e : Some x ≡ None = none-at s (Some x) j good d st in cc
 
-    -- what the answer of a step gives first, where the items after a match are `rest`
+    -- what the answer of a step gives first, if the items after a match are `rest`
     by_answer : (a : Answer X) (s : T) (rest : List (Item X))
         → ((r : Option R) (t : T) → steps s r t → (option_map value r ≡ item_of a) × (done t ≡ ends_with a) × Good t)
         → ((y : X) (x : R) (t : T) → a ≡ Ok (Some y) → steps s (Some x) t → AlwaysYields steps value t rest)
@@ -114,7 +114,7 @@ module _ {X : Type 0} (span : X → Span) where
           (l, ended j (now (Some x) j st).2 (now (Some x) j st).1)),
     )
 
-    -- n steps are enough where fewer ends than n are left
+    -- n steps are enough if fewer than n ends are left
     within : (n : ℕ) (s : T) → Good s → done s ≡ false → ends_left (walk s) < n
         → AlwaysYields steps value s (items_within span h n (walk s))
     within zero s good d lt = absurd (omega arith)

@@ -29,7 +29,7 @@ use Rattle.nfa_search_base.proofs.MatchRunLemmas.{yields-inner}
 use Rattle.nfa_search_base.proofs.RunLemmas.{Says, item-says}
 use Rattle.nfa_search_base.proofs.StepLemmas.{chosen}
 
--- What is asked is `seen` as a K, and stays `Good`; an item says what its answer is.
+-- `seen` is the state as a K, and stays `Good`. An item says what its answer is.
 module _ {S X Y K : Type 0} (span : X → Span) (asks : S → Search → Answer X → S → Type 0)
     (gives : S → Answer X → Option (Result Y SearchError) → Type 0) (view : Y → X)
     (says : (s : S) (a : Answer X) (r : Option (Result Y SearchError)) → gives s a r → Says view a (λ e. Unit {0}) r)
@@ -139,7 +139,7 @@ module _ {S X Y K : Type 0} (span : X → Span) (asks : S → Search → Answer 
             (only (steps_walk s) one.answer (seen s.asker) (seen q.asker) (steps_walk q) k.0),
       )
 
-  -- and what they leave where they go on to none
+  -- and what they leave if they go on to none
   pub all-leave : (ys : List Y) (s t u : Steps S) → s.done ≡ false → Good s.asker
       → Yields steps s (map (λ y. Ok y) ys) t → steps t None u
       → Leads (steps_walk s) (seen s.asker) (answers_to_end (map view ys)) (seen u.asker)
@@ -182,7 +182,7 @@ pub same-items : {R : Type 0} (xs : List R) → map (λ (i : R). i) xs ≡ xs
 same-items [] = refl
 same-items {R} (x ∷ xs) = ap (λ (l : List R). x ∷ l) (same-items xs)
 
--- the calls of a shell led where those of the iterator in it do
+-- the calls of a shell led to the same state as those of the iterator in it
 pub calls-lead : {T U Y : Type 0} (outer : T → Option (Result Y SearchError) → T → Type 0)
     (steps : U → Option (Result Y SearchError) → U → Type 0) (inner : T → U)
     → ((s : T) (r : Option (Result Y SearchError)) (t : T) → outer s r t → steps (inner s) r (inner t))
@@ -258,7 +258,7 @@ module _ {E A C : Type 0} (Sure : E → Search → Found → Type 0) (shown : A 
           left = record { answers = k.0 ∷ k.1; steps = k.2 };
         }
 
-    -- and past all matches where they go on to none
+    -- and past all matches if they go on to none
     pub finds-to_end : (xs : List R) (ms : List Match) (t u : T) → map item xs ≡ map (λ m. Ok m) ms
         → Yields calls s xs t → calls t None u
         → FindsLeaveAtEnd (Tells e) (Work e) x (map found_of ms) (inner s).cache.now (inner u).cache.now
@@ -318,7 +318,7 @@ module _ {E C : Type 0} (nfa : E → Automaton) (Tells : E → Search → Answer
         (λ q. q.asker.finder ≡ e) looks-row lead.items s lead.last t lead.item going engine lead.ran lead.over in
         record { answers = k.0 ∷ k.1; steps = rw walk at k.2 }
 
-    -- and past all matches where they go on to none
+    -- and past all matches if they go on to none
     pub catches-to_end : (cs : List Captured) (t : Steps (With (Catching E) C)) → DrainsAll Calls s cs t
         → LeavesAtEnd row_span LooksRow x (map row_of cs) s.asker.cache t.asker.cache
     catches-to_end cs t all =
@@ -326,7 +326,7 @@ module _ {E C : Type 0} (nfa : E → Automaton) (Tells : E → Search → Answer
         (λ q. q.asker.finder ≡ e) looks-row cs s all.last t going engine all.ran all.over in
         record { steps = rw walk at k }
 
-    -- so where a result holds them
+    -- and so if a result holds them
     pub all-to_end : {V : Type 0} (r : Result V SearchError) (items : V → List Captured)
         (t : Steps (With (Catching E) C)) → IfOk r (λ v. DrainsAll Calls s (items v) t)
         → IfOk r (λ v. LeavesAtEnd row_span LooksRow x (map row_of (items v)) s.asker.cache t.asker.cache)

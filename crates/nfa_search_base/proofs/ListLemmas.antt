@@ -1,6 +1,6 @@
--- The list of an iteration's items: there is one at most, and one where each search has an answer; its matches are
--- apart,
--- lie in the span, and are at most one more than the span has bytes. And so the list of the matches of an NFA.
+-- The list of an iteration's items. There is at most one, and exactly one if each search has an answer. Its matches do
+-- not overlap, are in the span, and are at most one more than the span has bytes. The same for the list of the matches
+-- of an NFA.
 use Rattle.std.proofs.Common.{◌≡◌, ◌∙◌, ℕ, zero, suc, ◌+◌, ◌-◌, ◌≤◌, ◌<◌, inl, inr, Bool, true, false}
 use Rattle.std.proofs.Common.{if◌then◌else◌, MatchBool}
 use Rattle.std.proofs.Common.{Option, None, Some, Ok, Err, List, [], ◌∷◌, ◌++◌, map, length, refl, sym, ap, subst}
@@ -41,7 +41,7 @@ match-same x y e = cc
 error-same : {X : Type 0} (e q : SearchError) → (let a : Answer X = Err e in let b : Answer X = Err q in a ≡ b) → e ≡ q
 error-same e q is = cc
 
--- the last end is not behind the start: before the first match, and after a match
+-- the last end is not after the start: before the first match, and after a match
 behind-none : (n : ℕ) → IsBehind None n
 behind-none n = λ e is. let never : None ≡ Some e = is in cc
 
@@ -56,14 +56,14 @@ module _ {X : Type 0} (span : X → Span) (tells : Search → Answer X → Type 
   abbrev Step : Walk → Answer X → Type 0
   Step = IsStep span tells
 
-  -- the items of steps alone
+  -- the items, by steps only
   abbrev Next : Walk → List (Item X) → Type 0
   Next = ItemsNext span tells (Fails span tells)
 
   abbrev Last : Walk → List (Item X) → Type 0
   Last = ItemsLast span tells (Fails span tells)
 
-  -- where a search tells one answer at most
+  -- if a search gives at most one answer
   module _ (one : (t : Search) (a b : Answer X) → tells t a → tells t b → a ≡ b) where
     -- a step has one answer at most
     pub step-unique : (w : Walk) (a b : Answer X) → Step w a → Step w b → a ≡ b
@@ -123,7 +123,7 @@ module _ {X : Type 0} (span : X → Span) (tells : Search → Answer X → Type 
   last-next ends w (Ok x ∷ items) h = (h.0, last-next ends (past w x) items h.1)
   last-next ends w (Err e ∷ items) h = h
 
-  -- where what a search tells lies in its span
+  -- if the answer of a search is in its span
   module _ (lies : (t : Search) (a : Answer X) → tells t a
       → AnswerIsInside span t a × IsOrdered (place_of span a)) where
     abbrev asks : Unit {0} → Search → Answer X → Unit {0} → Type 0
@@ -146,7 +146,7 @@ module _ {X : Type 0} (span : X → Span) (tells : Search → Answer X → Type 
         of u true k = (k, refl)
         of u false k = (k, refl, refl)
 
-    -- the match of a step lies in the span of its search
+    -- the match of a step is in the span of its search
     pub step-lies : (w : Walk) (x : X) → Step w (Ok (Some x))
         → (w.at.start ≤ (span x).start) × ((span x).start ≤ (span x).end) × ((span x).end ≤ w.at.end)
     step-lies w x h = elim (chosen (repeats w (place_of span h.first)) h.rest) [
@@ -158,7 +158,7 @@ module _ {X : Type 0} (span : X → Span) (tells : Search → Answer X → Type 
           (k.0.0, k.1 (span x) refl, k.0.1)
     ]
 
-    -- it comes behind the last end
+    -- it comes after the last end
     pub step-behind : (w : Walk) (x : X) → IsBehind w.last w.at.start → Step w (Ok (Some x))
         → ForSome w.last (λ e. (e ≤ (span x).start) × (e < (span x).end))
     step-behind w x behind h =
@@ -170,7 +170,7 @@ module _ {X : Type 0} (span : X → Span) (tells : Search → Answer X → Type 
     step-fewer w x behind h =
         Advances-fewer span asks (λ s t a s' k. lies t a k) tt w (Ok (Some x)) tt (past w x) behind (advances w x h)
 
-    -- so the matches lie in the span of any search that began before, in order and apart
+    -- so the matches are in the span of any search that began before, in order and without overlap
     pub spans-apart : (ends : Walk → SearchError → Type 0) (x : Search) (w : Walk) (items : List (Item X))
         → x.start ≤ w.at.start → w.at.end ≡ x.end → IsBehind w.last w.at.start → ItemsNext span tells ends w items
         → AreSpansApart x w.last (map span (matches_in items))
@@ -194,7 +194,7 @@ module _ {X : Type 0} (span : X → Span) (tells : Search → Answer X → Type 
         omega (arith, fewer, rest)
     next-few ends w (Err e ∷ items) behind h = rw h.1 (omega arith)
 
-    -- Where h gives what a search tells, the greedy walk by h gives the list.
+    -- If h gives the answers of a search, the greedy walk by h gives the list.
     module _ (h : Search → Answer X) where
       abbrev Gives : Search → Type 0
       Gives x = (t : Search) → SameButStart x t → tells t (h t)
@@ -251,7 +251,7 @@ module _ {X : Type 0} (span : X → Span) (tells : Search → Answer X → Type 
               built n w (h w.at) _ step
               (λ x is. (ap (λ (a : Answer X). after w (place_of span a)) is, onward rec (h w.at) step x is))
 
-      -- so there is a list where each search has an answer
+      -- so there is a list if each search has an answer
       pub items-greedy : (x : Search) → Gives x → Last (fresh x) (greedy span h (fresh x))
       unfolding greedy
       items-greedy x gives = come-greedy (suc (ends_left (fresh x))) (fresh x) (omega arith) (behind-none x.start) gives
@@ -276,7 +276,7 @@ as_items-rest {X} (x ∷ xs) (y ∷ ys) more e =
     let rest = as_items-rest xs ys more tail in
     (rest.0, ap (λ (z : X). z ∷ ys) same ∙ ap (λ (l : List X). x ∷ l) rest.1)
 
--- Matches that a search tells lie in its span, and so the matches of an iteration are apart.
+-- The matches of a search are in its span, so the matches of an iteration do not overlap.
 module _ (tells : Search → Answer Found → Type 0)
     (lies : (t : Search) (a : Answer Found) → tells t a → AnswerIsInside span_of t a × IsOrdered (place_of span_of a))
     (ends : Walk → SearchError → Type 0) where
@@ -291,7 +291,7 @@ module _ (tells : Search → Answer Found → Type 0)
         come-apart x (after w (Some (span_of m))) items (omega (arith, k.0, k.1)) to (behind-after m.end) h.1,
       )
 
-  -- the matches among the first items of a search are apart, in order, and lie in its span
+  -- the matches among the first items of a search are in its span, in order and without overlap
   pub items-apart : (x : Search) (items : List (Item Found)) → ItemsNext span_of tells ends (fresh x) items
       → AreApart x None (matches_in items)
   items-apart x items h = come-apart x (fresh x) items (omega arith) refl (behind-none x.start) h
@@ -300,14 +300,14 @@ module _ (nfa : Automaton) (kind : MatchKind) (earliest : Bool) where
   abbrev tells : Search → Answer Found → Type 0
   tells = TellsMatch nfa kind earliest
 
-  -- a search tells one match
+  -- a search gives one match
   one-answer : (t : Search) (a b : Answer Found) → tells t a → tells t b → a ≡ b
   one-answer t (Ok p) (Ok q) h k =
       ap (λ (o : Option Found). let a : Answer Found = Ok o in a) (match-unique nfa kind earliest t p q h k)
   one-answer t (Ok p) (Err e) h k = absurd k
   one-answer t (Err e) b h k = absurd h
 
-  -- which lies in its span
+  -- which is in its span
   pub match-lies : (t : Search) (a : Answer Found) → tells t a
       → AnswerIsInside span_of t a × IsOrdered (place_of span_of a)
   match-lies t (Ok (Some m)) h =
@@ -371,7 +371,7 @@ module _ (nfa : Automaton) (kind : MatchKind) (earliest : Bool) where
       → AreFirstMatches nfa kind earliest x xs
   matches-first x xs h = record { come = last-next span_of tells (Fails span_of tells) (fresh x) (as_items xs) h.come }
 
-  -- the first matches of a search are apart, in order, and lie in its span
+  -- the first matches of a search are in its span, in order and without overlap
   pub matches-apart : (x : Search) (ms : List Found) → AreFirstMatches nfa kind earliest x ms → AreApart x None ms
   matches-apart x ms h =
       subst (λ (l : List Found). AreApart x None l) (matches_in-as_items ms)

@@ -1,4 +1,4 @@
--- The calls of an iterator that asks an engine for matches give the matches of the engine's NFA.
+-- The calls of an iterator over matches by an engine give the matches of the engine's NFA.
 use Rattle.std.proofs.Common.{◌≡◌, ◌∙◌, ℕ, false, ap, arith}
 use Rattle.std.proofs.Common.{Option, None, Some, Result, List, [], ◌∷◌, ◌++◌, map, length, length-append}
 use Rattle.std.specs.Prelude.{All}
@@ -51,7 +51,7 @@ module _ (nfa : Automaton) (kind : MatchKind) (x : Search) where
       → IsStep span_of tells w a → Says found_of a (Fails span_of tells w) r
   says w s a r gives step = item-says found_of (λ b. IsStep span_of tells w b) a r gives step
 
-  -- Whoever is asked stays `Good`, and on searches like x answers their matches; a shell's calls are those of the
+  -- What answers the searches stays `Good`, and gives the matches of searches like x. A shell's calls are those of the
   -- iterator in it.
   module _ {S T : Type 0} (asks : S → Search → Answer Found → S → Type 0) (Good : S → Type 0)
       (acts : (s : S) (t : Search) (a : Answer Found) (s' : S) → SameButStart x t → Good s → asks s t a s'

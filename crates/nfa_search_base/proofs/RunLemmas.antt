@@ -1,4 +1,4 @@
--- The calls of an iterator that keeps what it asks give the items of its list.
+-- The calls of an iterator that keeps its finder or engine give the items of its list.
 use Rattle.std.proofs.Common.{◌≡◌, ◌∙◌, ◌⊎◌, inl, inr, Bool, true, false, MatchBool, refl, sym, ap, subst}
 use Rattle.std.proofs.Common.{Option, None, Some, Result, Ok, Err, List, [], ◌∷◌, ◌++◌, map}
 use Rattle.std.specs.Iterator.{Yields}
@@ -50,7 +50,7 @@ module _ {T R : Type 0} (steps : T → Option R → T → Type 0) where
         → Keeps s u
     calls-keep s xs t r u ran st = then s t u (run-keeps s xs t ran) (step t r u st)
 
--- What an item says of the answer of its step, where an error `ends` it.
+-- What an item says about the answer of its step, if an error `ends` it.
 module _ {X Y : Type 0} (view : Y → X) (a : Answer X) (ends : SearchError → Type 0) where
   abbrev pub Says : Option (Result Y SearchError) → Type 0
   Says None = a ≡ Ok None
@@ -74,7 +74,8 @@ item-says {X} view step (Err q) (Some (Err e)) gives is =
     let same : (let a : Answer X = Err q in let b : Answer X = Err e in a ≡ b) = cc in
     subst (λ (b : Answer X). step b) same is
 
--- Whoever is asked stays `Good`, and on searches like x answers what a search tells; an item says what its answer is.
+-- What answers the searches stays `Good`, and on searches like x gives an answer of a search. An item says what its
+-- answer is.
 module _ {S X Y : Type 0} (span : X → Span) (asks : S → Search → Answer X → S → Type 0)
     (gives : S → Answer X → Option (Result Y SearchError) → Type 0) (view : Y → X) (tells : Search → Answer X → Type 0)
     (ends : Walk → SearchError → Type 0) (x : Search) (Good : S → Type 0)
@@ -92,7 +93,7 @@ module _ {S X Y : Type 0} (span : X → Span) (asks : S → Search → Answer X 
     like : SameButStart x w.at
     good : Good s.asker
 
-  -- a step of the iteration tells its answer, and where a match leads
+  -- a step of the iteration gives its answer, and the state after a match
   advance : (w : Walk) (s : S) (a : Answer X) (s' : S) (w' : Walk) → SameButStart x w.at → Good s
       → Advances span asks s w a s' w'
       → IsStep span tells w a × Good s' × ((w' ≡ after w (place_of span a))
@@ -111,7 +112,7 @@ module _ {S X Y : Type 0} (span : X → Span) (asks : S → Search → Answer X 
         )
       ]
 
-  -- what comes of a call
+  -- the result of a call
   abbrev Leads : Walk → Option (Result Y SearchError) → Steps S → Type 0
   Leads w None t = IsStep span tells w (Ok None)
   Leads w (Some (Ok y)) t = IsStep span tells w (Ok (Some (view y))) × IsAt (after w (Some (span (view y)))) t
@@ -128,7 +129,7 @@ module _ {S X Y : Type 0} (span : X → Span) (asks : S → Search → Answer X 
       of true e h = cc
       of false e h = rw at.walk at h
 
-  -- a call leads where its item says
+  -- a call leads to the state that its item says
   leads : (w : Walk) (s : Steps S) (r : Option (Result Y SearchError)) (t : Steps S) → IsAt w s → steps s r t
       → Leads w r t
   leads w s r t at st =
@@ -155,7 +156,7 @@ module _ {S X Y : Type 0} (span : X → Span) (asks : S → Search → Answer X 
       )
       of (Some (Err e)) a step good moved done is = (is, done)
 
-  -- nothing comes of an iterator that has ended
+  -- an iterator that has ended gives nothing
   ended : (s t : Steps S) (xs : List (Result Y SearchError)) → s.done ≡ true → Yields steps s xs t → xs ≡ []
   ended s t [] d h = refl
   ended s t (y ∷ ys) d h = of s.done d h.1
@@ -215,7 +216,7 @@ module _ {S X Y : Type 0} (span : X → Span) (asks : S → Search → Answer X 
         → ItemsLast span tells ends (fresh x) (items xs)
     gives-all = all-from (fresh x) s walk going (same_start-self x) good
 
-    -- the same where only matches are handed on
+    -- the same for an iterator that gives only matches
     abbrev sure_steps : Steps S → Option Y → Steps S → Type 0
     sure_steps = takes_sure_steps span asks gives
 

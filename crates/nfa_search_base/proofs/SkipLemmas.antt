@@ -16,7 +16,7 @@ use Rattle.nfa_search_base.specs.Skipping.{LeadsTo, Reaches, ServesSkips, SkipsT
 
 module _ {T F : Type 0} (g : Mut F (Bor Input × Unit {0}) (Placed T))
     (haystack : List ℕ) (moved : ℕ → Option Search) where
-  -- one call more, after an answer that splits a character
+  -- one more call, after an answer that splits a codepoint
   Reaches-more : (n : ℕ) (r : Placed T) (f : F) (answers : List (Placed T)) (last : Placed T) (left : F)
       (a : Placed T) (f' : F)
       → IsInCharacter haystack last → Answers g left (moved (n + length answers + 1)) a f'
@@ -32,7 +32,7 @@ module _ {T F : Type 0} (g : Mut F (Bor Input × Unit {0}) (Placed T))
       let rest = Reaches-more (n + 1) b reaches.1.0 answers last left a f' split here reaches.1.2 in
       (reaches.0, (reaches.1.0, reaches.1.1, rest))
 
-  -- an answer that splits no character ends it
+  -- an answer that splits no codepoint ends it
   Reaches-whole : (n : ℕ) (r : Placed T) (f : F) (answers : List (Placed T)) (last : Placed T) (left : F)
       → IsWholeReply haystack last
       → Reaches g haystack moved n r f answers last left → LeadsTo g haystack moved n r f answers last left
@@ -43,7 +43,7 @@ module _ {T F : Type 0} (g : Mut F (Bor Input × Unit {0}) (Placed T))
       (reaches.0, (reaches.1.0, reaches.1.1, rest))
 
   module _ (Same : Search → Search → Type 0) (same-self : (s : Search) → Same s s) where
-    -- the skipping that began at the search s has come to the search t, its answer r and the finder f
+    -- the skipping that began at the search s is now at the search t, its answer r and the finder f
     pub record HasCome (s : Search) (r0 : Placed T) (f0 : F) (t : Search) (r : Placed T) (f : F) : Type 0 where
       pub same : Same s t
       pub serves : ServesSkips g haystack moved r0 f0
@@ -80,13 +80,13 @@ module _ {T F : Type 0} (g : Mut F (Bor Input × Unit {0}) (Placed T))
 
       module _ (u : Search) (up : (n : ℕ) → moved n ≡ Some t → moved (n + 1) ≡ Some u)
           (split : IsInCharacter haystack r) where
-        -- where an answer splits a character, the next call may be made
+        -- if an answer splits a codepoint, the next call may be made
         pub HasCome-callable : (p : Bor Input) → search_of p.now ≡ u → g.pre f (p, tt)
         HasCome-callable =
             (come.serves.at come.answers r f u come.reached split (up (length come.answers) come.at)).callable
 
         module _ (a : Placed T) (f' : F) (asked : Asks g f u a f') where
-          -- its answer lies in the span
+          -- its answer is in the span
           pub HasCome-placed : IsPlacedIn u a
           HasCome-placed =
               let next = come.serves.at come.answers r f u come.reached split (up (length come.answers) come.at) in
@@ -112,7 +112,7 @@ module _ {T F : Type 0} (g : Mut F (Bor Input × Unit {0}) (Placed T))
             gives = gives;
           }
 
-      -- where nothing is left to search, the answer is none
+      -- if nothing is left to search, the answer is none
       pub HasCome-none : (result : Result (Option T) SearchError) → ((n : ℕ) → moved n ≡ Some t → moved (n + 1) ≡ None)
           → IsInCharacter haystack r → result ≡ Ok None → SkipsTo g haystack moved r0 f0 result f
       HasCome-none result out split gives = record {
@@ -123,7 +123,7 @@ module _ {T F : Type 0} (g : Mut F (Bor Input × Unit {0}) (Placed T))
         gives = gives;
       }
 
-      -- an answer that splits no character is the result
+      -- an answer that splits no codepoint is the result
       pub HasCome-end : (result : Result (Option T) SearchError) → IsWholeReply haystack r → result ≡ value_of r
           → SkipsTo g haystack moved r0 f0 result f
       HasCome-end result whole gives = record {
@@ -136,7 +136,7 @@ module _ {T F : Type 0} (g : Mut F (Bor Input × Unit {0}) (Placed T))
 module _ {T F : Type 0} (g : Mut F (Bor Input × Unit {0}) (Placed T))
     (haystack : List ℕ) (moved : ℕ → Option Search) (Same : Search → Search → Type 0) (s : Search)
     (like : (n : ℕ) (u : Search) → moved n ≡ Some u → Same s u) where
-  -- after none, which splits no character, there is no call
+  -- after none, which splits no codepoint, there is no call
   none-ends : (n : ℕ) (r : Placed T) (f : F) (answers : List (Placed T)) (last : Placed T) (left : F) → r ≡ Ok None
       → Reaches g haystack moved n r f answers last left → IsInCharacter haystack last → ⊥
   none-ends n r f [] last left is reaches split =
@@ -161,7 +161,7 @@ module _ {T F : Type 0} (g : Mut F (Bor Input × Unit {0}) (Placed T))
           absurd (none-ends (n + 1) a reaches.1.0 answers last left answered.0 reaches.1.2 split)
       of (Some u) same answered rest = ((u, a) ∷ rest.0, (reaches.1.0, (same u refl, answered), rest.1))
 
-  -- a finder that may be called on each search like s may be called where a call is made
+  -- a finder that may be called on each search like s may be called for each call that is made
   pub ServesSkips-along : (r : Placed T) (f : F) → ServesAlong g Same IsPlacedIn f s
       → ServesSkips g haystack moved r f
   ServesSkips-along r f serves = record {
@@ -187,7 +187,7 @@ same_start-up s t u up same =
 pub start_raised-start : (s : Search) → start_raised s 0 ≡ Some s
 start_raised-start s = rw add-zero refl
 
--- where a number is at most another, the test says so
+-- if a number is at most another, the test says so
 le_true : (n m : ℕ) → n ≤ m → nat_le n m ≡ true
 le_true n m h = le-leb n m h
 

@@ -1,4 +1,4 @@
--- Where all slots lie in a span, so does each span that they give.
+-- If all slots are in a span, so is each span that they give.
 use Rattle.std.proofs.Common.{ℕ, ◌+◌, ◌*◌, ◌≤◌, inl, inr, List, Option, None, Some, arith, sym, subst}
 use Rattle.std.specs.Prelude.{All, IfSome, cond, nat_le, option_and_then, option_map}
 use Rattle.std.specs.List.{slice_get}

@@ -80,7 +80,7 @@ module _ {S X : Type 0} (accepts : S → Search → Type 0) (asks : S → Search
           | inr p ↦ subst (λ (q : S). Along q w.at) (sym p.1.1) once
         ]
 
-    -- and from where the iteration then stands
+    -- and from the state of the iteration then
     pub Along-turn : (f : S) (w : Walk) (r : Answer X) (f' : S) (w' : Walk) → Advances span asks f w r f' w'
         → SameButStart w.at w'.at → Along f w.at → Along f' w'.at
     Along-turn f w r f' w' step same h = Along-same f' w.at w'.at same (Along-step f w r f' w' step h)
@@ -106,7 +106,7 @@ module _ {S X : Type 0} (accepts : S → Search → Type 0) (asks : S → Search
   Along-weaker P Q f s weaker h = ServesOnAlong-weaker accepts asks SameButStart same_start-self same_start-then
       P Q f s weaker h
 
-  -- so may what is asked of a step
+  -- and so for the calls of a step
   pub ServesTurn-surely : (f : S) (w : Walk) → ServesTurn accepts asks span (IsSurelyInside span) f w
       → ServesTurn accepts asks span (AnswerIsInside span) f w
   ServesTurn-surely f w h = record {
@@ -116,7 +116,7 @@ module _ {S X : Type 0} (accepts : S → Search → Type 0) (asks : S → Search
         record { callable = now.callable; replies = λ a' f'' asked'. (now.replies a' f'' asked').0 };
   }
 
-  -- where no call errs, a step has no error
+  -- if no call fails, a step does not fail
   pub step-surely : (f : S) (w : Walk) (r : Answer X) (f' : S) (w' : Walk)
       → ServesTurn accepts asks span (IsSurelyInside span) f w → Advances span asks f w r f' w' → IsOk r
   step-surely f w r f' w' h step = elim (chosen (repeats w (place_of span step.answer)) step.rest) [
@@ -124,12 +124,12 @@ module _ {S X : Type 0} (accepts : S → Search → Type 0) (asks : S → Search
     | inr p ↦ subst (λ (b : Answer X). IsOk b) (sym p.1.0) (h.first.replies step.answer step.between step.first).1
   ]
 
--- what lies in a span that starts one on lies in this one
+-- what is in a span that starts one byte further on is in this one
 lies-before : (w : Walk) (place : Option Span) → LiesIn (shifted w).at place → LiesIn w.at place
 lies-before w (Some p) inside = (omega (arith, inside.0), inside.1)
 lies-before w None inside = tt
 
--- What is asked for a step of the iteration w, from the state s.
+-- The calls of a step of the iteration w, from the state s.
 module _ {S X : Type 0} (accepts : S → Search → Type 0) (asks : S → Search → Answer X → S → Type 0) (span : X → Span)
     (s : S) (w : Walk)
     (serves : ServesTurn accepts asks span (AnswerIsInside span) s w) (behind : IsBehind w.last w.at.start) where
@@ -208,7 +208,7 @@ module _ {A X F : Type 0} (view : A → X) (g : Mut F (Bor Input × Unit {0}) (R
   AnswersAlong-always f s may says = AnswersAlong-by (λ (q : F). Unit {0}) f s tt (λ q p same u. may q p same)
       (λ q p reply q' same u called. (says q p reply q' same called, tt))
 
--- A step of any searcher whose answers lie in the span, as an engine over a cache.
+-- A step of any searcher whose answers are in the span, by an engine with a cache.
 module _ {X S : Type 0} (span : X → Span) (asks : S → Search → Answer X → S → Type 0)
     (good : (s : S) (t : Search) (a : Answer X) (s' : S) → asks s t a s' → AnswerIsInside span t a
     × IsOrdered (place_of span a))
@@ -243,14 +243,14 @@ module _ {X S : Type 0} (span : X → Span) (asks : S → Search → Answer X �
         subst (λ (v : Walk). LeavesFewer w (place_of span r) v) (sym p.1.2) there
   ]
 
-  -- and moves the search's start alone
+  -- and moves only the search's start
   pub Advances-same : SameButStart w.at w'.at
   Advances-same = elim (chosen (repeats w (place_of span step.answer)) step.rest) [
     | inl p ↦ subst (λ (v : Walk). SameButStart w.at v.at) (sym p.1.1) (same_start-after_shifted w (place_of span r))
     | inr p ↦ subst (λ (v : Walk). SameButStart w.at v.at) (sym p.1.2) (same_start-after w (place_of span r))
   ]
 
--- Where all that answers is lent, a step is one by what is lent.
+-- If the whole state is borrowed, a step is one of what is borrowed.
 module _ {S C X : Type 0} (accepts : C → Search → Type 0) (asks : C → Search → Answer X → C → Type 0)
     (span : X → Span) where
   pub serves-lent : (P : Search → Answer X → Type 0) (s : With S C) (w : Walk)

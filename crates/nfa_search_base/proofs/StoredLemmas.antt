@@ -1,4 +1,4 @@
--- the iterators that keep what they ask
+-- the iterators that keep their finder or engine
 use Rattle.std.proofs.Common.{◌≡◌, ◌+◌, ◌<◌, true, false, Bool, Option, None, Some, Result, Ok, Err, IsOk, OnSome, MatchBool, List, [], ◌∷◌, refl, sym, ◌∙◌, ap, subst, arith}
 use Rattle.std.specs.Option.{option_map, IfSome, IfNone}
 use Rattle.std.specs.Iterator.{AlwaysYields, MakesProgress, IsFinite, size}
@@ -89,7 +89,7 @@ module _ {S X Y : Type 0} (accepts : S → Search → Type 0) (asks : S → Sear
       rests_on None = tt
       rests_on (Some y) = tt
 
-  -- also where the iterator may have ended
+  -- also if the iterator may have ended
   pub takes-progress : can s → takes_steps span asks gives s r t → MakesProgress can steps_left s r t
   takes-progress may st = at_done s.done refl st
     where
@@ -164,7 +164,7 @@ module _ {S X Y : Type 0} (accepts : S → Search → Type 0) (asks : S → Sear
           (λ (q : Steps S). Good q.asker (steps_walk q).at) turns s computes;
     }
 
-  -- where no call errs, the matches stay in the span
+  -- if no call fails, the matches stay in the span
   pub surely-inside : (s : Steps S) → can_step_surely accepts asks span s → can_step accepts asks span s
   surely-inside s h =
       Along-weaker accepts asks span (IsSurelyInside span) (AnswerIsInside span) s.asker (steps_walk s).at
@@ -222,7 +222,7 @@ module _ {S X Y : Type 0} (accepts : S → Search → Type 0) (asks : S → Sear
   sure-none s t r is = subst (λ (q : Option Y). MakesProgress (can_step_surely accepts asks span) sure_left s q t)
       (sym is) (record { on = λ f. tt; keeps = tt; rests = λ f. tt })
 
-  -- where no step is, any list is given
+  -- if there is no step, any list is given
   no_steps : (zs : List X) (s : Steps S) → ((j : Steps S) → ¬ (sure_steps s None j))
       → ((x : Y) (j : Steps S) → ¬ (sure_steps s (Some x) j)) → AlwaysYields sure_steps view s zs
   no_steps [] s none some = some

@@ -38,7 +38,7 @@ use Rattle.nfa_search_base.proofs.WalkLemmas.{IsOrdered}
 use Rattle.nfa_search_base.proofs.RunLemmas.{first-from, all-from, runs-give, yields-more}
 use Rattle.nfa_search_base.proofs.ToldLemmas.{step-told}
 
--- a match of captures starts not behind its end
+-- a match of captures starts at or before its end
 match-ordered : (pattern : Option ℕ) (slots : List (Option ℕ)) (m : Found) → match_of pattern slots ≡ Some m
     → m.start ≤ m.end
 match-ordered None slots m is = cc
@@ -151,7 +151,7 @@ module _ {F : Type 0} (g : Mut F (Bor Input × (MutBor Captured × Unit {0}))
       (AreAllCaught (May s) (steps_walk s)) s
       (λ xs t ran. sure-caught_first s going xs t ran) (λ xs t u ran st. sure-caught_all s going xs t u ran st)
 
-  -- Their matches lie in the spans that the finder is asked for.
+  -- Their matches are in the spans of the finder's searches.
   may-lies : (P : Search → Answer Row → Type 0) → ((t : Search) (a : Answer Row) → P t a → AnswerIsInside row_span t a)
       → (c : Catching F) (x : Search) → CatchesAlong g P c x
       → (t : Search) (a : Answer Row) → MayAnswerRow g c x t a
@@ -175,7 +175,7 @@ module _ {F : Type 0} (g : Mut F (Bor Input × (MutBor Captured × Unit {0}))
       (FailsOrIsRefused row_span (May s)) (steps_walk s).at (steps_walk s) (map (item_by row_of) p.items)
       (omega arith) refl s.searcher.behind (sure-caught_run s going p seen from).0.come
 
--- Where an answer that is told one way is told another way, so are the captures.
+-- If each answer of `under` is one of `tells`, the captures are the same.
 module _ (under tells : Search → Answer Row → Type 0)
     (so : (t : Search) (a : Answer Row) → under t a → tells t a) where
   ends-told : (w : Walk) (e : SearchError) → FailsOrIsRefused row_span under w e → FailsOrIsRefused row_span tells w e
@@ -194,7 +194,7 @@ module _ (under tells : Search → Answer Row → Type 0)
       → AreAllCaught tells w items
   all-told w items h = record { come = last-told w (map (item_by row_of) items) h.come }
 
--- What `collect` makes of such an iterator, whose finder tells this whatever captures it is lent: all captures.
+-- The result of `collect` on such an iterator, if its finder answers this with any captures: all captures.
 pub told_caught : {F Z E : Type 0} {g : Mut F (Bor Input × (MutBor Captured × Unit {0}))
     (Result (Unit {0}) SearchError × (MutBor Captured × Unit {0}))} {c : Catching F} {w : Walk} {s : Steps (Catching F)}
     (tells : Search → Answer Row → Type 0) (v : Walk) (r : Result (Vec (Result Captured SearchError) Z) E)

@@ -1,4 +1,4 @@
--- What a stored finder may answer, its iterator gives; and so what it tells.
+-- What a stored finder may answer, its iterator gives, and so it gives the answers of a search.
 use Rattle.std.proofs.Common.{◌≡◌, ◌∙◌, true, false, Bool, MatchBool, List, [], ◌∷◌, ◌++◌, map, refl, sym, subst, ap, arith, ◌≤◌}
 use Rattle.std.proofs.Common.{Option, None, Some, Result, Ok, Err, IfOk}
 use Rattle.std.specs.Fn.{Mut}
@@ -32,7 +32,7 @@ use Rattle.nfa_search_base.proofs.RunLemmas.{first-from, all-from, item-says, ru
 some-span : {p q : Span} → Some p ≡ Some q → p ≡ q
 some-span e = cc
 
--- Where an answer that is told one way is told another way, so are the items.
+-- If each answer of `under` is one of `tells`, the items are the same.
 module _ {X : Type 0} (span : X → Span) (under tells : Search → Answer X → Type 0)
     (so : (t : Search) (a : Answer X) → under t a → tells t a) where
   pub step-told : (w : Walk) (a : Answer X) → IsStep span under w a → IsStep span tells w a
@@ -143,7 +143,7 @@ module _ {A X F : Type 0} (view : A → X) (span : X → Span)
   sure-spans [] = refl
   sure-spans (m ∷ ms) = ap (λ (l : List Span). span (view m) ∷ l) (sure-spans ms)
 
-  -- Its matches lie in the spans that it is asked for.
+  -- Its matches are in the spans of its searches.
   module _ (ordered : (m : A) → (span (view m)).start ≤ (span (view m)).end) where
     view-ordered : (reply : Result (Option A) SearchError) (a : Answer X) → a ≡ answer_by view reply
         → IsOrdered (place_of span a)
@@ -180,7 +180,7 @@ module _ {A X F : Type 0} (view : A → X) (span : X → Span)
         (Fails span (May s)) (steps_walk s).at (steps_walk s) (map (item_by view) (map (λ m. Ok m) p.items))
         (omega arith) refl s.searcher.behind (sure-run s going p seen from).0.come)
 
-  -- Where each call leaves the finder as it was, what it tells of one search it may answer along them all.
+  -- If each call leaves the finder as it was, what it answers on one search it may answer along all calls.
   kept : (f : F) (x : Search) (tells : Search → Answer X → Type 0)
       → ((t : Search) (a : Answer X) (f' : F) → Finds view g f t a f' → (f' ≡ f) × tells t a)
       → (calls : List (Search × Answer X)) (q q' : F) → q ≡ f
@@ -207,7 +207,7 @@ collected_all steps Whole s (Ok all) ran gives =
     subst Whole (sym ran.2.0) (gives ran.0 ran.1.0 end.0 ran.1.1 end.1)
 collected_all steps Whole s (Err e) ran gives = tt
 
--- What `collect` makes of such an iterator: all items, as the finder tells them.
+-- The result of `collect` on such an iterator: all items, as the finder answers.
 pub told_collected : {A X F Z E : Type 0} {view : A → X} {span : X → Span}
     {g : Mut F (Bor Input × Unit {0}) (Result (Option A) SearchError)} {f : F} {w : Walk} {s : Steps F}
     (tells : Search → Answer X → Type 0) (v : Walk) (r : Result (Vec (Result A SearchError) Z) E)

@@ -46,7 +46,7 @@ ComesAfter-second w (Some p) behind lies ordered = λ e is.
     let in_order : p.start ≤ p.end = ordered p refl in
     (omega (arith, lies.0), omega (arith, lies.0))
 
--- and where none is, the ends are not more
+-- and without a match, no more ends are left
 pub LeavesFewer-second : (w : Walk) (place : Option Span) → LiesIn (shifted w).at place → IsOrdered place
     → ComesAfter w place → LeavesFewer w place (after (shifted w) place)
 LeavesFewer-second w None lies ordered comes = by_last w.last

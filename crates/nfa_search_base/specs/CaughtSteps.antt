@@ -1,4 +1,4 @@
--- the steps of an iterator over captures whose finder never errs
+-- the steps of an iterator over captures whose finder never fails
 use Rattle.std.specs.Prelude.{Option, Result}
 use Rattle.std.specs.Fn.{Mut}
 use Rattle.std.specs.Borrow.{Bor, MutBor}

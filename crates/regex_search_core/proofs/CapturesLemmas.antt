@@ -19,7 +19,7 @@ get-spans_from c i (suc n) (suc k) h =
     rw (← same) (get-spans_from c (i + 1) n k (omega arith))
 
 module _ (c : Captured) (p : ℕ) (is : c.pattern ≡ Some p) (known : p < length c.groups) where
-  -- where the groups of the pattern lie
+  -- the slots of the groups of the pattern
   slot_at-first : slot_at c.groups p 0 ≡ Some (2 * p)
   slot_at-first = grind (arith, tests)
 

@@ -1,4 +1,4 @@
--- texts of one character
+-- strings of one character
 use Rattle.std.specs.Prelude.{◌≡◌, ℕ, zero, suc, ◌<◌, List, [], ◌∷◌, ◌++◌, length, slice_index, Bool, true, false, Some, None, chars, encode_utf8}
 use Rattle.std.specs.Str.{IsUtf8, is_utf8, encode_utf8_all}
 use Rattle.std.proofs.Common.{refl, ap, ◌∙◌, arith}
@@ -15,7 +15,7 @@ encodes_first (x ∷ xs) c rest e =
     let same = encode_same x c (encode_utf8_all xs) rest e in
     (xs, ap (λ y. y ∷ xs) same.0, same.1)
 
--- no bytes hold no character
+-- an empty list of bytes holds no character
 pub only_none : (bs : List ℕ) → length bs ≡ 0 → only (chars bs) ≡ None
 only_none [] e = rw chars-nil refl
 only_none (b ∷ bs) e = absurd (omega arith)
@@ -40,12 +40,12 @@ only_more bs rest more c d text e f =
     let second = encodes_first first.0 d more (first.2 ∙ f) in
     rw (first.1, second.1) refl
 
--- bytes that are a text
+-- bytes that are a string
 pub char_of_text : (bs : List ℕ) → IsUtf8 bs → char_of bs ≡ only (chars bs)
 unfolding char_of
 char_of_text bs text = rw (is_utf8-from_IsUtf8 bs text) refl
 
--- bytes that are none
+-- bytes that are not
 pub char_of_ill_formed : (bs : List ℕ) → ¬ IsUtf8 bs → char_of bs ≡ None
 unfolding char_of
 char_of_ill_formed bs bad = by_test (is_utf8 bs) refl
@@ -54,7 +54,7 @@ char_of_ill_formed bs bad = by_test (is_utf8 bs) refl
     by_test true e = absurd (bad (IsUtf8-from_is_utf8 bs e))
     by_test false e = rw e refl
 
--- a byte of ASCII is the UTF-8 of the character of that number
+-- an ASCII byte is the UTF-8 of the character of its number
 pub char_of_ascii : (bs : List ℕ) → length bs ≡ 1 → slice_index bs 0 < 128 → char_of bs ≡ Some (slice_index bs 0)
 char_of_ascii [] e h = absurd (omega arith)
 char_of_ascii (b ∷ []) e h =
@@ -69,5 +69,5 @@ char_of_ascii (b ∷ c ∷ bs) e h = absurd (omega arith)
 -- the character whose UTF-8 some bytes are
 pub ruleset chars_of = (char_of_ascii, char_of_text, char_of_ill_formed)
 
--- the character of a text of one character
+-- the character of a string of one character
 pub ruleset only_chars = (only_none, only_one, only_more)

@@ -1,4 +1,4 @@
--- What the three tables tell of a name, one after the other, is what the list of all names tells.
+-- What the three tables say about a name, one after the other, is what the list of all names says.
 use Rattle.std.proofs.Common.{◌++◌, rules}
 use Rattle.nfa_samples.specs.Names.{word_names, empty_names, table_names}
 use Rattle.nfa_samples.proofs.NameLemmas.{first-known, rest-known, rest-none}

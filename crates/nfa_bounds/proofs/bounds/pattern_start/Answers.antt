@@ -1,4 +1,4 @@
--- A search for the pattern alone starts there.
+-- A search for this pattern only starts there.
 use Rattle.nfa_bounds.proofs.SearchLemmas.{IsStart-pattern}
 use Rattle.nfa_bounds.proofs.bounds.pattern_start.Goals as goal
 

@@ -1,4 +1,4 @@
--- What `no_gap` asks holds of each search.
+-- The requirement of `no_gap` holds for each search.
 use Rattle.std.proofs.Common.{refl}
 use Rattle.std.specs.Prelude.{None}
 use Rattle.nfa_engines.proofs.GapLemmas.{none-is_no_path, none-starts_before}

@@ -1,4 +1,4 @@
--- A search of ends is asked again, up to one byte less each time, until the answer counts.
+-- A search of ends is repeated, with its end one byte less each time, until the answer counts.
 use Rattle.std.proofs.Common.{rules, arith, refl, ◌≡◌, Some, None, Ok, Err, ◌-◌}
 use Rattle.regex_search_core.specs.Search.{search_of}
 use Rattle.nfa_search_base.specs.Asking.{SameButEnd, Asks}

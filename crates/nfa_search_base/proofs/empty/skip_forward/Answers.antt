@@ -1,4 +1,4 @@
--- A search is asked again, from one byte further on each time, until the answer counts.
+-- A search is repeated, from one byte further on each time, until the answer counts.
 use Rattle.std.proofs.Common.{rules, refl, ◌≡◌, Some, None, Ok, Err, ◌+◌}
 use Rattle.regex_search_core.specs.Search.{search_of}
 use Rattle.nfa_search_base.specs.Asking.{SameButStart, Asks}

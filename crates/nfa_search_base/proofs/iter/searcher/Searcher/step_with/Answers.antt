@@ -1,4 +1,4 @@
--- A step asks once, and a second time where the first answer repeats the last match.
+-- A step searches once, and a second time if the first answer repeats the last match.
 use Rattle.std.proofs.Common.{rules, ◌≡◌, ◌∙◌, true, false, ap}
 use Rattle.nfa_search_base.specs.Searchers.{walk_of}
 use Rattle.nfa_search_base.specs.Walks.{Walk, after}

@@ -1,4 +1,4 @@
--- A step by what is lent is one by the finder.
+-- A step by the borrowed finder is one by the finder.
 use Rattle.regex_search_core.specs.Found.{found_of}
 use Rattle.nfa_search_base.specs.Asking.{IsCallableOn}
 use Rattle.nfa_search_base.specs.Finders.{Finds}
