@@ -1,4 +1,5 @@
--- What the searches of an iteration over captures by a backtracker answer, and what its iterator may ask and gives.
+-- The answers of searches in an iteration over captures by a backtracker, and when its iterator may search and what it
+-- gives.
 use Rattle.std.proofs.Common.{◌≡◌, ◌∙◌, ◌≤◌, false, List, None, Option, Result, Ok, Err, sym, ap, length, map}
 use Rattle.std.proofs.Common.{◌↔◌, ◌⊎◌, inl, inr}
 use Rattle.std.specs.Prelude.{All, IfErr, IfOk, IsErrOf, OnErr, OnOk}
@@ -79,12 +80,12 @@ pub work-caught : (e : Backtracker) (x : Search) (c : Captured) (r : Result (Uni
 work-caught e x c (Ok u) new work within = work
 work-caught e x c (Err error) new work within = within
 
--- what is answered lies in the span
+-- an answer is inside the span
 catch-lies : (e : Backtracker) (t : Search) (a : Answer Row) → IsCatchOf e t a → AnswerIsInside row_span t a
 catch-lies e t (Ok o) h = (row-lies e.nfa LeftmostFirst false t (Ok o) h.1).0
 catch-lies e t (Err error) h = tt
 
--- steps may search wherever they stand
+-- steps may search in every state
 pub steps-serve : (s : Steps (With (Catching Backtracker) Work)) → MayCatchByBacktracker s.asker
     → can_step (λ q x. MayCatchByBacktracker q) AsksBacktrackerRow row_span s
 steps-serve s may =
@@ -105,7 +106,7 @@ step-may s r t st =
     catcher-goes (λ e. e.nfa) fits_always IsCatchOf (λ e x a. SearchesOnce e x a) (λ e x a old new work fits. tt)
     (lent_state (backtracker_catches s)) r t st (record { fits = tt; holds = s.holds })
 
--- where the span is not too long, a search from one of its positions on has no error but that of memory
+-- if the span is not too long, the only error of a search from one of its positions on is `Memory`
 memory-alone : (e : Backtracker) (x : Search) → ¬ (IsTooLong e x) → (t : Search) (error : SearchError)
     → x.start ≤ t.start → t.end ≡ x.end → IsCatchOf e t (Err error) → error ≡ Memory
 memory-alone e x fits t error from to h = elim h [
@@ -144,7 +145,7 @@ module _ (e : Backtracker) (x : Search) (s : TryCapturesMatches)
         | inr memory ↦ absurd (memory.0 long)
       ]
 
-  -- they change the cache by their searches alone
+  -- they change the cache only by their searches
   pub catches-searches : CatchesBySearches e x s
   catches-searches = record {
     on = λ xs t r u ran st.
@@ -159,12 +160,12 @@ module _ (e : Backtracker) (x : Search) (s : TryCapturesMatches)
 module _ (e : Backtracker) (x : Search) (s : Steps (With (Catching Backtracker) Work))
     (may : MayCatchByBacktracker s.asker) (engine : s.asker.asker.finder ≡ e) (walk : steps_walk s ≡ fresh x)
     (going : s.done ≡ false) where
-  -- the cache changes by the searches of its steps alone
+  -- the cache changes only by the searches of its steps
   pub caught-on : (t : Steps (With (Catching Backtracker) Work)) → CallsLead BacktrackerSteps s t
       → BacktrackerCatchesOn e x s.asker.cache t.asker.cache
   caught-on = catches-leave (λ e. e.nfa) IsCatchOf (λ b y a. SearchesOnce b y a) e x s engine walk going
 
-  -- to their end, where all captures come
+  -- to their end, if all captures are returned
   pub caught-to_end : {V : Type 0} (r : Result V SearchError) (items : V → List Captured)
       (t : Steps (With (Catching Backtracker) Work)) → IfOk r (λ v. DrainsAll BacktrackerSteps s (items v) t)
       → IfOk r (λ v. BacktrackerCatchesToEnd e x (map row_of (items v)) s.asker.cache t.asker.cache)
@@ -181,7 +182,7 @@ module _ (e : Backtracker) (x : Search) (s : Steps (With (Catching Backtracker) 
       all-drained (λ e. e.nfa) fits_always IsCatchOf (λ e x a. SearchesOnce e x a) (λ e x a old new work fits. tt) e
       LeftmostFirst false (IsCatchOf e) (λ t o h. h.1) x (λ t a same h. h) s may engine walk going
 
-  -- and err by memory alone where the span is not too long
+  -- and the only error is `Memory` if the span is not too long
   pub caught-by_length : {V : Type 0} (r : Result V SearchError) (t : Steps (With (Catching Backtracker) Work))
       → ¬ (IsTooLong e x)
       → IfErr r (λ error. (error ≡ Memory) ⊎ DrainsToError BacktrackerSteps s error t) → AnswersByLength e x r

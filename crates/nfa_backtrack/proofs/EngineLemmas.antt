@@ -1,4 +1,4 @@
--- From what a search comes to, to what its callers are told.
+-- From the results of a search to the answers that its callers get.
 use Rattle.std.proofs.Common.{◌≡◌, ℕ, [], ◌∷◌, arith, length, refl, ap, ◌∙◌}
 use Rattle.std.specs.Prelude.{Option, Some, None, Result, Ok, Err, false, option_map, ◌<◌, replicate, All, IfOk, IfSome}
 use Rattle.std.specs.Prelude.{◌≤◌, IfNone}

@@ -1,4 +1,4 @@
--- What the searches of an iteration by a backtracker answer, and what its iterator may ask.
+-- The answers of searches in an iteration by a backtracker, and when its iterator may search.
 use Rattle.std.proofs.Common.{◌≡◌, ◌∙◌, ◌+◌, ◌*◌, ◌≤◌, false, Option, None, Some, Result, Ok, Err, arith, length}
 use Rattle.std.proofs.Common.{List, ◌∷◌, MatchBool, ap, subst, sym}
 use Rattle.std.specs.Option.{option_map}
@@ -35,7 +35,7 @@ use Rattle.nfa_backtrack.specs.Finding.{Counts, DoesWork, IsFindOf, IsSureAt, Se
 use Rattle.nfa_backtrack.specs.declared.find_iter.Finder.{Finder}
 use Rattle.nfa_backtrack.specs.declared.find_iter.TryFindMatches.{TryFindMatches}
 
--- a span is not too long where one that begins before it is not
+-- a span is not too long if one that starts before it is not
 pub still-fits : (e : Backtracker) (x y : Search) → y.end ≡ x.end → x.start ≤ y.start → ¬ (IsTooLong e x)
     → ¬ (IsTooLong e y)
 still-fits e x y end on fits long =
@@ -66,13 +66,13 @@ work-by e x (Ok (Some m)) new work within = work
 work-by e x (Ok None) new work within = work
 work-by e x (Err error) new work within = within
 
--- a match that is found lies in the span
+-- a match that is found is inside the span
 pub find-lies : (e : Backtracker) (t : Search) (a : Answer Found) → IsFindOf e t a
     → AnswerIsInside span_of t a × IsOrdered (place_of span_of a)
 find-lies e t (Ok found) h = match-lies e.nfa LeftmostFirst false t (Ok found) h.1
 find-lies e t (Err error) h = (tt, λ p is. let never : None ≡ Some p = is in cc)
 
--- the iterator may search wherever it stands
+-- the iterator may search in every state
 pub find-serves : (s : TryFindMatches)
     → can_step MayFindByBacktracker AsksBacktracker span_of (lent_state (backtracker_finds s))
 find-serves s =
@@ -90,7 +90,7 @@ step-goes s r t st =
     (λ e x a old new work fits. tt) (λ _. GivesItem found_of) (lent_state (backtracker_finds s)) r t st
     (record { fits = tt; knows = s.knows })
 
--- the backtracker answers what its searches tell, and stays the one that it is
+-- the backtracker gives the answers of its searches, and does not change
 pub back-acts : (e : Backtracker) (x : Search) (s : With Finder Work) (t : Search) (a : Answer Found)
     (s' : With Finder Work) → SameButStart x t
     → s.asker.engine.now ≡ e → AsksBacktracker s t a s' → IsFindOf e t a × (s'.asker.engine.now ≡ e)
@@ -140,7 +140,7 @@ module _ (e : Backtracker) (x : Search) (s : TryFindMatches) (engine : s.steps.a
   step-is p r q st = subst (λ (o : Option (Result Match SearchError)). TakesLentStep span_of AsksBacktracker
       (λ _. GivesItem found_of) (backtracker_finds p) o (backtracker_finds q)) (sym (same-item r)) st.takes
 
-  -- the calls change the cache by their searches alone
+  -- the calls change the cache only by their searches
   pub finds-searches : FindsBySearches e x s
   finds-searches = record {
     keeps = λ xs t r u ran st. record {

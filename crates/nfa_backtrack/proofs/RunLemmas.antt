@@ -105,7 +105,7 @@ module _ (e : Backtracker) where
     matches-last ms (after w (Some (span_of (found_of m)))) h.1,
   )
 
-  -- each lies in the span
+  -- each is inside the span
   items-inside : (x : Search) (xs : List (Result Match SearchError)) (w : Walk) → x.start ≤ w.at.start
       → w.at.end ≡ x.end
       → Next w xs → All (λ item. IfOk item (λ m. IsInside x (found_of m))) xs
@@ -134,7 +134,7 @@ module _ (e : Backtracker) where
         | inr memory ↦ absurd (memory.0 long)
       ]
 
-  -- so it alone comes
+  -- so it is the only item
   long-items : (x : Search) (xs : List (Result Match SearchError)) → IsTooLong e x → Last (fresh x) xs
       → xs ≡ Err (HaystackTooLong (span_len x)) ∷ []
   long-items x [] long h = let k : Ok None ≡ Err (HaystackTooLong (span_len x)) = long-step x (Ok None) long h in cc
@@ -146,7 +146,7 @@ module _ (e : Backtracker) where
       err-same r (HaystackTooLong (span_len x)) (long-step x (Err r) long h.0) in
       rw (same, no-items xs h.1) refl
 
-  -- an error of any other search is that of memory
+  -- the error of any other search is `Memory`
   memory-step : (w : Walk) (r : SearchError) → ¬ (IsTooLong e w.at) → Step w (Err r) → r ≡ Memory
   memory-step w r fits h = of h.first h.is_first h.rest
     where
@@ -227,7 +227,7 @@ module _ (e : Backtracker) where
       last-by-length x (Ok m ∷ xs) i (fresh x) (match-fits x m h.0) (omega arith) refl h
   item-by-length x (Err r ∷ xs) i h = absurd (none-after xs i (no-items (xs ++ i ∷ []) h.1))
 
-  -- matches alone come of no search that is too long
+  -- a list of only matches is not of a search that is too long
   oks-fit : (x : Search) (ms : List Match) → Last (fresh x) (oked ms) → ¬ (IsTooLong e x)
   oks-fit x [] h = λ long.
       let k : oked [] ≡ Err (HaystackTooLong (span_len x)) ∷ [] = long-items x (oked []) long h in cc

@@ -1,17 +1,17 @@
--- A backtracker as a value, and how much it may try.
+-- A backtracker and its cache as values, and how many pairs it may mark.
 use Rattle.std.specs.Prelude.{◌≡◌, ℕ, ◌+◌, ◌*◌, ◌/◌, ◌-◌, ◌<◌, ◌≤◌, max, length, Option, unwrap_or}
 use Rattle.regex_search_core.specs.Search.{Search}
 use Rattle.thompson_nfa.specs.Automaton.{Automaton}
 use Rattle.nfa_paths.specs.Paths.{span_len}
 use Rattle.nfa_scanning.specs.Numbers.{saturated}
 
--- an NFA, and how many bytes of marks were asked for, if any were
+-- an NFA, and the capacity in bytes, if one was set
 pub record Backtracker : Type 0 where
   pub nfa : Automaton
   pub visited_capacity : Option ℕ
 
--- what a cache shows: how many scans its last search made, and how many turns, and those of all its searches; how many
--- frames, blocks of marks and slots it holds; and how many of its searches were answered, and how many refused
+-- what a cache shows: the scans and turns of its last search, and those of all its searches; its frames, blocks of
+-- marks and slots; and how many of its searches were answered and how many refused
 pub record Work : Type 0 where
   pub scans : ℕ
   pub turns : ℕ
@@ -47,17 +47,18 @@ pub record CountsRefusal (old new : Work) : Type 0 where
   pub answered : new.answered ≡ old.answered
   pub refused : new.refused ≡ old.refused + 1
 
--- the scans and turns of the new search are the only ones that were added to those of all
+-- the totals rise by exactly the scans and turns of the new search
 pub record AddsWork (old new : Work) : Type 0 where
   pub scans : new.all_scans ≡ old.all_scans + new.scans
   pub turns : new.all_turns ≡ old.all_turns + new.turns
 
--- no block is given back, and no more are taken than the pairs of the search need
+-- no block is dropped, and there are no more than before or than the pairs of the search need
 pub record GrowsBlocks (nfa : Automaton) (x : Search) (old new : ℕ) : Type 0 where
   pub kept : old ≤ new
   pub needed : new ≤ max old ((length nfa.states * (span_len x + 1) + 63) / 64)
 
--- The cache holds no frame that it did not hold before, keeps its slots, and takes no more of them than are needed.
+-- The cache has no frame that it did not have before. It keeps its slots, and has no more of them than before or than
+-- needed.
 pub record HoldsNoMore (needed : ℕ) (old new : Work) : Type 0 where
   pub frames : new.frames ≤ old.frames
   pub slots_kept : old.slots ≤ new.slots
@@ -67,15 +68,15 @@ pub record HoldsNoMore (needed : ℕ) (old new : Work) : Type 0 where
 abbrev pub refused_early : Work → Work
 refused_early w = record w { scans = 0; turns = 0; refused = w.refused + 1 }
 
--- the bytes that a cache holds: 24 for a frame, 8 for a block, 8 for a slot
+-- the bytes of a cache: 24 for a frame, 8 for a block, 8 for a slot
 abbrev pub memory_of : Work → ℕ
 memory_of w = saturated (24 * w.frames + 8 * w.blocks + 8 * w.slots)
 
--- the capacity in bytes that holds where none is set
+-- the default capacity in bytes
 abbrev pub default_capacity : ℕ
 default_capacity = 262144
 
--- the bits of so many bytes, rounded up to whole blocks of 64
+-- the bits of this number of bytes, rounded up to whole blocks of 64
 abbrev pub rounded_bits : ℕ → ℕ
 rounded_bits bytes = saturated (64 * ((saturated (8 * bytes) + 63) / 64))
 
@@ -83,8 +84,8 @@ rounded_bits bytes = saturated (64 * ((saturated (8 * bytes) + 63) / 64))
 abbrev pub capacity_of : Backtracker → ℕ
 capacity_of e = rounded_bits (unwrap_or e.visited_capacity default_capacity)
 
--- The length of the longest span that a search may have, where there is a bit for each state; else 0, and no search
--- may be made.
+-- The length of the longest span that a search may have, if there is a bit for each state. Otherwise it is 0, and every
+-- search is too long.
 abbrev pub max_haystack_len_of : Backtracker → ℕ
 max_haystack_len_of e = capacity_of e / length e.nfa.states - 1
 

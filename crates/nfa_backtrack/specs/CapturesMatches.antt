@@ -18,7 +18,7 @@ use Rattle.nfa_backtrack.specs.Finding.{BacktrackerCatchesOn, IsCatchOf, Searche
 use Rattle.nfa_backtrack.specs.Runs.{AreRefused}
 use Rattle.nfa_backtrack.specs.declared.captures_iter.TryCapturesMatches.{TryCapturesMatches}
 
--- the steps of the iterator, and the cache that it is lent
+-- the steps of the iterator, and the cache that it borrows
 abbrev pub backtracker_catches : TryCapturesMatches → Lent (Catching Backtracker) Work
 backtracker_catches s = record { steps = s.steps; cache = s.cache }
 
@@ -26,18 +26,18 @@ backtracker_catches s = record { steps = s.steps; cache = s.cache }
 abbrev pub backtracker_catches_cache : TryCapturesMatches → MutBor Work
 backtracker_catches_cache s = s.cache
 
--- the engine that it asks
+-- the engine that it searches with
 abbrev pub backtracker_catches_engine : TryCapturesMatches → Backtracker
 backtracker_catches_engine s = s.steps.asker.finder
 
--- where it stands, and whether it has ended
+-- its position, and whether it has ended
 abbrev pub backtracker_catches_walk : TryCapturesMatches → Walk
 backtracker_catches_walk s = walk_of s.steps.searcher
 
 abbrev pub backtracker_catches_done : TryCapturesMatches → Bool
 backtracker_catches_done s = s.steps.done
 
--- the backtracker may be asked where its captures have the groups of the NFA
+-- the backtracker may search if its captures have the groups of the NFA
 abbrev pub MayCatchByBacktracker : With (Catching Backtracker) Work → Type 0
 MayCatchByBacktracker = MayCatch (λ e. e.nfa) fits_always
 
@@ -55,10 +55,10 @@ abbrev pub backtracker_catches_next : TryCapturesMatches → Option (Result Capt
     → TryCapturesMatches → Type 0
 backtracker_catches_next s r t = BacktrackerCatchesNext s r t
 
--- the calls change the cache by the searches of an iteration over x alone
+-- the calls change the cache only by the searches of an iteration over x
 pub record CatchesBySearches (e : Backtracker) (x : Search) (s : TryCapturesMatches) : Type 0 where
   pub on : GivesKept backtracker_catches_next (λ p q. BacktrackerCatchesOn e x p.cache.now q.cache.now) s
 
--- in each run errors come by the rule of refusals
+-- in each run errors follow the rule of refusals
 abbrev pub CatchesRefused : Backtracker → Search → TryCapturesMatches → Type 0
 CatchesRefused e x s = EachRunFrom backtracker_catches_next s (λ p. AreRefused e x (p.whole ≡ true) p.items)

@@ -18,11 +18,11 @@ use Rattle.nfa_backtrack.specs.Finding.{BacktrackerFindsOn, BacktrackerFindsToEn
 use Rattle.nfa_backtrack.specs.declared.find_iter.Finder.{Finder}
 use Rattle.nfa_backtrack.specs.declared.find_iter.TryFindMatches.{TryFindMatches}
 
--- the backtracker of an iteration, and what is known
+-- the backtracker of an iteration, and the match that is known
 abbrev pub backtracker_knowing : Finder → Knowing Backtracker
 backtracker_knowing a = record { engine = a.engine.now; known = a.known }
 
--- the steps of the iterator, and the cache that it is lent
+-- the steps of the iterator, and the cache that it borrows
 abbrev pub backtracker_finds : TryFindMatches → Lent Finder Work
 backtracker_finds s = record { steps = s.steps; cache = s.cache }
 
@@ -30,11 +30,11 @@ backtracker_finds s = record { steps = s.steps; cache = s.cache }
 abbrev pub backtracker_finds_cache : TryFindMatches → MutBor Work
 backtracker_finds_cache s = s.cache
 
--- the engine that it asks
+-- the engine that it searches with
 abbrev pub backtracker_finds_engine : TryFindMatches → Backtracker
 backtracker_finds_engine s = s.steps.asker.engine.now
 
--- where it stands, and whether it has ended
+-- its position, and whether it has ended
 abbrev pub backtracker_finds_walk : TryFindMatches → Walk
 backtracker_finds_walk s = walk_of s.steps.searcher
 
@@ -45,7 +45,7 @@ backtracker_finds_done s = s.steps.done
 abbrev pub fits_always : Work → Backtracker → Type 0
 fits_always w e = ⊤
 
--- the backtracker may be asked wherever what is known is so
+-- the backtracker may search if the known match is right
 abbrev pub MayFindByBacktracker : With Finder Work → Search → Type 0
 MayFindByBacktracker = MayFind IsSureAt backtracker_knowing fits_always
 
@@ -62,7 +62,7 @@ pub record BacktrackerFindsNext (s : TryFindMatches) (r : Option (Result Match S
 abbrev pub backtracker_finds_next : TryFindMatches → Option (Result Match SearchError) → TryFindMatches → Type 0
 backtracker_finds_next s r t = BacktrackerFindsNext s r t
 
--- what is known of its next search
+-- the known answer of its next search
 abbrev pub backtracker_finds_known : TryFindMatches → Option Found
 backtracker_finds_known s = option_map found_of s.steps.asker.known
 
@@ -70,8 +70,8 @@ backtracker_finds_known s = option_map found_of s.steps.asker.known
 pub record KeepsLentCache (s t : TryFindMatches) : Type 0 where
   pub cache : t.cache.ghost_name ≡ s.cache.ghost_name
 
--- The calls keep the cache, and change it by the searches of an iteration over x alone. A search that is too long
--- changes nothing but the count of refusals. At `None` the iteration went to its end, past the matches so far.
+-- The calls keep the cache, and change it only by the searches of an iteration over x. A search that is too long
+-- changes only the count of refusals. At `None` the iteration went to its end, past the matches so far.
 pub record FindsBySearches (e : Backtracker) (x : Search) (s : TryFindMatches) : Type 0 where
   pub keeps : GivesKept backtracker_finds_next KeepsLentCache s
   pub on : GivesKept backtracker_finds_next (λ p q. BacktrackerFindsOn e x p.cache.now q.cache.now) s

@@ -1,4 +1,4 @@
--- What a backtracker answers where a match is asked for.
+-- The answers of a backtracker to searches for a match or for captures.
 use Rattle.std.specs.Prelude.{◌≡◌, ◌≤◌, ◌*◌, ◌+◌, ◌⊎◌, false, length, List, Result, Ok, Err}
 use Rattle.regex_search_core.specs.Found.{Found}
 use Rattle.regex_search_core.specs.Search.{Search}
@@ -14,22 +14,22 @@ use Rattle.nfa_search_base.specs.declared.error.SearchError.TheVariants.{Haystac
 use Rattle.nfa_backtrack.specs.Backtrack.{Backtracker, Work, AddsWork, CountsAnswer, CountsRefusal, GrowsBlocks}
 use Rattle.nfa_backtrack.specs.Backtrack.{HoldsNoMore, IsTooLong, refused_early}
 
--- too long a span is refused, and for any other search there may be no memory
+-- the error of a search: `HaystackTooLong` if it is too long, otherwise `Memory`
 abbrev pub IsRefusal : Backtracker → Search → SearchError → Type 0
 IsRefusal e x error = (IsTooLong e x × (error ≡ HaystackTooLong (span_len x)))
     ⊎ (¬ (IsTooLong e x) × (error ≡ Memory))
 
--- an answer comes only where the span is not too long, and an error is a refusal
+-- there is an answer only if the span is not too long, and an error is a refusal
 abbrev pub AnswersByLength : {Y : Type 0} → Backtracker → Search → Result Y SearchError → Type 0
 AnswersByLength e x (Ok y) = ¬ (IsTooLong e x)
 AnswersByLength e x (Err error) = IsRefusal e x error
 
--- what one search for a match answers: its match, or a refusal
+-- the answer of one search for a match: its match, or a refusal
 abbrev pub IsFindOf : Backtracker → Search → Answer Found → Type 0
 IsFindOf e x (Ok found) = ¬ (IsTooLong e x) × IsMatchAnswer e.nfa LeftmostFirst false x found
 IsFindOf e x (Err error) = IsRefusal e x error
 
--- what one search for captures answers: its row, or a refusal
+-- the answer of one search for captures: its row, or a refusal
 abbrev pub IsCatchOf : Backtracker → Search → Answer Row → Type 0
 IsCatchOf e x (Ok row) = ¬ (IsTooLong e x) × TellsRow e.nfa LeftmostFirst false x (Ok row)
 IsCatchOf e x (Err error) = IsRefusal e x error
@@ -38,17 +38,17 @@ IsCatchOf e x (Err error) = IsRefusal e x error
 abbrev pub IsSureAt : Backtracker → Search → Found → Type 0
 IsSureAt e x m = ¬ (IsTooLong e x) × IsSureMatch e.nfa LeftmostFirst false x m
 
--- an answer is counted as one, and an error as a refusal
+-- an answer is counted as an answer, and an error as a refusal
 abbrev pub Counts : {X : Type 0} → Answer X → Work → Work → Type 0
 Counts (Ok found) old new = CountsAnswer old new
 Counts (Err error) old new = CountsRefusal old new
 
--- an answer took exactly its work, and a refusal no more scans than that
+-- the work of an answer is exact, and a refusal took no more scans than an answer would
 abbrev pub DoesWork : {X : Type 0} → Backtracker → Search → Answer X → Work → Type 0
 DoesWork e x (Ok found) new = IsWork e.nfa LeftmostFirst false x new.scans new.turns
 DoesWork e x (Err error) new = IsWithinScans e.nfa LeftmostFirst false x new.scans
 
--- one search was made with the cache, within the bounds of its work and of what the cache holds
+-- one search was made with the cache, and its work and the cache's size are within their bounds
 pub record SearchesOnce {X : Type 0} (e : Backtracker) (x : Search) (a : Answer X) (old new : Work) : Type 0 where
   pub total : AddsWork old new
   pub counts : Counts a old new
@@ -59,15 +59,15 @@ pub record SearchesOnce {X : Type 0} (e : Backtracker) (x : Search) (a : Answer 
   pub holds : HoldsNoMore (2 * length e.nfa.groups) old new
   pub early : IsTooLong e x → new ≡ refused_early old
 
--- an iteration over the matches of x led from the one cache to the other by its searches alone, as far as it went
+-- an iteration over the matches of x led from one cache to the other only by its searches, as far as it went
 abbrev pub BacktrackerFindsOn : Backtracker → Search → Work → Work → Type 0
 BacktrackerFindsOn e x old new = FindsLeave (IsFindOf e) (λ y a. SearchesOnce e y a) x old new
 
--- and it went to its end, past these matches
+-- the same, and the iteration went to its end, past these matches
 abbrev pub BacktrackerFindsToEnd : Backtracker → Search → List Found → Work → Work → Type 0
 BacktrackerFindsToEnd e x ms old new = FindsLeaveAtEnd (IsFindOf e) (λ y a. SearchesOnce e y a) x ms old new
 
--- the same of an iteration over captures
+-- the same for an iteration over captures
 abbrev pub BacktrackerCatchesOn : Backtracker → Search → Work → Work → Type 0
 BacktrackerCatchesOn e x old new = Leaves row_span (DoesSearch (IsCatchOf e) (λ y a. SearchesOnce e y a)) x old new
 

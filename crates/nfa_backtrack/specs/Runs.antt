@@ -1,4 +1,4 @@
--- What the calls of an iterator over a backtracker's matches have given, wherever they stop.
+-- The items that the calls of an iterator over a backtracker's matches have given, wherever they stop.
 use Rattle.std.specs.Prelude.{◌≡◌, true, false, List, [], ◌∷◌, ◌++◌, map, All, None, Some, Result, Ok, Err, IfOk, IfErr}
 use Rattle.std.specs.Iterator.{Yields}
 use Rattle.std.specs.Iterator.Runs.{EachRunFrom}
@@ -21,62 +21,62 @@ use Rattle.nfa_backtrack.specs.declared.find_iter.TryFindMatches.{TryFindMatches
 pub record AreFirstItems (e : Backtracker) (x : Search) (items : List (Result Match SearchError)) : Type 0 where
   pub come : ItemsNext span_of (IsFindOf e) (Fails span_of (IsFindOf e)) (fresh x) (map (item_by found_of) items)
 
--- all of them
+-- all items of an iteration over x
 pub record AreAllItems (e : Backtracker) (x : Search) (items : List (Result Match SearchError)) : Type 0 where
   pub come : ItemsLast span_of (IsFindOf e) (Fails span_of (IsFindOf e)) (fresh x) (map (item_by found_of) items)
 
--- Where the span is too long, its refusal alone comes; else any error is that of memory.
+-- If the span is too long, the only item of a whole run is that refusal. Otherwise every error is `Memory`.
 pub record AreRefused {Y : Type 0} (e : Backtracker) (x : Search) (whole : Type 0)
     (items : List (Result Y SearchError)) : Type 0 where
   pub long : IsTooLong e x → whole → items ≡ Err (HaystackTooLong (span_len x)) ∷ []
   pub memory : ¬ (IsTooLong e x) → All (λ item. IfErr item (λ error. error ≡ Memory)) items
 
--- in each run errors come by that rule
+-- in each run errors follow that rule
 abbrev pub RunsRefused : Backtracker → Search → TryFindMatches → Type 0
 RunsRefused e x s = EachRunFrom backtracker_finds_next s (λ p. AreRefused e x (p.whole ≡ true) p.items)
 
--- where the items of a run are all `Ok`, these are the first matches, and all of them
+-- if the items of a run are all `Ok`, they are the first matches, or all of them at its end
 abbrev pub RunsMatch : Backtracker → Search → TryFindMatches → Type 0
 RunsMatch e x s = EachRunFrom backtracker_finds_next s (λ p. (ms : List Match) → p.items ≡ map Ok ms
     → AreFirstMatches e.nfa LeftmostFirst false x (map found_of ms)
     × (p.whole ≡ true → AreMatches e.nfa LeftmostFirst false x (map found_of ms)))
 
--- each match lies in the span
+-- each match is inside the span
 abbrev pub RunsInside : Search → TryFindMatches → Type 0
 RunsInside x s = EachRunFrom backtracker_finds_next s (λ p. All (λ item. IfOk item (λ m. IsInside x (found_of m)))
     p.items)
 
--- where they are all `Ok`, their matches are apart and in order
+-- if the items of a run are all `Ok`, their matches are apart and in order
 abbrev pub RunsApart : Search → TryFindMatches → Type 0
 RunsApart x s = EachRunFrom backtracker_finds_next s (λ p. (ms : List Match) → p.items ≡ map Ok ms
     → AreApart x None (map found_of ms))
 
--- where the items so far are all `Ok`, their matches are the first matches
+-- if the items so far are all `Ok`, their matches are the first matches
 abbrev pub GivesFirstMatches : Backtracker → Search → TryFindMatches → Type 0
 GivesFirstMatches e x s = (xs : List (Result Match SearchError)) (t : TryFindMatches) (ms : List Match)
     → Yields backtracker_finds_next s xs t → xs ≡ map Ok ms
     → AreFirstMatches e.nfa LeftmostFirst false x (map found_of ms)
 
--- and at `None` all matches
+-- and at `None` all of them
 abbrev pub GivesAllMatches : Backtracker → Search → TryFindMatches → Type 0
 GivesAllMatches e x s = (xs : List (Result Match SearchError)) (t u : TryFindMatches) (ms : List Match)
     → Yields backtracker_finds_next s xs t → backtracker_finds_next t None u → xs ≡ map Ok ms
     → AreMatches e.nfa LeftmostFirst false x (map found_of ms)
 
--- the same after an item, of the items so far and that one
+-- the same after one more item, of the items so far and that one
 abbrev pub GivesNextMatch : Backtracker → Search → TryFindMatches → Type 0
 GivesNextMatch e x s = (xs : List (Result Match SearchError)) (t : TryFindMatches) (i : Result Match SearchError)
     (u : TryFindMatches) (ms : List Match) (m : Match)
     → Yields backtracker_finds_next s xs t → backtracker_finds_next t (Some i) u → xs ≡ map Ok ms → i ≡ Ok m
     → AreFirstMatches e.nfa LeftmostFirst false x (map found_of (ms ++ m ∷ []))
 
--- an item is `Ok` only where the span is not too long, and else a refusal
+-- an item is `Ok` only if the span is not too long, and otherwise a refusal
 abbrev pub GivesByLength : Backtracker → Search → TryFindMatches → Type 0
 GivesByLength e x s = (xs : List (Result Match SearchError)) (t : TryFindMatches) (i : Result Match SearchError)
     (u : TryFindMatches) → Yields backtracker_finds_next s xs t → backtracker_finds_next t (Some i) u
     → AnswersByLength e x i
 
--- and they end without an error only where it is not too long
+-- and the items end without an error only if it is not too long
 abbrev pub EndsByLength : Backtracker → Search → TryFindMatches → Type 0
 EndsByLength e x s = (xs : List (Result Match SearchError)) (t u : TryFindMatches) (ms : List Match)
     → Yields backtracker_finds_next s xs t → backtracker_finds_next t None u → xs ≡ map Ok ms → ¬ (IsTooLong e x)

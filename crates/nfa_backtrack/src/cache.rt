@@ -1,4 +1,4 @@
-//! What a backtracker writes while it searches, and keeps for the next search.
+//! The memory that a backtracker's searches write to, kept from one search to the next.
 ghost use Rattle.std.specs.Prelude.{◌≡◌, IfOk, IsOkUnless};
 ghost use Rattle.nfa_backtrack.specs.Backtrack.{unused, memory_of};
 
@@ -11,22 +11,22 @@ use regex_search_core::{NonMaxUsize, Refused};
 use std::alloc::Global;
 use std::marker::Model;
 
-/// What a backtracker writes while it searches: its marks, its stack, and slots of its own. Any cache serves any
-/// backtracker, whatever it was used for before.
+/// The memory that searches of a backtracker write to: marks, a stack and slots. Any cache works with any backtracker,
+/// whatever it was used for before.
 ///
-/// A contract sees how many scans its last search made, and how many turns they took; and how many of its searches were
-/// answered, and how many refused.
+/// Contracts see the scans and turns of its last search and of all its searches, how many searches were answered and
+/// how many refused, and its frames, blocks and slots.
 #[derive(Debug, Drop)]
 pub struct Cache {
     pub(super) scratch: Scratch,
     pub(super) slots: Vec<Option<NonMaxUsize>>,
-    /// How many searches were answered.
+    /// Searches that were answered.
     pub(super) answered: Counter,
-    /// How many searches were refused.
+    /// Searches that were refused.
     pub(super) refused: Counter,
-    /// The scans of all searches before the last one.
+    /// Scans of all searches before the last one.
     pub(super) past_scans: Counter,
-    /// The turns of all searches before the last one.
+    /// Turns of all searches before the last one.
     pub(super) past_turns: Counter,
 }
 
@@ -50,7 +50,7 @@ impl Model for Cache {
 }
 
 impl Cache {
-    /// Makes a cache that holds no memory yet.
+    /// Makes a cache. Does not allocate.
     pub fn new(alloc: Global, _: &BoundedBacktracker) -> Cache
         ensures { result ≡ unused }
     {
@@ -68,8 +68,7 @@ impl Cache {
         }
     }
 
-    /// Drops all marks and the blocks that held them. Their memory stays for the next search. A search needs no reset
-    /// before it.
+    /// Removes all marks and their blocks. The memory is kept for the next search. A search needs no reset before it.
     pub fn reset(&mut self, _: &BoundedBacktracker)
         ensures { self.new ≡ record self.old { blocks = 0 } }
     {
@@ -101,8 +100,8 @@ impl Cache {
         })
     }
 
-    /// The bytes that the entries of the cache take: 24 for a frame of the stack, 8 for a block of marks, 8 for a slot.
-    /// The sum stops at the greatest `usize`.
+    /// Returns the bytes that the entries of the cache take: 24 for a stack frame, 8 for a block of marks, 8 for a
+    /// slot. The sum saturates at `usize::MAX`.
     pub fn memory_usage(&self) -> usize
         ensures { result ≡ memory_of self.now }
     {

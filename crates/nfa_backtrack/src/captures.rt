@@ -15,11 +15,11 @@ use nfa_search_base::error::SearchError;
 use regex_search_core::{Captures, Input};
 
 impl BoundedBacktracker {
-    /// Searches, and fills captures: their pattern is the one that matched, and their slots get the offsets that
-    /// [`BoundedBacktracker::try_search_slots`] gives as many slots. Their groups stay. After no match and after an
-    /// error they show no match: no pattern, and no slot set.
+    /// Searches, and writes the result to the captures: the pattern that matched, and the slots that
+    /// [`BoundedBacktracker::try_search_slots`] returns for that number of slots. Their groups do not change. After no
+    /// match and after an error no pattern and no slot is set.
     ///
-    /// Any captures may be handed in, those of another NFA too, with any number of slots. Errors are those of
+    /// The captures may be of another NFA, and may have any number of slots. The errors are those of
     /// [`BoundedBacktracker::try_search_slots`].
     pub fn try_search(
         &self,
@@ -43,7 +43,7 @@ impl BoundedBacktracker {
         ensures errors { IfErr result (λ e. (e ≡ SearchError.Memory)
             ⊎ (e ≡ SearchError.HaystackTooLong (span_len (search_of input.now)))) }
 
-        // What was done for it: exactly one scan more than restarts, within stated bounds.
+        // The work: exactly one scan more than restarts, within stated bounds.
         ensures work { OnOk result (IsWork self.now.nfa LeftmostFirst false (search_of input.now)
             cache.new.scans cache.new.turns) }
         ensures within { OnErr result (IsWithinScans self.now.nfa LeftmostFirst false (search_of input.now)
@@ -51,7 +51,7 @@ impl BoundedBacktracker {
         ensures scans { cache.new.scans ≤ scan_limit self.now.nfa (search_of input.now) }
         ensures turns { cache.new.turns
             ≤ cache.new.scans * ((1 + turn_weight self.now.nfa) * (span_len (search_of input.now) + 1)) }
-        // It is counted once.
+        // The search is counted once.
         ensures answered { OnOk result (CountsAnswer cache.old cache.new) }
         ensures refused { OnErr result (CountsRefusal cache.old cache.new) }
         ensures total { AddsWork cache.old cache.new }
@@ -65,7 +65,7 @@ impl BoundedBacktracker {
         Ok(())
     }
 
-    /// Searches, and fills captures, as [`BoundedBacktracker::try_search`] does.
+    /// Searches as [`BoundedBacktracker::try_search`] does, but takes the input by value.
     pub fn try_captures<'h>(
         &self,
         cache: &mut Cache,
@@ -88,7 +88,7 @@ impl BoundedBacktracker {
         ensures errors { IfErr result (λ e. (e ≡ SearchError.Memory)
             ⊎ (e ≡ SearchError.HaystackTooLong (span_len (search_of input.entry)))) }
 
-        // What was done for it: exactly one scan more than restarts, within stated bounds.
+        // The work: exactly one scan more than restarts, within stated bounds.
         ensures work { OnOk result (IsWork self.now.nfa LeftmostFirst false (search_of input.entry)
             cache.new.scans cache.new.turns) }
         ensures within { OnErr result (IsWithinScans self.now.nfa LeftmostFirst false (search_of input.entry)
@@ -96,7 +96,7 @@ impl BoundedBacktracker {
         ensures scans { cache.new.scans ≤ scan_limit self.now.nfa (search_of input.entry) }
         ensures turns { cache.new.turns
             ≤ cache.new.scans * ((1 + turn_weight self.now.nfa) * (span_len (search_of input.entry) + 1)) }
-        // It is counted once.
+        // The search is counted once.
         ensures answered { OnOk result (CountsAnswer cache.old cache.new) }
         ensures refused { OnErr result (CountsRefusal cache.old cache.new) }
         ensures total { AddsWork cache.old cache.new }

@@ -10,12 +10,12 @@ use regex_search_core::{Captures, Input, Span};
 use std::alloc::Global;
 use std::marker::Model;
 
-/// The captures of the matches of an input that do not overlap, from left to right: what
-/// [`BoundedBacktracker::try_captures_iter`] gives.
+/// An iterator over the captures of all matches of an input that do not overlap, from left to right.
+/// [`BoundedBacktracker::try_captures_iter`] returns it.
 ///
-/// Its items are `Ok` captures, each a value of its own, at most as many as the span has bytes and one more, and at
-/// most one error: a refusal of the search, or [`SearchError::Memory`] where there is no memory for a copy. It ends for
-/// good after the last match and after the error.
+/// Its items are `Ok` captures, each its own copy, at most n + 1 for a span of n bytes, and at most one error. The
+/// error is a refusal of the search, or [`SearchError::Memory`] if a copy could not be allocated. The iterator is
+/// fused: after the last match or the error it returns only `None`.
 #[derive(Debug, Drop)]
 pub struct TryCapturesMatches<'r, 'c, 'h> {
     cache: &'c mut Cache,
@@ -23,7 +23,7 @@ pub struct TryCapturesMatches<'r, 'c, 'h> {
     ghost holds: { HasGroups steps.asker.finder.nfa steps.asker.captures },
 }
 
-// A backtracker that answers the searches of one iteration, and the captures that it writes to.
+// The backtracker that answers the searches of one iteration, and the captures that it fills.
 #[derive(Debug, Drop)]
 struct Catcher<'r> {
     engine: &'r BoundedBacktracker,
@@ -60,15 +60,14 @@ impl BoundedBacktracker {
     ghost use Rattle.nfa_backtrack.specs.Finding.{AnswersByLength, BacktrackerCatchesOn, BacktrackerCatchesToEnd};
     ghost use Rattle.nfa_backtrack.specs.Finding.{IsCatchOf, SearchesOnce};
 
-    /// Returns the captures of all matches that do not overlap, from left to right, each with all groups of the NFA. To
-    /// make this changes no cache. The error is that there is no memory for the captures that are searched with:
-    /// [`SearchError::Memory`] alone.
+    /// Returns an iterator over the captures of all matches that do not overlap, from left to right, each with all
+    /// groups of the NFA. This call does not change the cache. The only error is [`SearchError::Memory`]: the captures
+    /// to search with could not be allocated.
     ///
-    /// The next match is searched for from the end of the last one. In place of an empty match where the last one ended
-    /// comes what a search from one byte further on finds. An answer without a match, as bare patterns give it, ends
-    /// the list. Each item is a copy of its own. Where there is no memory for it the item is the error, and so it is
-    /// where a search is refused. If the span is too long the one item is that refusal. An error is given once, and is
-    /// the last item.
+    /// Each search starts at the end of the last match. An empty match there is replaced by the result of a search from
+    /// one byte further on. An answer that gives no match ends the list, for instance if the NFA does not set the two
+    /// slots of its pattern. Each item is a copy. If it cannot be allocated, or if a search is refused, the item is the
+    /// error, and it is the last one. If the span is too long, the only item is that refusal.
     pub fn try_captures_iter<'r, 'c, 'h>(
         &'r self,
         alloc: Global,
@@ -82,14 +81,14 @@ impl BoundedBacktracker {
         ensures engine { IfOk result (λ made. backtracker_catches_engine made ≡ self.now) }
         ensures walk { IfOk result (λ made. backtracker_catches_walk made ≡ fresh (search_of input.entry)) }
         ensures going { IfOk result (λ made. backtracker_catches_done made ≡ false) }
-        // Each run of calls gives the first captures of the input, and all of them where it goes on to `None`.
+        // Each run of calls gives the first captures of the input, and all of them if it goes on to `None`.
         ensures runs { IfOk result (CapturesRun backtracker_catches_next (IsCatchOf self.now) (search_of input.entry)) }
         ensures first { IfOk result (CapturesFirst backtracker_catches_next (IsCatchOf self.now)
             (search_of input.entry)) }
         ensures next { IfOk result (CapturesNext backtracker_catches_next (IsCatchOf self.now)
             (search_of input.entry)) }
         ensures refused { IfOk result (CatchesRefused self.now (search_of input.entry)) }
-        // Where no copy is refused, their rows and their matches are those of the input.
+        // If no copy fails, their rows and their matches are those of the input.
         ensures rows { IfOk result (RowsRun backtracker_catches_next self.now.nfa LeftmostFirst false
             (search_of input.entry)) }
         ensures first_rows { IfOk result (RowsFirst backtracker_catches_next self.now.nfa LeftmostFirst false
@@ -109,15 +108,15 @@ impl BoundedBacktracker {
         ensures groups { IfOk result (CapturesGroups backtracker_catches_next self.now.nfa) }
         ensures inside { IfOk result (CapturesWithin backtracker_catches_next (search_of input.entry)) }
         ensures apart { IfOk result (CapturesApart backtracker_catches_next (search_of input.entry)) }
-        // The cache changes by the searches of the steps alone.
+        // The cache changes only by the searches of the steps.
         ensures searches { IfOk result (CatchesBySearches self.now (search_of input.entry)) }
     {
         let captures = self.create_captures(alloc)?;
         Ok(self.try_captures_iter_with(cache, input, captures))
     }
 
-    /// The same, searching with captures that the caller made, with all groups of this NFA
-    /// ([`BoundedBacktracker::create_captures`]). To make this takes no memory, and cannot fail.
+    /// Returns the same iterator, but searches with the given captures, which must have all groups of this NFA
+    /// ([`BoundedBacktracker::create_captures`]). Does not allocate, and cannot fail.
     #[inline]
     pub fn try_captures_iter_with<'r, 'c, 'h>(
         &'r self,
@@ -131,12 +130,12 @@ impl BoundedBacktracker {
         ensures engine { backtracker_catches_engine result ≡ self.now }
         ensures walk { backtracker_catches_walk result ≡ fresh (search_of input.entry) }
         ensures going { backtracker_catches_done result ≡ false }
-        // Each run of calls gives the first captures of the input, and all of them where it goes on to `None`.
+        // Each run of calls gives the first captures of the input, and all of them if it goes on to `None`.
         ensures runs { CapturesRun backtracker_catches_next (IsCatchOf self.now) (search_of input.entry) result }
         ensures first { CapturesFirst backtracker_catches_next (IsCatchOf self.now) (search_of input.entry) result }
         ensures next { CapturesNext backtracker_catches_next (IsCatchOf self.now) (search_of input.entry) result }
         ensures refused { CatchesRefused self.now (search_of input.entry) result }
-        // Where no copy is refused, their rows and their matches are those of the input.
+        // If no copy fails, their rows and their matches are those of the input.
         ensures rows { RowsRun backtracker_catches_next self.now.nfa LeftmostFirst false
             (search_of input.entry) result }
         ensures first_rows { RowsFirst backtracker_catches_next self.now.nfa LeftmostFirst false
@@ -156,18 +155,18 @@ impl BoundedBacktracker {
         ensures groups { CapturesGroups backtracker_catches_next self.now.nfa result }
         ensures inside { CapturesWithin backtracker_catches_next (search_of input.entry) result }
         ensures apart { CapturesApart backtracker_catches_next (search_of input.entry) result }
-        // The cache changes by the searches of the steps alone.
+        // The cache changes only by the searches of the steps.
         ensures searches { CatchesBySearches self.now (search_of input.entry) result }
     {
         self.catch_from(cache, input, captures)
     }
 
-    /// The captures of all matches of the input that do not overlap, from left to right, each with all groups of the
-    /// NFA.
+    /// Returns the captures of all matches of the input that do not overlap, from left to right, each with all groups
+    /// of the NFA.
     ///
     /// # Errors
     ///
-    /// `HaystackTooLong` exactly where the span is too long, which is tested before all else, and else `Memory`.
+    /// `HaystackTooLong` exactly if the span is too long, which is tested first; otherwise `Memory`.
     pub fn try_captures_all(
         &self,
         alloc: Global,
@@ -182,11 +181,12 @@ impl BoundedBacktracker {
         ensures inside { IfOk result (λ all. All (CapturesInside (search_of input.entry)) all.items) }
         ensures apart { IfOk result (λ all. AreApart (search_of input.entry) None (map match_in all.items)) }
         ensures by_length { AnswersByLength self.now (search_of input.entry) result }
-        // The cache changes by the searches of an iteration alone, and where all captures come these go to its end.
+        // The cache changes only by the searches of an iteration. If all captures are returned, these searches go to
+        // its end.
         ensures searches { BacktrackerCatchesOn self.now (search_of input.entry) cache.old cache.new }
         ensures to_end { IfOk result (λ all.
             BacktrackerCatchesToEnd self.now (search_of input.entry) (map row_of all.items) cache.old cache.new) }
-        // Where the span is too long no search is made, and it stays as it was.
+        // If the span is too long, no search is made, and the cache is unchanged.
         ensures early { IsTooLong self.now (search_of input.entry) → cache.new ≡ cache.old }
     {
         if self.is_too_long(&input) {
@@ -201,7 +201,7 @@ impl BoundedBacktracker {
         Steps::new(input, catcher).all_with(alloc, cache)
     }
 
-    // The iterator that searches with these captures.
+    // Returns the iterator that searches with these captures.
     #[inline]
     fn catch_from<'r, 'c, 'h>(
         &'r self,
@@ -233,7 +233,7 @@ impl BoundedBacktracker {
         }
     }
 
-    // The captures of one search, and the work of it.
+    // Returns the captures of one search, and states its work.
     #[inline]
     fn catch_at(
         &self,

@@ -1,4 +1,4 @@
-//! The options of a backtracker, and its builder.
+//! The configuration of a backtracker, and its builder.
 ghost use Rattle.std.specs.Prelude.{◌≡◌, None, Some, Ok, unwrap_or};
 ghost use Rattle.std.specs.Option.{option_or};
 ghost use Rattle.nfa_backtrack.specs.Backtrack.{default_capacity};
@@ -7,10 +7,10 @@ use crate::engine::BoundedBacktracker;
 use std::marker::Model;
 use thompson_nfa::{BuildError, NFA};
 
-/// The capacity in bytes that holds where none is set.
+/// The default capacity in bytes.
 const DEFAULT_CAPACITY: usize = 256 * 1024;
 
-/// How a backtracker is set up. A contract sees it as the capacity that was set, if one was.
+/// The options of a backtracker. Contracts see the capacity, if one was set.
 #[derive(Clone, Copy, Debug)]
 pub struct Config {
     visited_capacity: Option<usize>,
@@ -36,8 +36,7 @@ impl Config {
         }
     }
 
-    /// Sets the number of bytes that the marks of a search may take. They are rounded up to whole blocks of eight
-    /// bytes.
+    /// Sets the number of bytes that the marks of a search may take, rounded up to whole blocks of eight bytes.
     pub fn visited_capacity(mut self, capacity: usize) -> Config
         ensures { result ≡ Some capacity }
     {
@@ -45,14 +44,14 @@ impl Config {
         self
     }
 
-    /// Returns the number of bytes that the marks of a search may take: what was set, or 262144.
+    /// Returns the number of bytes that the marks of a search may take: the number that was set, or 262144.
     pub fn get_visited_capacity(&self) -> usize
         ensures { result ≡ unwrap_or self.now default_capacity }
     {
         self.visited_capacity.unwrap_or(DEFAULT_CAPACITY)
     }
 
-    /// The newer configuration, with what it leaves unset from this one.
+    /// Returns the newer configuration. Options that it leaves unset are taken from this one.
     fn overwritten_by(&self, newer: Config) -> Config
         ensures { result ≡ option_or newer self.now }
     {
@@ -63,7 +62,7 @@ impl Config {
 }
 
 impl Default for Config {
-    /// A configuration with nothing set.
+    /// Returns a configuration with nothing set.
     fn default() -> Config
         ensures { result ≡ None }
     {
@@ -71,7 +70,7 @@ impl Default for Config {
     }
 }
 
-/// Makes backtrackers of one configuration. A contract sees it as that configuration.
+/// A builder of backtrackers. Contracts see its configuration.
 #[derive(Clone, Copy, Debug)]
 pub struct Builder {
     config: Config,
@@ -97,7 +96,7 @@ impl Builder {
         }
     }
 
-    /// Sets what the configuration sets. An option that it leaves unset stays as it was.
+    /// Sets the options that the configuration sets. All others stay as they were.
     pub fn configure(&mut self, config: Config) -> &mut Builder
         ensures value { result.now ≡ option_or config self.old }
         ensures same_reference { result.ghost_name ≡ self.entry.ghost_name }

@@ -1,4 +1,4 @@
-//! The backtracker: its makers, what it shows, and its searches.
+//! The backtracker: its constructors, getters and searches.
 ghost use Rattle.std.specs.Prelude.{◌≡◌, ◌↔◌, ◌⊎◌, ◌+◌, ◌*◌, ◌/◌, ◌<◌, ◌≤◌, ◌^◌, None, Ok, length, max, vec_len, replicate};
 ghost use Rattle.std.specs.Prelude.{option_map, All, IfOk, OnOk, IfErr, OnErr, IsErrOf, IsOkUnless, IsTrue, false};
 ghost use Rattle.std.specs.Prelude.{IfNone, IfSome, IsOk, vec_capacity};
@@ -27,10 +27,10 @@ use std::alloc::Global;
 use std::marker::Model;
 use thompson_nfa::{BuildError, NFA};
 
-/// A search of one NFA, depth first, with a table of marks that bounds its work.
+/// A depth-first search engine for one NFA, with a table of marks that bounds its work.
 ///
-/// Its answers are those of leftmost first search: the match with the least start and, of those, the one that the
-/// earlier alternatives lead to. `earliest` is ignored. A contract sees the NFA and the capacity that was set.
+/// It answers by leftmost first: the match with the least start and, of those, the one that earlier alternatives lead
+/// to. The `earliest` flag is ignored. Contracts see the NFA and the capacity that was set.
 #[derive(Debug, Drop)]
 pub struct BoundedBacktracker {
     config: Config,
@@ -50,8 +50,8 @@ impl Model for BoundedBacktracker {
 }
 
 /// Returns the least visited capacity, in bytes, that has a bit for each pair of the search. With it no search of the
-/// input is refused for its length. The caller owes that the states times the positions of the span, its bytes and one,
-/// fit a `usize`.
+/// input is refused for its length. Requires that the number of states times n + 1, for a span of n bytes, fits a
+/// `usize`.
 pub fn min_visited_capacity(nfa: &NFA, input: &Input<'_>) -> usize
     requires { length nfa.now.states * (span_len (search_of input.now) + 1) < 2 ^ 64 }
     ensures { result ≡ min_capacity_of nfa.now (search_of input.now) }
@@ -59,14 +59,14 @@ pub fn min_visited_capacity(nfa: &NFA, input: &Input<'_>) -> usize
     (nfa.states().len() * (input.get_span().len() + 1)).div_ceil(8)
 }
 
-/// The bits of so many bytes, rounded up to whole blocks.
+/// Returns the bits of this number of bytes, rounded up to whole blocks.
 fn rounded_bits(bytes: usize) -> usize
     ensures { result ≡ rounded_bits bytes }
 {
     bytes.saturating_mul(8).div_ceil(64).saturating_mul(64)
 }
 
-/// Makes room for so many slots, and for no more. It fails only if it has to grow.
+/// Makes room for this number of slots, and no more. Fails only if it has to allocate.
 fn grow(slots: &mut Vec<Option<NonMaxUsize>>, len: usize) -> Result<(), Refused>
     ensures granted { len ≤ vec_capacity slots.old → IsOk result }
     ensures room { OnOk result (len ≤ vec_len slots.new) }
@@ -79,7 +79,7 @@ fn grow(slots: &mut Vec<Option<NonMaxUsize>>, len: usize) -> Result<(), Refused>
     Ok(())
 }
 
-/// The pattern of the match.
+/// Returns the pattern of the match.
 fn pattern_of(half: Option<HalfMatch>) -> Option<PatternID>
     ensures { option_map number_of result ≡ option_map (λ half. (half_found_of half).pattern) half }
 {
@@ -101,8 +101,8 @@ impl BoundedBacktracker {
         Builder::new().build_from_nfa(nfa)
     }
 
-    /// Makes a backtracker that matches the empty string at each position, with the default configuration. The error is
-    /// `Memory` alone.
+    /// Makes a backtracker that matches the empty string at each position, with the default configuration. The only
+    /// error is `Memory`.
     pub fn always_match(alloc: Global) -> Result<BoundedBacktracker, BuildError>
         ensures made { IfOk result (λ made. made ≡ record { nfa = always; visited_capacity = None }) }
         ensures memory { IsOkUnless result BuildError.Memory }
@@ -132,15 +132,15 @@ impl BoundedBacktracker {
         Builder::new()
     }
 
-    /// Makes a cache for this backtracker, which holds no memory yet.
+    /// Makes a cache for this backtracker. Does not allocate.
     pub fn create_cache(&self, alloc: Global) -> Cache
         ensures { result ≡ unused }
     {
         Cache::new(alloc, self)
     }
 
-    /// Makes captures with a slot for each edge of each group of the NFA. No pattern and no slot is set. The error is
-    /// `Memory` alone.
+    /// Makes captures with two slots for each group of the NFA. No pattern and no slot is set. The only error is
+    /// `Memory`.
     pub fn create_captures(&self, alloc: Global) -> Result<Captures, SearchError>
         ensures made { IfOk result (λ made. made ≡ record {
           groups = self.now.nfa.groups;
@@ -153,8 +153,8 @@ impl BoundedBacktracker {
         Ok(Captures::all(alloc, groups)?)
     }
 
-    /// Drops all marks of the cache and the blocks that held them. Their memory stays for the next search. A search
-    /// needs no reset before it.
+    /// Removes all marks of the cache and their blocks. The memory is kept for the next search. A search needs no reset
+    /// before it.
     pub fn reset_cache(&self, cache: &mut Cache)
         ensures { cache.new ≡ record cache.old { blocks = 0 } }
     {
@@ -193,23 +193,23 @@ impl BoundedBacktracker {
         Ok(BoundedBacktracker::from_parts(self.config, nfa))
     }
 
-    /// How many pairs of a state and a position a search may mark.
+    /// Returns the number of pairs of a state and a position that a search may mark.
     fn capacity(&self) -> usize
         ensures { result ≡ capacity_of self.now }
     {
         rounded_bits(self.config.get_visited_capacity())
     }
 
-    /// A length in bytes up to which no span is refused for its length, where the capacity has a bit for each state.
-    ///
-    /// It is the number of pairs that may be marked, divided by the number of states, less one and not below 0.
+    /// Returns the length in bytes of the longest span that is not refused for its length: the number of pairs that may
+    /// be marked, divided by the number of states, less one. If the capacity has fewer bits than the NFA has states,
+    /// every span is refused, and the result is 0.
     pub fn max_haystack_len(&self) -> usize
         ensures { result ≡ max_haystack_len_of self.now }
     {
         (self.capacity() / self.nfa.states().len()).saturating_sub(1)
     }
 
-    /// Whether the search has more pairs than may be marked.
+    /// Returns whether the search has more pairs than may be marked.
     pub(crate) fn is_too_long(&self, input: &Input<'_>) -> bool
         ensures { IsTrue result ↔ IsTooLong self.now (search_of input.now) }
     {
@@ -220,12 +220,12 @@ impl BoundedBacktracker {
         }
     }
 
-    /// Searches, and fills the slots with byte offsets: slots `2p` and `2p + 1` have the start and end of a match of
-    /// pattern `p`, those of the explicit groups follow. Any number of slots may be handed in; those past the NFA's are
-    /// none, and so is every slot after no match and after an error.
+    /// Searches, and writes byte offsets to the slots. Slots `2p` and `2p + 1` get the start and end of a match of
+    /// pattern `p`; the slots of the explicit groups follow. Any number of slots may be given. Slots that the NFA does
+    /// not have are set to `None`, and so are all slots after no match and after an error.
     ///
-    /// The span's length alone decides whether a search is too long; that is tested before all else. `Memory` is
-    /// answered where a growth of the cache was refused. After an error the cache serves the next search.
+    /// The error is `HaystackTooLong` exactly if the span is too long, which is tested first. It is `Memory` if the
+    /// cache could not grow. The cache can be used again after an error.
     pub fn try_search_slots(
         &self,
         cache: &mut Cache,
@@ -244,7 +244,7 @@ impl BoundedBacktracker {
         ensures errors { IfErr result (λ e. (e ≡ SearchError.Memory)
             ⊎ (e ≡ SearchError.HaystackTooLong (span_len (search_of input.now)))) }
 
-        // What was done for it: exactly one scan more than restarts, within stated bounds.
+        // The work: exactly one scan more than restarts, within stated bounds.
         ensures work { OnOk result (IsWork self.now.nfa LeftmostFirst false (search_of input.now) cache.new.scans
             cache.new.turns) }
         ensures within { OnErr result (IsWithinScans self.now.nfa LeftmostFirst false (search_of input.now)
@@ -252,7 +252,7 @@ impl BoundedBacktracker {
         ensures scans { cache.new.scans ≤ scan_limit self.now.nfa (search_of input.now) }
         ensures turns { cache.new.turns
             ≤ cache.new.scans * ((1 + turn_weight self.now.nfa) * (span_len (search_of input.now) + 1)) }
-        // It is counted once.
+        // The search is counted once.
         ensures answered { OnOk result (CountsAnswer cache.old cache.new) }
         ensures refused { OnErr result (CountsRefusal cache.old cache.new) }
         ensures total { AddsWork cache.old cache.new }
@@ -264,11 +264,12 @@ impl BoundedBacktracker {
         Ok(pattern_of(half))
     }
 
-    /// Returns the match that a search of the input finds: the span between the two slots of its pattern. It is none
-    /// where there is no match, where the NFA writes one of the two slots nowhere on the way, or where the start lies
-    /// behind the end.
+    /// Returns the match that a search of the input finds: the span between the two slots of its pattern.
     ///
-    /// Errors are those of [`BoundedBacktracker::try_search_slots`].
+    /// Its offsets are bytes from the start of the haystack. Returns `None` if nothing matches, if the matching path
+    /// leaves one of the two slots unset, or if its start is greater than its end.
+    ///
+    /// The errors are those of [`BoundedBacktracker::try_search_slots`].
     pub fn try_find<'h>(
         &self,
         cache: &mut Cache,
@@ -292,7 +293,7 @@ impl BoundedBacktracker {
         ensures scans { cache.new.scans ≤ scan_limit self.now.nfa (search_of input.entry) }
         ensures turns { cache.new.turns
             ≤ cache.new.scans * ((1 + turn_weight self.now.nfa) * (span_len (search_of input.entry) + 1)) }
-        // It is counted once.
+        // The search is counted once.
         ensures answered { OnOk result (CountsAnswer cache.old cache.new) }
         ensures refused { OnErr result (CountsRefusal cache.old cache.new) }
         ensures total { AddsWork cache.old cache.new }
@@ -324,7 +325,7 @@ impl BoundedBacktracker {
         Ok(found)
     }
 
-    /// The match of a search that is not too long, from slots of the cache.
+    /// Returns the match of a search that is not too long, from slots of the cache.
     fn find_with(
         &self,
         scratch: &mut Scratch,
@@ -362,7 +363,7 @@ impl BoundedBacktracker {
 
     /// Returns whether a search of the input finds a match.
     ///
-    /// Errors are those of [`BoundedBacktracker::try_search_slots`].
+    /// The errors are those of [`BoundedBacktracker::try_search_slots`].
     pub fn try_is_match<'h>(&self, cache: &mut Cache, input: Input<'h>) -> Result<bool, SearchError>
         ensures answer { IfOk result (λ found. IsFoundAnswer self.now.nfa LeftmostFirst false (search_of input.entry)
             found) }
@@ -380,7 +381,7 @@ impl BoundedBacktracker {
         ensures scans { cache.new.scans ≤ scan_limit self.now.nfa (search_of input.entry) }
         ensures turns { cache.new.turns
             ≤ cache.new.scans * ((1 + turn_weight self.now.nfa) * (span_len (search_of input.entry) + 1)) }
-        // It is counted once.
+        // The search is counted once.
         ensures answered { OnOk result (CountsAnswer cache.old cache.new) }
         ensures refused { OnErr result (CountsRefusal cache.old cache.new) }
         ensures total { AddsWork cache.old cache.new }

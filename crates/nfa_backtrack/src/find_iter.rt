@@ -16,10 +16,11 @@ use nfa_search_base::iter::{Searcher, Searches, Steps};
 use regex_search_core::{Input, Match, Span};
 use std::alloc::Global;
 
-/// The matches of an input that do not overlap, from left to right: what [`BoundedBacktracker::try_find_iter`] gives.
+/// An iterator over all matches of an input that do not overlap, from left to right.
+/// [`BoundedBacktracker::try_find_iter`] returns it.
 ///
-/// Its items are `Ok` matches, at most as many as the span has bytes and one more, and at most one error. It ends for
-/// good after the last match and after the error.
+/// Its items are `Ok` matches, at most n + 1 for a span of n bytes, and at most one error. It is fused: after the last
+/// match or the error it returns only `None`.
 #[derive(Debug, Drop)]
 pub struct TryFindMatches<'r, 'c, 'h> {
     cache: &'c mut Cache,
@@ -27,12 +28,13 @@ pub struct TryFindMatches<'r, 'c, 'h> {
     ghost knows: { IsKnownFrom IsSureAt steps.asker.engine.now (steps_walk steps).at steps.asker.known },
 }
 
-// A backtracker that answers the searches of one iteration. It has no model: a caller of the iterator would not learn
-// then what the cache ends as.
+// The backtracker that answers the searches of one iteration. It has no model: with one, a caller of the iterator would
+// not learn what the cache is at its end.
 #[derive(Debug, Drop)]
 struct Finder<'r> {
     engine: &'r BoundedBacktracker,
-    // What the last search found, if it is empty and lies where the search began: it answers a search from there too.
+    // The match that the last search found, if it is empty and at the start of that search. It also answers a search
+    // from there.
     known: Option<Match>,
 }
 
@@ -55,11 +57,11 @@ impl BoundedBacktracker {
     ghost use Rattle.nfa_backtrack.specs.Runs.{RunsApart, RunsInside, RunsMatch, RunsRefused};
     ghost use Rattle.nfa_backtrack.specs.Runs.{GivesByLength, EndsByLength};
 
-    /// Returns an iterator over all matches that do not overlap, from left to right. To make this takes no memory.
+    /// Returns an iterator over all matches that do not overlap, from left to right. Does not allocate.
     ///
-    /// The next match is searched for from the end of the last one. In place of an empty match where the last one ended
-    /// comes what a search from one byte further on finds. If the span is too long the one item is that refusal. An
-    /// error is given once, and is the last item.
+    /// Each search starts at the end of the last match. An empty match there is replaced by the result of a search from
+    /// one byte further on. If the span is too long, the only item is that refusal. An error is given once, and is the
+    /// last item.
     pub fn try_find_iter<'r, 'c, 'h>(
         &'r self,
         cache: &'c mut Cache,
@@ -71,7 +73,7 @@ impl BoundedBacktracker {
         ensures walk { backtracker_finds_walk result ≡ fresh (search_of input.entry) }
         ensures going { backtracker_finds_done result ≡ false }
         ensures known { backtracker_finds_known result ≡ None }
-        // Each run of calls gives the first items, and all of them where it goes on to `None`.
+        // Each run of calls gives the first items, and all of them if it goes on to `None`.
         ensures runs { RunsGive backtracker_finds_next (AreFirstItems self.now (search_of input.entry))
             (AreAllItems self.now (search_of input.entry)) result }
         ensures matches { RunsMatch self.now (search_of input.entry) result }
@@ -83,10 +85,11 @@ impl BoundedBacktracker {
         ensures next { GivesNext backtracker_finds_next (AreFirstItems self.now (search_of input.entry)) result }
         ensures next_match { GivesNextMatch self.now (search_of input.entry) result }
         ensures all_matches { GivesAllMatches self.now (search_of input.entry) result }
-        // A match comes, and an end without an error, only where the span is not too long; an error is its refusal.
+        // A match is given, and the items end without an error, only if the span is not too long. An error is a
+        // refusal.
         ensures by_length { GivesByLength self.now (search_of input.entry) result }
         ensures end { EndsByLength self.now (search_of input.entry) result }
-        // The cache changes by the searches of the steps alone.
+        // The cache changes only by the searches of the steps.
         ensures searches { FindsBySearches self.now (search_of input.entry) result }
     {
         TryFindMatches {
@@ -106,7 +109,7 @@ impl BoundedBacktracker {
     ///
     /// # Errors
     ///
-    /// `HaystackTooLong` exactly where the span is too long, and else `Memory`, where a growth was refused.
+    /// `HaystackTooLong` exactly if the span is too long; otherwise `Memory`, if allocation failed.
     pub fn try_find_all(
         &self,
         alloc: Global,
@@ -118,11 +121,12 @@ impl BoundedBacktracker {
         ensures apart { IfOk result (λ found. AreApart (search_of input.entry) None (map found_of found.items)) }
         ensures inside { IfOk result (λ found. All (λ m. IsInside (search_of input.entry) (found_of m)) found.items) }
         ensures by_length { AnswersByLength self.now (search_of input.entry) result }
-        // The cache changes by the searches of an iteration alone, and where all matches come these go to its end.
+        // The cache changes only by the searches of an iteration. If all matches are returned, these searches go to its
+        // end.
         ensures searches { BacktrackerFindsOn self.now (search_of input.entry) cache.old cache.new }
         ensures to_end { IfOk result (λ found.
             BacktrackerFindsToEnd self.now (search_of input.entry) (map found_of found.items) cache.old cache.new) }
-        // Where the span is too long one refusal is counted, and nothing else of it changes.
+        // If the span is too long, one refusal is counted, and nothing else changes in the cache.
         ensures early { IsTooLong self.now (search_of input.entry) → cache.new ≡ refused_early cache.old }
     {
         let mut found = Vec::new(alloc);
@@ -132,7 +136,7 @@ impl BoundedBacktracker {
         Ok(found)
     }
 
-    // The match of one search, and the work of it.
+    // Returns the match of one search, and states its work.
     #[inline]
     fn find_at(&self, cache: &mut Cache, input: &Input<'_>) -> Result<Option<Match>, SearchError>
         ensures finds { IsFindOf self.now (search_of input.now) (answer_by found_of result) }
@@ -200,7 +204,7 @@ impl<'r> Searches for Finder<'r> {
     }
 }
 
-// The match of a reply.
+// Returns the match of a reply.
 #[inline]
 fn found_in(reply: Result<Option<Match>, SearchError>) -> Option<Match>
     ensures found { ForSome result (λ m. reply ≡ Ok (Some m)) }

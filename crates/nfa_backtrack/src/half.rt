@@ -1,4 +1,4 @@
-//! The search for the end of a match alone.
+//! The search for the end of a match only.
 ghost use Rattle.std.specs.Prelude.{◌≡◌, ◌↔◌, ◌⊎◌, ◌+◌, ◌*◌, ◌<◌, ◌≤◌, length, option_map, false};
 ghost use Rattle.std.specs.Prelude.{IfErr, IfOk, IfSome, IsErrOf, OnErr, OnOk};
 ghost use Rattle.regex_search_core.specs.Found.{half_found_of};
@@ -14,10 +14,10 @@ use nfa_search_base::error::SearchError;
 use regex_search_core::{HalfMatch, Input};
 
 impl BoundedBacktracker {
-    /// Returns the pattern of the match that a search of the input finds, and the offset of its end. It writes no slots,
-    /// so the NFA need not write where its matches start and end.
+    /// Returns the pattern of the match that a search of the input finds, and the offset of its end. It writes no
+    /// slots, so the NFA need not record where its matches start and end.
     ///
-    /// Returns `None` if nothing matches. Errors are those of [`BoundedBacktracker::try_search_slots`].
+    /// Returns `None` if nothing matches. The errors are those of [`BoundedBacktracker::try_search_slots`].
     pub fn try_find_half<'h>(
         &self,
         cache: &mut Cache,
@@ -43,7 +43,7 @@ impl BoundedBacktracker {
         ensures scans { cache.new.scans ≤ scan_limit self.now.nfa (search_of input.entry) }
         ensures turns { cache.new.turns
             ≤ cache.new.scans * ((1 + turn_weight self.now.nfa) * (span_len (search_of input.entry) + 1)) }
-        // It is counted once.
+        // The search is counted once.
         ensures answered { OnOk result (CountsAnswer cache.old cache.new) }
         ensures refused { OnErr result (CountsRefusal cache.old cache.new) }
         ensures total { AddsWork cache.old cache.new }

@@ -1,4 +1,4 @@
-//! A search: a scan and, while its answer ends inside a character, further scans.
+//! A search: a scan, and further scans while the answer ends inside a codepoint.
 ghost use Rattle.std.specs.Prelude.{◌≡◌, ◌+◌, ◌-◌, ◌*◌, ◌/◌, ◌^◌, ◌<◌, ◌≤◌, [], None, Some, false, length};
 ghost use Rattle.std.specs.Prelude.{replicate};
 ghost use Rattle.std.specs.Prelude.{◌↔◌, ◌⊎◌, IfErr, IfOk, IfSome, IsErrOf, OnErr, OnOk};
@@ -20,7 +20,7 @@ use nfa_search_base::error::SearchError;
 use regex_search_core::{HalfMatch, Input, NonMaxUsize, Refused};
 
 impl BoundedBacktracker {
-    /// One scan of this engine.
+    /// Makes one scan of this engine.
     #[inline(always)]
     fn scan(
         &self,
@@ -41,9 +41,8 @@ impl BoundedBacktracker {
         scan(&self.nfa, &self.first, input, scratch, slots)
     }
 
-    /// Scans and, while the answer ends inside a character, scans again, each time from one byte further on. Only an
-    /// NFA that matches the empty text and whose matches are whole characters has such answers; an anchored search is
-    /// over with the first.
+    /// Scans, and scans again from one byte further on while the answer ends inside a codepoint. Only an NFA that can
+    /// match the empty string and is in UTF-8 mode has such answers. An anchored search ends at the first one.
     fn search_from(
         &self,
         input: &Input<'_>,
@@ -80,7 +79,7 @@ impl BoundedBacktracker {
         }
     }
 
-    /// The answer of a search that is not too long.
+    /// Answers a search that is not too long.
     pub(super) fn search(
         &self,
         input: &Input<'_>,
@@ -111,7 +110,7 @@ impl BoundedBacktracker {
         self.search_from(input, scratch, slots)
     }
 
-    /// The answer of a search, or why it is refused. The cache counts it, and what was done for it.
+    /// Answers a search, or says why it is refused. The cache counts the search and its work.
     #[inline(always)]
     pub(super) fn search_counted(
         &self,

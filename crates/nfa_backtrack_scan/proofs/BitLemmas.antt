@@ -90,7 +90,7 @@ bits_of-set (b ∷ bs) (suc i) j inside low =
     rw (set-append_right (block_bits b) (bits_of bs) 64 (64 * suc i + j) true (length-block_bits b) past, e)
     (ap (λ t. block_bits b ++ t) (bits_of-set bs i j (omega arith) low))
 
--- where every block is zero, every bit is clear
+-- if every block is zero, every bit is clear
 pub bits_of-clear : (blocks : List ℕ) → ((i : ℕ) → get_or blocks i 0 ≡ 0) → bits_of blocks
     ≡ replicate (length (bits_of blocks)) false
 unfolding bits_of

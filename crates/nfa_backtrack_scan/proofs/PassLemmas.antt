@@ -54,7 +54,7 @@ module _ (nfa : Automaton) (x : Search) where
             rw (pairs_from-end nfa.anchored past) (rw (pairs_from-end nfa.anchored behind) at more)
       ]
 
-  -- the starts that were passed over, or none where they may not be
+  -- the starts that were skipped, or none if they may not be skipped
   pub Carries-pass : (table : List Bool) → IsFirstBytes nfa table
       → (m : Marks) (s : Slots) (sid from until to limit : ℕ) → x.start ≤ from → from ≤ to
       → (until ≤ from → to ≡ from) → (x.start < until → start_state nfa x.anchored ≡ Some nfa.anchored)

@@ -21,13 +21,13 @@ use Rattle.nfa_backtrack_scan.specs.declared.frame.Frame.TheVariants.{Step}
 use Rattle.nfa_backtrack_scan.proofs.WalkLemmas.{Carries-then, Carries-none, Carries-marked, marked_sum-weights}
 use Rattle.nfa_backtrack_scan.proofs.StepLemmas.{Goes-range, Goes-both}
 
--- what holds at each end holds where memory is refused
+-- what holds in any case holds if allocation failed
 pub OnErr-always : {T E P : Type 0} (r : Result T E) → P → OnErr r P
 OnErr-always (Ok value) p = tt
 OnErr-always (Err error) p = p
 
 module _ (nfa : Automaton) (x : Search) where
-  -- turns behind turns
+  -- turns after turns
   pub TurnsLead-then : {v : Pair} {p : Place} {q : Option Place} {stack after last : List Frame} {m n o : Marks}
       → TurnsLead nfa x v (Some p) stack m after n → TurnsLead nfa x (pair_of p) q after n last o
       → TurnsLead nfa x v q stack m last o
@@ -48,12 +48,12 @@ module _ (nfa : Automaton) (x : Search) where
     follows = λ work slots. Carries-none nfa x m _ slots;
   }
 
-  -- turns that end where memory is refused
+  -- turns that end because allocation failed
   pub IsAfforded-then : {v : Pair} {p : Place} {stack after : List Frame} {m n : Marks} (o : Marks)
       → TurnsLead nfa x v (Some p) stack m after n → IsAfforded nfa x after n o → IsAfforded nfa x stack m o
   IsAfforded-then o f e = let ft = f.tried in omega arith
 
-  -- the one turn before memory is refused
+  -- the one turn before allocation failed
   pub IsAfforded-turn : (stack : List Frame) (m n : Marks) → n.turns ≡ m.turns + 1 → IsAfforded nfa x stack m n
   IsAfforded-turn stack m n counted = omega (arith, marked_sum-le (weights nfa x) m.bits)
 
@@ -104,7 +104,7 @@ module _ {nfa : Automaton} {x : Search} {s at : ℕ} {m n : Marks} (t : Taken nf
           (rw some at (Goes-range t row placed states wide trans is onto byte here stack slots)).1 work;
     }
 
-  -- a union, whose exit is put off
+  -- a union, whose exit is pushed
   pub TurnsLead-union : (body exit : ℕ) → slice_get nfa.states s ≡ Some (BinaryUnion body exit)
       → body < length nfa.states → exit < length nfa.states → (stack : List Frame)
       → TurnsLead nfa x (s, at) (Some (record { sid = body; at = at; row = row })) stack m

@@ -1,4 +1,4 @@
--- From what a walk comes to, to what the search from all starts comes to.
+-- From the result of a walk to the result of the search from all starts.
 use Rattle.std.proofs.Common.{◌≡◌, ℕ, ◌+◌, ◌-◌, ◌*◌, ◌^◌, ◌<◌, ◌≤◌, List, [], length, map, replicate, arith, sum}
 use Rattle.std.specs.Prelude.{None, false, Bool}
 use Rattle.std.proofs.Math.Nat.{mul-le-mul_left}
@@ -75,7 +75,7 @@ module _ (nfa : Automaton) (x : Search) where
       let fits' : length nfa.states * (span_len (raised x i) + 1) < 2 ^ 64 = omega arith in
       record { room = room'; fits = fits' }
 
--- so it has after some restarts, where there are as many marks as before
+-- the same after some restarts, if there are as many marks as before
 pub room-after : (nfa : Automaton) (x y : Search) (i : ℕ) (bits after : List Bool) → length after ≡ length bits → y
     ≡ raised x i
     → HasBits nfa x bits → HasBits nfa y after

@@ -114,7 +114,7 @@ pub stacked-push : (fs : List Frame) (f : Frame) (work : List Item) → stacked 
 stacked-push [] f work = refl
 stacked-push (g ∷ fs) f work = stacked-push fs f (work_item g ∷ work)
 
--- the alternatives that are put off, the earliest on top
+-- the alternatives that are pushed, with the earliest on top
 abbrev pub put : ℕ → ℕ → List ℕ → List Frame
 put at row es = map (λ s. Step s at row) (reverse es)
 

@@ -1,4 +1,4 @@
--- Taking up what was put off.
+-- Applying frames of the stack.
 use Rattle.std.proofs.Common.{◌≡◌, ℕ, ◌+◌, List, [], ◌∷◌, ◌++◌, length, refl, ap, arith, length-set}
 use Rattle.std.specs.Prelude.{Option, Some, None, All}
 use Rattle.std.specs.List.{sum_by}
@@ -17,7 +17,7 @@ use Rattle.nfa_backtrack_scan.proofs.WalkLemmas.{Carries-then, Carries-none, Car
 use Rattle.nfa_backtrack_scan.proofs.StepLemmas.{stacked-push}
 
 module _ (nfa : Automaton) (x : Search) where
-  -- a frame that is taken up
+  -- a frame that is applied
   Carries-unwind : (marks : Marks) (work : List Item) (frame : Frame) (slots : Slots) (place : Option Place)
       (after : Slots)
       → Unwinds frame slots place after

@@ -31,7 +31,7 @@ module _ (nfa : Automaton) (x : Search) where
   unfolding node_at
   node_at-get s node is = get_or_from_slice_get nfa.states s node Fail is
 
-  -- the bit of a place lies in the table
+  -- the bit of a place is in the table
   pub bit_of-within : (bits : List Bool) (s at : ℕ) → HasBits nfa x bits → s < length nfa.states → x.start
       ≤ at → at ≤ x.end
       → bit_of nfa x (s, at) < length bits

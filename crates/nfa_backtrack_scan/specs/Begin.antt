@@ -1,4 +1,4 @@
--- The first turn of a walk, whose slot is not put on the stack.
+-- The first turn of a walk, which pushes no frame for its slot.
 use Rattle.std.specs.Prelude.{◌≡◌, ℕ, ◌+◌, ◌<◌, ◌≤◌, List, [], ◌∷◌, Option, None, Some, length, slice_set}
 use Rattle.std.specs.Option.{ForSome}
 use Rattle.regex_search_core.specs.Search.{Search}
@@ -11,18 +11,18 @@ use Rattle.nfa_scanning.specs.Marks.{Marks}
 use Rattle.nfa_backtrack_scan.specs.Walk.{pair_of, weights, IsPlace, Carries, WalkFails}
 use Rattle.nfa_backtrack_scan.specs.declared.walk.Begun.{Begun}
 
--- the slot that was written gets no offset again, above some work
+-- some work, with the slot that was written to be unset after it
 abbrev pub kept_onto : Option ℕ → List Item → List Item
 kept_onto None work = work
 kept_onto (Some slot) work = ToRestore slot None ∷ work
 
--- what that makes of the slots
+-- the slots once the slot is unset again
 abbrev pub IsPutBack : Option ℕ → Slots → Slots → Type 0
 IsPutBack None slots after = after ≡ slots
 IsPutBack (Some slot) slots after = after ≡ slice_set slots slot None
 
 module _ (nfa : Automaton) (x : Search) where
-  -- a walk from v goes on there, and what was tried is paid for
+  -- a walk from v goes on there, and the marks pay for the tries
   pub record BeginsAt (v : Pair) (begun : Begun) (marks : Marks) (slots : Slots) (marked : Marks)
       (written : Slots) : Type
       0 where
@@ -34,7 +34,7 @@ module _ (nfa : Automaton) (x : Search) where
     pub spent : marked.turns + marked_sum (weights nfa x) marks.bits
         ≤ marks.turns + marked_sum (weights nfa x) marked.bits
 
-  -- what comes of the first turn, if one was taken
+  -- the result of the first turn, if one was taken
   abbrev pub Begins : Pair → Option Begun → Marks → Slots → Marks → Slots → Type 0
   Begins v None marks slots marked written = WalkFails nfa x v marks slots [] marked written
   Begins v (Some begun) marks slots marked written = BeginsAt v begun marks slots marked written

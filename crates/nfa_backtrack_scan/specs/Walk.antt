@@ -30,29 +30,29 @@ use Rattle.nfa_backtrack_scan.specs.declared.walk.Turn.TheVariants.{On, Ended, O
 abbrev pub pair_of : Place → Pair
 pair_of place = (place.sid, place.at)
 
--- what a frame leaves to do
+-- the work that a frame leaves
 abbrev pub work_item : Frame → Item
 work_item (Step sid at row) = ToExplore (sid, at)
 work_item (Restore slot offset) = ToRestore slot (Some offset)
 work_item (Clear slot) = ToRestore slot None
 
--- what puts the slot back to its old value
+-- the frame that restores the old value of the slot
 abbrev pub restoring : ℕ → Option ℕ → Frame
 restoring slot None = Clear slot
 restoring slot (Some offset) = Restore slot offset
 
--- on to the target at the next position, a row of so many states further on, if there is one
+-- the move to the target at the next position, if there is one; a row has `states` marks
 abbrev pub move_of : Option ℕ → Place → ℕ → Move
 move_of None place states = Stuck
 move_of (Some sid) place states = Go (record { sid = sid; at = place.at + 1; row = place.row + states })
 
--- the turns that a frame waits to take
+-- the turns that a frame still has to take
 abbrev pub frame_tries : Frame → ℕ
 frame_tries (Step sid at row) = 1
 frame_tries (Restore slot offset) = 0
 frame_tries (Clear slot) = 0
 
--- a frame that writes a slot writes one of these
+-- if a frame writes a slot, its number is below `count`
 abbrev pub WritesSlot : ℕ → Frame → Type 0
 WritesSlot count (Step sid at row) = Unit {0}
 WritesSlot count (Restore slot offset) = slot < count
@@ -63,19 +63,19 @@ abbrev pub stacked : List Frame → List Item → List Item
 stacked [] work = work
 stacked (f ∷ fs) work = stacked fs (work_item f ∷ work)
 
--- what comes of taking a frame up: a place to search on from, or a slot that has its old value again
+-- the result of applying a frame: a place to search from, or a slot that has its old value again
 abbrev pub Unwinds : Frame → Slots → Option Place → Slots → Type 0
 Unwinds (Step sid at row) slots place after = (place ≡ Some (record { sid = sid; at = at; row = row }))
     × (after ≡ slots)
 Unwinds (Restore slot offset) slots place after = (place ≡ None) × (after ≡ slice_set slots slot (Some offset))
 Unwinds (Clear slot) slots place after = (place ≡ None) × (after ≡ slice_set slots slot None)
 
--- the work with a place to search on from, if there is one
+-- the work with a place to search from, if there is one
 abbrev pub with_place : Option Place → List Item → List Item
 with_place None work = work
 with_place (Some place) work = ToExplore (pair_of place) ∷ work
 
--- how many tries to mark are owed where a turn leads
+-- the tries to mark that are due after a turn
 abbrev pub tries_of_place : Option Place → ℕ
 tries_of_place None = 0
 tries_of_place (Some place) = 1
@@ -90,7 +90,7 @@ tries_of_turn (On place) = 1
 tries_of_turn (Ended half) = 0
 tries_of_turn Over = 0
 
--- A loop over one byte: the state `body` leads by the transition to a union that prefers it to `exit`.
+-- A loop over one byte: the transition leads from the state `body` to a union that prefers `body` to `exit`.
 pub record IsLoop (nfa : Automaton) (body exit : ℕ) (trans : Transition) : Type 0 where
   pub over : slice_get nfa.states body ≡ Some (ByteRange trans)
   pub back : slice_get nfa.states trans.next ≡ Some (BinaryUnion body exit)
@@ -99,26 +99,26 @@ pub record IsLoop (nfa : Automaton) (body exit : ℕ) (trans : Transition) : Typ
   pub out : exit < length nfa.states
 
 module _ (nfa : Automaton) (x : Search) where
-  -- the place is one of the NFA's states, in the span, and its row is as far from the first as its position from the
-  -- start
+  -- the place has a state of the NFA and a position of the span, and its row is the distance from the start times the
+  -- number of states
   pub record IsPlace (place : Place) : Type 0 where
     pub state : place.sid < length nfa.states
     pub from : x.start ≤ place.at
     pub to : place.at ≤ x.end
     pub row : place.row ≡ (place.at - x.start) * length nfa.states
 
-  -- so is the place, if there is one
+  -- the same of a place, if there is one
   abbrev pub IsPlaceOr : Option Place → Type 0
   IsPlaceOr None = Unit {0}
   IsPlaceOr (Some place) = IsPlace place
 
-  -- a frame's place is in the span, and its slot is one of these
+  -- a frame's place is in the span, and its slot is below `count`
   abbrev pub IsFrame : ℕ → Frame → Type 0
   IsFrame count (Step sid at row) = IsPlace (record { sid = sid; at = at; row = row })
   IsFrame count (Restore slot offset) = slot < count
   IsFrame count (Clear slot) = slot < count
 
-  -- the bit of a pair: a row of the NFA's states for each position from the start on
+  -- the bit of a pair: a row has a bit for each state, and there is a row for each position from the start on
   abbrev pub bit_of : Pair → ℕ
   bit_of v = (v.1 - x.start) * length nfa.states + v.0
 
@@ -133,7 +133,7 @@ module _ (nfa : Automaton) (x : Search) where
     pub from : x.start ≤ v.1
     pub set : slice_index_or bits (bit_of v) false ≡ true
 
-  -- the list has just the pairs that are marked
+  -- the list has exactly the pairs that are marked
   abbrev pub Agrees : List Bool → List Pair → Type 0
   Agrees bits seen = (v : Pair) → In v seen ↔ IsMarked bits v
 
@@ -141,7 +141,7 @@ module _ (nfa : Automaton) (x : Search) where
   unfoldable pub weights : List ℕ
   weights = repeated (span_len x + 1) (map degree nfa.states)
 
-  -- what the search answers from here on, with `left` turns left
+  -- the answer of the search from here on, with `left` turns left
   unfoldable pub WalkAnswer : ℕ → List Bool → List Item → Slots → Hit → Type 0
   WalkAnswer left bits work slots g =
       (seen : List Pair) → Agrees bits seen → ExploresTo (space nfa x) (is_match nfa) left None seen work slots g
@@ -156,21 +156,21 @@ module _ (nfa : Automaton) (x : Search) where
     pub set : marked.bits ≡ slice_set marks.bits (bit_of v) true
     pub counted : marked.turns ≡ marks.turns + 1
 
-  -- the turn at v found it marked
+  -- the turn at v found it already marked
   pub record WasMarked (v : Pair) (marks marked : Marks) : Type 0 where
     pub marked_before : IsMarked marks.bits v
     pub same : marked.bits ≡ marks.bits
     pub counted : marked.turns ≡ marks.turns + 1
 
-  -- What turns pushed, and the turns beyond the first, are paid for by what they marked. `in_hand` is 1 where they go
-  -- on at a place.
+  -- The marks pay for what the turns pushed, and for the turns beyond the first. `in_hand` is 1 if they go on at a
+  -- place.
   pub record PaidFor (count : ℕ) (stack : List Frame) (marks : Marks) (after : List Frame) (marked : Marks)
       (in_hand : ℕ) : Type 0 where
     pub within : All (IsFrame count) after
     pub tried : marked.turns + sum_by frame_tries after + in_hand + marked_sum weights marks.bits
         ≤ marks.turns + 1 + sum_by frame_tries stack + marked_sum weights marked.bits
 
-  -- Turns that end where memory is refused: those beyond the first are no more than what waited and all weights allow.
+  -- Turns that end because allocation failed: those beyond the first are no more than the frames and all weights allow.
   abbrev pub IsAfforded : List Frame → Marks → Marks → Type 0
   IsAfforded stack marks marked = marked.turns + marked_sum weights marks.bits
       ≤ marks.turns + 1 + sum_by frame_tries stack + sum weights
@@ -187,7 +187,7 @@ module _ (nfa : Automaton) (x : Search) where
     pub grows : marks.turns ≤ turns
     pub answer : (left : ℕ) → marks.turns + left ≡ turns → WalkAnswer left marks.bits work slots g
 
-  -- what comes of a turn at v
+  -- the result of a turn at v
   abbrev pub Goes : Pair → Move → List Frame → Marks → Slots → List Frame → Marks → Slots → Type 0
   Goes v (Go place) stack marks slots after marked written =
       IsPlace place
@@ -200,8 +200,8 @@ module _ (nfa : Automaton) (x : Search) where
       (pattern_of (node_at nfa v.0) ≡ Some (number_of pattern))
       × ((work : List Item) → Ends marks (ToExplore v ∷ stacked stack work) slots (Some (v, written)) marked.turns)
 
-  -- What comes of turns from v on that write no slot and meet no match: the search goes on at the place or, where there
-  -- is none, with what was put off.
+  -- The result of turns from v on that write no slot and meet no match: the search goes on at the place or, if there is
+  -- none, with the frames of the stack.
   pub record TurnsLead (v : Pair) (place : Option Place) (stack : List Frame) (marks : Marks) (after : List Frame)
       (marked : Marks) : Type 0 where
     pub goes : IsPlaceOr place
@@ -211,14 +211,14 @@ module _ (nfa : Automaton) (x : Search) where
     pub follows : (work : List Item) (slots : Slots) → Carries marks (ToExplore v ∷ stacked stack work) slots marked
         (with_place place (stacked after work)) slots
 
-  -- the search ends at a match: its state is of the pattern, and this is where it ends
+  -- the search ends at a match: its state is one of the pattern, and its position is the end
   pub record EndsAt (half : HalfMatch) (marks : Marks) (work : List Item) (slots : Slots) (written : Slots) (turns : ℕ)
       : Type 0 where
     pub state : ℕ
     pub matches : pattern_of (node_at nfa state) ≡ Some (half_found_of half).pattern
     pub ends : Ends marks work slots (Some ((state, (half_found_of half).offset), written)) turns
 
-  -- what comes of a turn at v and of what was put off, where it goes nowhere
+  -- the result of a turn at v and, if the turn leads nowhere, of the frames after it
   abbrev pub ComesTo : Pair → Turn → List Frame → Marks → Slots → List Frame → Marks → Slots → Type 0
   ComesTo v (On place) stack marks slots after marked written =
       IsPlace place
@@ -229,7 +229,7 @@ module _ (nfa : Automaton) (x : Search) where
   ComesTo v Over stack marks slots after marked written =
       (after ≡ []) × ((work : List Item) → Carries marks (ToExplore v ∷ stacked stack work) slots marked work written)
 
-  -- nothing was found at v, and what was tried is paid for
+  -- nothing was found at v, and the marks pay for the tries
   pub record WalkFails (v : Pair) (marks : Marks) (slots : Slots) (after : List Frame) (marked : Marks)
       (written : Slots) :
       Type 0 where
@@ -237,13 +237,13 @@ module _ (nfa : Automaton) (x : Search) where
     pub follows : (work : List Item) → Carries marks (ToExplore v ∷ work) slots marked work written
     pub spent : marked.turns + marked_sum weights marks.bits ≤ marks.turns + 1 + marked_sum weights marked.bits
 
-  -- what a walk from v comes to
+  -- the result of a walk from v
   abbrev pub Walks : Pair → Option HalfMatch → Marks → Slots → List Frame → Marks → Slots → Type 0
   Walks v None marks slots after marked written = WalkFails v marks slots after marked written
   Walks v (Some half) marks slots after marked written =
       (work : List Item) → EndsAt half marks (ToExplore v ∷ work) slots written marked.turns
 
-  -- what the search from all starts comes to, in so many turns
+  -- the result of the search from all starts, in this number of turns
   abbrev pub StartsGive : Option HalfMatch → Slots → ℕ → Type 0
   StartsGive None slots turns = IsScanAnswer nfa x LeftmostFirst false None
   StartsGive (Some half) slots turns = GivesPath nfa LeftmostFirst false x half slots turns

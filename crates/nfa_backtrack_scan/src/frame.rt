@@ -1,4 +1,4 @@
-//! A place in a search, and what is left to do there.
+//! Places of a search, and the frames of its stack.
 ghost use Rattle.std.specs.Prelude.{◌≡◌};
 
 use regex_search_core::{NonMaxUsize, StateID};
@@ -8,15 +8,15 @@ use regex_search_core::{NonMaxUsize, StateID};
 pub struct Place {
     pub sid: StateID,
     pub at: usize,
-    /// The number of the position's first mark: its distance from the start, times the number of states. A step on a
-    /// byte moves it one row on, which takes less than to work it out again at each place.
+    /// The number of the position's first mark: its distance from the start of the span, times the number of states. A
+    /// step on a byte adds the number of states, which is cheaper than to compute the row at each place.
     pub row: usize,
 }
 
 impl Place {
     ghost use Rattle.nfa_backtrack_scan.specs.declared.frame.Frame.TheVariants.{Step};
 
-    /// Another state at this position.
+    /// Returns another state at this position.
     #[inline(always)]
     pub fn to(&self, sid: StateID) -> Place
         ensures { result ≡ record self.now { sid = sid } }
@@ -28,7 +28,7 @@ impl Place {
         }
     }
 
-    /// Another state at this position, for later.
+    /// Returns the frame that searches later from another state at this position.
     #[inline(always)]
     pub fn later(&self, sid: StateID) -> Frame
         ensures { result ≡ Step sid self.now.at self.now.row }
@@ -41,13 +41,13 @@ impl Place {
     }
 }
 
-/// What is left to do when the place in hand comes to nothing.
+/// What to do if the search from the current place finds nothing.
 #[derive(Clone, Copy, Debug)]
 pub enum Frame {
-    /// Search on from this place.
+    /// Search from this place.
     Step { sid: StateID, at: usize, row: usize },
-    /// The slot gets its offset back.
+    /// Set the slot to this offset again.
     Restore { slot: usize, offset: NonMaxUsize },
-    /// The slot has no offset again.
+    /// Unset the slot again.
     Clear { slot: usize },
 }

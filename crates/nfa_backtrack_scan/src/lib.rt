@@ -1,8 +1,8 @@
-//! One scan of the backtracker: from each start in turn it walks depth first, and marks each pair of a state and a
+//! One scan of the backtracker: from each start in turn it searches depth first, and marks each pair of a state and a
 //! position that it tries.
 //!
-//! The engine and all that a user calls is `nfa_backtrack`. A scan stands apart from it: it needs nothing of errors and
-//! iteration, and so is proved beside them.
+//! The engine and its public calls are in `nfa_backtrack`. A scan does not depend on errors and iteration, so it is a
+//! crate of its own and is proved in parallel with them.
 #![tactic(auto)]
 
 pub mod frame;

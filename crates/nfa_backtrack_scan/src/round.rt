@@ -1,4 +1,4 @@
-//! A loop over one byte: a byte state and the union that prefers it, gone round turn by turn.
+//! A loop over one byte: a byte state and a union that prefers it, run turn by turn.
 ghost use Rattle.std.specs.Prelude.{◌≡◌, ◌+◌, ◌<◌, ◌≤◌, None, Some, List, length, map, slice_get, IfOk, OnErr, OnOk};
 ghost use Rattle.std.specs.Prelude.{option_and_then, is_some};
 ghost use Rattle.std.specs.Option.{ForSome};
@@ -17,9 +17,9 @@ use nfa_scanning::transitions::{byte_at, range_target};
 use regex_search_core::{Input, Refused, StateID};
 use thompson_nfa::{NFA, State, Transition};
 
-/// The transition that leads from the first of two alternatives back to a union of the same two, if the first is a byte
-/// state and one leads there: a loop over one byte. None where less than two bytes from the position on lead round it:
-/// to go round would then take more than it saves.
+/// Returns the transition of a loop over one byte: it leads from the first of two alternatives, which is a byte state,
+/// back to a union of the same two. Returns `None` if there is no such loop, or if fewer than two bytes at the position
+/// lead round it: a call then costs more than it saves.
 #[inline(always)]
 pub fn way_back<'a>(
     nfa: &NFA,
@@ -57,7 +57,7 @@ pub fn way_back<'a>(
     }
 }
 
-/// Whether the byte at the position leads on.
+/// Returns whether the byte at the position is one of the transition's.
 #[inline(always)]
 fn leads_on(trans: &Transition, input: &Input<'_>, at: usize) -> bool
     ensures { result ≡ is_some (option_and_then (target_on (ByteRange trans.now)) (byte_at (search_of input.now) at)) }
@@ -65,7 +65,7 @@ fn leads_on(trans: &Transition, input: &Input<'_>, at: usize) -> bool
     range_target(trans, byte_at(input, at)).is_some()
 }
 
-/// A turn at a byte state: tries to mark the place, and says where the byte leads.
+/// Takes one turn at a byte state: tries to mark the place, and returns the place that the byte leads to.
 #[inline(always)]
 fn over_byte(
     nfa: &NFA,
@@ -100,7 +100,8 @@ fn over_byte(
     }
 }
 
-/// A turn at the union of a loop: tries to mark its place, puts off the exit, and goes on at the byte state.
+/// Takes one turn at the union of a loop: tries to mark its place, pushes the exit, and returns the place of the byte
+/// state.
 #[inline(always)]
 fn put_off_exit(
     nfa: &NFA,
@@ -132,10 +133,10 @@ fn put_off_exit(
     Ok(Some(union.to(body)))
 }
 
-/// Goes round a loop over one byte, from its byte state on, until a place is marked or the byte does not lead on. Each
-/// exit that is passed is put off.
+/// Runs a loop over one byte, from its byte state on, until a place is already marked or a byte does not match. Each
+/// iteration pushes the exit.
 ///
-/// It is a call of its own, so that its values stay in registers and take none from the walk.
+/// It is a function of its own, so that its values stay in registers and take none from the walk.
 #[cold]
 #[inline(never)]
 pub fn go_round(

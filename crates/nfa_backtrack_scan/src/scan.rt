@@ -1,4 +1,4 @@
-//! A scan: the starts in turn, each walked from, with the marks kept.
+//! A scan: a walk from each start in turn, with the marks kept.
 ghost use Rattle.std.specs.Prelude.{◌≡◌, ◌+◌, ◌-◌, ◌*◌, ◌^◌, ◌<◌, ◌≤◌, [], None, false, length, replicate, IfOk, OnErr, OnOk};
 ghost use Rattle.regex_search_core.specs.Search.{search_of};
 ghost use Rattle.regex_search_core.specs.declared.search.MatchKind.TheVariants.{LeftmostFirst};
@@ -15,15 +15,15 @@ use nfa_scanning::starts::{next_start, skip_limit, start_limit, start_state};
 use regex_search_core::{HalfMatch, Input, NonMaxUsize, Refused, StateID};
 use thompson_nfa::NFA;
 
-/// Takes the offset of every slot away.
+/// Unsets all slots.
 pub fn unset(slots: &mut [Option<NonMaxUsize>])
     ensures { slots.new ≡ replicate (length slots.old) None }
 {
     slots.fill(None);
 }
 
-/// The place of a start: of a state and a position of the span, which may not be passed over for its byte. The table
-/// of bytes is here for that clause alone.
+/// Returns the place of a start: a state, and a position of the span that may not be skipped for its byte. Only that
+/// clause uses the table of first bytes.
 #[inline(always)]
 fn place_of(nfa: &NFA, first: &FirstBytes, input: &Input<'_>, sid: StateID, at: usize) -> Place
     requires state { sid < length nfa.now.states }
@@ -39,7 +39,7 @@ fn place_of(nfa: &NFA, first: &FirstBytes, input: &Input<'_>, sid: StateID, at: 
     Place { sid, at, row }
 }
 
-/// Searches from each start in turn that is not passed over for its byte, with the marks kept.
+/// Searches from each start in turn that is not skipped for its byte, with the marks kept.
 fn try_starts(
     nfa: &NFA,
     first: &FirstBytes,
@@ -78,7 +78,8 @@ fn try_starts(
     Ok(None)
 }
 
-/// One scan, from a clean slate: the first accepting path, its slots, or no slot set. The stack is empty afterwards.
+/// Makes one scan, from cleared slots, stack and marks. Returns the end of the first accepting path and writes its
+/// slots, or leaves no slot set. The stack is empty afterwards.
 pub fn scan(
     nfa: &NFA,
     first: &FirstBytes,

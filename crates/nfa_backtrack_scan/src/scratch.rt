@@ -3,13 +3,13 @@ use crate::frame::Frame;
 use crate::visited::Visited;
 use nfa_scanning::counter::Counter;
 
-/// What a search writes besides its slots.
+/// All that a search writes besides its slots.
 #[derive(Debug, Drop)]
 pub struct Scratch {
-    /// What is left to do, the next on top.
+    /// What is left to do, the next frame on top.
     pub stack: Vec<Frame>,
     /// The pairs that were tried.
     pub visited: Visited,
-    /// How many scans the search has made.
+    /// The number of scans that the search has made.
     pub scans: Counter,
 }

@@ -1,4 +1,4 @@
-//! What a turn of a walk is made of: the state at a place, and the try to mark it.
+//! The parts of a turn: the state at a place, and the try to mark the place.
 ghost use Rattle.std.specs.Prelude.{◌≡◌, ◌+◌, ◌<◌, Some, true, false, length, map, slice_get};
 ghost use Rattle.regex_search_core.specs.Search.{search_of};
 ghost use Rattle.thompson_nfa.specs.Automaton.{IsAutomaton, LeadsBelow, node_of};
@@ -9,7 +9,7 @@ use crate::visited::Visited;
 use regex_search_core::{Input, StateID};
 use thompson_nfa::{NFA, State};
 
-/// The state of this number. The walk has the states at hand, and the NFA is here for the contract alone.
+/// Returns the state of this number. The walk holds the states; only the contract uses the NFA.
 #[inline(always)]
 pub fn state_at<'a>(nfa: &NFA, states: &'a [State], sid: StateID) -> &'a State
     requires states { map node_of states.now ≡ nfa.now.states }
@@ -21,7 +21,7 @@ pub fn state_at<'a>(nfa: &NFA, states: &'a [State], sid: StateID) -> &'a State
     &states[sid.as_usize()]
 }
 
-/// Tries to mark the place, and says whether it was not marked before. This is one turn.
+/// Tries to mark the place, and returns whether it was unmarked. This is one turn.
 #[inline(always)]
 pub fn mark(nfa: &NFA, input: &Input<'_>, place: Place, visited: &mut Visited) -> bool
     requires place { IsPlace nfa.now (search_of input.now) place }

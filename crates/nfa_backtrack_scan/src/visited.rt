@@ -7,16 +7,16 @@ use regex_search_core::Refused;
 use std::alloc::Global;
 use std::marker::Model;
 
-/// The bits of a block.
+/// The number of bits in a block.
 const BLOCK_BITS: usize = 64;
 
-/// A table of marks, one bit each, and the count of the tries to set one. A contract sees the bits and the count.
+/// A table of marks, one bit each, and the count of the tries to set one. Contracts see the bits and the count.
 ///
-/// Only the blocks that were used since the last clearing are cleared by the next.
+/// `clear` only clears the blocks that were used since the last `clear`.
 #[derive(Debug, Drop)]
 pub struct Visited {
     blocks: Vec<u64>,
-    /// Every block from this one on is zero.
+    /// All blocks from this index on are zero.
     used: usize,
     turns: Counter,
 }
@@ -34,7 +34,7 @@ impl Model for Visited {
 }
 
 impl Visited {
-    /// No marks, and no memory taken.
+    /// Makes a table without marks. Does not allocate.
     pub fn new(alloc: Global) -> Visited
         ensures { result ≡ record { bits = []; turns = 0 } }
     {
@@ -45,7 +45,7 @@ impl Visited {
         }
     }
 
-    /// The same marks and count.
+    /// Returns a table of the same marks and count.
     pub fn clone(&self) -> Result<Visited, Refused>
         ensures { IfOk result (λ copy. copy ≡ self.now) }
     {
@@ -56,14 +56,14 @@ impl Visited {
         })
     }
 
-    /// How many blocks there are.
+    /// Returns the number of blocks.
     pub fn block_len(&self) -> usize
         ensures { result ≡ length self.now.bits / 64 }
     {
         self.blocks.len()
     }
 
-    /// Holds no block from here on. The memory stays for the next search.
+    /// Removes all blocks. The memory is kept for the next search.
     pub fn reset(&mut self)
         ensures { self.new ≡ record self.old { bits = [] } }
     {
@@ -71,7 +71,7 @@ impl Visited {
         self.blocks.clear();
     }
 
-    /// Counts from 0 again. What was counted is added to the total.
+    /// Adds the count of turns to the total, and resets it to 0.
     pub fn restart_turns(&mut self, total: &mut Counter)
         ensures restarted { self.new ≡ record self.old { turns = 0 } }
         ensures total { total.new ≡ total.old + self.old.turns }
@@ -79,7 +79,7 @@ impl Visited {
         total.take(&mut self.turns);
     }
 
-    /// Makes room for so many marks. It fails only if it has to grow.
+    /// Makes room for this number of marks. Fails only if it has to allocate.
     pub fn reserve(&mut self, bits: usize) -> Result<(), Refused>
         ensures granted { bits ≤ length self.old.bits → IsOk result }
         ensures turns { self.new.turns ≡ self.old.turns }
@@ -94,7 +94,7 @@ impl Visited {
         Ok(())
     }
 
-    /// Takes every mark away.
+    /// Clears all marks.
     pub fn clear(&mut self)
         ensures { self.new ≡ record self.old { bits = replicate (length self.old.bits) false } }
     {
@@ -102,7 +102,7 @@ impl Visited {
         self.used = 0;
     }
 
-    /// Sets the mark, and says whether it was not set before. This is one turn.
+    /// Sets the mark, and returns whether it was unset. This is one turn.
     #[inline(always)]
     pub fn insert(&mut self, bit: usize) -> bool
         requires { bit < length self.old.bits }
@@ -128,7 +128,7 @@ impl Visited {
     }
 }
 
-/// Makes the blocks below this one zero.
+/// Sets the blocks below this index to zero.
 fn zero_below(blocks: &mut [u64], used: usize)
     requires { used ≤ length blocks.old }
     ensures below { (i : ℕ) → i < used → slice_index blocks.new i ≡ 0 }

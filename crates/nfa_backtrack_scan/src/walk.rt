@@ -1,4 +1,4 @@
-//! A walk: the search from one start, turn by turn, past what is marked.
+//! A walk: the search from one start, turn by turn, which skips marked pairs.
 ghost use Rattle.std.specs.Prelude.{◌≡◌, ◌+◌, ◌*◌, ◌<◌, ◌≤◌, [], ◌∷◌, ◌++◌, None, Some, true, List, length, map};
 ghost use Rattle.std.specs.Prelude.{reverse, drop, slice_index_or, slice_set, All, IfOk, OnErr, OnOk};
 ghost use Rattle.std.specs.Prelude.{sum};
@@ -29,28 +29,28 @@ use nfa_scanning::transitions::{byte_at, dense_target, range_target, sparse_targ
 use regex_search_core::{HalfMatch, Input, NonMaxUsize, PatternID, Refused, StateID};
 use thompson_nfa::{Look, NFA, State, look_matches};
 
-/// Where a turn leads.
+/// The result of a turn.
 #[derive(Clone, Copy)]
 pub enum Move {
-    /// On to this place.
+    /// The search goes on at this place.
     Go(Place),
-    /// Nowhere.
+    /// The turn leads nowhere.
     Stuck,
-    /// To a match of the pattern.
+    /// The turn leads to a match of the pattern.
     Matched(PatternID),
 }
 
-/// What comes of a turn and, where it leads nowhere, of what was put off.
+/// The result of a turn and, if the turn leads nowhere, of the frames after it.
 pub enum Turn {
     /// The search goes on at this place.
     On(Place),
-    /// It is over with a match.
+    /// The search ends with a match.
     Ended(HalfMatch),
-    /// It is over without one.
+    /// The search ends without a match.
     Over,
 }
 
-/// On to the target at the next position, a row of so many states further on, if there is one.
+/// Returns the move to the target at the next position, if there is a target. A row has `states` marks.
 #[inline(always)]
 fn past_byte(target: Option<StateID>, place: Place, states: usize) -> Move
     requires at { place.at < usize.MAX }
@@ -67,8 +67,8 @@ fn past_byte(target: Option<StateID>, place: Place, states: usize) -> Move
     }
 }
 
-/// Whether the assertion holds at the position. It is a call of its own, so that its values take no registers from the
-/// walk.
+/// Returns whether the assertion holds at the position. It is a function of its own, so that its values take no
+/// registers from the walk.
 #[inline(never)]
 fn assertion_holds(look: Look, haystack: &[u8], at: usize) -> bool
     requires { at ≤ length haystack.now }
@@ -77,7 +77,7 @@ fn assertion_holds(look: Look, haystack: &[u8], at: usize) -> bool
     look_matches(look, haystack, at)
 }
 
-/// Puts off all alternatives but the first, the earliest on top.
+/// Pushes all alternatives but the first, with the earliest on top.
 fn put_off(stack: &mut Vec<Frame>, alternates: &[StateID], place: Place) -> Result<(), Refused>
     ensures { OnOk result (stack.new.items
         ≡ stack.old.items ++ map (λ sid. Step sid place.at place.row) (reverse (drop 1 alternates.now))) }
@@ -90,7 +90,7 @@ fn put_off(stack: &mut Vec<Frame>, alternates: &[StateID], place: Place) -> Resu
     Ok(())
 }
 
-/// Writes the position to the slot, and puts off that the slot gets back what it holds.
+/// Writes the position to the slot, and pushes a frame that restores what the slot holds.
 #[inline(always)]
 fn save(
     stack: &mut Vec<Frame>,
@@ -109,7 +109,7 @@ fn save(
     Ok(())
 }
 
-/// Puts off that the slot gets its old value back.
+/// Pushes a frame that restores the old value of the slot.
 #[inline(always)]
 fn push_restoring(
     stack: &mut Vec<Frame>,
@@ -130,14 +130,14 @@ fn push_restoring(
     }
 }
 
-/// Where a walk goes on after its first turn, and the slot that this wrote, if it took one.
+/// The place at which a walk goes on after its first turn, and the slot that this turn wrote, if any.
 #[derive(Clone, Copy)]
 pub struct Begun {
     place: Place,
     slot: Option<usize>,
 }
 
-/// One turn, or the turns of a loop over one byte: tries to mark the place, and says where it leads.
+/// Takes one turn, or the turns of a loop over one byte: tries to mark the place, and returns where it leads.
 #[inline(always)]
 fn step(
     nfa: &NFA,
@@ -198,7 +198,7 @@ fn step(
             let preferred = place.to(*alt1);
             scratch.stack.push(place.later(*alt2))?;
             if let Some(trans) = way_back(nfa, states, input, at, *alt1, *alt2) {
-                // A copy: what is lent to a call lies in memory, and what the walk holds is not to.
+                // A copy: a value that is borrowed by a call is in memory, and the walk keeps its values in registers.
                 let lent = *input;
                 go_round(nfa, &lent, place.to(*alt1), trans, *alt2, scratch)?;
                 return Ok(Move::Stuck);
@@ -216,7 +216,7 @@ fn step(
     }
 }
 
-/// Takes a frame up: it gives a place to search on from, or a slot its old value back.
+/// Applies a frame: returns its place to search from, or restores the slot.
 #[inline(always)]
 fn unwind(frame: Frame, slots: &mut [Option<NonMaxUsize>]) -> Option<Place>
     requires { WritesSlot (length slots.old) frame }
@@ -235,7 +235,7 @@ fn unwind(frame: Frame, slots: &mut [Option<NonMaxUsize>]) -> Option<Place>
     }
 }
 
-/// Takes up what was put off last, down to a place to search on from.
+/// Pops and applies frames, down to a place to search from.
 #[inline(always)]
 fn resume(stack: &mut Vec<Frame>, slots: &mut [Option<NonMaxUsize>]) -> Option<Place>
     requires { All (WritesSlot (length slots.old)) stack.old.items }
@@ -255,7 +255,7 @@ fn resume(stack: &mut Vec<Frame>, slots: &mut [Option<NonMaxUsize>]) -> Option<P
     None
 }
 
-/// A turn and, where it leads nowhere, what was put off last.
+/// Takes a turn and, if it leads nowhere, pops frames.
 #[inline(always)]
 fn advance(
     nfa: &NFA,
@@ -292,7 +292,7 @@ fn advance(
     }
 }
 
-/// Whether the slot is handed out and has no offset.
+/// Returns whether the slot is in the row and unset.
 #[inline(always)]
 fn is_unset(slots: &[Option<NonMaxUsize>], slot: usize) -> bool
     ensures { result ≡ true → (slot < length slots.now) × (slice_index_or slots.now slot None ≡ None) }
@@ -307,14 +307,14 @@ fn write(slots: &mut [Option<NonMaxUsize>], slot: usize, at: usize)
     requires at { at < usize.MAX }
     ensures { slots.new ≡ slice_set slots.old slot (Some at) }
 {
-    // A position in the span is an offset. Said so, it is written without a test.
+    // A position in the span is an offset. With this stated, it is written without a test.
     let Some(offset) = NonMaxUsize::new(at) else {
         unreachable!()
     };
     slots[slot] = Some(offset);
 }
 
-/// The first turn of a walk, if it writes a slot without an offset. `None` where the place is marked already.
+/// Takes the first turn of a walk, if that writes a slot that is unset. Returns `None` if the place is already marked.
 #[inline(always)]
 fn begin(
     nfa: &NFA,
@@ -347,7 +347,7 @@ fn begin(
     }
 }
 
-/// Takes the offset of the slot away, if one was written.
+/// Unsets the slot again, if one was written.
 #[inline(always)]
 fn put_back(slot: Option<usize>, slots: &mut [Option<NonMaxUsize>])
     requires { ForSome slot (λ k. k < length slots.old) }
@@ -359,8 +359,8 @@ fn put_back(slot: Option<usize>, slots: &mut [Option<NonMaxUsize>])
     }
 }
 
-/// Searches from a place to the first match, past what is marked, and leaves the stack empty. A slot that its first
-/// turn writes needs no place on the stack.
+/// Searches from a place to the first match, skips marked pairs, and leaves the stack empty. A slot that its first turn
+/// writes needs no frame on the stack.
 pub fn walk(
     nfa: &NFA,
     input: &Input<'_>,
@@ -394,7 +394,7 @@ pub fn walk(
     }
 }
 
-/// Searches from a place to the first match, past what is marked.
+/// Searches from a place to the first match, and skips marked pairs.
 #[inline(always)]
 fn walk_on(
     nfa: &NFA,
@@ -413,7 +413,8 @@ fn walk_on(
     ensures walks { IfOk result (λ half. Walks nfa.now (search_of input.now) (pair_of start) half scratch.old.visited
         slots.old scratch.new.stack.items scratch.new.visited slots.new) }
 {
-    // Both are read at each place. Held here, and not behind a reference, they need not be read again after each write.
+    // Both are read at each place. As local values they need not be read again after each write, as values behind a
+    // reference would.
     let states = nfa.states();
     let own_input = *input;
     let mut place = start;

@@ -1,4 +1,5 @@
--- What the searches of an iteration over captures by a choice answer, and what its iterator may ask and gives.
+-- The answers of searches in an iteration over captures by a choice, and when its iterator may search and what it
+-- gives.
 use Rattle.std.proofs.Common.{◌≡◌, Bool, true, false, MatchBool, List, [], ◌∷◌, ◌++◌, map, None, Option, Some}
 use Rattle.std.proofs.Common.{Result, Ok, Err, ◌⊎◌, inl, inr, refl, subst}
 use Rattle.std.specs.Prelude.{All, IfErr, IfOk}
@@ -55,7 +56,7 @@ may-after : (s : State) (x : Search) (a : Answer Row) (t : State) → MayCatchBy
     → MayCatchByRule t
 may-after s x a t may asked = rw asked.work.keeps.nfa asked.holds
 
--- steps may search wherever they stand
+-- steps may search in every state
 pub steps-serve : (s : Steps State) → MayCatchByRule s.asker
     → can_step (λ q x. MayCatchByRule q) AsksRowByRule row_span s
 steps-serve s may =
@@ -177,7 +178,7 @@ module _ {T : Type 0} (calls : T → Option (Result Captured SearchError) → T 
         inner steps s walk going holds.is;
   }
 
-  -- and no error but that of memory
+  -- and no error but `Memory`
   caught-memory : CapturesMemory calls s
   caught-memory =
       captures-memory c.nfa (kind_in c) x.earliest Rows (λ t o h. h) x AsksRowByRule Good (row-told c x) calls inner
@@ -216,7 +217,7 @@ module _ (x : Search) (s : Steps State) (walk : steps_walk s ≡ fresh x) (going
       going (itself s.asker.cache) lead.ran lead.over in
       record { answers = k.0 ∷ k.1; steps = rw walk at k.2 }
 
-  -- to their end, where all captures come
+  -- to their end, if all captures are returned
   drained-to_end : (cs : List Captured) (t : Steps State) → DrainsAll RuleSteps s cs t
       → ChoiceCatchesToEnd x (map row_of cs) s.asker.cache t.asker.cache
   drained-to_end cs t all =
@@ -315,7 +316,7 @@ module _ (x : Search) (s : Steps State) (may : MayCatchByRule s.asker) (walk : s
         to_end = drained-to_end x s walk going cs t all;
       }
 
-  -- and an error is that of memory
+  -- and the only error is `Memory`
   pub error-drained : (error : SearchError) (t : Steps State)
       → (error ≡ Memory) ⊎ DrainsToError RuleSteps s error t → error ≡ Memory
   error-drained error t (inl is) = is

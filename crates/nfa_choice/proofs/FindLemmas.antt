@@ -1,4 +1,4 @@
--- What the searches of an iteration by a choice answer, and what its iterator may ask.
+-- The answers of searches in an iteration by a choice, and when its iterator may search.
 use Rattle.std.proofs.Common.{◌≡◌, ◌∙◌, Bool, false, List, ◌∷◌, map, Option, Result, Ok, refl, ap, subst}
 use Rattle.std.specs.Iterator.{Yields}
 use Rattle.std.specs.Option.{option_map}
@@ -27,7 +27,7 @@ use Rattle.nfa_choice.specs.Matches.{choice_finds, choice_finds_next, may_ask}
 use Rattle.nfa_choice.specs.declared.choose.find_iter.ByRule.{ByRule}
 use Rattle.nfa_choice.specs.declared.choose.find_iter.ChoiceMatches.{ChoiceMatches}
 
--- any search may be asked, and none errs
+-- it may always search, and never errs
 pub choice-serves : (s : Steps (With ByRule Choosing)) → can_step_surely may_ask AsksByRule span_of s
 choice-serves s = ServesOnAlong-by may_ask AsksByRule SameButStart same_start-self same_start-then
     (IsSurelyInside span_of)
@@ -39,7 +39,7 @@ pub record IsOf (c d : Choosing) : Type 0 where
   pub nfa : d.nfa ≡ c.nfa
   pub kind : kind_in d ≡ kind_in c
 
--- and stays so where the engines are kept
+-- and stays so if the engines are kept
 pub is-kept : (c d e : Choosing) → IsOf c d → KeepsEngines d e → IsOf c e
 is-kept c d e is keeps = record { nfa = keeps.nfa ∙ is.nfa; kind = ap (λ k. kind-by k) keeps.match_kind ∙ is.kind }
   where

@@ -22,15 +22,15 @@ pub record CatchesByRule (x : Search) (old new : Choosing) : Type 0 where
   pub holds : HoldsNoMore 0 old.back new.back
   pub keeps : KeepsEngines old new
 
--- what one search for captures answers: the row that the kind and its `earliest` mean, and never an error
+-- the answer of one search for captures: the row of the kind and its `earliest`, and never an error
 abbrev pub ChoiceTellsRow : Choosing → Search → Answer Row → Type 0
 ChoiceTellsRow c x a = TellsRow c.nfa (kind_in c) x.earliest x a
 
--- an iteration over the captures of x led from the one choice to the other only by its searches, as far as it went
+-- an iteration over the captures of x led from one choice to the other only by its searches, as far as it went
 abbrev pub ChoiceCatchesOn : Search → Choosing → Choosing → Type 0
 ChoiceCatchesOn x old new = Leaves row_span (DoesSearch (ChoiceTellsRow old) (λ y a. CatchesByRule y)) x old new
 
--- and it went to its end, past these rows
+-- the same, and the iteration went to its end, past these rows
 abbrev pub ChoiceCatchesToEnd : Search → List Row → Choosing → Choosing → Type 0
 ChoiceCatchesToEnd x rows old new =
     LeavesAtEnd row_span (DoesSearch (ChoiceTellsRow old) (λ y a. CatchesByRule y)) x rows old new
@@ -50,7 +50,7 @@ choice_catches_walk s = walk_of s.steps.searcher
 abbrev pub choice_catches_done : ChoiceCaptures → Bool
 choice_catches_done s = s.steps.done
 
--- a search may be asked if the captures have the groups of the NFA
+-- it may search if the captures have the groups of the NFA
 abbrev pub MayCatchByRule : With (Catching (Unit {0})) Choosing → Type 0
 MayCatchByRule s = HasGroups s.cache.nfa s.asker.captures
 

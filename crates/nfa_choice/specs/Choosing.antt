@@ -1,4 +1,4 @@
--- An engine above two others as a value, and which of the two a search is for.
+-- An engine over two others as a value, and the rule that picks one of the two for a search.
 use Rattle.std.specs.Prelude.{◌≡◌, ◌⊎◌, ◌+◌, ◌*◌, ◌≤◌, ℕ, Bool, true, false, ◌&&◌, not, nat_le, MatchBool, Option, Some}
 use Rattle.regex_search_core.specs.Search.{Search}
 use Rattle.regex_search_core.specs.declared.search.MatchKind.{MatchKind}
@@ -12,7 +12,7 @@ use Rattle.nfa_pikevm.specs.Engines.{Pike, PikeCache, AddsPikeWork, Fits, SameNu
 use Rattle.nfa_choice.specs.declared.choose.Engine.{Engine}
 use Rattle.nfa_choice.specs.declared.choose.Engine.TheVariants as engine
 
--- an NFA, what was set for the two engines, what their caches show, and which of them gave the last answer
+-- an NFA, the settings of the two engines, what their caches show, and which engine gave the last answer
 pub record Choosing : Type 0 where
   pub nfa : Automaton
   pub visited_capacity : Option ℕ
@@ -25,11 +25,11 @@ pub record Choosing : Type 0 where
 abbrev pub backtracker_of : Choosing → Backtracker
 backtracker_of c = record { nfa = c.nfa; visited_capacity = c.visited_capacity }
 
--- its PikeVM, whose answers are its own
+-- its PikeVM, which defines its answers
 abbrev pub pike_of : Choosing → Pike
 pike_of c = record { nfa = c.nfa; match_kind = c.match_kind }
 
--- which of several matches is meant
+-- the match kind that it searches with
 abbrev pub kind_in : Choosing → MatchKind
 kind_in c = kind_of (pike_of c)
 
@@ -41,7 +41,7 @@ abbrev pub is_leftmost_first : MatchKind → Bool
 is_leftmost_first LeftmostFirst = true
 is_leftmost_first All = false
 
--- the search is one for the backtracker: leftmost first, not the earliest match, and of a span that is short enough
+-- the search is one for the backtracker: leftmost first, without `earliest`, and of a span that is short enough
 abbrev pub is_for_backtracker : Choosing → Search → Bool
 is_for_backtracker c x = is_leftmost_first (kind_in c) &&
     (not x.earliest && nat_le (span_len x) (max_haystack_len_of (backtracker_of c)))
@@ -51,9 +51,9 @@ pub record IsBounded (nfa : Automaton) (x : Search) (scanned turned : ℕ) : Typ
   pub scans : scanned ≤ scan_limit nfa x
   pub turns : turned ≤ scanned * ((1 + turn_weight nfa) * (span_len x + 1))
 
--- The PikeVM searches for the `earliest` match, or not.
+-- `earliest` is the flag of the PikeVM's search.
 module _ (x : Search) (earliest : Bool) where
-  -- the backtracker answered, and the PikeVM was not asked
+  -- the backtracker answered, and the PikeVM did not search
   pub record BacktrackerRan (old new : Choosing) : Type 0 where
     pub counts : CountsAnswer old.back new.back
     pub work : AddsWork old.back new.back
@@ -63,7 +63,7 @@ module _ (x : Search) (earliest : Bool) where
     pub ran : new.ran ≡ Some engine.Backtracker
     pub pike : new.pike ≡ old.pike
 
-  -- the backtracker was asked and refused, and the PikeVM answered
+  -- the backtracker refused, and the PikeVM answered
   pub record PikeStoodIn (old new : Choosing) : Type 0 where
     pub counts : CountsRefusal old.back new.back
     pub tried : AddsWork old.back new.back
@@ -75,7 +75,7 @@ module _ (x : Search) (earliest : Bool) where
     pub bounded : IsBounded old.nfa x new.pike.scans new.pike.turns
     pub ran : new.ran ≡ Some engine.PikeVM
 
-  -- the PikeVM answered, and the backtracker was not asked
+  -- the PikeVM answered, and the backtracker did not search
   pub record PikeRan (old new : Choosing) : Type 0 where
     pub back : new.back ≡ old.back
     pub work : AddsPikeWork old.pike new.pike
@@ -83,19 +83,19 @@ module _ (x : Search) (earliest : Bool) where
     pub bounded : IsBounded old.nfa x new.pike.scans new.pike.turns
     pub ran : new.ran ≡ Some engine.PikeVM
 
--- which engine ran, by the rule
+-- the engine that ran, by the rule
 abbrev pub RunsByRule : Choosing → Search → Bool → Choosing → Type 0
 RunsByRule old x earliest new = MatchBool (is_for_backtracker old x)
     (BacktrackerRan x earliest old new ⊎ PikeStoodIn x earliest old new)
     (PikeRan x earliest old new)
 
--- what a search leaves as it is
+-- all that a search leaves unchanged
 pub record KeepsEngines (old new : Choosing) : Type 0 where
   pub nfa : new.nfa ≡ old.nfa
   pub visited_capacity : new.visited_capacity ≡ old.visited_capacity
   pub match_kind : new.match_kind ≡ old.match_kind
   pub numbers : SameNumbers old.pike new.pike
 
--- the cache of the PikeVM for another NFA: it is reset only where it does not fit
+-- the cache of the PikeVM for another NFA: it is reset only if it does not fit
 abbrev pub IsRefitted : PikeCache → Automaton → PikeCache → Type 0
 IsRefitted old nfa new = (Fits old nfa × (new ≡ old)) ⊎ (¬ (Fits old nfa) × (new ≡ refitted old nfa))

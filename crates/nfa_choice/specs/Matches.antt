@@ -24,15 +24,15 @@ pub record FindsByRule (x : Search) (old new : Choosing) : Type 0 where
   pub holds : HoldsNoMore (2 * length old.nfa.groups) old.back new.back
   pub keeps : KeepsEngines old new
 
--- what one search for a match answers: the match that the kind and its `earliest` mean, and never an error
+-- the answer of one search for a match: the match of the kind and its `earliest`, and never an error
 abbrev pub ChoiceTells : Choosing → Search → Answer Found → Type 0
 ChoiceTells c x a = TellsMatch c.nfa (kind_in c) x.earliest x a
 
--- an iteration over the matches of x led from the one choice to the other only by its searches, as far as it went
+-- an iteration over the matches of x led from one choice to the other only by its searches, as far as it went
 abbrev pub ChoiceFindsOn : Search → Choosing → Choosing → Type 0
 ChoiceFindsOn x old new = Leaves span_of (DoesSearch (ChoiceTells old) (λ y a. FindsByRule y)) x old new
 
--- and it went to its end, past these matches
+-- the same, and the iteration went to its end, past these matches
 abbrev pub ChoiceFindsToEnd : Search → List Found → Choosing → Choosing → Type 0
 ChoiceFindsToEnd x ms old new = LeavesAtEnd span_of (DoesSearch (ChoiceTells old) (λ y a. FindsByRule y)) x ms old new
 
@@ -51,7 +51,7 @@ choice_finds_walk s = walk_of s.steps.searcher
 abbrev pub choice_finds_done : ChoiceMatches → Bool
 choice_finds_done s = s.steps.done
 
--- any search may be asked
+-- it may always search
 abbrev pub may_ask : With ByRule Choosing → Search → Type 0
 may_ask s x = ⊤
 
@@ -79,8 +79,8 @@ pub record KeepsChoice (s t : ChoiceMatches) : Type 0 where
 abbrev pub ChoiceGivesKept : ChoiceMatches → Type 0
 ChoiceGivesKept s = GivesKept choice_finds_next KeepsChoice s
 
--- The calls change the choice only by the searches of an iteration over x; at `None` it went to its end, past the
--- matches so far.
+-- The calls change the choice only by the searches of an iteration over x. At `None` the iteration went to its end,
+-- past the matches so far.
 pub record ChoiceFindsBySearches (x : Search) (s : ChoiceMatches) : Type 0 where
   pub on : GivesKept choice_finds_next (λ p q. ChoiceFindsOn x p.choice.now q.choice.now) s
   pub to_end : (xs : List Match) (t u : ChoiceMatches) → Yields choice_finds_next s xs t → choice_finds_next t None u

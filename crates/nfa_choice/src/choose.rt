@@ -1,8 +1,8 @@
-//! The engine that takes one of the two for each search. No search fails; only calls that allocate do, with
+//! The engine that picks one of the two for each search. No search fails. Only calls that allocate do, with
 //! [`SearchError::Memory`]: those that make a choice, captures or a list.
 //!
-//! Take it where one NFA is searched and neither engine is wanted for its own sake. It holds both and their caches, so
-//! it takes the memory of both; one of the two alone is the leaner choice where its limits suit.
+//! Use it if you do not need a particular engine. It holds both engines and their caches, so it takes the memory of
+//! both. If the limits of one engine suit you, that engine takes less.
 //!
 //! ```
 //! let mut choice = Choice::new(alloc, nfa, backtrack::Config::new(), pikevm::Config::new())?;
@@ -41,17 +41,18 @@ use thompson_nfa::NFA;
 /// One of the two engines.
 #[derive(Clone, Copy, Debug, PartialEq, Eq)]
 pub enum Engine {
-    /// The one that walks depth first.
+    /// The engine that searches depth first.
     Backtracker,
-    /// The one that follows all states side by side.
+    /// The engine that follows all states side by side.
     PikeVM,
 }
 
-/// A search of one NFA that takes the engine which suits, and never fails.
+/// A search engine for one NFA that picks the backtracker or the PikeVM for each search, and never fails.
 ///
-/// The backtracker runs where the match kind is leftmost first, `earliest` is off and the span is at most as long as
-/// [`BoundedBacktracker::max_haystack_len`]. Where it refuses, and everywhere else, the PikeVM runs. A contract sees
-/// the NFA, what was set for both, what both caches show, and which engine gave the last answer.
+/// The backtracker runs if the match kind is leftmost first, `earliest` is off, and the span is at most
+/// [`BoundedBacktracker::max_haystack_len`] bytes long. If it refuses the search, and in all other cases, the PikeVM
+/// runs. Contracts see the NFA, the settings of both engines, what both caches show, and which engine gave the last
+/// answer.
 #[derive(Debug, Drop)]
 pub struct Choice {
     back: BoundedBacktracker,
@@ -80,7 +81,7 @@ impl Model for Choice {
     ghost invariant = { λ c. (c.pike.nfa ≡ c.back.nfa) × Fits c.pike_cache c.back.nfa };
 }
 
-/// A backtracker of the NFA.
+/// Makes a backtracker of the NFA.
 fn backtracker(config: backtrack::Config, nfa: NFA) -> BoundedBacktracker
     ensures { result ≡ record { nfa = nfa; visited_capacity = config } }
 {
@@ -92,7 +93,7 @@ fn backtracker(config: backtrack::Config, nfa: NFA) -> BoundedBacktracker
     }
 }
 
-/// A PikeVM of the NFA.
+/// Makes a PikeVM of the NFA.
 fn pikevm(config: pikevm::Config, nfa: NFA) -> PikeVM
     ensures { result ≡ record { nfa = nfa; match_kind = config } }
 {
@@ -105,7 +106,7 @@ fn pikevm(config: pikevm::Config, nfa: NFA) -> PikeVM
 }
 
 impl Choice {
-    /// Makes both engines of the NFA, each with its configuration and a cache. The only error is `Memory`.
+    /// Makes both engines for the NFA, each with its configuration and a cache. The only error is `Memory`.
     pub fn new(
         alloc: Global,
         nfa: NFA,
@@ -138,8 +139,8 @@ impl Choice {
         })
     }
 
-    /// Returns the engine that gave the answer of the last search, also of one in an iteration. Returns `None` before
-    /// the first.
+    /// Returns the engine that gave the answer of the last search, including searches of an iteration. Returns `None`
+    /// before the first search.
     pub fn ran(&self) -> Option<Engine>
         ensures { result ≡ self.now.ran }
     {
@@ -168,7 +169,7 @@ impl Choice {
         self.pike.get_config()
     }
 
-    /// Whether the search is one for the backtracker.
+    /// Returns whether the search is one for the backtracker.
     fn is_for_backtracker(&self, input: &Input<'_>) -> bool
         ensures { result ≡ is_for_backtracker self.now (search_of input.now) }
     {
@@ -177,8 +178,8 @@ impl Choice {
             && input.get_span().len() <= self.back.max_haystack_len()
     }
 
-    /// Searches, and fills the slots with byte offsets, as both engines do: any number may be handed in; those past the
-    /// NFA's are none, and so is every slot after no match.
+    /// Searches, and writes byte offsets to the slots, as both engines do. Any number of slots may be given. Slots that
+    /// the NFA does not have are set to `None`, and so are all slots if nothing matches.
     pub fn search_slots(
         &mut self,
         input: &Input<'_>,
@@ -206,9 +207,9 @@ impl Choice {
         self.pike.search_slots(&mut self.pike_cache, input, slots)
     }
 
-    /// Searches, and fills captures: their pattern is the one that matched, and their slots get what
-    /// [`Choice::search_slots`] gives as many slots. Their groups stay. After no match they show none: no pattern, and
-    /// no slot set. Any captures may be handed in, those of another NFA too.
+    /// Searches, and writes the result to the captures: the pattern that matched, and the slots that
+    /// [`Choice::search_slots`] returns for that number of slots. Their groups do not change. If nothing matches, no
+    /// pattern and no slot is set. The captures may be of another NFA.
     pub fn search(&mut self, input: &Input<'_>, captures: &mut Captures)
         ensures answer { IsAnswer self.old.nfa (kind_in self.old) (search_of input.now).earliest (search_of input.now)
             captures.new.pattern captures.new.slots }
@@ -233,7 +234,7 @@ impl Choice {
         self.pike.search(&mut self.pike_cache, input, captures);
     }
 
-    /// Returns the match that a search of the input finds.
+    /// Returns the match that a search of the input finds, in byte offsets into the haystack.
     pub fn find<'h>(&mut self, input: Input<'h>) -> Option<Match>
         ensures answer { IsMatchAnswer self.old.nfa (kind_in self.old) (search_of input.entry).earliest
             (search_of input.entry)
@@ -254,7 +255,7 @@ impl Choice {
         self.pike.find(&mut self.pike_cache, input)
     }
 
-    /// Returns whether a search of the input finds a match. The flag `earliest` of the input does not change the
+    /// Returns whether a search of the input finds a match. The `earliest` flag of the input does not change the
     /// answer.
     pub fn is_match<'h>(&mut self, input: Input<'h>) -> bool
         ensures answer { IsFoundAnswer self.old.nfa (kind_in self.old) false (search_of input.entry) result }
@@ -273,8 +274,7 @@ impl Choice {
         self.pike.is_match(&mut self.pike_cache, input)
     }
 
-    /// Replaces the NFA. The configurations stay. The only error is `Memory`; the searches then are over the old NFA,
-    /// as before.
+    /// Replaces the NFA. The configurations stay. The only error is `Memory`. After an error the choice is unchanged.
     pub fn replace(&mut self, nfa: NFA) -> Result<(), SearchError>
         ensures made { OnOk result (self.new ≡ record self.old { nfa = nfa; pike = self.new.pike }) }
         ensures refitted { OnOk result (IsRefitted self.old.pike nfa self.new.pike) }

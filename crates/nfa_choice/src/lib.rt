@@ -1,8 +1,8 @@
-//! An engine above two others ([`choose`]): the backtracker where its answers are wanted and its marks have room, and
-//! the PikeVM everywhere else. Its searches never fail.
+//! An engine over two others ([`choose`]): it uses the backtracker if that can give the answer and its marks have room,
+//! and otherwise the PikeVM. Its searches never fail.
 //!
-//! Take it where one NFA is searched for texts of all lengths. It takes the memory of both engines; one of them alone
-//! (`nfa_engines`) is leaner where its limits suit.
+//! Use it if haystacks may have any length. It takes the memory of both engines. If the limits of one engine suit you,
+//! that engine (`nfa_engines`) takes less.
 //!
 //! ```
 //! let mut choice = Choice::new(alloc, nfa, backtrack::Config::new(), pikevm::Config::new())?;

@@ -1,4 +1,4 @@
--- What states that are added behind others keep and bring.
+-- What states that are added after others keep and add.
 use Rattle.std.proofs.Common.{◌≡◌, ℕ, ◌+◌, ◌-◌, ◌≤◌, ◌<◌, inl, inr, List, [], ◌∷◌, ◌++◌, map, length, refl, sym, ap, ap₂, ◌∙◌, subst, arith, length-append, append_assoc, vec_len}
 use Rattle.std.specs.Prelude.{slice_index_or, Option, Vec}
 use Rattle.std.specs.declared.alloc.Global.{Global}
@@ -123,7 +123,7 @@ module _ (old one two three : List Node) (nfa : Nfa) (s : Site) (next slot : ℕ
     within = omega (arith, longest);
   }
 
--- a pattern stays where it stands
+-- a pattern stays in its place
 pub pattern-kept : (old new : List Node) (slots k start : ℕ) (re : Re) → Adds old new → IsPatternAt old slots k start re
     → IsPatternAt new slots k start re
 pattern-kept old new slots k start re adds made = record {

@@ -12,7 +12,7 @@ use Rattle.nfa_compiler.specs.AllHits.{hit_after, hits_from}
 use Rattle.nfa_compiler.specs.Patterns.{Hit, hit_by}
 use Rattle.nfa_compiler.proofs.BoundLemmas.{LiesFrom}
 
--- where a hit is
+-- the span of a hit
 abbrev pub span_of_hit : Hit → Span
 span_of_hit h = record { start = h.start; end = h.trace.end }
 
@@ -25,7 +25,7 @@ module _ {X : Type 0} (span : X → Span) (give : Hit → X) where
   Meets (Ok (Some y)) (Some h) = (y ≡ give h) × (span y ≡ span_of_hit h)
   Meets (Err error) h = ⊥
 
-  -- a search from each position meets the hit there, and no hit ends behind `last`
+  -- a search from each position meets the hit there, and no hit ends after `last`
   module _ (x : Search) (tells : Search → Answer X → Type 0) (hit_from : ℕ → Option Hit) (haystack : List ℕ)
       (meets : (i : ℕ) (a : Answer X) → tells (record x { start = i }) a → Meets a (hit_from i))
       (lies : (i : ℕ) (h : Hit) → hit_from i ≡ Some h → LiesFrom haystack i (length haystack + 1) h) where
@@ -96,7 +96,7 @@ module _ {X : Type 0} (span : X → Span) (give : Hit → X) where
             (never ((span y).start == (span y).end)) rest in
             subst (λ c. Meets c (hit_from x.start)) (sym is) m
 
-    -- a hit after one that ended at i ends behind i
+    -- a hit after one that ended at i ends after i
     after-lies : (i : ℕ) (h : Hit) → hit_after hit_from i ≡ Some h
         → (i < h.trace.end) × (h.trace.end ≤ length haystack)
     after-lies i h e = of (hit_from i) refl e

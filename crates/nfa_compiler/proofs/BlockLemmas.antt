@@ -77,13 +77,13 @@ AreExplicit [] = Unit {0}
 AreExplicit (w ∷ ws) = (2 ≤ w.0) × AreExplicit ws
 
 module _ (a : Automaton) (s : Site) where
-  -- the path ends with the pattern's Match where the trace ends, and writes what the trace does and then the end
+  -- the path ends with the pattern's Match at the end of the trace, and writes what the trace does and then the end
   pub record Told (t : Trace) (p : List Pair) : Type 0 where
     pub ends : EndsWith (match_at s, t.end) p
     pub writes : writes_along a p ≡ map (λ w. (slot_in s w.0, w.1)) t.writes ++ (slot_in s 1, t.end) ∷ []
     pub explicit : AreExplicit t.writes
 
-  -- both are none, or the path tells of the trace
+  -- both are none, or the path follows the trace
   abbrev pub Tells : Option Trace → Option (List Pair) → Type 0
   Tells None None = Unit {0}
   Tells None (Some p) = ⊥
@@ -134,7 +134,7 @@ module _ (a : Automaton) (x : Search) (nfa : Nfa) (s : Site) (block : IsBlock a.
   abbrev left : ℕ → ℕ → ℕ
   left q i = measure nfa x.haystack x.end q i
 
-  -- no mark is a pair that a walk from below n may come to
+  -- no mark is a pair that a walk from below n may reach
   pub record IsClear (marks : List Pair) (n : ℕ) : Type 0 where
     pub states : (r j : ℕ) → r < s.size → left r j < n → In (s.base + r, j) marks → ⊥
     pub match : (j : ℕ) → In (match_at s, j) marks → ⊥
@@ -172,7 +172,7 @@ module _ (a : Automaton) (x : Search) (nfa : Nfa) (s : Site) (block : IsBlock a.
   abbrev leads : ℕ → ℕ → List Pair
   leads q i = edges a x (s.base + q, i)
 
-  -- the state that stands here
+  -- the state at this place
   here : (q : ℕ) → q < s.size → (state : their_state.State) → state_of nfa q ≡ state
       → Stands nfa.transitions.items s state (node_at a (s.base + q))
   unfolding node_at
@@ -180,7 +180,7 @@ module _ (a : Automaton) (x : Search) (nfa : Nfa) (s : Site) (block : IsBlock a.
       subst (λ st. Stands nfa.transitions.items s st (slice_index_or a.states (s.base + q) Fail)) is
       (block.states q below)
 
-  -- and behind the states the Match
+  -- and the Match after the states
   match_here : node_at a (match_at s) ≡ Match (number_of s.pattern)
   unfolding node_at
   match_here = block.match
@@ -243,7 +243,7 @@ module _ (a : Automaton) (x : Search) (nfa : Nfa) (s : Site) (block : IsBlock a.
     abbrev Below : Type 0
     Below = (r j : ℕ) → left r j < left q i → Walks r j
 
-    -- what is known of a node that stands for a state which reads a byte
+    -- what is known of a node for a state that reads a byte
     record Reads (state : their_state.State) (n : Node) : Type 0 where
       visits : visit nfa.transitions.items x.haystack x.end go state i
           ≡ read nfa.transitions.items x.haystack x.end go state i
@@ -308,7 +308,7 @@ module _ (a : Automaton) (x : Search) (nfa : Nfa) (s : Site) (block : IsBlock a.
             ∙ ap (λ o. option_to_list (option_and_then (λ c. option_map (λ k. (k, i + 1)) (target_on n c)) o)) byte)
         by_byte (Some b) byte = by_target b byte (next_on nfa.transitions.items state b) refl
 
-    -- the walk from here, by the state that stands here
+    -- the walk from here, by the state at this place
     walk-from : Below → (state : their_state.State) → state_of nfa q ≡ state
         → Stands nfa.transitions.items s state (node_at a (s.base + q)) → Walk
     unfolding edges_of next_on

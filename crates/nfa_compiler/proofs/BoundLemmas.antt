@@ -1,4 +1,4 @@
--- Where a hit lies: it starts where the search may, and ends within the haystack.
+-- The place of a hit: it starts where the search may start, and ends within the haystack.
 use Rattle.std.proofs.Common.{◌≡◌, ℕ, zero, suc, ◌+◌, ◌-◌, ◌≤◌, inl, inr, Bool, true, false, List, [], ◌∷◌, length, refl, arith}
 use Rattle.std.specs.Prelude.{Option, None, Some, option_and_then, slice_get, if◌then◌else◌, ◌==◌}
 use Rattle.std.proofs.lemmas.Bool.{cases_lt, lt-ltb, le-ltb}
@@ -63,7 +63,7 @@ module _ (haystack : List ℕ) where
       of None never = absurd (cc)
       of (Some re) is = of-one re k i h within is
 
-  -- at the first of n positions from i on, where each hit starts at its own
+  -- at the first of n positions from i on, if each hit starts at its own
   pub first-lies : (at : ℕ → Option Hit)
       → ((i : ℕ) (h : Hit) → i ≤ length haystack → at i ≡ Some h → LiesFrom haystack i i h)
       → (n i : ℕ) (h : Hit) → i + n ≤ length haystack + 1 → first_hit at n i ≡ Some h → LiesFrom haystack i (i + n) h
@@ -90,7 +90,7 @@ module _ (haystack : List ℕ) where
       → first_hit (pick haystack res 0) n i ≡ Some h → LiesFrom haystack i (i + n) h
   of-first res = first-lies (pick haystack res 0) (of-pick res 0)
 
--- the hit of a search lies behind its start
+-- the hit of a search starts at or after the search's start
 pub hit-lies : (res : List Re) (nfa : Automaton) (x : Search) (h : Hit) → x.end ≡ length x.haystack
     → hit res nfa x ≡ Some h → LiesFrom x.haystack x.start (length x.haystack + 1) h
 unfolding expected

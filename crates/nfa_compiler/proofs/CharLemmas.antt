@@ -1,4 +1,4 @@
--- The characters beside a position are those that `regex_hir` sees there.
+-- The codepoints next to a position are those that `regex_hir` sees there.
 use Rattle.std.proofs.Common.{◌≡◌, ℕ, ◌+◌, ◌-◌, ◌<◌, ◌≤◌, Bool, true, false, cond, ◌==◌, inl, inr, List, [], ◌∷◌, ◌++◌, length, take, drop, refl, sym, ap, ap₂, ◌∙◌, arith, chars, encode_utf8, append-nil, length-drop, eq-eqb, le-leb}
 use Rattle.std.specs.Prelude.{Option, None, Some, slice_range}
 use Rattle.std.specs.Char.{IsScalar, len_utf8}
@@ -21,7 +21,7 @@ use Rattle.thompson_nfa.proofs.WordLemmas.{is_word_char_as_classed}
 none-some : {A : Type 0} (a : A) → None ≡ Some a → ⊥
 none-some a e = cc
 
--- one character that some bytes are
+-- one codepoint, given by some bytes
 
 only-some : (cs : List ℕ) (c : ℕ) → only cs ≡ Some c → cs ≡ c ∷ []
 only-some [] c e = cc
@@ -78,7 +78,7 @@ module _ (hay : List ℕ) where
       ∙ take-front (encode_utf8 c) (drop (j + len_utf8 c) hay) in
       ap char_of (slice-is j n ∙ bytes) ∙ char_of-from c parts.0
 
-  -- a character of n bytes, both ways
+  -- a codepoint of n bytes, both ways
   slice-same : (j n : ℕ) → j + n ≤ length hay → char_of (slice_range hay j (j + n))
       ≡ cond (is_some_and (char_at hay j) (λ c. len_utf8 c == n)) (char_at hay j) None
   slice-same j n fits = by_slice (char_of (slice_range hay j (j + n))) refl
@@ -115,7 +115,7 @@ module _ (hay : List ℕ) where
       ap₂ option_or (before-len-same i 1 within) (ap₂ option_or (before-len-same i 2 within)
       (ap₂ option_or (before-len-same i 3 within) (before-len-same i 4 within)))
 
-  -- a character of n bytes behind the position
+  -- a codepoint of n bytes after the position
   after-len-same : (i n : ℕ) → char_of_len_after hay i n
       ≡ cond (is_some_and (char_at hay i) (λ c. len_utf8 c == n)) (char_at hay i) None
   after-len-same i n =
@@ -133,7 +133,7 @@ module _ (hay : List ℕ) where
             | inr h ↦ rw h.0 refl
           ]
 
-  -- one of the four lengths is that of the character
+  -- one of the four lengths is that of the codepoint
   one-of-four : (o : Option ℕ)
       → option_or (cond (is_some_and o (λ c. len_utf8 c == 1)) o None)
       (option_or (cond (is_some_and o (λ c. len_utf8 c == 2)) o None)
@@ -163,7 +163,7 @@ module _ (hay : List ℕ) where
       ap₂ option_or (after-len-same i 1) (ap₂ option_or (after-len-same i 2)
       (ap₂ option_or (after-len-same i 3) (after-len-same i 4))) ∙ one-of-four (char_at hay i)
 
--- the two agree on which characters are of words
+-- the two agree on which codepoints are word characters
 pub word-same : (o : Option ℕ) → is_some_word o ≡ is_some_and o perl.is_word_char
 word-same None = refl
 word-same (Some c) = sym (is_word_char_as_classed c)

@@ -68,7 +68,7 @@ module _ (hay : List ℕ) (text : IsUtf8 hay) where
       (IsCharBoundary-from_take (drop i hay) (length bs) (IsUtf8-drop hay i text at) (omega (arith, length-drop i hay))
       (subst IsUtf8 (sym front) part)))
 
-  -- inside a codepoint only the empty text matches
+  -- inside a codepoint only the empty string matches
   no_text : (bs rest : List ℕ) (i : ℕ) → IsUtf8 bs → i < length hay → drop i hay ≡ bs ++ rest
       → is_boundary hay i ≡ false → length bs ≡ 0
   no_text [] rest i part less reads off = refl
@@ -214,7 +214,7 @@ module _ (hay : List ℕ) (text : IsUtf8 hay) where
         let others = of_row _ rest formed.1 in
         (of_cat _ _ one others.0, of_alt _ _ one others.1)
 
--- what the parser returns under `utf8` matches whole characters
+-- a tree that the parser returns under `utf8` matches whole characters
 pub tree-matches-characters : (h : Hir) → IsWellFormed true h → MatchesCharacters (meaning h)
 tree-matches-characters h formed = record {
   whole = λ hay i j text m. ((of_tree hay text h formed).at i j m).whole;

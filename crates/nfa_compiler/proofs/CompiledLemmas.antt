@@ -30,7 +30,7 @@ pub re-at : (patterns : List Parsed) (i : ℕ) (p : Parsed) → i < length patte
 re-at patterns i p inside is =
     get_or-map (λ q. meaning q.hir) patterns i p empty inside ∙ ap (λ q. meaning q.hir) (sym is)
 
--- one pattern more stands
+-- one more pattern is there
 pub made-more : (old new : List Node) (patterns : List Parsed) (starts more : List ℕ) (slots i start : ℕ) (p : Parsed)
     → i < length patterns → p ≡ slice_index_or patterns i p → Adds old new
     → ArePatterns old (groups_of patterns) starts (res_of patterns) i → length starts ≡ i → more ≡ starts ++ start ∷ []
@@ -41,7 +41,7 @@ made-more old new patterns starts more slots i start p inside is adds made long 
     (subst (λ s. IsPatternAt new s i start (slice_index_or (res_of patterns) i empty)) slots_are
     (subst (λ re. IsPatternAt new slots i start re) (sym (re-at patterns i p inside is)) here))
 
--- the starts stand among the states
+-- the starts are states
 pub inside-more : (n m : ℕ) (starts more : List ℕ) (start : ℕ) → n ≤ m → All (λ s. s < n) starts → start < m
     → more ≡ starts ++ start ∷ [] → All (λ s. s < m) more
 inside-more n m starts more start le all less e =

@@ -72,7 +72,7 @@ begins edges v m p path = elim path.among [
 ]
 
 module _ (res : List Re) (a : Automaton) (made : IsNfaOf res a) (x : Search) (whole : x.end ≡ length x.haystack) where
-  -- where pattern k starts
+  -- the start of pattern k
   abbrev start_of : ℕ → ℕ
   start_of k = slice_index a.patterns k
 
@@ -339,7 +339,7 @@ module _ (res : List Re) (a : Automaton) (made : IsNfaOf res a) (x : Search) (wh
       (EndsWith-last None leads.end p leads.path.ends)
       ∙ leads.matches
 
-  -- where a match may end anywhere
+  -- if a match may end anywhere
   module _ (ends : (k i e : ℕ) → i ≤ x.end → Matches x.haystack (slice_index_or res k empty) i e
       → IsPermittedEnd a x e) where
     complete : (k : ℕ) → PatternMatches res (is_bound res a made) x k → IsPatternOf a x (IsPermitted a x) k

@@ -1,5 +1,5 @@
--- Searches of all kinds in UTF-8 mode: what they find shows that a pattern matches. Where no position splits a
--- codepoint, the first scan gives the answer.
+-- Searches of all kinds in UTF-8 mode: what they find shows that a pattern matches. If no position splits a codepoint,
+-- the first scan gives the answer.
 use Rattle.std.proofs.Common.{◌≡◌, ℕ, zero, suc, ◌+◌, ◌≤◌, ◌<◌, ◌||◌, inl, inr, Bool, true, false, List, [], ◌∷◌, length, refl, sym, ap, subst, arith}
 use Rattle.std.specs.Prelude.{All, Option, None, Some, is_some, MatchBool, option_and_then, if◌then◌else◌, slice_index_or}
 use Rattle.std.proofs.lemmas.Bool.{cases_lt}

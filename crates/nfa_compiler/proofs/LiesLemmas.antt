@@ -1,4 +1,4 @@
--- Where the hits of UTF-8 mode lie: as those of all searches.
+-- The places of the hits in UTF-8 mode: as those of all searches.
 use Rattle.std.proofs.Common.{◌≡◌, ℕ, zero, suc, ◌+◌, ◌-◌, ◌≤◌, inl, inr, Bool, true, false, List, length, arith}
 use Rattle.std.specs.Prelude.{Option, None, Some, if◌then◌else◌}
 use Rattle.std.proofs.lemmas.Bool.{cases_lt, lt-ltb, le-ltb}

@@ -1,4 +1,5 @@
--- For callers whose pattern is written out: what computes the grammar on a literal, and where parts of patterns match.
+-- For callers with a pattern that is written out: the computation of the grammar on a literal, and where parts of
+-- patterns match.
 use Rattle.std.proofs.Common.{◌≡◌, ℕ, zero, suc, ◌+◌, ◌≤◌, ◌<◌, Bool, true, false, List, [], ◌∷◌, refl, sym, ap, ◌∙◌, subst, arith}
 use Rattle.std.specs.Prelude.{Option, None, Some, IsSomeAnd, slice_get, ◌↔◌, ⊤}
 use Rattle.std.specs.List.{list_any}
@@ -41,7 +42,7 @@ same-copies (suc n) rest same = cat_cong same (same-copies n rest same)
 
 -- where it matches
 
--- a byte that passes the test stands at each of the n places from i on
+-- each of the n bytes from i on passes the test
 abbrev pub ArePassed : List ℕ → (ℕ → Bool) → ℕ → ℕ → Type 0
 ArePassed haystack test i n = (k : ℕ) → k < n → IsSomeAnd (slice_get haystack (i + k)) (λ b. test b ≡ true)
 
@@ -62,7 +63,7 @@ module _ (haystack : List ℕ) where
   )
 
   module _ (rs : List Range) (test : ℕ → Bool) (same : (b : ℕ) → in_ranges rs b ≡ test b) where
-    -- a byte that passes stands at the place
+    -- the byte at the place passes
     abbrev Passes : ℕ → Type 0
     Passes p = IsSomeAnd (slice_get haystack p) (λ b. test b ≡ true)
 
@@ -106,7 +107,7 @@ module _ (haystack : List ℕ) where
           ),
     )
 
-    -- a class alone: a byte of the haystack passes
+    -- only a class: a byte of the haystack passes
     pub class-anywhere : (found : Bool) → (found ≡ true) ↔ MatchesIn haystack (byte_in rs)
         → found ≡ list_any test haystack
     class-anywhere found either = both found (list_any test haystack) to from

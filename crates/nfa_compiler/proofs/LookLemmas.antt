@@ -1,4 +1,4 @@
--- An assertion holds where the one that stands for it does.
+-- An assertion holds exactly if its counterpart does.
 use Rattle.std.proofs.Common.{◌≡◌, ℕ, zero, suc, ◌-◌, ◌<◌, ◌≤◌, not, ◌==◌, inl, inr, List, length, refl, sym, ap, ap₂, ◌∙◌, arith, slice_index, eq-eqb, ne_eqb, lt-ltb, le-ltb, add-one}
 use Rattle.std.specs.Prelude.{Bool, ◌&&◌, ◌||◌, nat_lt, Option, None, Some, is_some, slice_get}
 use Rattle.std.proofs.lemmas.Bool.{cases_lt}

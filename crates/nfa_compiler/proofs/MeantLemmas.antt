@@ -129,7 +129,7 @@ pattern-alike None (Some g) a = absurd a
 pattern-alike (Some h) None a = absurd a
 pattern-alike (Some h) (Some g) a = ap Some a.pattern
 
--- the slots, which stand elsewhere among those of all patterns
+-- the slots, which have other numbers among those of all patterns
 
 module _ (groups : List (List (Option (List ℕ)))) (p : ℕ) (known : p < length groups) where
   abbrev behind : ℕ

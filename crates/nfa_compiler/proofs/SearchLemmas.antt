@@ -240,7 +240,7 @@ module _ (res : List Re) (a : Automaton) (made : IsNfaOf res a) where
     told-found (Some h) (Some p) t = refl
 
     module _ (anywhere : is_utf8_empty a ≡ false) where
-      -- the search's answer, and there is no other
+      -- the search's answer, which is the only one
       told : (restarts : ℕ) (path : Option (List Pair)) → IsSearchAnswer a LeftmostFirst false x restarts path
           → TellsHit a (expected res is_bound x) path
       told restarts path answers =

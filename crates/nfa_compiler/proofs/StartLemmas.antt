@@ -1,4 +1,4 @@
--- From where a pattern starts, and from where all of them do, the first accepting path is the hit that is to be found.
+-- From the start of a pattern, and from the start of all, the first accepting path is the hit that has to be found.
 use Rattle.std.proofs.Common.{◌≡◌, ℕ, suc, ◌+◌, ◌*◌, ◌-◌, ◌≤◌, ◌<◌, inl, inr, List, [], ◌∷◌, ◌++◌, map, length, refl, sym, ap, ap₂, ◌∙◌, subst, arith, add-zero, nat_lt, ne_eqb, eq-eqb}
 use Rattle.std.specs.Prelude.{Option, None, Some, is_some, slice_index, slice_index_or, option_map, if◌then◌else◌, ◌==◌}
 use Rattle.std.specs.Option.{option_or}
@@ -33,7 +33,7 @@ unwritten : (ws : List (ℕ × ℕ)) (slot : ℕ) → NoneWrites slot ws → las
 unwritten [] slot none = refl
 unwritten (w ∷ ws) slot none = rw (unwritten ws slot none.1, ne_eqb w.0 slot none.0) refl
 
--- a write may go before others that leave its slot alone
+-- a write may go before others that do not write its slot
 write-early : (ws : List (ℕ × ℕ)) (b e slot : ℕ) → NoneWrites b ws
     → last_write (ws ++ (b, e) ∷ []) slot ≡ last_write ((b, e) ∷ ws) slot
 write-early ws b e slot none =
@@ -46,7 +46,7 @@ write-early ws b e slot none =
     none-after None = refl
     none-after (Some k) = refl
 
--- the places of explicit groups lie behind those of the whole matches
+-- the slots of explicit groups come after those of the whole matches
 explicit-behind : (groups : List (List (Option (List ℕ)))) (k slot : ℕ) (ws : List (ℕ × ℕ)) → AreExplicit ws
     → slot < 2 * length groups → NoneWrites slot (map (λ w. (place_of groups k w.0, w.1)) ws)
 explicit-behind groups k slot [] all less = tt
@@ -61,7 +61,7 @@ explicit-behind groups k slot (w ∷ ws) all less = (apart, explicit-behind grou
 -- what a path tells of a hit
 
 module _ (a : Automaton) where
-  -- the path ends with a Match of the hit's pattern where the hit ends, and its slots are those of the hit
+  -- the path ends with a Match of the hit's pattern at the end of the hit, and its slots are those of the hit
   pub record ToldHit (h : Hit) (p : List Pair) : Type 0 where
     pub end : Pair
     pub ends : EndsWith end p
@@ -113,7 +113,7 @@ module _ (a : Automaton) where
       same slot = rw none (none-after (slot_among a p slot))
 
 module _ (a : Automaton) (x : Search) (whole : x.end ≡ length x.haystack) where
-  -- every pair of the list stands behind the state
+  -- every pair of the list has a state after this one
   abbrev pub IsBehind : ℕ → List Pair → Type 0
   IsBehind state marks = (v : Pair) → In v marks → state < v.0
 
@@ -147,7 +147,7 @@ module _ (a : Automaton) (x : Search) (whole : x.end ≡ length x.haystack) wher
     abbrev placed : Trace → List (ℕ × ℕ)
     placed t = map (λ w. (place_of a.groups k w.0, w.1)) t.writes
 
-    -- a path behind the start, with the start in front
+    -- a path after the start, with the start in front
     tell-some : (t : Trace) (p : List Pair) → i ≤ t.end → Told a s t p
         → ToldHit a (record { pattern = k; start = i; trace = t }) (v ∷ p)
     tell-some t p on told = record {

@@ -1,4 +1,4 @@
--- Where the paths of a search start: at which pairs, exactly.
+-- The pairs at which the paths of a search start, exactly.
 use Rattle.std.proofs.Common.{◌≡◌, ℕ, zero, suc, ◌+◌, ◌-◌, ◌≤◌, ◌<◌, inl, inr, Bool, true, false, [], refl, sym, ap, ◌∙◌, subst, arith}
 use Rattle.std.specs.Prelude.{Option, None, Some, if◌then◌else◌, ◌↔◌, ◌==◌, ◌||◌}
 use Rattle.std.specs.Option.{option_map_or}
@@ -28,7 +28,7 @@ pairs-complete state at (suc n) i from below = elim (cases_lt at i) [
 ]
 
 module _ (a : Automaton) (x : Search) where
-  -- the last position where a match may start
+  -- the last position at which a match may start
   abbrev last : ℕ
   last = if is_anchored x.anchored || (a.anchored == a.unanchored) then x.start else x.end
 
@@ -46,7 +46,7 @@ module _ (a : Automaton) (x : Search) where
       by_bool inside true = (λ less. (inside, omega arith), λ h. omega (arith, h.1))
       by_bool inside false = (λ less. (inside, omega arith), λ h. omega (arith, h.1))
 
-  -- which lies within the span
+  -- which is within the span
   pub within-end : (i : ℕ) → x.start ≤ x.end → i ≤ last → i ≤ x.end
   within-end i inside to = of (is_anchored x.anchored || (a.anchored == a.unanchored)) to
     where
@@ -54,7 +54,7 @@ module _ (a : Automaton) (x : Search) where
       of true less = omega arith
       of false less = less
 
-  -- a start is at the start state, and at a position where a match may start
+  -- a start is at the start state, and at a position at which a match may start
   pub starts-sound : (v : Pair) → In v (starts a x)
       → (start_state a x.anchored ≡ Some v.0) × (x.start ≤ v.1) × (x.start ≤ x.end) × (v.1 ≤ last)
   starts-sound v i = of (start_state a x.anchored) refl i

@@ -133,7 +133,7 @@ module _ (haystack : List ℕ) (text : IsUtf8 haystack) where
       of None ends = either None (is_boundary haystack i)
       of (Some h) ends = rw (ends h refl) refl
 
-  -- inside a character no pattern that always reads a byte has a hit
+  -- inside a codepoint no pattern that always reads a byte has a hit
 
   one-none : (re : Re) → MatchesCharacters re → IsTrue (always_reads re) → (k i : ℕ) → is_boundary haystack i ≡ false
       → hit_of k i (attempt haystack re accept i) ≡ None
@@ -233,7 +233,7 @@ module _ (res : List Re) (all : All MatchesCharacters res) (bound : Bool) (x : S
           kept-at x.haystack text (pick_one x.haystack res (number_of pattern)) x.start
           (pick_one-ends x.haystack text res all (number_of pattern) (number_of pattern) x.start)
 
-  -- where each pattern always reads a byte, every hit starts on a boundary
+  -- if each pattern always reads a byte, every hit starts on a boundary
   pub hit-is-str : All (λ re. IsTrue (always_reads re)) res → expected res bound x ≡ expected_in_str res bound x
   unfolding expected expected_in_str
   hit-is-str reads = elim (cases_lt x.end x.start) [

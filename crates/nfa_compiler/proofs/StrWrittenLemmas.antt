@@ -34,7 +34,7 @@ use Rattle.nfa_compiler.proofs.WrittenLemmas.{match-alike, read-as}
 
 -- `find_str` gives a match exactly if there is one from a boundary
 module _ (haystack : List ℕ) (re : Re) where
-  -- no match starts inside a character
+  -- no match starts inside a codepoint
   abbrev at_place : Rest
   at_place i = if is_boundary haystack i then attempt haystack re accept i else None
 

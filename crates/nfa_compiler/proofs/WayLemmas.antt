@@ -1,4 +1,4 @@
--- Each way of an NFA of patterns writes where it starts and where it ends.
+-- Each way of an NFA of patterns writes its start and its end.
 use Rattle.std.proofs.Common.{◌≡◌, ℕ, suc, ◌+◌, ◌*◌, ◌-◌, ◌≤◌, ◌<◌, ◌⊎◌, inl, inr, Bool, true, false, List, [], ◌∷◌, map, length, refl, sym, ap, ap₂, ◌∙◌, subst, arith, ne_eqb, eq-eqb}
 use Rattle.std.specs.Prelude.{None, Some, is_some, All, slice_index, slice_range, option_and_then, if◌then◌else◌, ◌==◌}
 use Rattle.std.specs.Option.{option_or, option_map_or}

@@ -1,4 +1,4 @@
--- What a path writes, and the slots that come of it.
+-- The writes of a path, and the slots that they give.
 use Rattle.std.proofs.Common.{◌≡◌, ℕ, false, List, [], ◌∷◌, ◌++◌, refl, ap, sym, ◌∙◌}
 use Rattle.std.specs.Prelude.{Option, None, Some, if◌then◌else◌, ◌==◌}
 use Rattle.std.specs.Option.{option_or, option_map_or}

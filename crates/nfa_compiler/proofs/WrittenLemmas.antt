@@ -1,4 +1,4 @@
--- A pattern that is written out matches where the tree does that is compiled for its text.
+-- A pattern that is written out matches exactly where the tree that is compiled for its text does.
 use Rattle.std.proofs.Common.{◌≡◌, ℕ, ◌≤◌, ◌<◌, inl, inr, Bool, true, false, List, [], ◌∷◌, length, refl, sym, ap, ◌∙◌, subst, arith, true≢false, eq-eqb}
 use Rattle.std.specs.Prelude.{Option, None, Some, All, IsSomeAnd, is_some, string_bytes, map, option_map, slice_index_or, if◌then◌else◌, ◌==◌, ◌↔◌, chars}
 use Rattle.std.specs.List.{AllZip}
@@ -71,7 +71,7 @@ module _ (syntax : Config) (text : List ℕ) (nfa : Automaton) (haystack : List 
     (compiled : IsCompiled syntax (text ∷ []) nfa) (anywhere : is_utf8_empty nfa ≡ false)
     (free : (nfa.anchored == nfa.unanchored) ≡ false) (bytes : All (λ b. b < 256) haystack) (re : Re)
     (is : IsReadAs syntax text re) where
-  -- the one tree matches where the pattern does
+  -- the one tree matches somewhere exactly if the pattern does
   somewhere : (trees : List Parsed) → AllZip (IsRead syntax) (text ∷ []) trees
       → MatchesSomewhere (res_of trees) (nfa.anchored == nfa.unanchored) (whole haystack) ↔ MatchesIn haystack re
   somewhere [] read = absurd read

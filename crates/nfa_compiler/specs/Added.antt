@@ -1,4 +1,4 @@
--- states that were added behind others
+-- states that were added after others
 use Rattle.std.specs.Prelude.{◌≡◌, ℕ, ◌+◌, ◌<◌, All, List, ◌++◌, length, slice_index_or}
 use Rattle.regex_nfa.specs.States.{state_at}
 use Rattle.regex_nfa.specs.declared.nfa.Nfa.{Nfa}
@@ -6,7 +6,7 @@ use Rattle.thompson_nfa.specs.Automaton.{Node, Fail, LeadsBelow, SlotBelow, Patt
 use Rattle.nfa_compiler.specs.declared.block.Site.{Site}
 use Rattle.nfa_compiler.specs.Blocks.{Stands}
 
--- the new states are the old ones, and some more behind them
+-- the new states are the old ones, and some more after them
 abbrev pub Adds : List Node → List Node → Type 0
 Adds old new = (more : List Node) × (new ≡ old ++ more)
 
@@ -14,7 +14,7 @@ Adds old new = (more : List Node) × (new ≡ old ++ more)
 abbrev pub IsInRange : ℕ → ℕ → ℕ → Node → Type 0
 IsInRange n slots patterns node = LeadsBelow n node × SlotBelow slots node × PatternBelow patterns node
 
--- each of these nodes leads to some of them, and has a slot and a pattern below these numbers
+-- each of these nodes leads only to these nodes, and has a slot and a pattern below these numbers
 abbrev pub AreInRange : ℕ → ℕ → List Node → Type 0
 AreInRange slots patterns nodes = All (IsInRange (length nodes) slots patterns) nodes
 

@@ -1,4 +1,4 @@
--- All hits of a search in a row, as an iterator finds them.
+-- All hits of a search, one after the other, as an iterator finds them.
 use Rattle.std.specs.Prelude.{ℕ, zero, suc, ◌+◌, List, [], ◌∷◌, length, Option, Some, None, if◌then◌else◌, ◌==◌}
 use Rattle.regex_hir.specs.Text.{is_some_and}
 use Rattle.regex_hir.specs.Re.{Re}
@@ -9,8 +9,7 @@ use Rattle.nfa_search_base.specs.Catching.{Row}
 use Rattle.nfa_compiler.specs.Patterns.{Hit, slots_of}
 use Rattle.nfa_compiler.specs.Laws.{hit}
 
--- the hit after one that ended at i, where `hit_from` gives the first hit from a position on: an empty hit at i is
--- skipped
+-- The hit after one that ended at i. `hit_from` gives the first hit from a position on. An empty hit at i is skipped.
 abbrev pub hit_after : (ℕ → Option Hit) → ℕ → Option Hit
 hit_after hit_from i =
     if is_some_and (hit_from i) (λ h. h.trace.end == i) then hit_from (i + 1) else hit_from i
@@ -25,7 +24,7 @@ hits_from hit_from (suc n) (Some h) = h ∷ hits_from hit_from n (hit_after hit_
 abbrev pub hit_at : List Re → Automaton → Search → ℕ → Option Hit
 hit_at res nfa x i = hit res nfa (record x { start = i })
 
--- All hits of a search, from left to right. Their ends ascend, so there are at most one more than there are bytes.
+-- All hits of a search, from left to right. Their ends ascend, so there is at most one more than there are bytes.
 abbrev pub all_hits : List Re → Automaton → Search → List Hit
 all_hits res nfa x = hits_from (hit_at res nfa x) (length x.haystack + 1) (hit res nfa x)
 

@@ -31,7 +31,7 @@ RowsAreAllHits =
     → IsNfaOf res nfa → is_utf8_empty nfa ≡ false → IsLeftmostToTheEnd kind earliest x
     → AreRows nfa kind earliest x rows → rows ≡ map (row_of_hit nfa) (all_hits res nfa x)
 
--- The same of texts: the hits are those of what the grammar reads in them. The haystack is of bytes.
+-- The same for texts: the hits are those of what the grammar reads in them. The haystack consists of bytes.
 abbrev pub MatchesAreAllOfTexts : Type 0
 MatchesAreAllOfTexts =
     (syntax : Config) (texts : List (List ℕ)) (res : List Re) (nfa : Automaton) (kind : MatchKind) (earliest : Bool)
@@ -46,7 +46,8 @@ RowsAreAllOfTexts =
     → is_utf8_empty nfa ≡ false → IsLeftmostToTheEnd kind earliest x → All (λ b. b < 256) x.haystack
     → AreRows nfa kind earliest x rows → rows ≡ map (row_of_hit nfa) (all_hits res nfa x)
 
--- All hits of one pattern in a whole haystack are what `find_all` of `regex_hir` gives, if no search is bound.
+-- All hits of one pattern in a whole haystack are what `find_all` of `regex_hir` gives, if no search is bound to its
+-- start.
 abbrev pub AllHitsAreFindAll : Type 0
 AllHitsAreFindAll =
     (re : Re) (nfa : Automaton) (x : Search) → (nfa.anchored == nfa.unanchored) ≡ false → x.anchored ≡ No

@@ -1,4 +1,4 @@
--- The states of one pattern among those of an NFA: those of an NFA of `regex_nfa`, moved.
+-- The states of one pattern in an NFA: those of an NFA of `regex_nfa`, moved.
 use Rattle.std.specs.Prelude.{◌≡◌, ℕ, ◌+◌, ◌-◌, ◌*◌, ◌<◌, ◌≤◌, List, length, map, All, if◌then◌else◌, nat_lt, slice_range, slice_index_or}
 use Rattle.regex_search_core.specs.Patterns.{number_of}
 use Rattle.regex_hir.specs.declared.look.Look as theirs
@@ -15,7 +15,7 @@ use Rattle.thompson_nfa.specs.Automaton.{Node}
 use Rattle.thompson_nfa.specs.Automaton.Node.{ByteRange, Sparse, Look, BinaryUnion, Capture, Fail, Match}
 use Rattle.nfa_compiler.specs.declared.block.Site.{Site}
 
--- the assertion of these NFAs that is meant
+-- the assertion of `thompson_nfa` for one of `regex_hir`
 abbrev pub look_of : theirs.Look → ours.Look
 look_of their_look.Start = our_look.Start
 look_of their_look.End = our_look.End
@@ -36,11 +36,11 @@ look_of their_look.WordEndHalfAscii = our_look.WordEndHalfAscii
 look_of their_look.WordStartHalfUnicode = our_look.WordStartHalfUnicode
 look_of their_look.WordEndHalfUnicode = our_look.WordEndHalfUnicode
 
--- where the Match of the pattern stands: behind the states that were moved
+-- the number of the pattern's Match, after the states that were moved
 abbrev pub match_at : Site → ℕ
 match_at s = s.base + s.size
 
--- where the slot of the pattern stands
+-- the number of the pattern's slot
 abbrev pub slot_in : Site → ℕ → ℕ
 slot_in s slot = if nat_lt slot 2 then (2 * number_of s.pattern + slot) else (s.slots + (slot - 2))
 
@@ -48,7 +48,7 @@ slot_in s slot = if nat_lt slot 2 then (2 * number_of s.pattern + slot) else (s.
 abbrev pub moved : Site → their_transition.Transition → Transition
 moved s t = record { start = t.start; end = t.end; next = s.base + t.next }
 
--- this node stands for that state, whose targets are moved too; where theirs matches, ours writes the end first
+-- the node is that state with its targets moved; for their Match, ours writes the end first
 abbrev pub Stands : List their_transition.Transition → Site → their_state.State → Node → Type 0
 Stands ts s (their.ByteRange t) node = (t.next < s.size) × (node ≡ ByteRange (moved s t))
 Stands ts s (their.Sparse from to) node =

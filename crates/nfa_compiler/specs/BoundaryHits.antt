@@ -1,4 +1,4 @@
--- What a search finds in UTF-8 mode, in which a match that splits a codepoint does not count.
+-- The hits of searches in UTF-8 mode, in which a match that splits a codepoint does not count.
 use Rattle.std.specs.Prelude.{ℕ, zero, suc, ◌+◌, ◌-◌, Bool, List, length, Option, None, if◌then◌else◌, nat_lt, ◌==◌}
 use Rattle.regex_hir.specs.Re.{Re}
 use Rattle.regex_hir.specs.Text.{is_boundary, is_none_or, is_some_and}
@@ -10,7 +10,7 @@ use Rattle.thompson_nfa.specs.Automaton.{Automaton}
 use Rattle.nfa_compiler.specs.AllHits.{hits_from}
 use Rattle.nfa_compiler.specs.Patterns.{Hit, first_hit, pick, pick_one}
 
--- the hit ends on a boundary of the haystack: there is no continuation byte
+-- the hit ends on a boundary of the haystack: its end is not at a continuation byte
 abbrev pub ends_on_boundary : List ℕ → Hit → Bool
 ends_on_boundary haystack h = is_boundary haystack h.trace.end
 

@@ -1,4 +1,4 @@
--- What an NFA of patterns is made of.
+-- The parts of an NFA of patterns.
 use Rattle.std.specs.Prelude.{◌≡◌, false, ℕ, ◌+◌, ◌*◌, ◌<◌, ◌⊎◌, List, [], ◌∷◌, length, map, drop, take, All, Option, IsSomeAnd, IsTrue, chars, option_map, string_bytes, slice_index, slice_index_or}
 use Rattle.std.specs.List.{AllZip, sum_by}
 use Rattle.regex_search_core.specs.Patterns.{number_of}
@@ -24,7 +24,7 @@ explicit_names pattern = drop 1 (map (option_map string_bytes) pattern.names.ite
 abbrev pub groups_of : List Parsed → List (List (Option (List ℕ)))
 groups_of patterns = map explicit_names patterns
 
--- what these patterns mean
+-- the meanings of these patterns
 abbrev pub res_of : List Parsed → List Re
 res_of patterns = map (λ p. meaning p.hir) patterns
 
@@ -32,7 +32,7 @@ res_of patterns = map (λ p. meaning p.hir) patterns
 abbrev pub first_slot : List (List (Option (List ℕ))) → ℕ → ℕ
 first_slot groups k = 2 * length groups + 2 * sum_by length (take k groups)
 
--- The states of pattern k, which means re, stand among the nodes, and begin at `start`. Its explicit groups have the
+-- The states of pattern k, which means re, are among the nodes, and its start is `start`. Its explicit groups have the
 -- slots from `slots` on.
 pub record IsPatternAt (nodes : List Node) (slots k start : ℕ) (re : Re) : Type 0 where
   pub nfa : Nfa
@@ -43,16 +43,16 @@ pub record IsPatternAt (nodes : List Node) (slots k start : ℕ) (re : Re) : Typ
   pub slots_are : site.slots ≡ slots
   pub start_is : start ≡ match_at site + 1
 
--- the same, of pattern k of these groups
+-- the same for pattern k of these groups
 abbrev pub IsPattern : List Node → List (List (Option (List ℕ))) → ℕ → ℕ → Re → Type 0
 IsPattern nodes groups k start re = IsPatternAt nodes (first_slot groups k) k start re
 
--- each of these patterns stands among the nodes
+-- each of these patterns is among the nodes
 abbrev pub ArePatterns : List Node → List (List (Option (List ℕ))) → List ℕ → List Re → ℕ → Type 0
 ArePatterns nodes groups starts res count =
     (k : ℕ) → k < count → IsPattern nodes groups k (slice_index starts k) (slice_index_or res k empty)
 
--- the state chooses between these starts, in order: it is the only one, or stands behind all of them
+-- the state chooses between these starts, in order: it is the only one, or comes after all of them
 abbrev pub Chooses : List Node → ℕ → List ℕ → Type 0
 Chooses nodes state starts =
     (starts ≡ state ∷ []) ⊎ ((slice_index_or nodes state Fail ≡ Union starts) × All (λ s. s < state) starts)
@@ -64,7 +64,7 @@ pub record IsNfaOf (res : List Re) (nfa : Automaton) : Type 0 where
   pub each : ArePatterns nfa.states nfa.groups nfa.patterns res (length res)
   pub chooses : Chooses nfa.states nfa.anchored nfa.patterns
 
--- The tree and the names are what the grammar reads in the text. Under `utf8` the tree is one that matches text only.
+-- The tree and the names are what the grammar reads in the text. Under `utf8` the tree matches only UTF-8.
 pub record IsRead (syntax : Config) (text : List ℕ) (tree : Parsed) : Type 0 where
   pub reads : Reads syntax text tree.hir (map (option_map string_bytes) tree.names.items)
   pub formed : IsWellFormed syntax.utf8 tree.hir
@@ -86,6 +86,6 @@ pub record IsCompiled (syntax : Config) (texts : List (List ℕ)) (nfa : Automat
 abbrev pub IsMeant : Config → List ℕ → Re → Type 0
 IsMeant syntax text re = IsSomeAnd (read syntax (chars text)) (λ (found, names). found.value ≡ re)
 
--- in each of these texts that of its place
+-- the grammar reads each of these patterns in the text at its place
 abbrev pub AreMeant : Config → List (List ℕ) → List Re → Type 0
 AreMeant syntax texts res = AllZip (IsMeant syntax) texts res

@@ -51,7 +51,7 @@ AnswersIfMatches =
     → (is_some pattern ≡ true) ↔ MatchesSomewhere res (nfa.anchored == nfa.unanchored) x
 
 -- In UTF-8 mode, too, a search finds something only if some pattern matches from a position of the span, and from its
--- start if the search is anchored. A pattern may match and the search find nothing: after a match that splits a
+-- start if the search is anchored. A search may find nothing although a pattern matches: after a match that splits a
 -- codepoint it starts again one byte further on.
 abbrev pub FindsOnlyMatches : Type 0
 FindsOnlyMatches =
@@ -65,7 +65,7 @@ AnswersOnlyMatches =
     (slots : List (Option ℕ)) → IsNfaOf res nfa → x.end ≡ length x.haystack
     → IsAnswer nfa kind earliest x pattern slots → is_some pattern ≡ true → MatchesSomewhere res false x
 
--- In a haystack of ASCII no position splits a codepoint, so it does not matter whether the NFA is in UTF-8 mode.
+-- In an ASCII haystack no position splits a codepoint, so it does not matter whether the NFA is in UTF-8 mode.
 abbrev pub FindsIfAsciiMatches : Type 0
 FindsIfAsciiMatches =
     (res : List Re) (nfa : Automaton) (kind : MatchKind) (earliest : Bool) (x : Search) (found : Bool)

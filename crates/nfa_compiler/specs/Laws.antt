@@ -17,15 +17,15 @@ use Rattle.regex_search_core.specs.declared.search.Anchored.TheVariants.{No}
 use Rattle.regex_syntax.specs.declared.Config.{Config}
 use Rattle.nfa_compiler.specs.Patterns.{Hit, expected, slots_of, found_in, hit_by}
 
--- each assertion holds where the one that stands for it does
+-- each assertion holds exactly if its counterpart does
 abbrev pub LooksAgree : Type 0
 LooksAgree = (l : theirs.Look) (hay : List ℕ) (i : ℕ) → i ≤ length hay → look_holds (look_of l) hay i ≡ holds l hay i
 
--- what a search is to find in the rest of a haystack
+-- the hit that a search has to find in the rest of a haystack
 abbrev pub hit : List Re → Automaton → Search → Option Hit
 hit res nfa x = expected res (nfa.anchored == nfa.unanchored) x
 
--- a leftmost first search that goes on to the end of the haystack, and is not asked for the earliest match
+-- a leftmost first search that goes on to the end of the haystack, without `earliest`
 pub record IsLeftmostToTheEnd (kind : MatchKind) (earliest : Bool) (x : Search) : Type 0 where
   pub leftmost : kind ≡ LeftmostFirst
   pub latest : earliest ≡ false
@@ -47,14 +47,14 @@ MatchesAreHits =
     → IsNfaOf res nfa → is_utf8_empty nfa ≡ false → IsLeftmostToTheEnd kind earliest x
     → IsMatchAnswer nfa kind earliest x found → found ≡ found_in (hit res nfa x)
 
--- it finds something exactly where there is a hit
+-- it finds something exactly if there is a hit
 abbrev pub FindsHits : Type 0
 FindsHits =
     (res : List Re) (nfa : Automaton) (kind : MatchKind) (earliest : Bool) (x : Search) (found : Bool)
     → IsNfaOf res nfa → is_utf8_empty nfa ≡ false → IsLeftmostToTheEnd kind earliest x
     → IsFoundAnswer nfa kind earliest x found → found ≡ is_some (hit res nfa x)
 
--- The same of texts: what is found is what the grammar reads in them. The haystack is of bytes.
+-- The same for texts: what is found is what the grammar reads in them. The haystack consists of bytes.
 abbrev pub TextsAreAnswered : Type 0
 TextsAreAnswered =
     (syntax : Config) (texts : List (List ℕ)) (res : List Re) (nfa : Automaton) (kind : MatchKind) (earliest : Bool)

@@ -17,11 +17,11 @@ use Rattle.nfa_compiler.specs.Patterns.{Hit, slots_of}
 abbrev pub IsNamed : Config → List ℕ → List (Option (List ℕ)) → Type 0
 IsNamed syntax text names = IsSomeAnd (read syntax (chars text)) (λ (_, found). found ≡ names)
 
--- in each of these texts those of its place
+-- the grammar reads each of these lists of names in the text at its place
 abbrev pub AreNamed : Config → List (List ℕ) → List (List (Option (List ℕ))) → Type 0
 AreNamed syntax texts names = AllZip (IsNamed syntax) texts names
 
--- the groups of the NFA have the names that are read, but for group 0
+-- the groups of the NFA have the names that are read, without group 0
 abbrev pub GroupsAreNamed : Type 0
 GroupsAreNamed =
     (syntax : Config) (texts : List (List ℕ)) (names : List (List (Option (List ℕ)))) (nfa : Automaton)
@@ -42,7 +42,7 @@ captures_of nfa h =
       slots = slots_of nfa.groups (slot_count nfa.groups) (Some h);
     }
 
--- the NFA has as many lists of groups as there are texts
+-- the NFA has one list of groups for each text
 abbrev pub GroupsAreCounted : Type 0
 GroupsAreCounted =
     (syntax : Config) (texts : List (List ℕ)) (nfa : Automaton) → IsCompiled syntax texts nfa
@@ -53,11 +53,11 @@ abbrev pub written_span : ℕ → Match → Option Span
 written_span group m =
     span_between (last_write m.trace.writes (2 * group)) (last_write m.trace.writes (2 * group + 1))
 
--- which hit a search has
+-- the hit of a search
 abbrev pub HitOf : Type 0
 HitOf = List Re → Automaton → Search → Option Hit
 
--- Captures of a hit give for an explicit group the positions that the match last wrote for it.
+-- For an explicit group, captures of a hit give the positions that the match last wrote for it.
 abbrev pub GroupsAreWritten : HitOf → Type 0
 GroupsAreWritten hit_of_search =
     (res : List Re) (nfa : Automaton) (x : Search) (h : Hit) (group : ℕ) → length nfa.groups ≡ length res
@@ -66,7 +66,7 @@ GroupsAreWritten hit_of_search =
     → group_span (captures_of nfa h) group
     ≡ span_between (last_write h.trace.writes (2 * group)) (last_write h.trace.writes (2 * group + 1))
 
--- So they do for a name: for the first group of this name.
+-- The same for a name: for the first group with this name.
 abbrev pub NamesAreWritten : HitOf → Type 0
 NamesAreWritten hit_of_search =
     (res : List Re) (nfa : Automaton) (x : Search) (h : Hit) (name : List ℕ) (group : ℕ)

@@ -10,7 +10,7 @@ use Rattle.regex_search_core.specs.Search.{Search}
 use Rattle.regex_search_core.specs.declared.search.Anchored.{Anchored}
 use Rattle.regex_search_core.specs.declared.search.Anchored.TheVariants.{No, Yes, Pattern}
 
--- a match: of which pattern, where it starts, and how it went
+-- a match: its pattern, its start, and its trace
 pub record Hit : Type 0 where
   pub pattern : ℕ
   pub start : ℕ
@@ -20,7 +20,7 @@ pub record Hit : Type 0 where
 abbrev pub hit_of : ℕ → ℕ → Option Trace → Option Hit
 hit_of pattern start trace = option_map (λ t. record { pattern = pattern; start = start; trace = t }) trace
 
--- The hit of the first of the patterns that matches at i. They are numbered from k on.
+-- The hit of the first pattern that matches at i. The patterns are numbered from k on.
 abbrev pub pick : List ℕ → List Re → ℕ → ℕ → Option Hit
 pick haystack [] k i = None
 pick haystack (re ∷ res) k i = option_or (hit_of k i (attempt haystack re accept i)) (pick haystack res (k + 1) i)
@@ -30,22 +30,22 @@ abbrev pub first_hit : (ℕ → Option Hit) → ℕ → ℕ → Option Hit
 first_hit at zero i = None
 first_hit at (suc n) i = option_or (at i) (first_hit at n (i + 1))
 
--- the hit of this pattern alone at i; none of an unknown pattern
+-- the hit of only this pattern at i; none for an unknown pattern
 abbrev pub pick_one : List ℕ → List Re → ℕ → ℕ → Option Hit
 pick_one haystack res k i = option_and_then (λ re. hit_of k i (attempt haystack re accept i)) (slice_get res k)
 
--- What a search for the patterns is to find. `bound` says that each search is bound to its start.
+-- The hit that a search for the patterns has to find. `bound` says that each search is bound to its start.
 abbrev pub hit_at_start : List Re → Bool → Search → Anchored → Option Hit
 hit_at_start res bound x No =
     first_hit (pick x.haystack res 0) (if bound then 1 else (x.end - x.start + 1)) x.start
 hit_at_start res bound x Yes = pick x.haystack res 0 x.start
 hit_at_start res bound x (Pattern pattern) = pick_one x.haystack res (number_of pattern) x.start
 
--- the same; none where the span starts behind its end
+-- the same; none if the span starts after its end
 unfoldable pub expected : List Re → Bool → Search → Option Hit
 expected res bound x = if nat_lt x.end x.start then None else hit_at_start res bound x x.anchored
 
--- where the pattern's slot stands among those of all: group n of a pattern has the slots 2n and 2n + 1
+-- the number of the pattern's slot among those of all: group n of a pattern has the slots 2n and 2n + 1
 abbrev pub place_of : List (List (Option (List ℕ))) → ℕ → ℕ → ℕ
 place_of groups pattern slot =
     if nat_lt slot 2 then (2 * pattern + slot)
@@ -57,12 +57,12 @@ writes_of groups h =
     (2 * h.pattern, h.start) ∷ (2 * h.pattern + 1, h.trace.end)
     ∷ map (λ w. (place_of groups h.pattern w.0, w.1)) h.trace.writes
 
--- the first `count` slots of the hit: each the position last written there
+-- the first `count` slots of the hit: each has the position last written there
 unfoldable pub slots_of : List (List (Option (List ℕ))) → ℕ → Option Hit → List (Option ℕ)
 slots_of groups count None = replicate count None
 slots_of groups count (Some h) = map (last_write (writes_of groups h)) (range_with_len 0 count)
 
--- where the hit is
+-- the pattern and the span of the hit
 abbrev pub found_at : Hit → Found
 found_at h = record { pattern = h.pattern; start = h.start; end = h.trace.end }
 
@@ -74,6 +74,6 @@ found_in h = option_map found_at h
 abbrev pub hit_by : ℕ → Match → Hit
 hit_by pattern m = record { pattern = pattern; start = m.start; trace = m.trace }
 
--- where a match of `regex_hir` is, as one of pattern 0
+-- a match of `regex_hir` as a match of pattern 0
 abbrev pub found_by : Match → Found
 found_by m = found_at (hit_by 0 m)

@@ -1,4 +1,4 @@
--- what the error of a text says
+-- the error of a text
 use Rattle.std.specs.Prelude.{◌≡◌, ℕ, ◌<◌, List, [], length, slice_index_or, ⊤, string_bytes}
 use Rattle.regex_syntax.specs.declared.Config.{Config}
 use Rattle.nfa_compiler.specs.declared.error.CompileError.{CompileError}
@@ -11,7 +11,7 @@ pub record IsRejection (syntax : Config) (index : ℕ) (text : List ℕ) (e : Sy
   pub text_is : string_bytes e.text ≡ text
   pub syntax_is : e.syntax ≡ syntax
 
--- allocation failed, or a text was refused with an error that P holds of
+-- allocation failed, or a text was refused with an error for which P holds
 abbrev pub IsMemoryOr : (SyntaxError → Type 0) → CompileError → Type 0
 IsMemoryOr P Memory = ⊤
 IsMemoryOr P (Syntax e) = P e

@@ -1,4 +1,4 @@
--- What a set of overlapping matches holds, in the words of the patterns.
+-- The contents of a set of overlapping matches, in terms of the patterns.
 use Rattle.std.specs.Prelude.{◌≡◌, ◌↔◌, ◌⊎◌, ℕ, ◌<◌, Bool, false, ◌==◌, IsUtf8, List, length, slice_index_or}
 use Rattle.std.specs.Prelude.{All as EachIn}
 use Rattle.regex_hir.specs.Re.{Re, empty}
@@ -13,8 +13,8 @@ use Rattle.nfa_compiler.specs.Compiled.{IsNfaOf}
 use Rattle.nfa_compiler.specs.KindLaws.{PatternMatches}
 use Rattle.nfa_compiler.specs.StrHits.{MatchesCharacters}
 
--- Under `All`, and not `earliest`, the set holds afterwards what it held, and each pattern below its capacity that
--- matches; and nothing else.
+-- Under `All`, without `earliest`, the set has afterwards exactly the patterns that it had, and each pattern below its
+-- capacity that matches.
 abbrev pub SetsHoldMatches : Type 0
 SetsHoldMatches =
     (res : List Re) (nfa : Automaton) (x : Search) (old new : List Bool)
@@ -23,7 +23,7 @@ SetsHoldMatches =
     → (k : ℕ) → HoldsPattern new k
     ↔ (HoldsPattern old k ⊎ ((k < length old) × PatternMatches res (nfa.anchored == nfa.unanchored) x k))
 
--- In UTF-8 mode, too, and whatever the kind, the set gains only patterns that match.
+-- In UTF-8 mode, too, and for each kind, the set gains only patterns that match.
 abbrev pub SetsHoldOnlyMatches : Type 0
 SetsHoldOnlyMatches =
     (res : List Re) (nfa : Automaton) (x : Search) (kind : MatchKind) (earliest : Bool) (old new : List Bool)
@@ -31,8 +31,8 @@ SetsHoldOnlyMatches =
     → (k : ℕ) → HoldsPattern new k
     → HoldsPattern old k ⊎ ((k < length old) × PatternMatches res (nfa.anchored == nfa.unanchored) x k)
 
--- Under `All`, and not `earliest`, in a `str`, it gains each pattern that matches whole characters and matches from a
--- boundary.
+-- In a `str`, under `All` without `earliest`, the set gains each pattern that matches whole characters and matches from
+-- a boundary.
 abbrev pub SetsHoldMatchesOfStrs : Type 0
 SetsHoldMatchesOfStrs =
     (res : List Re) (nfa : Automaton) (x : Search) (old new : List Bool)
@@ -41,7 +41,7 @@ SetsHoldMatchesOfStrs =
     → (m : PatternMatches res (nfa.anchored == nfa.unanchored) x k) → IsBoundary x.haystack m.start
     → HoldsPattern new k
 
--- In a haystack of ASCII it gains those that match, and no other, in UTF-8 mode or not.
+-- In an ASCII haystack it gains exactly those that match, in UTF-8 mode or not.
 abbrev pub SetsHoldAsciiMatches : Type 0
 SetsHoldAsciiMatches =
     (res : List Re) (nfa : Automaton) (x : Search) (old new : List Bool)

@@ -1,4 +1,4 @@
--- What a search of a `str` finds: of a haystack that is UTF-8, in which no match starts inside a codepoint.
+-- The hits of searches of a `str`: a haystack that is UTF-8, in which no match starts inside a codepoint.
 use Rattle.std.specs.Prelude.{◌≡◌, ℕ, ◌+◌, ◌-◌, Bool, true, false, List, length, Option, None, IsUtf8, if◌then◌else◌, nat_lt, ◌==◌}
 use Rattle.regex_hir.specs.Matches.{Matches}
 use Rattle.regex_hir.specs.Re.{Re}
@@ -20,7 +20,7 @@ pub record MatchesCharacters (re : Re) : Type 0 where
   pub split : (haystack : List ℕ) (i j : ℕ) → IsUtf8 haystack → Matches haystack re i j
       → is_boundary haystack i ≡ false → j ≡ i
 
--- a search that the NFA binds to its start starts on a boundary
+-- if the NFA binds a search to its start, the search starts on a boundary
 abbrev pub StartsOnBoundary : Automaton → Search → Type 0
 StartsOnBoundary nfa x = (nfa.anchored == nfa.unanchored) ≡ true → x.anchored ≡ No → IsBoundary x.haystack x.start
 

@@ -1,4 +1,4 @@
--- What searches of a `str`, a haystack that is UTF-8, find if the NFA was compiled in UTF-8 mode: what the grammar
+-- What searches find in a `str`, a haystack that is UTF-8, if the NFA was compiled in UTF-8 mode: what the grammar
 -- reads in the texts of the patterns, at the boundaries of the `str`.
 use Rattle.std.specs.Prelude.{◌≡◌, ℕ, Bool, true, false, List, [], ◌∷◌, length, map, IsUtf8, Option, option_map, ◌==◌}
 use Rattle.regex_hir.specs.Find.{find_all_str, find_str}

@@ -63,6 +63,6 @@ BoundaryHitsAreStrHits =
     (res : List Re) (nfa : Automaton) (x : Search) → All MatchesCharacters res → IsUtf8 x.haystack
     → StartsOnBoundary nfa x → boundary_hit res nfa x ≡ str_hit res nfa x
 
--- what a tree means that the parser returns under `utf8`
+-- a tree that the parser returns under `utf8` matches whole characters
 abbrev pub TreesMatchCharacters : Type 0
 TreesMatchCharacters = (tree : Parsed) → IsWellFormed true tree.hir → MatchesCharacters (meaning tree.hir)

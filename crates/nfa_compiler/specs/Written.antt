@@ -8,11 +8,11 @@ use Rattle.regex_syntax.specs.Same.{SameTree}
 use Rattle.regex_syntax.specs.Verdict.{default_config}
 use Rattle.regex_syntax.specs.declared.Config.{Config}
 
--- how a compiler reads texts that has the default syntax and is not in UTF-8 mode
+-- the default syntax, without UTF-8 mode
 abbrev pub byte_syntax : Config
 byte_syntax = record default_config { utf8 = false }
 
--- the grammar reads in the text a pattern that matches as this one does
+-- the grammar reads in the text a pattern that matches the same as this one
 abbrev pub IsReadAs : Config → List ℕ → Re → Type 0
 IsReadAs syntax text re = IsSomeAnd (read syntax (chars text)) (λ (found, names). SameTree found.value re)
 

@@ -1,4 +1,4 @@
-//! The states of one pattern, moved to their place among the states of all patterns.
+//! The states of one pattern, moved to their place in the NFA of all patterns.
 ghost use Rattle.std.specs.Prelude.{◌≡◌, ◌+◌, ◌<◌, ◌≤◌, IfErr, IfOk, OnOk, All, Some, map, vec_len};
 ghost use Rattle.regex_nfa.specs.Run.{state_of};
 ghost use Rattle.thompson_nfa.specs.Automaton.{node_of};
@@ -13,7 +13,7 @@ use regex_search_core::{PatternID, StateID};
 use std::alloc::Global;
 use thompson_nfa::{Look, State, Transition};
 
-/// The place of one pattern among all: its state numbers and its slots.
+/// The place of one pattern in the NFA: its state numbers and its slots.
 #[derive(Clone, Copy)]
 pub(crate) struct Site {
     /// The number of its first state.
@@ -26,7 +26,7 @@ pub(crate) struct Site {
 }
 
 impl Site {
-    /// The new number of a state.
+    /// Returns the new number of a state.
     fn target(self, id: u32) -> Result<StateID, CompileError>
         ensures target { IfOk result (λ target. (id < self.size) × (target ≡ self.base + id)) }
         ensures fails { IfErr result IsOfNoText }
@@ -37,7 +37,7 @@ impl Site {
         StateID::new(self.base.saturating_add(id as usize)).ok_or(CompileError::TooManyStates)
     }
 
-    /// The error of a pattern whose tree is not well formed.
+    /// Returns the error of a pattern whose tree is not well formed.
     fn bad_tree(self) -> CompileError
         ensures { IsOfNoText result }
     {
@@ -46,7 +46,7 @@ impl Site {
         }
     }
 
-    /// The new number of a slot of an explicit group.
+    /// Returns the new number of a slot of an explicit group.
     fn slot(self, slot: u32) -> Result<usize, CompileError>
         ensures slot { IfOk result (λ place. (2 ≤ slot) × (place ≡ slot_in self slot)) }
         ensures fails { IfErr result IsOfNoText }
@@ -88,7 +88,7 @@ impl Site {
         Ok(made)
     }
 
-    /// Moves a state. A Match becomes a Capture of the end, which leads to the one Match of the pattern.
+    /// Moves a state. A Match becomes a Capture of the end, which leads to the only Match of the pattern.
     fn state(self, alloc: Global, nfa: &Nfa, id: u32) -> Result<State, CompileError>
         requires { id < vec_len nfa.now.states }
         ensures stands { IfOk result (λ made.
@@ -123,7 +123,7 @@ impl Site {
         }
     }
 
-    /// The number of the pattern's Match.
+    /// Returns the number of the pattern's Match.
     fn end(self) -> Result<StateID, CompileError>
         ensures end { IfOk result (λ end. end ≡ match_at self) }
         ensures fails { IfErr result IsOfNoText }
@@ -131,7 +131,7 @@ impl Site {
         StateID::new(self.base.saturating_add(self.size)).ok_or(CompileError::TooManyStates)
     }
 
-    /// Adds the first states of the NFA. Requires a site that begins at the end of the states.
+    /// Adds the first states of the NFA. Requires a site that begins after the last state.
     fn add_states(
         self,
         alloc: Global,
@@ -150,8 +150,8 @@ impl Site {
         Ok(())
     }
 
-    /// Adds the first states of the NFA, then a Match, and then the pattern's start, and returns the start's number.
-    /// Requires a site that begins at the end of the states.
+    /// Adds the first states of the NFA, then a Match, then the pattern's start, and returns the number of the start.
+    /// Requires a site that begins after the last state.
     pub(crate) fn add(
         self,
         alloc: Global,
@@ -180,7 +180,7 @@ impl Site {
     }
 }
 
-/// The assertion that stands for this one.
+/// Returns the assertion of `thompson_nfa` for this one.
 fn look_of(look: regex_hir::Look) -> Look
     ensures { result ≡ look_of look }
 {

@@ -1,5 +1,5 @@
-//! The laws at the values of a call. A function of this module says of what a search found what it means. It has no
-//! code: a caller that cites it states what the text of its pattern means, with no proof of its own.
+//! The laws for the values of a call. Each function states the meaning of what one search found. It has no code: a
+//! caller that cites it states what the text of its pattern means, without a proof of its own.
 //!
 //! ```
 //! let found = vm.find(&mut cache, Input::new(line));
@@ -43,8 +43,8 @@ pub fn match_of_text(
         → option_map found_of found ≡ option_map found_by (find re haystack.now 0) }
 {}
 
-/// Whether a search of the whole haystack finds something: exactly if the pattern that is read in the text matches, in
-/// the textbook sense, from some position. The pattern may be written in any way that matches alike.
+/// A search of the whole haystack finds something exactly if the pattern that is read in the text matches, in the
+/// textbook sense, from some position. The pattern may be written in any way that matches the same.
 pub fn is_match_of_text(compiler: &Compiler, pattern: &str, nfa: &NFA, haystack: &[u8], found: bool)
     requires compiled { IsCompiled (syntax_of compiler.now) (pattern.now ∷ []) nfa.now }
     requires anywhere { is_utf8_empty nfa.now ≡ false }
@@ -54,7 +54,8 @@ pub fn is_match_of_text(compiler: &Compiler, pattern: &str, nfa: &NFA, haystack:
         → (found ≡ true) ↔ MatchesIn haystack.now re }
 {}
 
-/// All matches of a search of the whole haystack are what `find_all` of `regex_hir` gives for that pattern.
+/// All matches of a search of the whole haystack are what `find_all` of `regex_hir` gives for the pattern that the
+/// grammar reads in the text.
 pub fn matches_of_text(
     compiler: &Compiler,
     pattern: &str,
@@ -70,8 +71,8 @@ pub fn matches_of_text(
         → map found_of found.now ≡ map found_by (find_all re haystack.now) }
 {}
 
-/// The match of a search of a whole `str`, by an NFA that was compiled in UTF-8 mode, is what `find_str` of `regex_hir`
-/// gives for the pattern that the grammar reads in the text.
+/// In UTF-8 mode, the match of a search of a whole `str` is what `find_str` of `regex_hir` gives for the pattern that
+/// the grammar reads in the text.
 pub fn match_in_str(
     compiler: &Compiler,
     pattern: &str,
@@ -88,8 +89,8 @@ pub fn match_in_str(
         → option_map found_of found ≡ option_map found_by (find_str re haystack.now 0) }
 {}
 
-/// Whether a search of a whole `str` finds something, by an NFA that was compiled in UTF-8 mode: exactly if the pattern
-/// that is read in the text matches from a boundary. The pattern may be written in any way that matches alike.
+/// In UTF-8 mode, a search of a whole `str` finds something exactly if the pattern that is read in the text matches
+/// from a boundary. The pattern may be written in any way that matches the same.
 pub fn is_match_in_str(compiler: &Compiler, pattern: &str, nfa: &NFA, haystack: &[u8], found: bool)
     requires compiled { IsCompiled (syntax_of compiler.now) (pattern.now ∷ []) nfa.now }
     requires utf8 { nfa.now.utf8 ≡ true }
@@ -100,7 +101,8 @@ pub fn is_match_in_str(compiler: &Compiler, pattern: &str, nfa: &NFA, haystack: 
         → (found ≡ true) ↔ MatchesInStr haystack.now re }
 {}
 
-/// All matches of a search of the whole `str` are what `find_all_str` of `regex_hir` gives for that pattern.
+/// In UTF-8 mode, all matches of a search of a whole `str` are what `find_all_str` of `regex_hir` gives for that
+/// pattern.
 pub fn matches_in_str(
     compiler: &Compiler,
     pattern: &str,
@@ -117,8 +119,8 @@ pub fn matches_in_str(
         → map found_of found.now ≡ map found_by (find_all_str re haystack.now) }
 {}
 
-/// What captures of a search of the whole `str` give for a name: the span that the match of `find_str` last wrote for
-/// the first group that has the name in the text.
+/// In UTF-8 mode, the span that captures of a search of a whole `str` give for a name: the span that the match of
+/// `find_str` last wrote for the first group with this name in the text.
 pub fn named_group_in_str(
     compiler: &Compiler,
     pattern: &str,

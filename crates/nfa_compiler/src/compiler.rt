@@ -1,4 +1,4 @@
-//! The compiler: trees of patterns to one NFA.
+//! The compiler: from the trees of patterns to one NFA.
 ghost use Rattle.std.specs.Prelude.{◌≡◌, ◌==◌, ◌+◌, ◌*◌, ◌<◌, ◌∷◌, [], All, true, false, IfErr, IfOk, OnOk};
 ghost use Rattle.std.specs.Prelude.{length, map, vec_len};
 ghost use Rattle.regex_hir.specs.Meaning.{meaning};
@@ -71,8 +71,8 @@ impl Compiler {
 
     /// Makes the NFA of one pattern.
     ///
-    /// Its text is read by the syntax of this compiler, and by [`Config::utf8`]. Fails if the text is not a pattern
-    /// ([`CompileError::Syntax`]), if the pattern exceeds [`Config::size_limit`], or if allocation fails.
+    /// The text is parsed with the syntax of this compiler and with [`Config::utf8`]. Fails if the text is not a
+    /// pattern ([`CompileError::Syntax`]), if the pattern exceeds [`Config::size_limit`], or if allocation fails.
     pub fn build(&self, alloc: Global, pattern: &str) -> Result<NFA, CompileError>
         ensures compiled { IfOk result (IsCompiled (syntax_of self.now) (pattern.now ∷ [])) }
         ensures valid { IfOk result IsAutomaton }
@@ -88,7 +88,7 @@ impl Compiler {
 
     /// Makes the NFA of these patterns, numbered from 0 on. If two match from one start, the earlier one is preferred.
     ///
-    /// Fails as [`Compiler::build`] does. The error has the number of the pattern at fault, and a syntax error its
+    /// Fails as [`Compiler::build`] does. The error has the number of the pattern that failed, and a syntax error its
     /// text.
     pub fn build_many(&self, alloc: Global, patterns: &[&str]) -> Result<NFA, CompileError>
         ensures compiled { IfOk result (IsCompiled (syntax_of self.now) (map (λ text. text.now) patterns.now)) }
@@ -109,7 +109,7 @@ impl Compiler {
         Ok(nfa)
     }
 
-    /// Makes the NFA of one pattern, passed as a tree with the names of its groups, from group 0 on.
+    /// Makes the NFA of one pattern, which is passed as a tree with the names of its groups, from group 0 on.
     ///
     /// Fails with [`CompileError::Tree`] if a parser could not have returned the tree, and never with
     /// [`CompileError::Syntax`].
@@ -128,7 +128,7 @@ impl Compiler {
         self.build_many_from_hir(alloc, slice::from_ref(pattern))
     }
 
-    /// Makes the NFA of these patterns, passed as trees.
+    /// Makes the NFA of these patterns, which are passed as trees.
     ///
     /// Fails as [`Compiler::build_from_hir`] does.
     pub fn build_many_from_hir(
@@ -162,7 +162,8 @@ impl Compiler {
         }
     }
 
-    /// The start of unanchored searches: a prefix that skips bytes, or the anchored start if the NFA is anchored.
+    /// Returns the start of unanchored searches: a prefix that skips bytes, or the anchored start if the NFA is
+    /// anchored.
     fn unanchored(
         &self,
         states: &mut Vec<State>,
@@ -260,7 +261,7 @@ impl Compiler {
     }
 }
 
-/// Whether one of these patterns may match the empty string.
+/// Returns whether one of these patterns may match the empty string.
 fn may_one_be_empty(patterns: &[Parsed]) -> bool
     ensures { result ≡ false → All AlwaysReads patterns.now }
 {

@@ -1,19 +1,19 @@
 //! The settings of a compiler.
 ghost use Rattle.std.specs.Prelude.{◌≡◌, true, false};
 
-/// Settings for the NFA that a compiler makes.
+/// The settings of the NFA that a compiler makes.
 #[derive(Clone, Copy, Debug)]
 pub struct Config {
     /// Whether each search is bound to its start.
     pub anchored: bool,
-    /// Whether patterns match text only: see [`Config::utf8`].
+    /// Whether patterns match only UTF-8: see [`Config::utf8`].
     pub utf8: bool,
     /// The most bytes that the tables of one pattern may take: see [`Config::size_limit`].
     pub size_limit: usize,
 }
 
 impl Config {
-    /// Unanchored, in UTF-8 mode, with a size limit of ten mebibytes.
+    /// Returns the default settings: unanchored, in UTF-8 mode, with a size limit of ten mebibytes.
     pub fn new() -> Config
         ensures { result ≡ record { anchored = false; utf8 = true; size_limit = 10485760 } }
     {
@@ -34,11 +34,11 @@ impl Config {
         }
     }
 
-    /// Sets whether patterns match text only.
+    /// Sets whether patterns match only UTF-8.
     ///
-    /// With `true`, a text such as `(?-u:\xFF)`, which could match bytes that are not UTF-8, is not a pattern, and a
+    /// With `true`, a text that could match bytes that are not UTF-8, such as `(?-u:\xFF)`, is not a pattern, and a
     /// search skips an empty match that splits a codepoint. With `false`, patterns may match any bytes, and an empty
-    /// match may be anywhere. The setting replaces the field `utf8` of the syntax.
+    /// match may be anywhere. This setting replaces the field `utf8` of the syntax.
     pub fn utf8(self, yes: bool) -> Config
         ensures { result ≡ record self { utf8 = yes } }
     {

@@ -4,20 +4,20 @@ use regex_search_core::Refused;
 use std::alloc::{AllocError, AllocFailed};
 use thiserror::Error;
 
-/// Why a compiler made no NFA. Patterns are named by their numbers, from 0 on.
+/// The reason why a compiler made no NFA. Patterns are numbered from 0 on.
 #[derive(Debug, Drop, Error)]
 pub enum CompileError {
     /// Allocation failed.
     #[error("out of memory")]
     Memory,
-    /// A text is not a pattern, or nests too deep.
+    /// A text is not a pattern, or nests too deeply.
     #[error("{0}")]
     Syntax(SyntaxError),
-    /// The states of a pattern, or the work of making them, would exceed the size limit.
+    /// The states of a pattern, or the work to make them, would exceed the size limit.
     #[error("pattern {pattern} exceeds the size limit of {limit} bytes")]
     TooBig { pattern: usize, limit: usize },
     /// A tree passed to [`Compiler::build_from_hir`](crate::Compiler::build_from_hir) is not one that a parser returns:
-    /// a class of bytes goes above 255, a group has the number 0, or has a number but no name entry.
+    /// a byte class goes above 255, a group has the number 0, or a group has a number but no name entry.
     #[error("the tree of pattern {pattern} is not well formed")]
     Tree { pattern: usize },
     /// There are more states than state numbers.

@@ -9,7 +9,7 @@ use regex_search_core::{GroupInfo, PatternID};
 use regex_syntax::Parsed;
 use std::alloc::{AllocError, Global};
 
-/// The names of the pattern's explicit groups: all but group 0.
+/// Returns the names of the pattern's explicit groups: all but group 0.
 fn explicit(pattern: &Parsed) -> &[Option<String>]
     ensures { map (option_map string_bytes) result.now ≡ explicit_names pattern.now }
 {
@@ -42,7 +42,7 @@ fn names_of(alloc: Global, names: &[Option<String>]) -> Result<Vec<Option<String
     Ok(copy)
 }
 
-/// The number of the pattern at this index.
+/// Returns the number of the pattern at this index.
 pub(crate) fn pattern_number(index: usize) -> Result<PatternID, CompileError>
     ensures number { IfOk result (λ pattern. number_of pattern ≡ index) }
     ensures fails { IfErr result IsOfNoText }
@@ -50,7 +50,7 @@ pub(crate) fn pattern_number(index: usize) -> Result<PatternID, CompileError>
     PatternID::new(index).ok_or(CompileError::TooManyPatterns)
 }
 
-/// The first slot after those of the pattern's explicit groups, which begin at `slots`.
+/// Returns the first slot after those of the pattern's explicit groups, which begin at `slots`.
 pub(crate) fn slots_after(slots: usize, pattern: &Parsed) -> Result<usize, CompileError>
     ensures after { IfOk result (λ after. after ≡ slots + 2 * length (explicit_names pattern.now)) }
     ensures fails { IfErr result IsOfNoText }
@@ -59,7 +59,7 @@ pub(crate) fn slots_after(slots: usize, pattern: &Parsed) -> Result<usize, Compi
     slots.checked_add(own).ok_or(CompileError::TooManyGroups)
 }
 
-/// The number of slots of so many groups: two for each.
+/// Returns the number of slots of this number of groups: two for each.
 pub(crate) fn slots_for(groups: usize) -> Result<usize, CompileError>
     ensures slots { IfOk result (λ slots. slots ≡ 2 * groups) }
     ensures fails { IfErr result IsOfNoText }

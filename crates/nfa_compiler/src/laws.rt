@@ -16,28 +16,29 @@ ghost use Rattle.nfa_compiler.specs.Utf8Laws.{AnswersAreBoundaryHits, FindsBound
 ghost use Rattle.nfa_compiler.specs.Utf8Laws.{BoundaryHitsAreStrHits, MatchesAreAllBoundaryHits, RowsAreAllBoundaryHits};
 ghost use Rattle.nfa_compiler.specs.Utf8Laws.{TreesMatchCharacters};
 
-/// An assertion of an NFA holds where that of the pattern does.
+/// An assertion of an NFA holds exactly if that of the pattern does.
 pub fn assertions_agree()
     ensures { LooksAgree }
 {}
 
 /// `nfa_bounds::records_bounds` is true of a compiled NFA: each way through its states, from a start of a search to a
-/// match, writes where it starts and where it ends. So the laws of `nfa_bounds` hold of it, and no test is needed.
+/// match, writes its start and its end. The laws of `nfa_bounds` therefore hold for it, and no test is needed.
 pub fn compiled_nfas_record_bounds()
     ensures patterns { PatternsRecordBounds }
     ensures texts { TextsRecordBounds }
 {}
 
-/// A leftmost first search finds the hit at the least start at which one of the patterns matches, of the first of these
-/// patterns. The search goes on to the end of the haystack, and `earliest` is false.
+/// A leftmost first search finds the hit at the least start at which one of the patterns matches, and there that of the
+/// first such pattern. The search goes on to the end of the haystack, and `earliest` is false.
 pub fn searches_find_hits()
     ensures answers { AnswersAreHits }
     ensures matches { MatchesAreHits }
     ensures found { FindsHits }
 {}
 
-/// The same of texts: a search finds what the grammar of patterns reads in them. The premise on the NFA is what
-/// [`Compiler::build`](crate::Compiler::build) and [`Compiler::build_many`](crate::Compiler::build_many) ensure.
+/// The same for texts: a search finds what the grammar of patterns reads in them.
+/// [`Compiler::build`](crate::Compiler::build) and [`Compiler::build_many`](crate::Compiler::build_many) ensure the
+/// premise on the NFA.
 pub fn searches_find_texts()
     ensures answers { TextsAreAnswered }
     ensures matches { TextsAreMatched }
@@ -49,13 +50,13 @@ pub fn one_hit_is_find()
 {}
 
 /// The matches of a search, as `find_iter` and `find_all` of both engines give them, are all hits of the patterns, from
-/// left to right. So are the captures, with all slots. An empty hit where the last one ended is skipped.
+/// left to right. The same holds for the captures, with all slots. An empty hit at the end of the last one is skipped.
 pub fn iterations_find_all_hits()
     ensures matches { MatchesAreAllHits }
     ensures captures { RowsAreAllHits }
 {}
 
-/// The same of texts: an iteration finds all hits of what the grammar reads in them.
+/// The same for texts: an iteration finds all hits of what the grammar reads in them.
 pub fn iterations_find_texts()
     ensures matches { MatchesAreAllOfTexts }
     ensures captures { RowsAreAllOfTexts }
@@ -73,19 +74,19 @@ pub fn searches_find_if_patterns_match()
     ensures answers { AnswersIfMatches }
 {}
 
-/// Under `MatchKind::All`, and not `earliest`, a set of overlapping matches gains each pattern that matches somewhere
-/// and for which it has room, and no other. A pattern matches somewhere if it matches, in the textbook sense, from a
+/// Under `MatchKind::All`, without `earliest`, a set of overlapping matches gains exactly the patterns that match
+/// somewhere and that it has room for. A pattern matches somewhere if it matches, in the textbook sense, from a
 /// position where the search may start.
 pub fn sets_hold_patterns_that_match()
     ensures { SetsHoldMatches }
 {}
 
 /// In UTF-8 mode, too, a search of any match kind, `earliest` or not, finds something only if some pattern matches, and
-/// a set of overlapping matches gains only patterns that match. Under `All`, and not `earliest`, in a `str`, a set
-/// gains each pattern that matches whole characters and matches from a boundary.
+/// a set of overlapping matches gains only patterns that match. In a `str`, under `All` without `earliest`, a set gains
+/// each pattern that matches whole characters and matches from a boundary.
 ///
-/// A pattern may match without being found, if patterns may match the empty string: `earliest` and `All` prefer matches
-/// by where they end, and after one that splits a codepoint a search starts again after its old start.
+/// If patterns may match the empty string, a pattern may match without being found: `earliest` and `All` prefer matches
+/// by their end, and after one that splits a codepoint a search starts again after its old start.
 pub fn searches_find_only_matches()
     ensures found { FindsOnlyMatches }
     ensures answers { AnswersOnlyMatches }
@@ -93,17 +94,17 @@ pub fn searches_find_only_matches()
     ensures strs { SetsHoldMatchesOfStrs }
 {}
 
-/// In a haystack of ASCII the laws [`searches_find_if_patterns_match`] and [`sets_hold_patterns_that_match`] hold in
-/// UTF-8 mode, too.
+/// In an ASCII haystack the laws [`searches_find_if_patterns_match`] and [`sets_hold_patterns_that_match`] also hold in
+/// UTF-8 mode.
 pub fn ascii_searches_find_if_patterns_match()
     ensures found { FindsIfAsciiMatches }
     ensures answers { AnswersIfAsciiMatches }
     ensures sets { SetsHoldAsciiMatches }
 {}
 
-/// The groups of an NFA have the names that the grammar reads in the texts. The captures of a hit give for a group the
-/// span that the match last wrote for it, and for a name that of its first group, as `Captures::get_group_by_name`
-/// does: of a hit in byte mode, of one that ends on a boundary, and of one in a `str`.
+/// The groups of an NFA have the names that the grammar reads in the texts. For a group, the captures of a hit give the
+/// span that the match last wrote for it, and for a name the span of its first group, as `Captures::get_group_by_name`
+/// does. This holds for hits in byte mode, for those that end on a boundary, and for those in a `str`.
 pub fn groups_are_those_of_texts()
     ensures names { GroupsAreNamed }
     ensures count { GroupsAreCounted }
@@ -116,7 +117,7 @@ pub fn groups_are_those_of_texts()
 {}
 
 /// The same as [`searches_find_hits`] in UTF-8 mode, for patterns that may match the empty string: a search finds the
-/// first hit that ends on a boundary. An anchored search finds the hit at its start, if that ends on a boundary.
+/// first hit that ends on a boundary. An anchored search finds the hit at its start, if that hit ends on a boundary.
 pub fn searches_find_boundary_hits()
     ensures answers { AnswersAreBoundaryHits }
     ensures matches { MatchesAreBoundaryHits }
@@ -130,7 +131,7 @@ pub fn iterations_find_boundary_hits()
 {}
 
 /// In UTF-8 mode and in a `str`, a haystack that is UTF-8, a search finds what the grammar reads in the texts of the
-/// patterns, at the first boundary where one of them matches, whether or not they may match the empty string.
+/// patterns, at the first boundary at which one of them matches, whether or not they may match the empty string.
 pub fn searches_of_strs_find_texts()
     ensures answers { StrsAreAnswered }
     ensures matches { StrsAreMatched }

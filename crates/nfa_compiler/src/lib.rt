@@ -1,8 +1,8 @@
 //! NFAs from the texts of patterns.
 //!
-//! [`Compiler`] reads texts in the syntax of the crate regex (`regex_syntax`), compiles each pattern (`regex_compile`),
-//! and joins their states in one `NFA`. The functions of [`laws`] state what searches of that NFA find: what the
-//! patterns mean.
+//! [`Compiler`] parses texts in the syntax of the crate regex (`regex_syntax`), compiles each pattern
+//! (`regex_compile`), and joins their states in one `NFA`. The functions of [`laws`] state what searches of that NFA
+//! find: what the patterns mean.
 //!
 //! ```
 //! let nfa = Compiler::new().build(alloc, r"(?<key>\w+)=(?<value>[^ ]*)")?;

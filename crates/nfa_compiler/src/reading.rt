@@ -37,7 +37,7 @@ fn read(alloc: Global, index: usize, pattern: &str, syntax: &Config) -> Result<P
     }
 }
 
-/// The error of a text that was refused: out of memory, or a [`SyntaxError`] with a copy of the text.
+/// Returns the error of a text that was refused: out of memory, or a [`SyntaxError`] with a copy of the text.
 fn refused(
     alloc: Global,
     index: usize,

@@ -1,4 +1,4 @@
-//! Adding states after others.
+//! Functions that add states after others.
 ghost use Rattle.std.specs.Prelude.{◌≡◌, ◌<◌, ◌++◌, ◌∷◌, [], All, IfErr, IfOk, OnOk, map, vec_len};
 ghost use Rattle.thompson_nfa.specs.Automaton.{node_of};
 ghost use Rattle.nfa_compiler.specs.Added.{Adds, KeepsInRange};
@@ -21,7 +21,7 @@ pub(crate) fn push(states: &mut Vec<State>, state: State) -> Result<StateID, Com
     Ok(id)
 }
 
-/// Adds a state that leads to each of these starts, the earlier ones preferred. One start needs no such state.
+/// Adds a state that leads to each of these starts, with earlier ones preferred. For one start it adds no state.
 pub(crate) fn choice(
     alloc: Global,
     states: &mut Vec<State>,
@@ -41,7 +41,7 @@ pub(crate) fn choice(
     push(states, State::Union { alternates })
 }
 
-/// Adds a loop that skips bytes before `start`, and prefers not to.
+/// Adds a loop that skips bytes before `start`, and prefers not to skip.
 pub(crate) fn prefix(states: &mut Vec<State>, start: StateID) -> Result<StateID, CompileError>
     requires { start < vec_len states.old }
     ensures number { IfOk result (λ number. number ≡ vec_len states.old) }

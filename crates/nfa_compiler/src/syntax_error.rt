@@ -1,4 +1,4 @@
-//! The error of a text that is not a pattern: which text, where in it, and why.
+//! The error of a text that is not a pattern: the text, the place in it, and the reason.
 ghost use Rattle.std.specs.Prelude.{◌≤◌, ◌≢◌, IsCharBoundary, string_bytes};
 ghost use Rattle.regex_syntax.specs.Verdict.{Refuses};
 ghost use Rattle.regex_syntax.specs.declared.error.ErrorKind.TheVariants.{OutOfMemory};
@@ -6,9 +6,9 @@ ghost use Rattle.regex_syntax.specs.declared.error.ErrorKind.TheVariants.{OutOfM
 use regex_syntax::{Config, ErrorKind, Span};
 use std::fmt;
 
-/// A text that is not a pattern, or that nests too deep.
+/// A text that is not a pattern, or that nests too deeply.
 ///
-/// `Display` writes one line with the pattern's number, the span and the reason. Below it stand the line of the text in
+/// `Display` writes one line with the pattern's number, the span and the reason. Below it are the line of the text in
 /// which the span starts, and marks under the span:
 ///
 /// ```text
@@ -47,7 +47,7 @@ impl SyntaxError {
         &self.text
     }
 
-    /// Returns the syntax that the text was read by.
+    /// Returns the syntax that the text was parsed with.
     pub fn syntax(&self) -> Config
         ensures { result ≡ self.now.syntax }
     {
@@ -61,7 +61,7 @@ impl SyntaxError {
         self.kind
     }
 
-    /// Returns the part of the text at fault, in bytes.
+    /// Returns the span of the error in the text, in bytes.
     pub fn span(&self) -> Span
         ensures { result ≡ self.now.span }
     {

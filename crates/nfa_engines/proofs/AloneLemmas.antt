@@ -1,4 +1,4 @@
--- A search that is bound to a pattern is the search of this pattern alone.
+-- A search that is anchored to a pattern is the search of only this pattern.
 use Rattle.std.proofs.Common.{◌≡◌, ◌∙◌, ℕ, inl, inr, Bool, true, false, MatchBool, List, [], ◌∷◌}
 use Rattle.std.proofs.Common.{length}
 use Rattle.std.proofs.Common.{map, refl, sym, ap, subst, nat_lt, if◌then◌else◌, slice_get}
@@ -48,7 +48,7 @@ module _ (nfa : Automaton) (state : ℕ) where
       of [] = refl
       of (i ∷ slots) = let e = slot-alone p i in let f = of slots in λ j. e j ∷ f j
 
--- the haystack alone decides whether a path ends on a boundary
+-- only the haystack decides whether a path ends on a boundary
 ends-along : (x : Search) (a b : Anchored) (p : List Pair) → EndsOnBoundary (record x { anchored = a }) p
     → EndsOnBoundary (record x { anchored = b }) p
 ends-along x a b [] h = h
@@ -99,7 +99,7 @@ module _ (n m : Automaton) (x : Search) (a b : Anchored)
         ]
     kept-along (Some p) h = (scan-along kind earliest (Some p) h.0, ends-along x a b p h.1)
 
-    -- an anchored search's answer, where the two NFAs differ in their anchored starts alone
+    -- an anchored search's answer, if the two NFAs differ only in their anchored starts
     search-along : (utf8_empty : Bool) (restarts : ℕ) (r : Option (List Pair))
         → MatchBool utf8_empty ((restarts ≡ 0) × IsKeptAnswer n kind earliest here r)
         ((restarts ≡ 0) × IsScanAnswer n here kind earliest r)

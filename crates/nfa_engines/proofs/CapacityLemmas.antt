@@ -4,7 +4,7 @@ use Rattle.std.proofs.Math.Nat.{mul-div-le, lt-mul-div-succ, mul-le-mul_left}
 use Rattle.std.proofs.lemmas.Nat.{le-div}
 use Rattle.nfa_backtrack.specs.Backtrack.{rounded_bits}
 
--- so many bytes have a bit for each pair
+-- this number of bytes has a bit for each pair
 pub bits-reach : (pairs bytes : ℕ) → pairs < 2 ^ 64 → (pairs + 7) / 8 ≤ bytes → pairs ≤ rounded_bits bytes
 bits-reach pairs bytes fits enough = omega arith
 

@@ -1,4 +1,4 @@
--- Where the anchored start tries the patterns in order, the first pattern that has an accepting path answers.
+-- If the anchored start tries the patterns in order, the first pattern that has an accepting path answers.
 use Rattle.std.proofs.Common.{◌≡◌, ◌∙◌, ℕ, zero, suc, ◌≤◌, ◌<◌, ◌⊎◌, inl, inr, true, false, List, [], ◌∷◌}
 use Rattle.std.proofs.Common.{map, refl, sym, ap, subst, arith, le-ltb, slice_get}
 use Rattle.std.specs.Prelude.{None, Some, is_some}

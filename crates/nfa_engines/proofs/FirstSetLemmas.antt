@@ -26,7 +26,7 @@ module _ (nfa : Automaton) (x : Search) where
   same-number : (m n : ℕ) → Some m ≡ Some n → m ≡ n
   same-number m n e = cc
 
-  -- an empty set comes to hold the patterns of the first paths before any limit
+  -- an empty set gains the patterns of the first paths before some limit
   meant-firsts : (capacity : ℕ) (set : List Bool) → length set ≡ capacity → HoldsMeant nfa x false capacity set
       → (k : ℕ) → HoldsPattern set k ↔ IsFirstBefore nfa x capacity k
   meant-firsts capacity set size m k = of m.path m.meant m.holds

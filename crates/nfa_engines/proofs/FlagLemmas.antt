@@ -1,4 +1,4 @@
--- What is asked with an `earliest` of its own is the same of searches that carry other flags.
+-- A statement with an `earliest` of its own is the same for searches with other flags.
 use Rattle.std.proofs.Common.{◌≡◌, ℕ, Bool, true, false, MatchBool, Option, None, Some, Ok, Err, List, [], ◌∷◌, map}
 use Rattle.std.proofs.Common.{length, refl, subst}
 use Rattle.std.specs.Prelude.{is_some}
@@ -27,7 +27,7 @@ repeats-flagged : (w : Walk) (flag : Bool) (place : Option Span) → repeats (fl
 repeats-flagged w flag None = refl
 repeats-flagged w flag (Some p) = refl
 
--- Where what a search tells does not read the flag, neither does the list of an iteration.
+-- If the answers of searches do not read the flag, neither does the list of an iteration.
 module _ {X : Type 0} (span : X → Span) (tells : Search → Answer X → Type 0)
     (free : (t : Search) (flag : Bool) (a : Answer X) → tells (asked t flag) a → tells t a) where
   step-flagged : (w : Walk) (flag : Bool) (a : Answer X) → IsStep span tells (flagged w flag) a → IsStep span tells w a
@@ -114,7 +114,7 @@ module _ (nfa : Automaton) (kind : MatchKind) (earliest : Bool) where
         h.come;
   }
 
--- Where the flag is off, what ignores it says under any flag what is asked for without one.
+-- If the flag is off, a call that ignores the flag gives, under any flag, the answer of a call without it.
 module _ (nfa : Automaton) (x y : Search) (flag : Bool) (same : y ≡ asked x flag) (off : x.earliest ≡ false) where
   pub found-under : (kind : MatchKind) (found : Bool) (pattern : Option ℕ) (slots : List (Option ℕ))
       → IsFoundAnswer nfa kind false y found → IsAnswer nfa kind x.earliest x pattern slots → found ≡ is_some pattern

@@ -1,5 +1,5 @@
--- Where each accepting path writes its start and its end, the leftmost match is that of the first path, and is none
--- where there is none.
+-- If each accepting path writes its start and its end, the leftmost match is that of the first path, and there is none
+-- if there is no path.
 use Rattle.std.proofs.Common.{◌≡◌, ℕ, ◌+◌, ◌*◌, ◌≤◌, ◌<◌, ◌⊎◌, ◌↔◌, ◌∙◌, inl, inr, Bool, false, List, [], ◌∷◌}
 use Rattle.std.proofs.Common.{refl, sym, ap, arith}
 use Rattle.std.specs.Prelude.{Option, None, Some, IfSome, option_and_then}
@@ -67,14 +67,14 @@ module _ (nfa : Automaton) where
 
   module _ (valid : IsAutomaton nfa) (x : Search) (anywhere : is_utf8_empty nfa ≡ false)
       (write : PathsWriteTheirEnds nfa x) where
-    -- where a match may end anywhere, a search's answer is that of one scan
+    -- if a match may end anywhere, a search's answer is that of one scan
     scanned : (kind : MatchKind) (earliest : Bool) (restarts : ℕ) (path : Option (List Pair))
         → IsSearchAnswer nfa kind earliest x restarts path
         → IsScanAnswer nfa x kind earliest path
     scanned kind earliest restarts path h =
         let scan : (restarts ≡ 0) × IsScanAnswer nfa x kind earliest path = rw anywhere at h in scan.1
 
-    -- there is no match exactly where there is no accepting path
+    -- there is no match exactly if there is no accepting path
     pub none-is_no_path : (kind : MatchKind) (earliest : Bool) (found : Option Found)
         → IsMatchAnswer nfa kind earliest x found
         → (found ≡ None) ↔ NoPath (edges nfa x) (starts nfa x) (IsMatch nfa)
@@ -90,7 +90,7 @@ module _ (nfa : Automaton) where
             let some = is ∙ path-match valid x to.end p to.path (write to.end p to.path to.matches) in
             (λ e. absurd (never_none _ (sym some ∙ e)), λ h. absurd (h to.end p to.path to.matches))
 
-    -- of two paths the first starts not behind the other
+    -- of two paths the first does not start after the other
     first-starts : (start other : Pair) (p q : List Pair) → HeadIs start p → HeadIs other q
         → (q ≡ p) ⊎ ComesBefore (edges nfa x) p q → start.1 ≤ other.1
     first-starts start other [] q head k order = absurd head

@@ -1,4 +1,4 @@
--- The calls that ask one iteration give matches whose ends go up, and only so many.
+-- The calls of one iteration give matches whose ends increase, and a bounded number of them.
 use Rattle.std.proofs.Common.{◌≡◌, ℕ, ◌+◌, ◌<◌, ◌≤◌, inl, inr, List, [], ◌∷◌, length, subst}
 use Rattle.std.proofs.Common.{ap, arith}
 use Rattle.std.specs.Prelude.{Option, None, Some}

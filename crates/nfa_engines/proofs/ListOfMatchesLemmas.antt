@@ -6,7 +6,7 @@ use Rattle.regex_search_core.specs.Search.{Search}
 use Rattle.nfa_paths.specs.Paths.{span_len}
 use Rattle.nfa_search_base.specs.Lists.{AreApart}
 
--- matches that are apart end behind one another, so there are few
+-- matches that are apart end one after another, so there are few
 few-behind : (x : Search) (last : ℕ) (ms : List Found) → AreApart x (Some last) ms → length ms ≤ x.end - last
 few-behind x last [] apart = omega arith
 few-behind x last (m ∷ ms) apart =

@@ -1,4 +1,4 @@
--- What the slots of an answer give, and what it tells of accepting paths.
+-- What the slots of an answer give, and what the answer says of accepting paths.
 use Rattle.std.proofs.Common.{◌≡◌, ◌∙◌, ℕ, ◌+◌, ◌*◌, ◌<◌, ◌≤◌, ◌⊎◌, inl, inr, Bool, true, false, List, [], ◌∷◌, length, map, refl}
 use Rattle.std.proofs.Common.{sym, ap, arith}
 use Rattle.std.specs.Prelude.{Option, None, Some, is_some, option_and_then}
@@ -123,7 +123,7 @@ module _ (nfa : Automaton) where
             with_pattern None is = rw is refl
             with_pattern (Some k) is = rw is (row-match valid p (length slots) k is enough)
 
-  -- where a match may end anywhere
+  -- if a match may end anywhere
   module _ (kind : MatchKind) (earliest : Bool) (x : Search) (anywhere : is_utf8_empty nfa ≡ false) where
     -- a search's answer is that of one scan
     scanned : (restarts : ℕ) (path : Option (List Pair)) → IsSearchAnswer nfa kind earliest x restarts path

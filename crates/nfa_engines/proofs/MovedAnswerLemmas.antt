@@ -1,4 +1,4 @@
--- Where the accepting paths of one search are those of another, moved, so is what it answers.
+-- If the accepting paths of one search are those of another, moved, so is its answer.
 use Rattle.std.proofs.Common.{◌≡◌, ◌∙◌, ℕ, ◌+◌, ◌*◌, ◌==◌, ◌≤◌, ◌<◌, inl, inr, Bool, true, false, List, [], ◌∷◌, map}
 use Rattle.std.proofs.Common.{replicate, zero, suc}
 use Rattle.std.proofs.Common.{length, refl, sym, ap, arith, nat_le, leb, if◌then◌else◌}
@@ -36,7 +36,7 @@ offset-moved k slots i = rw (slice_get-map (option_map (λ (at : ℕ). at + k)) 
     of None = refl
     of (Some o) = refl
 
--- an order does not change where both sides move
+-- an order does not change if both sides move
 order-moved : (k a b : ℕ) → leb (a + k) (b + k) ≡ leb a b
 order-moved k a b =
     elim (leb_tells a b) [
@@ -50,7 +50,7 @@ order-moved k a b =
       ]
     ]
 
--- the span from one offset to the next, where both are set and in order
+-- the span from one offset to the next, if both are set and in order
 abbrev spans : Option ℕ → Option ℕ → Option Span
 spans from to =
     option_and_then (λ start. option_and_then

@@ -12,7 +12,7 @@ use Rattle.nfa_paths.specs.Paths.{IsAnswer, IsFoundAnswer}
 use Rattle.nfa_paths.proofs.AnswerLemmas.{search_answer-unique}
 use Rattle.nfa_paths.proofs.PatternLemmas.{node-pattern, found-of}
 
--- two tests that tell each other are one
+-- two tests that imply each other are equal
 pub same-test : (a b : Bool) → (a ≡ true → b ≡ true) → (b ≡ true → a ≡ true) → a ≡ b
 same-test true b f g = sym (f refl)
 same-test false true f g = g refl
@@ -43,7 +43,7 @@ module _ (nfa : Automaton) (x : Search) where
       let two = k.gains.gained i in
       same-test _ _ (λ t. two.1 (one.0 t)) (λ t. one.1 (two.0 t)))
 
-  -- where the set has room for each pattern, its capacity leaves none out
+  -- if the set has room for each pattern, its capacity leaves none out
   pub set-complete : (old new : List Bool) → IsAutomaton nfa → length nfa.patterns ≤ length old
       → IsOverlapResult nfa x All false old new
       → (k : ℕ) → HoldsPattern new k ↔ (HoldsPattern old k ⊎ IsPatternOf nfa x (IsPermitted nfa x) k)

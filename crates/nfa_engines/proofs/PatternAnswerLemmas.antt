@@ -29,7 +29,7 @@ or-none : (o : Option ℕ) → option_or o None ≡ o
 or-none None = refl
 or-none (Some a) = refl
 
--- the anchored start alone differs
+-- only the anchored start differs
 module _ (nfa : Automaton) (x : Search) (state : ℕ) where
   alone-match : (m : Pair) → IsMatch (started_at nfa state) m → IsMatch nfa m
   unfolding node_at
@@ -59,7 +59,7 @@ module _ (nfa : Automaton) (x : Search) (state : ℕ) where
   unfolding node_at
   first-alone q h = h
 
--- where a match may end anywhere, the first path is the answer
+-- if a match may end anywhere, the first path is the answer
 search-first : (nfa : Automaton) (x : Search) (p : List Pair) → is_utf8_empty nfa ≡ false
     → IsFirstTo (edges nfa x) (starts nfa x) (IsMatch nfa) p → IsSearchAnswer nfa LeftmostFirst false x 0 (Some p)
 search-first nfa x p anywhere h = rw anywhere (refl, h)

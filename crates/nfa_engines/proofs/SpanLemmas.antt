@@ -1,4 +1,4 @@
--- An NFA without assertions reads the bytes of the span alone, and not where the span is.
+-- An NFA without assertions reads only the bytes of the span, and not the place of the span.
 use Rattle.std.proofs.Common.{◌≡◌, ◌∙◌, ℕ, zero, suc, ◌+◌, ◌-◌, ◌==◌, ◌||◌, ◌≤◌, ◌<◌, inl, inr, Bool, false, List, []}
 use Rattle.std.proofs.Common.{◌∷◌, length}
 use Rattle.std.proofs.Common.{map, take, drop, get_or, refl, sym, ap, subst, arith, le-ltb, lt-ltb, if◌then◌else◌}

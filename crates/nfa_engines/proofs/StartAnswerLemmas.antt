@@ -24,7 +24,7 @@ use Rattle.nfa_engines.proofs.FirstStartLemmas.{start-unbound, unbound-start, wi
 moved-none : (v : Pair) → moved 0 v ≡ v
 moved-none v = let at : v.1 + 0 ≡ v.1 = omega arith in λ i. (v.0, at i)
 
--- where two lists of starts have the same paths to wanted pairs, no path moves
+-- if two lists of starts have the same paths to wanted pairs, no path moves
 module _ (edges : Pair → List Pair) (starts others : List Pair) (Wanted : Pair → Type 0)
     (to : (m : Pair) (p : List Pair) → PathTo edges starts m p → Wanted m → PathTo edges others m p)
     (back : (m : Pair) (p : List Pair) → PathTo edges others m p → Wanted m → PathTo edges starts m p) where
@@ -66,7 +66,7 @@ module _ (nfa : Automaton) (x : Search) (free : IsUnbound nfa x) where
       (with-starts w (unbound-start nfa x free x.start w.start
       (record { state_is = ap (λ (z : Pair). z.0) at.is; from = omega arith; within = omega arith })))
 
-  -- a search matches nothing where no anchored search in its span does
+  -- a search matches nothing if no anchored search in its span does
   pub nothing-at : MatchesNothing nfa x → (i : ℕ) → x.start ≤ i → MatchesNothing nfa (anchored_at x i)
   nothing-at none i low = record { no_path = λ m p w t. none.no_path m p (unbound-path i low m p w) t }
 

@@ -1,4 +1,4 @@
--- Whether a search has an accepting path. (Records, so that what concludes them shows the NFA and the search.)
+-- Whether a search has an accepting path. These are records, so that a conclusion shows the NFA and the search.
 use Rattle.std.specs.Prelude.{◌≡◌, ℕ, List, Some}
 use Rattle.regex_search_core.specs.Search.{Search}
 use Rattle.thompson_nfa.specs.Automaton.{Automaton}
@@ -9,14 +9,14 @@ use Rattle.nfa_paths.specs.Paths.{edges, starts, path_pattern, IsMatch}
 pub record MatchesNothing (nfa : Automaton) (x : Search) : Type 0 where
   pub no_path : NoPath (edges nfa x) (starts nfa x) (IsMatch nfa)
 
--- it has one
+-- the search has an accepting path
 pub record MatchesSomething (nfa : Automaton) (x : Search) : Type 0 where
   pub end : Pair
   pub along : List Pair
   pub path : PathTo (edges nfa x) (starts nfa x) end along
   pub accepts : IsMatch nfa end
 
--- it has one of the pattern
+-- the search has an accepting path of the pattern
 pub record MatchesPattern (nfa : Automaton) (x : Search) (pattern : ℕ) : Type 0 where
   pub end : Pair
   pub along : List Pair

@@ -1,4 +1,4 @@
--- Laws of what one answer tells: of the match that its slots give, and of whether there is an accepting path.
+-- Laws of what one answer says: of the match that its slots give, and of whether there is an accepting path.
 use Rattle.std.specs.Prelude.{◌≡◌, ℕ, ◌*◌, ◌≤◌, Bool, false, true, List, Option, None, Some, length}
 use Rattle.regex_search_core.specs.Found.{Found}
 use Rattle.regex_search_core.specs.Groups.{slot_count}
@@ -9,7 +9,7 @@ use Rattle.thompson_nfa.specs.Automaton.{Automaton, IsAutomaton}
 use Rattle.nfa_paths.specs.Paths.{is_utf8_empty, IsAnswer, IsFoundAnswer, IsMatchAnswer}
 use Rattle.nfa_engines.specs.Accepting.{MatchesNothing, MatchesPattern, MatchesSomething}
 
--- the match that pattern and slots of an answer give is that of the search, where all slots of the NFA were handed in
+-- the match that the pattern and slots of an answer give is that of the search, if all slots of the NFA were given
 abbrev pub AllSlotsGiveTheMatch : Type 0
 AllSlotsGiveTheMatch =
     (nfa : Automaton) (x : Search) (kind : MatchKind) (earliest : Bool) (pattern : Option ℕ) (slots : List (Option ℕ))
@@ -17,7 +17,7 @@ AllSlotsGiveTheMatch =
     → IsAnswer nfa kind earliest x pattern slots → IsMatchAnswer nfa kind earliest x found
     → match_of pattern slots ≡ found
 
--- so it is with any number of slots, where each pattern that has groups has its two
+-- the same with any number of slots, if each pattern that has groups has its two
 abbrev pub TwoSlotsGiveTheMatch : Type 0
 TwoSlotsGiveTheMatch =
     (nfa : Automaton) (x : Search) (kind : MatchKind) (earliest : Bool) (pattern : Option ℕ) (slots : List (Option ℕ))
@@ -25,25 +25,25 @@ TwoSlotsGiveTheMatch =
     → IsAnswer nfa kind earliest x pattern slots → IsMatchAnswer nfa kind earliest x found
     → match_of pattern slots ≡ found
 
--- Where a match may end anywhere, a search finds something where there is an accepting path,
+-- If a match may end anywhere: a search that finds something has an accepting path,
 abbrev pub FoundIsSomething : Type 0
 FoundIsSomething =
     (nfa : Automaton) (x : Search) (kind : MatchKind) (earliest found : Bool) → is_utf8_empty nfa ≡ false
     → found ≡ true → IsFoundAnswer nfa kind earliest x found → MatchesSomething nfa x
 
--- and there alone;
+-- and a search that finds nothing has none;
 abbrev pub NotFoundIsNothing : Type 0
 NotFoundIsNothing =
     (nfa : Automaton) (x : Search) (kind : MatchKind) (earliest found : Bool) → is_utf8_empty nfa ≡ false
     → found ≡ false → IsFoundAnswer nfa kind earliest x found → MatchesNothing nfa x
 
--- its pattern is one of an accepting path,
+-- a pattern of its answer is that of an accepting path,
 abbrev pub PatternIsMatched : Type 0
 PatternIsMatched =
     (nfa : Automaton) (x : Search) (kind : MatchKind) (earliest : Bool) (pattern : ℕ) (slots : List (Option ℕ))
     → is_utf8_empty nfa ≡ false → IsAnswer nfa kind earliest x (Some pattern) slots → MatchesPattern nfa x pattern
 
--- and it has none where there is no such path
+-- and if its answer has no pattern, there is no accepting path
 abbrev pub NoPatternIsNothing : Type 0
 NoPatternIsNothing =
     (nfa : Automaton) (x : Search) (kind : MatchKind) (earliest : Bool) (slots : List (Option ℕ))

@@ -1,4 +1,4 @@
--- Laws of the list of the captures of a search, over the definitions alone.
+-- Laws of the list of the captures of a search, about the definitions only.
 use Rattle.std.specs.Prelude.{◌≡◌, Bool, false, List, map, Ok, Result}
 use Rattle.regex_search_core.specs.Found.{Found}
 use Rattle.regex_search_core.specs.Search.{Search}
@@ -12,7 +12,7 @@ use Rattle.nfa_search_base.specs.Items.{item_by}
 use Rattle.nfa_search_base.specs.Lists.{AreFirstMatches, AreMatches}
 use Rattle.nfa_search_base.specs.declared.error.SearchError.{SearchError}
 
--- two lists of the rows of a search are one
+-- two lists of the rows of a search are equal
 abbrev pub OneRowList : Type 0
 OneRowList =
     (nfa : Automaton) (x : Search) (kind : MatchKind) (earliest : Bool) (rows others : List Row)
@@ -42,7 +42,7 @@ FirstRowsAreMatches =
     (nfa : Automaton) (x : Search) (kind : MatchKind) (earliest : Bool) (rows : List Row)
     → AreFirstRows nfa kind earliest x rows → AreFirstMatches nfa kind earliest x (map row_found rows)
 
--- the captures of a search hold its rows, or where a copy was refused those before it, then the refusal
+-- the captures of a search have its rows; or, if a copy failed, those before it and then the error
 abbrev pub CapturesUpToRefusal : Type 0
 CapturesUpToRefusal =
     (nfa : Automaton) (x : Search) (kind : MatchKind) (earliest : Bool) (rows : List Row)

@@ -1,5 +1,5 @@
--- Laws of the flag `earliest` that an input carries. What is said with an `earliest` of its own does not read it: it
--- holds of a search exactly where it holds of the same search with the flag set to this.
+-- Laws of the `earliest` flag of an input. A statement with an `earliest` of its own does not read the flag: it holds
+-- for a search exactly if it holds for the same search with this flag.
 use Rattle.std.specs.Prelude.{◌≡◌, ◌↔◌, ℕ, Bool, false, List, Option, is_some, length}
 use Rattle.regex_search_core.specs.Found.{Found}
 use Rattle.regex_search_core.specs.Search.{Search}
@@ -57,15 +57,15 @@ RowsReadNoFlag =
     → AreRows nfa kind earliest (record x { earliest = flag }) rows
     ↔ AreRows nfa kind earliest x rows
 
--- the set of patterns that comes of a set
+-- the set of patterns that a set becomes
 abbrev pub SetReadsNoFlag : Type 0
 SetReadsNoFlag =
     (nfa : Automaton) (x : Search) (flag : Bool) (kind : MatchKind) (earliest : Bool) (old new : List Bool)
     → IsOverlapResult nfa (record x { earliest = flag }) kind earliest old new
     ↔ IsOverlapResult nfa x kind earliest old new
 
--- So whether there is a match, which no flag is asked for, is whether a search of the same input without the flag has
--- a pattern.
+-- Whether there is a match does not read the flag, so it is whether a search of the same input without the flag has a
+-- pattern.
 abbrev pub FoundUnderAnyFlag : Type 0
 FoundUnderAnyFlag =
     (nfa : Automaton) (x y : Search) (flag : Bool) (kind : MatchKind) (found : Bool)
@@ -73,7 +73,7 @@ FoundUnderAnyFlag =
     → y ≡ record x { earliest = flag } → x.earliest ≡ false
     → IsFoundAnswer nfa kind false y found → IsAnswer nfa kind x.earliest x pattern slots → found ≡ is_some pattern
 
--- And an engine that ignores the flag gives, under any flag, the answer of one that is asked without it.
+-- An engine that ignores the flag gives, under any flag, the answer of one that searches without it.
 abbrev pub AnswersUnderAnyFlag : Type 0
 AnswersUnderAnyFlag =
     (nfa other : Automaton) (x y : Search) (flag : Bool) (kind : MatchKind) (p q : Option ℕ) (s t : List (Option ℕ))
@@ -81,7 +81,7 @@ AnswersUnderAnyFlag =
     → IsAnswer nfa kind x.earliest x p s → IsAnswer other LeftmostFirst false y q t → length s ≡ length t
     → (p ≡ q) × (s ≡ t)
 
--- the same of matches
+-- the same for matches
 abbrev pub MatchUnderAnyFlag : Type 0
 MatchUnderAnyFlag =
     (nfa other : Automaton) (x y : Search) (flag : Bool) (kind : MatchKind) (a b : Option Found)

@@ -1,4 +1,4 @@
--- The law that no match is passed over, over the definitions alone.
+-- The law that no match is missed, about the definitions only.
 use Rattle.std.specs.Prelude.{◌≡◌, ◌↔◌, ℕ, ◌+◌, ◌*◌, ◌≤◌, Bool, false, List, Option, None, Some, IfSome}
 use Rattle.regex_search_core.specs.Found.{Found}
 use Rattle.regex_search_core.specs.Search.{Search}
@@ -7,7 +7,7 @@ use Rattle.thompson_nfa.specs.Automaton.{Automaton, IsAutomaton}
 use Rattle.nfa_paths.specs.Graphs.{Pair, HeadIs, PathTo, NoPath}
 use Rattle.nfa_paths.specs.Paths.{edges, starts, is_utf8_empty, IsMatch, IsMatchAnswer, path_pattern, slot_among}
 
--- the path writes where it starts and where it ends into the two slots of its pattern
+-- the path writes its start and its end into the two slots of its pattern
 pub record WritesItsEnds (nfa : Automaton) (end : Pair) (p : List Pair) : Type 0 where
   pub start : Pair
   pub head : HeadIs start p
@@ -21,20 +21,20 @@ abbrev pub PathsWriteTheirEnds : Automaton → Search → Type 0
 PathsWriteTheirEnds nfa x =
     (end : Pair) (p : List Pair) → PathTo (edges nfa x) (starts nfa x) end p → IsMatch nfa end → WritesItsEnds nfa end p
 
--- then there is no match exactly where there is no accepting path
+-- then there is no match exactly if there is no accepting path
 abbrev pub NoneIsNoPath : MatchKind → Bool → Type 0
 NoneIsNoPath kind earliest =
     (nfa : Automaton) (x : Search) (found : Option Found) → IsAutomaton nfa → is_utf8_empty nfa ≡ false
     → PathsWriteTheirEnds nfa x
     → IsMatchAnswer nfa kind earliest x found → (found ≡ None) ↔ NoPath (edges nfa x) (starts nfa x) (IsMatch nfa)
 
--- the match starts not after the start of any accepting path
+-- no accepting path starts before the match
 abbrev pub StartsBeforePaths : Automaton → Search → Found → Type 0
 StartsBeforePaths nfa x m =
     (start end : Pair) (p : List Pair) → HeadIs start p → PathTo (edges nfa x) (starts nfa x) end p → IsMatch nfa end
     → m.start ≤ start.1
 
--- and no accepting path starts before the match
+-- then no accepting path starts before the match of the search
 abbrev pub NoneStartsBefore : MatchKind → Bool → Type 0
 NoneStartsBefore kind earliest =
     (nfa : Automaton) (x : Search) (found : Option Found) → IsAutomaton nfa → is_utf8_empty nfa ≡ false

@@ -1,4 +1,4 @@
--- The pattern and the end of an answer, which `find_half` gives.
+-- The pattern and the end of an answer, which `find_half` returns.
 use Rattle.std.specs.Prelude.{◌≡◌, ℕ, Bool, List, Option, option_map}
 use Rattle.regex_search_core.specs.Found.{HalfFound}
 use Rattle.regex_search_core.specs.Search.{Search}
@@ -6,13 +6,13 @@ use Rattle.regex_search_core.specs.declared.search.MatchKind.{MatchKind}
 use Rattle.thompson_nfa.specs.Automaton.{Automaton}
 use Rattle.nfa_paths.specs.Paths.{IsAnswer, IsHalfAnswer}
 
--- two half matches of one search are one
+-- two half matches of one search are equal
 abbrev pub OneHalfMatch : Type 0
 OneHalfMatch =
     (nfa : Automaton) (x : Search) (kind : MatchKind) (earliest : Bool) (a b : Option HalfFound)
     → IsHalfAnswer nfa kind earliest x a → IsHalfAnswer nfa kind earliest x b → a ≡ b
 
--- the half match has the pattern that the search for slots gives
+-- the half match has the pattern that a search for slots returns
 abbrev pub HalfMatchHasThePattern : Type 0
 HalfMatchHasThePattern =
     (nfa : Automaton) (x : Search) (kind : MatchKind) (earliest : Bool) (half : Option HalfFound) (pattern : Option ℕ)

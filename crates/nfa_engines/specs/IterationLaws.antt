@@ -1,4 +1,4 @@
--- Laws of iterations over matches, over the definitions alone.
+-- Laws of iterations over matches, about the definitions only.
 use Rattle.std.specs.Prelude.{◌≡◌, ◌⊎◌, ℕ, ◌+◌, ◌<◌, ◌≤◌, List, [], ◌∷◌, length, Option, None, Some, ⊤}
 use Rattle.std.specs.Option.{ForSome}
 use Rattle.regex_search_core.specs.Search.{Search}
@@ -6,35 +6,35 @@ use Rattle.regex_search_core.specs.declared.search.Span.{Span}
 use Rattle.nfa_paths.specs.Paths.{span_len}
 use Rattle.nfa_search_base.specs.Walks.{Walk, fresh, after, shifted, ComesAfter, LeavesFewer}
 
--- What each call that asks a `Searcher` for the next match promises of the iteration before it, of where its match lies
--- (`None` where it gave no match), and of the iteration after it.
+-- What each call that gets the next match from a `Searcher` ensures of the walk before it, of the place of its match
+-- (`None` if there is no match), and of the walk after it.
 pub record IsCall (w : Walk) (place : Option Span) (w' : Walk) : Type 0 where
   pub rises : ComesAfter w place
   pub fewer : LeavesFewer w place w'
   pub moves : (w' ≡ after w place) ⊎ (w' ≡ after (shifted w) place)
 
--- From w on these calls were made, one after the other: of each, where its match lies, and the iteration after it.
+-- These calls were made from w on, one after the other: for each, the place of its match, and the walk after it.
 abbrev pub AreCalls : Walk → List (Option Span × Walk) → Type 0
 AreCalls w [] = ⊤
 AreCalls w (call ∷ calls) = IsCall w call.0 call.1 × AreCalls call.1 calls
 
--- where the matches lie that the calls gave
+-- the places of the matches that the calls gave
 abbrev pub places_of : List (Option Span × Walk) → List Span
 places_of [] = []
 places_of ((Some p, w) ∷ calls) = p ∷ places_of calls
 places_of ((None, w) ∷ calls) = places_of calls
 
--- each match starts at or behind the end of the one before it, and ends behind that end
+-- each match starts at or after the end of the one before, and ends after that end
 abbrev pub EndsRise : Option ℕ → List Span → Type 0
 EndsRise last [] = ⊤
 EndsRise last (p ∷ places) = ForSome last (λ e. (e ≤ p.start) × (e < p.end)) × EndsRise (Some p.end) places
 
--- over all calls of one iteration the ends go up
+-- over all calls of one iteration the ends increase
 abbrev pub EndsIncrease : Type 0
 EndsIncrease =
     (x : Search) (calls : List (Option Span × Walk)) → AreCalls (fresh x) calls → EndsRise None (places_of calls)
 
--- and there are at most as many matches as the span has bytes, and so many more
+-- and there are at most `more` matches more than the span has bytes
 abbrev pub AtMostMatches : ℕ → Type 0
 AtMostMatches more =
     (x : Search) (calls : List (Option Span × Walk)) → AreCalls (fresh x) calls

@@ -1,4 +1,4 @@
--- Laws of scans, of searches and of their answers, over the definitions alone.
+-- Laws of scans, of searches and of their answers, about the definitions only.
 use Rattle.std.specs.Prelude.{◌≡◌, ℕ, ◌⊎◌, ◌-◌, ◌≤◌, Bool, false, List, Option, None, is_some, length, take, drop}
 use Rattle.std.specs.Prelude.{replicate}
 use Rattle.regex_search_core.specs.Groups.{slot_count}
@@ -11,26 +11,26 @@ use Rattle.regex_search_core.specs.declared.search.MatchKind.TheVariants.{Leftmo
 use Rattle.nfa_paths.specs.Paths.{edges, starts, IsMatch, is_utf8_empty, IsScanAnswer, IsSearchAnswer, IsAnswer}
 use Rattle.nfa_paths.specs.Paths.{IsFoundAnswer, IsMatchAnswer}
 
--- two answers of one scan are one
+-- two answers of one scan are equal
 abbrev pub OneScanAnswer : Type 0
 OneScanAnswer =
     (nfa : Automaton) (x : Search) (kind : MatchKind) (earliest : Bool) (r s : Option (List Pair))
     → IsScanAnswer nfa x kind earliest r → IsScanAnswer nfa x kind earliest s → r ≡ s
 
--- two answers of one search are one, and so are their restarts
+-- two answers of one search are equal, and so are their restarts
 abbrev pub OneSearchAnswer : Type 0
 OneSearchAnswer =
     (nfa : Automaton) (x : Search) (kind : MatchKind) (earliest : Bool) (i j : ℕ) (r s : Option (List Pair))
     → IsSearchAnswer nfa kind earliest x i r → IsSearchAnswer nfa kind earliest x j s → (i ≡ j) × (r ≡ s)
 
--- of two accepting paths, one comes before the other, or they are one
+-- of two accepting paths, one comes before the other, or they are equal
 abbrev pub PathsAreOrdered : Type 0
 PathsAreOrdered =
     (nfa : Automaton) (x : Search) (m n : Pair) (p q : List Pair)
     → PathTo (edges nfa x) (starts nfa x) m p → IsMatch nfa m → PathTo (edges nfa x) (starts nfa x) n q → IsMatch nfa n
     → (p ≡ q) ⊎ (ComesBefore (edges nfa x) p q ⊎ ComesBefore (edges nfa x) q p)
 
--- and not both before each other
+-- and not each before the other
 abbrev pub PathsAreOrderedOnce : Type 0
 PathsAreOrderedOnce =
     (nfa : Automaton) (x : Search) (p q : List Pair) → ComesBefore (edges nfa x) p q → ComesBefore (edges nfa x) q p → ⊥
@@ -47,20 +47,20 @@ EverySearchHasAnAnswer =
     (nfa : Automaton) (x : Search) (kind : MatchKind) (earliest : Bool)
     → (restarts : ℕ) × (path : Option (List Pair)) × IsSearchAnswer nfa kind earliest x restarts path
 
--- two scans of one search both answer a path or both none, of whichever kinds and `earliest` they are
+-- of two scans of one search, whatever their kinds and `earliest`, both answer a path or neither does
 abbrev pub ScansAgree : Type 0
 ScansAgree =
     (nfa : Automaton) (x : Search) (kind other : MatchKind) (earliest sooner : Bool) (r s : Option (List Pair))
     → IsScanAnswer nfa x kind earliest r → IsScanAnswer nfa x other sooner s → is_some r ≡ is_some s
 
--- so do two searches where no match has to end on a boundary
+-- the same of two searches, if no match has to end on a boundary
 abbrev pub SearchesAgree : Type 0
 SearchesAgree =
     (nfa : Automaton) (x : Search) → is_utf8_empty nfa ≡ false
     → (kind other : MatchKind) (earliest sooner : Bool) (i j : ℕ) (r s : Option (List Pair))
     → IsSearchAnswer nfa kind earliest x i r → IsSearchAnswer nfa other sooner x j s → is_some r ≡ is_some s
 
--- two answers of one search with as many slots are one
+-- two answers of one search with the same number of slots are equal
 abbrev pub AnswersAgree : Type 0
 AnswersAgree =
     (nfa : Automaton) (x : Search) (kind : MatchKind) (earliest : Bool) (p q : Option ℕ) (s t : List (Option ℕ))
@@ -73,14 +73,14 @@ FewerSlots =
     → IsAnswer nfa kind earliest x p s → IsAnswer nfa kind earliest x q t → length s ≤ length t
     → (p ≡ q) × (s ≡ take (length s) t)
 
--- the slots of an answer past those of the NFA are none
+-- the slots of an answer that the NFA does not have are `None`
 abbrev pub SlotsPastAreNone : Type 0
 SlotsPastAreNone =
     (nfa : Automaton) (x : Search) (kind : MatchKind) (earliest : Bool) (p : Option ℕ) (s : List (Option ℕ))
     → IsAutomaton nfa → IsAnswer nfa kind earliest x p s → slot_count nfa.groups ≤ length s
     → drop (slot_count nfa.groups) s ≡ replicate (length s - slot_count nfa.groups) None
 
--- two matches of one search are one
+-- two matches of one search are equal
 abbrev pub OneMatch : Type 0
 OneMatch =
     (nfa : Automaton) (x : Search) (kind : MatchKind) (earliest : Bool) (a b : Option Found)
@@ -92,14 +92,14 @@ OneFound =
     (nfa : Automaton) (x : Search) (kind : MatchKind) (earliest : Bool) (a b : Bool)
     → IsFoundAnswer nfa kind earliest x a → IsFoundAnswer nfa kind earliest x b → a ≡ b
 
--- a search finds something exactly where it has a pattern
+-- a search finds something exactly if it has a pattern
 abbrev pub FoundIsPattern : Type 0
 FoundIsPattern =
     (nfa : Automaton) (x : Search) (kind : MatchKind) (earliest : Bool)
     (p : Option ℕ) (s : List (Option ℕ)) (found : Bool)
     → IsAnswer nfa kind earliest x p s → IsFoundAnswer nfa kind earliest x found → found ≡ is_some p
 
--- a search of the kind finds something exactly where a leftmost first search does
+-- a search of the kind finds something exactly if a leftmost first search does
 abbrev pub FoundAsLeftmost : MatchKind → Type 0
 FoundAsLeftmost kind =
     (nfa : Automaton) (x : Search) (found other : Bool)

@@ -1,4 +1,4 @@
--- Laws of the list of the matches of a search, over the definitions alone.
+-- Laws of the list of the matches of a search, about the definitions only.
 use Rattle.std.specs.Prelude.{◌≡◌, ℕ, ◌+◌, ◌≤◌, Bool, false, List, length, None}
 use Rattle.regex_search_core.specs.Found.{Found}
 use Rattle.regex_search_core.specs.Search.{Search}
@@ -8,7 +8,7 @@ use Rattle.thompson_nfa.specs.Automaton.{Automaton}
 use Rattle.nfa_paths.specs.Paths.{span_len}
 use Rattle.nfa_search_base.specs.Lists.{AreApart, AreFirstMatches, AreMatches}
 
--- two lists of the matches of a search are one
+-- two lists of the matches of a search are equal
 abbrev pub OneList : Type 0
 OneList =
     (nfa : Automaton) (x : Search) (kind : MatchKind) (earliest : Bool) (ms ns : List Found)
@@ -20,13 +20,13 @@ EverySearchHasAList =
     (nfa : Automaton) (x : Search) (kind : MatchKind) (earliest : Bool)
     → (ms : List Found) × AreMatches nfa kind earliest x ms
 
--- the first matches of a search, all of them or some, lie in its span, in order, and do not overlap
+-- the first matches of a search, all or some, are inside its span, in order, and do not overlap
 abbrev pub MatchesAreApart : Type 0
 MatchesAreApart =
     (nfa : Automaton) (x : Search) (kind : MatchKind) (earliest : Bool) (ms : List Found)
     → AreFirstMatches nfa kind earliest x ms → AreApart x None ms
 
--- there are at most as many as the span has bytes, and so many more
+-- there are at most `more` matches more than the span has bytes
 abbrev pub AtMostInList : ℕ → Type 0
 AtMostInList more =
     (nfa : Automaton) (x : Search) (kind : MatchKind) (earliest : Bool) (ms : List Found)

@@ -1,4 +1,4 @@
--- Laws of an NFA whose anchored start tries the starts of its patterns in their order, over the definitions alone.
+-- Laws of an NFA whose anchored start tries the starts of its patterns in their order, about the definitions only.
 use Rattle.std.specs.Prelude.{◌≡◌, ◌↔◌, ◌⊎◌, ℕ, ◌<◌, Bool, false, List, [], ◌∷◌, Option, None, Some, slice_get}
 use Rattle.regex_search_core.specs.Found.{Found}
 use Rattle.regex_search_core.specs.Patterns.{number_of}
@@ -12,11 +12,11 @@ use Rattle.nfa_paths.specs.Graphs.{Pair, PathTo}
 use Rattle.nfa_paths.specs.Paths.{edges, is_utf8_empty, node_at, starts, IsAnswer, IsMatchAnswer}
 use Rattle.nfa_engines.specs.Accepting.{MatchesNothing}
 
--- the NFA of one pattern alone: its anchored start is that of the pattern
+-- the NFA of one pattern: its anchored start is that of the pattern
 abbrev pub started_at : Automaton → ℕ → Automaton
 started_at nfa state = record nfa { anchored = state }
 
--- A search that is bound to a pattern has the answer of the anchored search of this pattern alone, of any kind.
+-- A search that is anchored to a pattern has the answer of the anchored search of only this pattern, for any kind.
 abbrev pub PatternIsAlone : Type 0
 PatternIsAlone =
     (nfa : Automaton) (x : Search) (pattern : PatternID) (state : ℕ) (kind : MatchKind) (earliest : Bool)
@@ -24,7 +24,7 @@ PatternIsAlone =
     → IsAnswer nfa kind earliest (record x { anchored = Pattern pattern }) found slots
     ↔ IsAnswer (started_at nfa state) kind earliest (record x { anchored = Yes }) found slots
 
--- the same of its match
+-- the same for its match
 abbrev pub PatternMatchesAlone : Type 0
 PatternMatchesAlone =
     (nfa : Automaton) (x : Search) (pattern : PatternID) (state : ℕ) (kind : MatchKind) (earliest : Bool)
@@ -44,7 +44,7 @@ pub record IsUnionOfPatterns (nfa : Automaton) (x : Search) : Type 0 where
   pub apart : (k state at : ℕ) (p : List Pair) → slice_get nfa.patterns k ≡ Some state
       → PathTo (edges nfa x) (starts (started_at nfa state) x) (nfa.anchored, at) p → ⊥
 
--- so it is, or the anchored start is that of the only pattern
+-- the same, or the anchored start is that of the only pattern
 abbrev pub TriesPatternsInOrder : Automaton → Search → Type 0
 TriesPatternsInOrder nfa x = (nfa.patterns ≡ nfa.anchored ∷ []) ⊎ IsUnionOfPatterns nfa x
 
@@ -54,7 +54,7 @@ pub record IsFirstPattern (nfa : Automaton) (x : Search) (k state : ℕ) : Type 
   pub nothing : (j other : ℕ) → j < k → slice_get nfa.patterns j ≡ Some other
       → MatchesNothing (started_at nfa other) x
 
--- If the search of such a pattern alone has an answer, it is that of the search of all patterns.
+-- If the search of only such a pattern has an answer, it is that of the search of all patterns.
 abbrev pub FirstPatternAnswers : MatchKind → Bool → Type 0
 FirstPatternAnswers kind earliest =
     (nfa : Automaton) (x : Search) (k state pattern : ℕ) (slots : List (Option ℕ))
@@ -77,7 +77,7 @@ AnswersAreOfPatterns kind earliest =
     → IsAnswer nfa kind earliest x (Some pattern) slots
     → IsOfPattern nfa kind earliest x pattern slots
 
--- a search matches nothing exactly if no pattern alone does
+-- a search matches nothing exactly if no pattern matches when it is searched alone
 abbrev pub NothingOfEachPattern : Type 0
 NothingOfEachPattern =
     (nfa : Automaton) (x : Search) → x.anchored ≡ Yes → TriesPatternsInOrder nfa x

@@ -1,4 +1,4 @@
--- Laws of what an answer depends on: the bytes of the span, and not where the span is.
+-- Laws of what an answer depends on: the bytes of the span, and not the place of the span.
 use Rattle.std.specs.Prelude.{◌≡◌, ℕ, ◌+◌, ◌-◌, ◌<◌, ◌≤◌, Bool, false, List, map, All, take, drop}
 use Rattle.std.specs.Prelude.{Option, option_map, slice_get, ⊤}
 use Rattle.regex_search_core.specs.Found.{Found}
@@ -21,23 +21,23 @@ abbrev pub AssertsNothing : Node → Type 0
 AssertsNothing (Look look next) = ⊥
 AssertsNothing _ = ⊤
 
--- no state of the NFA does
+-- no state of the NFA asserts anything
 abbrev pub HasNoLook : Automaton → Type 0
 HasNoLook nfa = All AssertsNothing nfa.states
 
--- the second search has the span of the first, this many positions to the right, and is anchored alike
+-- the second search has the span of the first, this many positions to the right, and the same anchoring
 pub record IsSpanMoved (k : ℕ) (x y : Search) : Type 0 where
   pub start : y.start ≡ x.start + k
   pub end : y.end ≡ x.end + k
   pub anchored : y.anchored ≡ x.anchored
 
--- the bytes of the first in its span are those of the second, this many positions to the right
+-- the bytes of the first search in its span are those of the second, this many positions to the right
 abbrev pub AreBytesMoved : ℕ → Search → Search → Type 0
 AreBytesMoved k x y =
     (i : ℕ) → x.start ≤ i → i < x.end → slice_get y.haystack (i + k) ≡ slice_get x.haystack i
 
 -- An NFA without assertions reads only the bytes of the span. If the span and its bytes are those of another search,
--- moved, then so is the answer, of each kind.
+-- moved, then so is the answer, for each kind.
 abbrev pub AnswersMove : Type 0
 AnswersMove =
     (nfa : Automaton) (k : ℕ) (x y : Search) (kind : MatchKind) (earliest : Bool)
@@ -53,7 +53,7 @@ MatchesMove =
     → IsMatchAnswer nfa kind earliest x found
     → IsMatchAnswer nfa kind earliest y (option_map (moved_match k) found)
 
--- two searches with the same span, the same bytes in it, and anchored alike
+-- two searches with the same span, the same bytes in it, and the same anchoring
 pub record IsSameSpan (x y : Search) : Type 0 where
   pub start : y.start ≡ x.start
   pub end : y.end ≡ x.end

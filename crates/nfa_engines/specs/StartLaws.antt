@@ -1,4 +1,4 @@
--- Laws of where the answer of a search starts, over the definitions alone.
+-- Laws of where the answer of a search starts, about the definitions only.
 use Rattle.std.specs.Prelude.{◌≡◌, ◌↔◌, ◌==◌, ℕ, ◌<◌, ◌≤◌, Bool, false, List, Option, Some}
 use Rattle.regex_search_core.specs.Found.{Found}
 use Rattle.regex_search_core.specs.Search.{Search}
@@ -23,12 +23,12 @@ pub record IsUnbound (nfa : Automaton) (x : Search) : Type 0 where
   pub prefixed : (nfa.anchored == nfa.unanchored) ≡ false
   pub anywhere : is_utf8_empty nfa ≡ false
 
--- the start is not before that of the search, and no anchored search before it has an accepting path
+-- the start is not before that of the search, and no anchored search at an earlier start has an accepting path
 pub record IsFirstStart (nfa : Automaton) (x : Search) (s : ℕ) : Type 0 where
   pub from : x.start ≤ s
   pub nothing : (i : ℕ) → x.start ≤ i → i < s → MatchesNothing nfa (anchored_at x i)
 
--- a search, of any kind, has the answer of the one from such a start on
+-- a search has the answer of the search from such a start on, for any kind
 abbrev pub StartsArePassed : Type 0
 StartsArePassed =
     (nfa : Automaton) (x : Search) (s : ℕ) (kind : MatchKind) (earliest : Bool)
@@ -36,7 +36,7 @@ StartsArePassed =
     → IsUnbound nfa x → IsFirstStart nfa x s
     → IsAnswer nfa kind earliest x pattern slots ↔ IsAnswer nfa kind earliest (from_start x s) pattern slots
 
--- the same of its match
+-- the same for its match
 abbrev pub MatchStartsArePassed : Type 0
 MatchStartsArePassed =
     (nfa : Automaton) (x : Search) (s : ℕ) (kind : MatchKind) (earliest : Bool) (found : Option Found)
@@ -51,7 +51,7 @@ FirstStartAnswers kind earliest =
     → IsAnswer nfa kind earliest (anchored_at x s) (Some pattern) slots
     → IsAnswer nfa kind earliest x (Some pattern) slots
 
--- the same of its match
+-- the same for its match
 abbrev pub FirstStartMatches : MatchKind → Bool → Type 0
 FirstStartMatches kind earliest =
     (nfa : Automaton) (x : Search) (s : ℕ) (m : Found)
@@ -73,7 +73,7 @@ AnswersHaveAStart kind earliest =
     → IsUnbound nfa x → IsAnswer nfa kind earliest x (Some pattern) slots
     → (s : ℕ) × IsAnswerStart nfa kind earliest x pattern slots s
 
--- A search matches nothing exactly if no anchored search does, from its start on.
+-- A search matches nothing exactly if no anchored search at a start from its own on does.
 abbrev pub NothingAtEachStart : Type 0
 NothingAtEachStart =
     (nfa : Automaton) (x : Search) → IsUnbound nfa x

@@ -1,9 +1,9 @@
-//! A search that walks depth first, with a table of marks that bounds its work, by the public names of its crate.
+//! A depth-first search with a table of marks that bounds its work, under its public names.
 //!
-//! Take it for spans that its marks have room for: there it is mostly the faster engine, and its cache asks nothing of
-//! the caller. It answers leftmost first alone, and refuses a span of more than
-//! [`BoundedBacktracker::max_haystack_len`] bytes. [`crate::pikevm`] is for longer texts, for other match kinds and
-//! `earliest`, and for searches that must not fail; `nfa_choice` holds both.
+//! Use it for spans that its marks have room for. There it is usually the faster engine, and a search requires nothing
+//! of its cache. It answers only leftmost first, and refuses a span of more than
+//! [`BoundedBacktracker::max_haystack_len`] bytes. For longer spans, for other match kinds and `earliest`, and for
+//! searches that must not fail, use [`crate::pikevm`]. `nfa_choice` holds both.
 //!
 //! ```
 //! let engine = BoundedBacktracker::new_from_nfa(nfa)?;

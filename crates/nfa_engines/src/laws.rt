@@ -1,7 +1,7 @@
-//! Laws over the definitions alone. Each function is empty: its contract is the theorem.
+//! Laws about the definitions only. Each function is empty: its contract is the theorem.
 //!
-//! No program needs them to search. Take one where a proof about answers does, as that two searches agree: the call
-//! costs nothing when it runs, and its clauses are at hand in the proof of the function that makes it.
+//! No program needs them to search. Call one if a proof about answers needs it, for instance that two searches agree.
+//! The call costs nothing at run time, and its clauses are available in the proof of the caller.
 //!
 //! ```
 //! engines_agree();
@@ -37,23 +37,23 @@ ghost use Rattle.nfa_engines.specs.SpanLaws.{MatchesMove, MatchesReadTheSpan};
 ghost use Rattle.nfa_engines.specs.StartLaws.{AnswersHaveAStart, FirstStartAnswers, FirstStartMatches};
 ghost use Rattle.nfa_engines.specs.StartLaws.{MatchStartsArePassed, NothingAtEachStart, StartsArePassed};
 
-/// A scan has one answer at most, of each match kind and `earliest`.
+/// A scan has at most one answer, for each match kind and `earliest`.
 pub fn one_scan_answer()
     ensures { OneScanAnswer }
 {}
 
-/// A search has one answer at most, after one number of restarts.
+/// A search has at most one answer, after one number of restarts.
 pub fn one_search_answer()
     ensures { OneSearchAnswer }
 {}
 
-/// Of two accepting paths of one search that differ, one comes before the other, and not the other before it.
+/// Of two different accepting paths of one search, exactly one comes before the other.
 pub fn accepting_paths_are_ordered()
     ensures total { PathsAreOrdered }
     ensures asymmetric { PathsAreOrderedOnce }
 {}
 
-/// Every scan has an answer, of each match kind and `earliest`, whatever the NFA.
+/// Every scan of every NFA has an answer, for each match kind and `earliest`.
 pub fn every_scan_has_an_answer()
     ensures { EveryScanHasAnAnswer }
 {}
@@ -63,9 +63,9 @@ pub fn every_search_has_an_answer()
     ensures { EverySearchHasAnAnswer }
 {}
 
-/// Whether a scan finds a match depends neither on the match kind nor on `earliest`. Nor does it for a search, where no
-/// match has to end on a boundary. A search finds a match exactly where it has a pattern. Of leftmost first searches
-/// this is one answer: what `PikeVM::is_match` says, `BoundedBacktracker::try_is_match` says too where it is `Ok`.
+/// Whether a scan finds a match depends neither on the match kind nor on `earliest`. The same holds for a search, if no
+/// match has to end on a boundary. A search finds a match exactly if it has a pattern. For leftmost first searches
+/// there is one answer: `PikeVM::is_match` and, if it is `Ok`, `BoundedBacktracker::try_is_match` agree.
 pub fn is_match_agrees()
     ensures scans { ScansAgree }
     ensures searches { SearchesAgree }
@@ -73,20 +73,20 @@ pub fn is_match_agrees()
     ensures engines { FoundAsLeftmost LeftmostFirst }
 {}
 
-/// A search has one pattern and one row of slots. So a PikeVM that is asked for the leftmost first match, and not for
-/// the earliest, agrees with the backtracker wherever that one answers.
+/// A search has one pattern and one slot row. A PikeVM that searches leftmost first, without `earliest`, therefore
+/// agrees with the backtracker whenever the backtracker answers.
 pub fn engines_agree()
     ensures { AnswersAgree }
 {}
 
-/// Fewer slots are the first ones of the same answer, and slots past those of the NFA are none.
+/// Fewer slots are the first ones of the same answer. Slots that the NFA does not have are `None`.
 pub fn fewer_slots()
     ensures first { FewerSlots }
     ensures past { SlotsPastAreNone }
 {}
 
-/// A search has one match at most, and either finds something or does not. An overlapping search makes one set of the
-/// set that it is handed, of each kind, with `earliest` and without.
+/// A search has at most one match, and either finds something or does not. From one set an overlapping search makes one
+/// set, for each kind, with and without `earliest`.
 pub fn one_match()
     ensures matches { OneMatch }
     ensures found { OneFound }
@@ -94,17 +94,17 @@ pub fn one_match()
     ensures first_sets { OneSet LeftmostFirst }
 {}
 
-/// A search has one half match at most: both engines' `find_half` give the same. Its pattern is the one that a search for
-/// slots gives, so there is a half match exactly if there is a pattern. That it is the end of the match that `find`
-/// gives is a law of `nfa_bounds`, for an NFA that writes its bounds.
+/// A search has at most one half match: `find_half` of both engines gives the same. Its pattern is that of a search for
+/// slots, so there is a half match exactly if there is a pattern. For an NFA that records its bounds, a law of
+/// `nfa_bounds` says that it is the end of the match that `find` gives.
 pub fn one_half_match()
     ensures one { OneHalfMatch }
     ensures pattern { HalfMatchHasThePattern }
 {}
 
-/// What a cache did before does not show. The contracts of the searches speak of the NFA, the kind and the input alone,
-/// and what they say has one answer: two calls on one input, with whatever caches, give one pattern and one row of
-/// slots, one match, one `is_match`, and one set of each set.
+/// The history of a cache is invisible. The contracts of searches mention only the NFA, the kind and the input, and
+/// they allow one answer. Two calls on one input, with any caches, therefore give one pattern and slot row, one match,
+/// one `is_match`, and from one set one set.
 pub fn cache_history_is_invisible()
     ensures slots { AnswersAgree }
     ensures matches { OneMatch }
@@ -113,73 +113,74 @@ pub fn cache_history_is_invisible()
     ensures first_patterns { OneSet LeftmostFirst }
 {}
 
-/// What an overlapping search that is leftmost first makes of a set, exactly. One that holds a pattern stays as it is.
-/// An empty one comes to hold the patterns of the first accepting paths that end before any limit (each is what the
-/// search would answer up to there), and no other; with `earliest` the pattern of the earliest path alone.
+/// The exact result of a leftmost first overlapping search. A set that holds a pattern does not change. An empty set
+/// gains exactly the patterns of the first accepting paths that end before some limit (each is the answer of a search
+/// up to the limit). With `earliest` it gains only the pattern of the earliest path.
 pub fn leftmost_sets_are_exact()
     ensures stays { FullSetStays }
     ensures firsts { SetIsOfFirsts }
     ensures earliest { SetIsOfEarliest }
 {}
 
-/// Where the set has room for each pattern of the NFA, the first and the earliest path that count are those of all
+/// If the set has room for each pattern of the NFA, the first and the earliest path that count are those of all
 /// accepting paths with a permitted end.
 pub fn room_leaves_no_path_out()
     ensures first { FirstOfAllPaths }
     ensures earliest { EarliestOfAllPaths }
 {}
 
-/// Under `All`, without `earliest`, an overlapping search puts into the set each pattern below its capacity that has an
-/// accepting path with a permitted end, and no other; a set with room for each pattern misses none.
+/// Under `All`, without `earliest`, an overlapping search adds exactly the patterns below the set's capacity that have
+/// an accepting path with a permitted end. A set with room for each pattern misses none.
 pub fn overlap_is_complete()
     ensures below { SetIsComplete false }
     ensures all { SetHoldsEachPattern false }
 {}
 
-/// A visited capacity of at least `min_visited_capacity` of the input means that no search of it is refused for its
-/// length. Where there is a bit for each state, spans up to `max_haystack_len` are not refused for it either. Each
-/// longer span is.
+/// With a visited capacity of at least `min_visited_capacity` of the input, no search of the input is refused for its
+/// length. If there is a bit for each state, a span is refused for its length exactly if it is longer than
+/// `max_haystack_len`.
 pub fn enough_capacity()
     ensures least { LeastCapacityIsEnough 0 }
     ensures longest { LongestLengthFits 0 }
     ensures longer { LongerIsRefused }
 {}
 
-/// Over all calls of a searcher the ends of its matches go up, each starts at or behind the end of the one before it,
-/// and there are at most as many as the span has bytes, and one more. Calls that give none or an error may lie between.
+/// Over all calls of a searcher the ends of its matches increase, and each match starts at or after the end of the one
+/// before. There are at most n + 1 matches for a span of n bytes. Calls that give no match or an error may come between
+/// them.
 pub fn ends_increase()
     ensures rise { EndsIncrease }
     ensures count { AtMostMatches 1 }
 {}
 
-/// Leftmost first passes over no match. Where a match may end anywhere, and each accepting path writes its start and
-/// its end into the two slots of its pattern, there is no match exactly where there is no accepting path, and else the
-/// match starts not after any accepting path does.
+/// Leftmost first misses no match. If a match may end anywhere, and each accepting path writes its start and its end
+/// into the two slots of its pattern, there is no match exactly if there is no accepting path. Otherwise no accepting
+/// path starts before the match.
 pub fn no_gap()
     ensures none { NoneIsNoPath LeftmostFirst false }
     ensures start { NoneStartsBefore LeftmostFirst false }
 {}
 
-/// A search has one list of its matches, and no other. So the list of a PikeVM that is asked for leftmost first
-/// matches, and not for the earliest, is that of a backtracker over the same NFA and input.
+/// A search has exactly one list of its matches. The list of a PikeVM that searches leftmost first, without `earliest`,
+/// is therefore that of a backtracker for the same NFA and input.
 pub fn one_list_of_matches()
     ensures exists { EverySearchHasAList }
     ensures one { OneList }
     ensures engines { ListAsLeftmost LeftmostFirst }
 {}
 
-/// The first matches of a search, all of them or some, lie in its span and go up: each starts at or behind the end of
-/// the one before it, and ends behind that end. There are at most as many as the span has bytes, and one more.
+/// The first matches of a search, all or some, are inside its span and in order: each starts at or after the end of the
+/// one before, and ends after that end. There are at most n + 1 for a span of n bytes.
 pub fn matches_are_apart()
     ensures apart { MatchesAreApart }
     ensures count { AtMostInList 1 }
 {}
 
-/// A search has one list of its captures: of the pattern and the slots of each of its answers. Their matches are the
-/// list of its matches, so the iterators over captures and over matches agree in number, patterns and spans. Where a
-/// copy was refused the captures are the first ones of the list, then comes `Memory`, and then the end. So the list of
-/// a PikeVM that is asked for leftmost first matches, and not for the earliest, is that of a backtracker over the same
-/// NFA and input, where that one gives no error.
+/// A search has exactly one list of its captures, which are the pattern and the slots of each of its answers. Their
+/// matches are the list of its matches, so the iterators over captures and over matches agree in number, patterns and
+/// spans. If a copy fails, the captures are the first ones of the list, then `Memory`, then the end. The list of a
+/// PikeVM that searches leftmost first, without `earliest`, is therefore that of a backtracker for the same NFA and
+/// input, if the backtracker gives no error.
 pub fn one_list_of_captures()
     ensures exists { EverySearchHasRows }
     ensures one { OneRowList }
@@ -189,9 +190,8 @@ pub fn one_list_of_captures()
     ensures refused { CapturesUpToRefusal }
 {}
 
-/// The flag `earliest` that an input carries is not read by what is said with an `earliest` of its own: the answer of a
-/// search, its match, whether there is one, its lists and the set that it makes are those of the same input under any
-/// flag.
+/// A statement with an `earliest` of its own does not read the `earliest` flag of the input. The answer of a search,
+/// its match, whether there is one, its lists and the set that it makes are the same under any flag of the input.
 pub fn earliest_flag_is_not_read()
     ensures path { PathReadsNoFlag }
     ensures answer { AnswerReadsNoFlag }
@@ -202,9 +202,9 @@ pub fn earliest_flag_is_not_read()
     ensures set { SetReadsNoFlag }
 {}
 
-/// So calls that ignore the flag say of an input, under any flag, what a PikeVM says that is asked without it.
-/// `is_match` is whether `search_slots` has a pattern; and where the kind is leftmost first a backtracker over the same
-/// NFA gives the same pattern and slots, and the same match.
+/// A call that ignores the flag therefore gives, under any flag, the answer of a PikeVM without it. `is_match` is
+/// whether `search_slots` has a pattern. If the kind is leftmost first, a backtracker for the same NFA gives the same
+/// pattern and slots, and the same match.
 pub fn answers_agree_under_any_flag()
     ensures found { FoundUnderAnyFlag }
     ensures answers { AnswersUnderAnyFlag }
@@ -218,8 +218,9 @@ pub fn slots_give_the_match()
     ensures two { TwoSlotsGiveTheMatch }
 {}
 
-/// Where a match may end anywhere, a search of each match kind, `earliest` or not, says exactly whether there is an
-/// accepting path: it finds something, or has a pattern, where there is one (of that pattern), and there alone.
+/// If a match may end anywhere, a search says exactly whether there is an accepting path, for each match kind,
+/// `earliest` or not. It finds something exactly if there is an accepting path. It has a pattern exactly then, and some
+/// accepting path is of that pattern.
 pub fn found_is_an_accepting_path()
     ensures something { FoundIsSomething }
     ensures nothing { NotFoundIsNothing }
@@ -229,8 +230,8 @@ pub fn found_is_an_accepting_path()
     ensures not_both { NotBoth }
 {}
 
-/// An unanchored search may pass over a start at which the anchored search has no accepting path: from the first other
-/// start on it has the same answer and the same match. This holds for each match kind, `earliest` or not.
+/// An unanchored search may skip a start at which the anchored search has no accepting path. From the first other start
+/// on it has the same answer and the same match, for each match kind, `earliest` or not.
 ///
 /// Premises: neither the search nor the NFA is anchored, and no match has to end on a boundary.
 pub fn starts_may_be_passed()
@@ -239,8 +240,8 @@ pub fn starts_may_be_passed()
     ensures nothing { NothingAtEachStart }
 {}
 
-/// The leftmost first answer of an unanchored search is the answer of the anchored search at the first start that has
-/// one. An answer with a pattern has such a start, in the span.
+/// The leftmost first answer of an unanchored search is that of the anchored search at the first start that has one. If
+/// an answer has a pattern, there is such a start in the span.
 ///
 /// Premises: those of [`starts_may_be_passed`].
 pub fn first_start_answers()
@@ -249,15 +250,15 @@ pub fn first_start_answers()
     ensures start { AnswersHaveAStart LeftmostFirst false }
 {}
 
-/// A search with `Anchored::Pattern` has the answer and the match of the anchored search of that pattern alone: of the
+/// A search with `Anchored::Pattern` has the answer and the match of the anchored search of that pattern only: of the
 /// NFA whose anchored start is the start of the pattern. This holds for each match kind, `earliest` or not.
 pub fn pattern_is_alone()
     ensures answer { PatternIsAlone }
     ensures match_of { PatternMatchesAlone }
 {}
 
-/// The leftmost first answer of an anchored search is the answer of the first pattern, in their order, that has one by
-/// itself. A search matches nothing exactly if no pattern by itself matches.
+/// The leftmost first answer of an anchored search is that of the first pattern, in their order, that has one when it
+/// is searched alone. A search matches nothing exactly if no pattern alone matches.
 ///
 /// Premises: the anchored start is a union of the starts of the patterns, in their order, and no path from one of these
 /// leads back to it; or the NFA has one pattern, which starts there. No match has to end on a boundary.
@@ -269,8 +270,8 @@ pub fn first_pattern_answers()
 
 /// The answer of an NFA without assertions depends only on the bytes of the span. Two searches with the same bytes in
 /// the same span have the same answer and the same match. If the bytes and the span move by a distance, the slots and
-/// the match move by that distance. So a span and the text cut out of it have the same answer, but for the distance.
-/// This holds for each match kind, `earliest` or not, anchored or not.
+/// the match move by the same distance. A span and the text cut out of it therefore have the same answer, up to the
+/// distance. This holds for each match kind, `earliest` or not, anchored or not.
 ///
 /// Premises: no state of the NFA is a `Look`, and no match has to end on a boundary.
 pub fn answers_read_the_span()

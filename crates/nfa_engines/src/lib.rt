@@ -1,9 +1,9 @@
 //! Searches of a Thompson NFA.
 //!
-//! [`pikevm`] follows all states side by side: it takes texts of any length and every match kind, and no search fails.
-//! [`backtrack`] searches depth first and marks what it has tried: it is mostly faster on short spans, answers leftmost
-//! first alone, and may refuse. `nfa_choice` holds both and takes the one that suits. All give the answer that the same
-//! definition names; [`laws`] says that there is one, and only one.
+//! [`pikevm`] follows all states side by side. It takes haystacks of any length and every match kind, and no search
+//! fails. [`backtrack`] searches depth first and marks what it has tried. It is usually faster on short spans, but
+//! answers only leftmost first, and may refuse a search. `nfa_choice` holds both and picks the one that suits. All of
+//! them give the answer of one definition, and [`laws`] states that there is exactly one.
 //!
 //! ```
 //! let vm = PikeVM::new_from_nfa(nfa)?;
@@ -13,7 +13,7 @@
 //! }
 //! ```
 //!
-//! What a caller of them needs, types and words of contracts, is handed on from here.
+//! This crate re-exports the types that callers need, and the words of their contracts.
 #![tactic(auto)]
 
 pub mod backtrack;

@@ -1,8 +1,8 @@
-//! A search that follows all states side by side, by the public names of its crate.
+//! A search that follows all states of an NFA side by side, under its public names.
 //!
-//! Take it where a search must not fail: for texts of any length, for every match kind and `earliest`, and for the set
-//! of all patterns that match. It wants a cache that fits, as [`PikeVM::create_cache`] makes it; each search keeps it
-//! so. Where spans are short, [`crate::backtrack`] is mostly faster; `nfa_choice` holds both.
+//! Use it if a search must not fail: for haystacks of any length, for every match kind and `earliest`, and for the set
+//! of all patterns that match. It requires a cache that fits, which [`PikeVM::create_cache`] makes; no search changes
+//! that. On short spans [`crate::backtrack`] is usually faster. `nfa_choice` holds both.
 //!
 //! ```
 //! let vm = PikeVM::new_from_nfa(nfa)?;

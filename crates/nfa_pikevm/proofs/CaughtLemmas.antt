@@ -1,4 +1,5 @@
--- What the searches of an iteration over captures by a PikeVM answer, and what its iterator may ask and gives.
+-- The answers of searches in an iteration over captures by a PikeVM, and when its iterator may search and what it
+-- gives.
 use Rattle.std.proofs.Common.{◌≡◌, ◌⊎◌, Bool, false, List, None, Option, Result, map, subst}
 use Rattle.std.specs.Prelude.{All, IfOk}
 use Rattle.regex_search_core.specs.Search.{Search}
@@ -30,7 +31,7 @@ use Rattle.nfa_pikevm.specs.Finding.{PikeCatchesOn, PikeCatchesToEnd, PikeSearch
 use Rattle.nfa_pikevm.specs.declared.captures_iter.CapturesMatches.{CapturesMatches}
 use Rattle.nfa_pikevm.proofs.FindLemmas.{same_numbers, same_numbers-then, searched-fits}
 
--- what comes of such calls by a PikeVM
+-- the results of such calls by a PikeVM
 abbrev pub PikeSteps : Steps (With (Catching Pike) PikeCache) → Option (Result Captured SearchError)
     → Steps (With (Catching Pike) PikeCache) → Type 0
 PikeSteps = takes_steps row_span AsksPikeRow (λ q. GivesCaptures q.asker)
@@ -38,7 +39,7 @@ PikeSteps = takes_steps row_span AsksPikeRow (λ q. GivesCaptures q.asker)
 may-now : (s : CapturesMatches) → MayCatchByPike (lent_state (pike_catches s)).asker
 may-now s = record { fits = s.fits; holds = s.holds }
 
--- steps may search wherever they stand
+-- steps may search in every state
 pub steps-serve : (s : Steps (With (Catching Pike) PikeCache)) → MayCatchByPike s.asker
     → can_step (λ q x. MayCatchByPike q) AsksPikeRow row_span s
 steps-serve s may =
@@ -75,7 +76,7 @@ module _ (vm : Pike) (x : Search) (s : CapturesMatches) (engine : (pike_catches 
       (λ q. q.holds) vm (kind_of vm) x.earliest (TellsRow vm.nfa (kind_of vm) x.earliest) (λ t o h. h) x
       (tells-now vm x) s engine walk going
 
-  -- and no error but that of memory
+  -- and no error but `Memory`
   pub catches-memory : CapturesMemory pike_catches_next s
   catches-memory =
       captures-memory vm.nfa (kind_of vm) x.earliest (TellsRow vm.nfa (kind_of vm) x.earliest) (λ t o h. h) x
@@ -87,7 +88,7 @@ module _ (vm : Pike) (x : Search) (s : CapturesMatches) (engine : (pike_catches 
       pike_catches_next (λ q. lent_state (pike_catches q)) (λ a r b st. st.takes.step) s walk going engine
       (λ t e from to never. absurd never)
 
-  -- they change the cache by their searches alone
+  -- they change the cache only by their searches
   pub catches-searches : CatchesBySearches vm x s
   catches-searches = record {
     on = λ xs t r u ran st.
@@ -109,12 +110,12 @@ catches-cache s = λ xs t r u ran st.
 
 module _ (vm : Pike) (x : Search) (s : Steps (With (Catching Pike) PikeCache)) (may : MayCatchByPike s.asker)
     (engine : s.asker.asker.finder ≡ vm) (walk : steps_walk s ≡ fresh x) (going : s.done ≡ false) where
-  -- the cache changes by the searches of its steps alone
+  -- the cache changes only by the searches of its steps
   pub caught-on : (t : Steps (With (Catching Pike) PikeCache)) → CallsLead PikeSteps s t
       → PikeCatchesOn vm x s.asker.cache t.asker.cache
   caught-on = catches-leave (λ vm. vm.nfa) PikeTellsRow (λ e y a. PikeSearches e y) vm x s engine walk going
 
-  -- to their end, where all captures come
+  -- to their end, if all captures are returned
   pub caught-to_end : {V : Type 0} (r : Result V SearchError) (items : V → List Captured)
       (t : Steps (With (Catching Pike) PikeCache)) → IfOk r (λ v. DrainsAll PikeSteps s (items v) t)
       → IfOk r (λ v. PikeCatchesToEnd vm x (map row_of (items v)) s.asker.cache t.asker.cache)
@@ -132,7 +133,7 @@ module _ (vm : Pike) (x : Search) (s : Steps (With (Catching Pike) PikeCache)) (
       (kind_of vm) x.earliest (TellsRow vm.nfa (kind_of vm) x.earliest) (λ t o h. h) x (tells-now vm x) s may engine
       walk going
 
-  -- and err by memory alone
+  -- and the only error is `Memory`
   pub caught-memory : (error : SearchError) (t : Steps (With (Catching Pike) PikeCache))
       → (error ≡ Memory) ⊎ DrainsToError PikeSteps s error t → error ≡ Memory
   caught-memory =

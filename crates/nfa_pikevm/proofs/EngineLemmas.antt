@@ -1,4 +1,4 @@
--- From what a search comes to, to what its callers are told.
+-- From the results of a search to the answers that its callers get.
 use Rattle.std.proofs.Common.{◌≡◌, ℕ, ◌+◌, ◌≤◌, min, inl, inr, List, [], ◌∷◌, ◌++◌, length, refl, ap, sym, ◌∙◌, arith, length-append}
 use Rattle.std.specs.Prelude.{Option, Some, None, Bool, option_map, IfSome, IfNone, All, ◌<◌}
 use Rattle.std.proofs.lemmas.Bool.{cases_lt}
@@ -21,8 +21,7 @@ use Rattle.nfa_pikevm_scan.specs.Scans.{blank}
 use Rattle.nfa_search_base.specs.Lists.{IsInside, IsSlotInside}
 
 module _ (nfa : Automaton) where
-  -- A search was handed as many slots as the NFA has, or fewer, and the rest are none: together they are a row of the
-  -- path.
+  -- A search got as many slots as the NFA has, or fewer, and the rest are `None`: together they are a row of the path.
   pub row-whole : IsAutomaton nfa → (row rest : Slots) (len width : ℕ) → width ≡ min len (slot_count nfa.groups)
       → length row ≡ width → length rest + width ≡ len
       → rest ≡ blank (length rest) → (path : Option (List Pair)) → row ≡ slot_row nfa (length row) path
@@ -79,7 +78,7 @@ module _ (nfa : Automaton) (kind : MatchKind) (earliest : Bool) (x : Search) whe
   slots-none n None slots a size = slots-unset nfa kind earliest x slots a ∙ ap blank size
   slots-none n (Some p) slots a size = tt
 
-  -- the same of a pattern that is no number yet
+  -- the same for a pattern that is not yet a number
   pub slots-none_of : (n : ℕ) (r : Option PatternID) (slots : List (Option ℕ))
       → IsAnswer nfa kind earliest x (option_map number_of r) slots → length slots ≡ n → IfNone r (slots ≡ blank n)
   slots-none_of n None slots a size = slots-none n None slots a size

@@ -1,4 +1,4 @@
--- What the searches of an iteration by a PikeVM answer, and what its iterator may ask and keeps.
+-- The answers of searches in an iteration by a PikeVM, and when its iterator may search and what it keeps.
 use Rattle.std.proofs.Common.{◌≡◌, ◌∙◌, Bool, false, Option, None, Some, Result, Ok, refl, sym, subst, inl, inr, ap, arith}
 use Rattle.std.proofs.Common.{List, [], ◌∷◌, ◌++◌, length, map, length-append}
 use Rattle.std.proofs.lemmas.List.{length-map}
@@ -53,7 +53,7 @@ searched-fits vm x old new work fits = still-fits old new vm.nfa work.numbers fi
 may-now : (s : FindMatches) → MayFindByPike (lent_state (pike_finds s)).asker (lent_walk (pike_finds s)).at
 may-now s = record { fits = s.fits; knows = s.knows }
 
--- the iterator may search wherever it stands, and never errs
+-- the iterator may search in every state, and never errs
 pub find-serves : (s : FindMatches) → can_step_surely MayFindByPike AsksPike span_of (lent_state (pike_finds s))
 find-serves s =
     finder-serves IsSureOf pike_knowing fits_pike PikeTells (λ vm x a. PikeSearches vm x) (λ vm x a. searched-fits vm x)
@@ -78,7 +78,7 @@ pike-acts vm x s t a s' same is asked =
     (λ vm x a. searched-fits vm x) vm s t a s' is asked in
     (subst (λ (b : Bool). TellsMatch vm.nfa (kind_of vm) b t a) same.earliest k.0, k.1)
 
--- where a match came there is a match
+-- if a match was given, there is a match
 pub none-before : (nfa : Automaton) (kind : MatchKind) (earliest : Bool) (x : Search) (ms : List Match) (m : Match)
     → AreFirstMatches nfa kind earliest x (map found_of (ms ++ m ∷ [])) → AreMatches nfa kind earliest x [] → ⊥
 none-before nfa kind earliest x ms m first none =
@@ -116,7 +116,7 @@ gives-cache s = λ xs t r u ran st.
 module _ (vm : Pike) (x : Search) (s : FindMatches) (engine : s.steps.asker.engine.now ≡ vm)
     (known : s.steps.asker.known ≡ None) (walk : lent_walk (pike_finds s) ≡ fresh x)
     (going : s.steps.done ≡ false) where
-  -- the calls change the cache by their searches alone
+  -- the calls change the cache only by their searches
   pub finds-searches : FindsBySearches vm x s
   finds-searches = record {
     on = λ xs t r u ran st. finds-leave IsSureOf pike_knowing PikeTells (λ e y a. PikeSearches e y) vm pike_finds_next

@@ -1,4 +1,4 @@
--- Whether there is a match can be told from the earliest one, where a match may end anywhere.
+-- If a match may end anywhere, the earliest match shows whether there is a match.
 use Rattle.std.proofs.Common.{◌≡◌, ℕ}
 use Rattle.std.specs.Prelude.{Option, Bool, false, not, is_some}
 use Rattle.regex_search_core.specs.Search.{Search}

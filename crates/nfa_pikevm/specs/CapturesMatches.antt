@@ -16,7 +16,7 @@ use Rattle.nfa_pikevm.specs.FindMatches.{fits_pike}
 use Rattle.nfa_pikevm.specs.Finding.{PikeCatchesOn, PikeSearches, PikeTellsRow}
 use Rattle.nfa_pikevm.specs.declared.captures_iter.CapturesMatches.{CapturesMatches}
 
--- the steps of the iterator, and the cache that it is lent
+-- the steps of the iterator, and the cache that it borrows
 abbrev pub pike_catches : CapturesMatches → Lent (Catching Pike) PikeCache
 pike_catches s = record { steps = s.steps; cache = s.cache }
 
@@ -24,18 +24,18 @@ pike_catches s = record { steps = s.steps; cache = s.cache }
 abbrev pub pike_catches_cache : CapturesMatches → MutBor PikeCache
 pike_catches_cache s = s.cache
 
--- the engine that it asks
+-- the engine that it searches with
 abbrev pub pike_catches_engine : CapturesMatches → Pike
 pike_catches_engine s = s.steps.asker.finder
 
--- where it stands, and whether it has ended
+-- its position, and whether it has ended
 abbrev pub pike_catches_walk : CapturesMatches → Walk
 pike_catches_walk s = walk_of s.steps.searcher
 
 abbrev pub pike_catches_done : CapturesMatches → Bool
 pike_catches_done s = s.steps.done
 
--- the PikeVM may be asked where the cache fits and the captures have the groups of the NFA
+-- the PikeVM may search if the cache fits and the captures have the groups of the NFA
 abbrev pub MayCatchByPike : With (Catching Pike) PikeCache → Type 0
 MayCatchByPike = MayCatch (λ vm. vm.nfa) fits_pike
 
@@ -51,7 +51,7 @@ pub record PikeCatchesNext (s : CapturesMatches) (r : Option (Result Captured Se
 abbrev pub pike_catches_next : CapturesMatches → Option (Result Captured SearchError) → CapturesMatches → Type 0
 pike_catches_next s r t = PikeCatchesNext s r t
 
--- the calls keep the cache, and its numbers
+-- the calls keep the cache, and its sizes
 pub record CatchesKeepCache (s t : CapturesMatches) : Type 0 where
   pub cache : t.cache.ghost_name ≡ s.cache.ghost_name
   pub numbers : SameNumbers s.cache.now t.cache.now
@@ -59,6 +59,6 @@ pub record CatchesKeepCache (s t : CapturesMatches) : Type 0 where
 abbrev pub CatchesGiveCache : CapturesMatches → Type 0
 CatchesGiveCache s = GivesKept pike_catches_next CatchesKeepCache s
 
--- the calls change the cache by the searches of an iteration over x alone
+-- the calls change the cache only by the searches of an iteration over x
 pub record CatchesBySearches (vm : Pike) (x : Search) (s : CapturesMatches) : Type 0 where
   pub on : GivesKept pike_catches_next (λ p q. PikeCatchesOn vm x p.cache.now q.cache.now) s

@@ -17,11 +17,11 @@ use Rattle.nfa_pikevm.specs.Finding.{IsSureOf, PikeFindsOn, PikeFindsToEnd, Pike
 use Rattle.nfa_pikevm.specs.declared.find_iter.FindMatches.{FindMatches}
 use Rattle.nfa_pikevm.specs.declared.find_iter.Finder.{Finder}
 
--- the PikeVM of an iteration, and what is known
+-- the PikeVM of an iteration, and the match that is known
 abbrev pub pike_knowing : Finder → Knowing Pike
 pike_knowing a = record { engine = a.engine.now; known = a.known }
 
--- the steps of the iterator, and the cache that it is lent
+-- the steps of the iterator, and the cache that it borrows
 abbrev pub pike_finds : FindMatches → Lent Finder PikeCache
 pike_finds s = record { steps = s.steps; cache = s.cache }
 
@@ -29,11 +29,11 @@ pike_finds s = record { steps = s.steps; cache = s.cache }
 abbrev pub pike_finds_cache : FindMatches → MutBor PikeCache
 pike_finds_cache s = s.cache
 
--- the engine that it asks
+-- the engine that it searches with
 abbrev pub pike_finds_engine : FindMatches → Pike
 pike_finds_engine s = s.steps.asker.engine.now
 
--- where it stands, and whether it has ended
+-- its position, and whether it has ended
 abbrev pub pike_finds_walk : FindMatches → Walk
 pike_finds_walk s = walk_of s.steps.searcher
 
@@ -44,7 +44,7 @@ pike_finds_done s = s.steps.done
 abbrev pub fits_pike : PikeCache → Pike → Type 0
 fits_pike cache vm = Fits cache vm.nfa
 
--- the PikeVM may be asked where the cache fits and what is known is so
+-- the PikeVM may search if the cache fits and the known match is right
 abbrev pub MayFindByPike : With Finder PikeCache → Search → Type 0
 MayFindByPike = MayFind IsSureOf pike_knowing fits_pike
 
@@ -60,11 +60,11 @@ pub record PikeFindsNext (s : FindMatches) (r : Option Match) (t : FindMatches) 
 abbrev pub pike_finds_next : FindMatches → Option Match → FindMatches → Type 0
 pike_finds_next s r t = PikeFindsNext s r t
 
--- what is known of its next search
+-- the known answer of its next search
 abbrev pub pike_finds_known : FindMatches → Option Found
 pike_finds_known s = option_map found_of s.steps.asker.known
 
--- the calls keep the cache, and its numbers
+-- the calls keep the cache, and its sizes
 pub record KeepsCache (s t : FindMatches) : Type 0 where
   pub cache : t.cache.ghost_name ≡ s.cache.ghost_name
   pub numbers : SameNumbers s.cache.now t.cache.now
@@ -72,8 +72,8 @@ pub record KeepsCache (s t : FindMatches) : Type 0 where
 abbrev pub GivesCache : FindMatches → Type 0
 GivesCache s = GivesKept pike_finds_next KeepsCache s
 
--- The calls change the cache by the searches of an iteration over x alone; at `None` it went to its end, past the
--- matches so far.
+-- The calls change the cache only by the searches of an iteration over x. At `None` the iteration went to its end, past
+-- the matches so far.
 pub record FindsBySearches (vm : Pike) (x : Search) (s : FindMatches) : Type 0 where
   pub on : GivesKept pike_finds_next (λ p q. PikeFindsOn vm x p.cache.now q.cache.now) s
   pub to_end : (xs : List Match) (t u : FindMatches) → Yields pike_finds_next s xs t → pike_finds_next t None u

@@ -1,4 +1,4 @@
--- What a PikeVM answers where a match or its captures are asked for.
+-- The answers of a PikeVM to searches for a match or for captures.
 use Rattle.std.specs.Prelude.{◌≤◌, ◌*◌, ◌+◌, List, Option, Ok}
 use Rattle.regex_search_core.specs.Found.{Found, found_of}
 use Rattle.regex_search_core.specs.Search.{Search}
@@ -13,11 +13,11 @@ use Rattle.nfa_search_base.specs.Lists.{TellsMatch}
 use Rattle.nfa_search_base.specs.Walks.{Answer}
 use Rattle.nfa_pikevm.specs.Engines.{Pike, PikeCache, AddsPikeWork, SameNumbers, kind_of}
 
--- what one search for a match answers: the match that its kind and its `earliest` mean, and never an error
+-- the answer of one search for a match: the match of its kind and its `earliest`, and never an error
 abbrev pub PikeTells : Pike → Search → Answer Found → Type 0
 PikeTells vm x a = TellsMatch vm.nfa (kind_of vm) x.earliest x a
 
--- what one search for captures answers: the row that they mean, and never an error
+-- the answer of one search for captures: the row of its kind and its `earliest`, and never an error
 abbrev pub PikeTellsRow : Pike → Search → Answer Row → Type 0
 PikeTellsRow vm x a = TellsRow vm.nfa (kind_of vm) x.earliest x a
 
@@ -29,7 +29,7 @@ answer_of found = answer_by found_of (Ok found)
 abbrev pub IsSureOf : Pike → Search → Found → Type 0
 IsSureOf vm x m = IsSureMatch vm.nfa (kind_of vm) x.earliest x m
 
--- one search was made with the cache, within the bounds of its work, and keeps the cache's numbers
+-- one search was made with the cache, within the bounds of its work, and kept the cache's sizes
 pub record PikeSearches (vm : Pike) (x : Search) (old new : PikeCache) : Type 0 where
   pub total : AddsPikeWork old new
   pub work : IsWork vm.nfa (kind_of vm) x.earliest x new.scans new.turns
@@ -37,15 +37,15 @@ pub record PikeSearches (vm : Pike) (x : Search) (old new : PikeCache) : Type 0 
   pub turns : new.turns ≤ new.scans * ((1 + turn_weight vm.nfa) * (span_len x + 1))
   pub numbers : SameNumbers old new
 
--- an iteration over the matches of x led from the one cache to the other by its searches alone, as far as it went
+-- an iteration over the matches of x led from one cache to the other only by its searches, as far as it went
 abbrev pub PikeFindsOn : Pike → Search → PikeCache → PikeCache → Type 0
 PikeFindsOn vm x old new = FindsLeave (PikeTells vm) (λ y a. PikeSearches vm y) x old new
 
--- and it went to its end, past these matches
+-- the same, and the iteration went to its end, past these matches
 abbrev pub PikeFindsToEnd : Pike → Search → List Found → PikeCache → PikeCache → Type 0
 PikeFindsToEnd vm x ms old new = FindsLeaveAtEnd (PikeTells vm) (λ y a. PikeSearches vm y) x ms old new
 
--- the same of an iteration over captures
+-- the same for an iteration over captures
 abbrev pub PikeCatchesOn : Pike → Search → PikeCache → PikeCache → Type 0
 PikeCatchesOn vm x old new = Leaves row_span (DoesSearch (PikeTellsRow vm) (λ y a. PikeSearches vm y)) x old new
 

@@ -1,4 +1,4 @@
-//! The cache that a PikeVM searches with, and whether it fits.
+//! The cache of a PikeVM, and the test whether it fits.
 ghost use Rattle.std.specs.Prelude.{◌≡◌, ◌↔◌, IfOk, IsOk, OnOk, OnErr, IsOkUnless, IsTrue};
 ghost use Rattle.nfa_pikevm.specs.Engines.{Fits, cache_for, refitted, pike_memory_of};
 
@@ -12,20 +12,20 @@ use regex_search_core::Refused;
 use std::alloc::Global;
 use std::marker::Model;
 
-/// What a PikeVM writes while it searches: the states that it follows, each with a row of slots, and its stack. A
-/// search takes no memory beside it; the caller owes a cache that is large enough: [`Cache::fits`].
+/// The memory that searches of a PikeVM write to: the states that they follow, with a slot row for each, and a stack. A
+/// search allocates nothing else. It requires a cache that is large enough ([`Cache::fits`]).
 ///
-/// A contract sees for how many states, slots and patterns it was made, the places of its stack, and how many scans its
-/// last search made, and how many turns they took.
+/// Contracts see the states, slots, patterns and stack frames that the cache has room for, the scans and turns of its
+/// last search, and their totals over all searches.
 #[derive(Debug, Drop)]
 pub struct Cache {
     pub(super) threads: Threads,
     pub(super) found: Vec<Slot>,
     slots: usize,
     patterns: usize,
-    /// The scans of all searches before the last one.
+    /// Scans of all searches before the last one.
     pub(super) past_scans: Counter,
-    /// The turns of all searches before the last one.
+    /// Turns of all searches before the last one.
     pub(super) past_turns: Counter,
 }
 
@@ -53,7 +53,7 @@ impl Model for Cache {
 }
 
 impl Cache {
-    /// Makes a cache that fits the PikeVM, and is no larger. The only error is `Memory`.
+    /// Makes a cache that fits the PikeVM and is no larger. The only error is `Memory`.
     pub fn new(alloc: Global, vm: &PikeVM) -> Result<Cache, SearchError>
         ensures made { IfOk result (λ made. made ≡ cache_for vm.now.nfa) }
         ensures memory { IsOkUnless result SearchError.Memory }
@@ -75,8 +75,8 @@ impl Cache {
         })
     }
 
-    /// Makes the cache fit the PikeVM, also if that makes it smaller. It keeps the memory that it has, so this is `Ok`
-    /// if the cache fits already. The only error is `Memory`; the cache then is as it was, and fits what it fitted.
+    /// Makes the cache fit the PikeVM, even if that makes it smaller. Its memory is kept, so the result is `Ok` if the
+    /// cache fits already. The only error is `Memory`. After an error the cache is unchanged, and fits what it fitted.
     pub fn reset(&mut self, vm: &PikeVM) -> Result<(), SearchError>
         ensures granted { Fits self.old vm.now.nfa → IsOk result }
         ensures made { OnOk result (self.new ≡ refitted self.old vm.now.nfa) }
@@ -100,7 +100,7 @@ impl Cache {
         Ok(())
     }
 
-    /// Returns whether the PikeVM may search with this cache.
+    /// Returns whether the cache is large enough for searches of the PikeVM.
     pub fn fits(&self, vm: &PikeVM) -> bool
         ensures { IsTrue result ↔ Fits self.now vm.now.nfa }
     {
@@ -115,7 +115,7 @@ impl Cache {
             && places <= frames
     }
 
-    /// Returns a cache with the same sizes and counts. The only error is `Memory`.
+    /// Returns a cache of the same sizes and counts. The only error is `Memory`.
     pub fn clone(&self) -> Result<Cache, SearchError>
         ensures copy { IfOk result (λ copy. copy ≡ self.now) }
         ensures memory { IsOkUnless result SearchError.Memory }
@@ -136,8 +136,8 @@ impl Cache {
         })
     }
 
-    /// The bytes that the entries of the cache take: 24 for a frame of the stack, 8 for a slot, 4 for each state's mark
-    /// and each place of the two sets of states. The sum stops at the greatest `usize`.
+    /// Returns the bytes that the entries of the cache take: 24 for a stack frame, 8 for a slot, 4 for the mark of a
+    /// state and for each entry of the two sets of states. The sum saturates at `usize::MAX`.
     pub fn memory_usage(&self) -> usize
         ensures { result ≡ pike_memory_of self.now }
     {

@@ -1,4 +1,4 @@
-//! The searches that fill a value of captures.
+//! Searches that fill captures.
 ghost use Rattle.std.specs.Prelude.{◌≡◌, ◌+◌, ◌*◌, ◌<◌, ◌≤◌, None, length, replicate, IfSome, IfNone, All};
 ghost use Rattle.regex_search_core.specs.Search.{search_of};
 ghost use Rattle.nfa_paths.specs.Paths.{span_len, turn_weight, scan_limit, IsAnswer, IsWork};
@@ -11,11 +11,11 @@ use crate::engine::PikeVM;
 use regex_search_core::{Captures, Input};
 
 impl PikeVM {
-    /// Searches, and leaves what it finds in the captures: the pattern, and in each slot that they have what
-    /// [`PikeVM::search_slots`] puts there. After no match no pattern and no slot is set. The groups of the captures
-    /// stay, whichever NFA they are of.
+    /// Searches, and writes the result to the captures: the pattern that matched, and the slots that
+    /// [`PikeVM::search_slots`] returns for that number of slots. If nothing matches, no pattern and no slot is set.
+    /// The groups of the captures do not change, even if they are of another NFA.
     ///
-    /// Requires a cache that fits. A search leaves its numbers as they are.
+    /// Requires a cache that fits. A search does not change its sizes.
     pub fn search(&self, cache: &mut Cache, input: &Input<'_>, captures: &mut Captures)
         requires { Fits cache.old self.now.nfa }
         ensures answer { let x = search_of input.now in
@@ -42,9 +42,9 @@ impl PikeVM {
         captures.set_pattern(pattern);
     }
 
-    /// Searches as [`PikeVM::search`] does, with an input of its own.
+    /// Searches as [`PikeVM::search`] does, but takes the input by value.
     ///
-    /// Requires a cache that fits. A search leaves its numbers as they are.
+    /// Requires a cache that fits. A search does not change its sizes.
     pub fn captures<'h>(&self, cache: &mut Cache, input: Input<'h>, captures: &mut Captures)
         requires { Fits cache.old self.now.nfa }
         ensures answer { let x = search_of input.entry in

@@ -11,12 +11,12 @@ use regex_search_core::{Captures, Input, Span};
 use std::alloc::Global;
 use std::marker::Model;
 
-/// The captures of the matches of an input that do not overlap, from left to right: what [`PikeVM::captures_iter`]
-/// gives.
+/// An iterator over the captures of all matches of an input that do not overlap, from left to right.
+/// [`PikeVM::captures_iter`] returns it.
 ///
-/// Its items are `Ok` captures, each a value of its own, at most as many as the span has bytes and one more, and at
-/// most one error, which is [`SearchError::Memory`]: there was no memory for a copy. It ends for good after the last
-/// match and after the error.
+/// Its items are `Ok` captures, each its own copy, at most n + 1 for a span of n bytes, and at most one error. The only
+/// error is [`SearchError::Memory`]: a copy could not be allocated. The iterator is fused: after the last match or the
+/// error it returns only `None`.
 #[derive(Debug, Drop)]
 pub struct CapturesMatches<'r, 'c, 'h> {
     cache: &'c mut Cache,
@@ -25,7 +25,7 @@ pub struct CapturesMatches<'r, 'c, 'h> {
     ghost holds: { HasGroups steps.asker.finder.nfa steps.asker.captures },
 }
 
-// A PikeVM that answers the searches of one iteration, and the captures that it writes to.
+// The PikeVM that answers the searches of one iteration, and the captures that it fills.
 #[derive(Debug, Drop)]
 struct Catcher<'r> {
     engine: &'r PikeVM,
@@ -59,14 +59,16 @@ impl PikeVM {
     ghost use Rattle.nfa_pikevm.specs.Engines.{SameNumbers, kind_of};
     ghost use Rattle.nfa_pikevm.specs.Finding.{PikeCatchesOn, PikeCatchesToEnd};
 
-    /// Returns the captures of all matches that do not overlap, from left to right, each with all groups of the NFA.
-    /// Requires a cache that fits. To make this changes no cache. The error is that there is no memory for the
-    /// captures that are searched with: [`SearchError::Memory`] alone.
+    /// Returns an iterator over the captures of all matches that do not overlap, from left to right, each with all
+    /// groups of the NFA.
     ///
-    /// The next match is searched for from the end of the last one. In place of an empty match where the last one ended
-    /// comes what a search from one byte further on finds. An answer without a match, as bare patterns give it, ends
-    /// the list. Each item is a copy of its own. Where there is no memory for it the item is the error, once. The
-    /// numbers of the cache stay as they are, so it fits afterwards what it fitted before.
+    /// Requires a cache that fits. This call does not change the cache. The only error is [`SearchError::Memory`]: the
+    /// captures to search with could not be allocated.
+    ///
+    /// Each search starts at the end of the last match. An empty match there is replaced by the result of a search from
+    /// one byte further on. An answer that gives no match ends the list, for instance if the NFA does not set the two
+    /// slots of its pattern. Each item is a copy; if it cannot be allocated, the item is the error, once. The sizes of
+    /// the cache do not change, so it fits what it fitted.
     pub fn captures_iter<'r, 'c, 'h>(
         &'r self,
         alloc: Global,
@@ -80,7 +82,7 @@ impl PikeVM {
         ensures engine { IfOk result (λ made. pike_catches_engine made ≡ self.now) }
         ensures walk { IfOk result (λ made. pike_catches_walk made ≡ fresh (search_of input.entry)) }
         ensures going { IfOk result (λ made. pike_catches_done made ≡ false) }
-        // Each run of calls gives the first captures of the input, and all of them where it goes on to `None`.
+        // Each run of calls gives the first captures of the input, and all of them if it goes on to `None`.
         ensures runs { IfOk result (CapturesRun pike_catches_next
             (TellsRow self.now.nfa (kind_of self.now) (search_of input.entry).earliest) (search_of input.entry)) }
         ensures first { IfOk result (CapturesFirst pike_catches_next
@@ -88,7 +90,7 @@ impl PikeVM {
         ensures next { IfOk result (CapturesNext pike_catches_next
             (TellsRow self.now.nfa (kind_of self.now) (search_of input.entry).earliest) (search_of input.entry)) }
         ensures errors { IfOk result (CapturesMemory pike_catches_next) }
-        // Where no copy is refused, their rows and their matches are those of the input.
+        // If no copy fails, their rows and their matches are those of the input.
         ensures rows { IfOk result (RowsRun pike_catches_next self.now.nfa (kind_of self.now)
             (search_of input.entry).earliest (search_of input.entry)) }
         ensures first_rows { IfOk result (RowsFirst pike_catches_next self.now.nfa (kind_of self.now)
@@ -108,7 +110,7 @@ impl PikeVM {
         ensures groups { IfOk result (CapturesGroups pike_catches_next self.now.nfa) }
         ensures inside { IfOk result (CapturesWithin pike_catches_next (search_of input.entry)) }
         ensures apart { IfOk result (CapturesApart pike_catches_next (search_of input.entry)) }
-        // The cache changes by the searches of the steps alone.
+        // The cache changes only by the searches of the steps.
         ensures searches { IfOk result (CatchesBySearches self.now (search_of input.entry)) }
         ensures keeps { IfOk result CatchesGiveCache }
     {
@@ -116,8 +118,8 @@ impl PikeVM {
         Ok(self.captures_iter_with(cache, input, captures))
     }
 
-    /// The same, searching with captures that the caller made, with all groups of this NFA
-    /// ([`PikeVM::create_captures`]). To make this takes no memory, and cannot fail.
+    /// Returns the same iterator, but searches with the given captures, which must have all groups of this NFA
+    /// ([`PikeVM::create_captures`]). Does not allocate, and cannot fail.
     #[inline]
     pub fn captures_iter_with<'r, 'c, 'h>(
         &'r self,
@@ -132,7 +134,7 @@ impl PikeVM {
         ensures engine { pike_catches_engine result ≡ self.now }
         ensures walk { pike_catches_walk result ≡ fresh (search_of input.entry) }
         ensures going { pike_catches_done result ≡ false }
-        // Each run of calls gives the first captures of the input, and all of them where it goes on to `None`.
+        // Each run of calls gives the first captures of the input, and all of them if it goes on to `None`.
         ensures runs { CapturesRun pike_catches_next
             (TellsRow self.now.nfa (kind_of self.now) (search_of input.entry).earliest) (search_of input.entry) result }
         ensures first { CapturesFirst pike_catches_next
@@ -140,7 +142,7 @@ impl PikeVM {
         ensures next { CapturesNext pike_catches_next
             (TellsRow self.now.nfa (kind_of self.now) (search_of input.entry).earliest) (search_of input.entry) result }
         ensures errors { CapturesMemory pike_catches_next result }
-        // Where no copy is refused, their rows and their matches are those of the input.
+        // If no copy fails, their rows and their matches are those of the input.
         ensures rows { RowsRun pike_catches_next self.now.nfa (kind_of self.now)
             (search_of input.entry).earliest (search_of input.entry) result }
         ensures first_rows { RowsFirst pike_catches_next self.now.nfa (kind_of self.now)
@@ -160,15 +162,15 @@ impl PikeVM {
         ensures groups { CapturesGroups pike_catches_next self.now.nfa result }
         ensures inside { CapturesWithin pike_catches_next (search_of input.entry) result }
         ensures apart { CapturesApart pike_catches_next (search_of input.entry) result }
-        // The cache changes by the searches of the steps alone.
+        // The cache changes only by the searches of the steps.
         ensures searches { CatchesBySearches self.now (search_of input.entry) result }
         ensures keeps { CatchesGiveCache result }
     {
         self.catch_from(cache, input, captures)
     }
 
-    /// The captures of all matches of the input that do not overlap, from left to right, each with all groups of the
-    /// NFA. The error is that there was no memory: [`SearchError::Memory`] alone.
+    /// Returns the captures of all matches of the input that do not overlap, from left to right, each with all groups
+    /// of the NFA. The only error is [`SearchError::Memory`].
     pub fn captures_all(
         &self,
         alloc: Global,
@@ -185,7 +187,8 @@ impl PikeVM {
         ensures inside { IfOk result (λ all. All (CapturesInside (search_of input.entry)) all.items) }
         ensures apart { IfOk result (λ all. AreApart (search_of input.entry) None (map match_in all.items)) }
         ensures numbers { SameNumbers cache.old cache.new }
-        // The cache changes by the searches of an iteration alone, and where all captures come these go to its end.
+        // The cache changes only by the searches of an iteration. If all captures are returned, these searches go to
+        // its end.
         ensures searches { PikeCatchesOn self.now (search_of input.entry) cache.old cache.new }
         ensures to_end { IfOk result (λ all.
             PikeCatchesToEnd self.now (search_of input.entry) (map row_of all.items) cache.old cache.new) }
@@ -197,7 +200,7 @@ impl PikeVM {
         Steps::new(input, catcher).all_with(alloc, cache)
     }
 
-    // The iterator that searches with these captures.
+    // Returns the iterator that searches with these captures.
     #[inline]
     fn catch_from<'r, 'c, 'h>(
         &'r self,

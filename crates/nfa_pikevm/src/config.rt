@@ -8,7 +8,7 @@ use regex_search_core::MatchKind;
 use std::marker::Model;
 use thompson_nfa::{BuildError, NFA};
 
-/// How a PikeVM is set up. A contract sees it as the match kind that was set, if one was.
+/// The options of a PikeVM. Contracts see the match kind, if one was set.
 #[derive(Clone, Copy, Debug)]
 pub struct Config {
     match_kind: Option<MatchKind>,
@@ -41,14 +41,14 @@ impl Config {
         self
     }
 
-    /// Returns the match kind that was set, or `LeftmostFirst`.
+    /// Returns the match kind that was set, by default `LeftmostFirst`.
     pub fn get_match_kind(&self) -> MatchKind
         ensures { result ≡ unwrap_or self.now LeftmostFirst }
     {
         self.match_kind.unwrap_or(MatchKind::LeftmostFirst)
     }
 
-    /// The newer configuration, with what it leaves unset from this one.
+    /// Returns the newer configuration. Options that it leaves unset are taken from this one.
     fn overwritten_by(&self, newer: Config) -> Config
         ensures { result ≡ option_or newer self.now }
     {
@@ -59,7 +59,7 @@ impl Config {
 }
 
 impl Default for Config {
-    /// A configuration with nothing set.
+    /// Returns a configuration with nothing set.
     fn default() -> Config
         ensures { result ≡ None }
     {
@@ -67,7 +67,7 @@ impl Default for Config {
     }
 }
 
-/// Makes PikeVMs of one configuration. A contract sees it as that configuration.
+/// A builder of PikeVMs. Contracts see its configuration.
 #[derive(Clone, Copy, Debug)]
 pub struct Builder {
     config: Config,
@@ -94,7 +94,7 @@ impl Builder {
         }
     }
 
-    /// Sets what the configuration sets. An option that it leaves unset stays as it was.
+    /// Sets the options that the configuration sets. All others stay as they were.
     pub fn configure(&mut self, config: Config) -> &mut Builder
         ensures value { result.now ≡ option_or config self.old }
         ensures same_reference { result.ghost_name ≡ self.entry.ghost_name }

@@ -28,10 +28,10 @@ use std::alloc::Global;
 use std::marker::Model;
 use thompson_nfa::{BuildError, NFA};
 
-/// A search of one NFA that follows all states side by side.
+/// A search engine for one NFA that follows all states side by side.
 ///
-/// Its answers are those of the match kind that was set, and of the input's `earliest`. A contract sees the NFA and
-/// that kind.
+/// It answers by the match kind that was set, and by the `earliest` flag of the input. Contracts see the NFA and the
+/// match kind.
 #[derive(Debug, Drop)]
 pub struct PikeVM {
     config: Config,
@@ -65,8 +65,8 @@ impl PikeVM {
         Builder::new().build_from_nfa(nfa)
     }
 
-    /// Makes a PikeVM that matches the empty string at each position, with the default configuration. The error is
-    /// `Memory` alone.
+    /// Makes a PikeVM that matches the empty string at each position, with the default configuration. The only error is
+    /// `Memory`.
     pub fn always_match(alloc: Global) -> Result<PikeVM, BuildError>
         ensures made { IfOk result (λ made. made ≡ record { nfa = always; match_kind = None }) }
         ensures memory { IsOkUnless result BuildError.Memory }
@@ -96,8 +96,8 @@ impl PikeVM {
         Builder::new()
     }
 
-    /// Makes captures with a slot for each edge of each group of the NFA. No pattern and no slot is set. The error is
-    /// `Memory` alone.
+    /// Makes captures with two slots for each group of the NFA. No pattern and no slot is set. The only error is
+    /// `Memory`.
     pub fn create_captures(&self, alloc: Global) -> Result<Captures, SearchError>
         ensures made { IfOk result (λ made. made ≡ record {
           groups = self.now.nfa.groups;
@@ -110,7 +110,7 @@ impl PikeVM {
         Ok(Captures::all(alloc, groups)?)
     }
 
-    /// Makes a cache that fits this PikeVM, and is no larger. The only error is `Memory`.
+    /// Makes a cache that fits this PikeVM and is no larger. The only error is `Memory`.
     pub fn create_cache(&self, alloc: Global) -> Result<Cache, SearchError>
         ensures made { IfOk result (λ made. made ≡ cache_for self.now.nfa) }
         ensures memory { IsOkUnless result SearchError.Memory }
@@ -118,8 +118,8 @@ impl PikeVM {
         Cache::new(alloc, self)
     }
 
-    /// Makes the cache fit this PikeVM, also if that makes it smaller. This is `Ok` if the cache fits already. The only
-    /// error is `Memory`; the cache then is as it was.
+    /// Makes the cache fit this PikeVM, even if that makes it smaller. The result is `Ok` if the cache fits already.
+    /// The only error is `Memory`. After an error the cache is unchanged.
     pub fn reset_cache(&self, cache: &mut Cache) -> Result<(), SearchError>
         ensures granted { Fits cache.old self.now.nfa → IsOk result }
         ensures made { OnOk result (cache.new ≡ refitted cache.old self.now.nfa) }
@@ -161,11 +161,11 @@ impl PikeVM {
         Ok(PikeVM::from_parts(self.config, nfa))
     }
 
-    /// Searches, and fills the slots with byte offsets: slots `2p` and `2p + 1` have the start and end of a match of
-    /// pattern `p`, those of the explicit groups follow. Any number of slots may be handed in; those past the NFA's are
-    /// none, and so is every slot after no match.
+    /// Searches, and writes byte offsets to the slots. Slots `2p` and `2p + 1` get the start and end of a match of
+    /// pattern `p`; the slots of the explicit groups follow. Any number of slots may be given. Slots that the NFA does
+    /// not have are set to `None`, and so are all slots if nothing matches.
     ///
-    /// Requires a cache that fits. A search leaves its numbers as they are.
+    /// Requires a cache that fits. A search does not change its sizes.
     pub fn search_slots(
         &self,
         cache: &mut Cache,
@@ -182,7 +182,7 @@ impl PikeVM {
         ensures numbers { SameNumbers cache.old cache.new }
         ensures total { AddsPikeWork cache.old cache.new }
 
-        // What was done for it: exactly one scan more than restarts, within stated bounds.
+        // The work: exactly one scan more than restarts, within stated bounds.
         ensures work { IsWork self.now.nfa (kind_of self.now) (search_of input.now).earliest (search_of input.now)
             cache.new.scans cache.new.turns }
         ensures scans { cache.new.scans ≤ scan_limit self.now.nfa (search_of input.now) }
@@ -201,7 +201,8 @@ impl PikeVM {
         self.search_with(threads, input, found.as_mut_slice(), slots)
     }
 
-    /// The pattern that a search answers. It fills the row `found` of the cache, and hands that out at the end.
+    /// Returns the pattern that a search answers. It fills the row `found` of the cache, and copies it to the slots at
+    /// its end.
     fn search_with(
         &self,
         threads: &mut Threads,
@@ -237,8 +238,8 @@ impl PikeVM {
         Some(half?.pattern())
     }
 
-    /// The match that a search answers, from the row of the cache that it fills. It is a call of its own, so that an
-    /// iteration that knows an answer saves no registers for a search.
+    /// Returns the match that a search answers, from the row of the cache that it fills. It is a function of its own so
+    /// that an iteration that knows an answer saves no registers for a search.
     #[inline(never)]
     fn find_with(
         &self,
@@ -273,11 +274,12 @@ impl PikeVM {
         match_in(half.pattern(), slots)
     }
 
-    /// Returns the match that a search of the input finds: the span between the two slots of its pattern. It is none
-    /// where there is no match, where the NFA writes one of the two slots nowhere on the way, or where the start lies
-    /// behind the end.
+    /// Returns the match that a search of the input finds: the span between the two slots of its pattern.
     ///
-    /// Requires a cache that fits. A search leaves its numbers as they are.
+    /// Its offsets are bytes from the start of the haystack. Returns `None` if nothing matches, if the matching path
+    /// leaves one of the two slots unset, or if its start is greater than its end.
+    ///
+    /// Requires a cache that fits. A search does not change its sizes.
     pub fn find<'h>(&self, cache: &mut Cache, input: Input<'h>) -> Option<Match>
         requires { Fits cache.old self.now.nfa }
         ensures answer { IsMatchAnswer self.now.nfa (kind_of self.now) (search_of input.entry).earliest
@@ -306,12 +308,12 @@ impl PikeVM {
         self.find_with(threads, &input, found.as_mut_slice())
     }
 
-    /// Returns the pattern of the match that a search of the input finds, and the offset of its end. It writes no slots,
-    /// so the NFA need not write where its matches start and end.
+    /// Returns the pattern of the match that a search of the input finds, and the offset of its end. It writes no
+    /// slots, so the NFA need not record where its matches start and end.
     ///
     /// Returns `None` if nothing matches.
     ///
-    /// Requires a cache that fits. A search leaves its numbers as they are.
+    /// Requires a cache that fits. A search does not change its sizes.
     pub fn find_half<'h>(&self, cache: &mut Cache, input: Input<'h>) -> Option<HalfMatch>
         requires { Fits cache.old self.now.nfa }
         ensures answer { IsHalfAnswer self.now.nfa (kind_of self.now) (search_of input.entry).earliest
@@ -337,17 +339,18 @@ impl PikeVM {
         } = cache;
         past_scans.take(&mut threads.scans);
         threads.reached.seen.restart_turns(past_turns);
-        // An NFA that can be read is valid, so each Match state is of one of its patterns.
+        // An NFA that can be read is valid, so the pattern of each Match state exists.
         self.nfa.states();
         let match_kind = self.config.get_match_kind();
         search(&self.nfa, &self.first, match_kind, &input, threads, &mut [])
     }
 
-    /// Returns whether a search of the input finds a match. The flag `earliest` of the input does not change the
-    /// answer.
-    /// `earliest` is ignored: the search stops at the earliest match wherever that cannot change the answer.
+    /// Returns whether a search of the input finds a match.
     ///
-    /// Requires a cache that fits. A search leaves its numbers as they are.
+    /// The `earliest` flag of the input is ignored: the search stops at the earliest match if that cannot change the
+    /// answer.
+    ///
+    /// Requires a cache that fits. A search does not change its sizes.
     pub fn is_match<'h>(&self, cache: &mut Cache, input: Input<'h>) -> bool
         requires { Fits cache.old self.now.nfa }
         ensures answer { IsFoundAnswer self.now.nfa (kind_of self.now) false (search_of input.entry) result }
@@ -367,16 +370,19 @@ impl PikeVM {
         self.search_slots(cache, &input, &mut []).is_some()
     }
 
-    /// Puts the patterns of all matches into the set, also of those that overlap. The set keeps what it holds, and
-    /// gains patterns below its capacity alone.
+    /// Adds the patterns of all matches to the set, including matches that overlap. The set keeps its patterns, and
+    /// gains only patterns below its capacity.
     ///
-    /// With the kind `All` it gains every pattern that matches somewhere in the span; with `earliest`, those whose
-    /// matches end where the first of them does. With `LeftmostFirst` a set that holds a pattern gains nothing; an
-    /// empty one gains the pattern of the first match, and of each that is the first of those that end before some
-    /// limit; with `earliest`, that of the first match that ends alone. A match ends on a boundary where the NFA asks
-    /// for it; matches of patterns that the set has no room for do not count.
+    /// - `All`: it gains every pattern that matches in the span. With `earliest`, only those with a match that ends
+    ///   where the first one ends.
+    /// - `LeftmostFirst`: a set that holds a pattern gains nothing. An empty set gains the pattern of the first match,
+    ///   and of each match that is the first of those that end before some limit. With `earliest`, only that of the
+    ///   match that ends first.
     ///
-    /// Requires a cache that fits. A search leaves its numbers as they are.
+    /// If the NFA requires it, a match has to end on a boundary. Matches of patterns at or above the capacity do not
+    /// count.
+    ///
+    /// Requires a cache that fits. A search does not change its sizes.
     pub fn which_overlapping_matches(
         &self,
         cache: &mut Cache,
@@ -390,7 +396,7 @@ impl PikeVM {
         ensures numbers { SameNumbers cache.old cache.new }
         ensures total { AddsPikeWork cache.old cache.new }
 
-        // One scan, or none where the first match alone is meant and the set holds a pattern.
+        // One scan, or none under leftmost first if the set holds a pattern.
         ensures scans { cache.new.scans ≡ overlap_scans (kind_of self.now) patterns.old }
         ensures turns { cache.new.turns ≤ cache.new.scans * ((1 + turn_weight self.now.nfa)
             * (span_len (search_of input.now) + 1)) }

@@ -14,9 +14,9 @@ use nfa_search_base::iter::{Searcher, Searches, Steps};
 use regex_search_core::{Input, Match, Span};
 use std::alloc::Global;
 
-/// The matches of an input that do not overlap, from left to right: what [`PikeVM::find_iter`] gives.
+/// An iterator over all matches of an input that do not overlap, from left to right. [`PikeVM::find_iter`] returns it.
 ///
-/// They are at most as many as the span has bytes and one more. It ends for good after the last one.
+/// It gives at most n + 1 matches for a span of n bytes. It is fused: after the last match it returns only `None`.
 #[derive(Debug, Drop)]
 pub struct FindMatches<'r, 'c, 'h> {
     cache: &'c mut Cache,
@@ -25,12 +25,13 @@ pub struct FindMatches<'r, 'c, 'h> {
     ghost knows: { IsKnownFrom IsSureOf steps.asker.engine.now (steps_walk steps).at steps.asker.known },
 }
 
-// A PikeVM that answers the searches of one iteration. It has no model: a caller of the iterator would not learn then
-// what the cache ends as.
+// The PikeVM that answers the searches of one iteration. It has no model: with one, a caller of the iterator would not
+// learn what the cache is at its end.
 #[derive(Debug, Drop)]
 struct Finder<'r> {
     engine: &'r PikeVM,
-    // What the last search found, if it is empty and lies where the search began: it answers a search from there too.
+    // The match that the last search found, if it is empty and at the start of that search. It also answers a search
+    // from there.
     known: Option<Match>,
 }
 
@@ -46,12 +47,11 @@ impl PikeVM {
     ghost use Rattle.nfa_pikevm.specs.Finding.{PikeFindsOn, PikeFindsToEnd};
     ghost use Rattle.nfa_search_base.specs.MatchRuns.{MatchesRun, MatchesAre, MatchesApart, MatchesFirst, MatchesNext};
 
-    /// Returns an iterator over all matches that do not overlap, from left to right. To make this takes no memory. The
-    /// caller owes a cache that fits.
+    /// Returns an iterator over all matches that do not overlap, from left to right. Does not allocate. Requires a
+    /// cache that fits.
     ///
-    /// The next match is searched for from the end of the last one. In place of an empty match where the last one ended
-    /// comes what a search from one byte further on finds. The numbers of the cache stay as they are, so it fits
-    /// afterwards what it fitted before.
+    /// Each search starts at the end of the last match. An empty match there is replaced by the result of a search from
+    /// one byte further on. The sizes of the cache do not change, so it fits what it fitted.
     pub fn find_iter<'r, 'c, 'h>(
         &'r self,
         cache: &'c mut Cache,
@@ -64,13 +64,13 @@ impl PikeVM {
         ensures walk { pike_finds_walk result ≡ fresh (search_of input.entry) }
         ensures going { pike_finds_done result ≡ false }
         ensures known { pike_finds_known result ≡ None }
-        // Each run of calls gives the first matches of the input, and all of them where it goes on to `None`.
+        // Each run of calls gives the first matches of the input, and all of them if it goes on to `None`.
         ensures runs { MatchesRun self.now.nfa (kind_of self.now) (search_of input.entry) pike_finds_next result }
         ensures are { MatchesAre self.now.nfa (kind_of self.now) (search_of input.entry) pike_finds_next result }
         ensures apart { MatchesApart self.now.nfa (kind_of self.now) (search_of input.entry) pike_finds_next result }
         ensures first { MatchesFirst self.now.nfa (kind_of self.now) (search_of input.entry) pike_finds_next result }
         ensures next { MatchesNext self.now.nfa (kind_of self.now) (search_of input.entry) pike_finds_next result }
-        // The cache changes by the searches of the steps alone.
+        // The cache changes only by the searches of the steps.
         ensures searches { FindsBySearches self.now (search_of input.entry) result }
         ensures keeps { GivesCache result }
     {
@@ -87,8 +87,8 @@ impl PikeVM {
         }
     }
 
-    /// Returns all matches that do not overlap, from left to right. Allocates only if there is a match. The only error is
-    /// [`SearchError::Memory`].
+    /// Returns all matches that do not overlap, from left to right. Requires a cache that fits. Allocates only if there
+    /// is a match. The only error is [`SearchError::Memory`].
     pub fn find_all(
         &self,
         alloc: Global,
@@ -105,7 +105,8 @@ impl PikeVM {
         ensures apart { IfOk result (λ found. AreApart (search_of input.entry) None (map found_of found.items)) }
         ensures inside { IfOk result (λ found. All (λ m. IsInside (search_of input.entry) (found_of m)) found.items) }
         ensures numbers { SameNumbers cache.old cache.new }
-        // The cache changes by the searches of an iteration alone, and where all matches come these go to its end.
+        // The cache changes only by the searches of an iteration. If all matches are returned, these searches go to its
+        // end.
         ensures searches { PikeFindsOn self.now (search_of input.entry) cache.old cache.new }
         ensures to_end { IfOk result (λ found.
             PikeFindsToEnd self.now (search_of input.entry) (map found_of found.items) cache.old cache.new) }

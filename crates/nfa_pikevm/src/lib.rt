@@ -1,13 +1,13 @@
-//! A search that follows all states side by side.
+//! A search that follows all states of an NFA side by side.
 //!
-//! At each position of the span a PikeVM keeps the states that its NFA may be in, in order of preference, each with a
-//! row of slots of its own. A byte takes it from the states at one position to those at the next. So a scan goes from
-//! the start of the span to its end and never back, and takes at most (1 + D)(n + 1) turns for n bytes, D being the
-//! edges of all states at a position. A search is one scan, or up to n + 2 where an end inside a character does not
-//! count. It takes no memory beside its cache, and cannot fail.
+//! At each position of the span a PikeVM keeps the states that its NFA may be in, in order of preference, each with its
+//! own slot row. A byte leads from the states at one position to those at the next. A scan therefore goes from the
+//! start of the span to its end and never back. It takes at most (1 + D)(n + 1) turns for n bytes, where D counts the
+//! edges of all states at a position. A search is one scan, or up to n + 2 if matches that split a codepoint are
+//! skipped. It allocates nothing and cannot fail.
 //!
-//! Take it for texts of any length, for every match kind and for sets of patterns, mostly by its front in
-//! `nfa_engines`. On short spans the backtracker (`nfa_backtrack`) is mostly faster.
+//! Use it for haystacks of any length, for every match kind and for sets of patterns. Most callers get it from
+//! `nfa_engines`. On short spans the backtracker (`nfa_backtrack`) is usually faster.
 //!
 //! ```
 //! let vm = PikeVM::new_from_nfa(nfa)?;

@@ -1,4 +1,4 @@
-//! A search: a scan and, while its answer ends inside a character, further scans.
+//! A search: a scan, and further scans while the answer ends inside a codepoint.
 ghost use Rattle.std.specs.Prelude.{◌≡◌, ◌*◌, ◌≤◌, length};
 ghost use Rattle.regex_search_core.specs.Search.{search_of};
 ghost use Rattle.nfa_paths.specs.Paths.{scan_limit};
@@ -14,9 +14,8 @@ use nfa_scanning::starts::may_end_at;
 use regex_search_core::{HalfMatch, Input, MatchKind};
 use thompson_nfa::NFA;
 
-/// Scans and, while the answer ends inside a character, scans again, each time from one byte further on. Only an NFA
-/// that matches the empty text and whose matches are whole characters has such answers; an anchored search is over with
-/// the first.
+/// Scans, and scans again from one byte further on while the answer ends inside a codepoint. Only an NFA that can match
+/// the empty string and is in UTF-8 mode has such answers. An anchored search ends at the first one.
 pub fn search(
     nfa: &NFA,
     first: &FirstBytes,

@@ -25,7 +25,7 @@ use Rattle.nfa_pikevm_scan.proofs.TaskLemmas.{AnswersFor-round, Searching-for}
 use Rattle.nfa_pikevm_scan.proofs.FrontLemmas.{Formed-rests, Formed-resting, Formed-next, last_match-or, SeenAt-none}
 use Rattle.nfa_pikevm_scan.proofs.ScanLemmas.{Crossed, search-crossed}
 
--- what is found last stands in the front, or was found before
+-- the match that is found last is in the front, or was found before
 last_match-among : (is : Pair → Bool) (g : Hit) (front : Front) (a : Pair × Slots) → last_match is g front ≡ Some a
     → (g ≡ Some a) ⊎ In a front
 last_match-among is g [] a e = inl e
@@ -70,7 +70,7 @@ module _ (wanted : Pair → Bool) {nfa : Automaton} (sub : AreMatchPairs nfa wan
         (s.searching target m);
   }
 
-  -- where it went on to the end of its work
+  -- if it went on to the end of its work
   all-whole : goes → Scanning (space nfa x) wanted (blank width) at (SeenAt at after.bits) after.turns front
       (Load (blank width) ∷ starts_from width state (at + 1) limit) c.leads.written
   all-whole goes_on = rw (c.leads.whole goes_on) at all-left
@@ -107,7 +107,7 @@ module _ (nfa : Automaton) (x : Search) (at width state limit : ℕ) where
       (c : Crosses nfa x at past met items slots hit after kept written)
       (s : Scanning (space nfa x) (is_match nfa) (blank width) at (SeenAt at (unmarked met).bits) met.turns []
       (tasks at items (Load (blank width) ∷ starts_from width state (at + 1) limit)) (blank width)) where
-    -- the same of a search, where each match is wanted
+    -- the same for a search, if each match is wanted
     cross-front : GoesOn past hit → IsFront (space nfa x) (is_resting nfa) (is_match nfa) (blank width) after.turns
         c.front at
     cross-front = all-front (is_match nfa) (λ v t. t) (search-crossed width state limit c) s
@@ -138,7 +138,7 @@ module _ (nfa : Automaton) (x : Search) (at width state limit : ℕ) where
               | inr h ↦ absurd (never (sym h.1 ∙ e))
             ]
 
-  -- where the first match ended the position, it is the earliest path's
+  -- if the first match ended the position, it is the earliest path's
   pub earliest-first : {met : Marks} {items : List (ℕ × Slots)} {slots : Slots} {hit : Option PatternID} {after : Marks}
       {kept : List (ℕ × Slots)} {written : Slots}
       → (c : Crosses nfa x at false met items slots hit after kept written)
@@ -151,7 +151,7 @@ module _ (nfa : Automaton) (x : Search) (at width state limit : ℕ) where
       (all-left (is_match nfa) (λ v t. t) (search-crossed width state limit c) s)
       (Formed-resting nfa x at after.bits c.front c.formed) first
 
-  -- and where it went on, the last match is the earliest last path's
+  -- and if it went on, the last match is the earliest last path's
   pub earliest-last : {met : Marks} {items : List (ℕ × Slots)} {slots : Slots} {hit : Option PatternID} {after : Marks}
       {kept : List (ℕ × Slots)} {written : Slots}
       → (c : Crosses nfa x at true met items slots hit after kept written)

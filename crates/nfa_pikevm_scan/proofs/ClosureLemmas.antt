@@ -71,7 +71,7 @@ pub Paid-begin : (nfa : Automaton) (m : Marks) (i : ℕ) (stack : List FollowEps
     → Paid nfa m i stack hand m i stack hand
 Paid-begin nfa m i stack hand = record { tried = omega arith; framed = omega arith; entered = omega arith }
 
--- frames that are taken up
+-- frames that are applied
 pub Paid-resumed : {nfa : Automaton} {m n : Marks} {i j : ℕ} {stack : List FollowEpsilon} {hand : ℕ} (t u : ℕ)
     (frames : List FollowEpsilon) (left : ℕ)
     → u ≤ t → t ≤ length frames → sum_by tries (take u frames) + left ≡ sum_by tries (take t frames)
@@ -100,7 +100,7 @@ HasRoom-paid top now frames after room paid same inside within = record {
   states_fit = omega (arith, room.states_fit, paid.entered);
 }
 
--- What comes of the state s up to the next match, with a state in hand and a stack that are still to be followed.
+-- The result of the state s up to the next match, with a current state and a stack that are still to be followed.
 pub record Passed (nfa : Automaton) (x : Search) (at s : ℕ) (met : Marks) (items : List (ℕ × Slots))
     (below : List FollowEpsilon) (row : Slots)
     (after : Marks) (kept : List (ℕ × Slots)) (state : Option ℕ) (stack : List FollowEpsilon) (now : Slots)
@@ -129,7 +129,7 @@ Passed-begin nfa x at s met items below row = record {
 module _ {nfa : Automaton} {x : Search} {at s : ℕ} {met : Marks} {items : List (ℕ × Slots)}
     {below : List FollowEpsilon} {row : Slots}
     {m : Marks} {i : List (ℕ × Slots)} {stack : List FollowEpsilon} {now : Slots} where
-  -- frames are taken up
+  -- frames are applied
   pub Passed-resumed : (state : Option ℕ) (above : List FollowEpsilon) (then : Slots)
       → ((front : Front) (work : List Item) → Follows nfa x at m front (work_onto at stack work) now m front
       (with_state at state (work_onto at above work)) then)
@@ -203,7 +203,7 @@ module _ {nfa : Automaton} {x : Search} {at s : ℕ} {met : Marks} {items : List
   }
 
 module _ {V : Type 0} (nfa : Automaton) (x : Search) (takes : V → PatternID → Slots → Bool → V → Type 0) where
-  -- What comes of the state s from its row, with a state in hand and a stack that are still to be followed.
+  -- The result of the state s from its row, with a current state and a stack that are still to be followed.
   pub record Followed (at s : ℕ) (met : Marks) (items : List (ℕ × Slots)) (row : Slots) (old : V)
       (after : Marks) (kept : List (ℕ × Slots)) (state : Option ℕ) (stack : List FollowEpsilon) (now : Slots) (new : V)
       : Type 0 where
@@ -230,7 +230,7 @@ module _ {V : Type 0} (nfa : Automaton) (x : Search) (takes : V → PatternID �
 module _ {V : Type 0} {nfa : Automaton} {x : Search} {takes : V → PatternID → Slots → Bool → V → Type 0} {at s : ℕ}
     {met : Marks} {items : List (ℕ × Slots)} {row : Slots} {old : V}
     {m : Marks} {i : List (ℕ × Slots)} {stack : List FollowEpsilon} {now : Slots} {v : V} where
-  -- frames are taken up
+  -- frames are applied
   pub Followed-resumed : (state : Option ℕ) (above : List FollowEpsilon) (then : Slots)
       → ((front : Front) (work : List Item) → Follows nfa x at m front (work_onto at stack work) now m front
       (with_state at state (work_onto at above work)) then)

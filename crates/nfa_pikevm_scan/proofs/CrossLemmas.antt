@@ -28,7 +28,7 @@ use Rattle.nfa_pikevm_scan.proofs.ClosureLemmas.{moves-append}
 
 -- rows
 
--- the i-th item, and those behind it, where the rows from the i-th on are as they were
+-- the i-th item, and those after it, if the rows from the i-th on did not change
 pub items-next : (width i n : ℕ) (kept : List ℕ) (cells rows : Slots) (k : ℕ) → i < length kept → k ≡ get_or kept i k
     → n ≡ width → drop (i * width) rows ≡ drop (i * width) cells
     → drop i (items_of width kept cells) ≡ (k, take n (drop (i * width) rows))
@@ -44,13 +44,13 @@ items-next width i n kept cells rows k h is wide same =
     ∙ ap (λ t. (k, t) ∷ drop (i + 1) (items_of width kept cells))
     (ap (take width) (sym same) ∙ ap (λ m. take m (drop (i * width) rows)) (sym wide))
 
--- no item is behind the last
+-- no item is after the last
 pub items-over : (width i : ℕ) (kept : List ℕ) (cells : Slots) → length kept ≤ i
     → drop i (items_of width kept cells) ≡ []
 items-over width i kept cells over = drop_all i (items_of width kept cells)
     (omega (arith, length-items_of width kept cells))
 
--- the i-th row lies within all rows
+-- the i-th row is within all rows
 row-fits : (width i count cells : ℕ) → i < count → count * width ≤ cells → i * width + width ≤ cells
 row-fits width i count cells h fits =
     let next : (i + 1) * width ≤ count * width = mul-le-mul_right width (let k : i + 1 ≤ count = omega arith in k) in
@@ -65,7 +65,7 @@ row-long width i count n rows cells h fits long wide =
     let inside = row-fits width i count (length cells) h fits in
     length-take-le n (drop (i * width) rows) (omega (arith, length-drop (i * width) rows)) ∙ wide
 
--- a written row leaves those behind it
+-- writing a row keeps those after it
 pub rows-behind : (width i count n : ℕ) (cells rows row : Slots) → i < count → count * width ≤ length cells
     → length rows ≡ length cells → n ≡ width
     → length row ≡ length (take n (drop (i * width) rows)) → drop (i * width) rows ≡ drop (i * width) cells
@@ -78,7 +78,7 @@ rows-behind width i count n cells rows row h fits long wide whole same =
     ∙ ap (λ k. drop k rows) more ∙ sym (drop-drop width (i * width) rows) ∙ ap (drop width) same
     ∙ drop-drop width (i * width) cells ∙ ap (λ k. drop k cells) (sym more)
 
--- each item's state is one of so many
+-- each item's state is below `count`
 pub states-below : (count width : ℕ) (states : List ℕ) (cells : Slots)
     → All (λ i. i.0 < count) (items_of width states cells) → All (λ s. s < count) states
 states-below count width [] cells all = All-nil (λ s. s < count)
@@ -88,7 +88,7 @@ states-below count width (s ∷ states) cells all =
     (states-below count width states (drop width cells)
     (All-tail (λ (i : ℕ × Slots). i.0 < count) (s, take width cells) (items_of width states (drop width cells)) all))
 
--- each row has at most so many slots
+-- each row has at most `width` slots
 pub rows-within : (width : ℕ) (states : List ℕ) (cells : Slots)
     → All (λ i. length i.1 ≤ width) (items_of width states cells)
 rows-within width [] cells = All-nil (λ (i : ℕ × Slots). length i.1 ≤ width)
@@ -120,7 +120,7 @@ module _ (nfa : Automaton) (x : Search) (at : ℕ) where
 
 module _ {V : Type 0} (nfa : Automaton) (x : Search) (takes : V → PatternID → Slots → Bool → V → Type 0) (at : ℕ)
     (met : Marks) (items : List (ℕ × Slots)) (old : V) where
-  -- What came of a position's states so far, where some are left to follow.
+  -- The result of a position's states so far, with some left to follow.
   pub record CrossesTo (left : List (ℕ × Slots)) (after : Marks) (kept : List (ℕ × Slots)) (new : V) : Type 0 where
     pub front : Front
     pub added : kept ≡ moves (edges nfa x) front
@@ -190,7 +190,7 @@ module _ {V : Type 0} (nfa : Automaton) (x : Search) (takes : V → PatternID �
           entered = omega (arith, c.paid.entered, a.paid.entered);
         }
 
-    -- up to where the state is followed
+    -- up to the state that is followed
     reaches : (current old : Slots) (waiting : List Item)
         → Follows nfa x at (unmarked met) [] (tasks at items (Load old ∷ waiting)) current after c.front
         (Explore (k, at) ∷ tasks at rest (Load old ∷ waiting)) row

@@ -59,7 +59,7 @@ module _ (x : Search) (at : ℕ) where
   edges-none Fail r e = refl
   edges-none (Match pattern) r e = refl
 
--- what memory holds of one pair
+-- the moves of one pair in memory
 pub moves-one : (edges : Pair → List Pair) (v : Pair) (slots : Slots) (es : List Pair) → edges v ≡ es
     → moves edges ((v, slots) ∷ []) ≡ map (λ u. (u.0, slots)) es
 moves-one edges v slots es e = append-nil (map (λ u. (u.0, slots)) (edges v)) ∙ ap (map (λ u. (u.0, slots))) e

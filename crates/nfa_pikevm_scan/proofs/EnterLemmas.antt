@@ -1,4 +1,4 @@
--- What comes of a turn that enters a state, for each kind of state.
+-- The result of a turn that enters a state, for each kind of state.
 use Rattle.std.proofs.Common.{◌≡◌, ◌⊎◌, ℕ, suc, zero, ◌+◌, ◌<◌, ◌≤◌, List, [], ◌∷◌, ◌++◌, length, get_or, set, map, reverse, drop, take, refl, ap, sym, ◌∙◌, arith, append_assoc, append-nil, Bool, true, false, inl, inr, get_or-set_same}
 use Rattle.std.specs.Prelude.{Option, Some, None, SomeIff, All, option_and_then}
 use Rattle.std.specs.List.{slice_get, sum_by}
@@ -63,7 +63,7 @@ Entered-made m n same is node state room counted fresh =
 
 -- each state counts once
 
--- what becomes of the set of kept states where a byte leads to this target
+-- the set of kept states after a byte leads to this target
 abbrev pub IsKept : Option ℕ → Slots → Active → Active → Type 0
 IsKept target slots next after = ((target ≡ None) × (after ≡ next))
     ⊎ ((sid : ℕ) × (target ≡ Some sid) × (after ≡ record next { items = next.items ++ (sid, slots) ∷ [] }))
@@ -203,7 +203,7 @@ module _ {nfa : Automaton} {s : ℕ} {node : Node} {m n : Marks} (e : Entered nf
           | inr later ↦ among front (All-tail (λ c. get_or m.bits c.0.0 false ≡ true) b front all) a later
         ]
 
--- What comes of a turn that adds no pair to the front.
+-- The result of a turn that adds no pair to the front.
 module _ {nfa : Automaton} (x : Search) (at s : ℕ) {m n : Marks} (items : List (ℕ × Slots)) (stack : List FollowEpsilon)
     (slots : Slots) (turn : Move) (above : List FollowEpsilon) (written : Slots) where
   Enters-bare : IsMet nfa x (s, at) written turn []
@@ -230,7 +230,7 @@ Enters-marked {nfa} x at s k {m} {n} items stack slots counted same seen =
     (λ before old work. Follows-marked nfa x at m before (work_onto at stack (Load old ∷ work)) slots s n counted
     (rw same at seen.0) seen.1)
 
--- the alternatives that are put off, the earliest on top
+-- the alternatives that are pushed, with the earliest on top
 abbrev pub put : List ℕ → List FollowEpsilon
 put es = map (λ s. ToExplore s) (reverse es)
 
@@ -285,10 +285,10 @@ within-union states count alternates f stack above first is within below =
     λ k d h. (rw (first-drop alternates f first) at below) (suc k) d (omega arith) in
     rw is (within-put states count stack (drop 1 alternates) within rest)
 
--- What comes of a turn that marks its state.
+-- The result of a turn that marks its state.
 module _ {nfa : Automaton} {s : ℕ} {m n : Marks} (x : Search) (at : ℕ) (items : List (ℕ × Slots))
     (stack : List FollowEpsilon) (slots : Slots) where
-  -- on to the edges, of which all but the first are put off
+  -- on to the edges, with all but the first pushed
   Enters-edges : {node : Node} → Entered nfa s node m n → pattern_of node ≡ None → slot_of node ≡ None
       → (es : List Pair) → edges_of x node at ≡ es
       → (turn : Move) (above : List FollowEpsilon) → IsMet nfa x (s, at) slots turn []
@@ -370,7 +370,7 @@ pub offset-some : (o : Option ℕ) (fits : Type 0) (at : ℕ) → SomeIff o fits
 offset-some None fits at h f = absurd (h f)
 offset-some (Some k) fits at h f = ap Some h.1
 
--- what becomes of stack and slots at a Capture
+-- the stack and the slots after a Capture
 abbrev pub IsWritten : ℕ → ℕ → List FollowEpsilon → Slots → List FollowEpsilon → Slots → Type 0
 IsWritten at slot stack slots above written =
     ((slot < length slots) × IsPut stack (Restore slot (get_or slots slot None)) above
@@ -402,7 +402,7 @@ module _ {nfa : Automaton} {s next slot : ℕ} {m n : Marks} (e : Entered nfa s 
     | inr k ↦ rw k.1 (Paid-same e kept stack 1 (omega arith))
   ]
 
-  -- Where the stack is empty, the slot need not be restored: slots are loaded next.
+  -- If the stack is empty, the slot need not be restored: slots are loaded next.
   Follows-capture : (x : Search) (before : Front) (old : Slots) (work : List Item)
       → Follows nfa x at m before (Explore (s, at) ∷ work_onto at stack (Load old ∷ work)) slots n before
       (Explore (next, at) ∷ work_onto at above (Load old ∷ work)) written
@@ -432,7 +432,7 @@ module _ {nfa : Automaton} {s next slot : ℕ} {m n : Marks} (e : Entered nfa s 
       Enters-bare x at s items stack slots (On next) above written (λ b i. absurd i)
       (λ before f. Formed-marked e at before f) (λ before old work. Follows-capture x before old work)
 
--- What comes of a turn that enters a resting state.
+-- The result of a turn that enters a resting state.
 module _ {nfa : Automaton} {s : ℕ} {node : Node} {m n : Marks} (e : Entered nfa s node m n) (x : Search) (at : ℕ)
     (items : List (ℕ × Slots)) (stack : List FollowEpsilon) (slots : Slots) (r : rests node ≡ true) where
   Enters-resting : (kept : List (ℕ × Slots)) → kept ≡ items ++ moves (edges nfa x) (((s, at), slots) ∷ [])
@@ -451,7 +451,7 @@ module _ {nfa : Automaton} {s : ℕ} {node : Node} {m n : Marks} (e : Entered nf
             e.marked (edges-onward nfa x) (λ w. edges-rise nfa x (s, at) w (rw is r)));
       }
 
-  -- it is no match
+  -- it is not a match
   no_match : pattern_of node ≡ None → IsMet nfa x (s, at) slots Over (((s, at), slots) ∷ [])
   no_match plain b i t =
       let is = node_at-get nfa s node e.is in

@@ -14,7 +14,7 @@ use Rattle.nfa_paths.proofs.SearchingLemmas.{Searching-restore, Searching-load, 
 use Rattle.nfa_scanning.specs.Marks.{Marks}
 use Rattle.nfa_pikevm_scan.specs.States.{Front, SeenAt, AreMatchPairs, Follows}
 
--- a pair that is no match is in no set of matches
+-- a pair that is not a match is in no set of matches
 plain-target : (nfa : Automaton) (target : Pair → Bool) (v : Pair) → AreMatchPairs nfa target → is_match nfa v ≡ false
     → target v ≡ false
 plain-target nfa target v ok plain = of (target v) (ok v)
@@ -50,7 +50,7 @@ SeenAt-clear at s bits inside clear m =
     let e : get_or bits s false ≡ false = get_or_default bits s false true inside ∙ clear in
     absurd (cc (m.set, e))
 
--- Behind a pair a slot need not be restored where slots are loaded next.
+-- After a pair a slot need not be restored if slots are loaded next.
 Searching-unrestored : (space : Space) (target : Pair → Bool)
     {goal : Hit → ℕ → Type 0} {Seen : Pair → Type 0} {spent : ℕ} {front : Front} {otherwise : Hit} {v : Pair}
     {k : ℕ} {back : Option ℕ} {old : Slots} {rest : List Item} {slots : Slots}

@@ -117,7 +117,7 @@ module _ (nfa : Automaton) (x : Search) (at : ℕ) (bits : List Bool) where
                 (moves (edges nfa x) ys) (some.2 (length nfa.states) (below a (inl refl))) rest)
           ]
 
-  -- where no byte is left it leads nowhere
+  -- if no byte is left, it leads nowhere
   pub Formed-over : x.end ≤ at → (front : Front) → Formed nfa at bits front → moves (edges nfa x) front ≡ []
   Formed-over past front f = of front (Formed-one front f)
     where

@@ -45,7 +45,7 @@ both true true e = absurd (cc e)
 both true false e = (refl, refl)
 both false past e = absurd (cc e)
 
--- another one does not count, where matches are not passed
+-- any other match does not count, if matches are not passed
 other : (c past : Bool) → false ≡ (c && not past) → past ≡ false → c ≡ false
 other true true e off = absurd (cc off)
 other true false e off = absurd (cc e)
@@ -147,7 +147,7 @@ module _ (nfa : Automaton) (x : Search) (at n : ℕ) where
   all-gathered (ends {a = a} {v} p is h) k here =
       (counts v p, h.met, gathers-match a k (All-head (λ (a : Pair × Slots). a.0.1 ≡ at) a [] here) is h)
 
-  -- nothing is kept behind the first wanted pair, which leads nowhere
+  -- nothing is kept after the first wanted pair, which leads nowhere
   cut-gathered : {front : Front} {v w : Gatherer} {ended : Bool} → Takes nfa TakesPattern front v ended w
       → Knows false v → All (λ a. a.0.1 ≡ at) front
       → moves (edges nfa x) (before_match (wants nfa x n) front) ≡ moves (edges nfa x) front
@@ -165,7 +165,7 @@ module _ (nfa : Automaton) (x : Search) (at n : ℕ) where
       let on : wants nfa x n a.0 ≡ true = sym (counts-wanted v false p a k at_here is) ∙ (both _ _ h.ends).0 in
       rw on (sym (moves-one (edges nfa x) a.0 a.1 [] (IsMatch-edges nfa x a.0 (rw is refl))))
 
-  -- where none was met, and past matches always, the position goes on
+  -- if there was none, and always with `past`, the position goes on
   on-gathered : {front : Front} {v w : Gatherer} {ended : Bool} → Takes nfa TakesPattern front v ended w
       → GoesPast v.past_match w.met → ended ≡ false
   on-gathered none on = refl
@@ -176,7 +176,7 @@ module _ (nfa : Automaton) (x : Search) (at n : ℕ) where
       let met = h.met ∙ ap (λ c. c || v.met) b.0 in
       elim on [ inl e ↦ absurd (cc (b.1, e)) | inr e ↦ absurd (cc (met, e)) ]
 
--- what comes of all states of a position, in terms of the set
+-- the result of all states of a position, in terms of the set
 pub CrossesInSet-taken : {nfa : Automaton} {x : Search} {at : ℕ} {met : Marks} {items : List (ℕ × Slots)}
     {old new : Gatherer} {after : Marks} {kept : List (ℕ × Slots)} → old.met ≡ false
     → old.permitted ≡ permits nfa x at → All (λ i. length i.1 ≤ 0) items

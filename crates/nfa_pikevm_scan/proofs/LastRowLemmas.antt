@@ -22,7 +22,7 @@ stops : {b past : Bool} → b ≡ not past → past ≡ false → b ≡ true
 stops e off = e ∙ ap not off
 
 module _ (nfa : Automaton) where
-  -- with `past_match` the last match stands
+  -- with `past_match` the last match is kept
   last-taken : {front : Front} {v w : LastRow} {ended : Bool} → Takes nfa TakesRow front v ended w
       → v.past_match ≡ true → (g : Hit) (slots : Slots) → IsHit nfa g slots v.hit v.slots.now
       → IsHit nfa (last_match (is_match nfa) g front) slots w.hit w.slots.now
@@ -58,7 +58,7 @@ module _ (nfa : Automaton) where
       (subst (λ o. IsHit nfa None v.slots.now o v.slots.now) (sym fresh) (refl, refl))
   meant-taken false t off fresh = first-taken t off fresh
 
-  -- nothing is kept behind the first match, which leads nowhere
+  -- nothing is kept after the first match, which leads nowhere
   cut-taken : (x : Search) {front : Front} {v w : LastRow} {ended : Bool} → Takes nfa TakesRow front v ended w
       → v.past_match ≡ false
       → moves (edges nfa x) (before_match (is_match nfa) front) ≡ moves (edges nfa x) front
@@ -70,7 +70,7 @@ module _ (nfa : Automaton) where
       let match : is_match nfa a.0 ≡ true = rw is refl in
       rw match (sym (moves-one (edges nfa x) a.0 a.1 [] (IsMatch-edges nfa x a.0 match)))
 
-  -- where none was taken, and past matches always, the position goes on
+  -- if none was taken, and always with `past_match`, the position goes on
   on-taken : {front : Front} {v w : LastRow} {ended : Bool} → Takes nfa TakesRow front v ended w
       → GoesOn v.past_match w.hit → ended ≡ false
   on-taken none on = refl
@@ -78,7 +78,7 @@ module _ (nfa : Automaton) where
   on-taken (taken p is k t) on = on-taken t (elim on [ inl e ↦ inl (k.past ∙ e) | inr e ↦ inr e ])
   on-taken (ends p is k) on = elim on [ inl e ↦ goes k.ends e | inr e ↦ absurd (cc (k.hit, e)) ]
 
--- what comes of all states of a position, as the match that is meant
+-- the result of all states of a position, as the match that is meant
 pub Crosses-taken : {nfa : Automaton} {x : Search} {at : ℕ} {met : Marks} {items : List (ℕ × Slots)} {old new : LastRow}
     {after : Marks} {kept : List (ℕ × Slots)} → old.hit ≡ None
     → ArriveAll nfa x TakesRow at met items old after kept new

@@ -1,4 +1,4 @@
--- The positions of the scan for the first match: what stands behind a match is dropped.
+-- The positions of the scan for the first match: the states after a match are dropped.
 use Rattle.std.proofs.Common.{◌≡◌, ℕ, ◌+◌, ◌-◌, ◌<◌, ◌≤◌, ◌⊎◌, ◌↔◌, inl, inr, Bool, true, false, List, [], ◌∷◌, ◌++◌, length, map, refl, sym, ap, ◌∙◌, subst, arith}
 use Rattle.std.specs.Prelude.{None, Some, All}
 use Rattle.std.proofs.lemmas.Bool.{cases_lt, lt-ltb, le-ltb}
@@ -102,7 +102,7 @@ fresh-search nfa x target at met from =
     Searching-begin (space nfa x) target (SeenAt at (unmarked met).bits) met.turns None from [] []
     (SeenAt-none at (length met.bits))
 
--- the states at a position, and what waits behind it, lie there or behind it
+-- the states at a position, and what is left after them, are at this position or after it
 tasks-ahead : (at : ℕ) (items : List (ℕ × Slots)) (waiting : List Item)
     → ((k : Pair) → In (ToExplore k) waiting → at ≤ k.1)
     → (k : Pair) → In (ToExplore k) (tasks at items (ToLoad [] ∷ waiting)) → at ≤ k.1
@@ -180,7 +180,7 @@ module _ (nfa : Automaton) (x : Search) (old : List Bool) where
       subst (λ z. SearchingAt nfa x at target (starts nfa x) [] w.so_far (unmarked met) [] z [])
       (tasks-joined from 0 at items) (w.searching target b)
 
-  -- what is left lies at the position or behind it, so the search for what is wanted before has been made
+  -- what is left is at the position or after it, so the search for an earlier match is complete
   best-ahead : {at : ℕ} {met : Marks} (items : List (ℕ × Slots)) (waiting : List Item) (so_far : Hit)
       → ((k : Pair) → In (ToExplore k) waiting → at ≤ k.1)
       → ((target : Pair → Bool) → Between wanted at target → SearchingAt nfa x at target (starts nfa x) [] so_far met []
@@ -215,7 +215,7 @@ module _ (nfa : Automaton) (x : Search) (old : List Bool) where
           rw (none, starts_from-end 0 from.state past) at (joined-search w target b) in
           Searching-done (space nfa x) target (Searching-load (space nfa x) target left)
 
-  -- behind the last position nothing is left
+  -- after the last position nothing is left
   pub FirstWay-end : IsAutomaton nfa → {from : Starts} {at before : ℕ} {met : Marks} {items : List (ℕ × Slots)}
       {new : List Bool} → size_of_set old ≡ 0
       → FirstWay from at before met items new → items ≡ [] → from.limit ≤ at
@@ -364,7 +364,7 @@ module _ (nfa : Automaton) (x : Search) (old : List Bool) where
               let never : false ≡ true = put.0 in cc
         ]
 
-    -- a match: what stands behind it is dropped, and no later start joins
+    -- a match: the states after it are dropped, and no later start joins
     pub FirstWay-cut : size_of_set old ≡ 0 → hit ≡ true
         → FirstWay (record from { limit = 0 }) (at + 1) before after kept new
     unfolding seeds

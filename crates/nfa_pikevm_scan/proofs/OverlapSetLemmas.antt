@@ -135,7 +135,7 @@ module _ (nfa : Automaton) (wanted : Pair → Bool) where
           ]
   Gathers-one false a k set t is room = rw t (refl, (k, is, refl))
 
-  -- where none is wanted in the first front, the first of both is that of the second
+  -- if none is wanted in the first front, the first of both is that of the second
   first-append : (f g : Front) → first_match wanted f ≡ None → first_match wanted (f ++ g) ≡ first_match wanted g
   first-append [] g none = refl
   first-append (a ∷ f) g none =
@@ -153,7 +153,7 @@ module _ (nfa : Automaton) (wanted : Pair → Bool) where
       of None h = refl
       of (Some a) h = let never : false ≡ true = h.0 in cc
 
-  -- one front behind another
+  -- one front after another
   pub Gathers-then : (past : Bool) (f g : Front) (old mid new : List Bool) (h k : Bool) → (past ≡ false → h ≡ false)
       → Gathers nfa past wanted f old h mid → Gathers nfa past wanted g mid k new
       → Gathers nfa past wanted (f ++ g) old (k || h) new

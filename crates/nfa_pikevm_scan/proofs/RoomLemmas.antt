@@ -1,4 +1,4 @@
--- How many states are at a position, where starts join them or are passed over.
+-- The number of states at a position, if starts join them or are skipped.
 use Rattle.std.proofs.Common.{◌≡◌, ℕ, ◌+◌, ◌<◌, ◌≤◌, inl, inr, List, [], ◌∷◌, ◌++◌, length, refl, ap, arith, Bool, length-append}
 use Rattle.std.specs.Prelude.{All}
 use Rattle.std.proofs.lemmas.Bool.{cases_lt, lt-ltb, le-ltb}
@@ -18,14 +18,14 @@ pub none_of : {A : Type 0} (xs : List A) → length xs ≡ 0 → xs ≡ []
 none_of [] e = refl
 none_of (x ∷ xs) e = absurd (omega arith)
 
--- the states at a position with one that starts, each one of so many
+-- the states at a position with one more start, each below `states`
 below-push : {states : ℕ} (width state : ℕ) (items : List (ℕ × Slots)) → state < states
     → All (λ i. i.0 < states) items → All (λ i. i.0 < states) (items ++ (state, blank width) ∷ [])
 below-push {states} width state items below all =
     All-push (λ (i : ℕ × Slots). i.0 < states) items (state, blank width) all below
 
 module _ (begins : Starts) (width at : ℕ) (items : List (ℕ × Slots)) where
-  -- the same where the start may still join
+  -- the same if the start may still join
   pub below-joined : {states : ℕ} → begins.state < states → All (λ i. i.0 < states) items
       → All (λ i. i.0 < states) (with_start begins width at items)
   below-joined below all =
@@ -43,7 +43,7 @@ module _ (begins : Starts) (width at : ℕ) (items : List (ℕ × Slots)) where
         | inr past ↦ rw (le-ltb at begins.limit past) (omega arith)
       ]
 
-  -- where none is there, none was, and no start is left
+  -- if there is none, there was none, and no start is left
   pub over-joined : with_start begins width at items ≡ [] → begins.limit ≤ at
   over-joined none =
       elim (cases_lt at begins.limit) [
@@ -57,7 +57,7 @@ module _ (begins : Starts) (width at : ℕ) (items : List (ℕ × Slots)) where
         | inr past ↦ past
       ]
 
--- the same where starts are passed over
+-- the same if starts are skipped
 module _ {table : List Bool} {x : Search} {begins : Starts} {limit width at : ℕ} {items : List (ℕ × Slots)} {to : ℕ}
     {kept : List (ℕ × Slots)} (j : Joins table x begins limit width at items to kept) where
   pub below-joins : {states : ℕ} → begins.state < states → All (λ i. i.0 < states) items
@@ -80,7 +80,7 @@ module _ {table : List Bool} {x : Search} {begins : Starts} {limit width at : �
         | inr past ↦ let le : at ≤ to = j.ahead in omega arith
       ]
 
--- where the start goes on from a position, as passing over goes up to `stop` at most
+-- the position at which the start goes on: starts are skipped up to `stop` at most
 
 pub skip-within : (at to stop end : ℕ) → (stop ≤ at → to ≡ at) → (at ≤ stop → to ≤ stop) → stop ≤ end
     → at ≤ end → to ≤ end

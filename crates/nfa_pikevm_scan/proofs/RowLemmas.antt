@@ -1,4 +1,4 @@
--- Rows and marks as they lie in memory.
+-- Rows and marks in memory.
 use Rattle.std.proofs.Common.{◌≡◌, ℕ, suc, zero, ◌+◌, ◌*◌, ◌<◌, ◌≤◌, ◌==◌, List, [], ◌∷◌, ◌++◌, length, get_or, set, take, drop, replicate, refl, ap, sym, ◌∙◌, arith, Bool, true, false}
 use Rattle.std.proofs.Common.{inl, inr, length-drop, length-set}
 use Rattle.std.specs.Prelude.{All, Option, None}
@@ -14,7 +14,7 @@ use Rattle.nfa_pikevm_scan.specs.Rows.{Active, items_of, marks_of}
 times-suc : (n width : ℕ) → suc n * width ≡ width + n * width
 times-suc n width = omega arith
 
--- a state that is pushed has the row that was written behind those of the others
+-- a state that is pushed has the row that was written after those of the others
 pub items_of-push : (width : ℕ) (states : List ℕ) (s n : ℕ) (cells after row : Slots) → n ≡ length states * width
     → length row ≡ width → n ≤ length cells
     → take (n + width) after ≡ take n cells ++ row
@@ -104,7 +104,7 @@ marks_of-other newest stamps k v b h is other =
     get_or-map (λ stamp. stamp == newest) stamps k v b h ∙ ap (λ s. s == newest) (sym is)
     ∙ elim (eqb_tells v newest) [ inl e ↦ absurd (other e.1) | inr e ↦ e.0 ]
 
--- the fields as what they stand for
+-- the fields as a value
 abbrev pub active_of : ℕ → List ℕ → Slots → ℕ → Active
 active_of width kept cells len = record {
   items = items_of width (take len kept) cells;

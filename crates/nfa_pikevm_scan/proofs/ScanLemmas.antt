@@ -23,8 +23,8 @@ use Rattle.nfa_pikevm_scan.specs.Scans.{blank, starts_from, half_found, AreAt, I
 use Rattle.nfa_pikevm_scan.proofs.TaskLemmas.{starts_from-end, AnswersFor, AnswersFor-round, Searching-for}
 use Rattle.nfa_pikevm_scan.proofs.FrontLemmas.{Formed-rests, Formed-next, Formed-below, Formed-over, SeenAt-none, Paid-few, Paid-next, IsPaidAt-cross}
 
--- What comes of the states at a position, with the start that joined, be it of a search or of a scan for a set: a
--- front, of which memory holds the moves. All that waits is followed where it `goes` on.
+-- The result of the states at a position, with the start that joined, for a search or for a scan for a set: a front,
+-- whose moves are in memory. All that is left is followed if it `goes` on.
 pub record Crossed (nfa : Automaton) (x : Search) (at width state limit : ℕ) (met : Marks) (items : List (ℕ × Slots))
     (goes : Type 0) (after : Marks) (kept : List (ℕ × Slots)) (front : Front) : Type 0 where
   pub added : kept ≡ moves (edges nfa x) front
@@ -66,7 +66,7 @@ module _ {nfa : Automaton} {x : Search} {at width state limit : ℕ} {met after 
     few = Paid-few nfa x met (length items) after (length kept) c.paid;
   }
 
-  -- the turns, where one start at most joined
+  -- the turns, if at most one start joined
   pub IsPaidAt-crossed : {before stood : ℕ} → x.start ≤ at → IsPaidAt nfa x at before met.turns stood
       → length items ≤ stood + 1 → IsPaidAt nfa x (at + 1) before after.turns (length kept)
   IsPaidAt-crossed {before} {stood} low paid one =
@@ -101,7 +101,7 @@ module _ (wanted : Pair → Bool) {nfa : Automaton} (sub : AreMatchPairs nfa wan
       c.leads.written
   front-search = c.leads.follows.leads wanted sub (starts nfa x) (blank width) so_far s
 
-  -- what stands before the first wanted pair goes on
+  -- the states before the first wanted pair go on
   goes-on : {other : Hit} {slots : Slots} (waiting : List Item)
       → SearchingAt nfa x at wanted (starts nfa x) (blank width) other after (before_match wanted front)
       (Load (blank width) ∷ waiting) slots

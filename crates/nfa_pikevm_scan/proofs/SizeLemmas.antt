@@ -7,7 +7,7 @@ use Rattle.thompson_nfa.specs.Automaton.{node_of}
 use Rattle.thompson_nfa.specs.declared.state.State.{State}
 use Rattle.nfa_pikevm_scan.specs.Needs.{room_of}
 
--- the frames of some states pass the greatest `usize`, and so do those of all
+-- if the frames of some states exceed the largest `usize`, so do those of all
 pub rooms-past : (states : List State) (i : ℕ) (item : State) (sum room : ℕ)
     → sum ≡ sum_by (λ s. room_of (node_of s)) (take i states) → item ≡ get_or states i item
     → room ≡ room_of (node_of item) → i < length states → ¬ (sum + room < 2 ^ 64)

@@ -18,7 +18,7 @@ copied-four (a ∷ b ∷ c ∷ d ∷ []) (e ∷ f ∷ g ∷ h ∷ []) w x y z si
     cc (is-w, is-x, is-y, is-z)
 copied-four to from w x y z size four is-w is-x is-y is-z = absurd (omega arith)
 
--- one slot more is handed out, of those that are left
+-- one more slot is copied, of those that are left
 pub handed-more : (row : Slots) (i left : ℕ) (x : Option ℕ) → i < length row → x ≡ get_or row i x
     → set (take i row ++ replicate (suc left) None) i x ≡ take (suc i) row ++ replicate left None
 handed-more [] i left x inside is = absurd (omega arith)

@@ -13,7 +13,7 @@ use Rattle.nfa_pikevm_scan.specs.Taking.{Takes}
 use Rattle.nfa_pikevm_scan.specs.Taking.Takes.{none, plain, taken, ends}
 
 module _ {V : Type 0} {nfa : Automaton} {takes : V → PatternID → Slots → Bool → V → Type 0} where
-  -- one front behind another
+  -- one front after another
   pub Takes-then : {front more : Front} {u v w : V} {ended : Bool} → Takes nfa takes front u false v
       → Takes nfa takes more v ended w → Takes nfa takes (front ++ more) u ended w
   Takes-then none t = t

@@ -14,7 +14,7 @@ use Rattle.nfa_pikevm_scan.specs.declared.scan.Starts.{Starts}
 
 -- how the start joins
 
--- a state behind the others
+-- a state after the others
 pub tasks-join : (at : ℕ) (items : List (ℕ × Slots)) (state : ℕ) (row : Slots) (work : List Item)
     → tasks at (items ++ (state, row) ∷ []) work ≡ tasks at items (Load row ∷ Explore (state, at) ∷ work)
 tasks-join at [] state row work = refl
@@ -41,7 +41,7 @@ tasks-joins width state at limit items less =
     ap (λ w. tasks at items (Load (blank width) ∷ w)) (starts_from-step width state less)
     ∙ sym (tasks-join at items state (blank width) (Load (blank width) ∷ starts_from width state (at + 1) limit))
 
--- where it does not, no start is left
+-- if it does not, no start is left
 pub tasks-alone : (width state at limit : ℕ) (items : List (ℕ × Slots)) → limit ≤ at
     → tasks at items (Load (blank width) ∷ starts_from width state at limit)
     ≡ tasks at items (Load (blank width) ∷ starts_from width state (at + 1) limit)
@@ -155,7 +155,7 @@ module _ (space : Space) (target : Pair → Bool) where
     leads = s.leads;
   }
 
-  -- a search begins, where some turns were taken before
+  -- a search begins after some turns
   pub Searching-begin : (Seen : Pair → Type 0) (spent : ℕ) (otherwise : Hit) (starts : List Pair)
       (slots current : Slots) → ((v : Pair) → Seen v → ⊥)
       → Searching space target (λ g total. ExploresTo space target total otherwise [] (map Explore starts)

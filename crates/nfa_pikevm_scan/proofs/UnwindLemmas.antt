@@ -1,4 +1,4 @@
--- Taking up what was put off.
+-- Applying frames of the stack.
 use Rattle.std.proofs.Common.{◌≡◌, ℕ, ◌+◌, ◌-◌, ◌<◌, ◌≤◌, List, [], ◌∷◌, ◌++◌, length, take, refl, ap, sym, ◌∙◌, arith, get_or}
 use Rattle.std.specs.Prelude.{Option, Some, All}
 use Rattle.std.specs.List.{sum_by}
@@ -36,7 +36,7 @@ work_onto-push at [] f work = refl
 work_onto-push at (g ∷ fs) f work = work_onto-push at fs f (work_item_of at g ∷ work)
 
 module _ (nfa : Automaton) (x : Search) (at : ℕ) (met : Marks) (front : Front) where
-  -- a frame that is taken up
+  -- a frame that is applied
   Follows-undone : (work : List Item) (f : FollowEpsilon) (slots : Slots)
       → Follows nfa x at met front (work_item_of at f ∷ work) slots met front (with_state at (state_of f) work)
       (undone f slots)

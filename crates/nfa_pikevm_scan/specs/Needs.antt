@@ -1,4 +1,4 @@
--- What a search needs: room on its stack, and scans.
+-- What a search needs: frames and scans.
 use Rattle.std.specs.Prelude.{ℕ, ◌-◌, Bool, List, max, length, nat_lt, if◌then◌else◌}
 use Rattle.std.specs.List.{sum_by}
 use Rattle.regex_search_core.specs.PatternSets.{size_of_set}
@@ -7,7 +7,7 @@ use Rattle.regex_search_core.specs.declared.search.MatchKind.TheVariants.{All as
 use Rattle.thompson_nfa.specs.Automaton.{Automaton, Node}
 use Rattle.thompson_nfa.specs.Automaton.Node.{ByteRange, Sparse, Dense, Look, Union, BinaryUnion, Capture, Fail, Match}
 
--- how many frames a state pushes at most, beside the state that it goes on with
+-- the most frames that a state pushes, besides the state that it goes on with
 abbrev pub room_of : Node → ℕ
 room_of (ByteRange trans) = 0
 room_of (Sparse transitions) = 0
@@ -19,12 +19,11 @@ room_of (Capture next slot) = 1
 room_of Fail = 0
 room_of (Match pattern) = 0
 
--- how many places the stack of a search needs: those of all states together, and at least one
+-- the frames that the stack of a search needs: those of all states together, and at least one
 abbrev pub stack_places : Automaton → ℕ
 stack_places nfa = max (sum_by room_of nfa.states) 1
 
--- How many scans a search for the patterns of all matches makes: one, or none where the first match alone is meant and
--- the set holds a pattern.
+-- The scans of a search for the patterns of all matches: one, or none under leftmost first if the set holds a pattern.
 abbrev pub overlap_scans : MatchKind → List Bool → ℕ
 overlap_scans AllMatches set = 1
 overlap_scans LeftmostFirst set = if nat_lt 0 (size_of_set set) then 0 else 1

@@ -1,4 +1,4 @@
--- What a PikeVM puts into a set of patterns, at each position and in all.
+-- What a PikeVM adds to a set of patterns, at each position and in all.
 use Rattle.std.specs.Prelude.{◌≡◌, ◌↔◌, ◌⊎◌, ℕ, ◌<◌, ◌==◌, ◌&&◌, ◌||◌, not, Bool, true, false, List, [], ◌∷◌, Option, None, Some, length, All, slice_index, nat_lt, nat_le}
 use Rattle.regex_search_core.specs.PatternSets.{with_pattern}
 use Rattle.regex_search_core.specs.Search.{Search}
@@ -12,7 +12,7 @@ use Rattle.nfa_paths.specs.Overlaps.{HoldsPattern, pattern_at}
 use Rattle.nfa_scanning.specs.Marks.{Marks}
 use Rattle.nfa_pikevm_scan.specs.States.{Front, moves, tasks, unmarked, Formed, Paid, Leads}
 
--- whether the position is a boundary of characters
+-- whether the position does not split a codepoint
 abbrev pub is_boundary : List ℕ → ℕ → Bool
 is_boundary haystack i =
     (i == length haystack) || (nat_lt i (length haystack) &&
@@ -27,12 +27,11 @@ abbrev pub is_below : ℕ → Option ℕ → Bool
 is_below n None = false
 is_below n (Some k) = nat_lt k n
 
--- whether the pair is a match that may end where it does, of a pattern that a set of this capacity has room for
+-- whether the pair is a match that may end at its position, of a pattern that a set of this capacity has room for
 unfoldable pub wants : Automaton → Search → ℕ → Pair → Bool
 wants nfa x capacity v = permits nfa x v.1 && is_below capacity (pattern_at nfa v)
 
--- Each pattern below the capacity of which the front holds a wanted pair is put into the set, and it is told whether
--- there is one.
+-- The set gains each pattern below the capacity for which the front has a wanted pair. `met` says whether there is one.
 pub record GathersAll (nfa : Automaton) (wanted : Pair → Bool) (front : Front) (old : List Bool) (met : Bool)
     (new : List Bool) : Type 0 where
   pub capacity : length new ≡ length old
@@ -41,24 +40,24 @@ pub record GathersAll (nfa : Automaton) (wanted : Pair → Bool) (front : Front)
   pub some : met ≡ true → (k : ℕ) × (k < length old) × HoldsMatch wanted (pattern_at nfa) k front
   pub none : met ≡ false → (k : ℕ) → k < length old → HoldsMatch wanted (pattern_at nfa) k front → ⊥
 
--- the pattern of the first wanted pair is put into the set, if there is one
+-- the set gains the pattern of the first wanted pair, if there is one
 abbrev pub GathersFirst : Automaton → Hit → List Bool → Bool → List Bool → Type 0
 GathersFirst nfa None old met new = (met ≡ false) × (new ≡ old)
 GathersFirst nfa (Some a) old met new = (met ≡ true)
     × ((k : ℕ) × (pattern_at nfa a.0 ≡ Some k) × (new ≡ with_pattern old k))
 
--- what is put into the set at a position: with `past` of all wanted pairs, else of the first one
+-- what the set gains at a position: the patterns of all wanted pairs with `past`, otherwise that of the first one
 abbrev pub Gathers : Automaton → Bool → (Pair → Bool) → Front → List Bool → Bool → List Bool → Type 0
 Gathers nfa true wanted front old met new = GathersAll nfa wanted front old met new
 Gathers nfa false wanted front old met new = GathersFirst nfa (first_match wanted front) old met new
 
--- all that waits is followed: past matches always, else where there is none
+-- all that is left is followed: always with `past`, otherwise if there is no match
 abbrev pub GoesPast : Bool → Bool → Type 0
 GoesPast past met = (past ≡ true) ⊎ (met ≡ false)
 
 module _ (nfa : Automaton) (x : Search) where
-  -- Of a set of capacity n: what comes of all states at a position, where none was marked before, which have rows of no
-  -- slots: a front, which memory holds the moves of, and what of it is put into the set.
+  -- For a set of capacity n: the result of following all states at a position, with no marks before and rows of no
+  -- slots. It is a front whose moves are in memory, and what the set gains from it.
   pub record CrossesInSet (at : ℕ) (past : Bool) (n : ℕ) (met : Marks) (items : List (ℕ × Slots)) (set : List Bool)
       (hit : Bool) (after : Marks) (kept : List (ℕ × Slots)) (gathered : List Bool) : Type 0 where
     pub front : Front

@@ -1,4 +1,4 @@
--- What the scans and the search of a PikeVM come to, over the theory of paths.
+-- The results of the scans and the search of a PikeVM, in terms of the theory of paths.
 use Rattle.std.specs.Prelude.{◌≡◌, ◌⊎◌, ℕ, ◌++◌, ◌+◌, ◌-◌, ◌*◌, ◌<◌, ◌≤◌, Bool, List, [], ◌∷◌, Option, None, Some, length, replicate, nat_lt, if◌then◌else◌, All}
 use Rattle.regex_search_core.specs.Found.{HalfFound, half_found_of}
 use Rattle.regex_search_core.specs.Search.{Search}
@@ -21,19 +21,18 @@ use Rattle.nfa_pikevm_scan.specs.States.{tasks, unmarked, SeenAt, SearchingAt}
 abbrev pub blank : ℕ → Slots
 blank width = replicate width None
 
--- the starts from a position on, below the limit, each with the slots to load behind it
+-- the starts from a position on, below the limit, each with the slots to load after it
 abbrev pub starts_from : ℕ → ℕ → ℕ → ℕ → List Item
 starts_from width start at limit = seeds (blank width) (pairs_from start at (limit - at))
 
--- for how many states there are marks, for how many there is room in each of the two sets, the cells of the rows of
--- each, and the frames
+-- the number of states with a mark; the room of each of the two sets, in states and in cells of rows; and the frames
 pub record Sizes : Type 0 where
   pub states : ℕ
   pub places : ℕ
   pub cells : ℕ
   pub frames : ℕ
 
--- the sizes of the threads, whose two sets are alike
+-- the sizes of the threads, whose two sets have equal sizes
 abbrev pub sizes_of : Threads → Sizes
 sizes_of t = record {
   states = length t.reached.seen.bits;
@@ -42,7 +41,7 @@ sizes_of t = record {
   frames = length t.frames.items;
 }
 
--- There is room for all states of the NFA, and for one more that starts, with rows of this width.
+-- There is room for all states of the NFA, and for one more start, with rows of this width.
 pub record Serves (nfa : Automaton) (width : ℕ) (size : Sizes) : Type 0 where
   pub marks : length nfa.states ≤ size.states
   pub places : length nfa.states < size.places
@@ -58,11 +57,11 @@ pub record HaveRows (nfa : Automaton) (width : ℕ) (t : Threads) : Type 0 where
   pub room : HaveRoom nfa width t
   pub width_is : t.curr.width ≡ width
 
--- the threads have the sizes that they had
+-- the sizes of the threads did not change
 abbrev pub SameSizes : Threads → Threads → Type 0
 SameSizes old new = sizes_of new ≡ sizes_of old
 
--- the scan's starts, and which of them may be passed over; and each state leads to states of the NFA
+-- the starts of the scan, and those that may be skipped; and each state leads to states of the NFA
 pub record AreStarts (nfa : Automaton) (x : Search) (starts_at : Starts) : Type 0 where
   pub state : starts_at.state < length nfa.states
   pub leads : All (LeadsBelow (length nfa.states)) nfa.states
@@ -73,7 +72,8 @@ pub record AreStarts (nfa : Automaton) (x : Search) (starts_at : Starts) : Type 
   pub before : starts_at.stop < starts_at.limit
   pub skips : x.start < starts_at.stop → starts_at.state ≡ nfa.anchored
 
--- A scan may begin: the starts are its own, the span is one, and there is room for rows of this width, and no state.
+-- A scan may begin: the starts are its own, the span does not start after its end, there is room for rows of this
+-- width, and there are no states.
 pub record MayScan (nfa : Automaton) (x : Search) (starts_at : Starts) (width : ℕ) (t : Threads) : Type 0 where
   pub starts : AreStarts nfa x starts_at
   pub span : x.start ≤ x.end
@@ -81,7 +81,7 @@ pub record MayScan (nfa : Automaton) (x : Search) (starts_at : Starts) (width : 
   pub curr : t.curr.items ≡ []
   pub next : t.reached.next.items ≡ []
 
--- the states at a position with the start behind them, where it may still join
+-- the states at a position with the start after them, if it may still join
 abbrev pub with_start : Starts → ℕ → ℕ → List (ℕ × Slots) → List (ℕ × Slots)
 with_start starts_at width at items = if nat_lt at starts_at.limit then items ++ (starts_at.state, blank width)
     ∷ [] else items
@@ -90,12 +90,12 @@ with_start starts_at width at items = if nat_lt at starts_at.limit then items ++
 abbrev pub half_found : ℕ → ℕ → HalfFound
 half_found pattern at = record { pattern = pattern; offset = at }
 
--- the position may be passed over: no match begins with its byte
+-- the position may be skipped: no match begins with its byte
 abbrev pub IsPassed : List Bool → Search → Starts → ℕ → Type 0
 IsPassed table x starts_at k = (k < starts_at.stop) × IsRefused table x k
 
--- The position that a scan goes on at, where the start has joined the states, or no match begins there. While starts
--- are left some state is there. A start that may be passed over does not join.
+-- The position that a scan goes on at: the start has joined the states there, or no match begins there. While starts
+-- are left, some state is there. A start that may be skipped does not join.
 pub record Joins (table : List Bool) (x : Search) (starts_at : Starts) (limit width at : ℕ) (items : List (ℕ × Slots))
     (to : ℕ) (now : List (ℕ × Slots)) : Type 0 where
   pub ahead : at ≤ to
@@ -107,13 +107,13 @@ pub record Joins (table : List Bool) (x : Search) (starts_at : Starts) (limit wi
   pub last : ((to < limit) × (now ≡ items ++ (starts_at.state, blank width) ∷ []))
       ⊎ ((now ≡ items) × ((limit ≤ to) ⊎ IsPassed table x starts_at to))
 
--- The states at a position: each is one of the NFA's, and they are no more than it has.
+-- The states at a position: each is a state of the NFA, and there are no more than the NFA has.
 pub record AreAt (nfa : Automaton) (items : List (ℕ × Slots)) : Type 0 where
   pub states : All (λ i. i.0 < length nfa.states) items
   pub few : length items ≤ length nfa.states
 
 module _ (nfa : Automaton) (x : Search) where
-  -- the match that was found so far, and where it ends: none, and no slot set; or one, and its slots
+  -- the match that was found so far, and its end: none, and no slot set; or one, and its slots
   abbrev pub IsSoFar : Option HalfMatch → Slots → Hit → Type 0
   IsSoFar None slots g = (g ≡ None) × (slots ≡ blank (length slots))
   IsSoFar (Some half) slots g =
@@ -124,7 +124,7 @@ module _ (nfa : Automaton) (x : Search) where
   abbrev pub IsWithinTurns : Threads → Threads → Type 0
   IsWithinTurns old new = new.reached.seen.turns ≤ old.reached.seen.turns + scan_turns nfa x
 
-  -- The turns so far and the states at the position are within the starts and the positions before it.
+  -- The starts and the positions before it pay for the turns so far and the states at the position.
   pub record IsPaidAt (at before : ℕ) (turns items : ℕ) : Type 0 where
     pub bound : turns + items ≤ before + (at - x.start) * (1 + turn_weight nfa)
 

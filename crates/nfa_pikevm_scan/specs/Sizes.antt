@@ -1,4 +1,4 @@
--- How much the parts of a cache hold, and how much an engine asks for.
+-- The sizes of the parts of a cache, and the sizes that an engine needs.
 use Rattle.std.specs.Prelude.{◌≡◌, ◌⊎◌, ℕ, ◌+◌, ◌*◌, ◌^◌, ◌<◌, ◌≤◌, length}
 use Rattle.regex_search_core.specs.Groups.{slot_count}
 use Rattle.thompson_nfa.specs.Automaton.{Automaton}
@@ -7,8 +7,8 @@ use Rattle.nfa_pikevm_scan.specs.Scans.{Sizes, sizes_of}
 use Rattle.nfa_pikevm_scan.specs.declared.scratch.Threads.{Threads}
 use Rattle.nfa_pikevm_scan.specs.declared.sizes.Size.{Size}
 
--- the sizes for so many states and slots, and such a stack: in each set a place more than states, with a row of all
--- slots
+-- the sizes for these numbers of states, slots and frames: each set has one place more than states, and a row of all
+-- slots for each place
 abbrev pub sizes_for : ℕ → ℕ → ℕ → Sizes
 sizes_for states slots frames = record {
   states = states;
@@ -17,20 +17,20 @@ sizes_for states slots frames = record {
   frames = frames;
 }
 
--- The threads of a cache have the sizes for its states and frames, and for so many slots, and a `usize` says how much
--- that is. `found` is the length of the row that a search fills.
+-- The threads of a cache have the sizes for its states and frames, and for this number of slots, and these sizes fit a
+-- `usize`. `found` is the length of the row that a search fills.
 pub record IsRoomFor (slots : ℕ) (t : Threads) (found : ℕ) : Type 0 where
   pub sized : sizes_of t ≡ sizes_for (length t.reached.seen.bits) slots (length t.frames.items)
   pub row : found ≡ slots
   pub places : t.curr.places < 2 ^ 64
   pub cells : t.curr.cells < 2 ^ 64
 
--- The size tells the places and the cells of a set.
+-- The size gives the places and the cells of a set.
 pub record IsSize (size : Size) : Type 0 where
   pub places : size.places ≡ size.states + 1
   pub cells : size.cells ≡ size.places * size.slots
 
--- The threads, and a row of `found` slots, are at least as large.
+-- The threads, and a row of `found` slots, are at least this large.
 pub record Holds (size : Size) (t : Threads) (found : ℕ) : Type 0 where
   pub states : size.states ≤ length t.reached.seen.bits
   pub places : size.places ≤ t.curr.places
@@ -45,7 +45,7 @@ pub record IsSizeOf (nfa : Automaton) (size : Size) : Type 0 where
   pub frames : size.frames ≡ stack_places nfa
   pub is_size : IsSize size
 
--- No `usize` says how much that is: the places of a set, the cells of its rows or the places of the stack are too many.
+-- The sizes do not fit a `usize`: the places of a set, the cells of its rows or the frames of the stack are too many.
 abbrev pub IsTooLarge : Automaton → Type 0
 IsTooLarge nfa =
     (2 ^ 64 ≤ length nfa.states + 1) ⊎ ((2 ^ 64 ≤ (length nfa.states + 1) * slot_count nfa.groups)

@@ -1,5 +1,5 @@
 -- What a PikeVM keeps at a position, in the words of its proof: its marks as pairs that were seen, its stack as work
--- that is left, what it keeps for the next position as a front.
+-- that is left, the states that it keeps for the next position as a front.
 use Rattle.std.specs.Prelude.{◌≡◌, ◌⊎◌, ℕ, ◌+◌, ◌<◌, ◌≤◌, Bool, true, false, List, [], ◌∷◌, ◌++◌, Option, None, Some, cond, length, map, replicate, All, slice_index_or, slice_set}
 use Rattle.std.specs.List.{sum_by}
 use Rattle.regex_search_core.specs.Search.{Search, search_of}
@@ -21,8 +21,8 @@ use Rattle.nfa_pikevm_scan.specs.declared.closure.Reached.{Reached}
 use Rattle.nfa_pikevm_scan.specs.declared.frame.FollowEpsilon.{FollowEpsilon}
 use Rattle.nfa_pikevm_scan.specs.declared.frame.FollowEpsilon.TheVariants.{Explore, Restore}
 
--- The resting pairs that were reached at a position, in order, each with its slots. Of each that a byte leads on from
--- only the state that it leads to is kept in memory; matches and pairs that lead nowhere are not.
+-- The resting pairs that were reached at a position, in order, each with its slots. If a byte leads on from a pair,
+-- only the state that it leads to is kept in memory. Matches and pairs that lead nowhere are not kept.
 abbrev pub Front : Type 0
 Front = List (Pair × Slots)
 
@@ -31,7 +31,7 @@ abbrev pub moves : (Pair → List Pair) → Front → List (ℕ × Slots)
 moves edges [] = []
 moves edges (a ∷ front) = map (λ v. (v.0, a.1)) (edges a.0) ++ moves edges front
 
--- the states to follow at the position, each with its slots, above what waits
+-- the states to follow at the position, each with its slots, on top of what is left
 abbrev pub tasks : ℕ → List (ℕ × Slots) → List Item → List Item
 tasks at [] waiting = waiting
 tasks at (i ∷ items) waiting = ToLoad i.1 ∷ ToExplore (i.0, at) ∷ tasks at items waiting
@@ -41,11 +41,11 @@ pub record SeenAt (at : ℕ) (bits : List Bool) (v : Pair) : Type 0 where
   pub here : v.1 ≡ at
   pub set : slice_index_or bits v.0 false ≡ true
 
--- as many marks, none of them set
+-- the same number of marks, with none set
 abbrev pub unmarked : Marks → Marks
 unmarked met = record met { bits = replicate (length met.bits) false }
 
--- what is left to do at the position, for a frame
+-- the work that a frame leaves at the position
 abbrev pub work_item_of : ℕ → FollowEpsilon → Item
 work_item_of at (Explore sid) = ToExplore (sid, at)
 work_item_of at (Restore slot old) = ToRestore slot old
@@ -66,17 +66,17 @@ state_on (On sid) = Some sid
 state_on (Matched pattern) = None
 state_on Over = None
 
--- the turns that a frame waits to take
+-- the turns that a frame still has to take
 abbrev pub tries : FollowEpsilon → ℕ
 tries (Explore sid) = 1
 tries (Restore slot old) = 0
 
--- the turn that a state to follow waits to take
+-- the turns that a state to follow still has to take
 abbrev pub tries_of : Option ℕ → ℕ
 tries_of None = 0
 tries_of (Some s) = 1
 
--- the slots when a frame is taken up
+-- the slots after a frame is applied
 abbrev pub undone : FollowEpsilon → Slots → Slots
 undone (Explore sid) slots = slots
 undone (Restore slot old) slots = slice_set slots slot old
@@ -86,17 +86,17 @@ abbrev pub state_of : FollowEpsilon → Option ℕ
 state_of (Explore sid) = Some sid
 state_of (Restore slot old) = None
 
--- a frame follows one of so many states, or writes one of so many slots
+-- a frame follows a state below `states`, or writes a slot below `count`
 abbrev pub IsWithin : ℕ → ℕ → FollowEpsilon → Type 0
 IsWithin states count (Explore sid) = sid < states
 IsWithin states count (Restore slot old) = slot < count
 
--- a frame that writes a slot writes one of so many
+-- if a frame writes a slot, its number is below `count`
 abbrev pub HasSlot : ℕ → FollowEpsilon → Type 0
 HasSlot count (Explore sid) = Unit {0}
 HasSlot count (Restore slot old) = slot < count
 
--- the state, if there is one, is one of so many
+-- the state, if there is one, is below `states`
 abbrev pub IsBelow : ℕ → Option ℕ → Type 0
 IsBelow states None = Unit {0}
 IsBelow states (Some s) = s < states
@@ -109,28 +109,27 @@ AreMatchPairs nfa target = (v : Pair) → target v ≡ true → is_match nfa v �
 abbrev pub one_of : Node → ℕ
 one_of node = 1
 
--- the match of a front that is meant: the first one, or with `past` the last
+-- the match of a front that is meant: the first one, or the last with `past`
 abbrev pub meant : Bool → (Pair → Bool) → Front → Hit
 meant past is_match front = cond past (last_match is_match None front) (first_match is_match front)
 
--- what comes of a position: no match, and the slots as before; or a match of the pattern, and its slots
+-- the result of a position: no match, and the slots as before; or a match of the pattern, and its slots
 abbrev pub IsHit : Automaton → Hit → Slots → Option PatternID → Slots → Type 0
 IsHit nfa g before None after = (g ≡ None) × (after ≡ before)
 IsHit nfa g before (Some pattern) after = (v : Pair) × (g ≡ Some (v, after))
     × (pattern_of (node_at nfa v.0) ≡ Some (number_of pattern))
 
--- the front ends with this match, and holds no other; or it holds none
+-- the front ends with this match and has no other; or it has none
 abbrev pub EndsInMatch : Automaton → ℕ → Slots → Option PatternID → Front → Type 0
 EndsInMatch nfa at slots None front = NoMatch (is_match nfa) front
 EndsInMatch nfa at slots (Some pattern) front = (before : Front) × (s : ℕ) × NoMatch (is_match nfa) before
     × (front ≡ before ++ ((s, at), slots) ∷ []) × (pattern_of (node_at nfa s) ≡ Some (number_of pattern))
 
--- all that waits is followed: past matches always, else where there is none
+-- all that is left is followed: always with `past`, otherwise if there is no match
 abbrev pub GoesOn : Bool → Option PatternID → Type 0
 GoesOn past hit = (past ≡ true) ⊎ (hit ≡ None)
 
--- Each pair of the front is of one of the NFA's states, stands at the position, rests, is marked, and stands there
--- once.
+-- Each pair of the front has a state of the NFA and this position, rests, is marked, and occurs once.
 pub record Formed (nfa : Automaton) (at : ℕ) (bits : List Bool) (front : Front) : Type 0 where
   pub here : All (λ a. a.0.1 ≡ at) front
   pub states : All (λ a. a.0.0 < length nfa.states) front
@@ -138,14 +137,14 @@ pub record Formed (nfa : Automaton) (at : ℕ) (bits : List Bool) (front : Front
   pub marked : All (λ a. slice_index_or bits a.0.0 false ≡ true) front
   pub once : NoRepeats (map (λ a. a.0) front)
 
--- There is a mark for each state, and there is room for the frames and the states that may still come.
+-- There is a mark for each state, and room for the frames and the states that may still come.
 pub record HasRoom (nfa : Automaton) (bits : List Bool) (top frames kept places : ℕ) : Type 0 where
   pub marks : length nfa.states ≤ length bits
   pub frames_fit : top + sum_by room_of nfa.states ≤ frames + marked_sum (map room_of nfa.states) bits
   pub states_fit : kept + length nfa.states ≤ places + marked_sum (map one_of nfa.states) bits
 
--- From one moment to a later one: what came in turns and what waits is paid for by what was marked, and so are frames
--- and kept states.
+-- From one moment to a later one: the marks pay for the turns and for what is left to take, for the frames, and for the
+-- kept states.
 pub record Paid (nfa : Automaton) (met : Marks) (kept : ℕ) (stack : List FollowEpsilon) (hand : ℕ)
     (after : Marks) (more : ℕ) (above : List FollowEpsilon) (left : ℕ) : Type 0 where
   pub tried : after.turns + left + sum_by tries above + more + marked_sum (map degree nfa.states) met.bits
@@ -155,18 +154,18 @@ pub record Paid (nfa : Automaton) (met : Marks) (kept : ℕ) (stack : List Follo
   pub entered : more + marked_sum (map one_of nfa.states) met.bits ≤ kept
       + marked_sum (map one_of nfa.states) after.bits
 
--- The position is in the span or at its end, and the byte is the one there.
+-- The position is in the span or at its end, and the byte is the one at the position.
 pub record IsHere (here : Here) : Type 0 where
   pub place : here.at ≤ (search_of here.input.now).end
   pub byte : here.byte ≡ byte_at (search_of here.input.now) here.at
 
--- There are as many marks, and of what is kept for the next position only the states change.
+-- The number of marks is the same, and only the states of what is kept for the next position change.
 pub record KeepsRoom (old new : Reached) : Type 0 where
   pub size : length new.seen.bits ≡ length old.seen.bits
   pub same : new.next ≡ record old.next { items = new.next.items }
 
 module _ (nfa : Automaton) (x : Search) where
-  -- the search for a set of match pairs, from these starts and with these slots, with such states met and such a front
+  -- the search for a set of match pairs, from these starts and with these slots, with these states met and this front
   -- at position `at`
   abbrev pub SearchingAt : ℕ → (Pair → Bool) → List Pair → Slots → Hit → Marks → Front → List Item → Slots → Type 0
   SearchingAt at target starts entry otherwise met front work slots =
@@ -174,7 +173,7 @@ module _ (nfa : Automaton) (x : Search) where
       (λ g total. ExploresTo (space nfa x) target total None [] (map ToExplore starts) entry g)
       (SeenAt at met.bits) met.turns front otherwise work slots
 
-  -- The search for any set of match pairs goes on from the state after as it did from the state before.
+  -- The search for any set of match pairs goes on from the state after as from the state before.
   pub record Follows (at : ℕ) (met : Marks) (front : Front) (work : List Item) (slots : Slots)
       (after : Marks) (more : Front) (rest : List Item) (written : Slots) : Type 0 where
     pub leads : (target : Pair → Bool) → AreMatchPairs nfa target
@@ -189,8 +188,8 @@ module _ (nfa : Automaton) (x : Search) where
       × (pattern_of (node_at nfa v.0) ≡ Some (number_of pattern))
   IsMet v slots Over front = NoMatch (is_match nfa) front
 
-  -- What comes of a turn that tries to enter the state: it adds a front, which memory holds the moves of, and leaves
-  -- its work to do. What is left below the stack begins by loading slots.
+  -- The result of a turn that tries to enter the state: it adds a front, whose moves are in memory, and leaves its
+  -- work. What is left below the stack begins by loading slots.
   pub record Enters (at s : ℕ) (met : Marks) (items : List (ℕ × Slots)) (stack : List FollowEpsilon) (slots : Slots)
       (turn : Move) (after : Marks) (kept : List (ℕ × Slots)) (above : List FollowEpsilon)
       (written : Slots) : Type 0 where
@@ -202,8 +201,8 @@ module _ (nfa : Automaton) (x : Search) where
         → Follows at met before (ToExplore (s, at) ∷ work_onto at stack (ToLoad old ∷ work)) slots
         after (before ++ front) (with_state at (state_on turn) (work_onto at above (ToLoad old ∷ work))) written
 
-  -- What comes of turns from a state on up to the next match, if there is one: the front that they add, which ends with
-  -- it, and what is left on the stack.
+  -- The result of turns from a state on up to the next match, if there is one: the front that they add, which ends with
+  -- the match, and what is left on the stack.
   pub record FindsMatch (at s : ℕ) (met : Marks) (items : List (ℕ × Slots)) (stack : List FollowEpsilon) (slots : Slots)
       (hit : Option PatternID) (after : Marks) (kept : List (ℕ × Slots)) (above : List FollowEpsilon)
       (written : Slots) : Type 0 where
@@ -215,7 +214,7 @@ module _ (nfa : Automaton) (x : Search) where
         → Follows at met before (ToExplore (s, at) ∷ work_onto at stack (ToLoad old ∷ work)) slots
         after (before ++ front) (work_onto at above (ToLoad old ∷ work)) written
 
-  -- The search goes on to a front and some work, which is `rest` where it `goes_on` to the end of its work.
+  -- The search goes on to a front and some work. The work is `rest` if the search `goes_on` to the end of its work.
   pub record Leads (at : ℕ) (met : Marks) (before : Front) (work : List Item) (slots : Slots) (goes_on : Type 0)
       (after : Marks) (front : Front) (rest : List Item) : Type 0 where
     pub left : List Item
@@ -223,8 +222,8 @@ module _ (nfa : Automaton) (x : Search) where
     pub follows : Follows at met before work slots after front left written
     pub whole : goes_on → left ≡ rest
 
-  -- What comes of all states at a position, where none was marked before: a front, which memory holds the moves of, and
-  -- the match of it that is meant. Without `past` nothing is kept behind the first match.
+  -- The result of all states at a position, with no marks before: a front, whose moves are in memory, and the match of
+  -- it that is meant. Without `past` nothing after the first match is kept.
   pub record Crosses (at : ℕ) (past : Bool) (met : Marks) (items : List (ℕ × Slots)) (slots : Slots)
       (hit : Option PatternID) (after : Marks) (kept : List (ℕ × Slots)) (written : Slots) : Type 0 where
     pub front : Front
@@ -237,9 +236,9 @@ module _ (nfa : Automaton) (x : Search) where
         → Leads at (unmarked met) [] (tasks at items (ToLoad old ∷ waiting)) current (GoesOn past hit) after front
         (ToLoad old ∷ waiting)
 
--- The same of what is reached from where a scan stands.
+-- The same, for what is reached from the place of a scan.
 
--- There is room, though no more places of the stack are taken than the NFA needs.
+-- There is room, and no more of the stack is used than the NFA needs.
 pub record HasRoomHere (here : Here) (old : Reached) (top frames : ℕ) : Type 0 where
   pub room : HasRoom here.nfa.now old.seen.bits top (stack_places here.nfa.now) (length old.next.items) old.next.places
   pub stack : stack_places here.nfa.now ≤ frames

@@ -1,4 +1,4 @@
--- What takes the matches that a position comes to, and what becomes of it.
+-- How takers take the matches of a position, and what they become.
 use Rattle.std.specs.Prelude.{◌≡◌, ℕ, Bool, true, false, not, ◌&&◌, ◌||◌, nat_lt, List, [], ◌∷◌, ◌++◌, Some, length}
 use Rattle.regex_search_core.specs.Search.{Search}
 use Rattle.regex_search_core.specs.Patterns.{number_of}
@@ -25,7 +25,7 @@ pub record TakesRow (old : LastRow) (pattern : PatternID) (row : Slots) (ended :
 abbrev pub counts : Gatherer → PatternID → Bool
 counts s pattern = s.permitted && nat_lt (number_of pattern) (length s.patterns.now)
 
--- the pattern of a match that counts is put into the set, and without `past_match` the position ends
+-- the set gains the pattern of a match that counts, and without `past_match` the position ends
 pub record TakesPattern (old : Gatherer) (pattern : PatternID) (row : Slots) (ended : Bool) (new : Gatherer) : Type 0
   where
     pub other : counts old pattern ≡ false → new.patterns.now ≡ old.patterns.now
@@ -35,7 +35,7 @@ pub record TakesPattern (old : Gatherer) (pattern : PatternID) (row : Slots) (en
     pub past : new.past_match ≡ old.past_match
     pub ends : ended ≡ (counts old pattern && not old.past_match)
 
--- All matches of a front are taken, in order. One that ends the position is the last pair of the front.
+-- All matches of a front are taken, in order. A match that ends the position is the last pair of the front.
 pub data Takes {V : Type 0} (nfa : Automaton) (takes : V → PatternID → Slots → Bool → V → Type 0)
     : Front → V → Bool → V → Type 0 where
   none : {v : V} → Takes nfa takes [] v false v
@@ -49,8 +49,8 @@ pub data Takes {V : Type 0} (nfa : Automaton) (takes : V → PatternID → Slots
       → Takes nfa takes (a ∷ []) v true w
 
 module _ (nfa : Automaton) (x : Search) {V : Type 0} (takes : V → PatternID → Slots → Bool → V → Type 0) where
-  -- What comes of a state that is followed with a row of slots, up to the position's next byte: a front, which memory
-  -- holds the moves of, and of which the matches were taken.
+  -- The result of following a state with a slot row, up to the position's next byte: a front, whose moves are in memory
+  -- and whose matches were taken.
   pub record Arrives (at s : ℕ) (met : Marks) (items : List (ℕ × Slots)) (row : Slots) (old : V) (ended : Bool)
       (after : Marks) (kept : List (ℕ × Slots)) (new : V) : Type 0 where
     pub front : Front
@@ -62,7 +62,7 @@ module _ (nfa : Automaton) (x : Search) {V : Type 0} (takes : V → PatternID �
         → Leads nfa x at met before (ToExplore (s, at) ∷ ToLoad old ∷ work) row (ended ≡ false) after
         (before ++ front) (ToLoad old ∷ work)
 
-  -- The same of all states at a position, where none was marked before.
+  -- The same for all states at a position, with no marks before.
   pub record ArriveAll (at : ℕ) (met : Marks) (items : List (ℕ × Slots)) (old : V)
       (after : Marks) (kept : List (ℕ × Slots)) (new : V) : Type 0 where
     pub front : Front

@@ -1,4 +1,4 @@
-//! The states that are followed at a position, in order, each with a row of slots.
+//! The states that are followed at a position, in order, each with its slot row.
 ghost use Rattle.std.specs.Prelude.{◌≡◌, ◌+◌, ◌*◌, ◌<◌, ◌≤◌, [], ◌∷◌, ◌++◌, None, length, take, replicate, IfOk, IsTrue, ◌↔◌};
 
 use crate::slot::{Slot, copy_row, unset_row};
@@ -6,24 +6,24 @@ use regex_search_core::{Refused, StateID};
 use std::alloc::Global;
 use std::marker::Model;
 
-/// The states that are kept at a position, in order of preference, each with a row of slots. A contract sees them as a
-/// list of states with rows.
+/// The states that are kept at a position, in order of preference, each with its slot row. Contracts see a list of
+/// states with rows.
 ///
-/// Rows are numbered by the place of entry, and so are as dense as the states that are kept.
+/// Rows are numbered in the order of entry, so they are as dense as the states that are kept.
 ///
-/// The parts are boxed, so that two sets change over at the price of two pointers.
+/// The parts are boxed, so two sets are swapped by swapping two pointers.
 #[derive(Debug, Drop)]
 pub struct ActiveStates {
     pub(super) parts: Box<Parts>,
 }
 
-/// The states that are kept and their rows, of which the first `len` count.
+/// The states that are kept and their rows. Only the first `len` are in use.
 #[derive(Debug, Drop)]
 pub struct Parts {
     pub kept: Vec<StateID>,
     pub rows: Vec<Slot>,
     pub len: usize,
-    /// How many slots a row has.
+    /// The number of slots in a row.
     pub width: usize,
 }
 
@@ -45,7 +45,7 @@ impl Model for ActiveStates {
         × (length p.kept.items * p.width ≤ length p.rows.items) };
 }
 
-/// Writes a row behind so many others.
+/// Writes a row after `before` others.
 #[inline(always)]
 fn put_row(rows: &mut [Slot], before: usize, row: &[Slot])
     requires { before * length row.now + length row.now ≤ length rows.old }
@@ -56,7 +56,7 @@ fn put_row(rows: &mut [Slot], before: usize, row: &[Slot])
     copy_row(&mut rows[start..start + row.len()], row);
 }
 
-/// Writes a row with no slot set behind so many others.
+/// Writes a row with no slot set after `before` others.
 #[inline(always)]
 fn blank_row(rows: &mut [Slot], before: usize, width: usize)
     requires { before * width + width ≤ length rows.old }
@@ -67,7 +67,7 @@ fn blank_row(rows: &mut [Slot], before: usize, width: usize)
 }
 
 impl ActiveStates {
-    /// Room for no state.
+    /// Makes a set with room for no state.
     pub fn new(alloc: Global) -> Result<ActiveStates, Refused>
         ensures { IfOk result (λ made. made ≡ record { items = []; width = 0; places = 0; cells = 0 }) }
     {
@@ -82,7 +82,7 @@ impl ActiveStates {
         })
     }
 
-    /// The same states and rows.
+    /// Returns the same states and rows.
     pub fn copied(&self) -> Result<ActiveStates, Refused>
         ensures { IfOk result (λ copy. copy ≡ self.now) }
     {
@@ -98,7 +98,7 @@ impl ActiveStates {
         })
     }
 
-    /// Keeps no state, and has rows of `width` slots from here on.
+    /// Removes all states, and sets the width of rows to `width` slots.
     pub fn set_up(&mut self, width: usize)
         requires { self.old.places * width ≤ self.old.cells }
         ensures { self.new ≡ record self.old { items = []; width = width } }
@@ -107,7 +107,7 @@ impl ActiveStates {
         self.parts.width = width;
     }
 
-    /// Keeps no state.
+    /// Removes all states.
     #[inline(always)]
     pub fn clear(&mut self)
         ensures { self.new ≡ record self.old { items = [] } }
@@ -115,7 +115,7 @@ impl ActiveStates {
         self.parts.len = 0;
     }
 
-    /// Whether no state is kept.
+    /// Returns whether no state is kept.
     #[inline(always)]
     pub fn is_empty(&self) -> bool
         ensures { IsTrue result ↔ (length self.now.items ≡ 0) }
@@ -123,7 +123,7 @@ impl ActiveStates {
         self.parts.len == 0
     }
 
-    /// Keeps one more state, with its row.
+    /// Adds a state with its row.
     #[inline(always)]
     pub fn push(&mut self, sid: StateID, row: &[Slot])
         requires room { length self.old.items < self.old.places }
@@ -136,7 +136,7 @@ impl ActiveStates {
         parts.len += 1;
     }
 
-    /// Keeps one more state, with no slot set.
+    /// Adds a state with no slot set.
     #[inline(always)]
     pub fn push_blank(&mut self, sid: StateID)
         requires { length self.old.items < self.old.places }

@@ -1,4 +1,4 @@
-//! What a state leads to without reading a byte.
+//! The states that a state leads to without reading a byte.
 ghost use Rattle.std.specs.Prelude.{◌≡◌, ℕ, ◌+◌, ◌<◌, ◌≤◌, [], ◌∷◌, ◌++◌, None, Some, List, length, map, reverse, drop, take, slice_index_or, All};
 ghost use Rattle.std.specs.List.{sum_by};
 ghost use Rattle.regex_search_core.specs.Search.{Search, search_of};
@@ -19,31 +19,31 @@ use nfa_scanning::transitions::{dense_target, range_target, sparse_target};
 use regex_search_core::{Input, PatternID, StateID};
 use thompson_nfa::{NFA, State, look_matches};
 
-/// Where a scan stands: what stays as it is while the states of a position are followed.
+/// The place of a scan: all that does not change while the states of a position are followed.
 #[derive(Clone, Copy)]
 pub struct Here<'n, 'h> {
     pub nfa: &'n NFA,
     pub input: &'n Input<'h>,
     pub at: usize,
-    /// The byte at the position, if one is there before the end of the span.
+    /// The byte at the position, if it is before the end of the span.
     pub byte: Option<u8>,
 }
 
-/// What is reached from a position: the states that were met there, and those that its byte leads to.
+/// What is reached from a position: the states that were entered there, and those that its byte leads to.
 #[derive(Debug, Drop)]
 pub struct Reached {
     pub seen: Seen,
     pub next: ActiveStates,
 }
 
-/// Where a turn leads.
+/// The result of a turn.
 #[derive(Clone, Copy)]
 pub enum Move {
-    /// On to this state, at the same position.
+    /// The turn leads to this state, at the same position.
     On(StateID),
-    /// To a match of the pattern.
+    /// The turn leads to a match of the pattern.
     Matched(PatternID),
-    /// Nowhere at this position.
+    /// The turn leads nowhere at this position.
     Over,
 }
 
@@ -58,7 +58,7 @@ fn push(frames: &mut [FollowEpsilon], top: &mut usize, frame: FollowEpsilon)
     *top += 1;
 }
 
-/// Puts off all alternatives but the first, the earliest on top.
+/// Pushes all alternatives but the first, with the earliest on top.
 #[inline(always)]
 fn put_off(frames: &mut [FollowEpsilon], top: &mut usize, alternates: &[StateID])
     requires { top.old + length (drop 1 alternates.now) ≤ length frames.old }
@@ -79,7 +79,7 @@ fn put_off(frames: &mut [FollowEpsilon], top: &mut usize, alternates: &[StateID]
     }
 }
 
-/// Puts off that the slot gets back what it holds, for what waits on the stack. Where nothing waits nothing is put off.
+/// Pushes a frame that restores what the slot holds, for the frames below it. If the stack is empty, it pushes nothing.
 #[inline(always)]
 fn keep_old(frames: &mut [FollowEpsilon], top: &mut usize, slots: &[Slot], slot: usize)
     requires room { top.old < length frames.old }
@@ -109,8 +109,8 @@ fn keep(target: Option<StateID>, next: &mut ActiveStates, slots: &[Slot])
     }
 }
 
-/// One turn: tries to enter the state, and says where it leads. Of a state that waits for a byte, the state that the
-/// byte leads to is kept. However long the stack is, no more of its places are taken than the NFA needs.
+/// Takes one turn: tries to enter the state, and returns where it leads. If the state matches the byte, the state that
+/// the byte leads to is kept. The turn uses no more of the stack than the NFA needs, however long the stack is.
 #[inline(always)]
 pub fn enter(
     here: &Here<'_, '_>,
@@ -186,7 +186,7 @@ pub fn enter(
     }
 }
 
-/// Takes a frame up: it gives a state to follow, or a slot its old value back.
+/// Applies a frame: returns its state to follow, or restores its slot.
 #[inline(always)]
 fn unwind(frame: FollowEpsilon, row: &mut [Slot]) -> Option<StateID>
     requires { HasSlot (length row.old) frame }
@@ -202,7 +202,7 @@ fn unwind(frame: FollowEpsilon, row: &mut [Slot]) -> Option<StateID>
     }
 }
 
-/// Takes up what was put off last, down to a state to follow.
+/// Pops and applies frames, down to a state to follow.
 #[inline(always)]
 pub fn resume(frames: &[FollowEpsilon], top: &mut usize, row: &mut [Slot]) -> Option<StateID>
     requires top { top.old ≤ length frames.now }
@@ -225,8 +225,8 @@ pub fn resume(frames: &[FollowEpsilon], top: &mut usize, row: &mut [Slot]) -> Op
     None
 }
 
-/// Follows what the state leads to without reading a byte, and then what was put off, each state in its turn, up to the
-/// next match, and keeps what the byte leads to. It answers the match, and leaves what is still put off.
+/// Follows the state, and then those on the stack, through all that they lead to without reading a byte, up to the next
+/// match. It keeps the states that the byte leads to. Returns the match, and leaves the remaining frames on the stack.
 #[inline(always)]
 pub fn next_match(
     here: &Here<'_, '_>,
@@ -268,8 +268,8 @@ pub fn next_match(
     }
 }
 
-/// Follows all that the root leads to at the position, as [`next_match`] does up to a match. Each match is given to the
-/// taker, up to the one that the position ends with. Answers whether it ended.
+/// Follows all that the root leads to at the position, from match to match ([`next_match`]). It gives each match to the
+/// taker, up to the one that the position ends with. Returns whether it ended.
 #[inline(always)]
 pub fn follow<T: Taker>(
     here: &Here<'_, '_>,

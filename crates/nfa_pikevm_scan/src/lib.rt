@@ -1,8 +1,8 @@
 //! One scan of the PikeVM, for a match or for the set of all patterns that match: at each position it follows all
-//! states that lead there, each with a row of slots.
+//! states that lead there, each with its slot row.
 //!
-//! The engine and all that a user calls is `nfa_pikevm`. A scan stands apart from it: it needs nothing of errors and
-//! iteration, and so is proved beside them.
+//! The engine and its public calls are in `nfa_pikevm`. A scan does not depend on errors and iteration, so it is a
+//! crate of its own and is proved in parallel with them.
 #![tactic(auto)]
 
 pub mod active;

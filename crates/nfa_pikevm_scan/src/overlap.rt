@@ -19,15 +19,15 @@ use nfa_scanning::starts::{may_end_at, start_limit, start_state};
 use regex_search_core::{Input, MatchKind, PatternID, PatternSet};
 use thompson_nfa::NFA;
 
-/// A set that takes patterns: that of a match which may end at its position, and which the set has room for. Another
-/// match does not count. The position ends with the first that counts, without `past_match`.
+/// A taker that adds patterns to a set. A match counts if it may end at its position and the set has room for its
+/// pattern. Without `past_match` the position ends with the first match that counts.
 #[derive(Drop)]
 pub struct Gatherer<'p> {
     pub patterns: &'p mut PatternSet,
     /// Whether a match may end at the position.
     pub permitted: bool,
     pub past_match: bool,
-    /// Whether a match that counts was met.
+    /// Whether there was a match that counts.
     pub met: bool,
 }
 
@@ -56,8 +56,8 @@ impl Taker for Gatherer<'_> {
     }
 }
 
-/// Follows the states at the position, and keeps what its byte leads to for the next one. Answers whether a match that
-/// counts was met. A full set gains nothing, so no position is crossed for one.
+/// Follows the states at the position, and keeps the states that its byte leads to for the next one. Returns whether
+/// there was a match that counts. Requires a set that is not full, since a full one gains nothing.
 fn cross_to_set(
     nfa: &NFA,
     input: &Input<'_>,
@@ -89,7 +89,7 @@ fn cross_to_set(
     gatherer.met
 }
 
-/// The patterns of all matches.
+/// Adds the patterns of all matches.
 fn overlap_all(
     nfa: &NFA,
     input: &Input<'_>,
@@ -118,7 +118,7 @@ fn overlap_all(
     }
 }
 
-/// The patterns of the matches that count and have the least end: of the first one, or with `past_match` of all.
+/// Adds the patterns of the matches that count and have the least end: of the first one, or with `past_match` of all.
 fn overlap_earliest(
     nfa: &NFA,
     input: &Input<'_>,
@@ -151,7 +151,8 @@ fn overlap_earliest(
     }
 }
 
-/// Whether a scan for the first match is over: one was met, and the set is full, so that it gains nothing more.
+/// Returns whether a scan for the first match is over: there was a match, and the set is full, so it gains nothing
+/// more.
 #[inline(always)]
 fn is_over(met: bool, patterns: &PatternSet) -> bool
     ensures over { result ≡ true → (met ≡ true) × (size_of_set patterns.now ≡ length patterns.now) }
@@ -160,7 +161,7 @@ fn is_over(met: bool, patterns: &PatternSet) -> bool
     met && patterns.is_full()
 }
 
-/// The pattern of the first match, and those that were met on the way to its end.
+/// Adds the pattern of the first match, and those that are met up to its end.
 fn overlap_first(
     nfa: &NFA,
     input: &Input<'_>,
@@ -190,13 +191,13 @@ fn overlap_first(
             return;
         }
         if met {
-            // A later start comes behind it.
+            // A later start comes after this match.
             joining.limit = 0;
         }
     }
 }
 
-/// What a scan from these starts puts into the set.
+/// Adds what a scan from these starts finds to the set.
 fn overlap_from(
     nfa: &NFA,
     kind: MatchKind,
@@ -226,8 +227,8 @@ fn overlap_from(
     }
 }
 
-/// Puts the patterns of the matches that the kind means, also of those that overlap, into the set, in one scan. There
-/// is none where the first match alone is meant and the set holds a pattern.
+/// Adds the patterns of the matches that the kind means to the set, including matches that overlap, in one scan. Makes
+/// no scan under leftmost first if the set holds a pattern.
 pub fn overlap(
     nfa: &NFA,
     kind: MatchKind,
@@ -250,7 +251,7 @@ pub fn overlap(
     if input.is_done() {
         return;
     }
-    // A full set gains nothing, and so does one with no room.
+    // A full set gains nothing, and neither does a set of capacity 0.
     if patterns.is_full() {
         return;
     }
@@ -260,7 +261,7 @@ pub fn overlap(
     let starts = Starts {
         state,
         limit: start_limit(nfa, input),
-        // No start is passed over here.
+        // No start is skipped here.
         stop: input.start(),
     };
     set_up(threads, 0);

@@ -1,9 +1,9 @@
-//! How much room a cache has.
+//! Room in the vectors of a cache.
 ghost use Rattle.std.specs.Prelude.{◌≡◌, ◌≤◌, IsOk, OnOk, replicate, vec_capacity};
 
 use regex_search_core::Refused;
 
-/// Makes room for so many elements, and changes none. It fails only if it has to grow.
+/// Makes room for `count` elements, and changes none. Fails only if it has to allocate.
 pub fn reserve<T: Drop>(items: &mut Vec<T>, count: usize) -> Result<(), Refused>
     ensures granted { count ≤ vec_capacity items.old → IsOk result }
     ensures items { items.new.items ≡ items.old.items }
@@ -15,7 +15,7 @@ pub fn reserve<T: Drop>(items: &mut Vec<T>, count: usize) -> Result<(), Refused>
     Ok(())
 }
 
-/// Has so many elements from here on, each of this value. There is room for them.
+/// Replaces the elements by `count` copies of the value. Requires room for them.
 pub fn refill<T: Copy + Drop>(items: &mut Vec<T>, count: usize, value: T)
     requires { count ≤ vec_capacity items.old }
     ensures { items.new.items ≡ replicate count value }

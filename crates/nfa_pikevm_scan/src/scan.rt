@@ -17,8 +17,8 @@ use nfa_scanning::starts::{next_start, skip_limit, start_limit, start_state};
 use regex_search_core::{HalfMatch, Input, MatchKind, PatternID, StateID};
 use thompson_nfa::NFA;
 
-/// Where the starts of a scan are: the state, the position behind the last one, and the position behind the last one
-/// that may be passed over for its byte.
+/// The starts of a scan: the state, the position after the last one, and the position after the last one that may be
+/// skipped for its byte.
 #[derive(Clone, Copy)]
 pub struct Starts {
     pub state: StateID,
@@ -27,7 +27,7 @@ pub struct Starts {
 }
 
 impl Starts {
-    /// The same starts for a scan that passes over none.
+    /// Returns the same starts for a scan that skips none.
     #[inline(always)]
     fn passing_over_none(&self, input: &Input<'_>) -> Starts
         ensures { result ≡ record self.now { stop = (search_of input.now).start } }
@@ -39,7 +39,7 @@ impl Starts {
     }
 }
 
-/// Lets the start state join the states at the position, behind them. The position may not be passed over.
+/// Adds the start state after the states at the position. Requires a position that may not be skipped.
 #[inline(always)]
 pub fn join(starts: &Starts, at: usize, threads: &mut Threads)
     requires room { length threads.old.curr.items < threads.old.curr.places }
@@ -56,8 +56,8 @@ pub fn join(starts: &Starts, at: usize, threads: &mut Threads)
     }
 }
 
-/// The position, or where it may be passed over for its byte, a later one up to which all may be. Where it may not,
-/// this takes no call.
+/// Returns the position or, if it may be skipped for its byte, a later one up to which all may be. If it may not, no
+/// function is called.
 #[inline(always)]
 fn pass_over(first: &FirstBytes, input: &Input<'_>, from: usize, stop: usize) -> usize
     requires from { from ≤ (search_of input.now).end + 1 }
@@ -74,8 +74,8 @@ fn pass_over(first: &FirstBytes, input: &Input<'_>, from: usize, stop: usize) ->
     from
 }
 
-/// Lets the start state join the states at the position, or, where no state is there, at the next position where a
-/// match may begin. Where none may begin here, or at the limit, it does not join. Answers the position.
+/// Adds the start state to the states at the position or, if there is none, at the next position where a match may
+/// begin. If no match may begin here, or at the limit, it adds nothing. Returns the position.
 fn join_or_skip(
     first: &FirstBytes,
     input: &Input<'_>,
@@ -110,7 +110,7 @@ fn join_or_skip(
     at
 }
 
-/// The match at the position, if there is one.
+/// Returns the match at the position, if there is one.
 #[inline(always)]
 fn half_at(hit: Option<PatternID>, at: usize) -> Option<HalfMatch>
     ensures { option_map half_found_of result ≡ option_map (λ pattern. half_found (number_of pattern) at) hit }
@@ -118,7 +118,7 @@ fn half_at(hit: Option<PatternID>, at: usize) -> Option<HalfMatch>
     Some(HalfMatch::new(hit?, at))
 }
 
-/// The first accepting path: at each position, what stands behind a match is dropped.
+/// Finds the first accepting path: at each position, the states after a match are dropped.
 fn scan_first(
     nfa: &NFA,
     first: &FirstBytes,
@@ -147,7 +147,7 @@ fn scan_first(
         let hit = half_at(cross(nfa, input, at, false, threads, slots), at);
         move_on(threads);
         if hit.is_some() {
-            // A later start comes behind it.
+            // A later start comes after this match.
             found = hit;
             limit = 0;
         }
@@ -156,7 +156,7 @@ fn scan_first(
     found
 }
 
-/// The paths with the greatest end, of which the last one stands.
+/// Finds the paths with the greatest end, and returns the last of them.
 fn scan_last(
     nfa: &NFA,
     input: &Input<'_>,
@@ -186,7 +186,7 @@ fn scan_last(
     found
 }
 
-/// The paths with the least end: of them the first, or with `past_match` the last.
+/// Finds the paths with the least end, and returns the first of them, or with `past_match` the last.
 fn scan_earliest(
     nfa: &NFA,
     input: &Input<'_>,
@@ -218,8 +218,8 @@ fn scan_earliest(
     None
 }
 
-/// One scan, from a clean slate: the path that is meant, its slots, or no slot set.
-// A call of its own, so that a search's loop takes no registers from the scan's.
+/// Makes one scan, from cleared slots. Returns the end of the path that is meant and writes its slots, or sets no slot.
+// A function of its own, so that the loop of a search takes no registers from the scan's.
 #[inline(never)]
 pub fn scan(
     nfa: &NFA,

@@ -1,4 +1,4 @@
-//! What a scan writes.
+//! All that a scan writes besides its slots.
 ghost use Rattle.std.specs.Prelude.{◌≡◌, [], length, IfOk};
 
 use crate::active::ActiveStates;
@@ -9,14 +9,14 @@ use nfa_scanning::counter::Counter;
 use regex_search_core::Refused;
 use std::alloc::Global;
 
-/// What a scan writes: the frames of a closure, the states at its position, what is reached from there, and the count
-/// of the scans. The two sets of states have equal room, and rows of one width.
+/// All that a scan writes besides its slots: the frames of a closure, the states at its position, what is reached from
+/// there, and the count of scans. The two sets of states have equal room, and rows of one width.
 #[derive(Debug, Drop)]
 pub struct Threads {
     pub frames: Vec<FollowEpsilon>,
     pub curr: ActiveStates,
     pub reached: Reached,
-    /// The count of the scans.
+    /// The number of scans.
     pub scans: Counter,
     ghost same_places: { reached.next.places ≡ curr.places },
     ghost same_cells: { reached.next.cells ≡ curr.cells },
@@ -24,7 +24,7 @@ pub struct Threads {
 }
 
 impl Threads {
-    /// Room for no state.
+    /// Makes threads with room for no state.
     pub fn new(alloc: Global) -> Result<Threads, Refused>
         ensures seen { IfOk result (λ made. made.reached.seen ≡ record { bits = []; turns = 0 }) }
         ensures curr { IfOk result (λ made. made.curr ≡ record { items = []; width = 0; places = 0; cells = 0 }) }
@@ -44,7 +44,7 @@ impl Threads {
         })
     }
 
-    /// The same states, marks and frames.
+    /// Returns the same states, marks and frames.
     pub fn copied(&self) -> Result<Threads, Refused>
         ensures seen { IfOk result (λ copy. copy.reached.seen ≡ self.now.reached.seen) }
         ensures curr { IfOk result (λ copy. copy.curr ≡ self.now.curr) }

@@ -1,4 +1,4 @@
-//! Which states were entered at a position, and the turns that this took.
+//! The states that were entered at a position, and the count of the turns.
 ghost use Rattle.std.specs.Prelude.{◌≡◌, ◌+◌, ◌<◌, [], true, false, length, replicate, slice_index_or, slice_set, IfOk};
 
 use nfa_scanning::counter::Counter;
@@ -6,10 +6,10 @@ use regex_search_core::Refused;
 use std::alloc::Global;
 use std::marker::Model;
 
-/// Which states were met at a position, and the count of the tries to enter one. A contract sees a mark for each state,
-/// and the count.
+/// The states that were entered at a position, and the count of the tries to enter one. Contracts see a mark for each
+/// state, and the count.
 ///
-/// A state is marked if its stamp is the newest one. So taking all marks away is no more than a newer stamp.
+/// A state is marked if its stamp is the newest one, so a newer stamp clears all marks.
 #[derive(Debug, Drop)]
 pub struct Seen {
     pub(super) stamps: Vec<u32>,
@@ -30,7 +30,7 @@ impl Model for Seen {
 }
 
 impl Seen {
-    /// No marks, for no states.
+    /// Makes marks for no states.
     pub fn new(alloc: Global) -> Seen
         ensures { result ≡ record { bits = []; turns = 0 } }
     {
@@ -41,7 +41,7 @@ impl Seen {
         }
     }
 
-    /// The same marks and count.
+    /// Returns the same marks and count.
     pub fn copied(&self) -> Result<Seen, Refused>
         ensures { IfOk result (λ copy. copy ≡ self.now) }
     {
@@ -52,14 +52,14 @@ impl Seen {
         })
     }
 
-    /// How many states there are.
+    /// Returns the number of states that have a mark.
     pub fn len(&self) -> usize
         ensures { result ≡ length self.now.bits }
     {
         self.stamps.len()
     }
 
-    /// Counts from 0 again. What was counted is added to the total.
+    /// Adds the count of turns to the total, and resets it to 0.
     pub fn restart_turns(&mut self, total: &mut Counter)
         ensures restarted { self.new ≡ record self.old { turns = 0 } }
         ensures total { total.new ≡ total.old + self.old.turns }
@@ -67,7 +67,7 @@ impl Seen {
         total.take(&mut self.turns);
     }
 
-    /// Takes every mark away.
+    /// Clears all marks.
     #[inline(always)]
     pub fn clear(&mut self)
         ensures { self.new ≡ record self.old { bits = replicate (length self.old.bits) false } }
@@ -80,7 +80,7 @@ impl Seen {
         }
     }
 
-    /// Marks the state, and says whether it was not marked before. This is one turn.
+    /// Marks the state, and returns whether it was unmarked. This is one turn.
     #[inline(always)]
     pub fn insert(&mut self, state: usize) -> bool
         requires { state < length self.old.bits }

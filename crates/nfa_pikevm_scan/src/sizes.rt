@@ -1,4 +1,4 @@
-//! How much room an NFA needs.
+//! The room that an NFA needs.
 ghost use Rattle.std.specs.Prelude.{◌≡◌, ◌^◌, ◌≤◌, IfSome, IfNone, IsOk, OnOk, OnErr, length, max};
 ghost use Rattle.std.specs.List.{sum_by};
 ghost use Rattle.thompson_nfa.specs.Automaton.{node_of};
@@ -13,8 +13,8 @@ use crate::slot::Slot;
 use regex_search_core::{Refused, StateID};
 use thompson_nfa::{NFA, State};
 
-/// How much a cache holds: for how many states and slots it is, the places and the cells of each set of states, and the
-/// frames of the stack.
+/// The sizes of a cache: its states and slots, the places and the cells of each set of states, and the frames of the
+/// stack.
 #[derive(Clone, Copy, Debug)]
 pub struct Size {
     pub states: usize,
@@ -24,7 +24,7 @@ pub struct Size {
     pub frames: usize,
 }
 
-/// How many frames the state pushes at most, beside the state that it goes on with.
+/// Returns the most frames that the state pushes, besides the state that it goes on with.
 fn room(state: &State) -> usize
     ensures { result ≡ room_of (node_of state.now) }
 {
@@ -35,7 +35,7 @@ fn room(state: &State) -> usize
     }
 }
 
-/// How many frames all these states push at most, if a `usize` can say it.
+/// Returns the most frames that all these states push, if the sum fits a `usize`.
 fn rooms(states: &[State]) -> Option<usize>
     ensures sum { IfSome result (λ n. n ≡ sum_by (λ s. room_of (node_of s)) states.now) }
     ensures past { IfNone result (2 ^ 64 ≤ sum_by (λ s. room_of (node_of s)) states.now) }
@@ -47,7 +47,7 @@ fn rooms(states: &[State]) -> Option<usize>
     Some(sum)
 }
 
-/// How many places the stack of a search needs, if a `usize` can say it.
+/// Returns the number of frames that the stack of a search needs, if it fits a `usize`.
 pub fn stack_places(nfa: &NFA) -> Option<usize>
     ensures value { IfSome result (λ n. n ≡ stack_places nfa.now) }
     ensures past { IfNone result (2 ^ 64 ≤ stack_places nfa.now) }
@@ -55,7 +55,7 @@ pub fn stack_places(nfa: &NFA) -> Option<usize>
     Some(rooms(nfa.states())?.max(1))
 }
 
-/// How much a search of the NFA needs, if a `usize` can say it.
+/// Returns the sizes that a search of the NFA needs, if they fit a `usize`.
 pub fn size_for(nfa: &NFA) -> Option<Size>
     ensures value { IfSome result (λ size. IsSizeOf nfa.now size) }
     ensures past { IfNone result (IsTooLarge nfa.now) }
@@ -74,8 +74,8 @@ pub fn size_for(nfa: &NFA) -> Option<Size>
     })
 }
 
-/// Makes the parts of a cache as large as this, and no larger. All memory is taken before anything changes. It fails
-/// only if a part has to grow.
+/// Gives the parts of a cache exactly these sizes. All memory is allocated before anything changes. Fails only if a
+/// part has to grow.
 pub fn make_room(
     threads: &mut Threads,
     found: &mut Vec<Slot>,

@@ -1,4 +1,4 @@
-//! A slot in eight bytes, and rows of them.
+//! A slot in eight bytes, and slot rows.
 ghost use Rattle.std.specs.Prelude.{◌≡◌, ◌++◌, ◌+◌, ◌-◌, ◌<◌, ◌≤◌, Some, None, length, replicate, option_map};
 ghost use Rattle.std.specs.Option.{SomeIff};
 ghost use Rattle.regex_search_core.specs.Found.{found_of};
@@ -8,9 +8,9 @@ ghost use Rattle.regex_search_core.specs.Slots.{match_of, offset_at};
 use regex_search_core::{Match, NonMaxUsize, PatternID, Span};
 use std::marker::Model;
 
-/// A slot of a row, in eight bytes, where an `Option` takes sixteen: the greatest `usize` stands for none.
+/// A slot of a row, in eight bytes; an `Option` would take sixteen. `usize::MAX` means that the slot is unset.
 ///
-/// A contract sees it as the offset, if there is one.
+/// Contracts see the offset, if there is one.
 #[derive(Clone, Copy, Debug)]
 pub struct Slot(usize);
 
@@ -26,7 +26,7 @@ impl Model for Slot {
 }
 
 impl Slot {
-    /// No offset.
+    /// Returns a slot without an offset.
     #[inline(always)]
     pub fn unset() -> Slot
         ensures { result ≡ None }
@@ -34,7 +34,7 @@ impl Slot {
         Slot(usize::MAX)
     }
 
-    /// This offset. None for the greatest `usize`.
+    /// Returns a slot with this offset, or an unset slot for `usize::MAX`.
     #[inline(always)]
     pub fn new(offset: usize) -> Slot
         ensures { SomeIff result (offset < usize.MAX) offset }
@@ -42,7 +42,7 @@ impl Slot {
         Slot(offset)
     }
 
-    /// What the slot holds.
+    /// Returns the offset of the slot, if it is set.
     #[inline(always)]
     pub fn get(self) -> Option<NonMaxUsize>
         ensures { result ≡ self }
@@ -51,7 +51,7 @@ impl Slot {
     }
 }
 
-/// Copies a row. Of most searches it has two slots or four: those of the match of one pattern, or of two.
+/// Copies a row. In most searches it has two slots or four: those of the match of one pattern, or of two.
 #[inline(always)]
 pub fn copy_row(to: &mut [Slot], from: &[Slot])
     requires { length to.old ≡ length from.now }
@@ -81,7 +81,7 @@ fn copy_long_row(to: &mut [Slot], from: &[Slot])
     to.copy_from_slice(from);
 }
 
-/// Takes the offset of every slot of a row away. Of most searches it has two slots or four, as for [`copy_row`].
+/// Unsets all slots of a row. In most searches it has two slots or four, as for [`copy_row`].
 #[inline(always)]
 pub fn unset_row(row: &mut [Slot])
     ensures { row.new ≡ replicate (length row.old) None }
@@ -101,7 +101,7 @@ pub fn unset_row(row: &mut [Slot])
     }
 }
 
-/// Takes the offset of every slot of a row of any length away.
+/// Unsets all slots of a row of any length.
 #[inline(never)]
 fn unset_long_row(row: &mut [Slot])
     ensures { row.new ≡ replicate (length row.old) None }
@@ -109,14 +109,14 @@ fn unset_long_row(row: &mut [Slot])
     row.fill(Slot::unset());
 }
 
-/// Takes the offset of every slot away.
+/// Unsets all slots.
 fn clear(slots: &mut [Option<NonMaxUsize>])
     ensures { slots.new ≡ replicate (length slots.old) None }
 {
     slots.fill(None);
 }
 
-/// Gives the slots what the row holds, and those past it no offset.
+/// Copies the row to the first slots, and unsets those after it.
 pub fn hand_out(row: &[Slot], slots: &mut [Option<NonMaxUsize>])
     requires { length row.now ≤ length slots.old }
     ensures { slots.new ≡ row.now ++ replicate (length slots.old - length row.now) None }
@@ -127,14 +127,14 @@ pub fn hand_out(row: &[Slot], slots: &mut [Option<NonMaxUsize>])
     }
 }
 
-/// The offset in this slot of the row, if there is one.
+/// Returns the offset in this slot of the row, if there is one.
 fn offset_in(row: &[Slot], slot: usize) -> Option<usize>
     ensures { result ≡ offset_at row.now slot }
 {
     Some(row.get(slot)?.get()?.get())
 }
 
-/// The match of the pattern whose start and end the row holds, if it holds both, in order.
+/// Returns the match of the pattern, if the row has its start and its end, in order.
 pub fn match_in(pattern: PatternID, row: &[Slot]) -> Option<Match>
     ensures { option_map found_of result ≡ match_of (Some (number_of pattern)) row.now }
 {

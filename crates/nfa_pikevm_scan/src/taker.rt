@@ -1,4 +1,4 @@
-//! What takes the matches that a position comes to, in order.
+//! Takers of the matches that are found at a position, in order.
 ghost use Rattle.std.specs.Prelude.{◌≡◌, ℕ, Bool, length};
 ghost use Rattle.regex_search_core.specs.declared.primitives.PatternID.{PatternID};
 ghost use Rattle.nfa_paths.specs.Exploring.{Slots};
@@ -7,23 +7,23 @@ ghost use Rattle.nfa_pikevm_scan.specs.Taking.{TakesRow};
 use crate::slot::{Slot, copy_row};
 use regex_search_core::PatternID;
 
-/// Takes matches.
+/// Takes the matches of a position.
 pub trait Taker {
-    // How many slots the rows have that it takes.
+    // The number of slots in the rows that it takes.
     ghost row_width: { Self → ℕ };
 
-    // From this state it takes a match of the pattern with this row: whether the position ends with it, and the state
-    // that it leaves.
+    // The result of taking a match of the pattern with this row: whether the position ends with it, and the new state
+    // of the taker.
     ghost takes: { Self → PatternID → Slots → Bool → Self → Type 0 };
 
     // The reference that it holds.
     ghost reference: { Self → ℕ };
 
-    /// How many slots the rows have.
+    /// Returns the number of slots in the rows.
     fn width(&self) -> usize
         ensures { result ≡ row_width self.now };
 
-    /// Takes a match, and answers whether the position ends with it.
+    /// Takes a match, and returns whether the position ends with it.
     fn take(&mut self, pattern: PatternID, row: &[Slot]) -> bool
         requires { length row.now ≡ row_width self.old }
         ensures width { row_width self.new ≡ row_width self.old }
@@ -31,7 +31,7 @@ pub trait Taker {
         ensures takes { takes self.old pattern row.now result self.new };
 }
 
-/// The row of the match that was taken last, which without `past_match` is the first one.
+/// The row of the match that was taken last. Without `past_match` this is the first one.
 #[derive(Drop)]
 pub struct LastRow<'r> {
     pub slots: &'r mut [Slot],

@@ -18,7 +18,7 @@ use regex_search_core::{Input, PatternID, StateID};
 use std::mem;
 use thompson_nfa::NFA;
 
-/// No state is kept, and rows have `width` slots from here on.
+/// Removes all states, and sets the width of rows to `width` slots.
 pub fn set_up(threads: &mut Threads, width: usize)
     requires { threads.old.curr.places * width ≤ threads.old.curr.cells }
     ensures curr { threads.new.curr.items ≡ [] }
@@ -32,7 +32,7 @@ pub fn set_up(threads: &mut Threads, width: usize)
     threads.reached.next.set_up(width);
 }
 
-/// The states at the next position become those at this one.
+/// Makes the states at the next position those at this one.
 #[inline(always)]
 pub fn move_on(threads: &mut Threads)
     ensures curr { threads.new.curr.items ≡ threads.old.reached.next.items }
@@ -47,8 +47,8 @@ pub fn move_on(threads: &mut Threads)
     reached.next.clear();
 }
 
-/// Follows the states at the position, in order, each with its row, as [`follow`] does, up to the match that the
-/// position ends with, and keeps what the byte leads to.
+/// Follows the states at the position ([`follow`]), in order, each with its row, up to the match that the position ends
+/// with, and keeps the states that the byte leads to.
 #[inline(always)]
 fn cross_states<T: Taker>(
     here: &Here<'_, '_>,
@@ -86,8 +86,8 @@ fn cross_states<T: Taker>(
     }
 }
 
-/// Follows the states at the position, gives their matches to the taker, and keeps what the position's byte leads to
-/// for the next one.
+/// Follows the states at the position, gives their matches to the taker, and keeps the states that the position's byte
+/// leads to for the next one.
 #[inline(always)]
 pub fn cross_with<T: Taker>(
     nfa: &NFA,
@@ -132,7 +132,7 @@ pub fn cross_with<T: Taker>(
         at,
         byte: None,
     };
-    // A call each, so that the loop over the states does not ask at each one whether there is a byte.
+    // One call for each case, so that the loop over the states does not test at each one whether there is a byte.
     match byte_at(input, at) {
         Some(byte) => {
             let here = Here {
@@ -145,8 +145,8 @@ pub fn cross_with<T: Taker>(
     }
 }
 
-/// Follows the states at the position, and keeps what its byte leads to for the next one. It answers the last match,
-/// and its slots; without `past_match` it stops at the first match.
+/// Follows the states at the position, and keeps the states that its byte leads to for the next one. Returns the last
+/// match, and writes its slots. Without `past_match` it stops at the first match.
 #[inline(always)]
 pub fn cross(
     nfa: &NFA,

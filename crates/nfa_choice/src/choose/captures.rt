@@ -1,4 +1,4 @@
-//! Captures for the NFA, and the searches that fill them with an input of their own.
+//! Captures for the NFA, and the search that fills them and takes its input by value.
 ghost use Rattle.std.specs.Prelude.{◌≡◌, ◌<◌, None, length, replicate, All, IfNone, IfOk, IfSome, IsOkUnless};
 ghost use Rattle.regex_search_core.specs.Groups.{slot_count};
 ghost use Rattle.regex_search_core.specs.Search.{search_of};
@@ -14,8 +14,8 @@ use regex_search_core::{Captures, Input};
 use std::alloc::Global;
 
 impl Choice {
-    /// Makes captures with a slot for each edge of each group of the NFA. No pattern and no slot is set. The only error
-    /// is `Memory`.
+    /// Makes captures with two slots for each group of the NFA. No pattern and no slot is set. The only error is
+    /// `Memory`.
     pub fn create_captures(&self, alloc: Global) -> Result<Captures, SearchError>
         ensures made { IfOk result (λ made. made ≡ record {
           groups = self.now.nfa.groups;
@@ -27,7 +27,7 @@ impl Choice {
         self.pike.create_captures(alloc)
     }
 
-    /// Searches as [`Choice::search`] does, with an input of its own.
+    /// Searches as [`Choice::search`] does, but takes the input by value.
     pub fn captures<'h>(&mut self, input: Input<'h>, captures: &mut Captures)
         ensures answer { let x = search_of input.entry in
             IsAnswer self.old.nfa (kind_in self.old) x.earliest x captures.new.pattern captures.new.slots }

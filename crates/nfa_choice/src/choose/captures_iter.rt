@@ -9,12 +9,12 @@ use regex_search_core::{Captures, Input, Span};
 use std::alloc::Global;
 use std::marker::Model;
 
-/// The captures of the matches of an input that do not overlap, from left to right: what [`Choice::captures_iter`]
-/// gives.
+/// An iterator over the captures of all matches of an input that do not overlap, from left to right.
+/// [`Choice::captures_iter`] returns it.
 ///
-/// Its items are `Ok` captures, each a value of its own, at most as many as the span has bytes and one more, and at
-/// most one error, which is [`SearchError::Memory`]: there was no memory for a copy. It is fused: it ends after the last
-/// match and after the error.
+/// Its items are `Ok` captures, each its own copy, at most n + 1 for a span of n bytes, and at most one error. The only
+/// error is [`SearchError::Memory`]: a copy could not be allocated. The iterator is fused: after the last match or the
+/// error it returns only `None`.
 #[derive(Debug, Drop)]
 pub struct ChoiceCaptures<'c, 'h> {
     choice: &'c mut Choice,
@@ -22,8 +22,7 @@ pub struct ChoiceCaptures<'c, 'h> {
     ghost holds: { HasGroups choice.now.nfa steps.asker.captures },
 }
 
-// The captures that the searches of one iteration write to. Each search takes the engine that suits, and borrows the
-// choice.
+// The captures that the searches of one iteration fill. Each search borrows the choice, which picks the engine.
 #[derive(Debug, Drop)]
 struct Catcher {
     captures: Captures,
@@ -54,13 +53,13 @@ impl Choice {
     ghost use Rattle.nfa_choice.specs.CapturesMatches.{choice_catches_done, choice_catches_next, choice_catches_walk};
     ghost use Rattle.nfa_choice.specs.Choosing.{kind_in, KeepsEngines};
 
-    /// Returns the captures of all matches that do not overlap, from left to right, each with all groups of the NFA.
-    /// Making the iterator runs no search. The only error is [`SearchError::Memory`]: there is no memory for the captures
-    /// that are searched with.
+    /// Returns an iterator over the captures of all matches that do not overlap, from left to right, each with all
+    /// groups of the NFA. This call runs no search. The only error is [`SearchError::Memory`]: the captures to search
+    /// with could not be allocated.
     ///
-    /// The next match is searched for from the end of the last one. In place of an empty match where the last one ended
-    /// comes what a search from one byte further on finds. Each search takes the engine that suits. An answer without
-    /// a match, as bare patterns give it, ends the list. Each item is a copy of its own. If there is no memory for it,
+    /// Each search starts at the end of the last match. An empty match there is replaced by the result of a search from
+    /// one byte further on. The engine is picked for each search. An answer that gives no match ends the list, for
+    /// instance if the NFA does not set the two slots of its pattern. Each item is a copy. If it cannot be allocated,
     /// the item is the error, once.
     pub fn captures_iter<'c, 'h>(
         &'c mut self,
@@ -73,7 +72,7 @@ impl Choice {
         ensures same_choice { IfOk result (λ made. (choice_catches_choice made).now ≡ self.entry.now) }
         ensures walk { IfOk result (λ made. choice_catches_walk made ≡ fresh (search_of input.entry)) }
         ensures going { IfOk result (λ made. choice_catches_done made ≡ false) }
-        // Each run of calls gives the first captures of the input, and all of them where it goes on to `None`.
+        // Each run of calls gives the first captures of the input, and all of them if it goes on to `None`.
         ensures runs { IfOk result (CapturesRun choice_catches_next (TellsRow self.entry.now.nfa
             (kind_in self.entry.now) (search_of input.entry).earliest) (search_of input.entry)) }
         ensures first { IfOk result (CapturesFirst choice_catches_next (TellsRow self.entry.now.nfa
@@ -81,7 +80,7 @@ impl Choice {
         ensures next { IfOk result (CapturesNext choice_catches_next (TellsRow self.entry.now.nfa
             (kind_in self.entry.now) (search_of input.entry).earliest) (search_of input.entry)) }
         ensures errors { IfOk result (CapturesMemory choice_catches_next) }
-        // Where no copy is refused, their rows and their matches are those of the input.
+        // If no copy fails, their rows and their matches are those of the input.
         ensures rows { IfOk result (RowsRun choice_catches_next self.entry.now.nfa (kind_in self.entry.now)
             (search_of input.entry).earliest (search_of input.entry)) }
         ensures first_rows { IfOk result (RowsFirst choice_catches_next self.entry.now.nfa (kind_in self.entry.now)
@@ -109,8 +108,8 @@ impl Choice {
         Ok(self.captures_iter_with(input, captures))
     }
 
-    /// The same, searching with captures that the caller made, with all groups of this NFA
-    /// ([`Choice::create_captures`]). Making the iterator allocates nothing, and cannot fail.
+    /// Returns the same iterator, but searches with the given captures, which must have all groups of this NFA
+    /// ([`Choice::create_captures`]). Does not allocate, and cannot fail.
     #[inline]
     pub fn captures_iter_with<'c, 'h>(
         &'c mut self,
@@ -122,7 +121,7 @@ impl Choice {
         ensures same_choice { (choice_catches_choice result).now ≡ self.entry.now }
         ensures walk { choice_catches_walk result ≡ fresh (search_of input.entry) }
         ensures going { choice_catches_done result ≡ false }
-        // Each run of calls gives the first captures of the input, and all of them where it goes on to `None`.
+        // Each run of calls gives the first captures of the input, and all of them if it goes on to `None`.
         ensures runs { CapturesRun choice_catches_next (TellsRow self.entry.now.nfa (kind_in self.entry.now)
             (search_of input.entry).earliest) (search_of input.entry) result }
         ensures first { CapturesFirst choice_catches_next (TellsRow self.entry.now.nfa (kind_in self.entry.now)
@@ -130,7 +129,7 @@ impl Choice {
         ensures next { CapturesNext choice_catches_next (TellsRow self.entry.now.nfa (kind_in self.entry.now)
             (search_of input.entry).earliest) (search_of input.entry) result }
         ensures errors { CapturesMemory choice_catches_next result }
-        // Where no copy is refused, their rows and their matches are those of the input.
+        // If no copy fails, their rows and their matches are those of the input.
         ensures rows { RowsRun choice_catches_next self.entry.now.nfa (kind_in self.entry.now)
             (search_of input.entry).earliest (search_of input.entry) result }
         ensures first_rows { RowsFirst choice_catches_next self.entry.now.nfa (kind_in self.entry.now)
@@ -160,7 +159,7 @@ impl Choice {
     /// Returns the captures of all matches that do not overlap, from left to right, each with all groups of the NFA, as
     /// [`Choice::captures_iter`] gives them.
     ///
-    /// The only error is [`SearchError::Memory`]: there is no memory for the list or for captures. No search fails.
+    /// The only error is [`SearchError::Memory`]: the list or captures could not be allocated. No search fails.
     pub fn captures_all(
         &mut self,
         alloc: Global,
@@ -175,7 +174,8 @@ impl Choice {
         ensures inside { IfOk result (λ all. All (CapturesInside (search_of input.entry)) all.items) }
         ensures apart { IfOk result (λ all. AreApart (search_of input.entry) None (map match_in all.items)) }
         ensures keeps { KeepsEngines self.old self.new }
-        // The choice changes only by the searches of an iteration; if all captures come, these go to its end.
+        // The choice changes only by the searches of an iteration. If all captures are returned, these searches go to
+        // its end.
         ensures searches { ChoiceCatchesOn (search_of input.entry) self.old self.new }
         ensures to_end { IfOk result (λ all.
             ChoiceCatchesToEnd (search_of input.entry) (map row_of all.items) self.old self.new) }
@@ -186,7 +186,7 @@ impl Choice {
         Steps::new(input, catcher).all_with(alloc, self)
     }
 
-    // The iterator that searches with these captures.
+    // Returns the iterator that searches with these captures.
     #[inline]
     fn catch_from<'c, 'h>(
         &'c mut self,

@@ -6,16 +6,16 @@ use nfa_engines::iter::{Searcher, Searches, Steps};
 use regex_search_core::{Input, Match, Span};
 use std::alloc::Global;
 
-/// The matches of an input that do not overlap, from left to right: what [`Choice::find_iter`] gives.
+/// An iterator over all matches of an input that do not overlap, from left to right. [`Choice::find_iter`] returns it.
 ///
-/// They are at most as many as the span has bytes and one more. It is fused: it ends after the last one.
+/// It gives at most n + 1 matches for a span of n bytes. It is fused: after the last match it returns only `None`.
 #[derive(Debug, Drop)]
 pub struct ChoiceMatches<'c, 'h> {
     choice: &'c mut Choice,
     steps: Steps<'h, ByRule>,
 }
 
-// Each search of an iteration takes the engine that suits, and borrows the choice.
+// The searches of one iteration: each borrows the choice, which picks the engine.
 #[derive(Debug, Drop)]
 struct ByRule;
 
@@ -31,16 +31,16 @@ impl Choice {
     ghost use Rattle.nfa_choice.specs.Matches.{choice_finds_cache, choice_finds_done};
     ghost use Rattle.nfa_choice.specs.Matches.{choice_finds_next, choice_finds_walk};
 
-    /// Returns an iterator over all matches that do not overlap, from left to right. To make this takes no memory.
+    /// Returns an iterator over all matches that do not overlap, from left to right. Does not allocate.
     ///
-    /// The next match is searched for from the end of the last one. In place of an empty match where the last one ended
-    /// comes what a search from one byte further on finds. Each search takes the engine that suits.
+    /// Each search starts at the end of the last match. An empty match there is replaced by the result of a search from
+    /// one byte further on. The engine is picked for each search.
     pub fn find_iter<'c, 'h>(&'c mut self, input: Input<'h>) -> ChoiceMatches<'c, 'h>
         ensures same_reference { (choice_finds_cache result).ghost_name ≡ self.entry.ghost_name }
         ensures same_choice { (choice_finds_cache result).now ≡ self.entry.now }
         ensures walk { choice_finds_walk result ≡ fresh (search_of input.entry) }
         ensures going { choice_finds_done result ≡ false }
-        // Each run of calls gives the first matches of the input, and all of them where it goes on to `None`.
+        // Each run of calls gives the first matches of the input, and all of them if it goes on to `None`.
         ensures runs { MatchesRun self.entry.now.nfa (kind_in self.entry.now)
             (search_of input.entry) choice_finds_next result }
         ensures are { MatchesAre self.entry.now.nfa (kind_in self.entry.now)
@@ -67,7 +67,7 @@ impl Choice {
 
     /// Returns all matches that do not overlap, from left to right, as [`Choice::find_iter`] gives them.
     ///
-    /// The only error is [`SearchError::Memory`]: there is no memory for the list of matches. No search fails.
+    /// The only error is [`SearchError::Memory`]: the list could not be allocated. No search fails.
     pub fn find_all(&mut self, alloc: Global, input: Input<'_>) -> Result<Vec<Match>, SearchError>
         ensures memory { IsOkUnless result SearchError.Memory }
         ensures all { IfOk result (λ found. AreMatches self.old.nfa (kind_in self.old) (search_of input.entry).earliest
@@ -75,7 +75,8 @@ impl Choice {
         ensures apart { IfOk result (λ found. AreApart (search_of input.entry) None (map found_of found.items)) }
         ensures inside { IfOk result (λ found. All (λ m. IsInside (search_of input.entry) (found_of m)) found.items) }
         ensures keeps { KeepsEngines self.old self.new }
-        // The choice changes only by the searches of an iteration; if all matches come, these go to its end.
+        // The choice changes only by the searches of an iteration. If all matches are returned, these searches go to
+        // its end.
         ensures searches { ChoiceFindsOn (search_of input.entry) self.old self.new }
         ensures to_end { IfOk result (λ found.
             ChoiceFindsToEnd (search_of input.entry) (map found_of found.items) self.old self.new) }

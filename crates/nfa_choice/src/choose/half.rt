@@ -10,8 +10,8 @@ use crate::choose::{Choice, Engine};
 use regex_search_core::{HalfMatch, Input};
 
 impl Choice {
-    /// Returns the pattern of the match that a search of the input finds, and the offset of its end. It writes no slots,
-    /// so the NFA need not write where its matches start and end.
+    /// Returns the pattern of the match that a search of the input finds, and the offset of its end. It writes no
+    /// slots, so the NFA need not record where its matches start and end.
     ///
     /// Returns `None` if nothing matches.
     pub fn find_half<'h>(&mut self, input: Input<'h>) -> Option<HalfMatch>

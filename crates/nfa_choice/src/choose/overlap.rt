@@ -1,4 +1,4 @@
-//! The patterns of all matches, also of those that overlap.
+//! The patterns of all matches, including matches that overlap.
 ghost use Rattle.std.specs.Prelude.{◌≡◌, ◌+◌, ◌*◌, ◌≤◌, Some};
 ghost use Rattle.regex_search_core.specs.Search.{search_of};
 ghost use Rattle.nfa_paths.specs.Overlaps.{IsOverlapResult};
@@ -12,8 +12,8 @@ use crate::choose::{Choice, Engine};
 use regex_search_core::{Input, PatternSet};
 
 impl Choice {
-    /// Puts the patterns of all matches into the set, also of those that overlap. The set keeps what it holds, and gains
-    /// patterns below its capacity only.
+    /// Adds the patterns of all matches to the set, including matches that overlap. The set keeps its patterns, and
+    /// gains only patterns below its capacity.
     ///
     /// The search is always one of the PikeVM, with its match kind: see
     /// [`PikeVM::which_overlapping_matches`](nfa_engines::pikevm::PikeVM::which_overlapping_matches). The cache of the
@@ -27,7 +27,7 @@ impl Choice {
         ensures keeps { KeepsEngines self.old self.new }
         ensures total { AddsPikeWork self.old.pike self.new.pike }
 
-        // One scan, or none if only the first match is meant and the set holds a pattern.
+        // One scan, or none under leftmost first if the set holds a pattern.
         ensures scans { self.new.pike.scans ≡ overlap_scans (kind_in self.old) patterns.old }
         ensures turns { self.new.pike.turns ≤ self.new.pike.scans * ((1 + turn_weight self.old.nfa)
             * (span_len (search_of input.now) + 1)) }

@@ -1,4 +1,5 @@
--- Round by round the answer from the place is the answer from the first, and what is put off is paid for.
+-- After each iteration the answer from the place is the answer from the first one, and the marks pay for what is
+-- pushed.
 use Rattle.std.proofs.Common.{◌≡◌, ◌-◌, ◌≤◌, length}
 use Rattle.regex_search_core.specs.Search.{search_of}
 use Rattle.std.specs.Prelude.{Some}

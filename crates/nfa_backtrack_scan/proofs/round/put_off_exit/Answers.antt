@@ -1,4 +1,4 @@
--- A turn at a union goes on at its first alternative, with the second put off, or finds its place marked.
+-- A turn at a union goes on at its first alternative, with the second one pushed, or finds its place marked.
 use Rattle.regex_search_core.specs.Search.{search_of}
 use Rattle.nfa_backtrack_scan.proofs.RoundLemmas.{OnErr-always, IsAfforded-turn, TurnsLead-marked, TurnsLead-union}
 use Rattle.nfa_backtrack_scan.proofs.round.put_off_exit.Goals as goal

@@ -1,4 +1,4 @@
--- What the search from all starts comes to, and how many turns it takes at most.
+-- The result of the search from all starts, and the most turns that it takes.
 use Rattle.std.proofs.Common.{◌≡◌, ◌∙◌, ◌+◌, ◌-◌, ◌<◌, ◌≤◌, length, replicate, map, arith, sym, ap, refl}
 use Rattle.std.specs.Prelude.{None}
 use Rattle.regex_search_core.specs.Search.{search_of}

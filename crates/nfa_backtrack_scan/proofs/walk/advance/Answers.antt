@@ -1,4 +1,4 @@
--- A turn that leads nowhere takes up what was put off last.
+-- After a turn that leads nowhere, frames are popped.
 use Rattle.std.proofs.Common.{◌∙◌, ap, arith, refl, sym}
 use Rattle.std.specs.Prelude.{Some}
 use Rattle.regex_search_core.specs.Found.{HalfFound}

@@ -1,4 +1,4 @@
--- The first turn of a walk: it goes on from the place that it leads to, or fails where the place was marked.
+-- The first turn of a walk: it goes on from the place that it leads to, or fails if its place was marked.
 use Rattle.std.proofs.Common.{arith, refl}
 use Rattle.regex_search_core.specs.Search.{search_of}
 use Rattle.nfa_backtrack_scan.proofs.WalkLemmas.{Carries-marked}

@@ -1,10 +1,10 @@
--- All alternatives but the first are put off.
+-- All alternatives but the first are pushed.
 use Rattle.std.proofs.Common.{◌≡◌, ◌≤◌, ◌++◌, ◌∙◌, ℕ, suc, zero, List, [], ◌∷◌, length, map, drop, reverse, refl, ap}
 use Rattle.std.proofs.Common.{arith}
 use Rattle.nfa_backtrack_scan.specs.declared.frame.Frame.TheVariants.{Step}
 use Rattle.nfa_backtrack_scan.proofs.walk.put_off.Goals as goal
 
--- where one is left, or there is none
+-- if at most one is left
 drop-low : (xs : List ℕ) (left : ℕ) → left ≤ 1 → (left ≡ 0 → length xs ≡ 0) → drop left xs ≡ drop 1 xs
 drop-low [] zero low none = refl
 drop-low (x ∷ xs) zero low none = absurd (let e = none refl in omega arith)

@@ -1,4 +1,4 @@
--- The alternatives that were put off so far, the earliest on top.
+-- The alternatives that were pushed so far, with the earliest on top.
 use Rattle.std.proofs.Common.{◌≡◌, ◌≤◌, ◌++◌, length, map, drop, reverse}
 use Rattle.nfa_backtrack_scan.specs.declared.frame.Frame.TheVariants.{Step}
 use Rattle.nfa_backtrack_scan.proofs.walk.put_off.Given as goal

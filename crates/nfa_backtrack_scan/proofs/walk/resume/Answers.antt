@@ -1,4 +1,4 @@
--- A frame that is taken up does not change the answer.
+-- Applying a frame does not change the answer.
 use Rattle.std.proofs.Common.{append-nil, arith, ◌∙◌}
 use Rattle.nfa_backtrack_scan.proofs.UnwindLemmas.{Carries-unwound, within-unwound, tries-unwound, slots-unwound}
 use Rattle.nfa_backtrack_scan.proofs.walk.resume.Goals as goal

@@ -1,4 +1,4 @@
--- While frames are taken up, the answer stays what it was.
+-- While frames are applied, the answer does not change.
 use Rattle.std.proofs.Common.{◌≡◌, List, length}
 use Rattle.std.specs.Prelude.{All, vec_len}
 use Rattle.std.specs.List.{sum_by}

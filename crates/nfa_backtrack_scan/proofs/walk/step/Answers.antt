@@ -1,4 +1,4 @@
--- Where a turn leads, for each kind of state, and that its mark pays for what it puts off.
+-- Where a turn leads, for each kind of state; its mark pays for what it pushes.
 use Rattle.std.proofs.Common.{[], ◌<◌, ◌∙◌, length, arith, refl, sym}
 use Rattle.std.specs.Prelude.{None}
 use Rattle.regex_search_core.specs.Search.{search_of}

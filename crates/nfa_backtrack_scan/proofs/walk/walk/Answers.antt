@@ -1,4 +1,4 @@
--- A walk is its first turn and the rest of it; where that comes to nothing, the slot of the first turn is put back.
+-- A walk is its first turn and the rest. If the rest finds nothing, the slot of the first turn is unset again.
 use Rattle.std.proofs.Common.{arith}
 use Rattle.regex_search_core.specs.Search.{search_of}
 use Rattle.nfa_paths.proofs.TurnLemmas.{marked_sum-le}

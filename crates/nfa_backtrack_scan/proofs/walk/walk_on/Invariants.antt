@@ -1,4 +1,4 @@
--- At each turn of a walk the answer from there is the answer of the walk, and what waits is paid for.
+-- At each turn of a walk the answer from there is the answer of the walk, and the marks pay for the frames.
 use Rattle.std.proofs.Common.{◌≡◌, ◌+◌, ◌-◌, ◌≤◌, ◌∷◌, List, length, sum}
 use Rattle.std.specs.Prelude.{All}
 use Rattle.std.specs.List.{sum_by}

@@ -1,4 +1,4 @@
--- The search's answer is the first path, which tells of the hit.
+-- The search's answer is the first path, which is that of the hit.
 use Rattle.std.proofs.Common.{subst}
 use Rattle.std.specs.Prelude.{false}
 use Rattle.nfa_paths.specs.Paths.{IsAnswer, IsMatchAnswer, IsFoundAnswer}

@@ -1,4 +1,4 @@
--- Where the capacity is large enough for the span, no search is refused for length.
+-- If the capacity is large enough for the span, no search is refused for its length.
 use Rattle.std.proofs.Common.{arith, length, unwrap_or, ◌*◌, ◌+◌}
 use Rattle.nfa_paths.specs.Paths.{span_len}
 use Rattle.nfa_backtrack.specs.Backtrack.{capacity_of, default_capacity}

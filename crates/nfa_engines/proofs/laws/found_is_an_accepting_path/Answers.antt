@@ -1,4 +1,4 @@
--- Where a match may end anywhere, a search says whether there is an accepting path.
+-- If a match may end anywhere, a search says whether there is an accepting path.
 use Rattle.nfa_engines.proofs.MatchLemmas.{found-something, no_pattern-nothing, not_found-nothing, pattern-matched}
 use Rattle.nfa_engines.proofs.laws.found_is_an_accepting_path.Goals as goal
 

@@ -1,4 +1,4 @@
--- Whether there is a match depends on no kind where matches may end anywhere, and is one for both engines.
+-- Whether there is a match does not depend on the kind if matches may end anywhere, and is the same for both engines.
 use Rattle.regex_search_core.specs.declared.search.MatchKind.TheVariants.{LeftmostFirst}
 use Rattle.std.proofs.Common.{false}
 use Rattle.nfa_paths.proofs.ExistenceLemmas.{scan_answers-agree, search_answers-agree}

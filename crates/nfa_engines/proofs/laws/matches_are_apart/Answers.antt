@@ -1,4 +1,4 @@
--- The matches of an input lie in order and apart, and are at most n + 1.
+-- The matches of an input are in order and apart, and are at most n + 1.
 use Rattle.nfa_search_base.proofs.ListLemmas.{matches-apart}
 use Rattle.nfa_engines.proofs.ListOfMatchesLemmas.{few-apart}
 use Rattle.nfa_engines.proofs.laws.matches_are_apart.Goals as goal

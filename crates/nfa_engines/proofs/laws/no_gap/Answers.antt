@@ -1,4 +1,4 @@
--- Where each accepting path writes its ends, no match is passed over.
+-- If each accepting path writes its ends, no match is missed.
 use Rattle.std.proofs.Common.{false}
 use Rattle.regex_search_core.specs.declared.search.MatchKind.TheVariants.{LeftmostFirst}
 use Rattle.nfa_engines.proofs.GapLemmas.{none-is_no_path, none-starts_before}

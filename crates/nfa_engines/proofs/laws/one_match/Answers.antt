@@ -1,4 +1,4 @@
--- A match answer, a found answer and the set that comes of a set are each one.
+-- There is one match, one found answer, and one set that a set becomes.
 use Rattle.nfa_paths.proofs.KnownLemmas.{match-unique}
 use Rattle.nfa_engines.proofs.FirstSetLemmas.{first_set-unique}
 use Rattle.nfa_engines.proofs.OneLemmas.{found-unique, set-unique}

@@ -1,4 +1,4 @@
--- A search that is bound to a pattern is the search of this pattern alone.
+-- A search that is anchored to a pattern is the search of only this pattern.
 use Rattle.nfa_engines.proofs.AloneLemmas.{answer-alone, answer-bound, match-alone, match-bound}
 use Rattle.nfa_engines.proofs.laws.pattern_is_alone.Goals as goal
 

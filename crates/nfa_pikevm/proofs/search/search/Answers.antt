@@ -1,4 +1,4 @@
--- A search that scans again while its answer ends inside a character: what holds at each scan, and what it comes to.
+-- A search that scans again while its answer ends inside a codepoint: what holds at each scan, and the result.
 use Rattle.std.proofs.Common.{◌≡◌, ◌∙◌, ℕ, ◌+◌, ◌≤◌, ap, arith, refl, replicate, subst, sym}
 use Rattle.std.specs.Prelude.{Option, None, Some}
 use Rattle.regex_search_core.specs.Search.{Search, search_of}
@@ -11,7 +11,7 @@ use Rattle.nfa_paths.proofs.RestartLemmas.{restarts-begin, settled-none, settled
 use Rattle.nfa_paths.proofs.RestartLemmas.{turns-after, scans-bound}
 use Rattle.nfa_pikevm.proofs.search.search.Goals as goal
 
--- each scan asks for what the search asks for
+-- the premises of each scan are those of the search
 asked : (nfa : Automaton) (kind : MatchKind) (x y : Search) (half : Option HalfMatch) (slots : Slots) (turns : ℕ)
     → y.earliest ≡ x.earliest → ScanGives nfa kind y.earliest y half slots turns
     → ScanGives nfa kind x.earliest y half slots turns

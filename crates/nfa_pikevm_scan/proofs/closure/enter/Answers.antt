@@ -1,4 +1,4 @@
--- A turn enters a state: it marks it, keeps what its byte leads to, or tells where to go on.
+-- A turn enters a state: it marks it, and keeps the state that its byte leads to, or gives the state to go on with.
 use Rattle.std.proofs.Common.{◌≡◌, ◌∙◌, length, take, slice_set, arith, rules, sym, ap, refl, inl, inr}
 use Rattle.std.proofs.lemmas.List.{length-drop}
 use Rattle.regex_search_core.specs.Search.{search_of}
@@ -281,7 +281,7 @@ returns-after-slot-row-clause-top c =
       | else-slot-row w ↦ omega (arith, same, w.top-is)
     ]
 
--- what was written and put off
+-- what was written and pushed
 written : (c : goal.After-result-in-Capture-1)
     → IsWritten c.args.here.now.at c.in-Capture.slot (take c.args.top.now c.args.frames.now) c.args.row.now
     (take c.if-slot-row.top c.if-slot-row.frames) c.if-slot-row.row

@@ -1,4 +1,4 @@
--- All that a root leads to without reading a byte is followed from match to match, up to where the position ends.
+-- All that a root leads to without reading a byte is followed from match to match, until the position ends.
 use Rattle.std.proofs.Common.{◌≡◌, ◌∙◌, [], length, map, take, arith, refl, true, false}
 use Rattle.std.specs.Prelude.{None}
 use Rattle.regex_search_core.specs.Search.{search_of}

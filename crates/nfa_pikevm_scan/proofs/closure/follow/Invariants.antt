@@ -1,4 +1,4 @@
--- All that a root leads to without reading a byte is followed from match to match, up to where the position ends.
+-- All that a root leads to without reading a byte is followed from match to match, until the position ends.
 use Rattle.std.proofs.Common.{◌≡◌, ◌≤◌, ◌<◌, ◌+◌, ◌-◌, [], length, map, take}
 use Rattle.std.specs.Prelude.{All, Some, sum}
 use Rattle.std.specs.List.{sum_by}

@@ -1,9 +1,9 @@
--- The alternatives behind the first one lie on the stack, the earliest on top.
+-- The alternatives after the first one are on the stack, with the earliest on top.
 use Rattle.std.proofs.Common.{◌≡◌, ◌≤◌, ◌++◌, ◌∙◌, ℕ, suc, zero, List, [], ◌∷◌, length, map, drop, take, reverse, refl, ap, arith}
 use Rattle.nfa_pikevm_scan.specs.declared.frame.FollowEpsilon.TheVariants.{Explore}
 use Rattle.nfa_pikevm_scan.proofs.closure.put_off.Goals as goal
 
--- where one is left, or there is none
+-- if at most one is left
 drop-low : (xs : List ℕ) (left : ℕ) → left ≤ 1 → (left ≡ 0 → length xs ≡ 0) → drop left xs ≡ drop 1 xs
 drop-low [] zero low none = refl
 drop-low (x ∷ xs) zero low none = absurd (let e = none refl in omega arith)

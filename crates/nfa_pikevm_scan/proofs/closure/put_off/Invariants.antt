@@ -1,4 +1,4 @@
--- The alternatives behind the first one lie on the stack, the earliest on top.
+-- The alternatives after the first one are on the stack, with the earliest on top.
 use Rattle.std.proofs.Common.{◌≡◌, ◌≤◌, ◌+◌, ◌++◌, length, map, drop, take, reverse}
 use Rattle.nfa_pikevm_scan.specs.declared.frame.FollowEpsilon.TheVariants.{Explore}
 use Rattle.nfa_pikevm_scan.proofs.closure.put_off.Given as goal

@@ -1,4 +1,4 @@
--- The state that was put off last is taken up, and slots are put back on the way.
+-- Frames are popped down to a state to follow, and slots are restored on the way.
 use Rattle.std.proofs.Common.{◌-◌, take, arith}
 use Rattle.nfa_pikevm_scan.proofs.UnwindLemmas.{popped-is, Follows-popped, tries-popped, slot-popped}
 use Rattle.nfa_pikevm_scan.proofs.closure.resume.Goals as goal

@@ -1,4 +1,4 @@
--- The state that was put off last is taken up, and slots are put back on the way.
+-- Frames are popped down to a state to follow, and slots are restored on the way.
 use Rattle.std.proofs.Common.{◌≡◌, ◌≤◌, ℕ, List, length, take}
 use Rattle.std.specs.Prelude.{All}
 use Rattle.std.specs.List.{sum_by}

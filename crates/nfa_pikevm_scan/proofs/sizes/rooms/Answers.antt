@@ -1,4 +1,4 @@
--- The room of all states, or none where it is past the limit.
+-- The room of all states, or none if it exceeds the limit.
 use Rattle.nfa_pikevm_scan.proofs.SizeLemmas.{rooms-past}
 use Rattle.nfa_pikevm_scan.proofs.sizes.rooms.Goals as goal
 

@@ -1,4 +1,4 @@
--- The room of all states, or none where it is past the limit.
+-- The room of all states, or none if it exceeds the limit.
 use Rattle.std.proofs.Common.{◌≡◌, take}
 use Rattle.std.specs.List.{sum_by}
 use Rattle.thompson_nfa.specs.Automaton.{node_of}

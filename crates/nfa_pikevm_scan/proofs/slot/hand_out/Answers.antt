@@ -1,4 +1,4 @@
--- The slots that are handed out are those of the row, and none past it.
+-- The slots are those of the row, and unset after it.
 use Rattle.std.proofs.Common.{◌≡◌, ◌∙◌, ◌++◌, ◌+◌, ◌-◌, suc, ap, take, length, replicate, slice_set, arith}
 use Rattle.std.specs.Prelude.{None}
 use Rattle.std.proofs.Math.Seq.{take-length}

@@ -1,4 +1,4 @@
--- The slots that are handed out are those of the row, and none past it.
+-- The slots are those of the row, and unset after it.
 use Rattle.std.proofs.Common.{◌≡◌, ◌++◌, ◌-◌, length, replicate, take}
 use Rattle.std.specs.Prelude.{None}
 use Rattle.nfa_pikevm_scan.proofs.slot.hand_out.Given as goal

@@ -1,4 +1,4 @@
--- The match of a search, its pattern, and where it lies.
+-- The match of a search, its pattern, and its span.
 use Rattle.std.specs.Prelude.{false}
 use Rattle.std.proofs.Common.{◌≡◌, ◌∙◌, ◌*◌, ap, arith, length}
 use Rattle.std.proofs.lemmas.List.{length-take}

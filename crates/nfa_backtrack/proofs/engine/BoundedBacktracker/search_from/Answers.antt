@@ -1,4 +1,4 @@
--- A search that scans again while its answer ends inside a character: what holds at each scan, and what it comes to.
+-- A search that scans again while its answer ends inside a codepoint: what holds at each scan, and the result.
 use Rattle.std.proofs.Common.{◌∙◌, ◌+◌, ◌≤◌, ap, arith, refl, replicate, sym}
 use Rattle.std.specs.Prelude.{None, false}
 use Rattle.regex_search_core.specs.Search.{search_of}

@@ -1,4 +1,4 @@
--- The matches lie in the span; an item that is an error is the refusal of its length, or of memory.
+-- The matches are inside the span. An item that is an error is `HaystackTooLong` or `Memory`.
 use Rattle.std.proofs.Common.{rules, false, map, None, subst, sym}
 use Rattle.regex_search_core.specs.Found.{found_of}
 use Rattle.regex_search_core.specs.Search.{search_of}

@@ -1,4 +1,4 @@
--- The pattern and the slots of a search, and where they lie.
+-- The pattern and the slots of a search, which are inside its span.
 use Rattle.std.specs.Prelude.{false}
 use Rattle.regex_search_core.specs.Search.{search_of}
 use Rattle.regex_search_core.specs.declared.search.MatchKind.TheVariants.{LeftmostFirst}

@@ -1,4 +1,4 @@
--- The match that is known is the answer; else the search's is, and tells what is known then.
+-- A known match is the answer. Otherwise it is the search's, which gives the match that is known then.
 use Rattle.std.proofs.Common.{rules, ◌∙◌, refl, ap, subst, Option, Result}
 use Rattle.regex_search_core.specs.Found.{found_of}
 use Rattle.regex_search_core.specs.Search.{search_of}

@@ -1,4 +1,4 @@
--- one more state stands for its own
+-- one more state is moved
 use Rattle.nfa_compiler.proofs.AddLemmas.{holds-none, holds-more, nodes-push, nodes-length}
 use Rattle.std.proofs.Common.{◌∙◌}
 use Rattle.nfa_compiler.proofs.block.Site.add_states.Goals as goal

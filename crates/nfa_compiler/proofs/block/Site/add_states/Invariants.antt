@@ -1,4 +1,4 @@
--- the states so far stand for those of the pattern's NFA
+-- the states so far are those of the pattern's NFA, moved
 use Rattle.std.proofs.Common.{map}
 use Rattle.thompson_nfa.specs.Automaton.{node_of}
 use Rattle.nfa_compiler.specs.Added.{HoldsStates}

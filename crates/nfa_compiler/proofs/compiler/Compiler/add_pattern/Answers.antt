@@ -1,4 +1,4 @@
--- the pattern's own NFA stands at the site
+-- the pattern's own NFA is at the site
 use Rattle.std.proofs.Common.{arith, refl}
 use Rattle.nfa_compiler.proofs.AddLemmas.{nodes-length}
 use Rattle.nfa_compiler.proofs.RangeLemmas.{pattern-in-range}

@@ -1,4 +1,4 @@
--- one pattern more stands
+-- one more pattern is there
 use Rattle.std.proofs.Common.{◌+◌, ◌∙◌, ap, arith, length, map, subst, sym, vec_len}
 use Rattle.std.proofs.lemmas.List.{length_push}
 use Rattle.thompson_nfa.specs.Automaton.{node_of}

@@ -1,4 +1,4 @@
--- the patterns so far stand where they start
+-- the patterns so far are at their starts
 use Rattle.std.proofs.Common.{◌≡◌, ◌<◌, map, length, vec_len}
 use Rattle.std.specs.Prelude.{All}
 use Rattle.thompson_nfa.specs.Automaton.{node_of}

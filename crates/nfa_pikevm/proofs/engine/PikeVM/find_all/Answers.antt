@@ -1,4 +1,4 @@
--- Memory is asked for where a match came.
+-- It allocates only if there was a match.
 use Rattle.std.proofs.Common.{subst, sym}
 use Rattle.regex_search_core.specs.Search.{search_of}
 use Rattle.nfa_search_base.specs.MatchRuns.{MatchesNext}

@@ -1,4 +1,4 @@
--- There is a match exactly where a search with no slots finds a pattern.
+-- There is a match exactly if a search with no slots finds a pattern.
 use Rattle.std.proofs.Common.{◌≡◌, ap, refl}
 use Rattle.std.specs.Prelude.{Option, None, Some, false, not, is_some, option_map}
 use Rattle.regex_search_core.specs.Search.{search_of}
@@ -10,7 +10,7 @@ use Rattle.nfa_pikevm.specs.Engines.{kind_of}
 use Rattle.nfa_pikevm.proofs.IsMatchLemmas.{found-free, work-free}
 use Rattle.nfa_pikevm.proofs.engine.PikeVM.is_match.Goals as goal
 
--- a value's number is there where the value is
+-- there is a number exactly if there is a value
 is_some-map : (o : Option PatternID) → is_some (option_map number_of o) ≡ is_some o
 is_some-map None = refl
 is_some-map (Some x) = refl

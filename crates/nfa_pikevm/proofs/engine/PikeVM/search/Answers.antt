@@ -1,4 +1,4 @@
--- After no match no slot of the captures is set; and where the slots lie in the span, so do the spans.
+-- After no match no slot of the captures is set. If the slots are inside the span, so are the spans.
 use Rattle.std.proofs.Common.{arith, length}
 use Rattle.std.proofs.lemmas.Grind.{common_steps}
 use Rattle.regex_search_core.specs.Search.{search_of}

@@ -1,4 +1,4 @@
--- The answer is that of the search: after no match no slot is set, and each that is set lies in the span.
+-- The answer is that of the search: after no match no slot is set, and each slot that is set is inside the span.
 use Rattle.regex_search_core.specs.Search.{search_of}
 use Rattle.nfa_pikevm.specs.Engines.{kind_of}
 use Rattle.nfa_pikevm.proofs.EngineLemmas.{slots-inside, slots-none_of}

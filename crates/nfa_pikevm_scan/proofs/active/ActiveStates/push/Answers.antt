@@ -1,4 +1,4 @@
--- The state and its row come behind those that are kept.
+-- The state and its row come after those that are kept.
 use Rattle.std.proofs.Common.{◌≡◌, length, arith, ap, ◌∙◌}
 use Rattle.std.proofs.lemmas.List.{with_items_is}
 use Rattle.nfa_pikevm_scan.proofs.RowLemmas.{pushed-len, pushed-fits, pushed-view, pushed-inside}

@@ -1,4 +1,4 @@
--- The state comes behind those that are kept, with a row that holds nothing.
+-- The state comes after those that are kept, with a row that holds nothing.
 use Rattle.std.proofs.Common.{◌≡◌, length, arith, ap, ◌∙◌, replicate}
 use Rattle.std.specs.Prelude.{None}
 use Rattle.std.proofs.lemmas.List.{with_items_is}
