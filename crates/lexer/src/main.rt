@@ -47,7 +47,10 @@ fn main(rt: HostRuntime) -> Result<ExitCode> {
         }
         [name] if !name.starts_with('-') => match fs::read_to_string(&rt, *name) {
             Ok(text) => run(&rt, &text),
-            Err(error) => Ok(misused(&rt, error)),
+            Err(error) => Ok(misused(
+                &rt,
+                format_args!("cannot read the rules in {name}: {error}"),
+            )),
         },
         _ => Ok(misused(&rt, USAGE)),
     }

@@ -7,16 +7,16 @@ use thiserror::Error;
 #[derive(Debug, Drop, Error)]
 pub enum Failure {
     /// The input could not be read.
-    #[error("cannot read: {0}")]
+    #[error("cannot read standard input: {0}")]
     Read(io::Error),
     /// The output could not be written.
-    #[error("cannot write: {0}")]
+    #[error("cannot write standard output: {0}")]
     Write(io::Error),
     /// Allocation failed.
     #[error("out of memory")]
     Memory,
     /// The input has more lines than a `u64` counts.
-    #[error("the input is too long")]
+    #[error("the input has more bytes or lines than a 64-bit number counts")]
     TooLong,
 }
 

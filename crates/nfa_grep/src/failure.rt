@@ -10,13 +10,13 @@ pub enum Failure {
     #[error("{0}")]
     Read(io::Error),
     /// The output could not be written.
-    #[error("cannot write: {0}")]
+    #[error("cannot write standard output: {0}")]
     Write(io::Error),
     /// Allocation failed.
     #[error("out of memory")]
     Memory,
     /// The input has more bytes, or more lines, than a `u64` counts.
-    #[error("the input is too long")]
+    #[error("the input has more bytes or lines than a 64-bit number counts")]
     TooLong,
 }
 

@@ -1,0 +1,142 @@
+//! An NFA as a graph in the language of Graphviz.
+use crate::edges::{Edge, edges_of};
+use crate::path::{Path, Step};
+use anyhow::Result;
+use regex_search_core::StateID;
+use std::alloc::Global;
+use std::io;
+use std::io::Write;
+use thompson_nfa::{NFA, State};
+
+/// What is marked in the graph.
+#[derive(Debug, Drop)]
+pub enum Marks {
+    /// Nothing: there is no haystack.
+    None,
+    /// Nothing: there is no match in the haystack.
+    NoMatch,
+    /// The states and edges of this path.
+    Path(Path),
+}
+
+impl Marks {
+    /// Whether the path has this state.
+    fn has_state(&self, state: usize) -> bool {
+        match self {
+            Marks::Path(path) => path.last == state
+                || path.steps.iter().any(|step| step.state == state),
+            Marks::None | Marks::NoMatch => false,
+        }
+    }
+
+    /// Whether the path has this edge.
+    fn has_edge(&self, wanted: Step) -> bool {
+        match self {
+            Marks::Path(path) => path.steps.contains(&wanted),
+            Marks::None | Marks::NoMatch => false,
+        }
+    }
+}
+
+/// Writes the graph: a node for each state, with its number, and the edges from it.
+pub fn write_graph<W: Write>(alloc: Global, out: &mut W, nfa: &NFA, marks: &Marks) -> Result<()> {
+    out.write_all(b"digraph nfa {\n  rankdir=LR;\n  node [shape=box];\n")?;
+    write_title(out, marks)?;
+    write_start(out, "anchored", nfa.start_anchored())?;
+    write_start(out, "unanchored", nfa.start_unanchored())?;
+    for (number, state) in nfa.states().iter().enumerate() {
+        write_state(out, number, state, marks)?;
+        write_edges(out, number, &edges_of(alloc, state)?, marks)?;
+    }
+    out.write_all(b"}\n")?;
+    Ok(())
+}
+
+fn write_title<W: Write>(out: &mut W, marks: &Marks) -> io::Result<()> {
+    match marks {
+        Marks::None => Ok(()),
+        Marks::NoMatch => writeln!(out, "  label=\"no match\";"),
+        Marks::Path(path) => {
+            let pattern = path.pattern.as_usize();
+            writeln!(
+                out,
+                "  label=\"pattern {pattern} at {}..{}\";",
+                path.start, path.end
+            )
+        }
+    }
+}
+
+/// A start state has an arrow from a word.
+fn write_start<W: Write>(out: &mut W, word: &str, start: StateID) -> io::Result<()> {
+    writeln!(out, "  {word} [shape=plaintext];")?;
+    writeln!(out, "  {word} -> {};", start.as_usize())
+}
+
+fn write_state<W: Write>(
+    out: &mut W,
+    number: usize,
+    state: &State,
+    marks: &Marks,
+) -> io::Result<()> {
+    write!(out, "  {number} [label=\"{number}\\n")?;
+    match state {
+        State::ByteRange { .. } => out.write_all(b"ByteRange\"")?,
+        State::Sparse(_) => out.write_all(b"Sparse\"")?,
+        State::Dense(_) => out.write_all(b"Dense\"")?,
+        State::Look { .. } => out.write_all(b"Look\"")?,
+        State::Union { .. } => out.write_all(b"Union\"")?,
+        State::BinaryUnion { .. } => out.write_all(b"BinaryUnion\"")?,
+        State::Capture { slot, .. } => write!(out, "Capture {slot}\"")?,
+        State::Fail => out.write_all(b"Fail\"")?,
+        State::Match { pattern_id } => {
+            write!(out, "Match {}\", peripheries=2", pattern_id.as_usize())?
+        }
+    }
+    write_mark(out, marks.has_state(number))
+}
+
+/// Writes the edges of a state. Edges that follow one another and lead to one state share an arrow.
+fn write_edges<W: Write>(
+    out: &mut W,
+    number: usize,
+    edges: &[Edge],
+    marks: &Marks,
+) -> io::Result<()> {
+    // The target of the arrow that is not written to its end, and whether it is marked.
+    let mut open = None;
+    for (index, edge) in edges.iter().enumerate() {
+        let step = Step {
+            state: number,
+            edge: index,
+        };
+        let arrow = Some((edge.next, marks.has_edge(step)));
+        if open == arrow {
+            write!(out, ", {}", edge.label)?;
+        } else {
+            close_arrow(out, open)?;
+            let target = edge.next.as_usize();
+            write!(out, "  {number} -> {target} [label=\"{}", edge.label)?;
+            open = arrow;
+        }
+    }
+    close_arrow(out, open)
+}
+
+fn close_arrow<W: Write>(out: &mut W, open: Option<(StateID, bool)>) -> io::Result<()> {
+    match open {
+        Some((_, marked)) => {
+            out.write_all(b"\"")?;
+            write_mark(out, marked)
+        }
+        None => Ok(()),
+    }
+}
+
+fn write_mark<W: Write>(out: &mut W, marked: bool) -> io::Result<()> {
+    if marked {
+        out.write_all(b", color=red, penwidth=2];\n")
+    } else {
+        out.write_all(b"];\n")
+    }
+}

@@ -1,0 +1,77 @@
+//! Prints an NFA as a graph for Graphviz, and marks the path that a search answers.
+#![tactic(auto)]
+
+mod command;
+mod edges;
+mod graph;
+mod path;
+
+use crate::command::{Command, Source, parse};
+use crate::graph::{Marks, write_graph};
+use crate::path::answered_path;
+use anyhow::{Context, Result};
+use nfa_compiler::Compiler;
+use nfa_engines::pikevm::PikeVM;
+use nfa_samples::sample;
+use std::alloc::Global;
+use std::io::{BufWriter, Write};
+use std::process::ExitCode;
+use std::{env, io};
+use thompson_nfa::NFA;
+
+/// The arguments or the pattern are wrong, the output cannot be written, or memory ran out.
+const FAILED: u8 = 2;
+
+fn main(rt: HostRuntime) -> ExitCode {
+    match answer(&rt) {
+        Ok(code) => code,
+        Err(error) => {
+            // The status says so even if the line cannot be written.
+            let _ = eprintln!(rt; "nfa_dot: {error}");
+            ExitCode::from(FAILED)
+        }
+    }
+}
+
+fn answer(rt: &HostRuntime) -> Result<ExitCode> {
+    let alloc = rt.alloc();
+    let words: Vec<String> = env::args(rt)?.collect(alloc)?;
+    let words: Vec<&str> = words.iter().map(|word| word.as_str()).collect(alloc)?;
+    match parse(alloc, &words)? {
+        Command::Draw { source, haystack } => {
+            draw(rt, source, haystack)?;
+            Ok(ExitCode::SUCCESS)
+        }
+        Command::Say(error) => {
+            let code = if error.use_stderr() { FAILED } else { 0 };
+            error.print(rt)?;
+            Ok(ExitCode::from(code))
+        }
+    }
+}
+
+fn draw(rt: &HostRuntime, source: Source<'_>, haystack: Option<&str>) -> Result<()> {
+    let alloc = rt.alloc();
+    let vm = PikeVM::new_from_nfa(nfa_of(alloc, source)?)?;
+    let marks = match haystack {
+        Some(haystack) => match answered_path(alloc, &vm, haystack.as_bytes())? {
+            Some(path) => Marks::Path(path),
+            None => Marks::NoMatch,
+        },
+        None => Marks::None,
+    };
+    let mut out = BufWriter::new(alloc, io::writer(rt))?;
+    write_graph(alloc, &mut out, vm.get_nfa(), &marks)?;
+    out.flush()?;
+    Ok(())
+}
+
+/// The NFA that is drawn.
+fn nfa_of(alloc: Global, source: Source<'_>) -> Result<NFA> {
+    match source {
+        Source::Sample(name) => {
+            sample(alloc, name)?.context(format_args!("there is no sample NFA {name:?}"))
+        }
+        Source::Pattern(text) => Ok(Compiler::new().build(alloc, text)?),
+    }
+}

@@ -1,0 +1,156 @@
+//! The path of the match that a search finds.
+ghost use Rattle.nfa_engines.specs.Engines.{Fits};
+
+use crate::edges::edges_of;
+use anyhow::Result;
+use nfa_engines::pikevm::{Cache, PikeVM};
+use regex_search_core::{Anchored, Input, PatternID, StateID};
+use std::alloc::{AllocError, Global};
+use std::collections::BTreeSet;
+use thompson_nfa::{NFA, State};
+
+/// An edge of a path: the number of the state that it leaves, and its index among the edges of this state.
+#[derive(Clone, Copy, Debug, PartialEq, Eq)]
+pub struct Step {
+    pub state: usize,
+    pub edge: usize,
+}
+
+/// A path from a start state to a match.
+#[derive(Debug, Drop)]
+pub struct Path {
+    pub pattern: PatternID,
+    /// The offset in the haystack where the path starts.
+    pub start: usize,
+    /// The offset where it ends.
+    pub end: usize,
+    /// The edges, the last one first.
+    pub steps: Vec<Step>,
+    /// The number of the match state.
+    pub last: usize,
+}
+
+/// Returns the path of the match that a leftmost first search of the haystack finds, if it finds one.
+pub fn answered_path(alloc: Global, vm: &PikeVM, haystack: &[u8]) -> Result<Option<Path>> {
+    let mut cache = vm.create_cache(alloc)?;
+    match answered_start(vm, &mut cache, haystack) {
+        Some(start) => first_path(alloc, vm.get_nfa(), haystack, start),
+        None => Ok(None),
+    }
+}
+
+/// Where the match of a search starts: the first position from which an anchored search finds one. The slots of the
+/// match do not say so if the NFA writes none.
+fn answered_start(vm: &PikeVM, cache: &mut Cache, haystack: &[u8]) -> Option<usize>
+    requires { Fits cache.old vm.now.nfa }
+{
+    let last = if vm.get_nfa().is_always_start_anchored() {
+        0
+    } else {
+        haystack.len()
+    };
+    for start in 0..=last {
+        let input = Input::new(haystack)
+            .range(start..haystack.len())
+            .anchored(Anchored::Yes);
+        if vm.search_slots(cache, &input, &mut []).is_some() {
+            return Some(start);
+        }
+    }
+    None
+}
+
+/// A state at a position, and how the search came there.
+#[derive(Clone, Copy, Debug, PartialEq, Eq)]
+struct Visit {
+    state: StateID,
+    at: usize,
+    /// The index of the visit before this one, and of the edge that leads from its state. None at the start.
+    from: Option<(usize, usize)>,
+}
+
+/// Returns the first accepting path from this position: depth first, each state at most once at each position.
+fn first_path(alloc: Global, nfa: &NFA, haystack: &[u8], start: usize) -> Result<Option<Path>> {
+    let mut visits = Vec::new(alloc);
+    let mut seen = BTreeSet::new(alloc);
+    let mut stack = Vec::new(alloc);
+    stack.push(Visit {
+        state: nfa.start_anchored(),
+        at: start,
+        from: None,
+    })?;
+    for _ in 0..u64::MAX {
+        let Some(visit) = stack.pop() else { break };
+        let Some(state) = nfa.states().get(visit.state.as_usize()) else {
+            break;
+        };
+        if let State::Match { pattern_id } = state {
+            return Ok(Some(path_to(alloc, *pattern_id, &visits, visit)?));
+        }
+        if seen.insert((visit.state.as_usize(), visit.at))? {
+            for next in targets(alloc, state, haystack, visit.at, visits.len())?
+                .iter()
+                .rev()
+            {
+                stack.push(*next)?;
+            }
+            visits.push(visit)?;
+        }
+    }
+    Ok(None)
+}
+
+/// The visits that come next, the preferred one first, if that of this state at this position has the index `number`.
+fn targets(
+    alloc: Global,
+    state: &State,
+    haystack: &[u8],
+    at: usize,
+    number: usize,
+) -> Result<Vec<Visit>, AllocError> {
+    let mut targets = Vec::new(alloc);
+    for (index, edge) in edges_of(alloc, state)?.iter().enumerate() {
+        if let Some(at) = edge.label.target(haystack, at) {
+            targets.push(Visit {
+                state: edge.next,
+                at,
+                from: Some((number, index)),
+            })?;
+            if edge.label.reads() {
+                break;
+            }
+        }
+    }
+    Ok(targets)
+}
+
+/// The path that led to this visit of a match state.
+fn path_to(
+    alloc: Global,
+    pattern: PatternID,
+    visits: &[Visit],
+    end: Visit,
+) -> Result<Path, AllocError> {
+    let mut steps = Vec::new(alloc);
+    let mut visit = end;
+    for _ in 0..visits.len() {
+        let Some((number, edge)) = visit.from else {
+            break
+        };
+        let Some(before) = visits.get(number) else {
+            break
+        };
+        visit = *before;
+        steps.push(Step {
+            state: visit.state.as_usize(),
+            edge,
+        })?;
+    }
+    Ok(Path {
+        pattern,
+        start: visit.at,
+        end: end.at,
+        steps,
+        last: end.state.as_usize(),
+    })
+}
