@@ -1,5 +1,6 @@
 pub mod AgreementLemmas
 pub mod AskingLemmas
+pub mod BeginningLemmas
 pub mod CatchingLemmas
 pub mod DrainedLemmas
 pub mod EngineLemmas

@@ -1,5 +1,6 @@
 pub mod Agreement
 pub mod Asking
+pub mod Beginnings
 pub mod Behind
 pub mod Catching
 pub mod CaughtLists
