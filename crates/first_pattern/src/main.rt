@@ -3,8 +3,8 @@
 
 use anyhow::Result;
 use nfa_compiler::Compiler;
+use nfa_engines::Input;
 use nfa_engines::pikevm::PikeVM;
-use regex_search_core::Input;
 
 fn main(rt: HostRuntime) -> Result<()> {
     let alloc = rt.alloc();

@@ -3,9 +3,8 @@
 
 use anyhow::{Context, Result};
 use nfa_engines::pikevm::PikeVM;
-use regex_search_core::{GroupInfo, Input, PatternID, StateID};
+use nfa_engines::{GroupInfo, Input, NFA, PatternID, State, StateID, Transition};
 use std::alloc::Global;
-use thompson_nfa::{NFA, State, Transition};
 
 // The state of this number.
 fn state(number: usize) -> Result<StateID> {

@@ -23,6 +23,7 @@ mod config;
 mod engine;
 mod find_iter;
 mod half;
+mod may_begin;
 mod search;
 
 pub use cache::Cache;

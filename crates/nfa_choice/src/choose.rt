@@ -26,6 +26,7 @@ mod captures;
 mod captures_iter;
 mod find_iter;
 mod half;
+mod may_begin;
 mod overlap;
 
 pub use captures_iter::ChoiceCaptures;

@@ -1,3 +1,4 @@
+pub mod ByteLemmas
 pub mod CapacityLemmas
 pub mod FirstSetLemmas
 pub mod FlagLemmas

@@ -1,11 +1,12 @@
 -- Laws of where the answer of a search starts, about the definitions only.
-use Rattle.std.specs.Prelude.{◌≡◌, ◌↔◌, ◌==◌, ℕ, ◌<◌, ◌≤◌, Bool, false, List, Option, Some}
+use Rattle.std.specs.Prelude.{◌≡◌, ◌↔◌, ◌==◌, ℕ, ◌+◌, ◌<◌, ◌≤◌, Bool, false, List, Option, Some}
 use Rattle.regex_search_core.specs.Found.{Found}
 use Rattle.regex_search_core.specs.Search.{Search}
 use Rattle.regex_search_core.specs.declared.search.Anchored.TheVariants.{No, Yes}
 use Rattle.regex_search_core.specs.declared.search.MatchKind.{MatchKind}
 use Rattle.thompson_nfa.specs.Automaton.{Automaton}
-use Rattle.nfa_paths.specs.Paths.{is_utf8_empty, IsAnswer, IsMatchAnswer}
+use Rattle.nfa_paths.specs.Paths.{byte_at, is_utf8_empty, IsAnswer, IsMatchAnswer}
+use Rattle.nfa_search_base.specs.Beginnings.{NoMatchBegins}
 use Rattle.nfa_engines.specs.Accepting.{MatchesNothing}
 
 -- the search from another start
@@ -78,3 +79,19 @@ abbrev pub NothingAtEachStart : Type 0
 NothingAtEachStart =
     (nfa : Automaton) (x : Search) → IsUnbound nfa x
     → MatchesNothing nfa x ↔ ((i : ℕ) → x.start ≤ i → MatchesNothing nfa (anchored_at x i))
+
+-- At a position with a byte that no match begins with, the anchored search has no accepting path.
+abbrev pub NothingAtByte : Type 0
+NothingAtByte =
+    (nfa : Automaton) (x : Search) (i byte : ℕ) → NoMatchBegins nfa byte → byte_at x i ≡ Some byte
+    → MatchesNothing nfa (anchored_at x i)
+
+-- the start of a search is such a start
+abbrev pub StartIsFirst : Type 0
+StartIsFirst = (nfa : Automaton) (x : Search) → IsFirstStart nfa x x.start
+
+-- if no match begins with the byte at such a start, the next position is one, too
+abbrev pub FirstStartMoves : Type 0
+FirstStartMoves =
+    (nfa : Automaton) (x : Search) (s byte : ℕ) → IsFirstStart nfa x s → byte_at x s ≡ Some byte
+    → NoMatchBegins nfa byte → IsFirstStart nfa x (s + 1)

@@ -35,6 +35,7 @@ ghost use Rattle.nfa_engines.specs.SetLaws.{SetHoldsEachPattern, SetIsComplete, 
 ghost use Rattle.nfa_engines.specs.SpanLaws.{AnswersMove, AnswersReadTheSpan, CutOutAnswers, CutOutMatches};
 ghost use Rattle.nfa_engines.specs.SpanLaws.{MatchesMove, MatchesReadTheSpan};
 ghost use Rattle.nfa_engines.specs.StartLaws.{AnswersHaveAStart, FirstStartAnswers, FirstStartMatches};
+ghost use Rattle.nfa_engines.specs.StartLaws.{FirstStartMoves, NothingAtByte, StartIsFirst};
 ghost use Rattle.nfa_engines.specs.StartLaws.{MatchStartsArePassed, NothingAtEachStart, StartsArePassed};
 
 /// A scan has at most one answer, for each match kind and `earliest`.
@@ -238,6 +239,15 @@ pub fn starts_may_be_passed()
     ensures answers { StartsArePassed }
     ensures matches { MatchStartsArePassed }
     ensures nothing { NothingAtEachStart }
+{}
+
+/// A position may be skipped if no match begins with its byte, which `may_begin` of the engines says: the anchored search
+/// there has no accepting path. So a start before which nothing matches may move past it, from the start of the search
+/// on, and [`starts_may_be_passed`] says what the search from there answers.
+pub fn bytes_may_be_skipped()
+    ensures nothing { NothingAtByte }
+    ensures first { StartIsFirst }
+    ensures moves { FirstStartMoves }
 {}
 
 /// The leftmost first answer of an unanchored search is that of the anchored search at the first start that has one. If

@@ -13,7 +13,8 @@
 //! }
 //! ```
 //!
-//! This crate re-exports the types that callers need, and the words of their contracts.
+//! This crate re-exports every type that calls of the engines take or return, and its `specs` every word that a contract
+//! of their caller may name. So a user lists no crate below it.
 #![tactic(auto)]
 
 pub mod backtrack;
@@ -22,7 +23,9 @@ pub mod pikevm;
 
 pub use nfa_search_base::{empty, error, iter};
 pub use regex_search_core::{
-    Anchored, Captures, GroupInfo, HalfMatch, Input, Match, MatchError, MatchKind, NonMaxUsize,
-    PatternID, PatternSet, PatternSetIter, Refused, Span, StateID,
+    Anchored, Captures, CapturesPatternIter, GroupInfo, HalfMatch, Input, Match, MatchError,
+    MatchKind, NonMaxUsize, PatternID, PatternSet, PatternSetIter, Refused, Span, StateID,
 };
-pub use thompson_nfa::{BuildError, Flaw, Holder, Look, NFA, State, Transition, first_flaw};
+pub use thompson_nfa::{
+    BuildError, Flaw, Holder, Look, NFA, State, Transition, first_flaw, look_matches,
+};

@@ -35,7 +35,7 @@ use thompson_nfa::{BuildError, NFA};
 #[derive(Debug, Drop)]
 pub struct PikeVM {
     config: Config,
-    first: FirstBytes,
+    pub(super) first: FirstBytes,
     nfa: NFA,
 }
 

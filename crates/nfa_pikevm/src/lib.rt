@@ -22,6 +22,7 @@ mod captures_iter;
 mod config;
 mod engine;
 mod find_iter;
+mod may_begin;
 mod search;
 
 pub use cache::Cache;

@@ -1,8 +1,8 @@
 //! A user that is handed any cache, and makes it fit when it runs.
 
+use nfa_engines::Input;
 use nfa_engines::error::SearchError;
 use nfa_engines::pikevm::{Cache, PikeVM};
-use regex_search_core::Input;
 
 /// Returns whether the text has a match. The cache may be that of another engine.
 pub fn matches(vm: &PikeVM, cache: &mut Cache, text: &[u8]) -> Result<bool, SearchError> {

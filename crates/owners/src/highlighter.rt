@@ -2,10 +2,8 @@
 
 use nfa_choice::choose::Choice;
 use nfa_engines::error::SearchError;
-use nfa_engines::{backtrack, pikevm};
-use regex_search_core::Input;
+use nfa_engines::{Input, NFA, backtrack, pikevm};
 use std::alloc::Global;
-use thompson_nfa::NFA;
 
 /// Counts what stands in matches of an NFA that may change.
 #[derive(Drop)]

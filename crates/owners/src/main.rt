@@ -9,10 +9,10 @@ use crate::fitting::matches;
 use crate::highlighter::Highlighter;
 use crate::matcher::Matcher;
 use anyhow::{Context, Result};
+use nfa_engines::NFA;
 use nfa_engines::pikevm::{Cache, PikeVM};
 use nfa_samples::sample;
 use std::alloc::Global;
-use thompson_nfa::NFA;
 
 // The sample NFA of this name.
 fn named(alloc: Global, name: &str) -> Result<NFA> {

@@ -3,7 +3,7 @@ ghost use Rattle.nfa_engines.specs.Engines.{Fits};
 
 use nfa_engines::error::SearchError;
 use nfa_engines::pikevm::{Cache, PikeVM};
-use regex_search_core::{Input, Match};
+use nfa_engines::{Input, Match};
 use std::alloc::Global;
 
 /// A PikeVM with a cache of its own.

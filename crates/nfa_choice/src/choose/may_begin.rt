@@ -1,0 +1,28 @@
+//! The bytes that a match may begin with.
+ghost use Rattle.std.specs.Prelude.{◌≡◌, false, true};
+ghost use Rattle.nfa_engines.specs.Beginnings.{NoMatchBegins};
+ghost use Rattle.nfa_engines.specs.FirstBytes.{MayBegin};
+
+use crate::choose::Choice;
+
+impl Choice {
+    /// Returns whether a match may begin with the byte.
+    ///
+    /// If this is false, no match starts at a position with the byte, so a caller may skip such positions. If it is true,
+    /// a match may start there or not. It is true for every byte if the NFA can match the empty string, or if more than 64
+    /// states can be reached before a byte is read. It does not cover `Anchored::Pattern`, whose searches begin with
+    /// another state.
+    ///
+    /// ```
+    /// let nfa = Compiler::new().build(alloc, "[0-9]+")?;
+    /// let choice = Choice::new(alloc, nfa, backtrack::Config::new(), pikevm::Config::new())?;
+    /// assert!(choice.may_begin(b'7'));
+    /// assert!(!choice.may_begin(b'x'));
+    /// ```
+    pub fn may_begin(&self, byte: u8) -> bool
+        ensures may { result ≡ true → MayBegin self.now.nfa byte }
+        ensures nothing { result ≡ false → NoMatchBegins self.now.nfa byte }
+    {
+        self.back.may_begin(byte)
+    }
+}

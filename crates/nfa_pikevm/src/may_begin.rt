@@ -1,0 +1,27 @@
+//! The bytes that a match may begin with.
+ghost use Rattle.std.specs.Prelude.{◌≡◌, false, true};
+ghost use Rattle.nfa_scanning.specs.FirstBytes.{MayBegin};
+ghost use Rattle.nfa_search_base.specs.Beginnings.{NoMatchBegins};
+
+use crate::engine::PikeVM;
+
+impl PikeVM {
+    /// Returns whether a match may begin with the byte.
+    ///
+    /// If this is false, no match starts at a position with the byte, so a caller may skip such positions. If it is true,
+    /// a match may start there or not. It is true for every byte if the NFA can match the empty string, or if more than 64
+    /// states can be reached before a byte is read. It does not cover `Anchored::Pattern`, whose searches begin with
+    /// another state.
+    ///
+    /// ```
+    /// let vm = PikeVM::new_from_nfa(Compiler::new().build(alloc, "[0-9]+")?)?;
+    /// assert!(vm.may_begin(b'7'));
+    /// assert!(!vm.may_begin(b'x'));
+    /// ```
+    pub fn may_begin(&self, byte: u8) -> bool
+        ensures may { result ≡ true → MayBegin self.now.nfa byte }
+        ensures nothing { result ≡ false → NoMatchBegins self.now.nfa byte }
+    {
+        !self.first.refuses(byte)
+    }
+}
