@@ -124,12 +124,15 @@ module _ (nfa : Automaton) (kind : MatchKind) (earliest : Bool) where
             let each = mul-le-mul_left (1 + turn_weight nfa) short in
             let all : w.count * ((1 + turn_weight nfa) * (span_len y + 1)) ≤ w.count * turns_in nfa x =
             mul-le-mul_left w.count each in
-            omega (arith, turns, bound, all);
+            by-more new.turns old.turns w.turned _ _ turns bound all;
       },
     )
       where
         same : restarts_in nfa y ≡ restarts_in nfa x
         same = ap (λ (a : Anchored). is_utf8_empty nfa && not (is_anchored a)) like.anchored
+
+        by-more : (a b m n k : ℕ) → a ≡ b + m → m ≤ n → n ≤ k → a ≤ b + k
+        by-more a b m n k is h more = omega arith
 
         reach : (o : Option Span) → Hit y o → Reaches y w.count o
         reach None h = tt

@@ -84,7 +84,7 @@ module _ (nfa : Automaton) (kind : MatchKind) (earliest : Bool) where
       (answers : IsSearchAnswer nfa kind earliest x restarts path) (count : ℕ) (few : count ≤ restarts + 1) where
     -- no more scans than starts are left, and one more
     pub few-scans : count ≤ starts_left x + 1
-    few-scans = let all = few-restarts x restarts path answers in omega (arith, all)
+    few-scans = let all = few-restarts x restarts path answers in omega (arith, few, all)
 
     -- the match ends behind the starts that were passed
     pub match-reaches : (f : Found) → IsMatchAnswer nfa kind earliest x (Some f) → Reaches x count (Some (span_of f))
@@ -97,7 +97,7 @@ module _ (nfa : Automaton) (kind : MatchKind) (earliest : Bool) where
           answers = from-scan x a.restarts a.path a.answers;
           found_is = a.found_is;
         }) in
-        (omega (arith, k.0, k.1), k.2, omega (arith, k.0, k.1, same))
+        (omega (arith, k.0, k.1), k.2, omega (arith, few, k.0, k.1, same))
 
   -- a match that no scan finds lies in the span
   pub match-known : (x : Search) (f : Found) → IsMatchAnswer nfa kind earliest x (Some f)

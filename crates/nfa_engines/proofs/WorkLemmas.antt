@@ -1,7 +1,7 @@
 -- What a whole iteration adds to the totals of what answers its searches.
 use Rattle.std.proofs.Common.{◌≡◌, ◌∙◌, ℕ, ◌+◌, ◌-◌, ◌*◌, ◌<◌, ◌≤◌, Bool, true, false, MatchBool, List, [], ◌∷◌, length}
 use Rattle.std.proofs.Common.{Option, None, Some, Ok, Err, refl, sym, ap, subst, inl, inr, arith}
-use Rattle.std.specs.Prelude.{cond}
+use Rattle.std.specs.Prelude.{cond, ◌==◌}
 use Rattle.std.proofs.Math.Nat.{mul-le-mul_right}
 use Rattle.std.proofs.lemmas.Bool.{and_parts, eqb-true}
 use Rattle.regex_search_core.specs.Search.{Search}
@@ -36,7 +36,7 @@ pub record Costs (free : Bool) (x : Search) (place : Option Span) (count : ℕ) 
   pub reach : Reaches x count place
 
 -- nothing is added
-adds-none : (weight : ℕ) (a : Totals) → Adds weight a a 0
+pub adds-none : (weight : ℕ) (a : Totals) → Adds weight a a 0
 adds-none weight a = record { scans = omega arith; turns = omega arith }
 
 adds-both : (weight : ℕ) (a b c : Totals) (m n : ℕ) → Adds weight a b m → Adds weight b c n → Adds weight a c (m + n)
@@ -49,9 +49,9 @@ adds-both weight a b c m n h k = record {
 repeated : (at : Search) (last : Option ℕ) (place : Option Span) → repeats (record { at = at; last = last }) place ≡ true
     → (p : Span) × (place ≡ Some p) × (last ≡ Some p.end)
 repeated at last None again = cc
-repeated at None (Some p) again = let both = and_parts _ _ again in let never : false ≡ true = both.1 in cc
+repeated at None (Some p) again = let never : false ≡ true = (and_parts (p.start == p.end) false again).1 in cc
 repeated at (Some e) (Some p) again =
-    let both = and_parts _ _ again in
+    let both = and_parts (p.start == p.end) (e == p.end) again in
     let same : e ≡ p.end = eqb-true e p.end both.1 in
     (p, refl, ap (λ (n : ℕ). Some n) same)
 
@@ -63,6 +63,13 @@ searches_at (Some e) = 2
 few-searches : (last : Option ℕ) → 1 ≤ searches_at last
 few-searches None = omega arith
 few-searches (Some e) = omega arith
+
+at-most-two : (last : Option ℕ) → searches_at last ≤ 2
+at-most-two None = omega arith
+at-most-two (Some e) = omega arith
+
+two-searches : (last : Option ℕ) (e : ℕ) → last ≡ Some e → 2 ≤ searches_at last
+two-searches last e is = rw is (omega arith)
 
 module _ (x : Search) where
   -- where an iteration over x stands
@@ -81,7 +88,7 @@ module _ (x : Search) where
   is_of-after : (w : Walk) (p : Span) → IsOf w → w.at.start ≤ p.end → IsOf (after w (Some p))
   is_of-after w p h on = record {
     like = same_start-then x w.at (after w (Some p)).at h.like (same_start-after w (Some p));
-    from = let from = h.from in omega (arith, from);
+    from = let from = h.from in omega (arith, from, on);
     behind = λ e is. let same : p.end ≡ e = some-same p.end e is in omega (arith, same);
   }
     where
@@ -172,7 +179,11 @@ module _ {S X : Type 0} (span : X → Span) (asks : S → Search → Answer X �
               onward =
                   onward-twice x free w v same.0 (place_of span a) one.0 two.0 h (h.behind same.0.end same.2) p.1.1
                   reach two.1;
-              once = λ never. rw same.2 (let a = one.1.once never in let b = two.1.once never in omega (arith, a, b));
+              once = λ never.
+                  let a = one.1.once never in
+                  let b = two.1.once never in
+                  let c = two-searches w.last same.0.end same.2 in
+                  omega (arith, a, b, c);
               good = two.3;
             }
         | inr p ↦
@@ -204,7 +215,11 @@ module _ {S X : Type 0} (span : X → Span) (asks : S → Search → Answer X �
         count = one.count + more.count;
         adds = adds-both weight (totals s) (totals u) (totals t) one.count more.count one.adds more.adds;
         starts = let a = one.onward.2 in let b = more.starts in omega (arith, a, b);
-        once = λ never. let a = one.once never in let b = rw one.onward.1 at more.once never in omega (arith, a, b);
+        once = λ never.
+            let a = one.once never in
+            let b = more.once never in
+            let c = at-most-two v.last in
+            omega (arith, a, b, c);
       }
   led w s (Ok None ∷ rest) t h good steps =
       let one = stepped s w (Ok None) t steps.0 h good steps.1 in
@@ -226,7 +241,7 @@ module _ {S X : Type 0} (span : X → Span) (asks : S → Search → Answer X �
   -- There are at most as many matches as ends are left.
   module _ (lies : (s : S) (y : Search) (a : Answer X) (t : S) → asks s y a t → AnswerIsInside span y a
       × IsOrdered (place_of span a)) where
-    few-found : (w : Walk) (s : S) (answers : List (Answer X)) (t : S) → IsOf x w → Good s
+    pub few-found : (w : Walk) (s : S) (answers : List (Answer X)) (t : S) → IsOf x w → Good s
         → StepsLead span asks w s answers t → found_count answers ≤ ends_left w
     few-found w s [] t h good steps = omega arith
     few-found w s (Ok (Some m) ∷ rest) t h good steps =
@@ -245,7 +260,10 @@ within-limit nfa x old new count limit few adds =
     let scans = adds.scans in
     let turns = adds.turns in
     let more : count * turns_in nfa x ≤ limit * turns_in nfa x = mul-le-mul_right (turns_in nfa x) few in
-    record { scans = omega (arith, scans); turns = omega (arith, turns, more) }
+    record { scans = omega (arith, scans, few); turns = by-more new.turns old.turns _ _ turns more }
+  where
+    by-more : (a b m n : ℕ) → a ≤ b + m → m ≤ n → a ≤ b + n
+    by-more a b m n h k = omega arith
 
 module _ (nfa : Automaton) (x : Search) (found : ℕ) (old new : Totals)
     (all : Led (turns_in nfa x) (restarts_in nfa x) (fresh x) found old new) where
