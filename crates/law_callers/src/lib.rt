@@ -9,6 +9,7 @@ pub mod paths;
 pub mod patterns;
 pub mod places;
 pub mod sets;
+pub mod work;
 pub mod written;
 
 ghost use Rattle.std.specs.Prelude.{◌≡◌, ◌<◌, ◌≤◌, false, true, length, option_map, IfOk, IfSome, IsErrOf};

@@ -1,2 +1,3 @@
 pub mod CaughtLemmas
 pub mod FindLemmas
+pub mod WorkLemmas

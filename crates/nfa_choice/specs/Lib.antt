@@ -1,3 +1,4 @@
 pub mod CapturesMatches
 pub mod Choosing
 pub mod Matches
+pub mod WorkLaws

@@ -13,5 +13,6 @@
 #![tactic(auto)]
 
 pub mod choose;
+pub mod laws;
 
 pub use choose::{Choice, ChoiceCaptures, ChoiceMatches, Engine};

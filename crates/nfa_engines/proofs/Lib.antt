@@ -18,3 +18,7 @@ pub mod SpanLemmas
 pub mod AloneLemmas
 pub mod FirstPatternLemmas
 pub mod PatternAnswerLemmas
+pub mod ReachLemmas
+pub mod WorkLemmas
+pub mod EngineWorkLemmas
+pub mod ListWorkLemmas

@@ -12,6 +12,7 @@ pub mod PatternLaws
 pub mod SetLaws
 pub mod SpanLaws
 pub mod StartLaws
+pub mod WorkLaws
 pub use Rattle.nfa_backtrack.specs.Backtrack
 pub use Rattle.nfa_backtrack.specs.CapturesMatches as BacktrackCapturesMatches
 pub use Rattle.nfa_backtrack.specs.FindMatches as BacktrackFindMatches

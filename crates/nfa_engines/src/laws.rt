@@ -37,6 +37,9 @@ ghost use Rattle.nfa_engines.specs.SpanLaws.{MatchesMove, MatchesReadTheSpan};
 ghost use Rattle.nfa_engines.specs.StartLaws.{AnswersHaveAStart, FirstStartAnswers, FirstStartMatches};
 ghost use Rattle.nfa_engines.specs.StartLaws.{FirstStartMoves, NothingAtByte, StartIsFirst};
 ghost use Rattle.nfa_engines.specs.StartLaws.{MatchStartsArePassed, NothingAtEachStart, StartsArePassed};
+ghost use Rattle.nfa_engines.specs.WorkLaws.{list_scan_limit, BacktrackerCatchesWithin, BacktrackerFindsWithin};
+ghost use Rattle.nfa_engines.specs.WorkLaws.{BacktrackerMatchesAreWithin, BacktrackerRowsAreWithin, PikeCatchesWithin};
+ghost use Rattle.nfa_engines.specs.WorkLaws.{PikeFindsWithin, PikeMatchesAreWithin, PikeRowsAreWithin};
 
 /// A scan has at most one answer, for each match kind and `earliest`.
 pub fn one_scan_answer()
@@ -291,4 +294,28 @@ pub fn answers_read_the_span()
     ensures moved_match { MatchesMove }
     ensures cut_out { CutOutAnswers }
     ensures cut_out_match { CutOutMatches }
+{}
+
+/// A whole list takes little more than one search. Over the calls that find all k matches in a span of n bytes, or their
+/// captures, the totals of the cache rise by at most n + k + 2 scans; if no search may restart, by at most 2k + 1. The
+/// turns are at most those of so many scans, (1 + D)(n + 1) each.
+///
+/// The premises are what `find_all` and `captures_all` ensure of the cache where they are `Ok` (`to_end`), and what the
+/// iterators over matches ensure where they go on to `None` (`searches`).
+pub fn lists_are_bounded()
+    ensures pike { PikeMatchesAreWithin list_scan_limit }
+    ensures pike_rows { PikeRowsAreWithin list_scan_limit }
+    ensures backtracker { BacktrackerMatchesAreWithin list_scan_limit }
+    ensures backtracker_rows { BacktrackerRowsAreWithin list_scan_limit }
+{}
+
+/// Wherever an iteration stops, also after an error, the totals of the cache rise by at most 2n + 3 scans, and by the
+/// turns of so many scans.
+///
+/// The premises are what all lists and iterators ensure of the cache (`searches`).
+pub fn iterations_are_bounded()
+    ensures pike { PikeFindsWithin 3 }
+    ensures pike_rows { PikeCatchesWithin 3 }
+    ensures backtracker { BacktrackerFindsWithin 3 }
+    ensures backtracker_rows { BacktrackerCatchesWithin 3 }
 {}

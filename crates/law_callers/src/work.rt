@@ -1,0 +1,52 @@
+//! Callers of the laws on the work of whole iterations.
+ghost use Rattle.std.specs.Prelude.{◌+◌, ◌*◌, ◌≤◌, length, IfOk};
+ghost use Rattle.regex_search_core.specs.Search.{search_of};
+ghost use Rattle.nfa_engines.specs.Engines.{Fits};
+ghost use Rattle.nfa_engines.specs.Paths.{span_len, turn_weight};
+ghost use Rattle.nfa_engines.specs.WorkLaws.{list_scan_limit};
+
+use nfa_engines::backtrack::{self, BoundedBacktracker};
+use nfa_engines::error::SearchError;
+use nfa_engines::laws;
+use nfa_engines::pikevm::{Cache, PikeVM};
+use regex_search_core::{Input, Match};
+use std::alloc::Global;
+
+/// Returns all matches. The cache makes little more scans for them than for one search, and their turns.
+pub fn all_by_pikevm(
+    vm: &PikeVM,
+    alloc: Global,
+    cache: &mut Cache,
+    input: Input<'_>,
+) -> Result<Vec<Match>, SearchError>
+    requires { Fits cache.old vm.now.nfa }
+    ensures scans { IfOk result (λ found. cache.new.all_scans
+        ≤ cache.old.all_scans + list_scan_limit vm.now.nfa (search_of input.entry) (length found.items)) }
+    ensures turns { IfOk result (λ found. cache.new.all_turns
+        ≤ cache.old.all_turns + list_scan_limit vm.now.nfa (search_of input.entry) (length found.items)
+        * ((1 + turn_weight vm.now.nfa) * (span_len (search_of input.entry) + 1))) }
+    ensures at_most { cache.new.all_scans ≤ cache.old.all_scans + (2 * span_len (search_of input.entry) + 3) }
+{
+    laws::lists_are_bounded();
+    laws::iterations_are_bounded();
+    vm.find_all(alloc, cache, input)
+}
+
+/// Returns all matches, or a refusal. The cache makes little more scans for them than for one search, and their turns.
+pub fn all_by_backtracker(
+    engine: &BoundedBacktracker,
+    alloc: Global,
+    cache: &mut backtrack::Cache,
+    input: Input<'_>,
+) -> Result<Vec<Match>, SearchError>
+    ensures scans { IfOk result (λ found. cache.new.all_scans
+        ≤ cache.old.all_scans + list_scan_limit engine.now.nfa (search_of input.entry) (length found.items)) }
+    ensures turns { IfOk result (λ found. cache.new.all_turns
+        ≤ cache.old.all_turns + list_scan_limit engine.now.nfa (search_of input.entry) (length found.items)
+        * ((1 + turn_weight engine.now.nfa) * (span_len (search_of input.entry) + 1))) }
+    ensures at_most { cache.new.all_scans ≤ cache.old.all_scans + (2 * span_len (search_of input.entry) + 3) }
+{
+    laws::lists_are_bounded();
+    laws::iterations_are_bounded();
+    engine.try_find_all(alloc, cache, input)
+}

@@ -1,0 +1,194 @@
+-- What an iteration adds to the totals of a cache, where each search does the work that an engine's contract says.
+use Rattle.std.proofs.Common.{◌≡◌, ◌∙◌, ℕ, ◌+◌, ◌-◌, ◌*◌, ◌<◌, ◌≤◌, ◌⊎◌, Bool, true, false, List, length, refl, sym, ap, subst}
+use Rattle.std.proofs.Common.{Option, None, Some, Ok, Err, inl, inr, arith}
+use Rattle.std.specs.Prelude.{not, ◌&&◌}
+use Rattle.std.proofs.Math.Nat.{mul-le-mul_left}
+use Rattle.regex_search_core.specs.Found.{Found}
+use Rattle.regex_search_core.specs.Search.{Search, is_anchored}
+use Rattle.regex_search_core.specs.declared.search.Anchored.{Anchored}
+use Rattle.regex_search_core.specs.declared.search.MatchKind.{MatchKind}
+use Rattle.regex_search_core.specs.declared.search.Span.{Span}
+use Rattle.thompson_nfa.specs.Automaton.{Automaton}
+use Rattle.nfa_paths.specs.Graphs.{Pair}
+use Rattle.nfa_paths.specs.Paths.{IsMatchAnswer, IsSearchAnswer, IsWithinScans, IsWork, scan_limit, span_len, turn_weight}
+use Rattle.nfa_paths.specs.Paths.{is_utf8_empty}
+use Rattle.nfa_paths.proofs.ExistenceLemmas.{search_answer-exists}
+use Rattle.nfa_paths.proofs.InsideLemmas.{match-within}
+use Rattle.nfa_search_base.specs.Catching.{Row, row_found, row_span}
+use Rattle.nfa_search_base.specs.CaughtLists.{TellsRow}
+use Rattle.nfa_search_base.specs.Leaving.{StepsLead, answers_to_end}
+use Rattle.nfa_search_base.specs.Likes.{SameButStart}
+use Rattle.nfa_search_base.specs.Lists.{TellsMatch}
+use Rattle.nfa_search_base.specs.Walks.{Answer, LiesIn, fresh, place_of, span_of}
+use Rattle.nfa_search_base.proofs.CaughtLemmas.{row-tells}
+use Rattle.nfa_search_base.proofs.WalkLemmas.{IsOrdered}
+use Rattle.nfa_engines.specs.WorkLaws.{AddsAtMost, Totals, list_scan_limit}
+use Rattle.nfa_engines.proofs.IterationLemmas.{first-ends}
+use Rattle.nfa_engines.proofs.ReachLemmas.{Reaches, few-scans, match-known, match-reaches, one-scan, restarts_in}
+use Rattle.nfa_engines.proofs.WorkLemmas.{Adds, Costs, Led, adds-none, calls-within, few-found, found_count}
+use Rattle.nfa_engines.proofs.WorkLemmas.{found_count-to_end, is_of-fresh, led, list-within, turns_in}
+
+module _ (nfa : Automaton) (kind : MatchKind) (earliest : Bool) where
+  -- the match of a search lies there, if there is one
+  abbrev pub Hit : Search → Option Span → Type 0
+  Hit x None = Unit {0}
+  Hit x (Some p) = (f : Found) × IsMatchAnswer nfa kind earliest x (Some f) × (p ≡ span_of f)
+
+  pub match-hit : (x : Search) (a : Answer Found) → TellsMatch nfa kind earliest x a → Hit x (place_of span_of a)
+  match-hit x (Ok (Some m)) h = (m, h, refl)
+  match-hit x (Ok None) h = tt
+  match-hit x (Err e) h = tt
+
+  pub row-hit : (x : Search) (a : Answer Row) → TellsRow nfa kind earliest x a → Hit x (place_of row_span a)
+  row-hit x (Ok (Some row)) h = (row_found row, row-tells nfa kind earliest x (Ok (Some row)) h, refl)
+  row-hit x (Ok None) h = tt
+  row-hit x (Err e) h = tt
+
+  hit-lies : (x : Search) (place : Option Span) → Hit x place → LiesIn x place × IsOrdered place
+  hit-lies x None h = (tt, λ p is. let never : None ≡ Some p = is in cc)
+  hit-lies x (Some p) h =
+      let k = match-within nfa kind earliest x h.0 h.1 in
+      subst (λ (q : Span). LiesIn x (Some q) × IsOrdered (Some q)) (sym h.2)
+      ((k.0, k.2), λ q is. let same : span_of h.0 ≡ q = cc in subst (λ (r : Span). r.start ≤ r.end) same k.1)
+
+  -- one search did the work that is its own
+  pub record Worked (x : Search) (old new : Totals) : Type 0 where
+    pub count : ℕ
+    pub turned : ℕ
+    pub restarts : ℕ
+    pub path : Option (List Pair)
+    pub answers : IsSearchAnswer nfa kind earliest x restarts path
+    pub few : count ≤ restarts + 1
+    pub limit : count ≤ scan_limit nfa x
+    pub scans : new.scans ≡ old.scans + count
+    pub turns : new.turns ≡ old.turns + turned
+    pub bound : turned ≤ count * ((1 + turn_weight nfa) * (span_len x + 1))
+
+  -- a search that answered
+  pub worked : (x : Search) (old new : Totals) (count turned : ℕ) → IsWork nfa kind earliest x count turned
+      → count ≤ scan_limit nfa x → turned ≤ count * ((1 + turn_weight nfa) * (span_len x + 1))
+      → new.scans ≡ old.scans + count → new.turns ≡ old.turns + turned → Worked x old new
+  worked x old new count turned work limit bound scans turns = record {
+    count = count;
+    turned = turned;
+    restarts = work.restarts;
+    path = work.path;
+    answers = work.answers;
+    few = let are = work.scans_are in omega (arith, are);
+    limit = limit;
+    scans = scans;
+    turns = turns;
+    bound = bound;
+  }
+
+  -- a search that was refused
+  pub worked-within : (x : Search) (old new : Totals) (count turned : ℕ) → IsWithinScans nfa kind earliest x count
+      → count ≤ scan_limit nfa x → turned ≤ count * ((1 + turn_weight nfa) * (span_len x + 1))
+      → new.scans ≡ old.scans + count → new.turns ≡ old.turns + turned → Worked x old new
+  worked-within x old new count turned within limit bound scans turns =
+      let answer = search_answer-exists nfa kind earliest x in
+      record {
+        count = count;
+        turned = turned;
+        restarts = answer.0;
+        path = answer.1;
+        answers = answer.2;
+        few = within answer.0 answer.1 answer.2;
+        limit = limit;
+        scans = scans;
+        turns = turns;
+        bound = bound;
+      }
+
+  module _ (x y : Search) (like : SameButStart x y) (from : x.start ≤ y.start) (place : Option Span)
+      (hit : Hit y place) (old new : Totals) where
+    abbrev Cost : Type 0
+    Cost = (count : ℕ) × Costs (restarts_in nfa x) y place count × Adds (turns_in nfa x) old new count
+
+    -- what a search costs
+    worked-cost : Worked y old new → Cost
+    worked-cost w = (
+      w.count,
+      record {
+        starts = few-scans nfa kind earliest y w.restarts w.path w.answers w.count w.few;
+        once = λ never. one-scan nfa y w.count (same ∙ never) w.limit;
+        reach = reach place hit;
+      },
+      record {
+        scans = w.scans;
+        turns =
+            let turns = w.turns in
+            let bound = w.bound in
+            let end = like.end in
+            let short : span_len y + 1 ≤ span_len x + 1 = omega (arith, from, end) in
+            let each = mul-le-mul_left (1 + turn_weight nfa) short in
+            let all : w.count * ((1 + turn_weight nfa) * (span_len y + 1)) ≤ w.count * turns_in nfa x =
+            mul-le-mul_left w.count each in
+            by-more new.turns old.turns w.turned _ _ turns bound all;
+      },
+    )
+      where
+        same : restarts_in nfa y ≡ restarts_in nfa x
+        same = ap (λ (a : Anchored). is_utf8_empty nfa && not (is_anchored a)) like.anchored
+
+        by-more : (a b m n k : ℕ) → a ≡ b + m → m ≤ n → n ≤ k → a ≤ b + k
+        by-more a b m n k is h more = omega arith
+
+        reach : (o : Option Span) → Hit y o → Reaches y w.count o
+        reach None h = tt
+        reach (Some p) h =
+            subst (λ (q : Span). Reaches y w.count (Some q)) (sym h.2)
+            (match-reaches nfa kind earliest y w.restarts w.path w.answers w.count w.few h.0 h.1)
+
+    -- and what it costs where the answer was known
+    known-cost : new ≡ old → Cost
+    known-cost is = (
+      0,
+      record { starts = omega arith; once = λ never. omega arith; reach = reach place hit },
+      subst (λ (t : Totals). Adds (turns_in nfa x) old t 0) (sym is) (adds-none (turns_in nfa x) old),
+    )
+      where
+        reach : (o : Option Span) → Hit y o → Reaches y 0 o
+        reach None h = tt
+        reach (Some p) h =
+            subst (λ (q : Span). Reaches y 0 (Some q)) (sym h.2) (match-known nfa kind earliest y h.0 h.1)
+
+    cost-of : Worked y old new ⊎ (new ≡ old) → Cost
+    cost-of (inl w) = worked-cost w
+    cost-of (inr is) = known-cost is
+
+-- Each search `asks` what has `totals`, and does its work, or none; what it asks is `Good`, and stays so.
+module _ {S X : Type 0} (span : X → Span) (asks : S → Search → Answer X → S → Type 0) (totals : S → Totals)
+    (Good : S → Type 0) (nfa : Automaton) (kind : MatchKind) (early : Search → Bool) (x : Search)
+    (hits : (s : S) (y : Search) (a : Answer X) (t : S) → asks s y a t → Hit nfa kind (early y) y (place_of span a))
+    (works : (s : S) (y : Search) (a : Answer X) (t : S) → Good s → asks s y a t
+    → (Worked nfa kind (early y) y (totals s) (totals t) ⊎ (totals t ≡ totals s)) × Good t) where
+  costs : (s : S) (y : Search) (a : Answer X) (t : S) → SameButStart x y → x.start ≤ y.start → Good s → asks s y a t
+      → (count : ℕ) × Costs (restarts_in nfa x) y (place_of span a) count
+      × Adds (turns_in nfa x) (totals s) (totals t) count × Good t
+  costs s y a t like from good asked =
+      let k = works s y a t good asked in
+      let c = cost-of nfa kind (early y) x y like from (place_of span a) (hits s y a t asked) (totals s) (totals t) k.0 in
+      (c.0, c.1, c.2, k.1)
+
+  -- an iteration to its end, past these matches
+  pub list-adds : (ms : List X) (s t : S) → Good s → StepsLead span asks (fresh x) s (answers_to_end ms) t
+      → AddsAtMost (list_scan_limit nfa x (length ms)) nfa x (totals s) (totals t)
+  list-adds ms s t good steps =
+      let all = led span asks totals Good (turns_in nfa x) (restarts_in nfa x) x costs (fresh x) s (answers_to_end ms) t
+      (is_of-fresh x) good steps in
+      list-within nfa x (length ms) (totals s) (totals t)
+      (subst (λ (n : ℕ). Led (turns_in nfa x) (restarts_in nfa x) (fresh x) n (totals s) (totals t))
+      (found_count-to_end ms) all)
+
+  -- and one that stops anywhere
+  pub calls-add : (answers : List (Answer X)) (s t : S) → Good s → StepsLead span asks (fresh x) s answers t
+      → AddsAtMost (2 * span_len x + 3) nfa x (totals s) (totals t)
+  calls-add answers s t good steps =
+      let all = led span asks totals Good (turns_in nfa x) (restarts_in nfa x) x costs (fresh x) s answers t
+      (is_of-fresh x) good steps in
+      let few = few-found span asks totals Good (turns_in nfa x) (restarts_in nfa x) x costs
+      (λ p y a q asked. hit-lies nfa kind (early y) y (place_of span a) (hits p y a q asked)) (fresh x) s answers t
+      (is_of-fresh x) good steps in
+      let ends = first-ends x in
+      calls-within nfa x (found_count answers) (totals s) (totals t) all (omega (arith, few, ends))

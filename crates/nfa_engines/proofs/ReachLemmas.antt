@@ -1,0 +1,111 @@
+-- A search that restarts finds its match behind the starts that it passed, and restarts only where a start is left.
+use Rattle.std.proofs.Common.{◌≡◌, ℕ, zero, suc, ◌+◌, ◌-◌, ◌*◌, ◌<◌, ◌≤◌, Bool, true, false, MatchBool, List, [], ◌∷◌}
+use Rattle.std.proofs.Common.{refl, sym, ap, subst, inl, inr, arith}
+use Rattle.std.specs.Prelude.{Option, None, Some, ◌&&◌, cond, not}
+use Rattle.regex_search_core.specs.Found.{Found}
+use Rattle.regex_search_core.specs.Search.{Search, is_anchored}
+use Rattle.regex_search_core.specs.declared.search.MatchKind.{MatchKind}
+use Rattle.regex_search_core.specs.declared.search.Span.{Span}
+use Rattle.thompson_nfa.specs.Automaton.{Automaton}
+use Rattle.nfa_paths.specs.Graphs.{Pair}
+use Rattle.nfa_paths.specs.Paths.{EndsOnBoundary, IsKeptAnswer, IsMatchAnswer, IsRestartedAnswer, IsScanAnswer}
+use Rattle.nfa_paths.specs.Paths.{IsSearchAnswer, IsWhole, SplitsCharacter, is_utf8_empty, raised, scan_limit, span_len}
+use Rattle.nfa_paths.proofs.AnswerLemmas.{scan_answer-within, search_answer-unique}
+use Rattle.nfa_paths.proofs.InsideLemmas.{match-within}
+use Rattle.nfa_search_base.specs.Walks.{span_of}
+
+-- no restart
+unmoved : (x : Search) (i : ℕ) → i ≡ 0 → x ≡ raised x i
+unmoved x i none = let same : x.start ≡ x.start + i = omega (arith, none) in ap (λ n. record x { start = n }) same
+
+-- a path ends on a boundary, wherever the search starts
+boundary-raised : (x : Search) (i : ℕ) (p : List Pair) → EndsOnBoundary x p → EndsOnBoundary (raised x i) p
+boundary-raised x i [] h = h
+boundary-raised x i (v ∷ []) h = h
+boundary-raised x i (v ∷ (w ∷ p)) h = boundary-raised x i (w ∷ p) h
+
+whole-raised : (x : Search) (i : ℕ) (r : Option (List Pair)) → IsWhole x r → IsWhole (raised x i) r
+whole-raised x i None h = h
+whole-raised x i (Some p) h = boundary-raised x i p h
+
+-- how many starts a search has at most
+abbrev pub starts_left : Search → ℕ
+starts_left x = x.end + 1 - x.start
+
+-- the match lies in the span, and ends at or behind the last of so many starts
+abbrev pub Reaches : Search → ℕ → Option Span → Type 0
+Reaches x count (Some p) = (x.start ≤ p.end) × (p.end ≤ x.end) × (x.start + count ≤ p.end + 1)
+Reaches x count None = Unit {0}
+
+-- whether a search may restart
+abbrev pub restarts_in : Automaton → Search → Bool
+restarts_in nfa x = is_utf8_empty nfa && not (is_anchored x.anchored)
+
+module _ (nfa : Automaton) (kind : MatchKind) (earliest : Bool) where
+  -- what a search answers, by whether it may end anywhere and whether it is anchored
+  abbrev AnswersBy : Bool → Bool → Search → ℕ → Option (List Pair) → Type 0
+  AnswersBy b c x restarts path = MatchBool b (MatchBool c ((restarts ≡ 0) × IsKeptAnswer nfa kind earliest x path)
+      (IsRestartedAnswer nfa kind earliest x restarts path))
+      ((restarts ≡ 0) × IsScanAnswer nfa x kind earliest path)
+
+  -- a search has the answer of the one that starts where its last scan does
+  from-scan : (x : Search) (restarts : ℕ) (path : Option (List Pair))
+      → IsSearchAnswer nfa kind earliest x restarts path → IsSearchAnswer nfa kind earliest (raised x restarts) 0 path
+  from-scan x restarts path = of (is_utf8_empty nfa) (is_anchored x.anchored)
+    where
+      of : (b c : Bool) → AnswersBy b c x restarts path → AnswersBy b c (raised x restarts) 0 path
+      of true true h = (refl, subst (λ y. IsKeptAnswer nfa kind earliest y path) (unmoved x restarts h.0) h.1)
+      of true false h = record {
+        skipped = λ i below. absurd (omega arith);
+        answers = subst (λ y. IsScanAnswer nfa y kind earliest path) (unmoved (raised x restarts) 0 refl) h.answers;
+        whole = whole-raised x restarts path h.whole;
+      }
+      of false c h = (refl, subst (λ y. IsScanAnswer nfa y kind earliest path) (unmoved x restarts h.0) h.1)
+
+  -- as many restarts as starts are left, at most
+  passed : (x : Search) (n : ℕ) → ((i : ℕ) → i < n → SplitsCharacter nfa kind earliest (raised x i))
+      → n ≤ starts_left x
+  passed x zero skipped = omega arith
+  passed x (suc n) skipped =
+      let last = skipped n (omega arith) in
+      let within : x.start + n ≤ x.end = scan_answer-within nfa (raised x n) kind earliest last.path last.answers in
+      omega arith
+
+  few-restarts : (x : Search) (restarts : ℕ) (path : Option (List Pair))
+      → IsSearchAnswer nfa kind earliest x restarts path → restarts ≤ starts_left x
+  few-restarts x restarts path = of (is_utf8_empty nfa) (is_anchored x.anchored)
+    where
+      of : (b c : Bool) → AnswersBy b c x restarts path → restarts ≤ starts_left x
+      of true true h = omega (arith, h.0)
+      of true false h = passed x restarts h.skipped
+      of false c h = omega (arith, h.0)
+
+  module _ (x : Search) (restarts : ℕ) (path : Option (List Pair))
+      (answers : IsSearchAnswer nfa kind earliest x restarts path) (count : ℕ) (few : count ≤ restarts + 1) where
+    -- no more scans than starts are left, and one more
+    pub few-scans : count ≤ starts_left x + 1
+    few-scans = let all = few-restarts x restarts path answers in omega (arith, few, all)
+
+    -- the match ends behind the starts that were passed
+    pub match-reaches : (f : Found) → IsMatchAnswer nfa kind earliest x (Some f) → Reaches x count (Some (span_of f))
+    match-reaches f a =
+        let one = search_answer-unique nfa kind earliest x a.restarts restarts a.path path a.answers answers in
+        let same : a.restarts ≡ restarts = one.0 in
+        let k = match-within nfa kind earliest (raised x a.restarts) f (record {
+          restarts = 0;
+          path = a.path;
+          answers = from-scan x a.restarts a.path a.answers;
+          found_is = a.found_is;
+        }) in
+        (omega (arith, k.0, k.1), k.2, omega (arith, few, k.0, k.1, same))
+
+  -- a match that no scan finds lies in the span
+  pub match-known : (x : Search) (f : Found) → IsMatchAnswer nfa kind earliest x (Some f)
+      → Reaches x 0 (Some (span_of f))
+  match-known x f a = let k = match-within nfa kind earliest x f a in
+      (omega (arith, k.0, k.1), k.2, omega (arith, k.0, k.1))
+
+-- one scan, where none restarts
+pub one-scan : (nfa : Automaton) (x : Search) (count : ℕ) → restarts_in nfa x ≡ false → count ≤ scan_limit nfa x
+    → count ≤ 1
+one-scan nfa x count never few = rw never at few

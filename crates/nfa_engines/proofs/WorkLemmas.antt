@@ -1,0 +1,284 @@
+-- What a whole iteration adds to the totals of what answers its searches.
+use Rattle.std.proofs.Common.{◌≡◌, ◌∙◌, ℕ, ◌+◌, ◌-◌, ◌*◌, ◌<◌, ◌≤◌, Bool, true, false, MatchBool, List, [], ◌∷◌, length}
+use Rattle.std.proofs.Common.{Option, None, Some, Ok, Err, refl, sym, ap, subst, inl, inr, arith}
+use Rattle.std.specs.Prelude.{cond, ◌==◌}
+use Rattle.std.proofs.Math.Nat.{mul-le-mul_right}
+use Rattle.std.proofs.lemmas.Bool.{and_parts, eqb-true}
+use Rattle.regex_search_core.specs.Search.{Search}
+use Rattle.regex_search_core.specs.declared.search.Span.{Span}
+use Rattle.thompson_nfa.specs.Automaton.{Automaton}
+use Rattle.nfa_paths.specs.Paths.{span_len, turn_weight}
+use Rattle.nfa_search_base.specs.Behind.{IsBehind}
+use Rattle.nfa_search_base.specs.Leaving.{StepsLead, answers_to_end}
+use Rattle.nfa_search_base.specs.Likes.{SameButStart}
+use Rattle.nfa_search_base.specs.Walks.{Advances, Answer, AnswerIsInside, Walk, after, ended_at, ends_left, fresh}
+use Rattle.nfa_search_base.specs.Walks.{place_of, repeats, shifted}
+use Rattle.nfa_search_base.proofs.AskingLemmas.{same_start-self, same_start-then}
+use Rattle.nfa_search_base.proofs.StepLemmas.{Advances-fewer, chosen, same_start-after, same_start-shifted}
+use Rattle.nfa_search_base.proofs.WalkLemmas.{IsOrdered}
+use Rattle.nfa_engines.specs.WorkLaws.{AddsAtMost, Totals, list_scan_limit}
+use Rattle.nfa_engines.proofs.ReachLemmas.{Reaches, restarts_in, starts_left}
+
+-- the turns of a scan of the span of x, or of a part of it, at most
+abbrev pub turns_in : Automaton → Search → ℕ
+turns_in nfa x = (1 + turn_weight nfa) * (span_len x + 1)
+
+-- so many scans were added, each of at most `weight` turns
+pub record Adds (weight : ℕ) (old new : Totals) (count : ℕ) : Type 0 where
+  pub scans : new.scans ≡ old.scans + count
+  pub turns : new.turns ≤ old.turns + count * weight
+
+-- Of a search that is `free` to restart, and may be made with so many scans: they are no more than its starts, and one
+-- where it is not free; its match ends behind the starts that it passed.
+pub record Costs (free : Bool) (x : Search) (place : Option Span) (count : ℕ) : Type 0 where
+  pub starts : count ≤ starts_left x + 1
+  pub once : free ≡ false → count ≤ 1
+  pub reach : Reaches x count place
+
+-- nothing is added
+pub adds-none : (weight : ℕ) (a : Totals) → Adds weight a a 0
+adds-none weight a = record { scans = omega arith; turns = omega arith }
+
+adds-both : (weight : ℕ) (a b c : Totals) (m n : ℕ) → Adds weight a b m → Adds weight b c n → Adds weight a c (m + n)
+adds-both weight a b c m n h k = record {
+  scans = omega (arith, h.scans, k.scans);
+  turns = omega (arith, h.turns, k.turns);
+}
+
+-- the match that is repeated ends where the last one did
+repeated : (at : Search) (last : Option ℕ) (place : Option Span) → repeats (record { at = at; last = last }) place ≡ true
+    → (p : Span) × (place ≡ Some p) × (last ≡ Some p.end)
+repeated at last None again = cc
+repeated at None (Some p) again = let never : false ≡ true = (and_parts (p.start == p.end) false again).1 in cc
+repeated at (Some e) (Some p) again =
+    let both = and_parts (p.start == p.end) (e == p.end) again in
+    let same : e ≡ p.end = eqb-true e p.end both.1 in
+    (p, refl, ap (λ (n : ℕ). Some n) same)
+
+-- the scans of a first search, which nothing can repeat where no match came before
+abbrev searches_at : Option ℕ → ℕ
+searches_at None = 1
+searches_at (Some e) = 2
+
+few-searches : (last : Option ℕ) → 1 ≤ searches_at last
+few-searches None = omega arith
+few-searches (Some e) = omega arith
+
+at-most-two : (last : Option ℕ) → searches_at last ≤ 2
+at-most-two None = omega arith
+at-most-two (Some e) = omega arith
+
+two-searches : (last : Option ℕ) (e : ℕ) → last ≡ Some e → 2 ≤ searches_at last
+two-searches last e is = rw is (omega arith)
+
+module _ (x : Search) where
+  -- where an iteration over x stands
+  pub record IsOf (w : Walk) : Type 0 where
+    pub like : SameButStart x w.at
+    pub from : x.start ≤ w.at.start
+    pub behind : IsBehind w.last w.at.start
+
+  pub is_of-fresh : IsOf (fresh x)
+  is_of-fresh = record {
+    like = same_start-self x;
+    from = omega arith;
+    behind = λ e is. let never : None ≡ Some e = is in cc;
+  }
+
+  is_of-after : (w : Walk) (p : Span) → IsOf w → w.at.start ≤ p.end → IsOf (after w (Some p))
+  is_of-after w p h on = record {
+    like = same_start-then x w.at (after w (Some p)).at h.like (same_start-after w (Some p));
+    from = let from = h.from in omega (arith, from, on);
+    behind = λ e is. let same : p.end ≡ e = some-same p.end e is in omega (arith, same);
+  }
+    where
+      some-same : (a b : ℕ) → Some a ≡ Some b → a ≡ b
+      some-same a b e = cc
+
+  -- What a step from w to v with a match at `place` leaves, by so many scans.
+  abbrev Onward : Walk → Walk → Option Span → ℕ → Type 0
+  Onward w v None count = count ≤ starts_left w.at + 1
+  Onward w v (Some p) count =
+      IsOf v × (v.last ≡ Some p.end) × (count + starts_left v.at ≤ starts_left w.at + 1)
+
+  onward-once : (free : Bool) (w v : Walk) (place : Option Span) (count : ℕ) → IsOf w → v ≡ after w place
+      → Costs free w.at place count → Onward w v place count
+  onward-once free w v None count h is cost = cost.starts
+  onward-once free w v (Some p) count h is cost =
+      let reach = cost.reach in
+      let there : IsOf (after w (Some p)) = is_of-after w p h reach.0 in
+      let fewer : count + starts_left (after w (Some p)).at ≤ starts_left w.at + 1 =
+      omega (arith, reach.0, reach.1, reach.2) in (
+        subst (λ (u : Walk). IsOf u) (sym is) there,
+        ap (λ (u : Walk). u.last) is,
+        subst (λ (u : Walk). count + starts_left u.at ≤ starts_left w.at + 1) (sym is) fewer,
+      )
+
+  onward-twice : (free : Bool) (w v : Walk) (p : Span) (place : Option Span) (first second : ℕ) → IsOf w
+      → p.end ≤ w.at.start → v ≡ after (shifted w) place → Reaches w.at first (Some p)
+      → Costs free (shifted w).at place second
+      → Onward w v place (first + second)
+  onward-twice free w v p None first second h at is reach cost =
+      let more = cost.starts in omega (arith, at, more, reach.0, reach.1, reach.2)
+  onward-twice free w v p (Some q) first second h at is reach cost =
+      let again = cost.reach in
+      let there : IsOf (after w (Some q)) = is_of-after w q h (omega (arith, again.0)) in
+      let fewer : first + second + starts_left (after w (Some q)).at ≤ starts_left w.at + 1 =
+      omega (arith, at, reach.0, reach.1, reach.2, again.0, again.1, again.2) in (
+        subst (λ (u : Walk). IsOf u) (sym is) there,
+        ap (λ (u : Walk). u.last) is,
+        subst (λ (u : Walk). first + second + starts_left u.at ≤ starts_left w.at + 1) (sym is) fewer,
+      )
+
+-- the matches among answers
+abbrev pub found_count : {X : Type 0} → List (Answer X) → ℕ
+found_count [] = 0
+found_count (Ok (Some m) ∷ rest) = found_count rest + 1
+found_count (Ok None ∷ rest) = found_count rest
+found_count (Err e ∷ rest) = found_count rest
+
+pub found_count-to_end : {X : Type 0} (ms : List X) → found_count (answers_to_end ms) ≡ length ms
+found_count-to_end [] = refl
+found_count-to_end (m ∷ ms) = let rest = found_count-to_end ms in omega (arith, rest)
+
+-- What steps from w on add that give so many matches.
+pub record Led (weight : ℕ) (free : Bool) (w : Walk) (found : ℕ) (old new : Totals) : Type 0 where
+  pub count : ℕ
+  pub adds : Adds weight old new count
+  pub starts : count ≤ starts_left w.at + 1 + found
+  pub once : free ≡ false → count ≤ 2 * found + searches_at w.last
+
+-- A match is an X, which lies at `span`; a search `asks` what has `totals`, is `Good`, and stays so.
+module _ {S X : Type 0} (span : X → Span) (asks : S → Search → Answer X → S → Type 0) (totals : S → Totals)
+    (Good : S → Type 0) (weight : ℕ) (free : Bool) (x : Search)
+    (costs : (s : S) (y : Search) (a : Answer X) (t : S) → SameButStart x y → x.start ≤ y.start → Good s → asks s y a t
+    → (count : ℕ) × Costs free y (place_of span a) count × Adds weight (totals s) (totals t) count × Good t) where
+  -- what a step adds
+  record Stepped (s : S) (w : Walk) (a : Answer X) (t : S) (v : Walk) : Type 0 where
+    count : ℕ
+    adds : Adds weight (totals s) (totals t) count
+    onward : Onward x w v (place_of span a) count
+    once : free ≡ false → count ≤ searches_at w.last
+    good : Good t
+
+  stepped : (s : S) (w : Walk) (a : Answer X) (t : S) (v : Walk) → IsOf x w → Good s → Advances span asks s w a t v
+      → Stepped s w a t v
+  stepped s w a t v h good step =
+      let one = costs s w.at step.answer step.between h.like h.from good step.first in
+      elim (chosen (repeats w (place_of span step.answer)) step.rest) [
+        | inl p ↦
+            let from : x.start ≤ (shifted w).at.start = let from = h.from in omega (arith, from) in
+            let like = same_start-then x w.at (shifted w).at h.like (same_start-shifted w) in
+            let two = costs step.between (shifted w).at a t like from one.3 p.1.0 in
+            let same = repeated w.at w.last (place_of span step.answer) p.0 in
+            let reach : Reaches w.at one.0 (Some same.0) =
+            subst (λ (o : Option Span). Reaches w.at one.0 o) same.1 one.1.reach in
+            record {
+              count = one.0 + two.0;
+              adds = adds-both weight (totals s) (totals step.between) (totals t) one.0 two.0 one.2 two.2;
+              onward =
+                  onward-twice x free w v same.0 (place_of span a) one.0 two.0 h (h.behind same.0.end same.2) p.1.1
+                  reach two.1;
+              once = λ never.
+                  let a = one.1.once never in
+                  let b = two.1.once never in
+                  let c = two-searches w.last same.0.end same.2 in
+                  omega (arith, a, b, c);
+              good = two.3;
+            }
+        | inr p ↦
+            let cost : Costs free w.at (place_of span a) one.0 =
+            subst (λ (b : Answer X). Costs free w.at (place_of span b) one.0) (sym p.1.0) one.1 in
+            record {
+              count = one.0;
+              adds = subst (λ (u : S). Adds weight (totals s) (totals u) one.0) (sym p.1.1) one.2;
+              onward = onward-once x free w v (place_of span a) one.0 h p.1.2 cost;
+              once = λ never. let a = cost.once never in let b = few-searches w.last in omega (arith, a, b);
+              good = subst (λ (u : S). Good u) (sym p.1.1) one.3;
+            }
+      ]
+
+  pub led : (w : Walk) (s : S) (answers : List (Answer X)) (t : S) → IsOf x w → Good s
+      → StepsLead span asks w s answers t → Led weight free w (found_count answers) (totals s) (totals t)
+  led w s [] t h good steps = record {
+    count = 0;
+    adds = rw steps (adds-none weight (totals s));
+    starts = omega arith;
+    once = λ never. omega arith;
+  }
+  led w s (Ok (Some m) ∷ rest) t h good steps =
+      let u = steps.0 in
+      let v = steps.1 in
+      let one = stepped s w (Ok (Some m)) u v h good steps.2 in
+      let more = led v u rest t one.onward.0 one.good steps.3 in
+      record {
+        count = one.count + more.count;
+        adds = adds-both weight (totals s) (totals u) (totals t) one.count more.count one.adds more.adds;
+        starts = let a = one.onward.2 in let b = more.starts in omega (arith, a, b);
+        once = λ never.
+            let a = one.once never in
+            let b = more.once never in
+            let c = at-most-two v.last in
+            omega (arith, a, b, c);
+      }
+  led w s (Ok None ∷ rest) t h good steps =
+      let one = stepped s w (Ok None) t steps.0 h good steps.1 in
+      record {
+        count = one.count;
+        adds = one.adds;
+        starts = let a = one.onward in omega (arith, a);
+        once = λ never. let a = one.once never in omega (arith, a);
+      }
+  led w s (Err e ∷ rest) t h good steps =
+      let one = stepped s w (Err e) t steps.0 h good steps.1 in
+      record {
+        count = one.count;
+        adds = one.adds;
+        starts = let a = one.onward in omega (arith, a);
+        once = λ never. let a = one.once never in omega (arith, a);
+      }
+
+  -- There are at most as many matches as ends are left.
+  module _ (lies : (s : S) (y : Search) (a : Answer X) (t : S) → asks s y a t → AnswerIsInside span y a
+      × IsOrdered (place_of span a)) where
+    pub few-found : (w : Walk) (s : S) (answers : List (Answer X)) (t : S) → IsOf x w → Good s
+        → StepsLead span asks w s answers t → found_count answers ≤ ends_left w
+    few-found w s [] t h good steps = omega arith
+    few-found w s (Ok (Some m) ∷ rest) t h good steps =
+        let one = stepped s w (Ok (Some m)) steps.0 steps.1 h good steps.2 in
+        let more = few-found steps.1 steps.0 rest t one.onward.0 one.good steps.3 in
+        let fewer : ends_left steps.1 < ends_left w =
+        Advances-fewer span asks lies s w (Ok (Some m)) steps.0 steps.1 h.behind steps.2 in
+        omega (arith, more, fewer)
+    few-found w s (Ok None ∷ rest) t h good steps = rw steps.2 (omega arith)
+    few-found w s (Err e ∷ rest) t h good steps = rw steps.2 (omega arith)
+
+-- scans within a limit make no more turns than so many scans
+within-limit : (nfa : Automaton) (x : Search) (old new : Totals) (count limit : ℕ) → count ≤ limit
+    → Adds (turns_in nfa x) old new count → AddsAtMost limit nfa x old new
+within-limit nfa x old new count limit few adds =
+    let scans = adds.scans in
+    let turns = adds.turns in
+    let more : count * turns_in nfa x ≤ limit * turns_in nfa x = mul-le-mul_right (turns_in nfa x) few in
+    record { scans = omega (arith, scans, few); turns = by-more new.turns old.turns _ _ turns more }
+  where
+    by-more : (a b m n : ℕ) → a ≤ b + m → m ≤ n → a ≤ b + n
+    by-more a b m n h k = omega arith
+
+module _ (nfa : Automaton) (x : Search) (found : ℕ) (old new : Totals)
+    (all : Led (turns_in nfa x) (restarts_in nfa x) (fresh x) found old new) where
+  -- past so many matches
+  pub list-within : AddsAtMost (list_scan_limit nfa x found) nfa x old new
+  list-within = within-limit nfa x old new all.count (list_scan_limit nfa x found) (fits (restarts_in nfa x) refl) all.adds
+    where
+      fits : (free : Bool) → restarts_in nfa x ≡ free → all.count ≤ cond free (span_len x + found + 2) (2 * found + 1)
+      fits true is = let few = all.starts in omega (arith, few)
+      fits false is = all.once is
+
+  -- and wherever the iteration stops
+  pub calls-within : found ≤ span_len x + 1 → AddsAtMost (2 * span_len x + 3) nfa x old new
+  calls-within few = within-limit nfa x old new all.count (2 * span_len x + 3) (fits (restarts_in nfa x) refl) all.adds
+    where
+      fits : (free : Bool) → restarts_in nfa x ≡ free → all.count ≤ 2 * span_len x + 3
+      fits true is = let starts = all.starts in omega (arith, starts, few)
+      fits false is = let once = all.once is in omega (arith, once, few)

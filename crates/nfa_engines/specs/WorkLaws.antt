@@ -1,0 +1,79 @@
+-- Laws of the work of a whole iteration, over the matches or the captures of a search, by the totals of a cache.
+use Rattle.std.specs.Prelude.{ℕ, ◌+◌, ◌*◌, ◌≤◌, ◌&&◌, not, if◌then◌else◌, List, length}
+use Rattle.regex_search_core.specs.Found.{Found}
+use Rattle.regex_search_core.specs.Search.{Search, is_anchored}
+use Rattle.thompson_nfa.specs.Automaton.{Automaton}
+use Rattle.nfa_paths.specs.Paths.{is_utf8_empty, span_len, turn_weight}
+use Rattle.nfa_search_base.specs.Catching.{Row}
+use Rattle.nfa_backtrack.specs.Backtrack.{Backtracker, Work}
+use Rattle.nfa_backtrack.specs.Finding.{BacktrackerCatchesOn, BacktrackerCatchesToEnd}
+use Rattle.nfa_backtrack.specs.Finding.{BacktrackerFindsOn, BacktrackerFindsToEnd}
+use Rattle.nfa_pikevm.specs.Engines.{Pike, PikeCache}
+use Rattle.nfa_pikevm.specs.Finding.{PikeCatchesOn, PikeCatchesToEnd, PikeFindsOn, PikeFindsToEnd}
+
+-- the totals of a cache: the scans and turns of all its searches
+pub record Totals : Type 0 where
+  pub scans : ℕ
+  pub turns : ℕ
+
+abbrev pub pike_totals : PikeCache → Totals
+pike_totals cache = record { scans = cache.all_scans; turns = cache.all_turns }
+
+abbrev pub backtracker_totals : Work → Totals
+backtracker_totals cache = record { scans = cache.all_scans; turns = cache.all_turns }
+
+-- the totals rose by at most so many scans of the span of x, and by no more turns than these may make
+pub record AddsAtMost (limit : ℕ) (nfa : Automaton) (x : Search) (old new : Totals) : Type 0 where
+  pub scans : new.scans ≤ old.scans + limit
+  pub turns : new.turns ≤ old.turns + limit * ((1 + turn_weight nfa) * (span_len x + 1))
+
+-- How many scans an iteration over x makes at most to its end, past so many matches. Where a search may restart: one
+-- for each byte of the span and for each match, and two more. Elsewhere: two for each match, and one more.
+abbrev pub list_scan_limit : Automaton → Search → ℕ → ℕ
+list_scan_limit nfa x count =
+    if is_utf8_empty nfa && not (is_anchored x.anchored) then (span_len x + count + 2) else (2 * count + 1)
+
+-- All matches, or all rows of captures, are found within a limit.
+module _ (limit : Automaton → Search → ℕ → ℕ) where
+  abbrev pub PikeMatchesAreWithin : Type 0
+  PikeMatchesAreWithin =
+      (vm : Pike) (x : Search) (ms : List Found) (old new : PikeCache) → PikeFindsToEnd vm x ms old new
+      → AddsAtMost (limit vm.nfa x (length ms)) vm.nfa x (pike_totals old) (pike_totals new)
+
+  abbrev pub PikeRowsAreWithin : Type 0
+  PikeRowsAreWithin =
+      (vm : Pike) (x : Search) (rows : List Row) (old new : PikeCache) → PikeCatchesToEnd vm x rows old new
+      → AddsAtMost (limit vm.nfa x (length rows)) vm.nfa x (pike_totals old) (pike_totals new)
+
+  abbrev pub BacktrackerMatchesAreWithin : Type 0
+  BacktrackerMatchesAreWithin =
+      (e : Backtracker) (x : Search) (ms : List Found) (old new : Work) → BacktrackerFindsToEnd e x ms old new
+      → AddsAtMost (limit e.nfa x (length ms)) e.nfa x (backtracker_totals old) (backtracker_totals new)
+
+  abbrev pub BacktrackerRowsAreWithin : Type 0
+  BacktrackerRowsAreWithin =
+      (e : Backtracker) (x : Search) (rows : List Row) (old new : Work) → BacktrackerCatchesToEnd e x rows old new
+      → AddsAtMost (limit e.nfa x (length rows)) e.nfa x (backtracker_totals old) (backtracker_totals new)
+
+-- However far an iteration goes, and where it ends with an error too, it makes at most two scans for each byte of the
+-- span, and so many more.
+module _ (more : ℕ) where
+  abbrev pub PikeFindsWithin : Type 0
+  PikeFindsWithin =
+      (vm : Pike) (x : Search) (old new : PikeCache) → PikeFindsOn vm x old new
+      → AddsAtMost (2 * span_len x + more) vm.nfa x (pike_totals old) (pike_totals new)
+
+  abbrev pub PikeCatchesWithin : Type 0
+  PikeCatchesWithin =
+      (vm : Pike) (x : Search) (old new : PikeCache) → PikeCatchesOn vm x old new
+      → AddsAtMost (2 * span_len x + more) vm.nfa x (pike_totals old) (pike_totals new)
+
+  abbrev pub BacktrackerFindsWithin : Type 0
+  BacktrackerFindsWithin =
+      (e : Backtracker) (x : Search) (old new : Work) → BacktrackerFindsOn e x old new
+      → AddsAtMost (2 * span_len x + more) e.nfa x (backtracker_totals old) (backtracker_totals new)
+
+  abbrev pub BacktrackerCatchesWithin : Type 0
+  BacktrackerCatchesWithin =
+      (e : Backtracker) (x : Search) (old new : Work) → BacktrackerCatchesOn e x old new
+      → AddsAtMost (2 * span_len x + more) e.nfa x (backtracker_totals old) (backtracker_totals new)
