@@ -22,13 +22,13 @@ pike_totals cache = record { scans = cache.all_scans; turns = cache.all_turns }
 abbrev pub backtracker_totals : Work → Totals
 backtracker_totals cache = record { scans = cache.all_scans; turns = cache.all_turns }
 
--- the totals rose by at most so many scans of the span of x, and by no more turns than these may make
+-- the totals rose by at most `limit` scans of the span of x, and by no more turns than these may make
 pub record AddsAtMost (limit : ℕ) (nfa : Automaton) (x : Search) (old new : Totals) : Type 0 where
   pub scans : new.scans ≤ old.scans + limit
   pub turns : new.turns ≤ old.turns + limit * ((1 + turn_weight nfa) * (span_len x + 1))
 
--- How many scans an iteration over x makes at most to its end, past so many matches. Where a search may restart: one
--- for each byte of the span and for each match, and two more. Elsewhere: two for each match, and one more.
+-- The maximum number of scans of an iteration over x that ends after `count` matches. If a search may restart: one for
+-- each byte of the span and for each match, and two more. Otherwise: two for each match, and one more.
 abbrev pub list_scan_limit : Automaton → Search → ℕ → ℕ
 list_scan_limit nfa x count =
     if is_utf8_empty nfa && not (is_anchored x.anchored) then (span_len x + count + 2) else (2 * count + 1)
@@ -55,8 +55,8 @@ module _ (limit : Automaton → Search → ℕ → ℕ) where
       (e : Backtracker) (x : Search) (rows : List Row) (old new : Work) → BacktrackerCatchesToEnd e x rows old new
       → AddsAtMost (limit e.nfa x (length rows)) e.nfa x (backtracker_totals old) (backtracker_totals new)
 
--- However far an iteration goes, and where it ends with an error too, it makes at most two scans for each byte of the
--- span, and so many more.
+-- However far an iteration goes, and also if it ends with an error, it makes at most two scans for each byte of the span,
+-- and `more` besides.
 module _ (more : ℕ) where
   abbrev pub PikeFindsWithin : Type 0
   PikeFindsWithin =

@@ -298,7 +298,7 @@ pub fn answers_read_the_span()
 
 /// A whole list takes little more than one search. Over the calls that find all k matches in a span of n bytes, or their
 /// captures, the totals of the cache rise by at most n + k + 2 scans; if no search may restart, by at most 2k + 1. The
-/// turns are at most those of so many scans, (1 + D)(n + 1) each.
+/// turns are at most (1 + D)(n + 1) for each of these scans.
 ///
 /// The premises are what `find_all` and `captures_all` ensure of the cache where they are `Ok` (`to_end`), and what the
 /// iterators over matches ensure where they go on to `None` (`searches`).
@@ -309,8 +309,8 @@ pub fn lists_are_bounded()
     ensures backtracker_rows { BacktrackerRowsAreWithin list_scan_limit }
 {}
 
-/// Wherever an iteration stops, also after an error, the totals of the cache rise by at most 2n + 3 scans, and by the
-/// turns of so many scans.
+/// Wherever an iteration stops, also after an error, the totals of the cache rise by at most 2n + 3 scans, each of at most
+/// (1 + D)(n + 1) turns.
 ///
 /// The premises are what all lists and iterators ensure of the cache (`searches`).
 pub fn iterations_are_bounded()
