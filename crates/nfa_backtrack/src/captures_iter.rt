@@ -69,6 +69,15 @@ impl BoundedBacktracker {
     /// the list. Each item is a copy of its own. Where there is no memory for it the item is the error, and so it is
     /// where a search is refused. If the span is too long the one item is that refusal. An error is given once, and is
     /// the last item.
+    ///
+    /// ```
+    /// // backtracker of "foo(?<n>[0-9]+)"
+    /// let mut last = None;
+    /// for captures in backtracker.try_captures_iter(alloc, cache, Input::new(b"foo1 foo12 foo123"))? {
+    ///     last = captures?.get_group_by_name("n");
+    /// }
+    /// assert_eq!(rt; last, Some(Span { start: 14, end: 17 }));
+    /// ```
     pub fn try_captures_iter<'r, 'c, 'h>(
         &'r self,
         alloc: Global,
@@ -118,6 +127,17 @@ impl BoundedBacktracker {
 
     /// The same, searching with captures that the caller made, with all groups of this NFA
     /// ([`BoundedBacktracker::create_captures`]). To make this takes no memory, and cannot fail.
+    ///
+    /// ```
+    /// // backtracker of "foo(?<n>[0-9]+)"
+    /// let input = Input::new(b"foo1 foo12 foo123");
+    /// let captures = backtracker.create_captures(alloc)?;
+    /// let mut last = None;
+    /// for captures in backtracker.try_captures_iter_with(cache, input, captures) {
+    ///     last = captures?.get_group_by_name("n");
+    /// }
+    /// assert_eq!(rt; last, Some(Span { start: 14, end: 17 }));
+    /// ```
     #[inline]
     pub fn try_captures_iter_with<'r, 'c, 'h>(
         &'r self,
@@ -168,6 +188,14 @@ impl BoundedBacktracker {
     /// # Errors
     ///
     /// `HaystackTooLong` exactly where the span is too long, which is tested before all else, and else `Memory`.
+    ///
+    /// ```
+    /// // backtracker of "foo(?<n>[0-9]+)"
+    /// let all = backtracker.try_captures_all(alloc, cache, Input::new(b"foo1 foo12 foo123"))?;
+    /// assert_eq!(rt; all.len(), 3);
+    /// let digits = all[2].get_group_by_name("n");
+    /// assert_eq!(rt; digits, Some(Span { start: 14, end: 17 }));
+    /// ```
     pub fn try_captures_all(
         &self,
         alloc: Global,

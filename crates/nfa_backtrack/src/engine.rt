@@ -31,6 +31,14 @@ use thompson_nfa::{BuildError, NFA};
 ///
 /// Its answers are those of leftmost first search: the match with the least start and, of those, the one that the
 /// earlier alternatives lead to. `earliest` is ignored. A contract sees the NFA and the capacity that was set.
+///
+/// ```
+/// let nfa = Compiler::new().build(alloc, "foo[0-9]+")?;
+/// let backtracker = BoundedBacktracker::new_from_nfa(nfa)?;
+/// let mut cache = backtracker.create_cache(alloc);
+/// let found = backtracker.try_find(&mut cache, Input::new(b"foo12345"))?;
+/// assert_eq!(rt; found.expect(rt, "a match").range(), 0..8);
+/// ```
 #[derive(Debug, Drop)]
 pub struct BoundedBacktracker {
     config: Config,
@@ -52,6 +60,13 @@ impl Model for BoundedBacktracker {
 /// Returns the least visited capacity, in bytes, that has a bit for each pair of the search. With it no search of the
 /// input is refused for its length. The caller owes that the states times the positions of the span, its bytes and one,
 /// fit a `usize`.
+///
+/// ```
+/// // nfa of a backtracker that never matches
+/// assert_eq!(rt; nfa.states().len(), 1);
+/// let bytes = backtrack::min_visited_capacity(nfa, &Input::new(b"foo12345"));
+/// assert_eq!(rt; bytes, 2);
+/// ```
 pub fn min_visited_capacity(nfa: &NFA, input: &Input<'_>) -> usize
     requires { length nfa.now.states * (span_len (search_of input.now) + 1) < 2 ^ 64 }
     ensures { result ≡ min_capacity_of nfa.now (search_of input.now) }
@@ -103,6 +118,12 @@ impl BoundedBacktracker {
 
     /// Makes a backtracker that matches the empty string at each position, with the default configuration. The error is
     /// `Memory` alone.
+    ///
+    /// ```
+    /// let backtracker = BoundedBacktracker::always_match(alloc)?;
+    /// let mut cache = backtracker.create_cache(alloc);
+    /// assert!(rt; backtracker.try_is_match(&mut cache, Input::new(b"foo"))?);
+    /// ```
     pub fn always_match(alloc: Global) -> Result<BoundedBacktracker, BuildError>
         ensures made { IfOk result (λ made. made ≡ record { nfa = always; visited_capacity = None }) }
         ensures memory { IsOkUnless result BuildError.Memory }
@@ -111,6 +132,12 @@ impl BoundedBacktracker {
     }
 
     /// Makes a backtracker that matches nothing, with the default configuration. The only error is `Memory`.
+    ///
+    /// ```
+    /// let backtracker = BoundedBacktracker::never_match(alloc)?;
+    /// let mut cache = backtracker.create_cache(alloc);
+    /// assert!(rt; !backtracker.try_is_match(&mut cache, Input::new(b"foo"))?);
+    /// ```
     pub fn never_match(alloc: Global) -> Result<BoundedBacktracker, BuildError>
         ensures made { IfOk result (λ made. made ≡ record { nfa = never; visited_capacity = None }) }
         ensures memory { IsOkUnless result BuildError.Memory }
@@ -126,6 +153,13 @@ impl BoundedBacktracker {
     }
 
     /// Returns a builder with nothing set.
+    ///
+    /// ```
+    /// let mut builder = BoundedBacktracker::builder();
+    /// builder.configure(BoundedBacktracker::config().visited_capacity(64));
+    /// let backtracker = builder.build_from_nfa(nfa)?;
+    /// assert_eq!(rt; backtracker.get_config().get_visited_capacity(), 64);
+    /// ```
     pub fn builder() -> Builder
         ensures { result ≡ None }
     {
@@ -141,6 +175,12 @@ impl BoundedBacktracker {
 
     /// Makes captures with a slot for each edge of each group of the NFA. No pattern and no slot is set. The error is
     /// `Memory` alone.
+    ///
+    /// ```
+    /// // backtracker of "foo(?<n>[0-9]+)"
+    /// let captures = backtracker.create_captures(alloc)?;
+    /// assert_eq!(rt; captures.slots(), [None; 4].as_slice());
+    /// ```
     pub fn create_captures(&self, alloc: Global) -> Result<Captures, SearchError>
         ensures made { IfOk result (λ made. made ≡ record {
           groups = self.now.nfa.groups;
@@ -155,6 +195,12 @@ impl BoundedBacktracker {
 
     /// Drops all marks of the cache and the blocks that held them. Their memory stays for the next search. A search
     /// needs no reset before it.
+    ///
+    /// ```
+    /// // backtracker of r"\W", cache of another backtracker
+    /// backtracker.reset_cache(cache);
+    /// assert!(rt; backtracker.try_is_match(cache, Input::new("☃".as_bytes()))?);
+    /// ```
     pub fn reset_cache(&self, cache: &mut Cache)
         ensures { cache.new ≡ record cache.old { blocks = 0 } }
     {
@@ -162,6 +208,12 @@ impl BoundedBacktracker {
     }
 
     /// Returns the number of patterns of the NFA.
+    ///
+    /// ```
+    /// // backtracker of [r"\pL+", r"\d+"]
+    /// assert_eq!(rt; backtracker.pattern_len(), 2);
+    /// assert_eq!(rt; backtracker.get_nfa().group_info().slot_len(), 4);
+    /// ```
     pub fn pattern_len(&self) -> usize
         ensures { result ≡ length self.now.nfa.patterns }
     {
@@ -183,6 +235,12 @@ impl BoundedBacktracker {
     }
 
     /// Returns an equal backtracker. The only error is `Memory`.
+    ///
+    /// ```
+    /// // backtracker of "foo(?<n>[0-9]+)"
+    /// let copy = backtracker.clone()?;
+    /// assert!(rt; copy.try_is_match(cache, Input::new(b"foo12345"))?);
+    /// ```
     pub fn clone(&self) -> Result<BoundedBacktracker, SearchError>
         ensures copy { IfOk result (λ copy. copy ≡ self.now) }
         ensures memory { IsOkUnless result SearchError.Memory }
@@ -203,6 +261,11 @@ impl BoundedBacktracker {
     /// A length in bytes up to which no span is refused for its length, where the capacity has a bit for each state.
     ///
     /// It is the number of pairs that may be marked, divided by the number of states, less one and not below 0.
+    ///
+    /// ```
+    /// // backtracker that never matches: one state, and 256 KiB of bits
+    /// assert_eq!(rt; backtracker.max_haystack_len(), 262144 * 8 - 1);
+    /// ```
     pub fn max_haystack_len(&self) -> usize
         ensures { result ≡ max_haystack_len_of self.now }
     {
@@ -226,6 +289,15 @@ impl BoundedBacktracker {
     ///
     /// The span's length alone decides whether a search is too long; that is tested before all else. `Memory` is
     /// answered where a growth of the cache was refused. After an error the cache serves the next search.
+    ///
+    /// ```
+    /// // backtracker of [r"\pL+", r"\d+"]
+    /// let mut slots = [None; 4];
+    /// let pattern = backtracker.try_search_slots(cache, &Input::new(b"!@#123"), &mut slots)?;
+    /// assert_eq!(rt; pattern.expect(rt, "a match").as_usize(), 1);
+    /// let wanted = [None, None, NonMaxUsize::new(3), NonMaxUsize::new(6)];
+    /// assert_eq!(rt; slots, wanted);
+    /// ```
     pub fn try_search_slots(
         &self,
         cache: &mut Cache,
@@ -269,6 +341,12 @@ impl BoundedBacktracker {
     /// behind the end.
     ///
     /// Errors are those of [`BoundedBacktracker::try_search_slots`].
+    ///
+    /// ```
+    /// // backtracker of "foo(?<n>[0-9]+)"
+    /// let found = backtracker.try_find(cache, Input::new(b"foo12345"))?;
+    /// assert_eq!(rt; found.expect(rt, "a match").range(), 0..8);
+    /// ```
     pub fn try_find<'h>(
         &self,
         cache: &mut Cache,
@@ -363,6 +441,12 @@ impl BoundedBacktracker {
     /// Returns whether a search of the input finds a match.
     ///
     /// Errors are those of [`BoundedBacktracker::try_search_slots`].
+    ///
+    /// ```
+    /// // backtracker of "foo(?<n>[0-9]+)"
+    /// assert!(rt; backtracker.try_is_match(cache, Input::new(b"foo12345"))?);
+    /// assert!(rt; !backtracker.try_is_match(cache, Input::new(b"foobar"))?);
+    /// ```
     pub fn try_is_match<'h>(&self, cache: &mut Cache, input: Input<'h>) -> Result<bool, SearchError>
         ensures answer { IfOk result (λ found. IsFoundAnswer self.now.nfa LeftmostFirst false (search_of input.entry)
             found) }

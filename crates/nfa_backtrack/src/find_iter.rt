@@ -60,6 +60,15 @@ impl BoundedBacktracker {
     /// The next match is searched for from the end of the last one. In place of an empty match where the last one ended
     /// comes what a search from one byte further on finds. If the span is too long the one item is that refusal. An
     /// error is given once, and is the last item.
+    ///
+    /// ```
+    /// // backtracker of "foo(?<n>[0-9]+)"
+    /// let mut ranges = Vec::new(alloc);
+    /// for found in backtracker.try_find_iter(cache, Input::new(b"foo1 foo12 foo123")) {
+    ///     ranges.push(found?.range())?;
+    /// }
+    /// assert_eq!(rt; ranges.as_slice(), [0..4, 5..10, 11..17].as_slice());
+    /// ```
     pub fn try_find_iter<'r, 'c, 'h>(
         &'r self,
         cache: &'c mut Cache,
@@ -107,6 +116,13 @@ impl BoundedBacktracker {
     /// # Errors
     ///
     /// `HaystackTooLong` exactly where the span is too long, and else `Memory`, where a growth was refused.
+    ///
+    /// ```
+    /// // backtracker of "foo(?<n>[0-9]+)"
+    /// let all = backtracker.try_find_all(alloc, cache, Input::new(b"foo1 foo12 foo123"))?;
+    /// assert_eq!(rt; all.len(), 3);
+    /// assert_eq!(rt; all[2].range(), 11..17);
+    /// ```
     pub fn try_find_all(
         &self,
         alloc: Global,

@@ -14,10 +14,16 @@ use nfa_search_base::error::SearchError;
 use regex_search_core::{HalfMatch, Input};
 
 impl BoundedBacktracker {
-    /// Returns the pattern of the match that a search of the input finds, and the offset of its end. It writes no slots,
-    /// so the NFA need not write where its matches start and end.
+    /// Returns the pattern of the match that a search of the input finds, and the offset of its end. It writes no
+    /// slots, so the NFA need not write where its matches start and end.
     ///
     /// Returns `None` if nothing matches. Errors are those of [`BoundedBacktracker::try_search_slots`].
+    ///
+    /// ```
+    /// // backtracker of "foo(?<n>[0-9]+)"
+    /// let half = backtracker.try_find_half(cache, Input::new(b"foo12345"))?;
+    /// assert_eq!(rt; half.expect(rt, "a match").offset(), 8);
+    /// ```
     pub fn try_find_half<'h>(
         &self,
         cache: &mut Cache,

@@ -106,6 +106,13 @@ fn pikevm(config: pikevm::Config, nfa: NFA) -> PikeVM
 
 impl Choice {
     /// Makes both engines of the NFA, each with its configuration and a cache. The only error is `Memory`.
+    ///
+    /// ```
+    /// let nfa = Compiler::new().build(alloc, "foo[0-9]+")?;
+    /// let mut choice = Choice::new(alloc, nfa, backtrack::Config::new(), pikevm::Config::new())?;
+    /// let found = choice.find(Input::new(b"foo12345"));
+    /// assert_eq!(rt; found.expect(rt, "a match").range(), 0..8);
+    /// ```
     pub fn new(
         alloc: Global,
         nfa: NFA,
@@ -140,6 +147,14 @@ impl Choice {
 
     /// Returns the engine that gave the answer of the last search, also of one in an iteration. Returns `None` before
     /// the first.
+    ///
+    /// ```
+    /// // choice of "foo(?<n>[0-9]+)"
+    /// choice.find(Input::new(b"foo12345"));
+    /// assert_eq!(rt; choice.ran(), Some(Engine::Backtracker));
+    /// choice.find(Input::new(b"foo12345").earliest(true));
+    /// assert_eq!(rt; choice.ran(), Some(Engine::PikeVM));
+    /// ```
     pub fn ran(&self) -> Option<Engine>
         ensures { result ≡ self.now.ran }
     {
@@ -148,6 +163,11 @@ impl Choice {
     }
 
     /// Returns the NFA.
+    ///
+    /// ```
+    /// // choice of "foo(?<n>[0-9]+)"
+    /// assert_eq!(rt; choice.get_nfa().group_info().slot_len(), 4);
+    /// ```
     pub fn get_nfa(&self) -> &NFA
         ensures { result.now ≡ self.now.nfa }
     {
@@ -155,6 +175,11 @@ impl Choice {
     }
 
     /// Returns the configuration of the backtracker.
+    ///
+    /// ```
+    /// let capacity = choice.get_backtrack_config().get_visited_capacity();
+    /// assert_eq!(rt; capacity, 256 * 1024);
+    /// ```
     pub fn get_backtrack_config(&self) -> &backtrack::Config
         ensures { result.now ≡ self.now.visited_capacity }
     {
@@ -162,6 +187,11 @@ impl Choice {
     }
 
     /// Returns the configuration of the PikeVM.
+    ///
+    /// ```
+    /// // choice of [r"\w+", r"\d+", r"\pL+", "foo", "bar", "barfoo", "foobar"], with MatchKind::All
+    /// assert_eq!(rt; choice.get_pikevm_config().get_match_kind(), MatchKind::All);
+    /// ```
     pub fn get_pikevm_config(&self) -> &pikevm::Config
         ensures { result.now ≡ self.now.match_kind }
     {
@@ -179,6 +209,15 @@ impl Choice {
 
     /// Searches, and fills the slots with byte offsets, as both engines do: any number may be handed in; those past the
     /// NFA's are none, and so is every slot after no match.
+    ///
+    /// ```
+    /// // choice of [r"\pL+", r"\d+"]
+    /// let mut slots = [None; 4];
+    /// let pattern = choice.search_slots(&Input::new(b"!@#123"), &mut slots);
+    /// assert_eq!(rt; pattern.expect(rt, "a match").as_usize(), 1);
+    /// let wanted = [None, None, NonMaxUsize::new(3), NonMaxUsize::new(6)];
+    /// assert_eq!(rt; slots, wanted);
+    /// ```
     pub fn search_slots(
         &mut self,
         input: &Input<'_>,
@@ -209,6 +248,14 @@ impl Choice {
     /// Searches, and fills captures: their pattern is the one that matched, and their slots get what
     /// [`Choice::search_slots`] gives as many slots. Their groups stay. After no match they show none: no pattern, and
     /// no slot set. Any captures may be handed in, those of another NFA too.
+    ///
+    /// ```
+    /// // choice of "foo(?<n>[0-9]+)"
+    /// let mut captures = choice.create_captures(alloc)?;
+    /// choice.search(&Input::new(b"foo12345"), &mut captures);
+    /// let digits = captures.get_group_by_name("n");
+    /// assert_eq!(rt; digits, Some(Span { start: 3, end: 8 }));
+    /// ```
     pub fn search(&mut self, input: &Input<'_>, captures: &mut Captures)
         ensures answer { IsAnswer self.old.nfa (kind_in self.old) (search_of input.now).earliest (search_of input.now)
             captures.new.pattern captures.new.slots }
@@ -234,6 +281,12 @@ impl Choice {
     }
 
     /// Returns the match that a search of the input finds.
+    ///
+    /// ```
+    /// // choice of "foo(?<n>[0-9]+)"
+    /// let found = choice.find(Input::new(b"foo12345"));
+    /// assert_eq!(rt; found.expect(rt, "a match").range(), 0..8);
+    /// ```
     pub fn find<'h>(&mut self, input: Input<'h>) -> Option<Match>
         ensures answer { IsMatchAnswer self.old.nfa (kind_in self.old) (search_of input.entry).earliest
             (search_of input.entry)
@@ -256,6 +309,12 @@ impl Choice {
 
     /// Returns whether a search of the input finds a match. The flag `earliest` of the input does not change the
     /// answer.
+    ///
+    /// ```
+    /// // choice of "foo(?<n>[0-9]+)"
+    /// assert!(rt; choice.is_match(Input::new(b"foo12345")));
+    /// assert!(rt; !choice.is_match(Input::new(b"foobar")));
+    /// ```
     pub fn is_match<'h>(&mut self, input: Input<'h>) -> bool
         ensures answer { IsFoundAnswer self.old.nfa (kind_in self.old) false (search_of input.entry) result }
         ensures finds { result ≡ finds_in self.old (search_of input.entry) }
@@ -275,6 +334,12 @@ impl Choice {
 
     /// Replaces the NFA. The configurations stay. The only error is `Memory`; the searches then are over the old NFA,
     /// as before.
+    ///
+    /// ```
+    /// // nfa of r"\W"
+    /// choice.replace(nfa)?;
+    /// assert!(rt; choice.is_match(Input::new("☃".as_bytes())));
+    /// ```
     pub fn replace(&mut self, nfa: NFA) -> Result<(), SearchError>
         ensures made { OnOk result (self.new ≡ record self.old { nfa = nfa; pike = self.new.pike }) }
         ensures refitted { OnOk result (IsRefitted self.old.pike nfa self.new.pike) }

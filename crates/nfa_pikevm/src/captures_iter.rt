@@ -67,6 +67,15 @@ impl PikeVM {
     /// comes what a search from one byte further on finds. An answer without a match, as bare patterns give it, ends
     /// the list. Each item is a copy of its own. Where there is no memory for it the item is the error, once. The
     /// numbers of the cache stay as they are, so it fits afterwards what it fitted before.
+    ///
+    /// ```
+    /// // vm of "foo(?<n>[0-9]+)"
+    /// let mut last = None;
+    /// for captures in vm.captures_iter(alloc, cache, Input::new(b"foo1 foo12 foo123"))? {
+    ///     last = captures?.get_group_by_name("n");
+    /// }
+    /// assert_eq!(rt; last, Some(Span { start: 14, end: 17 }));
+    /// ```
     pub fn captures_iter<'r, 'c, 'h>(
         &'r self,
         alloc: Global,
@@ -118,6 +127,16 @@ impl PikeVM {
 
     /// The same, searching with captures that the caller made, with all groups of this NFA
     /// ([`PikeVM::create_captures`]). To make this takes no memory, and cannot fail.
+    ///
+    /// ```
+    /// // vm of "foo(?<n>[0-9]+)"
+    /// let captures = vm.create_captures(alloc)?;
+    /// let mut last = None;
+    /// for captures in vm.captures_iter_with(cache, Input::new(b"foo1 foo12 foo123"), captures) {
+    ///     last = captures?.get_group_by_name("n");
+    /// }
+    /// assert_eq!(rt; last, Some(Span { start: 14, end: 17 }));
+    /// ```
     #[inline]
     pub fn captures_iter_with<'r, 'c, 'h>(
         &'r self,
@@ -169,6 +188,14 @@ impl PikeVM {
 
     /// The captures of all matches of the input that do not overlap, from left to right, each with all groups of the
     /// NFA. The error is that there was no memory: [`SearchError::Memory`] alone.
+    ///
+    /// ```
+    /// // vm of "foo(?<n>[0-9]+)"
+    /// let all = vm.captures_all(alloc, cache, Input::new(b"foo1 foo12 foo123"))?;
+    /// assert_eq!(rt; all.len(), 3);
+    /// let digits = all[2].get_group_by_name("n");
+    /// assert_eq!(rt; digits, Some(Span { start: 14, end: 17 }));
+    /// ```
     pub fn captures_all(
         &self,
         alloc: Global,

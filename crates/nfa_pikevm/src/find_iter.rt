@@ -52,6 +52,15 @@ impl PikeVM {
     /// The next match is searched for from the end of the last one. In place of an empty match where the last one ended
     /// comes what a search from one byte further on finds. The numbers of the cache stay as they are, so it fits
     /// afterwards what it fitted before.
+    ///
+    /// ```
+    /// // vm of "foo(?<n>[0-9]+)"
+    /// let mut ranges = Vec::new(alloc);
+    /// for found in vm.find_iter(cache, Input::new(b"foo1 foo12 foo123")) {
+    ///     ranges.push(found.range())?;
+    /// }
+    /// assert_eq!(rt; ranges.as_slice(), [0..4, 5..10, 11..17].as_slice());
+    /// ```
     pub fn find_iter<'r, 'c, 'h>(
         &'r self,
         cache: &'c mut Cache,
@@ -87,8 +96,15 @@ impl PikeVM {
         }
     }
 
-    /// Returns all matches that do not overlap, from left to right. Allocates only if there is a match. The only error is
-    /// [`SearchError::Memory`].
+    /// Returns all matches that do not overlap, from left to right. Allocates only if there is a match. The only error
+    /// is [`SearchError::Memory`].
+    ///
+    /// ```
+    /// // vm of "foo(?<n>[0-9]+)"
+    /// let all = vm.find_all(alloc, cache, Input::new(b"foo1 foo12 foo123"))?;
+    /// assert_eq!(rt; all.len(), 3);
+    /// assert_eq!(rt; all[2].range(), 11..17);
+    /// ```
     pub fn find_all(
         &self,
         alloc: Global,

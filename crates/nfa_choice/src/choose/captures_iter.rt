@@ -13,8 +13,8 @@ use std::marker::Model;
 /// gives.
 ///
 /// Its items are `Ok` captures, each a value of its own, at most as many as the span has bytes and one more, and at
-/// most one error, which is [`SearchError::Memory`]: there was no memory for a copy. It is fused: it ends after the last
-/// match and after the error.
+/// most one error, which is [`SearchError::Memory`]: there was no memory for a copy. It is fused: it ends after the
+/// last match and after the error.
 #[derive(Debug, Drop)]
 pub struct ChoiceCaptures<'c, 'h> {
     choice: &'c mut Choice,
@@ -55,13 +55,22 @@ impl Choice {
     ghost use Rattle.nfa_choice.specs.Choosing.{kind_in, KeepsEngines};
 
     /// Returns the captures of all matches that do not overlap, from left to right, each with all groups of the NFA.
-    /// Making the iterator runs no search. The only error is [`SearchError::Memory`]: there is no memory for the captures
-    /// that are searched with.
+    /// Making the iterator runs no search. The only error is [`SearchError::Memory`]: there is no memory for the
+    /// captures that are searched with.
     ///
     /// The next match is searched for from the end of the last one. In place of an empty match where the last one ended
     /// comes what a search from one byte further on finds. Each search takes the engine that suits. An answer without
     /// a match, as bare patterns give it, ends the list. Each item is a copy of its own. If there is no memory for it,
     /// the item is the error, once.
+    ///
+    /// ```
+    /// // choice of "foo(?<n>[0-9]+)"
+    /// let mut last = None;
+    /// for captures in choice.captures_iter(alloc, Input::new(b"foo1 foo12 foo123"))? {
+    ///     last = captures?.get_group_by_name("n");
+    /// }
+    /// assert_eq!(rt; last, Some(Span { start: 14, end: 17 }));
+    /// ```
     pub fn captures_iter<'c, 'h>(
         &'c mut self,
         alloc: Global,
@@ -111,6 +120,16 @@ impl Choice {
 
     /// The same, searching with captures that the caller made, with all groups of this NFA
     /// ([`Choice::create_captures`]). Making the iterator allocates nothing, and cannot fail.
+    ///
+    /// ```
+    /// // choice of "foo(?<n>[0-9]+)"
+    /// let captures = choice.create_captures(alloc)?;
+    /// let mut last = None;
+    /// for captures in choice.captures_iter_with(Input::new(b"foo1 foo12 foo123"), captures) {
+    ///     last = captures?.get_group_by_name("n");
+    /// }
+    /// assert_eq!(rt; last, Some(Span { start: 14, end: 17 }));
+    /// ```
     #[inline]
     pub fn captures_iter_with<'c, 'h>(
         &'c mut self,
@@ -161,6 +180,14 @@ impl Choice {
     /// [`Choice::captures_iter`] gives them.
     ///
     /// The only error is [`SearchError::Memory`]: there is no memory for the list or for captures. No search fails.
+    ///
+    /// ```
+    /// // choice of "foo(?<n>[0-9]+)"
+    /// let all = choice.captures_all(alloc, Input::new(b"foo1 foo12 foo123"))?;
+    /// assert_eq!(rt; all.len(), 3);
+    /// let digits = all[2].get_group_by_name("n");
+    /// assert_eq!(rt; digits, Some(Span { start: 14, end: 17 }));
+    /// ```
     pub fn captures_all(
         &mut self,
         alloc: Global,

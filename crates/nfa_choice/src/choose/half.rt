@@ -10,10 +10,16 @@ use crate::choose::{Choice, Engine};
 use regex_search_core::{HalfMatch, Input};
 
 impl Choice {
-    /// Returns the pattern of the match that a search of the input finds, and the offset of its end. It writes no slots,
-    /// so the NFA need not write where its matches start and end.
+    /// Returns the pattern of the match that a search of the input finds, and the offset of its end. It writes no
+    /// slots, so the NFA need not write where its matches start and end.
     ///
     /// Returns `None` if nothing matches.
+    ///
+    /// ```
+    /// // choice of "foo(?<n>[0-9]+)"
+    /// let half = choice.find_half(Input::new(b"foo12345"));
+    /// assert_eq!(rt; half.expect(rt, "a match").offset(), 8);
+    /// ```
     pub fn find_half<'h>(&mut self, input: Input<'h>) -> Option<HalfMatch>
         ensures answer { IsHalfAnswer self.old.nfa (kind_in self.old) (search_of input.entry).earliest
             (search_of input.entry) (option_map half_found_of result) }

@@ -43,6 +43,17 @@ impl<'h> Searcher<'h> {
     /// The caller owes that the finder, wherever earlier calls have led it and these captures, may
     /// be called on each input of this haystack, anchoring, `earliest` flag and span end, and leaves
     /// captures whose match lies in that input's span.
+    ///
+    /// ```
+    /// // backtracker of "foo(?<n>[0-9]+)"
+    /// let searcher = Searcher::new(Input::new(b"foo1 foo12 foo123"));
+    /// let finder = |input: &Input<'_>, row: &mut Captures| backtracker.try_search(cache, input, row);
+    /// let mut last = None;
+    /// for captures in searcher.into_captures_iter(captures, finder) {
+    ///     last = captures?.get_group_by_name("n");
+    /// }
+    /// assert_eq!(rt; last, Some(Span { start: 14, end: 17 }));
+    /// ```
     pub fn into_captures_iter<F>(self, captures: Captures, finder: F) -> TryCapturesIter<'h, F>
     where
         F: FnMut(&Input<'_>, &mut Captures) -> Result<(), SearchError>,

@@ -45,6 +45,17 @@ impl<'h> Searcher<'h> {
     /// The caller owes that the finder, wherever earlier calls have led it, may be called on each
     /// input of this haystack, anchoring, `earliest` flag and span end, and answers an offset in that
     /// input's span.
+    ///
+    /// ```
+    /// // backtracker of "foo(?<n>[0-9]+)"
+    /// let searcher = Searcher::new(Input::new(b"foo1 foo12 foo123"));
+    /// let finder = |input: &Input<'_>| backtracker.try_find_half(cache, *input);
+    /// let mut ends = Vec::new(alloc);
+    /// for half in searcher.into_half_matches_iter(finder) {
+    ///     ends.push(half?.offset())?;
+    /// }
+    /// assert_eq!(rt; ends.as_slice(), [4, 10, 17].as_slice());
+    /// ```
     pub fn into_half_matches_iter<F>(self, finder: F) -> TryHalfMatchesIter<'h, F>
     where
         F: FnMut(&Input<'_>) -> Result<Option<HalfMatch>, SearchError>,

@@ -45,6 +45,17 @@ impl<'h> Searcher<'h> {
     /// The caller owes that the finder, wherever earlier calls have led it, may be called on each
     /// input of this haystack, anchoring, `earliest` flag and span end, and answers a match in that
     /// input's span.
+    ///
+    /// ```
+    /// // backtracker of "foo(?<n>[0-9]+)"
+    /// let searcher = Searcher::new(Input::new(b"foo1 foo12 foo123"));
+    /// let finder = |input: &Input<'_>| backtracker.try_find(cache, *input);
+    /// let mut ranges = Vec::new(alloc);
+    /// for found in searcher.into_matches_iter(finder) {
+    ///     ranges.push(found?.range())?;
+    /// }
+    /// assert_eq!(rt; ranges.as_slice(), [0..4, 5..10, 11..17].as_slice());
+    /// ```
     pub fn into_matches_iter<F>(self, finder: F) -> TryMatchesIter<'h, F>
     where
         F: FnMut(&Input<'_>) -> Result<Option<Match>, SearchError>,

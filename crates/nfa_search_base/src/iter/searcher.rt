@@ -56,6 +56,11 @@ impl<'h> Searcher<'h> {
     ghost use Rattle.nfa_search_base.specs.Serving.{ServesTurn, StepDone};
 
     /// Makes an iteration over the matches of this input, before its first.
+    ///
+    /// ```
+    /// let searcher = Searcher::new(Input::new(b"foo1 foo12"));
+    /// assert_eq!(rt; searcher.input().get_range(), 0..10);
+    /// ```
     pub fn new(input: Input<'h>) -> Searcher<'h>
         ensures { walk_of result ≡ fresh (search_of input.entry) }
     {
@@ -67,6 +72,13 @@ impl<'h> Searcher<'h> {
 
     /// The input that the next step searches: the one that the iteration began with, from the end
     /// of the last match on.
+    ///
+    /// ```
+    /// // choice of "foo(?<n>[0-9]+)"
+    /// let mut searcher = Searcher::new(Input::new(b"foo1 foo12"));
+    /// searcher.advance(|input: &Input<'_>| Ok(choice.find(*input)));
+    /// assert_eq!(rt; searcher.input().get_range(), 4..10);
+    /// ```
     pub fn input(&self) -> &Input<'h>
         ensures { search_of result.now ≡ (walk_of self.now).at }
     {
@@ -79,6 +91,15 @@ impl<'h> Searcher<'h> {
     /// An empty match where the last match ended moves the input's start one byte on, and gives
     /// [`Offered::Again`]. Any other match moves the start, and the last end, to its end. None
     /// changes nothing. Both come back in [`Offered::Done`].
+    ///
+    /// ```
+    /// // choice of "a|"
+    /// let mut searcher = Searcher::new(Input::new(b"ab"));
+    /// let found = choice.find(*searcher.input());
+    /// assert_eq!(rt; searcher.offer(found), Offered::Done(found));
+    /// let empty = choice.find(*searcher.input());
+    /// assert_eq!(rt; searcher.offer(empty), Offered::Again);
+    /// ```
     pub fn offer(&mut self, answer: Option<Match>) -> Offered
         requires { LiesIn (walk_of self.old).at (match_place (Ok answer)) }
         ensures gives { OfferGives (walk_of self.old) answer result (walk_of self.new) }
@@ -107,6 +128,13 @@ impl<'h> Searcher<'h> {
     /// So the ends of the matches go up over all calls, and there are at most as many matches as
     /// the span has bytes, and one more. The caller owes that the finder answers matches in its
     /// input's span.
+    ///
+    /// ```
+    /// // backtracker of "foo(?<n>[0-9]+)"
+    /// let mut searcher = Searcher::new(Input::new(b"foo1 foo12"));
+    /// let found = searcher.try_advance(|input: &Input<'_>| backtracker.try_find(cache, *input))?;
+    /// assert_eq!(rt; found.expect(rt, "a match").range(), 0..4);
+    /// ```
     pub fn try_advance<F>(&mut self, finder: F) -> Result<Option<Match>, SearchError>
     where
         F: FnMut(&Input<'_>) -> Result<Option<Match>, SearchError>,
@@ -122,6 +150,15 @@ impl<'h> Searcher<'h> {
     }
 
     /// The step of [`Searcher::try_advance`] by a finder that is lent: it is left as its last call left it.
+    ///
+    /// ```
+    /// // backtracker of "foo(?<n>[0-9]+)"
+    /// let mut searcher = Searcher::new(Input::new(b"foo1 foo12"));
+    /// let mut finder = |input: &Input<'_>| backtracker.try_find(cache, *input);
+    /// searcher.try_advance_by_ref(&mut finder)?;
+    /// let second = searcher.try_advance_by_ref(&mut finder)?;
+    /// assert_eq!(rt; second.expect(rt, "a match").range(), 5..10);
+    /// ```
     pub fn try_advance_by_ref<F>(&mut self, finder: &mut F) -> Result<Option<Match>, SearchError>
     where
         F: FnMut(&Input<'_>) -> Result<Option<Match>, SearchError>,
@@ -137,6 +174,13 @@ impl<'h> Searcher<'h> {
 
     /// The next match that a finder that never errs gives, by the step of
     /// [`Searcher::try_advance`]. That it never errs the caller owes too.
+    ///
+    /// ```
+    /// // choice of "foo(?<n>[0-9]+)"
+    /// let mut searcher = Searcher::new(Input::new(b"foo1 foo12"));
+    /// let found = searcher.advance(|input: &Input<'_>| Ok(choice.find(*input)));
+    /// assert_eq!(rt; found.expect(rt, "a match").range(), 0..4);
+    /// ```
     pub fn advance<F>(&mut self, finder: F) -> Option<Match>
     where
         F: FnMut(&Input<'_>) -> Result<Option<Match>, SearchError>,
@@ -152,6 +196,15 @@ impl<'h> Searcher<'h> {
     }
 
     /// The step of [`Searcher::advance`] by a finder that is lent: it is left as its last call left it.
+    ///
+    /// ```
+    /// // choice of "foo(?<n>[0-9]+)"
+    /// let mut searcher = Searcher::new(Input::new(b"foo1 foo12"));
+    /// let mut finder = |input: &Input<'_>| Ok(choice.find(*input));
+    /// searcher.advance_by_ref(&mut finder);
+    /// let second = searcher.advance_by_ref(&mut finder);
+    /// assert_eq!(rt; second.expect(rt, "a match").range(), 5..10);
+    /// ```
     pub fn advance_by_ref<F>(&mut self, finder: &mut F) -> Option<Match>
     where
         F: FnMut(&Input<'_>) -> Result<Option<Match>, SearchError>,
@@ -173,6 +226,14 @@ impl<'h> Searcher<'h> {
     /// The same as [`Searcher::try_advance`] where only the ends of matches are known: the finder
     /// is called a second time where its first answer has the offset at which the last match
     /// ended. The caller owes that the finder answers offsets in its input's span.
+    ///
+    /// ```
+    /// // backtracker of "foo(?<n>[0-9]+)"
+    /// let mut searcher = Searcher::new(Input::new(b"foo1 foo12"));
+    /// let finder = |input: &Input<'_>| backtracker.try_find_half(cache, *input);
+    /// let half = searcher.try_advance_half(finder)?;
+    /// assert_eq!(rt; half.expect(rt, "a match").offset(), 4);
+    /// ```
     pub fn try_advance_half<F>(&mut self, finder: F) -> Result<Option<HalfMatch>, SearchError>
     where
         F: FnMut(&Input<'_>) -> Result<Option<HalfMatch>, SearchError>,
@@ -188,6 +249,15 @@ impl<'h> Searcher<'h> {
     }
 
     /// The step of [`Searcher::try_advance_half`] by a finder that is lent: it is left as its last call left it.
+    ///
+    /// ```
+    /// // backtracker of "foo(?<n>[0-9]+)"
+    /// let mut searcher = Searcher::new(Input::new(b"foo1 foo12"));
+    /// let mut finder = |input: &Input<'_>| backtracker.try_find_half(cache, *input);
+    /// searcher.try_advance_half_by_ref(&mut finder)?;
+    /// let second = searcher.try_advance_half_by_ref(&mut finder)?;
+    /// assert_eq!(rt; second.expect(rt, "a match").offset(), 10);
+    /// ```
     pub fn try_advance_half_by_ref<F>(
         &mut self,
         finder: &mut F,
@@ -206,6 +276,13 @@ impl<'h> Searcher<'h> {
 
     /// The next half match that a finder that never errs gives, by the step of
     /// [`Searcher::try_advance_half`]. That it never errs the caller owes too.
+    ///
+    /// ```
+    /// // choice of "foo(?<n>[0-9]+)"
+    /// let mut searcher = Searcher::new(Input::new(b"foo1 foo12"));
+    /// let half = searcher.advance_half(|input: &Input<'_>| Ok(choice.find_half(*input)));
+    /// assert_eq!(rt; half.expect(rt, "a match").offset(), 4);
+    /// ```
     pub fn advance_half<F>(&mut self, finder: F) -> Option<HalfMatch>
     where
         F: FnMut(&Input<'_>) -> Result<Option<HalfMatch>, SearchError>,
@@ -221,6 +298,15 @@ impl<'h> Searcher<'h> {
     }
 
     /// The step of [`Searcher::advance_half`] by a finder that is lent: it is left as its last call left it.
+    ///
+    /// ```
+    /// // choice of "foo(?<n>[0-9]+)"
+    /// let mut searcher = Searcher::new(Input::new(b"foo1 foo12"));
+    /// let mut finder = |input: &Input<'_>| Ok(choice.find_half(*input));
+    /// searcher.advance_half_by_ref(&mut finder);
+    /// let second = searcher.advance_half_by_ref(&mut finder);
+    /// assert_eq!(rt; second.expect(rt, "a match").offset(), 10);
+    /// ```
     pub fn advance_half_by_ref<F>(&mut self, finder: &mut F) -> Option<HalfMatch>
     where
         F: FnMut(&Input<'_>) -> Result<Option<HalfMatch>, SearchError>,
