@@ -21,6 +21,14 @@ impl BoundedBacktracker {
     ///
     /// The captures may be of another NFA, and may have any number of slots. The errors are those of
     /// [`BoundedBacktracker::try_search_slots`].
+    ///
+    /// ```
+    /// // backtracker of "foo(?<n>[0-9]+)"
+    /// let mut captures = backtracker.create_captures(alloc)?;
+    /// backtracker.try_search(cache, &Input::new(b"foo12345"), &mut captures)?;
+    /// let digits = captures.get_group_by_name("n");
+    /// assert_eq!(rt; digits, Some(Span { start: 3, end: 8 }));
+    /// ```
     pub fn try_search(
         &self,
         cache: &mut Cache,
@@ -66,6 +74,13 @@ impl BoundedBacktracker {
     }
 
     /// Searches as [`BoundedBacktracker::try_search`] does, but takes the input by value.
+    ///
+    /// ```
+    /// // backtracker of "foo(?<n>[0-9]+)"
+    /// let mut captures = backtracker.create_captures(alloc)?;
+    /// backtracker.try_captures(cache, Input::new(b"foo12345"), &mut captures)?;
+    /// assert_eq!(rt; captures.get_group(1), Some(Span { start: 3, end: 8 }));
+    /// ```
     pub fn try_captures<'h>(
         &self,
         cache: &mut Cache,

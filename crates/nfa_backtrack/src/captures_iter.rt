@@ -68,6 +68,15 @@ impl BoundedBacktracker {
     /// one byte further on. An answer that gives no match ends the list, for instance if the NFA does not set the two
     /// slots of its pattern. Each item is a copy. If it cannot be allocated, or if a search is refused, the item is the
     /// error, and it is the last one. If the span is too long, the only item is that refusal.
+    ///
+    /// ```
+    /// // backtracker of "foo(?<n>[0-9]+)"
+    /// let mut last = None;
+    /// for captures in backtracker.try_captures_iter(alloc, cache, Input::new(b"foo1 foo12 foo123"))? {
+    ///     last = captures?.get_group_by_name("n");
+    /// }
+    /// assert_eq!(rt; last, Some(Span { start: 14, end: 17 }));
+    /// ```
     pub fn try_captures_iter<'r, 'c, 'h>(
         &'r self,
         alloc: Global,
@@ -117,6 +126,17 @@ impl BoundedBacktracker {
 
     /// Returns the same iterator, but searches with the given captures, which must have all groups of this NFA
     /// ([`BoundedBacktracker::create_captures`]). Does not allocate, and cannot fail.
+    ///
+    /// ```
+    /// // backtracker of "foo(?<n>[0-9]+)"
+    /// let input = Input::new(b"foo1 foo12 foo123");
+    /// let captures = backtracker.create_captures(alloc)?;
+    /// let mut last = None;
+    /// for captures in backtracker.try_captures_iter_with(cache, input, captures) {
+    ///     last = captures?.get_group_by_name("n");
+    /// }
+    /// assert_eq!(rt; last, Some(Span { start: 14, end: 17 }));
+    /// ```
     #[inline]
     pub fn try_captures_iter_with<'r, 'c, 'h>(
         &'r self,
@@ -167,6 +187,14 @@ impl BoundedBacktracker {
     /// # Errors
     ///
     /// `HaystackTooLong` exactly if the span is too long, which is tested first; otherwise `Memory`.
+    ///
+    /// ```
+    /// // backtracker of "foo(?<n>[0-9]+)"
+    /// let all = backtracker.try_captures_all(alloc, cache, Input::new(b"foo1 foo12 foo123"))?;
+    /// assert_eq!(rt; all.len(), 3);
+    /// let digits = all[2].get_group_by_name("n");
+    /// assert_eq!(rt; digits, Some(Span { start: 14, end: 17 }));
+    /// ```
     pub fn try_captures_all(
         &self,
         alloc: Global,

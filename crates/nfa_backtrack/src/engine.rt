@@ -31,6 +31,14 @@ use thompson_nfa::{BuildError, NFA};
 ///
 /// It answers by leftmost first: the match with the least start and, of those, the one that earlier alternatives lead
 /// to. The `earliest` flag is ignored. Contracts see the NFA and the capacity that was set.
+///
+/// ```
+/// let nfa = Compiler::new().build(alloc, "foo[0-9]+")?;
+/// let backtracker = BoundedBacktracker::new_from_nfa(nfa)?;
+/// let mut cache = backtracker.create_cache(alloc);
+/// let found = backtracker.try_find(&mut cache, Input::new(b"foo12345"))?;
+/// assert_eq!(rt; found.expect(rt, "a match").range(), 0..8);
+/// ```
 #[derive(Debug, Drop)]
 pub struct BoundedBacktracker {
     config: Config,
@@ -52,6 +60,12 @@ impl Model for BoundedBacktracker {
 /// Returns the least visited capacity, in bytes, that has a bit for each pair of the search. With it no search of the
 /// input is refused for its length. Requires that the number of states times n + 1, for a span of n bytes, fits a
 /// `usize`.
+///
+/// ```
+/// // nfa of one state: nine positions take nine bits
+/// let bytes = backtrack::min_visited_capacity(nfa, &Input::new(b"foo12345"));
+/// assert_eq!(rt; bytes, 2);
+/// ```
 pub fn min_visited_capacity(nfa: &NFA, input: &Input<'_>) -> usize
     requires { length nfa.now.states * (span_len (search_of input.now) + 1) < 2 ^ 64 }
     ensures { result ≡ min_capacity_of nfa.now (search_of input.now) }
@@ -103,6 +117,12 @@ impl BoundedBacktracker {
 
     /// Makes a backtracker that matches the empty string at each position, with the default configuration. The only
     /// error is `Memory`.
+    ///
+    /// ```
+    /// let backtracker = BoundedBacktracker::always_match(alloc)?;
+    /// let mut cache = backtracker.create_cache(alloc);
+    /// assert!(rt; backtracker.try_is_match(&mut cache, Input::new(b"foo"))?);
+    /// ```
     pub fn always_match(alloc: Global) -> Result<BoundedBacktracker, BuildError>
         ensures made { IfOk result (λ made. made ≡ record { nfa = always; visited_capacity = None }) }
         ensures memory { IsOkUnless result BuildError.Memory }
@@ -111,6 +131,12 @@ impl BoundedBacktracker {
     }
 
     /// Makes a backtracker that matches nothing, with the default configuration. The only error is `Memory`.
+    ///
+    /// ```
+    /// let backtracker = BoundedBacktracker::never_match(alloc)?;
+    /// let mut cache = backtracker.create_cache(alloc);
+    /// assert!(rt; !backtracker.try_is_match(&mut cache, Input::new(b"foo"))?);
+    /// ```
     pub fn never_match(alloc: Global) -> Result<BoundedBacktracker, BuildError>
         ensures made { IfOk result (λ made. made ≡ record { nfa = never; visited_capacity = None }) }
         ensures memory { IsOkUnless result BuildError.Memory }
@@ -126,6 +152,13 @@ impl BoundedBacktracker {
     }
 
     /// Returns a builder with nothing set.
+    ///
+    /// ```
+    /// let mut builder = BoundedBacktracker::builder();
+    /// builder.configure(BoundedBacktracker::config().visited_capacity(64));
+    /// let backtracker = builder.build_from_nfa(nfa)?;
+    /// assert_eq!(rt; backtracker.get_config().get_visited_capacity(), 64);
+    /// ```
     pub fn builder() -> Builder
         ensures { result ≡ None }
     {
@@ -141,6 +174,12 @@ impl BoundedBacktracker {
 
     /// Makes captures with two slots for each group of the NFA. No pattern and no slot is set. The only error is
     /// `Memory`.
+    ///
+    /// ```
+    /// // backtracker of "foo(?<n>[0-9]+)"
+    /// let captures = backtracker.create_captures(alloc)?;
+    /// assert_eq!(rt; captures.slots(), [None; 4].as_slice());
+    /// ```
     pub fn create_captures(&self, alloc: Global) -> Result<Captures, SearchError>
         ensures made { IfOk result (λ made. made ≡ record {
           groups = self.now.nfa.groups;
@@ -155,6 +194,12 @@ impl BoundedBacktracker {
 
     /// Removes all marks of the cache and their blocks. The memory is kept for the next search. A search needs no reset
     /// before it.
+    ///
+    /// ```
+    /// // backtracker of r"\W", cache of another backtracker
+    /// backtracker.reset_cache(cache);
+    /// assert!(rt; backtracker.try_is_match(cache, Input::new("☃".as_bytes()))?);
+    /// ```
     pub fn reset_cache(&self, cache: &mut Cache)
         ensures { cache.new ≡ record cache.old { blocks = 0 } }
     {
@@ -162,6 +207,12 @@ impl BoundedBacktracker {
     }
 
     /// Returns the number of patterns of the NFA.
+    ///
+    /// ```
+    /// // backtracker of [r"\pL+", r"\d+"]
+    /// assert_eq!(rt; backtracker.pattern_len(), 2);
+    /// assert_eq!(rt; backtracker.get_nfa().group_info().slot_len(), 4);
+    /// ```
     pub fn pattern_len(&self) -> usize
         ensures { result ≡ length self.now.nfa.patterns }
     {
@@ -183,6 +234,12 @@ impl BoundedBacktracker {
     }
 
     /// Returns an equal backtracker. The only error is `Memory`.
+    ///
+    /// ```
+    /// // backtracker of "foo(?<n>[0-9]+)"
+    /// let copy = backtracker.clone()?;
+    /// assert!(rt; copy.try_is_match(cache, Input::new(b"foo12345"))?);
+    /// ```
     pub fn clone(&self) -> Result<BoundedBacktracker, SearchError>
         ensures copy { IfOk result (λ copy. copy ≡ self.now) }
         ensures memory { IsOkUnless result SearchError.Memory }
@@ -203,6 +260,11 @@ impl BoundedBacktracker {
     /// Returns the length in bytes of the longest span that is not refused for its length: the number of pairs that may
     /// be marked, divided by the number of states, less one. If the capacity has fewer bits than the NFA has states,
     /// every span is refused, and the result is 0.
+    ///
+    /// ```
+    /// // backtracker that never matches: one state, and the default capacity of 256 KiB
+    /// assert_eq!(rt; backtracker.max_haystack_len(), 262144 * 8 - 1);
+    /// ```
     pub fn max_haystack_len(&self) -> usize
         ensures { result ≡ max_haystack_len_of self.now }
     {
@@ -226,6 +288,15 @@ impl BoundedBacktracker {
     ///
     /// The error is `HaystackTooLong` exactly if the span is too long, which is tested first. It is `Memory` if the
     /// cache could not grow. The cache can be used again after an error.
+    ///
+    /// ```
+    /// // backtracker of [r"\pL+", r"\d+"]
+    /// let mut slots = [None; 4];
+    /// let pattern = backtracker.try_search_slots(cache, &Input::new(b"!@#123"), &mut slots)?;
+    /// assert_eq!(rt; pattern.expect(rt, "a match").as_usize(), 1);
+    /// let wanted = [None, None, NonMaxUsize::new(3), NonMaxUsize::new(6)];
+    /// assert_eq!(rt; slots, wanted);
+    /// ```
     pub fn try_search_slots(
         &self,
         cache: &mut Cache,
@@ -270,6 +341,12 @@ impl BoundedBacktracker {
     /// leaves one of the two slots unset, or if its start is greater than its end.
     ///
     /// The errors are those of [`BoundedBacktracker::try_search_slots`].
+    ///
+    /// ```
+    /// // backtracker of "foo(?<n>[0-9]+)"
+    /// let found = backtracker.try_find(cache, Input::new(b"foo12345"))?;
+    /// assert_eq!(rt; found.expect(rt, "a match").range(), 0..8);
+    /// ```
     pub fn try_find<'h>(
         &self,
         cache: &mut Cache,
@@ -364,6 +441,12 @@ impl BoundedBacktracker {
     /// Returns whether a search of the input finds a match.
     ///
     /// The errors are those of [`BoundedBacktracker::try_search_slots`].
+    ///
+    /// ```
+    /// // backtracker of "foo(?<n>[0-9]+)"
+    /// assert!(rt; backtracker.try_is_match(cache, Input::new(b"foo12345"))?);
+    /// assert!(rt; !backtracker.try_is_match(cache, Input::new(b"foobar"))?);
+    /// ```
     pub fn try_is_match<'h>(&self, cache: &mut Cache, input: Input<'h>) -> Result<bool, SearchError>
         ensures answer { IfOk result (λ found. IsFoundAnswer self.now.nfa LeftmostFirst false (search_of input.entry)
             found) }

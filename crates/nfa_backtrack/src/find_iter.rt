@@ -62,6 +62,15 @@ impl BoundedBacktracker {
     /// Each search starts at the end of the last match. An empty match there is replaced by the result of a search from
     /// one byte further on. If the span is too long, the only item is that refusal. An error is given once, and is the
     /// last item.
+    ///
+    /// ```
+    /// // backtracker of "foo(?<n>[0-9]+)"
+    /// let mut ranges = Vec::new(alloc);
+    /// for found in backtracker.try_find_iter(cache, Input::new(b"foo1 foo12 foo123")) {
+    ///     ranges.push(found?.range())?;
+    /// }
+    /// assert_eq!(rt; ranges.as_slice(), [0..4, 5..10, 11..17].as_slice());
+    /// ```
     pub fn try_find_iter<'r, 'c, 'h>(
         &'r self,
         cache: &'c mut Cache,
@@ -110,6 +119,13 @@ impl BoundedBacktracker {
     /// # Errors
     ///
     /// `HaystackTooLong` exactly if the span is too long; otherwise `Memory`, if allocation failed.
+    ///
+    /// ```
+    /// // backtracker of "foo(?<n>[0-9]+)"
+    /// let all = backtracker.try_find_all(alloc, cache, Input::new(b"foo1 foo12 foo123"))?;
+    /// assert_eq!(rt; all.len(), 3);
+    /// assert_eq!(rt; all[2].range(), 11..17);
+    /// ```
     pub fn try_find_all(
         &self,
         alloc: Global,

@@ -18,6 +18,12 @@ impl BoundedBacktracker {
     /// slots, so the NFA need not record where its matches start and end.
     ///
     /// Returns `None` if nothing matches. The errors are those of [`BoundedBacktracker::try_search_slots`].
+    ///
+    /// ```
+    /// // backtracker of "foo(?<n>[0-9]+)"
+    /// let half = backtracker.try_find_half(cache, Input::new(b"foo12345"))?;
+    /// assert_eq!(rt; half.expect(rt, "a match").offset(), 8);
+    /// ```
     pub fn try_find_half<'h>(
         &self,
         cache: &mut Cache,

@@ -14,9 +14,9 @@ impl BoundedBacktracker {
     /// another state.
     ///
     /// ```
-    /// let backtracker = BoundedBacktracker::new_from_nfa(Compiler::new().build(alloc, "[0-9]+")?)?;
-    /// assert!(backtracker.may_begin(b'7'));
-    /// assert!(!backtracker.may_begin(b'x'));
+    /// // backtracker of "foo(?<n>[0-9]+)"
+    /// assert!(rt; backtracker.may_begin(b'f'));
+    /// assert!(rt; !backtracker.may_begin(b'x'));
     /// ```
     pub fn may_begin(&self, byte: u8) -> bool
         ensures may { result ≡ true → MayBegin self.now.nfa byte }

@@ -108,6 +108,13 @@ fn pikevm(config: pikevm::Config, nfa: NFA) -> PikeVM
 
 impl Choice {
     /// Makes both engines for the NFA, each with its configuration and a cache. The only error is `Memory`.
+    ///
+    /// ```
+    /// let nfa = Compiler::new().build(alloc, "foo[0-9]+")?;
+    /// let mut choice = Choice::new(alloc, nfa, backtrack::Config::new(), pikevm::Config::new())?;
+    /// let found = choice.find(Input::new(b"foo12345"));
+    /// assert_eq!(rt; found.expect(rt, "a match").range(), 0..8);
+    /// ```
     pub fn new(
         alloc: Global,
         nfa: NFA,
@@ -142,6 +149,14 @@ impl Choice {
 
     /// Returns the engine that gave the answer of the last search, including searches of an iteration. Returns `None`
     /// before the first search.
+    ///
+    /// ```
+    /// // choice of "foo(?<n>[0-9]+)"
+    /// choice.find(Input::new(b"foo12345"));
+    /// assert_eq!(rt; choice.ran(), Some(Engine::Backtracker));
+    /// choice.find(Input::new(b"foo12345").earliest(true));
+    /// assert_eq!(rt; choice.ran(), Some(Engine::PikeVM));
+    /// ```
     pub fn ran(&self) -> Option<Engine>
         ensures { result ≡ self.now.ran }
     {
@@ -150,6 +165,11 @@ impl Choice {
     }
 
     /// Returns the NFA.
+    ///
+    /// ```
+    /// // choice of "foo(?<n>[0-9]+)"
+    /// assert_eq!(rt; choice.get_nfa().group_info().slot_len(), 4);
+    /// ```
     pub fn get_nfa(&self) -> &NFA
         ensures { result.now ≡ self.now.nfa }
     {
@@ -157,6 +177,11 @@ impl Choice {
     }
 
     /// Returns the configuration of the backtracker.
+    ///
+    /// ```
+    /// let capacity = choice.get_backtrack_config().get_visited_capacity();
+    /// assert_eq!(rt; capacity, 256 * 1024);
+    /// ```
     pub fn get_backtrack_config(&self) -> &backtrack::Config
         ensures { result.now ≡ self.now.visited_capacity }
     {
@@ -164,6 +189,11 @@ impl Choice {
     }
 
     /// Returns the configuration of the PikeVM.
+    ///
+    /// ```
+    /// // choice of [r"\w+", r"\d+", r"\pL+", "foo", "bar", "barfoo", "foobar"], with MatchKind::All
+    /// assert_eq!(rt; choice.get_pikevm_config().get_match_kind(), MatchKind::All);
+    /// ```
     pub fn get_pikevm_config(&self) -> &pikevm::Config
         ensures { result.now ≡ self.now.match_kind }
     {
@@ -181,6 +211,15 @@ impl Choice {
 
     /// Searches, and writes byte offsets to the slots, as both engines do. Any number of slots may be given. Slots that
     /// the NFA does not have are set to `None`, and so are all slots if nothing matches.
+    ///
+    /// ```
+    /// // choice of [r"\pL+", r"\d+"]
+    /// let mut slots = [None; 4];
+    /// let pattern = choice.search_slots(&Input::new(b"!@#123"), &mut slots);
+    /// assert_eq!(rt; pattern.expect(rt, "a match").as_usize(), 1);
+    /// let wanted = [None, None, NonMaxUsize::new(3), NonMaxUsize::new(6)];
+    /// assert_eq!(rt; slots, wanted);
+    /// ```
     pub fn search_slots(
         &mut self,
         input: &Input<'_>,
@@ -211,6 +250,14 @@ impl Choice {
     /// Searches, and writes the result to the captures: the pattern that matched, and the slots that
     /// [`Choice::search_slots`] returns for that number of slots. Their groups do not change. If nothing matches, no
     /// pattern and no slot is set. The captures may be of another NFA.
+    ///
+    /// ```
+    /// // choice of "foo(?<n>[0-9]+)"
+    /// let mut captures = choice.create_captures(alloc)?;
+    /// choice.search(&Input::new(b"foo12345"), &mut captures);
+    /// let digits = captures.get_group_by_name("n");
+    /// assert_eq!(rt; digits, Some(Span { start: 3, end: 8 }));
+    /// ```
     pub fn search(&mut self, input: &Input<'_>, captures: &mut Captures)
         ensures answer { IsAnswer self.old.nfa (kind_in self.old) (search_of input.now).earliest (search_of input.now)
             captures.new.pattern captures.new.slots }
@@ -236,6 +283,12 @@ impl Choice {
     }
 
     /// Returns the match that a search of the input finds, in byte offsets into the haystack.
+    ///
+    /// ```
+    /// // choice of "foo(?<n>[0-9]+)"
+    /// let found = choice.find(Input::new(b"foo12345"));
+    /// assert_eq!(rt; found.expect(rt, "a match").range(), 0..8);
+    /// ```
     pub fn find<'h>(&mut self, input: Input<'h>) -> Option<Match>
         ensures answer { IsMatchAnswer self.old.nfa (kind_in self.old) (search_of input.entry).earliest
             (search_of input.entry)
@@ -258,6 +311,12 @@ impl Choice {
 
     /// Returns whether a search of the input finds a match. The `earliest` flag of the input does not change the
     /// answer.
+    ///
+    /// ```
+    /// // choice of "foo(?<n>[0-9]+)"
+    /// assert!(rt; choice.is_match(Input::new(b"foo12345")));
+    /// assert!(rt; !choice.is_match(Input::new(b"foobar")));
+    /// ```
     pub fn is_match<'h>(&mut self, input: Input<'h>) -> bool
         ensures answer { IsFoundAnswer self.old.nfa (kind_in self.old) false (search_of input.entry) result }
         ensures finds { result ≡ finds_in self.old (search_of input.entry) }
@@ -276,6 +335,12 @@ impl Choice {
     }
 
     /// Replaces the NFA. The configurations stay. The only error is `Memory`. After an error the choice is unchanged.
+    ///
+    /// ```
+    /// // nfa of r"\W"
+    /// choice.replace(nfa)?;
+    /// assert!(rt; choice.is_match(Input::new("☃".as_bytes())));
+    /// ```
     pub fn replace(&mut self, nfa: NFA) -> Result<(), SearchError>
         ensures made { OnOk result (self.new ≡ record self.old { nfa = nfa; pike = self.new.pike }) }
         ensures refitted { OnOk result (IsRefitted self.old.pike nfa self.new.pike) }

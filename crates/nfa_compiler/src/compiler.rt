@@ -30,6 +30,7 @@ use thompson_nfa::{NFA, State};
 /// ```
 /// let compiler = Compiler::new().configure(Config::new().anchored(true));
 /// let nfa = compiler.build_many(alloc, &["[a-z]+", "[0-9]+"])?;
+/// assert_eq!(rt; nfa.pattern_len(), 2);
 /// ```
 #[derive(Clone, Copy, Debug)]
 pub struct Compiler {
@@ -43,6 +44,11 @@ impl Compiler {
     ghost use Rattle.nfa_compiler.specs.Settings.{syntax_of};
 
     /// Makes a compiler with the settings of [`Config::new`] and the default syntax.
+    ///
+    /// ```
+    /// let nfa = Compiler::new().build(alloc, "[a-z]+")?;
+    /// assert!(rt; nfa.is_utf8() && !nfa.is_always_start_anchored());
+    /// ```
     pub fn new() -> Compiler
         ensures { result ≡ record {
           config = record { anchored = false; utf8 = true; size_limit = 10485760 };
@@ -56,6 +62,12 @@ impl Compiler {
     }
 
     /// Replaces the configuration.
+    ///
+    /// ```
+    /// let compiler = Compiler::new().configure(Config::new().anchored(true));
+    /// let nfa = compiler.build(alloc, "[a-z]+")?;
+    /// assert!(rt; nfa.is_always_start_anchored());
+    /// ```
     pub fn configure(self, config: Config) -> Compiler
         ensures { result ≡ record self { config = config } }
     {
@@ -63,6 +75,16 @@ impl Compiler {
     }
 
     /// Replaces the syntax.
+    ///
+    /// ```
+    /// let syntax = Syntax {
+    ///     octal: true,
+    ///     ..Syntax::default()
+    /// };
+    /// let compiler = Compiler::new().syntax(syntax);
+    /// assert!(rt; compiler.build(alloc, r"\141").is_ok());
+    /// assert!(rt; Compiler::new().build(alloc, r"\141").is_err());
+    /// ```
     pub fn syntax(self, syntax: regex_syntax::Config) -> Compiler
         ensures { result ≡ record self { syntax = syntax } }
     {
@@ -73,6 +95,12 @@ impl Compiler {
     ///
     /// The text is parsed with the syntax of this compiler and with [`Config::utf8`]. Fails if the text is not a
     /// pattern ([`CompileError::Syntax`]), if the pattern exceeds [`Config::size_limit`], or if allocation fails.
+    ///
+    /// ```
+    /// let nfa = Compiler::new().build(alloc, "foo(?<n>[0-9]+)")?;
+    /// assert_eq!(rt; nfa.group_info().slot_len(), 4);
+    /// assert!(rt; Compiler::new().build(alloc, "foo(").is_err());
+    /// ```
     pub fn build(&self, alloc: Global, pattern: &str) -> Result<NFA, CompileError>
         ensures compiled { IfOk result (IsCompiled (syntax_of self.now) (pattern.now ∷ [])) }
         ensures valid { IfOk result IsAutomaton }
@@ -90,6 +118,11 @@ impl Compiler {
     ///
     /// Fails as [`Compiler::build`] does. The error has the number of the pattern that failed, and a syntax error its
     /// text.
+    ///
+    /// ```
+    /// let nfa = Compiler::new().build_many(alloc, &["[a-z]+", "[0-9]+"])?;
+    /// assert_eq!(rt; nfa.pattern_len(), 2);
+    /// ```
     pub fn build_many(&self, alloc: Global, patterns: &[&str]) -> Result<NFA, CompileError>
         ensures compiled { IfOk result (IsCompiled (syntax_of self.now) (map (λ text. text.now) patterns.now)) }
         ensures valid { IfOk result IsAutomaton }
@@ -113,6 +146,12 @@ impl Compiler {
     ///
     /// Fails with [`CompileError::Tree`] if a parser could not have returned the tree, and never with
     /// [`CompileError::Syntax`].
+    ///
+    /// ```
+    /// let tree = parse(alloc, "foo(?<n>[0-9]+)", &Syntax::default())?;
+    /// let nfa = Compiler::new().build_from_hir(alloc, &tree)?;
+    /// assert_eq!(rt; nfa.group_info().slot_len(), 4);
+    /// ```
     pub fn build_from_hir(&self, alloc: Global, pattern: &Parsed) -> Result<NFA, CompileError>
         ensures valid { IfOk result IsAutomaton }
         ensures made { IfOk result (IsNfaOf (meaning pattern.now.hir ∷ [])) }
@@ -131,6 +170,13 @@ impl Compiler {
     /// Makes the NFA of these patterns, which are passed as trees.
     ///
     /// Fails as [`Compiler::build_from_hir`] does.
+    ///
+    /// ```
+    /// let first = parse(alloc, "[a-z]+", &Syntax::default())?;
+    /// let second = parse(alloc, "[0-9]+", &Syntax::default())?;
+    /// let nfa = Compiler::new().build_many_from_hir(alloc, &[first, second])?;
+    /// assert_eq!(rt; nfa.pattern_len(), 2);
+    /// ```
     pub fn build_many_from_hir(
         &self,
         alloc: Global,

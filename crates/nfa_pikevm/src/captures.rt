@@ -16,6 +16,14 @@ impl PikeVM {
     /// The groups of the captures do not change, even if they are of another NFA.
     ///
     /// Requires a cache that fits. A search does not change its sizes.
+    ///
+    /// ```
+    /// // vm of "foo(?<n>[0-9]+)"
+    /// let mut captures = vm.create_captures(alloc)?;
+    /// vm.search(cache, &Input::new(b"foo12345"), &mut captures);
+    /// let digits = captures.get_group_by_name("n");
+    /// assert_eq!(rt; digits, Some(Span { start: 3, end: 8 }));
+    /// ```
     pub fn search(&self, cache: &mut Cache, input: &Input<'_>, captures: &mut Captures)
         requires { Fits cache.old self.now.nfa }
         ensures answer { let x = search_of input.now in
@@ -45,6 +53,13 @@ impl PikeVM {
     /// Searches as [`PikeVM::search`] does, but takes the input by value.
     ///
     /// Requires a cache that fits. A search does not change its sizes.
+    ///
+    /// ```
+    /// // vm of "foo(?<n>[0-9]+)"
+    /// let mut captures = vm.create_captures(alloc)?;
+    /// vm.captures(cache, Input::new(b"foo12345"), &mut captures);
+    /// assert_eq!(rt; captures.get_group(1), Some(Span { start: 3, end: 8 }));
+    /// ```
     pub fn captures<'h>(&self, cache: &mut Cache, input: Input<'h>, captures: &mut Captures)
         requires { Fits cache.old self.now.nfa }
         ensures answer { let x = search_of input.entry in

@@ -69,6 +69,15 @@ impl PikeVM {
     /// one byte further on. An answer that gives no match ends the list, for instance if the NFA does not set the two
     /// slots of its pattern. Each item is a copy; if it cannot be allocated, the item is the error, once. The sizes of
     /// the cache do not change, so it fits what it fitted.
+    ///
+    /// ```
+    /// // vm of "foo(?<n>[0-9]+)"
+    /// let mut last = None;
+    /// for captures in vm.captures_iter(alloc, cache, Input::new(b"foo1 foo12 foo123"))? {
+    ///     last = captures?.get_group_by_name("n");
+    /// }
+    /// assert_eq!(rt; last, Some(Span { start: 14, end: 17 }));
+    /// ```
     pub fn captures_iter<'r, 'c, 'h>(
         &'r self,
         alloc: Global,
@@ -120,6 +129,16 @@ impl PikeVM {
 
     /// Returns the same iterator, but searches with the given captures, which must have all groups of this NFA
     /// ([`PikeVM::create_captures`]). Does not allocate, and cannot fail.
+    ///
+    /// ```
+    /// // vm of "foo(?<n>[0-9]+)"
+    /// let captures = vm.create_captures(alloc)?;
+    /// let mut last = None;
+    /// for captures in vm.captures_iter_with(cache, Input::new(b"foo1 foo12 foo123"), captures) {
+    ///     last = captures?.get_group_by_name("n");
+    /// }
+    /// assert_eq!(rt; last, Some(Span { start: 14, end: 17 }));
+    /// ```
     #[inline]
     pub fn captures_iter_with<'r, 'c, 'h>(
         &'r self,
@@ -171,6 +190,14 @@ impl PikeVM {
 
     /// Returns the captures of all matches of the input that do not overlap, from left to right, each with all groups
     /// of the NFA. The only error is [`SearchError::Memory`].
+    ///
+    /// ```
+    /// // vm of "foo(?<n>[0-9]+)"
+    /// let all = vm.captures_all(alloc, cache, Input::new(b"foo1 foo12 foo123"))?;
+    /// assert_eq!(rt; all.len(), 3);
+    /// let digits = all[2].get_group_by_name("n");
+    /// assert_eq!(rt; digits, Some(Span { start: 14, end: 17 }));
+    /// ```
     pub fn captures_all(
         &self,
         alloc: Global,

@@ -32,6 +32,14 @@ use thompson_nfa::{BuildError, NFA};
 ///
 /// It answers by the match kind that was set, and by the `earliest` flag of the input. Contracts see the NFA and the
 /// match kind.
+///
+/// ```
+/// let nfa = Compiler::new().build(alloc, "foo[0-9]+")?;
+/// let vm = PikeVM::new_from_nfa(nfa)?;
+/// let mut cache = vm.create_cache(alloc)?;
+/// let found = vm.find(&mut cache, Input::new(b"foo12345"));
+/// assert_eq!(rt; found.expect(rt, "a match").range(), 0..8);
+/// ```
 #[derive(Debug, Drop)]
 pub struct PikeVM {
     config: Config,
@@ -67,6 +75,12 @@ impl PikeVM {
 
     /// Makes a PikeVM that matches the empty string at each position, with the default configuration. The only error is
     /// `Memory`.
+    ///
+    /// ```
+    /// let vm = PikeVM::always_match(alloc)?;
+    /// let mut cache = vm.create_cache(alloc)?;
+    /// assert!(rt; vm.is_match(&mut cache, Input::new(b"foo")));
+    /// ```
     pub fn always_match(alloc: Global) -> Result<PikeVM, BuildError>
         ensures made { IfOk result (λ made. made ≡ record { nfa = always; match_kind = None }) }
         ensures memory { IsOkUnless result BuildError.Memory }
@@ -75,6 +89,12 @@ impl PikeVM {
     }
 
     /// Makes a PikeVM that matches nothing, with the default configuration. The only error is `Memory`.
+    ///
+    /// ```
+    /// let vm = PikeVM::never_match(alloc)?;
+    /// let mut cache = vm.create_cache(alloc)?;
+    /// assert!(rt; !vm.is_match(&mut cache, Input::new(b"foo")));
+    /// ```
     pub fn never_match(alloc: Global) -> Result<PikeVM, BuildError>
         ensures made { IfOk result (λ made. made ≡ record { nfa = never; match_kind = None }) }
         ensures memory { IsOkUnless result BuildError.Memory }
@@ -90,6 +110,13 @@ impl PikeVM {
     }
 
     /// Returns a builder with nothing set.
+    ///
+    /// ```
+    /// let mut builder = PikeVM::builder();
+    /// builder.configure(PikeVM::config().match_kind(MatchKind::All));
+    /// let vm = builder.build_from_nfa(nfa)?;
+    /// assert_eq!(rt; vm.get_config().get_match_kind(), MatchKind::All);
+    /// ```
     pub fn builder() -> Builder
         ensures { result ≡ None }
     {
@@ -98,6 +125,12 @@ impl PikeVM {
 
     /// Makes captures with two slots for each group of the NFA. No pattern and no slot is set. The only error is
     /// `Memory`.
+    ///
+    /// ```
+    /// // vm of "foo(?<n>[0-9]+)"
+    /// let captures = vm.create_captures(alloc)?;
+    /// assert_eq!(rt; captures.slots(), [None; 4].as_slice());
+    /// ```
     pub fn create_captures(&self, alloc: Global) -> Result<Captures, SearchError>
         ensures made { IfOk result (λ made. made ≡ record {
           groups = self.now.nfa.groups;
@@ -120,6 +153,12 @@ impl PikeVM {
 
     /// Makes the cache fit this PikeVM, even if that makes it smaller. The result is `Ok` if the cache fits already.
     /// The only error is `Memory`. After an error the cache is unchanged.
+    ///
+    /// ```
+    /// // vm of r"\W", cache of another PikeVM
+    /// vm.reset_cache(cache)?;
+    /// assert!(rt; vm.is_match(cache, Input::new("☃".as_bytes())));
+    /// ```
     pub fn reset_cache(&self, cache: &mut Cache) -> Result<(), SearchError>
         ensures granted { Fits cache.old self.now.nfa → IsOk result }
         ensures made { OnOk result (cache.new ≡ refitted cache.old self.now.nfa) }
@@ -130,6 +169,12 @@ impl PikeVM {
     }
 
     /// Returns the number of patterns of the NFA.
+    ///
+    /// ```
+    /// // vm of [r"\pL+", r"\d+"]
+    /// assert_eq!(rt; vm.pattern_len(), 2);
+    /// assert_eq!(rt; vm.get_nfa().group_info().slot_len(), 4);
+    /// ```
     pub fn pattern_len(&self) -> usize
         ensures { result ≡ length self.now.nfa.patterns }
     {
@@ -151,6 +196,12 @@ impl PikeVM {
     }
 
     /// Returns an equal PikeVM. The only error is `Memory`.
+    ///
+    /// ```
+    /// // vm of "foo(?<n>[0-9]+)"
+    /// let copy = vm.clone()?;
+    /// assert!(rt; copy.is_match(cache, Input::new(b"foo12345")));
+    /// ```
     pub fn clone(&self) -> Result<PikeVM, SearchError>
         ensures copy { IfOk result (λ copy. copy ≡ self.now) }
         ensures memory { IsOkUnless result SearchError.Memory }
@@ -166,6 +217,15 @@ impl PikeVM {
     /// not have are set to `None`, and so are all slots if nothing matches.
     ///
     /// Requires a cache that fits. A search does not change its sizes.
+    ///
+    /// ```
+    /// // vm of [r"\pL+", r"\d+"]
+    /// let mut slots = [None; 4];
+    /// let pattern = vm.search_slots(cache, &Input::new(b"!@#123"), &mut slots);
+    /// assert_eq!(rt; pattern.expect(rt, "a match").as_usize(), 1);
+    /// let wanted = [None, None, NonMaxUsize::new(3), NonMaxUsize::new(6)];
+    /// assert_eq!(rt; slots, wanted);
+    /// ```
     pub fn search_slots(
         &self,
         cache: &mut Cache,
@@ -280,6 +340,12 @@ impl PikeVM {
     /// leaves one of the two slots unset, or if its start is greater than its end.
     ///
     /// Requires a cache that fits. A search does not change its sizes.
+    ///
+    /// ```
+    /// // vm of "foo(?<n>[0-9]+)"
+    /// let found = vm.find(cache, Input::new(b"foo12345"));
+    /// assert_eq!(rt; found.expect(rt, "a match").range(), 0..8);
+    /// ```
     pub fn find<'h>(&self, cache: &mut Cache, input: Input<'h>) -> Option<Match>
         requires { Fits cache.old self.now.nfa }
         ensures answer { IsMatchAnswer self.now.nfa (kind_of self.now) (search_of input.entry).earliest
@@ -314,6 +380,12 @@ impl PikeVM {
     /// Returns `None` if nothing matches.
     ///
     /// Requires a cache that fits. A search does not change its sizes.
+    ///
+    /// ```
+    /// // vm of "foo(?<n>[0-9]+)"
+    /// let half = vm.find_half(cache, Input::new(b"foo12345"));
+    /// assert_eq!(rt; half.expect(rt, "a match").offset(), 8);
+    /// ```
     pub fn find_half<'h>(&self, cache: &mut Cache, input: Input<'h>) -> Option<HalfMatch>
         requires { Fits cache.old self.now.nfa }
         ensures answer { IsHalfAnswer self.now.nfa (kind_of self.now) (search_of input.entry).earliest
@@ -351,6 +423,12 @@ impl PikeVM {
     /// answer.
     ///
     /// Requires a cache that fits. A search does not change its sizes.
+    ///
+    /// ```
+    /// // vm of "foo(?<n>[0-9]+)"
+    /// assert!(rt; vm.is_match(cache, Input::new(b"foo12345")));
+    /// assert!(rt; !vm.is_match(cache, Input::new(b"foobar")));
+    /// ```
     pub fn is_match<'h>(&self, cache: &mut Cache, input: Input<'h>) -> bool
         requires { Fits cache.old self.now.nfa }
         ensures answer { IsFoundAnswer self.now.nfa (kind_of self.now) false (search_of input.entry) result }
@@ -383,6 +461,17 @@ impl PikeVM {
     /// count.
     ///
     /// Requires a cache that fits. A search does not change its sizes.
+    ///
+    /// ```
+    /// // vm of [r"\w+", r"\d+", r"\pL+", "foo", "bar", "barfoo", "foobar"], with MatchKind::All
+    /// let mut patterns = PatternSet::new(alloc, vm.pattern_len())?;
+    /// vm.which_overlapping_matches(cache, &Input::new(b"foobar"), &mut patterns);
+    /// let mut numbers = Vec::new(alloc);
+    /// for pattern in patterns.iter() {
+    ///     numbers.push(pattern.as_usize())?;
+    /// }
+    /// assert_eq!(rt; numbers.as_slice(), [0, 2, 3, 4, 6].as_slice());
+    /// ```
     pub fn which_overlapping_matches(
         &self,
         cache: &mut Cache,

@@ -52,6 +52,15 @@ impl PikeVM {
     ///
     /// Each search starts at the end of the last match. An empty match there is replaced by the result of a search from
     /// one byte further on. The sizes of the cache do not change, so it fits what it fitted.
+    ///
+    /// ```
+    /// // vm of "foo(?<n>[0-9]+)"
+    /// let mut ranges = Vec::new(alloc);
+    /// for found in vm.find_iter(cache, Input::new(b"foo1 foo12 foo123")) {
+    ///     ranges.push(found.range())?;
+    /// }
+    /// assert_eq!(rt; ranges.as_slice(), [0..4, 5..10, 11..17].as_slice());
+    /// ```
     pub fn find_iter<'r, 'c, 'h>(
         &'r self,
         cache: &'c mut Cache,
@@ -89,6 +98,13 @@ impl PikeVM {
 
     /// Returns all matches that do not overlap, from left to right. Requires a cache that fits. Allocates only if there
     /// is a match. The only error is [`SearchError::Memory`].
+    ///
+    /// ```
+    /// // vm of "foo(?<n>[0-9]+)"
+    /// let all = vm.find_all(alloc, cache, Input::new(b"foo1 foo12 foo123"))?;
+    /// assert_eq!(rt; all.len(), 3);
+    /// assert_eq!(rt; all[2].range(), 11..17);
+    /// ```
     pub fn find_all(
         &self,
         alloc: Global,

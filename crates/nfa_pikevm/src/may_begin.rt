@@ -14,9 +14,9 @@ impl PikeVM {
     /// another state.
     ///
     /// ```
-    /// let vm = PikeVM::new_from_nfa(Compiler::new().build(alloc, "[0-9]+")?)?;
-    /// assert!(vm.may_begin(b'7'));
-    /// assert!(!vm.may_begin(b'x'));
+    /// // vm of "foo(?<n>[0-9]+)"
+    /// assert!(rt; vm.may_begin(b'f'));
+    /// assert!(rt; !vm.may_begin(b'x'));
     /// ```
     pub fn may_begin(&self, byte: u8) -> bool
         ensures may { result ≡ true → MayBegin self.now.nfa byte }

@@ -16,6 +16,12 @@ use std::alloc::Global;
 impl Choice {
     /// Makes captures with two slots for each group of the NFA. No pattern and no slot is set. The only error is
     /// `Memory`.
+    ///
+    /// ```
+    /// // choice of "foo(?<n>[0-9]+)"
+    /// let captures = choice.create_captures(alloc)?;
+    /// assert_eq!(rt; captures.slots(), [None; 4].as_slice());
+    /// ```
     pub fn create_captures(&self, alloc: Global) -> Result<Captures, SearchError>
         ensures made { IfOk result (λ made. made ≡ record {
           groups = self.now.nfa.groups;
@@ -28,6 +34,13 @@ impl Choice {
     }
 
     /// Searches as [`Choice::search`] does, but takes the input by value.
+    ///
+    /// ```
+    /// // choice of "foo(?<n>[0-9]+)"
+    /// let mut captures = choice.create_captures(alloc)?;
+    /// choice.captures(Input::new(b"foo12345"), &mut captures);
+    /// assert_eq!(rt; captures.get_group(1), Some(Span { start: 3, end: 8 }));
+    /// ```
     pub fn captures<'h>(&mut self, input: Input<'h>, captures: &mut Captures)
         ensures answer { let x = search_of input.entry in
             IsAnswer self.old.nfa (kind_in self.old) x.earliest x captures.new.pattern captures.new.slots }

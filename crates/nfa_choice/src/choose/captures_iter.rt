@@ -61,6 +61,15 @@ impl Choice {
     /// one byte further on. The engine is picked for each search. An answer that gives no match ends the list, for
     /// instance if the NFA does not set the two slots of its pattern. Each item is a copy. If it cannot be allocated,
     /// the item is the error, once.
+    ///
+    /// ```
+    /// // choice of "foo(?<n>[0-9]+)"
+    /// let mut last = None;
+    /// for captures in choice.captures_iter(alloc, Input::new(b"foo1 foo12 foo123"))? {
+    ///     last = captures?.get_group_by_name("n");
+    /// }
+    /// assert_eq!(rt; last, Some(Span { start: 14, end: 17 }));
+    /// ```
     pub fn captures_iter<'c, 'h>(
         &'c mut self,
         alloc: Global,
@@ -110,6 +119,16 @@ impl Choice {
 
     /// Returns the same iterator, but searches with the given captures, which must have all groups of this NFA
     /// ([`Choice::create_captures`]). Does not allocate, and cannot fail.
+    ///
+    /// ```
+    /// // choice of "foo(?<n>[0-9]+)"
+    /// let captures = choice.create_captures(alloc)?;
+    /// let mut last = None;
+    /// for captures in choice.captures_iter_with(Input::new(b"foo1 foo12 foo123"), captures) {
+    ///     last = captures?.get_group_by_name("n");
+    /// }
+    /// assert_eq!(rt; last, Some(Span { start: 14, end: 17 }));
+    /// ```
     #[inline]
     pub fn captures_iter_with<'c, 'h>(
         &'c mut self,
@@ -160,6 +179,14 @@ impl Choice {
     /// [`Choice::captures_iter`] gives them.
     ///
     /// The only error is [`SearchError::Memory`]: the list or captures could not be allocated. No search fails.
+    ///
+    /// ```
+    /// // choice of "foo(?<n>[0-9]+)"
+    /// let all = choice.captures_all(alloc, Input::new(b"foo1 foo12 foo123"))?;
+    /// assert_eq!(rt; all.len(), 3);
+    /// let digits = all[2].get_group_by_name("n");
+    /// assert_eq!(rt; digits, Some(Span { start: 14, end: 17 }));
+    /// ```
     pub fn captures_all(
         &mut self,
         alloc: Global,

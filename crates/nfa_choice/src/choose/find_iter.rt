@@ -35,6 +35,15 @@ impl Choice {
     ///
     /// Each search starts at the end of the last match. An empty match there is replaced by the result of a search from
     /// one byte further on. The engine is picked for each search.
+    ///
+    /// ```
+    /// // choice of "foo(?<n>[0-9]+)"
+    /// let mut ranges = Vec::new(alloc);
+    /// for found in choice.find_iter(Input::new(b"foo1 foo12 foo123")) {
+    ///     ranges.push(found.range())?;
+    /// }
+    /// assert_eq!(rt; ranges.as_slice(), [0..4, 5..10, 11..17].as_slice());
+    /// ```
     pub fn find_iter<'c, 'h>(&'c mut self, input: Input<'h>) -> ChoiceMatches<'c, 'h>
         ensures same_reference { (choice_finds_cache result).ghost_name ≡ self.entry.ghost_name }
         ensures same_choice { (choice_finds_cache result).now ≡ self.entry.now }
@@ -68,6 +77,13 @@ impl Choice {
     /// Returns all matches that do not overlap, from left to right, as [`Choice::find_iter`] gives them.
     ///
     /// The only error is [`SearchError::Memory`]: the list could not be allocated. No search fails.
+    ///
+    /// ```
+    /// // choice of "foo(?<n>[0-9]+)"
+    /// let all = choice.find_all(alloc, Input::new(b"foo1 foo12 foo123"))?;
+    /// assert_eq!(rt; all.len(), 3);
+    /// assert_eq!(rt; all[2].range(), 11..17);
+    /// ```
     pub fn find_all(&mut self, alloc: Global, input: Input<'_>) -> Result<Vec<Match>, SearchError>
         ensures memory { IsOkUnless result SearchError.Memory }
         ensures all { IfOk result (λ found. AreMatches self.old.nfa (kind_in self.old) (search_of input.entry).earliest

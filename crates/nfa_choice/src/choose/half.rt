@@ -14,6 +14,12 @@ impl Choice {
     /// slots, so the NFA need not record where its matches start and end.
     ///
     /// Returns `None` if nothing matches.
+    ///
+    /// ```
+    /// // choice of "foo(?<n>[0-9]+)"
+    /// let half = choice.find_half(Input::new(b"foo12345"));
+    /// assert_eq!(rt; half.expect(rt, "a match").offset(), 8);
+    /// ```
     pub fn find_half<'h>(&mut self, input: Input<'h>) -> Option<HalfMatch>
         ensures answer { IsHalfAnswer self.old.nfa (kind_in self.old) (search_of input.entry).earliest
             (search_of input.entry) (option_map half_found_of result) }

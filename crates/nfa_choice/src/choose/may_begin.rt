@@ -14,10 +14,9 @@ impl Choice {
     /// another state.
     ///
     /// ```
-    /// let nfa = Compiler::new().build(alloc, "[0-9]+")?;
-    /// let choice = Choice::new(alloc, nfa, backtrack::Config::new(), pikevm::Config::new())?;
-    /// assert!(choice.may_begin(b'7'));
-    /// assert!(!choice.may_begin(b'x'));
+    /// // choice of "foo(?<n>[0-9]+)"
+    /// assert!(rt; choice.may_begin(b'f'));
+    /// assert!(rt; !choice.may_begin(b'x'));
     /// ```
     pub fn may_begin(&self, byte: u8) -> bool
         ensures may { result ≡ true → MayBegin self.now.nfa byte }

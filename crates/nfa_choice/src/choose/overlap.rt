@@ -18,6 +18,17 @@ impl Choice {
     /// The search is always one of the PikeVM, with its match kind: see
     /// [`PikeVM::which_overlapping_matches`](nfa_engines::pikevm::PikeVM::which_overlapping_matches). The cache of the
     /// backtracker does not change.
+    ///
+    /// ```
+    /// // choice of [r"\w+", r"\d+", r"\pL+", "foo", "bar", "barfoo", "foobar"], with MatchKind::All
+    /// let mut patterns = PatternSet::new(alloc, choice.get_nfa().pattern_len())?;
+    /// choice.which_overlapping_matches(&Input::new(b"foobar"), &mut patterns);
+    /// let mut numbers = Vec::new(alloc);
+    /// for pattern in patterns.iter() {
+    ///     numbers.push(pattern.as_usize())?;
+    /// }
+    /// assert_eq!(rt; numbers.as_slice(), [0, 2, 3, 4, 6].as_slice());
+    /// ```
     pub fn which_overlapping_matches(&mut self, input: &Input<'_>, patterns: &mut PatternSet)
         ensures result { IsOverlapResult self.old.nfa (search_of input.now) (kind_in self.old)
             (search_of input.now).earliest patterns.old patterns.new }

@@ -1,0 +1,57 @@
+//! The examples by type, and the engines that they borrow.
+
+ghost use Rattle.nfa_engines.specs.Engines.{Fits};
+
+mod backtracker;
+mod choice;
+mod compiler;
+mod pikevm;
+mod searcher;
+
+use nfa_choice::Choice;
+use nfa_compiler::Compiler;
+use nfa_engines::NFA;
+use nfa_engines::backtrack::{self, BoundedBacktracker};
+use nfa_engines::pikevm::{Cache, Config, PikeVM};
+use std::alloc::Global;
+use std::process::Abort;
+
+// The NFA of these patterns.
+fn nfa(rt: &impl Abort, alloc: Global, patterns: &[&str]) -> NFA {
+    Compiler::new()
+        .build_many(alloc, patterns)
+        .expect(rt, "an NFA")
+}
+
+fn pikevm_of(rt: &impl Abort, alloc: Global, patterns: &[&str]) -> PikeVM {
+    pikevm_by(rt, alloc, patterns, Config::new())
+}
+
+fn pikevm_by(rt: &impl Abort, alloc: Global, patterns: &[&str], config: Config) -> PikeVM {
+    let mut builder = PikeVM::builder();
+    builder.configure(config);
+    builder
+        .build_from_nfa(nfa(rt, alloc, patterns))
+        .expect(rt, "a PikeVM")
+}
+
+fn backtracker_of(rt: &impl Abort, alloc: Global, patterns: &[&str]) -> BoundedBacktracker {
+    BoundedBacktracker::new_from_nfa(nfa(rt, alloc, patterns)).expect(rt, "a backtracker")
+}
+
+fn choice_of(rt: &impl Abort, alloc: Global, patterns: &[&str]) -> Choice {
+    choice_by(rt, alloc, patterns, Config::new())
+}
+
+fn choice_by(rt: &impl Abort, alloc: Global, patterns: &[&str], config: Config) -> Choice {
+    let nfa = nfa(rt, alloc, patterns);
+    Choice::new(alloc, nfa, backtrack::Config::new(), config).expect(rt, "a choice")
+}
+
+// The cache fits the PikeVM.
+fn expect_fits(rt: &impl Abort, vm: &PikeVM, cache: &Cache)
+    ensures { Fits cache.now vm.now.nfa }
+{
+    let fits = cache.fits(vm);
+    assert!(rt; fits);
+}
