@@ -1,4 +1,5 @@
 //! The path of the match that a search finds.
+ghost use Rattle.std.specs.Prelude.{◌≤◌, length};
 ghost use Rattle.nfa_engines.specs.Engines.{Fits};
 
 use crate::edges::edges_of;
@@ -50,14 +51,23 @@ fn answered_start(vm: &PikeVM, cache: &mut Cache, haystack: &[u8]) -> Option<usi
         haystack.len()
     };
     for start in 0..=last {
-        let input = Input::new(haystack)
-            .range(start..haystack.len())
-            .anchored(Anchored::Yes);
-        if vm.search_slots(cache, &input, &mut []).is_some() {
+        if starts_match(vm, cache, haystack, start) {
             return Some(start);
         }
     }
     None
+}
+
+/// Whether an anchored search from this position finds a match.
+fn starts_match(vm: &PikeVM, cache: &mut Cache, haystack: &[u8], start: usize) -> bool
+    requires fits { Fits cache.old vm.now.nfa }
+    requires inside { start ≤ length haystack.now }
+    ensures { Fits cache.new vm.now.nfa }
+{
+    let input = Input::new(haystack)
+        .range(start..haystack.len())
+        .anchored(Anchored::Yes);
+    vm.search_slots(cache, &input, &mut []).is_some()
 }
 
 /// A state at a position, and how the search came there.
@@ -132,23 +142,19 @@ fn path_to(
     end: Visit,
 ) -> Result<Path, AllocError> {
     let mut steps = Vec::new(alloc);
-    let mut visit = end;
+    let (mut start, mut from) = (end.at, end.from);
     for _ in 0..visits.len() {
-        let Some((number, edge)) = visit.from else {
-            break
-        };
+        let Some((number, edge)) = from else { break };
         let Some(before) = visits.get(number) else {
-            break
+            break;
         };
-        visit = *before;
-        steps.push(Step {
-            state: visit.state.as_usize(),
-            edge,
-        })?;
+        let state = before.state.as_usize();
+        steps.push(Step { state, edge })?;
+        (start, from) = (before.at, before.from);
     }
     Ok(Path {
         pattern,
-        start: visit.at,
+        start,
         end: end.at,
         steps,
         last: end.state.as_usize(),
