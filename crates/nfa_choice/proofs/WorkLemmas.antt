@@ -1,5 +1,5 @@
 -- What the lists of a choice add to the totals of both its caches.
-use Rattle.std.proofs.Common.{◌≡◌, ◌+◌, ◌*◌, ◌⊎◌, Bool, true, false, List, length, refl, sym, ap, subst, inl, inr}
+use Rattle.std.proofs.Common.{◌≡◌, ◌+◌, ◌*◌, ◌⊎◌, Bool, true, false, List, length, refl, ap, subst, inl, inr}
 use Rattle.std.specs.Prelude.{not}
 use Rattle.std.proofs.lemmas.Bool.{and_parts}
 use Rattle.regex_search_core.specs.Found.{Found}
@@ -9,14 +9,14 @@ use Rattle.regex_search_core.specs.declared.search.MatchKind.TheVariants.{All, L
 use Rattle.thompson_nfa.specs.Automaton.{Automaton}
 use Rattle.nfa_paths.specs.Paths.{span_len}
 use Rattle.nfa_search_base.specs.Catching.{Row, row_span}
-use Rattle.nfa_search_base.specs.Leaving.{DoesSearch, StepsLead, answers_to_end}
-use Rattle.nfa_search_base.specs.Walks.{Answer, fresh, place_of, span_of}
+use Rattle.nfa_search_base.specs.Leaving.{DoesSearch}
+use Rattle.nfa_search_base.specs.Walks.{Answer, place_of, span_of}
 use Rattle.nfa_search_base.proofs.StepLemmas.{chosen}
 use Rattle.nfa_engines.specs.WorkLaws.{AddsAtMost, Totals, backtracker_totals, list_scan_limit, pike_totals}
 use Rattle.nfa_engines.proofs.EngineWorkLemmas.{Hit, Worked, calls-add, list-adds, match-hit, row-hit, worked}
 use Rattle.nfa_engines.proofs.EngineWorkLemmas.{worked-within}
 use Rattle.nfa_choice.specs.CapturesMatches.{CatchesByRule, ChoiceCatchesOn, ChoiceCatchesToEnd, ChoiceTellsRow}
-use Rattle.nfa_choice.specs.Choosing.{BacktrackerRan, Choosing, KeepsEngines, PikeRan, PikeStoodIn, RunsByRule}
+use Rattle.nfa_choice.specs.Choosing.{BacktrackerRan, Choosing, KeepsEngines, PikeStoodIn, RunsByRule}
 use Rattle.nfa_choice.specs.Choosing.{is_for_backtracker, is_leftmost_first, kind_in}
 use Rattle.nfa_choice.specs.Matches.{ChoiceFindsOn, ChoiceFindsToEnd, ChoiceTells, FindsByRule}
 use Rattle.nfa_choice.specs.WorkLaws.{ChoiceAddsAtMost}

@@ -1,5 +1,5 @@
 -- What an iteration adds to the totals of a cache, where each search does the work that an engine's contract says.
-use Rattle.std.proofs.Common.{◌≡◌, ◌∙◌, ℕ, ◌+◌, ◌-◌, ◌*◌, ◌<◌, ◌≤◌, ◌⊎◌, Bool, true, false, List, length, refl, sym, ap, subst}
+use Rattle.std.proofs.Common.{◌≡◌, ◌∙◌, ℕ, ◌+◌, ◌*◌, ◌≤◌, ◌⊎◌, Bool, List, length, refl, sym, ap, subst}
 use Rattle.std.proofs.Common.{Option, None, Some, Ok, Err, inl, inr, arith}
 use Rattle.std.specs.Prelude.{not, ◌&&◌}
 use Rattle.std.proofs.Math.Nat.{mul-le-mul_left}

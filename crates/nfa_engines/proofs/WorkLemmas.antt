@@ -1,5 +1,5 @@
 -- What a whole iteration adds to the totals of what answers its searches.
-use Rattle.std.proofs.Common.{◌≡◌, ◌∙◌, ℕ, ◌+◌, ◌-◌, ◌*◌, ◌<◌, ◌≤◌, Bool, true, false, MatchBool, List, [], ◌∷◌, length}
+use Rattle.std.proofs.Common.{◌≡◌, ℕ, ◌+◌, ◌*◌, ◌<◌, ◌≤◌, Bool, true, false, List, [], ◌∷◌, length}
 use Rattle.std.proofs.Common.{Option, None, Some, Ok, Err, refl, sym, ap, subst, inl, inr, arith}
 use Rattle.std.specs.Prelude.{cond, ◌==◌}
 use Rattle.std.proofs.Math.Nat.{mul-le-mul_right}
@@ -11,7 +11,7 @@ use Rattle.nfa_paths.specs.Paths.{span_len, turn_weight}
 use Rattle.nfa_search_base.specs.Behind.{IsBehind}
 use Rattle.nfa_search_base.specs.Leaving.{StepsLead, answers_to_end}
 use Rattle.nfa_search_base.specs.Likes.{SameButStart}
-use Rattle.nfa_search_base.specs.Walks.{Advances, Answer, AnswerIsInside, Walk, after, ended_at, ends_left, fresh}
+use Rattle.nfa_search_base.specs.Walks.{Advances, Answer, AnswerIsInside, Walk, after, ends_left, fresh}
 use Rattle.nfa_search_base.specs.Walks.{place_of, repeats, shifted}
 use Rattle.nfa_search_base.proofs.AskingLemmas.{same_start-self, same_start-then}
 use Rattle.nfa_search_base.proofs.StepLemmas.{Advances-fewer, chosen, same_start-after, same_start-shifted}
