@@ -49,12 +49,6 @@ fn create_captures(rt: &impl Abort, alloc: Global, vm: &PikeVM) -> Result<(), Se
     Ok(())
 }
 
-fn create_cache(rt: &impl Abort, alloc: Global, vm: &PikeVM) -> Result<(), SearchError> {
-    let cache = vm.create_cache(alloc)?;
-    assert!(rt; cache.fits(vm));
-    Ok(())
-}
-
 fn reset_cache(rt: &impl Abort, cache: &mut Cache, vm: &PikeVM) -> Result<(), SearchError> {
     // vm of r"\W", cache of another PikeVM
     vm.reset_cache(cache)?;
@@ -65,10 +59,6 @@ fn reset_cache(rt: &impl Abort, cache: &mut Cache, vm: &PikeVM) -> Result<(), Se
 fn pattern_len(rt: &impl Abort, vm: &PikeVM) {
     // vm of [r"\pL+", r"\d+"]
     assert_eq!(rt; vm.pattern_len(), 2);
-}
-
-fn get_nfa(rt: &impl Abort, vm: &PikeVM) {
-    // vm of "foo(?<n>[0-9]+)"
     assert_eq!(rt; vm.get_nfa().group_info().slot_len(), 4);
 }
 
@@ -254,43 +244,46 @@ fn made(rt: HostRuntime) -> Result<(), Fail> {
     Ok(())
 }
 
-#[test]
-fn of_foo(rt: HostRuntime) -> Result<(), Fail> {
-    let alloc = rt.alloc();
-    let vm = pikevm_of(&rt, alloc, &["foo(?<n>[0-9]+)"]);
-    let mut cache = vm.create_cache(alloc).expect(&rt, "a cache");
-    create_captures(&rt, alloc, &vm).expect(&rt, "memory");
-    create_cache(&rt, alloc, &vm).expect(&rt, "memory");
-    get_nfa(&rt, &vm);
-    expect_fits(&rt, &vm, &cache);
-    clone(&rt, &vm, &mut cache).expect(&rt, "memory");
-    expect_fits(&rt, &vm, &cache);
-    find(&rt, &vm, &mut cache);
-    expect_fits(&rt, &vm, &cache);
-    find_half(&rt, &vm, &mut cache);
-    expect_fits(&rt, &vm, &cache);
-    is_match(&rt, &vm, &mut cache);
-    expect_fits(&rt, &vm, &cache);
-    search(&rt, alloc, &vm, &mut cache).expect(&rt, "memory");
-    expect_fits(&rt, &vm, &cache);
-    captures(&rt, alloc, &vm, &mut cache).expect(&rt, "memory");
-    Ok(())
+fn run_searches(rt: &impl Abort, alloc: Global, vm: &PikeVM, cache: &mut Cache) {
+    create_captures(rt, alloc, vm).expect(rt, "memory");
+    expect_fits(rt, vm, cache);
+    clone(rt, vm, cache).expect(rt, "memory");
+    expect_fits(rt, vm, cache);
+    find(rt, vm, cache);
+    expect_fits(rt, vm, cache);
+    find_half(rt, vm, cache);
+    expect_fits(rt, vm, cache);
+    is_match(rt, vm, cache);
+}
+
+fn run_captures(rt: &impl Abort, alloc: Global, vm: &PikeVM, cache: &mut Cache) {
+    expect_fits(rt, vm, cache);
+    search(rt, alloc, vm, cache).expect(rt, "memory");
+    expect_fits(rt, vm, cache);
+    captures(rt, alloc, vm, cache).expect(rt, "memory");
+    expect_fits(rt, vm, cache);
+    captures_iter(rt, alloc, vm, cache).expect(rt, "memory");
+    expect_fits(rt, vm, cache);
+    captures_iter_with(rt, alloc, vm, cache).expect(rt, "memory");
+    expect_fits(rt, vm, cache);
+    captures_all(rt, alloc, vm, cache).expect(rt, "memory");
+}
+
+fn run_lists(rt: &impl Abort, alloc: Global, vm: &PikeVM, cache: &mut Cache) {
+    expect_fits(rt, vm, cache);
+    find_iter(rt, alloc, vm, cache).expect(rt, "memory");
+    expect_fits(rt, vm, cache);
+    find_all(rt, alloc, vm, cache).expect(rt, "memory");
 }
 
 #[test]
-fn lists_of_foo(rt: HostRuntime) {
+fn of_foo(rt: HostRuntime) {
     let alloc = rt.alloc();
     let vm = pikevm_of(&rt, alloc, &["foo(?<n>[0-9]+)"]);
     let mut cache = vm.create_cache(alloc).expect(&rt, "a cache");
-    captures_iter(&rt, alloc, &vm, &mut cache).expect(&rt, "memory");
-    expect_fits(&rt, &vm, &cache);
-    captures_iter_with(&rt, alloc, &vm, &mut cache).expect(&rt, "memory");
-    expect_fits(&rt, &vm, &cache);
-    captures_all(&rt, alloc, &vm, &mut cache).expect(&rt, "memory");
-    expect_fits(&rt, &vm, &cache);
-    find_iter(&rt, alloc, &vm, &mut cache).expect(&rt, "memory");
-    expect_fits(&rt, &vm, &cache);
-    find_all(&rt, alloc, &vm, &mut cache).expect(&rt, "memory");
+    run_searches(&rt, alloc, &vm, &mut cache);
+    run_captures(&rt, alloc, &vm, &mut cache);
+    run_lists(&rt, alloc, &vm, &mut cache);
 }
 
 #[test]
