@@ -19,7 +19,8 @@ fn of_itself(rt: &impl Abort, alloc: Global) -> Result<(), Fail> {
 }
 
 fn min_visited_capacity(rt: &impl Abort, nfa: &NFA) {
-    // nfa of one state: nine positions take nine bits
+    // nfa of a backtracker that never matches
+    assert_eq!(rt; nfa.states().len(), 1);
     let bytes = backtrack::min_visited_capacity(nfa, &Input::new(b"foo12345"));
     assert_eq!(rt; bytes, 2);
 }
@@ -86,7 +87,7 @@ fn clone(
 }
 
 fn max_haystack_len(rt: &impl Abort, backtracker: &BoundedBacktracker) {
-    // backtracker that never matches: one state, and the default capacity of 256 KiB
+    // backtracker that never matches: one state, and 256 KiB of bits
     assert_eq!(rt; backtracker.max_haystack_len(), 262144 * 8 - 1);
 }
 
@@ -262,31 +263,37 @@ fn that_never_match(rt: HostRuntime) {
     max_haystack_len(&rt, &backtracker);
 }
 
+fn run_searches(
+    rt: &impl Abort,
+    alloc: Global,
+    backtracker: &BoundedBacktracker,
+    cache: &mut Cache,
+) {
+    may_begin(rt, backtracker);
+    create_captures(rt, alloc, backtracker).expect(rt, "memory");
+    clone(rt, backtracker, cache).expect(rt, "an answer");
+    try_find(rt, backtracker, cache).expect(rt, "an answer");
+    try_find_half(rt, backtracker, cache).expect(rt, "an answer");
+    try_is_match(rt, backtracker, cache).expect(rt, "an answer");
+}
+
+fn run_lists(rt: &impl Abort, alloc: Global, backtracker: &BoundedBacktracker, cache: &mut Cache) {
+    try_search(rt, alloc, backtracker, cache).expect(rt, "an answer");
+    try_captures(rt, alloc, backtracker, cache).expect(rt, "an answer");
+    try_captures_iter(rt, alloc, backtracker, cache).expect(rt, "an answer");
+    try_captures_iter_with(rt, alloc, backtracker, cache).expect(rt, "an answer");
+    try_captures_all(rt, alloc, backtracker, cache).expect(rt, "an answer");
+    try_find_iter(rt, alloc, backtracker, cache).expect(rt, "an answer");
+    try_find_all(rt, alloc, backtracker, cache).expect(rt, "an answer");
+}
+
 #[test]
 fn of_foo(rt: HostRuntime) {
     let alloc = rt.alloc();
     let backtracker = backtracker_of(&rt, alloc, &["foo(?<n>[0-9]+)"]);
-    may_begin(&rt, &backtracker);
     let mut cache = backtracker.create_cache(alloc);
-    create_captures(&rt, alloc, &backtracker).expect(&rt, "memory");
-    clone(&rt, &backtracker, &mut cache).expect(&rt, "an answer");
-    try_find(&rt, &backtracker, &mut cache).expect(&rt, "an answer");
-    try_find_half(&rt, &backtracker, &mut cache).expect(&rt, "an answer");
-    try_is_match(&rt, &backtracker, &mut cache).expect(&rt, "an answer");
-    try_search(&rt, alloc, &backtracker, &mut cache).expect(&rt, "an answer");
-    try_captures(&rt, alloc, &backtracker, &mut cache).expect(&rt, "an answer");
-}
-
-#[test]
-fn lists_of_foo(rt: HostRuntime) {
-    let alloc = rt.alloc();
-    let backtracker = backtracker_of(&rt, alloc, &["foo(?<n>[0-9]+)"]);
-    let mut cache = backtracker.create_cache(alloc);
-    try_captures_iter(&rt, alloc, &backtracker, &mut cache).expect(&rt, "an answer");
-    try_captures_iter_with(&rt, alloc, &backtracker, &mut cache).expect(&rt, "an answer");
-    try_captures_all(&rt, alloc, &backtracker, &mut cache).expect(&rt, "an answer");
-    try_find_iter(&rt, alloc, &backtracker, &mut cache).expect(&rt, "an answer");
-    try_find_all(&rt, alloc, &backtracker, &mut cache).expect(&rt, "an answer");
+    run_searches(&rt, alloc, &backtracker, &mut cache);
+    run_lists(&rt, alloc, &backtracker, &mut cache);
 }
 
 #[test]

@@ -177,26 +177,38 @@ fn made(rt: HostRuntime) -> Result<(), Fail> {
     new(&rt, rt.alloc())
 }
 
+fn run_searches(rt: &impl Abort, alloc: Global, choice: &mut Choice) {
+    may_begin(rt, choice);
+    ran(rt, choice);
+    get_nfa(rt, choice);
+    find(rt, choice);
+    find_half(rt, choice);
+    is_match(rt, choice);
+    create_captures(rt, alloc, choice).expect(rt, "memory");
+    search(rt, alloc, choice).expect(rt, "memory");
+    captures(rt, alloc, choice).expect(rt, "memory");
+}
+
+fn run_lists(rt: &impl Abort, alloc: Global, choice: &mut Choice) {
+    captures_iter(rt, alloc, choice).expect(rt, "memory");
+    captures_iter_with(rt, alloc, choice).expect(rt, "memory");
+    captures_all(rt, alloc, choice).expect(rt, "memory");
+    find_iter(rt, alloc, choice).expect(rt, "memory");
+    find_all(rt, alloc, choice).expect(rt, "memory");
+}
+
+fn run_replace(rt: &impl Abort, alloc: Global, choice: &mut Choice) {
+    let nfa = nfa(rt, alloc, &[r"\W"]);
+    replace(rt, choice, nfa).expect(rt, "memory");
+}
+
 #[test]
 fn of_foo(rt: HostRuntime) {
     let alloc = rt.alloc();
     let mut choice = choice_of(&rt, alloc, &["foo(?<n>[0-9]+)"]);
-    may_begin(&rt, &choice);
-    ran(&rt, &mut choice);
-    get_nfa(&rt, &choice);
-    search(&rt, alloc, &mut choice).expect(&rt, "memory");
-    find(&rt, &mut choice);
-    is_match(&rt, &mut choice);
-    create_captures(&rt, alloc, &choice).expect(&rt, "memory");
-    captures(&rt, alloc, &mut choice).expect(&rt, "memory");
-    captures_iter(&rt, alloc, &mut choice).expect(&rt, "memory");
-    captures_iter_with(&rt, alloc, &mut choice).expect(&rt, "memory");
-    captures_all(&rt, alloc, &mut choice).expect(&rt, "memory");
-    find_iter(&rt, alloc, &mut choice).expect(&rt, "memory");
-    find_all(&rt, alloc, &mut choice).expect(&rt, "memory");
-    find_half(&rt, &mut choice);
-    let nfa = nfa(&rt, alloc, &[r"\W"]);
-    replace(&rt, &mut choice, nfa).expect(&rt, "memory");
+    run_searches(&rt, alloc, &mut choice);
+    run_lists(&rt, alloc, &mut choice);
+    run_replace(&rt, alloc, &mut choice);
 }
 
 #[test]

@@ -250,42 +250,47 @@ fn made(rt: HostRuntime) -> Result<(), Fail> {
     Ok(())
 }
 
-#[test]
-fn of_foo(rt: HostRuntime) -> Result<(), Fail> {
-    let alloc = rt.alloc();
-    let vm = pikevm_of(&rt, alloc, &["foo(?<n>[0-9]+)"]);
-    may_begin(&rt, &vm);
-    let mut cache = vm.create_cache(alloc).expect(&rt, "a cache");
-    create_captures(&rt, alloc, &vm).expect(&rt, "memory");
-    expect_fits(&rt, &vm, &cache);
-    clone(&rt, &vm, &mut cache).expect(&rt, "memory");
-    expect_fits(&rt, &vm, &cache);
-    find(&rt, &vm, &mut cache);
-    expect_fits(&rt, &vm, &cache);
-    find_half(&rt, &vm, &mut cache);
-    expect_fits(&rt, &vm, &cache);
-    is_match(&rt, &vm, &mut cache);
-    expect_fits(&rt, &vm, &cache);
-    search(&rt, alloc, &vm, &mut cache).expect(&rt, "memory");
-    expect_fits(&rt, &vm, &cache);
-    captures(&rt, alloc, &vm, &mut cache).expect(&rt, "memory");
-    Ok(())
+fn run_searches(rt: &impl Abort, alloc: Global, vm: &PikeVM, cache: &mut Cache) {
+    may_begin(rt, vm);
+    create_captures(rt, alloc, vm).expect(rt, "memory");
+    expect_fits(rt, vm, cache);
+    clone(rt, vm, cache).expect(rt, "memory");
+    expect_fits(rt, vm, cache);
+    find(rt, vm, cache);
+    expect_fits(rt, vm, cache);
+    find_half(rt, vm, cache);
+    expect_fits(rt, vm, cache);
+    is_match(rt, vm, cache);
+}
+
+fn run_captures(rt: &impl Abort, alloc: Global, vm: &PikeVM, cache: &mut Cache) {
+    expect_fits(rt, vm, cache);
+    search(rt, alloc, vm, cache).expect(rt, "memory");
+    expect_fits(rt, vm, cache);
+    captures(rt, alloc, vm, cache).expect(rt, "memory");
+    expect_fits(rt, vm, cache);
+    captures_iter(rt, alloc, vm, cache).expect(rt, "memory");
+    expect_fits(rt, vm, cache);
+    captures_iter_with(rt, alloc, vm, cache).expect(rt, "memory");
+    expect_fits(rt, vm, cache);
+    captures_all(rt, alloc, vm, cache).expect(rt, "memory");
+}
+
+fn run_lists(rt: &impl Abort, alloc: Global, vm: &PikeVM, cache: &mut Cache) {
+    expect_fits(rt, vm, cache);
+    find_iter(rt, alloc, vm, cache).expect(rt, "memory");
+    expect_fits(rt, vm, cache);
+    find_all(rt, alloc, vm, cache).expect(rt, "memory");
 }
 
 #[test]
-fn lists_of_foo(rt: HostRuntime) {
+fn of_foo(rt: HostRuntime) {
     let alloc = rt.alloc();
     let vm = pikevm_of(&rt, alloc, &["foo(?<n>[0-9]+)"]);
     let mut cache = vm.create_cache(alloc).expect(&rt, "a cache");
-    captures_iter(&rt, alloc, &vm, &mut cache).expect(&rt, "memory");
-    expect_fits(&rt, &vm, &cache);
-    captures_iter_with(&rt, alloc, &vm, &mut cache).expect(&rt, "memory");
-    expect_fits(&rt, &vm, &cache);
-    captures_all(&rt, alloc, &vm, &mut cache).expect(&rt, "memory");
-    expect_fits(&rt, &vm, &cache);
-    find_iter(&rt, alloc, &vm, &mut cache).expect(&rt, "memory");
-    expect_fits(&rt, &vm, &cache);
-    find_all(&rt, alloc, &vm, &mut cache).expect(&rt, "memory");
+    run_searches(&rt, alloc, &vm, &mut cache);
+    run_captures(&rt, alloc, &vm, &mut cache);
+    run_lists(&rt, alloc, &vm, &mut cache);
 }
 
 #[test]

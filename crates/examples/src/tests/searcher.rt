@@ -166,31 +166,43 @@ fn into_captures_iter(
     Ok(())
 }
 
+fn run_steps(rt: &impl Abort, backtracker: &BoundedBacktracker, cache: &mut Cache) {
+    try_advance(rt, backtracker, cache).expect(rt, "an answer");
+    try_advance_by_ref(rt, backtracker, cache).expect(rt, "an answer");
+    try_advance_half(rt, backtracker, cache).expect(rt, "an answer");
+    try_advance_half_by_ref(rt, backtracker, cache).expect(rt, "an answer");
+}
+
+fn run_lists(rt: &impl Abort, alloc: Global, backtracker: &BoundedBacktracker, cache: &mut Cache) {
+    into_matches_iter(rt, alloc, backtracker, cache).expect(rt, "an answer");
+    into_half_matches_iter(rt, alloc, backtracker, cache).expect(rt, "an answer");
+    let captures = backtracker.create_captures(alloc).expect(rt, "memory");
+    into_captures_iter(rt, backtracker, cache, captures).expect(rt, "an answer");
+}
+
 #[test]
 fn of_foo(rt: HostRuntime) {
     let alloc = rt.alloc();
     let backtracker = backtracker_of(&rt, alloc, &["foo(?<n>[0-9]+)"]);
     let mut cache = backtracker.create_cache(alloc);
-    new(&rt);
-    try_advance(&rt, &backtracker, &mut cache).expect(&rt, "an answer");
-    try_advance_by_ref(&rt, &backtracker, &mut cache).expect(&rt, "an answer");
-    try_advance_half(&rt, &backtracker, &mut cache).expect(&rt, "an answer");
-    try_advance_half_by_ref(&rt, &backtracker, &mut cache).expect(&rt, "an answer");
-    into_matches_iter(&rt, alloc, &backtracker, &mut cache).expect(&rt, "an answer");
-    into_half_matches_iter(&rt, alloc, &backtracker, &mut cache).expect(&rt, "an answer");
-    let captures = backtracker.create_captures(alloc).expect(&rt, "memory");
-    into_captures_iter(&rt, &backtracker, &mut cache, captures).expect(&rt, "an answer");
+    run_steps(&rt, &backtracker, &mut cache);
+    run_lists(&rt, alloc, &backtracker, &mut cache);
+}
+
+fn run_sure_steps(rt: &impl Abort, choice: &mut Choice) {
+    new(rt);
+    input(rt, choice);
+    advance(rt, choice);
+    advance_by_ref(rt, choice);
+    advance_half(rt, choice);
+    advance_half_by_ref(rt, choice);
 }
 
 #[test]
 fn of_foo_surely(rt: HostRuntime) {
     let alloc = rt.alloc();
     let mut choice = choice_of(&rt, alloc, &["foo(?<n>[0-9]+)"]);
-    input(&rt, &mut choice);
-    advance(&rt, &mut choice);
-    advance_by_ref(&rt, &mut choice);
-    advance_half(&rt, &mut choice);
-    advance_half_by_ref(&rt, &mut choice);
+    run_sure_steps(&rt, &mut choice);
 }
 
 #[test]
