@@ -19,8 +19,7 @@ fn of_itself(rt: &impl Abort, alloc: Global) -> Result<(), Fail> {
 }
 
 fn min_visited_capacity(rt: &impl Abort, nfa: &NFA) {
-    // nfa of a backtracker that never matches
-    assert_eq!(rt; nfa.states().len(), 1);
+    // nfa of one state: nine positions take nine bits
     let bytes = backtrack::min_visited_capacity(nfa, &Input::new(b"foo12345"));
     assert_eq!(rt; bytes, 2);
 }
@@ -87,7 +86,7 @@ fn clone(
 }
 
 fn max_haystack_len(rt: &impl Abort, backtracker: &BoundedBacktracker) {
-    // backtracker that never matches: one state, and 256 KiB of bits
+    // backtracker that never matches: one state, and the default capacity of 256 KiB
     assert_eq!(rt; backtracker.max_haystack_len(), 262144 * 8 - 1);
 }
 
