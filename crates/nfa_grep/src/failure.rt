@@ -1,6 +1,7 @@
 //! Why a search of an input ended before its end.
 use std::alloc::{AllocError, AllocFailed};
 use std::io;
+use std::io::ErrorKind;
 use thiserror::Error;
 
 /// Why an input was not searched to its end.
@@ -12,12 +13,34 @@ pub enum Failure {
     /// The output could not be written.
     #[error("cannot write: {0}")]
     Write(io::Error),
+    /// There is no memory for the line of this number, or for what is printed of it.
+    #[error("no memory for line {0}")]
+    Line(u64),
     /// Allocation failed.
     #[error("out of memory")]
     Memory,
     /// The input has more bytes, or more lines, than a `u64` counts.
     #[error("the input is too long")]
     TooLong,
+}
+
+impl Failure {
+    /// Why the line of this number could not be read.
+    pub fn of_reading(error: io::Error, line: u64) -> Failure {
+        if error.kind() == ErrorKind::OutOfMemory {
+            Failure::Line(line)
+        } else {
+            Failure::Read(error)
+        }
+    }
+
+    /// Whether other inputs can be searched.
+    pub fn is_of_input(&self) -> bool {
+        match self {
+            Failure::Read(_) | Failure::Line(_) | Failure::TooLong => true,
+            Failure::Write(_) | Failure::Memory => false,
+        }
+    }
 }
 
 impl From<AllocError> for Failure {

@@ -3,8 +3,7 @@ ghost use Rattle.std.specs.Prelude.{◌≡◌, ◌≤◌, ◌<◌, ◌+◌, ◌^
 ghost use Rattle.regex_hir.specs.Re.{Re};
 ghost use Rattle.regex_search_core.specs.Found.{found_of};
 ghost use Rattle.regex_search_core.specs.Search.{whole};
-ghost use Rattle.nfa_choice.specs.Choosing.{KeepsEngines, kind_in};
-ghost use Rattle.nfa_engines.specs.Lists.{AreMatches, IsInside};
+ghost use Rattle.nfa_engines.specs.Lists.{IsInside};
 ghost use Rattle.nfa_grep.specs.Meant.{Mean, all_found, is_found};
 ghost use Rattle.nfa_grep.specs.Printed.{content, head, is_selected, mark_of, piece, pieces, shown, with_feed};
 
@@ -112,8 +111,10 @@ impl<'p> Grep<'p> {
         ensures kept { self.new ≡ self.old }
     {
         laws::iterations_find_texts();
-        let matches = all_matches(self.alloc, &mut self.choice, text)?;
-        Ok(matches)
+        match self.choice.find_all(self.alloc, Input::new(text)) {
+            Ok(matches) => Ok(matches),
+            Err(_) => Err(AllocError),
+        }
     }
 
     /// Appends what is printed of the line, and returns whether the line is selected.
@@ -199,20 +200,6 @@ impl<'p> Grep<'p> {
         }
         Ok(mark)
     }
-}
-
-/// Returns all matches of a search of the text, from left to right.
-fn all_matches(alloc: Global, choice: &mut Choice, text: &[u8]) -> Result<Vec<Match>, AllocError>
-    ensures all { IfOk result (λ found.
-        AreMatches choice.old.nfa (kind_in choice.old) false (whole text.now) (map found_of found.items)) }
-    ensures inside { IfOk result (λ found. All (λ m. IsInside (whole text.now) (found_of m)) found.items) }
-    ensures kept { KeepsEngines choice.old choice.new }
-{
-    let mut matches = Vec::new(alloc);
-    for found in choice.find_iter(Input::new(text)) {
-        matches.push(found)?;
-    }
-    Ok(matches)
 }
 
 /// Appends each match that is not empty as a line of its own.

@@ -60,7 +60,7 @@ fn search<R: BufRead, W: Write>(
         match input.read_until(b'\n', &mut line) {
             Ok(0) => return Ok(count),
             Ok(_) => {}
-            Err(error) => return Err(Failure::Read(error)),
+            Err(error) => return Err(Failure::of_reading(error, before + 1)),
         }
         let Some(next) = offset.checked_add(line.len() as u64) else {
             return Err(Failure::TooLong);
@@ -70,7 +70,10 @@ fn search<R: BufRead, W: Write>(
             number: before + 1,
             offset,
         };
-        if grep.append_line(place, &line, &mut shown)? {
+        let Ok(selected) = grep.append_line(place, &line, &mut shown) else {
+            return Err(Failure::Line(before + 1));
+        };
+        if selected {
             count += 1;
         }
         if let Err(error) = out.write_all(&shown) {
