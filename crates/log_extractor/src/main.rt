@@ -2,8 +2,6 @@
 #![tactic(auto)]
 
 mod command;
-mod failure;
-mod line;
 mod object;
 mod output;
 mod parser;
@@ -12,7 +10,6 @@ mod report;
 mod row;
 
 use crate::command::{Arguments, Command, parse};
-use crate::failure::Failure;
 use crate::parser::Parser;
 use crate::pattern::PatternError;
 use anyhow::Result;
@@ -22,6 +19,7 @@ use std::fmt::Display;
 use std::io::{BufReader, BufWriter, Write};
 use std::process::ExitCode;
 use std::{env, io};
+use text_lines::failure::Failure;
 
 /// The input, the output or memory failed.
 const FAILED: u8 = 1;

@@ -1,12 +1,12 @@
 //! The search of all files that the arguments name.
 use crate::command::Arguments;
-use crate::failure::Failure;
 use crate::grep::Grep;
 use crate::search::print_matches;
 use anyhow::Result;
 use std::alloc::{AllocError, Global};
 use std::io::{BufReader, BufWriter, Write};
 use std::{fs, io};
+use text_lines::failure::Failure;
 
 /// What the search of all inputs came to.
 #[derive(Clone, Copy, Debug, PartialEq, Eq)]

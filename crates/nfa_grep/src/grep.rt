@@ -5,9 +5,10 @@ ghost use Rattle.regex_search_core.specs.Found.{found_of};
 ghost use Rattle.regex_search_core.specs.Search.{whole};
 ghost use Rattle.nfa_engines.specs.Lists.{IsInside};
 ghost use Rattle.nfa_grep.specs.Meant.{Mean, all_found, is_found};
-ghost use Rattle.nfa_grep.specs.Printed.{content, head, is_selected, mark_of, piece, pieces, shown, with_feed};
+ghost use Rattle.nfa_grep.specs.Printed.{head, is_selected, mark_of, piece, pieces, shown};
+ghost use Rattle.text_lines.specs.Lines.{content, with_feed};
 
-use crate::line::{Place, append_head, append_whole, content};
+use crate::line::{Place, append_head};
 use crate::options::Options;
 use crate::which::Which;
 use anyhow::Result;
@@ -17,6 +18,7 @@ use nfa_engines::{backtrack, pikevm};
 use regex_search_core::{Input, Match};
 use std::alloc::{AllocError, Global};
 use std::marker::Model;
+use text_lines::line::{append_whole, content};
 
 /// What is searched for in each line, and what is printed of a line that is selected. It owns the engine, and a second
 /// one that finds the numbers of the patterns that match, if they are wanted.
@@ -111,10 +113,10 @@ impl<'p> Grep<'p> {
         ensures kept { self.new ≡ self.old }
     {
         laws::iterations_find_texts();
-        match self.choice.find_all(self.alloc, Input::new(text)) {
-            Ok(matches) => Ok(matches),
-            Err(_) => Err(AllocError),
-        }
+        let Ok(matches) = self.choice.find_all(self.alloc, Input::new(text)) else {
+            return Err(AllocError);
+        };
+        Ok(matches)
     }
 
     /// Appends what is printed of the line, and returns whether the line is selected.

@@ -1,19 +1,19 @@
-//! Why a search of an input ended before its end.
+//! Why the work on an input ended before its end.
 use std::alloc::{AllocError, AllocFailed};
 use std::io;
 use std::io::ErrorKind;
 use thiserror::Error;
 
-/// Why an input was not searched to its end.
+/// Why an input was not read to its end, or what is printed of it was not written.
 #[derive(Debug, Drop, Error)]
 pub enum Failure {
     /// The input could not be read.
-    #[error("{0}")]
+    #[error("cannot read: {0}")]
     Read(io::Error),
     /// The output could not be written.
     #[error("cannot write: {0}")]
     Write(io::Error),
-    /// There is no memory for the line of this number, or for what is printed of it.
+    /// There is no memory for the line of this number, from 1, or for what is printed of it.
     #[error("no memory for line {0}")]
     Line(u64),
     /// Allocation failed.
@@ -25,16 +25,16 @@ pub enum Failure {
 }
 
 impl Failure {
-    /// Why the line of this number could not be read.
-    pub fn of_reading(error: io::Error, line: u64) -> Failure {
+    /// Returns why the line of this number, from 1, could not be read.
+    pub fn of_reading(error: io::Error, number: u64) -> Failure {
         if error.kind() == ErrorKind::OutOfMemory {
-            Failure::Line(line)
+            Failure::Line(number)
         } else {
             Failure::Read(error)
         }
     }
 
-    /// Whether other inputs can be searched.
+    /// Returns whether the fault is the input's, so that another input can be read.
     pub fn is_of_input(&self) -> bool {
         match self {
             Failure::Read(_) | Failure::Line(_) | Failure::TooLong => true,
