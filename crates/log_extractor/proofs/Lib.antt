@@ -1,6 +1,4 @@
 mod FieldLemmas
 mod GoingLemmas
-mod LineLemmas
 mod NameLemmas
 mod ObjectLemmas
-mod WriteLemmas

@@ -23,7 +23,7 @@ pub record LinePattern : Type 0 where
   pub names : List (Option (List ℕ))
 
 -- the grammar reads this pattern in the text
-pub record IsPatternOf (text : List ℕ) (p : LinePattern) : Type 0 where
+pub record IsLinePattern (text : List ℕ) (p : LinePattern) : Type 0 where
   pub tree : IsMeant line_syntax text p.tree
   pub names : IsNamed line_syntax text p.names
 
@@ -66,11 +66,11 @@ abbrev pub row : LinePattern → List ℕ → Option (List (Option (List ℕ)))
 row p line = option_map (fields_of p line) (match_at_start p line)
 
 -- what the slices hold
-abbrev pub texts : List (Option (Bor (List ℕ))) → List (Option (List ℕ))
-texts fields = map (option_map (λ (field : Bor (List ℕ)). field.now)) fields
+abbrev pub fields_now : List (Option (Bor (List ℕ))) → List (Option (List ℕ))
+fields_now fields = map (option_map (λ (field : Bor (List ℕ)). field.now)) fields
 
 -- allocation failed, the text is not a pattern that can be compiled, or no group of the pattern has a name
-abbrev pub IsMistakeIn : List ℕ → PatternError → Type 0
-IsMistakeIn text Memory = ⊤
-IsMistakeIn text (Compile error) = IsOfOneText line_syntax (text ∷ []) error
-IsMistakeIn text NoColumns = (p : LinePattern) → IsPatternOf text p → columns_of p ≡ []
+abbrev pub IsPatternMistake : List ℕ → PatternError → Type 0
+IsPatternMistake text Memory = ⊤
+IsPatternMistake text (Compile error) = IsOfOneText line_syntax (text ∷ []) error
+IsPatternMistake text NoColumns = (p : LinePattern) → IsLinePattern text p → columns_of p ≡ []

@@ -1,31 +1,14 @@
 -- What is printed of the lines of an input.
 use Rattle.std.specs.Prelude.{◌≡◌, ℕ, List, [], ◌∷◌, ◌++◌, Option, None, Some, codes, flat_map, map, unwrap_or, if◌then◌else◌}
-use Rattle.std.specs.Io.BufRead.{ends_with_byte, strip_last}
 use Rattle.std.specs.Str.Lossy.{utf8_lossy}
-use Rattle.bstr.specs.Records.{records}
 use Rattle.json.specs.Print.{quoted}
+use Rattle.text_lines.specs.Lines.{content, line_feed, lines_of, with_feed}
 use Rattle.log_extractor.specs.Fields.{LinePattern, NamedGroup, columns_of, row}
 use Rattle.log_extractor.specs.declared.output.Output.{Output}
 use Rattle.log_extractor.specs.declared.output.Output.TheVariants.{Table, Rows, Objects, Rejects}
 
--- the line feed, the carriage return and the tab
-abbrev pub feed : ℕ
-feed = 10
-
-abbrev pub carriage_return : ℕ
-carriage_return = 13
-
 abbrev pub tab : ℕ
 tab = 9
-
--- what is matched of a line: all but the line feed at its end and a carriage return before that line feed
-abbrev pub content : List ℕ → List ℕ
-content line =
-    if ends_with_byte feed line then strip_last carriage_return (strip_last feed line) else line
-
--- the line, with a line feed at its end
-abbrev pub with_feed : List ℕ → List ℕ
-with_feed line = if ends_with_byte feed line then line else (line ++ feed ∷ [])
 
 -- these pieces, with this byte before each one but the first
 abbrev pub separated : ℕ → List (List ℕ) → List ℕ
@@ -34,22 +17,22 @@ separated byte (piece ∷ pieces) = piece ++ flat_map (λ p. byte ∷ p) pieces
 
 -- the fields with tabs between them, as a line
 abbrev pub row_line : List (List ℕ) → List ℕ
-row_line fields = separated tab fields ++ feed ∷ []
+row_line fields = separated tab fields ++ line_feed ∷ []
 
 -- the text of a field: empty if there is none
-abbrev pub text_of : Option (List ℕ) → List ℕ
-text_of field = unwrap_or field []
+abbrev pub field_text : Option (List ℕ) → List ℕ
+field_text field = unwrap_or field []
 
-abbrev pub texts_of : List (Option (List ℕ)) → List (List ℕ)
-texts_of fields = map text_of fields
+abbrev pub field_texts : List (Option (List ℕ)) → List (List ℕ)
+field_texts fields = map field_text fields
 
 -- the line of a row
 abbrev pub field_line : List (Option (List ℕ)) → List ℕ
-field_line fields = row_line (texts_of fields)
+field_line fields = row_line (field_texts fields)
 
 -- the names of columns
-abbrev pub names_of : List NamedGroup → List (List ℕ)
-names_of columns = map (λ (column : NamedGroup). column.name) columns
+abbrev pub column_names : List NamedGroup → List (List ℕ)
+column_names columns = map (λ (column : NamedGroup). column.name) columns
 
 -- A field as a JSON value: null if there is none. Bytes that are not UTF-8 become U+FFFD.
 abbrev pub value_text : Option (List ℕ) → List ℕ
@@ -67,7 +50,7 @@ members (column ∷ columns) (field ∷ fields) = member_text column field ∷ m
 
 -- the fields as a JSON object, with commas between its members and braces around them, on a line
 abbrev pub object_line : List NamedGroup → List (Option (List ℕ)) → List ℕ
-object_line columns fields = 123 ∷ separated 44 (members columns fields) ++ 125 ∷ feed ∷ []
+object_line columns fields = 123 ∷ separated 44 (members columns fields) ++ 125 ∷ line_feed ∷ []
 
 -- what is printed of a line that has these fields
 abbrev pub shown_fields : Output → List NamedGroup → List (Option (List ℕ)) → List ℕ
@@ -89,30 +72,26 @@ shown_as output columns line None = shown_reject output line
 shown_as output columns line (Some fields) = shown_fields output columns fields
 
 -- what is printed of a line
-abbrev pub shown : Output → LinePattern → List ℕ → List ℕ
-shown output p line = shown_as output (columns_of p) line (row p (content line))
+abbrev pub shown_line : Output → LinePattern → List ℕ → List ℕ
+shown_line output p line = shown_as output (columns_of p) line (row p (content line))
 
 -- what is printed before the lines: of a table, the names of the columns
-abbrev pub head : Output → List NamedGroup → List ℕ
-head Table columns = row_line (names_of columns)
-head Rows columns = []
-head Objects columns = []
-head Rejects columns = []
-
--- the lines of a text, each with its line feed; the last one may have none
-abbrev pub lines_of : List ℕ → List (List ℕ)
-lines_of text = records feed text
+abbrev pub table_head : Output → List NamedGroup → List ℕ
+table_head Table columns = row_line (column_names columns)
+table_head Rows columns = []
+table_head Objects columns = []
+table_head Rejects columns = []
 
 -- what is printed of the lines of a text, in order
-abbrev pub printed_lines : Output → LinePattern → List ℕ → List ℕ
-printed_lines output p text = flat_map (shown output p) (lines_of text)
+abbrev pub extracted_lines : Output → LinePattern → List ℕ → List ℕ
+extracted_lines output p text = flat_map (shown_line output p) (lines_of text)
 
 -- what is printed of a text
-abbrev pub printed : Output → LinePattern → List ℕ → List ℕ
-printed output p text = head output (columns_of p) ++ printed_lines output p text
+abbrev pub extracted : Output → LinePattern → List ℕ → List ℕ
+extracted output p text = table_head output (columns_of p) ++ extracted_lines output p text
 
 -- Of a text that is cut after a line feed, the same is printed as of its two parts, one after the other.
 abbrev pub PartsAreJoined : Output → Type 0
 PartsAreJoined output =
     (p : LinePattern) (a b : List ℕ)
-    → printed output p (a ++ feed ∷ [] ++ b) ≡ printed output p (a ++ feed ∷ []) ++ printed output p b
+    → extracted output p (a ++ line_feed ∷ [] ++ b) ≡ extracted output p (a ++ line_feed ∷ []) ++ extracted output p b

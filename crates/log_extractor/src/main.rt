@@ -2,8 +2,6 @@
 #![tactic(auto)]
 
 mod command;
-mod failure;
-mod line;
 mod object;
 mod output;
 mod parser;
@@ -12,14 +10,16 @@ mod report;
 mod row;
 
 use crate::command::{Arguments, Command, parse};
-use crate::failure::Failure;
 use crate::parser::Parser;
 use crate::pattern::PatternError;
 use anyhow::Result;
+use clap::Error;
+use clap::error::ErrorKind;
 use std::fmt::Display;
 use std::io::{BufReader, BufWriter, Write};
 use std::process::ExitCode;
 use std::{env, io};
+use text_lines::failure::Failure;
 
 /// The input, the output or memory failed.
 const FAILED: u8 = 1;
@@ -41,10 +41,18 @@ fn answer(rt: &HostRuntime) -> Result<ExitCode> {
     match parse(alloc, &words)? {
         Command::Extract(arguments) => extract(rt, arguments),
         Command::Say(error) => {
-            let code = if error.use_stderr() { MISUSED } else { 0 };
             error.print(rt)?;
-            Ok(ExitCode::from(code))
+            Ok(ExitCode::from(status_of(&error)))
         }
+    }
+}
+
+/// The status after an error of the arguments was printed.
+fn status_of(error: &Error) -> u8 {
+    match error.kind() {
+        ErrorKind::DisplayHelp => 0,
+        ErrorKind::OutOfMemory => FAILED,
+        _ => MISUSED,
     }
 }
 

@@ -1,7 +1,7 @@
 //! Rows as JSON objects.
 ghost use Rattle.std.specs.Prelude.{◌≡◌, ◌∷◌, ◌++◌, OnOk, flat_map, map, option_map, string_bytes};
 ghost use Rattle.json.specs.Print.{quoted};
-ghost use Rattle.log_extractor.specs.Fields.{group_of, texts};
+ghost use Rattle.log_extractor.specs.Fields.{group_of, fields_now};
 ghost use Rattle.log_extractor.specs.Printed.{member_text, members, object_line, separated};
 
 use crate::pattern::Column;
@@ -17,7 +17,7 @@ pub fn append_object(
     out: &mut Vec<u8>,
 ) -> Result<(), AllocError>
     ensures { OnOk result (out.new.items
-        ≡ out.old.items ++ object_line (map group_of columns.now) (texts fields.now)) }
+        ≡ out.old.items ++ object_line (map group_of columns.now) (fields_now fields.now)) }
 {
     out.push(b'{')?;
     append_members(alloc, columns, fields, out)?;
@@ -34,7 +34,7 @@ fn append_members(
     out: &mut Vec<u8>,
 ) -> Result<(), AllocError>
     ensures { OnOk result (out.new.items
-        ≡ out.old.items ++ separated 44 (members (map group_of columns.now) (texts fields.now))) }
+        ≡ out.old.items ++ separated 44 (members (map group_of columns.now) (fields_now fields.now))) }
 {
     let [column, columns @ ..] = columns else {
         return Ok(());
@@ -55,7 +55,7 @@ fn append_more_members(
     out: &mut Vec<u8>,
 ) -> Result<(), AllocError>
     ensures { OnOk result (out.new.items
-        ≡ out.old.items ++ flat_map (λ m. 44 ∷ m) (members (map group_of columns.now) (texts fields.now))) }
+        ≡ out.old.items ++ flat_map (λ m. 44 ∷ m) (members (map group_of columns.now) (fields_now fields.now))) }
 {
     for (column, field) in columns.iter().zip(fields) {
         out.push(b',')?;

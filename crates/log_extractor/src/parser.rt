@@ -3,7 +3,7 @@ ghost use Rattle.std.specs.Prelude.{◌≡◌, IfOk, map, option_map};
 ghost use Rattle.regex_search_core.specs.Search.{whole};
 ghost use Rattle.regex_search_core.specs.Slots.{group_span};
 ghost use Rattle.nfa_engines.specs.Spans.{SpansInside};
-ghost use Rattle.log_extractor.specs.Fields.{cut, texts};
+ghost use Rattle.log_extractor.specs.Fields.{cut, fields_now};
 
 use crate::pattern::{Column, PatternError, columns, compile};
 use nfa_compiler::laws;
@@ -45,15 +45,15 @@ impl<'p> Model for Parser<'p> {
 
 impl<'p> Parser<'p> {
     ghost use Rattle.std.specs.Prelude.{◌≢◌, [], IfErr, OnOk};
-    ghost use Rattle.log_extractor.specs.Fields.{IsMistakeIn, IsPatternOf, LinePattern, columns_of, group_of, row};
+    ghost use Rattle.log_extractor.specs.Fields.{IsPatternMistake, IsLinePattern, LinePattern, columns_of, group_of, row};
 
     /// Makes a parser of lines of this pattern. Its columns are the named groups, in the order of their numbers.
     ///
     /// Fails if the text is not a pattern, if the pattern is too large or has no named group, or if allocation fails.
     pub fn new(alloc: Global, pattern: &'p str) -> Result<Parser<'p>, PatternError>
         ensures pattern { IfOk result (λ parser. parser ≡ pattern.now) }
-        ensures columns { OnOk result ((p : LinePattern) → IsPatternOf pattern.now p → columns_of p ≢ []) }
-        ensures mistake { IfErr result (IsMistakeIn pattern.now) }
+        ensures columns { OnOk result ((p : LinePattern) → IsLinePattern pattern.now p → columns_of p ≢ []) }
+        ensures mistake { IfErr result (IsPatternMistake pattern.now) }
     {
         laws::groups_are_those_of_texts();
         let nfa = compile(alloc, pattern)?;
@@ -82,7 +82,7 @@ impl<'p> Parser<'p> {
 
     /// Returns the columns.
     pub fn columns(&self) -> &[Column]
-        ensures { (p : LinePattern) → IsPatternOf self.now p → map group_of result.now ≡ columns_of p }
+        ensures { (p : LinePattern) → IsLinePattern self.now p → map group_of result.now ≡ columns_of p }
     {
         laws::groups_are_those_of_texts();
         &self.columns
@@ -95,8 +95,8 @@ impl<'p> Parser<'p> {
         &mut self,
         line: &'l [u8],
     ) -> Result<Option<Vec<Option<&'l [u8]>>>, AllocError>
-        ensures fields { IfOk result (λ found. (p : LinePattern) → IsPatternOf self.old p
-            → option_map (λ fields. texts fields.items) found ≡ row p line.now) }
+        ensures fields { IfOk result (λ found. (p : LinePattern) → IsLinePattern self.old p
+            → option_map (λ fields. fields_now fields.items) found ≡ row p line.now) }
         ensures kept { self.new ≡ self.old }
     {
         laws::searches_find_texts();
@@ -119,7 +119,7 @@ fn cut_fields<'l>(
     columns: &[Column],
 ) -> Result<Vec<Option<&'l [u8]>>, AllocError>
     requires { SpansInside (whole line.now) captures.now }
-    ensures { IfOk result (λ fields. texts fields.items
+    ensures { IfOk result (λ fields. fields_now fields.items
         ≡ map (λ column. cut line.now (group_span captures.now column.group)) columns.now) }
 {
     let mut fields = Vec::with_capacity(alloc, columns.len())?;

@@ -3,7 +3,7 @@ ghost use Rattle.std.specs.Prelude.{◌≡◌, ◌∷◌, ◌++◌, [], IfErr, I
 ghost use Rattle.nfa_engines.specs.Paths.{is_utf8_empty};
 ghost use Rattle.nfa_compiler.specs.Compiled.{IsCompiled};
 ghost use Rattle.nfa_compiler.specs.NameLaws.{IsNamed};
-ghost use Rattle.log_extractor.specs.Fields.{IsMistakeIn, columns_in, group_of, line_syntax, named_groups};
+ghost use Rattle.log_extractor.specs.Fields.{IsPatternMistake, columns_in, group_of, line_syntax, named_groups};
 
 use nfa_compiler::{CompileError, Compiler, Config, Syntax};
 use nfa_engines::error::SearchError;
@@ -66,7 +66,7 @@ pub fn compile(alloc: Global, text: &str) -> Result<NFA, PatternError>
     ensures compiled { IfOk result (IsCompiled line_syntax (text.now ∷ [])) }
     ensures anchored { IfOk result (λ nfa. nfa.anchored ≡ nfa.unanchored) }
     ensures anywhere { IfOk result (λ nfa. is_utf8_empty nfa ≡ false) }
-    ensures mistake { IfErr result (IsMistakeIn text.now) }
+    ensures mistake { IfErr result (IsPatternMistake text.now) }
 {
     let config = Config::new().utf8(false).anchored(true);
     match Compiler::new().configure(config).build(alloc, text) {
@@ -80,7 +80,7 @@ pub fn compile(alloc: Global, text: &str) -> Result<NFA, PatternError>
 pub fn columns(alloc: Global, text: &str) -> Result<Vec<Column>, PatternError>
     ensures read { IfOk result (λ columns. (names : List (Option (List ℕ))) → IsNamed line_syntax text.now names
         → map group_of columns.items ≡ columns_in names) }
-    ensures mistake { IfErr result (IsMistakeIn text.now) }
+    ensures mistake { IfErr result (IsPatternMistake text.now) }
 {
     let syntax = Syntax {
         utf8: false,

@@ -1,14 +1,12 @@
 //! What is printed of an input, line by line.
 ghost use Rattle.std.specs.Prelude.{◌≡◌, ◌++◌, OnOk, map, option_map};
 ghost use Rattle.std.specs.Io.KnownBytes.{Appends};
-ghost use Rattle.log_extractor.specs.Fields.{IsPatternOf, LinePattern, columns_of, group_of, texts};
+ghost use Rattle.log_extractor.specs.Fields.{IsLinePattern, LinePattern, columns_of, group_of, fields_now};
 ghost use Rattle.log_extractor.specs.Going.{Writes};
-ghost use Rattle.log_extractor.specs.Printed.{PartsAreJoined, head, printed, printed_lines};
-ghost use Rattle.log_extractor.specs.Printed.{shown, shown_as, shown_fields, shown_reject};
+ghost use Rattle.log_extractor.specs.Printed.{PartsAreJoined, table_head, extracted, extracted_lines};
+ghost use Rattle.log_extractor.specs.Printed.{shown_line, shown_as, shown_fields, shown_reject};
 ghost use Rattle.log_extractor.specs.declared.output.Output.TheVariants as output;
 
-use crate::failure::Failure;
-use crate::line::{append_whole, content};
 use crate::object::append_object;
 use crate::output::Output;
 use crate::parser::Parser;
@@ -16,6 +14,9 @@ use crate::pattern::Column;
 use crate::row::{append_names, append_row};
 use std::alloc::{AllocError, Global};
 use std::io::{BufRead, Write};
+use text_lines::failure::Failure;
+use text_lines::line::{append_whole, content};
+use text_lines::stream::{read_line, write_bytes};
 
 /// Prints what is to be printed of an input.
 ///
@@ -28,7 +29,7 @@ pub fn run<R: BufRead, W: Write>(
     input: &mut R,
     out: &mut W,
 ) -> Result<(), Failure>
-    ensures printed { OnOk result (Writes (printed output) parser.old (R.remaining input.old) (W.contents out.old)
+    ensures printed { OnOk result (Writes (extracted output) parser.old (R.remaining input.old) (W.contents out.old)
         (W.contents out.new)) }
     ensures kept { parser.new ≡ parser.old }
 {
@@ -52,20 +53,17 @@ fn print_head<W: Write>(
     output: Output,
     out: &mut W,
 ) -> Result<(), Failure>
-    ensures { OnOk result ((p : LinePattern) → IsPatternOf parser.now p
-        → Appends (W.contents out.old) (W.contents out.new) (head output (columns_of p))) }
+    ensures { OnOk result ((p : LinePattern) → IsLinePattern parser.now p
+        → Appends (W.contents out.old) (W.contents out.new) (table_head output (columns_of p))) }
 {
-    let mut shown = Vec::new(alloc);
-    append_head(output, parser.columns(), &mut shown)?;
-    match out.write_all(&shown) {
-        Ok(()) => Ok(()),
-        Err(error) => Err(Failure::Write(error)),
-    }
+    let mut names = Vec::new(alloc);
+    append_head(output, parser.columns(), &mut names)?;
+    write_bytes(out, &names)
 }
 
 /// Appends what comes before the lines.
 fn append_head(output: Output, columns: &[Column], out: &mut Vec<u8>) -> Result<(), AllocError>
-    ensures { OnOk result (out.new.items ≡ out.old.items ++ head output (map group_of columns.now)) }
+    ensures { OnOk result (out.new.items ≡ out.old.items ++ table_head output (map group_of columns.now)) }
 {
     match output {
         Output::Table => append_names(columns, out),
@@ -83,24 +81,21 @@ fn print_lines<R: BufRead, W: Write>(
     input: &mut R,
     out: &mut W,
 ) -> Result<(), Failure>
-    ensures printed { OnOk result (Writes (printed_lines output) parser.old (R.remaining input.old) (W.contents out.old)
+    ensures printed { OnOk result (Writes (extracted_lines output) parser.old (R.remaining input.old) (W.contents out.old)
         (W.contents out.new)) }
     ensures kept { parser.new ≡ parser.old }
 {
     let mut line = Vec::new(alloc);
     let mut shown = Vec::new(alloc);
-    for _ in 0..u64::MAX {
-        line.clear();
+    for before in 0..u64::MAX {
         shown.clear();
-        match input.read_until(b'\n', &mut line) {
-            Ok(0) => return Ok(()),
-            Ok(_) => {}
-            Err(error) => return Err(Failure::Read(error)),
+        if !read_line(input, before + 1, &mut line)? {
+            return Ok(());
         }
-        append_line(alloc, parser, output, &line, &mut shown)?;
-        if let Err(error) = out.write_all(&shown) {
-            return Err(Failure::Write(error));
-        }
+        let Ok(()) = append_line(alloc, parser, output, &line, &mut shown) else {
+            return Err(Failure::Line(before + 1));
+        };
+        write_bytes(out, &shown)?;
     }
     Err(Failure::TooLong)
 }
@@ -113,8 +108,8 @@ fn append_line(
     line: &[u8],
     out: &mut Vec<u8>,
 ) -> Result<(), AllocError>
-    ensures shown { OnOk result ((p : LinePattern) → IsPatternOf parser.old p
-        → out.new.items ≡ out.old.items ++ shown output p line.now) }
+    ensures shown { OnOk result ((p : LinePattern) → IsLinePattern parser.old p
+        → out.new.items ≡ out.old.items ++ shown_line output p line.now) }
     ensures kept { parser.new ≡ parser.old }
 {
     let row = parser.parse_line(content(line))?;
@@ -132,7 +127,7 @@ fn append_shown(
     out: &mut Vec<u8>,
 ) -> Result<(), AllocError>
     ensures { OnOk result (out.new.items ≡ out.old.items ++ shown_as output (map group_of columns.now) line.now
-        (option_map (λ fields. texts fields.items) row.now)) }
+        (option_map (λ fields. fields_now fields.items) row.now)) }
 {
     match row {
         Some(fields) => append_fields(alloc, output, columns, fields, out),
@@ -149,7 +144,7 @@ fn append_fields(
     out: &mut Vec<u8>,
 ) -> Result<(), AllocError>
     ensures { OnOk result (out.new.items
-        ≡ out.old.items ++ shown_fields output (map group_of columns.now) (texts fields.now)) }
+        ≡ out.old.items ++ shown_fields output (map group_of columns.now) (fields_now fields.now)) }
 {
     match output {
         Output::Table | Output::Rows => append_row(fields, out),

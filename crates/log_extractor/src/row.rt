@@ -1,14 +1,14 @@
 //! Rows as lines with tabs.
 ghost use Rattle.std.specs.Prelude.{◌≡◌, ◌∷◌, ◌++◌, OnOk, flat_map, map, option_map};
-ghost use Rattle.log_extractor.specs.Fields.{group_of, texts};
-ghost use Rattle.log_extractor.specs.Printed.{field_line, names_of, row_line, separated, tab, text_of, texts_of};
+ghost use Rattle.log_extractor.specs.Fields.{group_of, fields_now};
+ghost use Rattle.log_extractor.specs.Printed.{field_line, column_names, row_line, separated, tab, field_text, field_texts};
 
 use crate::pattern::Column;
 use std::alloc::AllocError;
 
 /// Appends a line with the names of the columns.
 pub fn append_names(columns: &[Column], out: &mut Vec<u8>) -> Result<(), AllocError>
-    ensures { OnOk result (out.new.items ≡ out.old.items ++ row_line (names_of (map group_of columns.now))) }
+    ensures { OnOk result (out.new.items ≡ out.old.items ++ row_line (column_names (map group_of columns.now))) }
 {
     append_joined_names(columns, out)?;
     out.push(b'\n')?;
@@ -17,7 +17,7 @@ pub fn append_names(columns: &[Column], out: &mut Vec<u8>) -> Result<(), AllocEr
 
 /// Appends the names of the columns, with tabs between them.
 fn append_joined_names(columns: &[Column], out: &mut Vec<u8>) -> Result<(), AllocError>
-    ensures { OnOk result (out.new.items ≡ out.old.items ++ separated tab (names_of (map group_of columns.now))) }
+    ensures { OnOk result (out.new.items ≡ out.old.items ++ separated tab (column_names (map group_of columns.now))) }
 {
     let [column, columns @ ..] = columns else {
         return Ok(());
@@ -30,7 +30,7 @@ fn append_joined_names(columns: &[Column], out: &mut Vec<u8>) -> Result<(), Allo
 /// Appends the name of each column, with a tab before it.
 fn append_more_names(columns: &[Column], out: &mut Vec<u8>) -> Result<(), AllocError>
     ensures { OnOk result (out.new.items
-        ≡ out.old.items ++ flat_map (λ name. tab ∷ name) (names_of (map group_of columns.now))) }
+        ≡ out.old.items ++ flat_map (λ name. tab ∷ name) (column_names (map group_of columns.now))) }
 {
     for column in columns {
         out.push(b'\t')?;
@@ -41,7 +41,7 @@ fn append_more_names(columns: &[Column], out: &mut Vec<u8>) -> Result<(), AllocE
 
 /// Appends a line with the fields. A field that is `None` is empty.
 pub fn append_row(fields: &[Option<&[u8]>], out: &mut Vec<u8>) -> Result<(), AllocError>
-    ensures { OnOk result (out.new.items ≡ out.old.items ++ field_line (texts fields.now)) }
+    ensures { OnOk result (out.new.items ≡ out.old.items ++ field_line (fields_now fields.now)) }
 {
     append_joined(fields, out)?;
     out.push(b'\n')?;
@@ -50,7 +50,7 @@ pub fn append_row(fields: &[Option<&[u8]>], out: &mut Vec<u8>) -> Result<(), All
 
 /// Appends the fields, with tabs between them.
 fn append_joined(fields: &[Option<&[u8]>], out: &mut Vec<u8>) -> Result<(), AllocError>
-    ensures { OnOk result (out.new.items ≡ out.old.items ++ separated tab (texts_of (texts fields.now))) }
+    ensures { OnOk result (out.new.items ≡ out.old.items ++ separated tab (field_texts (fields_now fields.now))) }
 {
     let [field, fields @ ..] = fields else {
         return Ok(());
@@ -63,7 +63,7 @@ fn append_joined(fields: &[Option<&[u8]>], out: &mut Vec<u8>) -> Result<(), Allo
 /// Appends each field, with a tab before it.
 fn append_more(fields: &[Option<&[u8]>], out: &mut Vec<u8>) -> Result<(), AllocError>
     ensures { OnOk result (out.new.items
-        ≡ out.old.items ++ flat_map (λ text. tab ∷ text) (texts_of (texts fields.now))) }
+        ≡ out.old.items ++ flat_map (λ text. tab ∷ text) (field_texts (fields_now fields.now))) }
 {
     for field in fields {
         out.push(b'\t')?;
@@ -75,7 +75,7 @@ fn append_more(fields: &[Option<&[u8]>], out: &mut Vec<u8>) -> Result<(), AllocE
 /// Appends the text of a field.
 fn append_field(field: Option<&[u8]>, out: &mut Vec<u8>) -> Result<(), AllocError>
     ensures { OnOk result (out.new.items
-        ≡ out.old.items ++ text_of (option_map (λ text. text.now) field.entry)) }
+        ≡ out.old.items ++ field_text (option_map (λ text. text.now) field.entry)) }
 {
     if let Some(text) = field {
         out.extend_from_slice(text)?;

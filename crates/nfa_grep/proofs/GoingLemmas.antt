@@ -3,15 +3,14 @@ use Rattle.std.proofs.Common.{◌≡◌, ◌∙◌, ℕ, ◌+◌, ◌<◌, Bool,
 use Rattle.std.proofs.Common.{refl, sym, ap, subst, arith, append_assoc, append-nil}
 use Rattle.std.specs.Prelude.{Option, None, Some, IfSome, cond}
 use Rattle.std.specs.List.{count_by}
-use Rattle.std.specs.Io.BufRead.{take_through, drop_through, DropsThrough}
-use Rattle.std.specs.Io.KnownBytes.{Appends, IsAtEnd}
-use Rattle.std.proofs.BufReadLemmas.{take_through_nonempty}
+use Rattle.std.specs.Io.KnownBytes.{Appends}
 use Rattle.std.proofs.KnownBytes.{Appends-nil, Appends-trans}
 use Rattle.std.proofs.lemmas.List.Sums.{sum_by-cons}
-use Rattle.bstr.proofs.lemmas.RecordLemmas.{IfSome-at, records-nil, records-step}
+use Rattle.text_lines.specs.Lines.{HasNoLine, TakesLine, lines_of}
+use Rattle.text_lines.proofs.LineLemmas.{first-line, none-left}
 use Rattle.regex_hir.specs.Re.{Re}
 use Rattle.nfa_grep.specs.Going.{HasPrinted, PrintsLines}
-use Rattle.nfa_grep.specs.Printed.{is_selected, line_feed, lines_of, printed, printed_lines, selected_count, shown}
+use Rattle.nfa_grep.specs.Printed.{is_selected, printed, printed_lines, selected_count, shown}
 use Rattle.nfa_grep.specs.declared.options.Options.{Options}
 
 module _ (options : Options) (res : List Re) (label : List ℕ) where
@@ -44,49 +43,38 @@ module _ (options : Options) (res : List Re) (label : List ℕ) where
 
   -- one more line was read, and what is shown of it was written
   pub going-step : (before input after out-before out next : Option (List ℕ)) (number offset count : ℕ) (line : List ℕ)
-      → 0 < length line
-      → IfSome input (λ xs. line ≡ take_through line_feed xs)
-      → DropsThrough input after line_feed
+      → TakesLine input after line
       → Appends out next (shown options res label number offset line)
       → HasPrinted options res label before input out-before out number offset count
       → HasPrinted options res label before after out-before next (number + 1) (offset + length line)
       (cond (is_selected options res line) (count + 1) count)
-  going-step None input after out-before out next number offset count line some takes drops appends going = tt
-  going-step (Some text) input after out-before out next number offset count line some takes drops appends going =
-      let rest = going.rest in
-      let line-is : line ≡ take_through line_feed rest =
-      IfSome-at input rest (λ xs. line ≡ take_through line_feed xs) going.rest_is takes in
-      let left = drop_through line_feed rest in
-      let after-is : after ≡ Some left =
-      IfSome-at input rest (λ xs. after ≡ Some (drop_through line_feed xs)) going.rest_is drops in
-      let nonempty = take_through_nonempty line_feed rest (subst (λ (l : List ℕ). 0 < length l) line-is some) in
-      let lines : lines_of rest ≡ line ∷ lines_of left =
-      records-step line_feed rest nonempty ∙ ap (λ (l : List ℕ). l ∷ lines_of left) (sym line-is) in
+  going-step None input after out-before out next number offset count line takes appends going = tt
+  going-step (Some text) input after out-before out next number offset count line takes appends going =
+      let first = first-line input going.rest going.rest_is after line takes in
       let here = shown options res label number offset line in
-      let later = printed options res label (number + 1) (offset + length line) (lines_of left) in
+      let later = printed options res label (number + 1) (offset + length line) (lines_of first.rest) in
       record {
-        rest = left;
-        rest_is = after-is;
+        rest = first.rest;
+        rest_is = first.left_is;
         written = going.written ++ here;
         writes = Appends-trans out-before out next going.written here going.writes appends;
         printed_is = going.printed_is
-            ∙ ap (λ ls. going.written ++ printed options res label number offset ls) lines
-            ∙ ap (λ l. going.written ++ l) (printed-step number offset line (lines_of left))
+            ∙ ap (λ ls. going.written ++ printed options res label number offset ls) first.lines_are
+            ∙ ap (λ l. going.written ++ l) (printed-step number offset line (lines_of first.rest))
             ∙ sym (append_assoc going.written here later);
-        count_is = count-step (is_selected options res line) _ count (selected_count options res left)
-            (going.count_is ∙ ap (λ (ls : List (List ℕ)). count + count_by (is_selected options res) ls) lines
+        count_is = count-step (is_selected options res line) _ count (selected_count options res first.rest)
+            (going.count_is ∙ ap (λ (ls : List (List ℕ)). count + count_by (is_selected options res) ls) first.lines_are
             ∙ ap (λ (n : ℕ). count + n) (sum_by-cons (λ (l : List ℕ). cond (is_selected options res l) 1 0) line
-            (lines_of left)));
+            (lines_of first.rest)));
       }
 
   -- nothing was left to read
-  pub going-end : (before input out-before out : Option (List ℕ)) (number offset count : ℕ) → IsAtEnd input
+  pub going-end : (before input out-before out : Option (List ℕ)) (number offset count : ℕ) → HasNoLine input
       → HasPrinted options res label before input out-before out number offset count
       → PrintsLines options res label before out-before out count
   going-end None input out-before out number offset count end going = tt
   going-end (Some text) input out-before out number offset count end going =
-      let none : going.rest ≡ [] = subst (λ (o : Option (List ℕ)). IsAtEnd o) going.rest_is end in
-      let lines : lines_of going.rest ≡ [] = ap (λ l. lines_of l) none ∙ records-nil line_feed in
+      let lines : lines_of going.rest ≡ [] = none-left input going.rest going.rest_is end in
       let all : printed_lines options res label text ≡ going.written =
       going.printed_is ∙ ap (λ ls. going.written ++ printed options res label number offset ls) lines
       ∙ ap (λ l. going.written ++ l) (printed-nil number offset) ∙ append-nil going.written in

@@ -9,7 +9,8 @@ use Rattle.regex_hir.specs.Re.{Re}
 use Rattle.regex_search_core.specs.Found.{Found, found_of}
 use Rattle.regex_search_core.specs.declared.search.Match.{Match}
 use Rattle.nfa_grep.specs.Meant.{all_found, is_found}
-use Rattle.nfa_grep.specs.Printed.{comma, content, mark_of, pieces, shown}
+use Rattle.text_lines.specs.Lines.{content}
+use Rattle.nfa_grep.specs.Printed.{comma, mark_of, pieces, shown}
 use Rattle.nfa_grep.specs.declared.options.Options.{Options}
 use Rattle.nfa_grep.proofs.MeantLemmas.{all-none}
 

@@ -2,7 +2,8 @@
 use Rattle.std.specs.Prelude.{◌≡◌, ℕ, ◌+◌, List, ◌++◌, Option, Some, IfSome}
 use Rattle.std.specs.Io.KnownBytes.{Appends}
 use Rattle.regex_hir.specs.Re.{Re}
-use Rattle.nfa_grep.specs.Printed.{lines_of, output, printed, printed_lines, selected_count}
+use Rattle.text_lines.specs.Lines.{lines_of}
+use Rattle.nfa_grep.specs.Printed.{output, printed, printed_lines, selected_count}
 use Rattle.nfa_grep.specs.declared.options.Options.{Options}
 
 module _ (options : Options) (res : List Re) (label : List ℕ) where

@@ -2,34 +2,18 @@
 use Rattle.std.specs.Prelude.{ℕ, ◌+◌, Bool, not, ◌||◌, List, [], ◌∷◌, ◌++◌, length, map, decimal}
 use Rattle.std.specs.Prelude.{if◌then◌else◌, ◌==◌, slice_range}
 use Rattle.std.specs.List.{count_by, flat_map, join_with_byte}
-use Rattle.std.specs.Io.BufRead.{ends_with_byte, strip_last}
 use Rattle.regex_hir.specs.Re.{Re}
 use Rattle.regex_search_core.specs.Found.{Found}
-use Rattle.bstr.specs.Records.{records}
+use Rattle.text_lines.specs.Lines.{content, line_feed, lines_of, with_feed}
 use Rattle.nfa_grep.specs.Meant.{all_found, is_found, numbers_found}
 use Rattle.nfa_grep.specs.declared.options.Options.{Options}
 
--- the line feed, the carriage return, the colon and the comma
-abbrev pub line_feed : ℕ
-line_feed = 10
-
-abbrev pub carriage_return : ℕ
-carriage_return = 13
-
+-- the colon and the comma
 abbrev pub colon : ℕ
 colon = 58
 
 abbrev pub comma : ℕ
 comma = 44
-
--- what is searched of a line: all but the line feed at its end and a carriage return before that line feed
-abbrev pub content : List ℕ → List ℕ
-content line =
-    if ends_with_byte line_feed line then strip_last carriage_return (strip_last line_feed line) else line
-
--- the line, with a line feed at its end
-abbrev pub with_feed : List ℕ → List ℕ
-with_feed line = if ends_with_byte line_feed line then line else (line ++ line_feed ∷ [])
 
 -- the number and a colon, if it is wanted
 abbrev pub numbered : Bool → ℕ → List ℕ
@@ -82,10 +66,6 @@ unfoldable pub printed : Options → List Re → List ℕ → ℕ → ℕ → Li
 printed options res label number offset [] = []
 printed options res label number offset (line ∷ lines) =
     shown options res label number offset line ++ printed options res label (number + 1) (offset + length line) lines
-
--- the lines of a text, each with its line feed; the last one may have none
-abbrev pub lines_of : List ℕ → List (List ℕ)
-lines_of text = records line_feed text
 
 -- how many lines of a text are selected
 abbrev pub selected_count : Options → List Re → List ℕ → ℕ

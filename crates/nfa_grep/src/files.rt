@@ -1,25 +1,25 @@
 //! The search of all files that the arguments name.
 use crate::command::Arguments;
-use crate::failure::Failure;
 use crate::grep::Grep;
 use crate::search::print_matches;
 use anyhow::Result;
 use std::alloc::{AllocError, Global};
 use std::io::{BufReader, BufWriter, Write};
 use std::{fs, io};
+use text_lines::failure::Failure;
 
 /// What the search of all inputs came to.
 #[derive(Clone, Copy, Debug, PartialEq, Eq)]
 pub struct Outcome {
     /// Some line was selected.
     pub selected: bool,
-    /// Some input could not be read.
+    /// Some input was not searched to its end.
     pub failed: bool,
 }
 
-/// Searches the inputs that the arguments name, in order. An input that cannot be read is named on standard error, and
-/// the search goes on with the next one. The error is one that ends the search: of a pattern, of the output, or of
-/// memory.
+/// Searches the inputs that the arguments name, in order. An input that cannot be read, or that has a line for which
+/// there is no memory, is named on standard error, and the search goes on with the next one. The error is one that ends
+/// the search: of a pattern, of the output, or of memory.
 pub fn run(rt: &HostRuntime, arguments: &Arguments<'_>) -> Result<Outcome> {
     let mut grep = Grep::new(rt.alloc(), &arguments.patterns, arguments.options)?;
     search_all(rt, &mut grep, &arguments.files)
@@ -53,13 +53,15 @@ fn search_each<W: Write>(
     for name in names {
         match search_named(rt, grep, name, names.len() > 1, out) {
             Ok(count) => outcome.selected |= count > 0,
-            Err(Failure::Read(error)) => {
+            Err(error) => {
+                if !error.is_of_input() {
+                    return Err(error);
+                }
                 outcome.failed = true;
                 // The status says so even if the line cannot be written.
                 let shown = shown_name(name);
                 let _ = eprintln!(rt; "nfa_grep: {shown}: {error}");
             }
-            Err(error) => return Err(error),
         }
     }
     Ok(outcome)

@@ -3,12 +3,12 @@ ghost use Rattle.std.specs.Prelude.{◌≡◌, ◌≤◌, ◌<◌, ◌+◌, ◌^
 ghost use Rattle.regex_hir.specs.Re.{Re};
 ghost use Rattle.regex_search_core.specs.Found.{found_of};
 ghost use Rattle.regex_search_core.specs.Search.{whole};
-ghost use Rattle.nfa_choice.specs.Choosing.{KeepsEngines, kind_in};
-ghost use Rattle.nfa_engines.specs.Lists.{AreMatches, IsInside};
+ghost use Rattle.nfa_engines.specs.Lists.{IsInside};
 ghost use Rattle.nfa_grep.specs.Meant.{Mean, all_found, is_found};
-ghost use Rattle.nfa_grep.specs.Printed.{content, head, is_selected, mark_of, piece, pieces, shown, with_feed};
+ghost use Rattle.nfa_grep.specs.Printed.{head, is_selected, mark_of, piece, pieces, shown};
+ghost use Rattle.text_lines.specs.Lines.{content, with_feed};
 
-use crate::line::{Place, append_head, append_whole, content};
+use crate::line::{Place, append_head};
 use crate::options::Options;
 use crate::which::Which;
 use anyhow::Result;
@@ -18,6 +18,7 @@ use nfa_engines::{backtrack, pikevm};
 use regex_search_core::{Input, Match};
 use std::alloc::{AllocError, Global};
 use std::marker::Model;
+use text_lines::line::{append_whole, content};
 
 /// What is searched for in each line, and what is printed of a line that is selected. It owns the engine, and a second
 /// one that finds the numbers of the patterns that match, if they are wanted.
@@ -112,7 +113,9 @@ impl<'p> Grep<'p> {
         ensures kept { self.new ≡ self.old }
     {
         laws::iterations_find_texts();
-        let matches = all_matches(self.alloc, &mut self.choice, text)?;
+        let Ok(matches) = self.choice.find_all(self.alloc, Input::new(text)) else {
+            return Err(AllocError);
+        };
         Ok(matches)
     }
 
@@ -199,20 +202,6 @@ impl<'p> Grep<'p> {
         }
         Ok(mark)
     }
-}
-
-/// Returns all matches of a search of the text, from left to right.
-fn all_matches(alloc: Global, choice: &mut Choice, text: &[u8]) -> Result<Vec<Match>, AllocError>
-    ensures all { IfOk result (λ found.
-        AreMatches choice.old.nfa (kind_in choice.old) false (whole text.now) (map found_of found.items)) }
-    ensures inside { IfOk result (λ found. All (λ m. IsInside (whole text.now) (found_of m)) found.items) }
-    ensures kept { KeepsEngines choice.old choice.new }
-{
-    let mut matches = Vec::new(alloc);
-    for found in choice.find_iter(Input::new(text)) {
-        matches.push(found)?;
-    }
-    Ok(matches)
 }
 
 /// Appends each match that is not empty as a line of its own.

@@ -2,7 +2,6 @@
 #![tactic(auto)]
 
 mod command;
-mod failure;
 mod files;
 mod grep;
 mod line;

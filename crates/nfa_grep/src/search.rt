@@ -4,11 +4,12 @@ ghost use Rattle.regex_hir.specs.Re.{Re};
 ghost use Rattle.nfa_grep.specs.Going.{PrintsLines, PrintsOutput};
 ghost use Rattle.nfa_grep.specs.Meant.{Mean};
 
-use crate::failure::Failure;
 use crate::grep::Grep;
 use crate::line::{Place, append_count};
 use std::alloc::Global;
 use std::io::{BufRead, Write};
+use text_lines::failure::Failure;
+use text_lines::stream::{read_line, write_bytes};
 
 /// Prints all that is to be printed of an input, and returns how many of its lines are selected.
 pub fn print_matches<R: BufRead, W: Write>(
@@ -24,14 +25,12 @@ pub fn print_matches<R: BufRead, W: Write>(
     ensures kept { grep.new ≡ grep.old }
 {
     let count = search(alloc, grep, label, input, out)?;
-    let mut shown = Vec::new(alloc);
+    let mut total = Vec::new(alloc);
     if grep.options().count {
-        append_count(label, count, &mut shown)?;
+        append_count(label, count, &mut total)?;
     }
-    match out.write_all(&shown) {
-        Ok(()) => Ok(count),
-        Err(error) => Err(Failure::Write(error)),
-    }
+    write_bytes(out, &total)?;
+    Ok(count)
 }
 
 /// Prints what is to be printed of the lines of an input, and returns how many of its lines are selected.
@@ -55,12 +54,9 @@ fn search<R: BufRead, W: Write>(
     let mut count = 0;
     let mut offset = 0u64;
     for before in 0..u64::MAX {
-        line.clear();
         shown.clear();
-        match input.read_until(b'\n', &mut line) {
-            Ok(0) => return Ok(count),
-            Ok(_) => {}
-            Err(error) => return Err(Failure::Read(error)),
+        if !read_line(input, before + 1, &mut line)? {
+            return Ok(count);
         }
         let Some(next) = offset.checked_add(line.len() as u64) else {
             return Err(Failure::TooLong);
@@ -70,12 +66,13 @@ fn search<R: BufRead, W: Write>(
             number: before + 1,
             offset,
         };
-        if grep.append_line(place, &line, &mut shown)? {
+        let Ok(selected) = grep.append_line(place, &line, &mut shown) else {
+            return Err(Failure::Line(before + 1));
+        };
+        if selected {
             count += 1;
         }
-        if let Err(error) = out.write_all(&shown) {
-            return Err(Failure::Write(error));
-        }
+        write_bytes(out, &shown)?;
         offset = next;
     }
     Err(Failure::TooLong)

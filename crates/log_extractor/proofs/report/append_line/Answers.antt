@@ -1,12 +1,12 @@
 -- The row is that of the line.
 use Rattle.std.proofs.Common.{◌∙◌, ◌++◌, ℕ, List, ap, ap₂, subst, sym}
-use Rattle.log_extractor.specs.Fields.{IsPatternOf, row}
+use Rattle.log_extractor.specs.Fields.{IsLinePattern, row}
 use Rattle.log_extractor.specs.Printed.{shown_as}
 use Rattle.log_extractor.proofs.report.append_line.Goals as goal
 
 pub returns-clause-shown : goal.returns-clause-shown
 returns-clause-shown c = λ p is.
-    let here = subst (λ (text : List ℕ). IsPatternOf text p) (sym c.in_ok-row.ensures.kept) is in
+    let here = subst (λ (text : List ℕ). IsLinePattern text p) (sym c.in_ok-row.ensures.kept) is in
     c.in_ok-append_shown.ensures
     ∙ ap₂ (λ cs r. c.args.out.now.items ++ shown_as c.args.output cs c.args.line.now r) (c.columns.ensures p here)
     (c.in_ok-row.ensures.fields p is ∙ ap (row p) c.content.ensures)

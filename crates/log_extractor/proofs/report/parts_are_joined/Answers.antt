@@ -1,6 +1,6 @@
 -- The lines of the text are those of its parts.
 use Rattle.log_extractor.specs.declared.output.Output.TheVariants as output
-use Rattle.log_extractor.proofs.LineLemmas.{printed-joined}
+use Rattle.log_extractor.proofs.GoingLemmas.{printed-joined}
 use Rattle.log_extractor.proofs.report.parts_are_joined.Goals as goal
 
 pub returns-clause-rows : goal.returns-clause-rows

@@ -1,12 +1,12 @@
 -- The lines so far were printed.
 use Rattle.std.proofs.Common.{◌≡◌}
-use Rattle.log_extractor.specs.Fields.{IsPatternOf, LinePattern}
+use Rattle.log_extractor.specs.Fields.{IsLinePattern, LinePattern}
 use Rattle.log_extractor.specs.Going.{HasWritten}
 use Rattle.log_extractor.proofs.report.print_lines.Given as goal
 
-abbrev pub invariant-loop : goal.invariant-loop
-invariant-loop g l = record {
-  printed : (p : LinePattern) → IsPatternOf l.fn.parser p
+abbrev pub invariant-loop-before : goal.invariant-loop-before
+invariant-loop-before g l = record {
+  printed : (p : LinePattern) → IsLinePattern l.fn.parser p
       → HasWritten l.output p (g.R.Read.remaining l.fn.input) (g.R.Read.remaining l.input)
       (g.W.Write.contents l.fn.out) (g.W.Write.contents l.out);
   kept : l.parser ≡ l.fn.parser;

@@ -1,13 +1,13 @@
 -- The groups have the names that the grammar reads in the text.
 use Rattle.std.proofs.Common.{◌∙◌, ℕ, List, [], ◌∷◌, ap, map, subst, sym}
 use Rattle.regex_search_core.specs.Groups.{groups_at}
-use Rattle.log_extractor.specs.Fields.{IsPatternOf, group_of, line_syntax, named_groups}
+use Rattle.log_extractor.specs.Fields.{IsLinePattern, group_of, line_syntax, named_groups}
 use Rattle.log_extractor.proofs.parser.Parser.columns.Goals as goal
 
 pub returns : goal.returns
 returns c = λ p is.
     let inv = c.self.invariant in
-    let inside = subst (λ (text : List ℕ). IsPatternOf text p) (sym c.self.view_is) is in
+    let inside = subst (λ (text : List ℕ). IsLinePattern text p) (sym c.self.view_is) is in
     let groups = c.groups_are_those_of_texts.ensures.names line_syntax _ (p.names ∷ []) c.self.inside.vm.nfa inv.0
     (inside.names, tt) in
     ap (map group_of) c.deref.ensures.value ∙ inv.7

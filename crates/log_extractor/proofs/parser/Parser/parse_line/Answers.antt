@@ -7,7 +7,7 @@ use Rattle.regex_search_core.specs.Slots.{group_span}
 use Rattle.nfa_compiler.specs.Laws.{hit}
 use Rattle.nfa_compiler.specs.Patterns.{slots_of}
 use Rattle.nfa_compiler.proofs.CallLemmas.{bytes-of}
-use Rattle.log_extractor.specs.Fields.{IsPatternOf, NamedGroup, cut, group_of, line_syntax, named_groups}
+use Rattle.log_extractor.specs.Fields.{IsLinePattern, NamedGroup, cut, group_of, line_syntax, named_groups}
 use Rattle.log_extractor.proofs.FieldLemmas.{of-groups, row-none, row-some}
 use Rattle.log_extractor.proofs.parser.Parser.parse_line.Goals as goal
 
@@ -17,7 +17,7 @@ returns-then-not-is_match-clause-fields c = λ p is.
     let inv = c.self.invariant in
     let nfa = c.self.inside.vm.nfa in
     let bytes = bytes-of line (λ k. omega (arith, c.type_inv.line k)) in
-    let inside = subst (λ (text : List ℕ). IsPatternOf text p) (sym c.self.view_is) is in
+    let inside = subst (λ (text : List ℕ). IsLinePattern text p) (sym c.self.view_is) is in
     let groups = c.groups_are_those_of_texts.ensures.names line_syntax _ (p.names ∷ []) nfa inv.0 (inside.names, tt) in
     let hits = c.searches_find_texts.ensures.answers line_syntax _ (p.tree ∷ []) nfa _ _ (whole line) _ _ inv.0
     (inside.tree, tt) inv.1
@@ -35,7 +35,7 @@ returns-clause-fields c = λ p is.
     let nfa = c.self.inside.vm.nfa in
     let captures = c.search.new.captures in
     let bytes = bytes-of line (λ k. omega (arith, c.type_inv.line k)) in
-    let inside = subst (λ (text : List ℕ). IsPatternOf text p) (sym c.self.view_is) is in
+    let inside = subst (λ (text : List ℕ). IsLinePattern text p) (sym c.self.view_is) is in
     let groups = c.groups_are_those_of_texts.ensures.names line_syntax _ (p.names ∷ []) nfa inv.0 (inside.names, tt) in
     let hits = c.searches_find_texts.ensures.answers line_syntax _ (p.tree ∷ []) nfa _ _ (whole line) _ _ inv.0
     (inside.tree, tt) inv.1

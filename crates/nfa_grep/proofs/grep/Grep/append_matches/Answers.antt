@@ -1,7 +1,7 @@
 -- The line is selected exactly if there are matches.
 use Rattle.std.proofs.Common.{rules, ◌≡◌, false, length, true}
 use Rattle.std.specs.Prelude.{nat_lt}
-use Rattle.nfa_grep.specs.Printed.{content}
+use Rattle.text_lines.specs.Lines.{content}
 use Rattle.nfa_grep.proofs.MeantLemmas.{found-if-any}
 use Rattle.nfa_grep.proofs.grep.Grep.append_matches.Goals as goal
 

@@ -1,7 +1,7 @@
 -- The law, of these matches.
-use Rattle.std.proofs.Common.{arith, map, refl, subst, sym}
+use Rattle.std.proofs.Common.{ap, arith, map, refl, subst, sym}
 use Rattle.regex_search_core.specs.Found.{found_of}
-use Rattle.regex_search_core.specs.Search.{whole}
+use Rattle.regex_search_core.specs.Search.{Search, whole}
 use Rattle.nfa_compiler.proofs.CallLemmas.{bytes-of}
 use Rattle.nfa_grep.specs.Meant.{Grepping, Mean}
 use Rattle.nfa_grep.proofs.MeantLemmas.{found-of-hits}
@@ -13,7 +13,10 @@ returns-clause-all c = λ res meant.
     let bytes = bytes-of text (λ k. omega (arith, c.type_inv.text k)) in
     let inv = c.self.invariant in
     let meant-inside = subst (λ (g : Grepping). Mean g.patterns res) (sym c.self.view_is) meant in
-    found-of-hits res c.self.inside.choice.nfa text inv.2 (map found_of c.in_ok-matches.matches.items)
+    found-of-hits res c.self.inside.choice.nfa text inv.2 (map found_of c.in-Ok.matches.items)
     (c.iterations_find_texts.ensures.matches _ _ res c.self.inside.choice.nfa _ _ (whole text) _ inv.0
-    meant-inside inv.1 (record { leftmost = rw inv.3 refl; latest = refl; whole = refl }) bytes
-    c.in_ok-matches.ensures.all)
+    meant-inside inv.1 (record {
+      leftmost = rw inv.3 refl;
+      latest = ap (λ (s : Search). s.earliest) c.new.ensures;
+      whole = refl;
+    }) bytes (rw c.new.ensures at c.in-Ok.ensures.all))

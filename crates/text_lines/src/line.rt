@@ -1,7 +1,7 @@
-//! Parts of a line.
+//! A line and its end.
 ghost use Rattle.std.specs.Prelude.{◌≡◌, ◌++◌, OnOk};
 ghost use Rattle.std.specs.Io.BufRead.{ends_with_byte, strip_last};
-ghost use Rattle.log_extractor.specs.Printed.{content, with_feed};
+ghost use Rattle.text_lines.specs.Lines.{content, with_feed};
 
 use std::alloc::AllocError;
 
@@ -23,8 +23,8 @@ fn without_last(line: &[u8], byte: u8) -> &[u8]
     }
 }
 
-/// Returns what is matched of a line: the line without the line feed at its end, and without a carriage return before
-/// that line feed.
+/// Returns the line without its end: without the line feed at its end, and without a carriage return before that line
+/// feed.
 pub fn content(line: &[u8]) -> &[u8]
     ensures { result.now ≡ content line.now }
 {

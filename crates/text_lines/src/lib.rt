@@ -1,0 +1,6 @@
+//! Lines of a text, for programs that read an input line by line and print something of each line.
+#![tactic(auto)]
+
+pub mod failure;
+pub mod line;
+pub mod stream;

@@ -1,0 +1,37 @@
+//! Reading an input line by line, and writing.
+ghost use Rattle.std.specs.Prelude.{◌≡◌, IfOk, OnOk, false, true};
+ghost use Rattle.std.specs.Io.KnownBytes.{Appends};
+ghost use Rattle.text_lines.specs.Lines.{HasNoLine, TakesLine};
+
+use crate::failure::Failure;
+use std::io::{BufRead, Write};
+
+/// Reads the next line, which is that of this number, and puts it into `line` in place of what was there. The line has
+/// its end. Returns whether there is a line: there is none at the end of the input.
+///
+/// Fails if the input cannot be read, or if there is no memory for the line.
+pub fn read_line<R: BufRead>(
+    input: &mut R,
+    number: u64,
+    line: &mut Vec<u8>,
+) -> Result<bool, Failure>
+    ensures taken { IfOk result (λ read. read ≡ true
+        → TakesLine (R.remaining input.old) (R.remaining input.new) line.new.items) }
+    ensures ended { IfOk result (λ read. read ≡ false → HasNoLine (R.remaining input.old)) }
+{
+    line.clear();
+    match input.read_until(b'\n', line) {
+        Ok(len) => Ok(len > 0),
+        Err(error) => Err(Failure::of_reading(error, number)),
+    }
+}
+
+/// Writes these bytes. Fails if the output cannot be written.
+pub fn write_bytes<W: Write>(out: &mut W, bytes: &[u8]) -> Result<(), Failure>
+    ensures { OnOk result (Appends (W.contents out.old) (W.contents out.new) bytes.now) }
+{
+    match out.write_all(bytes) {
+        Ok(()) => Ok(()),
+        Err(error) => Err(Failure::Write(error)),
+    }
+}
