@@ -37,8 +37,8 @@ impl Marks {
     }
 }
 
-/// Writes the graph: a node for each state, with its number, and the edges from it. Flushes the output at the end. Fails if
-/// the output cannot be written, or if allocation failed.
+/// Writes the graph, a node for each state with its number, and the edges from it, and flushes the output. Fails if the
+/// output cannot be written, or if allocation failed.
 pub fn write_graph<W: Write>(
     alloc: Global,
     out: &mut W,
