@@ -1,7 +1,6 @@
 //! An NFA as a graph in the language of Graphviz.
 use crate::edges::{Edge, edges_of};
 use crate::path::{Path, Step};
-use anyhow::Result;
 use regex_search_core::StateID;
 use std::alloc::Global;
 use std::io;
@@ -38,8 +37,14 @@ impl Marks {
     }
 }
 
-/// Writes the graph: a node for each state, with its number, and the edges from it.
-pub fn write_graph<W: Write>(alloc: Global, out: &mut W, nfa: &NFA, marks: &Marks) -> Result<()> {
+/// Writes the graph, a node for each state with its number, and the edges from it, and flushes the output. Fails if the
+/// output cannot be written, or if allocation failed.
+pub fn write_graph<W: Write>(
+    alloc: Global,
+    out: &mut W,
+    nfa: &NFA,
+    marks: &Marks,
+) -> io::Result<()> {
     out.write_all(b"digraph nfa {\n  rankdir=LR;\n  node [shape=box];\n")?;
     write_title(out, marks)?;
     write_start(out, "anchored", nfa.start_anchored())?;
@@ -49,7 +54,7 @@ pub fn write_graph<W: Write>(alloc: Global, out: &mut W, nfa: &NFA, marks: &Mark
         write_edges(out, number, &edges_of(alloc, state)?, marks)?;
     }
     out.write_all(b"}\n")?;
-    Ok(())
+    out.flush()
 }
 
 fn write_title<W: Write>(out: &mut W, marks: &Marks) -> io::Result<()> {

@@ -9,12 +9,12 @@ mod path;
 use crate::command::{Command, Source, parse};
 use crate::graph::{Marks, write_graph};
 use crate::path::answered_path;
-use anyhow::{Context, Result};
+use anyhow::{Context, Result, bail};
 use nfa_compiler::Compiler;
 use nfa_engines::pikevm::PikeVM;
 use nfa_samples::sample;
 use std::alloc::Global;
-use std::io::{BufWriter, Write};
+use std::io::BufWriter;
 use std::process::ExitCode;
 use std::{env, io};
 use thompson_nfa::NFA;
@@ -61,8 +61,9 @@ fn draw(rt: &HostRuntime, source: Source<'_>, haystack: Option<&str>) -> Result<
         None => Marks::None,
     };
     let mut out = BufWriter::new(alloc, io::writer(rt))?;
-    write_graph(alloc, &mut out, vm.get_nfa(), &marks)?;
-    out.flush()?;
+    if let Err(error) = write_graph(alloc, &mut out, vm.get_nfa(), &marks) {
+        bail!("cannot write the graph: {error}");
+    }
     Ok(())
 }
 
