@@ -47,7 +47,7 @@ fn starred(
 }
 
 /// Returns the text with a star in place of each byte that the group of this name holds in some match. Fails only if
-/// allocation fails.
+/// allocation fails. It tests each byte against each match, so it suits lines.
 pub fn redact(alloc: Global, choice: &mut Choice, name: &str, text: &[u8]) -> Result<Vec<u8>>
     ensures redacted { IfOk result (λ out. IsRedacted choice.old name.now text.now out.items) }
     ensures keeps { KeepsEngines choice.old choice.new }
