@@ -2,3 +2,4 @@ mod KindLemmas
 mod DigitLemmas
 mod SetKindLemmas
 mod PlaceLemmas
+mod HalfLemmas

@@ -3,6 +3,7 @@
 #![tactic(auto)]
 
 pub mod compiled;
+pub mod halves;
 pub mod hits;
 pub mod modes;
 pub mod paths;

@@ -9,6 +9,7 @@ mod halves;
 mod histories;
 mod searches;
 mod sets;
+mod skips;
 mod texts;
 
 use nfa_engines::pikevm::{Cache, PikeVM};

@@ -161,11 +161,7 @@ fn half_found(
 ) -> Result<Option<HalfMatch>, SearchError>
     ensures { LiesIn (search_of input.now) (half_place result) }
 {
-    match engine.try_find(cache, *input) {
-        Ok(Some(found)) => Ok(Some(HalfMatch::new(found.pattern(), found.end()))),
-        Ok(None) => Ok(None),
-        Err(error) => Err(error),
-    }
+    engine.try_find_half(cache, *input)
 }
 
 const HAYSTACK: &[u8] = b"abc 1 foo 4567 0 quux";

@@ -42,19 +42,54 @@ fn expect_offset(rt: &impl Abort, half: Option<HalfMatch>, want: Option<usize>) 
     assert_eq!(rt; offset, want);
 }
 
-// The ends of all matches of `a_or_empty` in "abba", and then nothing.
-fn expect_half_steps(rt: &impl Abort, vm: &PikeVM, cache: &mut Cache) {
-    let mut searcher = Searcher::new(Input::new(b"abba"));
-    for &want in &[Some(1), Some(2), Some(4), None, None] {
+// A sample, a haystack, and the ends of all matches there, and then nothing.
+type Ends = (&'static str, &'static str, &'static [Option<usize>]);
+
+const ENDS: &[Ends] = &[
+    (
+        "a_or_empty",
+        "abba",
+        &[Some(1), Some(2), Some(4), None, None],
+    ),
+    (
+        "empty",
+        "a☃z",
+        &[Some(0), Some(1), Some(4), Some(5), None, None],
+    ),
+];
+
+fn expect_half_steps(rt: &impl Abort, vm: &PikeVM, cache: &mut Cache, row: &Ends) {
+    let (_, haystack, wants) = *row;
+    let mut searcher = Searcher::new(Input::new(haystack.as_bytes()));
+    for &want in wants {
         let half = half_step(vm, cache, &mut searcher).expect(rt, "an answer");
         expect_offset(rt, half, want);
     }
 }
 
+// The same, by an iterator that stores the finder.
+fn expect_halves(rt: &impl Abort, vm: &PikeVM, cache: &mut Cache, row: &Ends) {
+    let (_, haystack, wants) = *row;
+    let searcher = Searcher::new(Input::new(haystack.as_bytes()));
+    let mut halves = searcher.into_half_matches_iter(|input: &Input<'_>| half_found(
+        vm, cache, input,
+    ));
+    for &want in wants {
+        let half = match halves.next() {
+            Some(half) => Some(half.expect(rt, "a half match")),
+            None => None,
+        };
+        expect_offset(rt, half, want);
+    }
+}
+
 #[test]
-fn steps_give_all_half_matches(rt: HostRuntime) {
+fn halves_are_the_ends_of_all_matches(rt: HostRuntime) {
     let alloc = rt.alloc();
-    let vm = pikevm(alloc, "a_or_empty").expect(&rt, "an engine");
-    let mut cache = vm.create_cache(alloc).expect(&rt, "a cache");
-    expect_half_steps(&rt, &vm, &mut cache);
+    for row in ENDS {
+        let vm = pikevm(alloc, row.0).expect(&rt, "an engine");
+        let mut cache = vm.create_cache(alloc).expect(&rt, "a cache");
+        expect_half_steps(&rt, &vm, &mut cache, row);
+        expect_halves(&rt, &vm, &mut cache, row);
+    }
 }

@@ -3,8 +3,8 @@ use Rattle.std.specs.Prelude.{ℕ, ◌≡◌, Bool, List, slice_range}
 use Rattle.std.specs.List.{filter}
 use Rattle.nfa_engines.specs.Search.{whole}
 use Rattle.nfa_choice.specs.Choosing.{Choosing, finds_in}
-use Rattle.line_finder.specs.Lines.{AreLines}
-use Rattle.line_finder.specs.declared.lines.Line.{Line}
+use Rattle.callers.specs.Lines.{AreLines}
+use Rattle.callers.specs.declared.lines.Line.{Line}
 
 -- whether a search of the line, as a text of its own, finds a match
 abbrev pub matches : Choosing → List ℕ → Line → Bool

@@ -1,5 +1,4 @@
 //! Callers that cut out what captures give, by the span alone: each is proved with no proof file.
-#![tactic(auto)]
 
 ghost use Rattle.nfa_engines.specs.Engines.{Fits};
 

@@ -2,8 +2,8 @@
 use Rattle.std.proofs.Common.{◌≡◌, take}
 use Rattle.std.specs.List.{filter}
 use Rattle.nfa_choice.specs.Choosing.{KeepsEngines}
-use Rattle.line_finder.specs.Finding.{matches}
-use Rattle.line_finder.proofs.lines.matching.Given as goal
+use Rattle.callers.specs.Finding.{matches}
+use Rattle.callers.proofs.lines.matching.Given as goal
 
 abbrev pub invariant-loop-line : goal.invariant-loop-line
 invariant-loop-line l = record {

@@ -1,0 +1,4 @@
+pub mod Classes
+pub mod Finding
+pub mod Lines
+pub mod Redacted
