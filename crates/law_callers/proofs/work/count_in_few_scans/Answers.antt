@@ -1,0 +1,9 @@
+-- The law, of the cache that the loop leaves.
+use Rattle.regex_search_core.specs.Search.{search_of}
+use Rattle.law_callers.proofs.work.count_in_few_scans.Goals as goal
+
+pub returns : goal.returns
+returns c =
+    let x = search_of c.args.input in
+    (c.iterations_are_bounded.ensures.pike c.args.vm.now x c.args.cache.now c.counted.new.cache
+    c.counted.ensures).scans
