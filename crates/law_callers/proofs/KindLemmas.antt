@@ -1,7 +1,7 @@
 -- What a PikeVM answers that is leftmost first, and is not asked for the earliest match.
 use Rattle.std.proofs.Common.{◌≡◌, Bool, false, subst}
-use Rattle.regex_search_core.specs.declared.search.MatchKind.{MatchKind}
-use Rattle.regex_search_core.specs.declared.search.MatchKind.TheVariants.{LeftmostFirst}
+use Rattle.nfa_engines.specs.MatchKind.{MatchKind}
+use Rattle.nfa_engines.specs.MatchKind.TheVariants.{LeftmostFirst}
 
 -- A fact of a kind and of `earliest` holds of these two.
 pub as_leftmost : (P : MatchKind → Bool → Type 0) (kind : MatchKind) (earliest : Bool) → kind ≡ LeftmostFirst

@@ -1,8 +1,8 @@
 -- A set of a search of a known kind.
 use Rattle.std.proofs.Common.{◌≡◌, Bool, List, false, subst}
-use Rattle.regex_search_core.specs.Search.{Search}
-use Rattle.regex_search_core.specs.declared.search.MatchKind.{MatchKind}
-use Rattle.regex_search_core.specs.declared.search.MatchKind.TheVariants.{All}
+use Rattle.nfa_engines.specs.Search.{Search}
+use Rattle.nfa_engines.specs.MatchKind.{MatchKind}
+use Rattle.nfa_engines.specs.MatchKind.TheVariants.{All}
 use Rattle.nfa_engines.specs.Automaton.{Automaton}
 use Rattle.nfa_engines.specs.Overlaps.{IsOverlapResult}
 

@@ -3,9 +3,9 @@ ghost use Rattle.std.specs.Prelude.{◌≡◌, ◌==◌, ◌↔◌, ◌<◌, ◌
 ghost use Rattle.std.specs.Prelude.{length, map, option_map, replicate, true, ℕ};
 ghost use Rattle.regex_hir.specs.Looks.{holds};
 ghost use Rattle.regex_hir.specs.declared.look.Look as theirs;
-ghost use Rattle.regex_search_core.specs.Found.{found_of};
-ghost use Rattle.regex_search_core.specs.Search.{is_anchored, search_of};
-ghost use Rattle.regex_search_core.specs.declared.search.MatchKind.TheVariants.{All};
+ghost use Rattle.nfa_engines.specs.Found.{found_of};
+ghost use Rattle.nfa_engines.specs.Search.{is_anchored, search_of};
+ghost use Rattle.nfa_engines.specs.MatchKind.TheVariants.{All};
 ghost use Rattle.nfa_engines.specs.Accepting.{MatchesNothing};
 ghost use Rattle.nfa_engines.specs.Engines.{Fits, kind_of};
 ghost use Rattle.nfa_engines.specs.GapLaws.{PathsWriteTheirEnds};
@@ -26,9 +26,8 @@ use nfa_bounds::laws::{
 };
 use nfa_compiler::{Compiler, Parsed, laws};
 use nfa_engines::pikevm::{Cache, PikeVM};
-use regex_search_core::{Input, Match, MatchKind, PatternSet};
+use nfa_engines::{Input, Look, Match, MatchKind, NFA, PatternSet, look_matches};
 use std::alloc::Global;
-use thompson_nfa::{Look, NFA, look_matches};
 
 /// Puts into the set the patterns that match somewhere in the haystack: under `All` and not `earliest`, those for which
 /// it has room, and no other.

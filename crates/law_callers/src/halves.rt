@@ -1,7 +1,7 @@
 //! Callers of the laws on half matches.
 ghost use Rattle.std.specs.Prelude.{◌≡◌, map, option_map, IfOk, List};
-ghost use Rattle.regex_search_core.specs.Found.{Found, HalfFound, found_of, half_found_of};
-ghost use Rattle.regex_search_core.specs.Search.{search_of};
+ghost use Rattle.nfa_engines.specs.Found.{Found, HalfFound, found_of, half_found_of};
+ghost use Rattle.nfa_engines.specs.Search.{search_of};
 ghost use Rattle.nfa_engines.specs.Agreement.{end_of};
 ghost use Rattle.nfa_engines.specs.Engines.{Fits, kind_of};
 ghost use Rattle.nfa_engines.specs.Paths.{IsMatchAnswer};
@@ -11,9 +11,8 @@ ghost use Rattle.law_callers.specs.Halves.{AreHalves};
 use nfa_bounds::laws::{half_matches_are_ends, pikevm_nfa_is_valid};
 use nfa_engines::error::SearchError;
 use nfa_engines::iter::laws::half_and_full_agree;
-use nfa_engines::laws;
 use nfa_engines::pikevm::{Cache, PikeVM};
-use regex_search_core::{HalfMatch, Input, Match};
+use nfa_engines::{HalfMatch, Input, Match, laws};
 use std::alloc::Global;
 
 /// Returns the pattern and the end of a match. They are those of the match that `find` gives, if the NFA records its

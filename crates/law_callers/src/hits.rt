@@ -4,9 +4,9 @@ ghost use Rattle.std.specs.Prelude.{◌≡◌, ◌==◌, ◌∷◌, [], IfOk, Is
 ghost use Rattle.regex_hir.specs.Find.{find, find_all, find_str};
 ghost use Rattle.regex_hir.specs.Meaning.{meaning};
 ghost use Rattle.regex_hir.specs.Re.{Re};
-ghost use Rattle.regex_search_core.specs.Found.{found_of};
-ghost use Rattle.regex_search_core.specs.Search.{search_of, whole};
-ghost use Rattle.regex_search_core.specs.declared.search.Anchored.TheVariants.{No};
+ghost use Rattle.nfa_engines.specs.Found.{found_of};
+ghost use Rattle.nfa_engines.specs.Search.{search_of, whole};
+ghost use Rattle.nfa_engines.specs.Anchored.TheVariants.{No};
 ghost use Rattle.regex_syntax.specs.WellFormed.{IsWellFormed};
 ghost use Rattle.nfa_engines.specs.Catching.{row_of};
 ghost use Rattle.nfa_engines.specs.Paths.{is_utf8_empty};
@@ -21,7 +21,7 @@ ghost use Rattle.nfa_compiler.specs.StrHits.{StartsOnBoundary, all_str_hits, str
 use nfa_compiler::{Compiler, Parsed, laws};
 use nfa_engines::backtrack::{BoundedBacktracker, Cache};
 use nfa_engines::error::SearchError;
-use regex_search_core::{Captures, Input, Match};
+use nfa_engines::{Captures, Input, Match};
 use std::alloc::Global;
 
 /// Returns the match of the patterns: that of their first hit.

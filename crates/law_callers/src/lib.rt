@@ -15,27 +15,26 @@ pub mod written;
 
 ghost use Rattle.std.specs.Prelude.{◌≡◌, ◌<◌, ◌≤◌, false, true, length, option_map, IfOk, IfSome, IsErrOf};
 ghost use Rattle.std.specs.Prelude.{List, Ok, Option, is_some, option_and_then, take, ℕ};
-ghost use Rattle.regex_search_core.specs.Found.{found_of};
-ghost use Rattle.regex_search_core.specs.Groups.{slot_count};
-ghost use Rattle.regex_search_core.specs.Patterns.{number_of};
-ghost use Rattle.regex_search_core.specs.Search.{search_of};
-ghost use Rattle.regex_search_core.specs.declared.search.MatchKind.TheVariants.{LeftmostFirst};
+ghost use Rattle.nfa_engines.specs.Found.{found_of};
+ghost use Rattle.nfa_engines.specs.Groups.{slot_count};
+ghost use Rattle.nfa_engines.specs.Patterns.{number_of};
+ghost use Rattle.nfa_engines.specs.Search.{search_of};
+ghost use Rattle.nfa_engines.specs.MatchKind.TheVariants.{LeftmostFirst};
 ghost use Rattle.nfa_engines.specs.Accepting.{MatchesNothing, MatchesPattern, MatchesSomething};
 ghost use Rattle.nfa_engines.specs.Backtrack.{capacity_of, max_haystack_len_of};
 ghost use Rattle.nfa_engines.specs.Engines.{Fits, kind_of};
 ghost use Rattle.nfa_engines.specs.Graphs.{Pair};
 ghost use Rattle.nfa_engines.specs.IterationLaws.{IsCall};
 ghost use Rattle.nfa_engines.specs.Paths.{IsFoundAnswer, IsScanAnswer, IsSearchAnswer, is_utf8_empty, path_pattern, span_len};
-ghost use Rattle.nfa_search_base.specs.Finders.{match_place};
-ghost use Rattle.nfa_search_base.specs.Searchers.{walk_of};
-ghost use Rattle.nfa_search_base.specs.Walks.{LiesIn};
+ghost use Rattle.nfa_engines.specs.Finders.{match_place};
+ghost use Rattle.nfa_engines.specs.Searchers.{walk_of};
+ghost use Rattle.nfa_engines.specs.Walks.{LiesIn};
 
 use nfa_engines::backtrack::{self, BoundedBacktracker};
 use nfa_engines::error::SearchError;
 use nfa_engines::iter::Searcher;
-use nfa_engines::laws;
 use nfa_engines::pikevm::{Cache, PikeVM};
-use regex_search_core::{Captures, Input, Match, NonMaxUsize, PatternID};
+use nfa_engines::{Captures, Input, Match, NonMaxUsize, PatternID, laws};
 
 /// Two caches make one number of scans for one input.
 pub fn scans_are_one(vm: &PikeVM, cache: &mut Cache, other: &mut Cache, input: &Input<'_>)

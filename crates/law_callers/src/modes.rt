@@ -2,9 +2,9 @@
 ghost use Rattle.std.specs.Prelude.{◌≡◌, ◌==◌, ◌↔◌, ◌<◌, ◌⊎◌, IsUtf8, false, length, slice_index_or, true, ℕ};
 ghost use Rattle.std.specs.Prelude.{All as EachIn};
 ghost use Rattle.regex_hir.specs.Re.{empty};
-ghost use Rattle.regex_search_core.specs.Boundary.{IsBoundary};
-ghost use Rattle.regex_search_core.specs.Search.{search_of};
-ghost use Rattle.regex_search_core.specs.declared.search.MatchKind.TheVariants.{All};
+ghost use Rattle.nfa_engines.specs.Boundary.{IsBoundary};
+ghost use Rattle.nfa_engines.specs.Search.{search_of};
+ghost use Rattle.nfa_engines.specs.MatchKind.TheVariants.{All};
 ghost use Rattle.nfa_engines.specs.Engines.{Fits, kind_of};
 ghost use Rattle.nfa_engines.specs.Overlaps.{HoldsPattern};
 ghost use Rattle.nfa_compiler.specs.Compiled.{IsNfaOf, res_of};
@@ -13,7 +13,7 @@ ghost use Rattle.nfa_compiler.specs.StrHits.{MatchesCharacters};
 
 use nfa_compiler::{Parsed, laws};
 use nfa_engines::pikevm::{Cache, PikeVM};
-use regex_search_core::{Input, PatternSet};
+use nfa_engines::{Input, PatternSet};
 
 /// Returns whether a search finds something, by a PikeVM of any kind. What it finds shows that some pattern matches.
 pub fn finds_something(vm: &PikeVM, cache: &mut Cache, trees: &[Parsed], input: Input<'_>) -> bool

@@ -1,8 +1,8 @@
 //! Callers of the laws on paths and on lists of matches.
 ghost use Rattle.std.specs.Prelude.{◌≡◌, ◌+◌, ◌≤◌, false, length, map, IfOk, IfSome, List, None};
-ghost use Rattle.regex_search_core.specs.Found.{Found, found_of};
-ghost use Rattle.regex_search_core.specs.Search.{Search, search_of};
-ghost use Rattle.regex_search_core.specs.declared.search.MatchKind.TheVariants.{LeftmostFirst};
+ghost use Rattle.nfa_engines.specs.Found.{Found, found_of};
+ghost use Rattle.nfa_engines.specs.Search.{Search, search_of};
+ghost use Rattle.nfa_engines.specs.MatchKind.TheVariants.{LeftmostFirst};
 ghost use Rattle.nfa_engines.specs.Accepting.{MatchesNothing};
 ghost use Rattle.nfa_engines.specs.Engines.{Fits, kind_of};
 ghost use Rattle.nfa_engines.specs.GapLaws.{PathsWriteTheirEnds, StartsBeforePaths};
@@ -10,15 +10,14 @@ ghost use Rattle.nfa_engines.specs.Graphs.{ComesBefore, Pair, PathTo};
 ghost use Rattle.nfa_engines.specs.Items.{greedy};
 ghost use Rattle.nfa_engines.specs.Paths.{edges, is_utf8_empty, span_len, starts, IsMatch};
 ghost use Rattle.nfa_engines.specs.Walks.{Answer, half_span_of, span_of};
-ghost use Rattle.nfa_search_base.specs.Agreement.{IsFoundIn, end_answer, end_item};
-ghost use Rattle.nfa_search_base.specs.Lists.{AreApart, AreFirstMatches};
-ghost use Rattle.nfa_search_base.specs.Searchers.{walk_of};
+ghost use Rattle.nfa_engines.specs.Agreement.{IsFoundIn, end_answer, end_item};
+ghost use Rattle.nfa_engines.specs.Lists.{AreApart, AreFirstMatches};
+ghost use Rattle.nfa_engines.specs.Searchers.{walk_of};
 
 use nfa_engines::iter::Searcher;
-use nfa_engines::laws;
+use nfa_engines::iter::laws::half_and_full_agree;
 use nfa_engines::pikevm::{Cache, PikeVM};
-use nfa_search_base::iter::laws::half_and_full_agree;
-use regex_search_core::{Input, Match};
+use nfa_engines::{Input, Match, laws};
 use std::alloc::{AllocError, Global};
 
 /// Two accepting paths are equal if neither comes before the other.

@@ -3,8 +3,8 @@ ghost use Rattle.std.specs.Prelude.{◌≡◌, ◌∷◌, [], IfOk, List, Option
 ghost use Rattle.std.specs.Prelude.{option_and_then, option_map, ℕ};
 ghost use Rattle.regex_hir.specs.Find.{find, find_all, find_all_str, find_str};
 ghost use Rattle.regex_hir.specs.Re.{Re};
-ghost use Rattle.regex_search_core.specs.Found.{found_of};
-ghost use Rattle.regex_search_core.specs.Groups.{group_named};
+ghost use Rattle.nfa_engines.specs.Found.{found_of};
+ghost use Rattle.nfa_engines.specs.Groups.{group_named};
 ghost use Rattle.nfa_compiler.specs.Compiled.{IsMeant};
 ghost use Rattle.nfa_compiler.specs.NameLaws.{IsNamed, written_span};
 ghost use Rattle.nfa_compiler.specs.Patterns.{found_by};
@@ -17,7 +17,7 @@ use nfa_compiler::calls::{
 };
 use nfa_engines::backtrack::BoundedBacktracker;
 use nfa_engines::pikevm::PikeVM;
-use regex_search_core::{Input, Match, Span};
+use nfa_engines::{Input, Match, Span};
 use std::alloc::Global;
 
 /// Returns the first match of the pattern in the line, by a PikeVM: the match that the reference matcher finds for the

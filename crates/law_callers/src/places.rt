@@ -1,19 +1,18 @@
 //! Callers of the laws on where an answer starts, on the patterns of an NFA, and on spans.
 ghost use Rattle.std.specs.Prelude.{◌≡◌, ◌+◌, ◌≤◌, false, length, option_map, slice_get, IfSome, Some};
-ghost use Rattle.regex_search_core.specs.Found.{found_of};
-ghost use Rattle.regex_search_core.specs.Patterns.{number_of};
-ghost use Rattle.regex_search_core.specs.Search.{search_of};
-ghost use Rattle.regex_search_core.specs.declared.search.Anchored.TheVariants.{Yes};
-ghost use Rattle.regex_search_core.specs.declared.search.MatchKind.TheVariants.{LeftmostFirst};
+ghost use Rattle.nfa_engines.specs.Found.{found_of};
+ghost use Rattle.nfa_engines.specs.Patterns.{number_of};
+ghost use Rattle.nfa_engines.specs.Search.{search_of};
+ghost use Rattle.nfa_engines.specs.Anchored.TheVariants.{Yes};
+ghost use Rattle.nfa_engines.specs.MatchKind.TheVariants.{LeftmostFirst};
 ghost use Rattle.nfa_engines.specs.Engines.{Fits, kind_of};
 ghost use Rattle.nfa_engines.specs.Paths.{is_utf8_empty, IsAnswer, IsMatchAnswer};
 ghost use Rattle.nfa_engines.specs.PatternLaws.{IsOfPattern, TriesPatternsInOrder};
 ghost use Rattle.nfa_engines.specs.SpanLaws.{moved_match, HasNoLook};
 ghost use Rattle.nfa_engines.specs.StartLaws.{IsFirstStart, IsUnbound};
 
-use nfa_engines::laws;
 use nfa_engines::pikevm::{Cache, PikeVM};
-use regex_search_core::{Anchored, Input, Match, NonMaxUsize, PatternID};
+use nfa_engines::{Anchored, Input, Match, NonMaxUsize, PatternID, laws};
 
 /// Returns the match of a search, which begins at a start before which nothing matches. It is the match of the whole
 /// input.

@@ -1,16 +1,15 @@
 //! Callers of the laws on sets of patterns.
 ghost use Rattle.std.specs.Prelude.{◌≡◌, ◌<◌, ◌≤◌, false, length, List, Option, ℕ};
-ghost use Rattle.regex_search_core.specs.PatternSets.{size_of_set};
-ghost use Rattle.regex_search_core.specs.Search.{search_of};
-ghost use Rattle.regex_search_core.specs.declared.search.MatchKind.TheVariants.{All, LeftmostFirst};
+ghost use Rattle.nfa_engines.specs.PatternSets.{size_of_set};
+ghost use Rattle.nfa_engines.specs.Search.{search_of};
+ghost use Rattle.nfa_engines.specs.MatchKind.TheVariants.{All, LeftmostFirst};
 ghost use Rattle.nfa_engines.specs.Engines.{Fits, kind_of};
 ghost use Rattle.nfa_engines.specs.Graphs.{IsFirstPath, Pair};
 ghost use Rattle.nfa_engines.specs.Overlaps.{HoldsPattern, IsFirstBefore, IsFirstHeld, IsPatternOf, IsPermitted};
 ghost use Rattle.nfa_engines.specs.Paths.{edges, starts};
 
-use nfa_engines::laws;
 use nfa_engines::pikevm::{Cache, PikeVM};
-use regex_search_core::{Input, PatternSet};
+use nfa_engines::{Input, PatternSet, laws};
 
 /// Two caches make one set of a set.
 pub fn sets_are_one(

@@ -1,6 +1,6 @@
 //! Callers of the laws on the work of whole iterations.
 ghost use Rattle.std.specs.Prelude.{◌+◌, ◌*◌, ◌≤◌, length, IfOk};
-ghost use Rattle.regex_search_core.specs.Search.{search_of};
+ghost use Rattle.nfa_engines.specs.Search.{search_of};
 ghost use Rattle.nfa_engines.specs.Engines.{Fits};
 ghost use Rattle.nfa_engines.specs.Paths.{span_len, turn_weight};
 ghost use Rattle.nfa_engines.specs.PikeVMFinding.{PikeFindsOn};
@@ -8,9 +8,8 @@ ghost use Rattle.nfa_engines.specs.WorkLaws.{list_scan_limit};
 
 use nfa_engines::backtrack::{self, BoundedBacktracker};
 use nfa_engines::error::SearchError;
-use nfa_engines::laws;
 use nfa_engines::pikevm::{Cache, PikeVM};
-use regex_search_core::{Input, Match};
+use nfa_engines::{Input, Match, laws};
 use std::alloc::Global;
 
 /// Returns all matches. The cache makes little more scans for them than for one search, and their turns.

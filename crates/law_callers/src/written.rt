@@ -11,8 +11,8 @@ ghost use Rattle.law_callers.specs.Lines.{HoldsMonth};
 use anyhow::Result;
 use nfa_compiler::calls::{is_match_in_str, is_match_of_text};
 use nfa_compiler::{Compiler, Config};
+use nfa_engines::Input;
 use nfa_engines::pikevm::PikeVM;
-use regex_search_core::Input;
 use std::alloc::Global;
 
 /// Returns whether the pattern matches somewhere in the line, which is bytes.

@@ -1,8 +1,8 @@
 -- The law, of the two answers.
 use Rattle.std.proofs.Common.{◌≡◌, ℕ, Bool, List, Option, arith, false, subst}
-use Rattle.regex_search_core.specs.Search.{Search, search_of}
-use Rattle.regex_search_core.specs.declared.search.MatchKind.{MatchKind}
-use Rattle.regex_search_core.specs.declared.search.MatchKind.TheVariants.{LeftmostFirst}
+use Rattle.nfa_engines.specs.Search.{Search, search_of}
+use Rattle.nfa_engines.specs.MatchKind.{MatchKind}
+use Rattle.nfa_engines.specs.MatchKind.TheVariants.{LeftmostFirst}
 use Rattle.nfa_engines.specs.Automaton.{Automaton}
 use Rattle.nfa_engines.specs.Paths.{IsAnswer}
 use Rattle.law_callers.proofs.KindLemmas.{as_leftmost}

@@ -1,6 +1,6 @@
 -- The law, of this answer.
 use Rattle.std.specs.Prelude.{true, false}
-use Rattle.regex_search_core.specs.Search.{search_of}
+use Rattle.nfa_engines.specs.Search.{search_of}
 use Rattle.nfa_engines.specs.Engines.{kind_of}
 use Rattle.law_callers.proofs.found_under_the_flag.Goals as goal
 

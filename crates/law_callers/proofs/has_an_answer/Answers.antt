@@ -1,6 +1,6 @@
 -- The law, of this search.
 use Rattle.std.specs.Prelude.{false}
-use Rattle.regex_search_core.specs.Search.{search_of}
+use Rattle.nfa_engines.specs.Search.{search_of}
 use Rattle.nfa_engines.specs.Engines.{kind_of}
 use Rattle.law_callers.proofs.has_an_answer.Goals as goal
 

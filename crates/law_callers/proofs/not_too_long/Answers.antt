@@ -1,6 +1,6 @@
 -- The law, of this span.
 use Rattle.std.proofs.Common.{arith}
-use Rattle.regex_search_core.specs.Search.{search_of}
+use Rattle.nfa_engines.specs.Search.{search_of}
 use Rattle.law_callers.proofs.not_too_long.Goals as goal
 
 pub returns : goal.returns

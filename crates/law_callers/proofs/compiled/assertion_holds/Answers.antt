@@ -1,7 +1,7 @@
 -- The law, of this position.
 use Rattle.std.proofs.Common.{◌∙◌, ap, sym}
-use Rattle.thompson_nfa.specs.Looks.{look_holds}
-use Rattle.thompson_nfa.specs.declared.look.Look.{Look}
+use Rattle.nfa_engines.specs.Looks.{look_holds}
+use Rattle.nfa_engines.specs.Look.{Look}
 use Rattle.law_callers.proofs.compiled.assertion_holds.Goals as goal
 
 pub returns : goal.returns

@@ -1,7 +1,7 @@
 -- The law, of this match.
 use Rattle.std.proofs.Common.{Some}
-use Rattle.regex_search_core.specs.Found.{found_of}
-use Rattle.regex_search_core.specs.Search.{search_of}
+use Rattle.nfa_engines.specs.Found.{found_of}
+use Rattle.nfa_engines.specs.Search.{search_of}
 use Rattle.law_callers.proofs.compiled.match_at_start.Goals as goal
 
 pub returns-in-Some : goal.returns-in-Some

@@ -1,5 +1,5 @@
 -- The law, of this match.
-use Rattle.regex_search_core.specs.Search.{search_of}
+use Rattle.nfa_engines.specs.Search.{search_of}
 use Rattle.law_callers.proofs.compiled.match_of_the_path.Goals as goal
 
 pub returns : goal.returns

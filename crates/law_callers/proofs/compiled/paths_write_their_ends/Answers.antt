@@ -1,5 +1,5 @@
 -- The law, of this NFA.
-use Rattle.regex_search_core.specs.Search.{search_of}
+use Rattle.nfa_engines.specs.Search.{search_of}
 use Rattle.law_callers.proofs.compiled.paths_write_their_ends.Goals as goal
 
 pub returns : goal.returns

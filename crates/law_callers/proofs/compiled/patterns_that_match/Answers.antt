@@ -1,5 +1,5 @@
 -- The law, of this set.
-use Rattle.regex_search_core.specs.Search.{search_of}
+use Rattle.nfa_engines.specs.Search.{search_of}
 use Rattle.nfa_compiler.specs.Compiled.{res_of}
 use Rattle.law_callers.proofs.SetKindLemmas.{of_all}
 use Rattle.law_callers.proofs.compiled.patterns_that_match.Goals as goal

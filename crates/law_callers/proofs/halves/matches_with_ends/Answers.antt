@@ -1,6 +1,6 @@
 -- The laws, of this search.
-use Rattle.regex_search_core.specs.Found.{found_of}
-use Rattle.regex_search_core.specs.Search.{search_of}
+use Rattle.nfa_engines.specs.Found.{found_of}
+use Rattle.nfa_engines.specs.Search.{search_of}
 use Rattle.std.proofs.Common.{map}
 use Rattle.nfa_engines.specs.Engines.{kind_of}
 use Rattle.law_callers.proofs.HalfLemmas.{halves-are-ends}

@@ -1,7 +1,7 @@
 -- The law, of these captures.
 use Rattle.std.proofs.Common.{refl}
 use Rattle.nfa_compiler.specs.Compiled.{res_of}
-use Rattle.regex_search_core.specs.Search.{search_of}
+use Rattle.nfa_engines.specs.Search.{search_of}
 use Rattle.law_callers.proofs.hits.capture_hits.Goals as goal
 
 pub returns : goal.returns

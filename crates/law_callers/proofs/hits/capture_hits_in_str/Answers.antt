@@ -1,6 +1,6 @@
 -- The law, of these captures.
 use Rattle.std.proofs.Common.{refl}
-use Rattle.regex_search_core.specs.Search.{search_of}
+use Rattle.nfa_engines.specs.Search.{search_of}
 use Rattle.law_callers.proofs.hits.capture_hits_in_str.Goals as goal
 
 pub returns : goal.returns

@@ -1,6 +1,6 @@
 -- The law, of these captures.
 use Rattle.std.proofs.Common.{arith, refl}
-use Rattle.regex_search_core.specs.Search.{whole}
+use Rattle.nfa_engines.specs.Search.{whole}
 use Rattle.nfa_compiler.proofs.CallLemmas.{bytes-of}
 use Rattle.law_callers.proofs.hits.capture_hits_of_texts.Goals as goal
 

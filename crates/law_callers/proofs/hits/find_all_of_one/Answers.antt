@@ -2,7 +2,7 @@
 use Rattle.std.proofs.Common.{◌∙◌, [], ◌∷◌, List, ap, map, refl}
 use Rattle.regex_hir.specs.Meaning.{meaning}
 use Rattle.nfa_compiler.specs.Patterns.{Hit, found_at}
-use Rattle.regex_search_core.specs.Search.{search_of}
+use Rattle.nfa_engines.specs.Search.{search_of}
 use Rattle.law_callers.proofs.hits.find_all_of_one.Goals as goal
 
 pub returns : goal.returns

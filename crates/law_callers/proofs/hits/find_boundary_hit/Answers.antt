@@ -1,7 +1,7 @@
 -- The law, of this match.
 use Rattle.std.proofs.Common.{refl}
 use Rattle.nfa_compiler.specs.Compiled.{res_of}
-use Rattle.regex_search_core.specs.Search.{search_of}
+use Rattle.nfa_engines.specs.Search.{search_of}
 use Rattle.law_callers.proofs.hits.find_boundary_hit.Goals as goal
 
 pub returns : goal.returns

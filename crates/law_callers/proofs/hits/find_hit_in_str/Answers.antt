@@ -1,6 +1,6 @@
 -- The law, of this match.
 use Rattle.std.proofs.Common.{refl}
-use Rattle.regex_search_core.specs.Search.{search_of}
+use Rattle.nfa_engines.specs.Search.{search_of}
 use Rattle.law_callers.proofs.hits.find_hit_in_str.Goals as goal
 
 pub returns : goal.returns

@@ -2,7 +2,7 @@
 use Rattle.std.proofs.Common.{◌∙◌, [], ◌∷◌, Option, ap, refl}
 use Rattle.regex_hir.specs.Meaning.{meaning}
 use Rattle.nfa_compiler.specs.Patterns.{Hit, found_in}
-use Rattle.regex_search_core.specs.Search.{search_of}
+use Rattle.nfa_engines.specs.Search.{search_of}
 use Rattle.law_callers.proofs.hits.find_one.Goals as goal
 
 pub returns : goal.returns

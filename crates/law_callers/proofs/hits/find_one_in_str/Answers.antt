@@ -1,6 +1,6 @@
 -- The law of hits, and then that of one hit.
 use Rattle.std.proofs.Common.{◌∙◌, [], ◌∷◌, Option, ap, refl}
-use Rattle.regex_search_core.specs.Search.{search_of}
+use Rattle.nfa_engines.specs.Search.{search_of}
 use Rattle.nfa_compiler.specs.Patterns.{Hit, found_in}
 use Rattle.law_callers.proofs.hits.find_one_in_str.Goals as goal
 

@@ -2,7 +2,7 @@
 use Rattle.std.proofs.Common.{◌∙◌, ℕ, ◌<◌, zero, suc, [], ◌∷◌, Option, ap, arith, refl, slice_index_or}
 use Rattle.regex_hir.specs.Meaning.{meaning}
 use Rattle.regex_hir.specs.Re.{Re}
-use Rattle.regex_search_core.specs.Search.{search_of}
+use Rattle.nfa_engines.specs.Search.{search_of}
 use Rattle.nfa_compiler.specs.Patterns.{Hit, found_in}
 use Rattle.nfa_compiler.specs.StrHits.{MatchesCharacters}
 use Rattle.law_callers.proofs.hits.find_tree_in_str.Goals as goal

@@ -1,5 +1,5 @@
 -- The law, of this answer.
-use Rattle.regex_search_core.specs.Search.{search_of}
+use Rattle.nfa_engines.specs.Search.{search_of}
 use Rattle.nfa_compiler.specs.Compiled.{res_of}
 use Rattle.law_callers.proofs.modes.matches_in_ascii.Goals as goal
 

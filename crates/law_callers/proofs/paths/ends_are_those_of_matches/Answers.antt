@@ -1,7 +1,7 @@
 -- The law, of a searcher's iteration and of a half finder that answers the ends of h.
 use Rattle.std.proofs.Common.{refl}
-use Rattle.nfa_search_base.specs.Agreement.{end_answer}
-use Rattle.nfa_search_base.specs.Searchers.{walk_of}
+use Rattle.nfa_engines.specs.Agreement.{end_answer}
+use Rattle.nfa_engines.specs.Searchers.{walk_of}
 use Rattle.law_callers.proofs.paths.ends_are_those_of_matches.Goals as goal
 
 pub returns : goal.returns

@@ -1,8 +1,8 @@
 -- The law, of this answer.
 use Rattle.std.proofs.Common.{Bool, refl, None, Some}
-use Rattle.regex_search_core.specs.Found.{found_of}
-use Rattle.regex_search_core.specs.Search.{search_of}
-use Rattle.regex_search_core.specs.declared.search.MatchKind.{MatchKind}
+use Rattle.nfa_engines.specs.Found.{found_of}
+use Rattle.nfa_engines.specs.Search.{search_of}
+use Rattle.nfa_engines.specs.MatchKind.{MatchKind}
 use Rattle.nfa_engines.specs.Paths.{IsMatchAnswer}
 use Rattle.law_callers.proofs.KindLemmas.{as_leftmost}
 use Rattle.law_callers.proofs.paths.leftmost.Goals as goal

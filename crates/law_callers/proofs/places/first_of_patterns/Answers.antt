@@ -1,9 +1,9 @@
 -- The law, of this answer.
 use Rattle.std.proofs.Common.{Bool, Some, refl}
-use Rattle.regex_search_core.specs.Patterns.{number_of}
-use Rattle.regex_search_core.specs.Search.{Search, search_of}
-use Rattle.regex_search_core.specs.declared.search.Anchored.TheVariants.{Yes}
-use Rattle.regex_search_core.specs.declared.search.MatchKind.{MatchKind}
+use Rattle.nfa_engines.specs.Patterns.{number_of}
+use Rattle.nfa_engines.specs.Search.{Search, search_of}
+use Rattle.nfa_engines.specs.Anchored.TheVariants.{Yes}
+use Rattle.nfa_engines.specs.MatchKind.{MatchKind}
 use Rattle.nfa_engines.specs.Engines.{kind_of}
 use Rattle.nfa_engines.specs.Paths.{IsAnswer}
 use Rattle.law_callers.proofs.KindLemmas.{as_leftmost}

@@ -1,8 +1,8 @@
 -- The law, of this answer.
 use Rattle.std.proofs.Common.{◌∙◌, Bool, Some, ap}
-use Rattle.regex_search_core.specs.Patterns.{number_of}
-use Rattle.regex_search_core.specs.Search.{Search, search_of}
-use Rattle.regex_search_core.specs.declared.search.MatchKind.{MatchKind}
+use Rattle.nfa_engines.specs.Patterns.{number_of}
+use Rattle.nfa_engines.specs.Search.{Search, search_of}
+use Rattle.nfa_engines.specs.MatchKind.{MatchKind}
 use Rattle.nfa_engines.specs.Engines.{kind_of}
 use Rattle.nfa_engines.specs.Paths.{IsAnswer}
 use Rattle.nfa_engines.specs.StartLaws.{anchored_at}

@@ -1,7 +1,7 @@
 -- The law, of this match.
 use Rattle.std.proofs.Common.{option_map}
-use Rattle.regex_search_core.specs.Found.{found_of}
-use Rattle.regex_search_core.specs.Search.{search_of}
+use Rattle.nfa_engines.specs.Found.{found_of}
+use Rattle.nfa_engines.specs.Search.{search_of}
 use Rattle.nfa_engines.specs.Engines.{kind_of}
 use Rattle.nfa_engines.specs.StartLaws.{from_start}
 use Rattle.law_callers.proofs.PlaceLemmas.{match_of_search}

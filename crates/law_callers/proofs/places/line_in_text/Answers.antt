@@ -2,10 +2,10 @@
 use Rattle.std.proofs.Common.{◌∙◌, ℕ, ◌-◌, ◌≤◌, false, List, Option, option_map, take, drop, length, ap, subst, arith}
 use Rattle.std.proofs.Common.{length-drop}
 use Rattle.std.proofs.lemmas.List.{length-take-le}
-use Rattle.regex_search_core.specs.Found.{Found, found_of}
-use Rattle.regex_search_core.specs.Search.{Search, whole}
-use Rattle.regex_search_core.specs.declared.search.Anchored.TheVariants.{No}
-use Rattle.regex_search_core.specs.declared.search.MatchKind.{MatchKind}
+use Rattle.nfa_engines.specs.Found.{Found, found_of}
+use Rattle.nfa_engines.specs.Search.{Search, whole}
+use Rattle.nfa_engines.specs.Anchored.TheVariants.{No}
+use Rattle.nfa_engines.specs.MatchKind.{MatchKind}
 use Rattle.nfa_engines.specs.Automaton.{Automaton}
 use Rattle.nfa_engines.specs.Engines.{kind_of}
 use Rattle.nfa_engines.specs.Paths.{IsMatchAnswer}

@@ -1,8 +1,8 @@
 -- The law, of the two matches.
 use Rattle.std.proofs.Common.{option_map}
-use Rattle.regex_search_core.specs.Found.{found_of}
-use Rattle.regex_search_core.specs.Search.{search_of}
-use Rattle.regex_search_core.specs.declared.search.Anchored.TheVariants.{Pattern, Yes}
+use Rattle.nfa_engines.specs.Found.{found_of}
+use Rattle.nfa_engines.specs.Search.{search_of}
+use Rattle.nfa_engines.specs.Anchored.TheVariants.{Pattern, Yes}
 use Rattle.nfa_engines.specs.Engines.{kind_of}
 use Rattle.law_callers.proofs.PlaceLemmas.{match_of_search}
 use Rattle.law_callers.proofs.places.only_pattern.Goals as goal

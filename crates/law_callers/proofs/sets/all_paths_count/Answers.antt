@@ -1,5 +1,5 @@
 -- The law, of this NFA.
-use Rattle.regex_search_core.specs.Search.{search_of}
+use Rattle.nfa_engines.specs.Search.{search_of}
 use Rattle.law_callers.proofs.sets.all_paths_count.Goals as goal
 
 pub returns : goal.returns

@@ -1,5 +1,5 @@
 -- The law, of the cache that the loop leaves.
-use Rattle.regex_search_core.specs.Search.{search_of}
+use Rattle.nfa_engines.specs.Search.{search_of}
 use Rattle.law_callers.proofs.work.count_in_few_scans.Goals as goal
 
 pub returns : goal.returns

@@ -1,5 +1,5 @@
 -- The law, of the cache that the list leaves.
-use Rattle.regex_search_core.specs.Search.{search_of}
+use Rattle.nfa_engines.specs.Search.{search_of}
 use Rattle.law_callers.proofs.work.few_scans_by_pikevm.Goals as goal
 
 pub returns : goal.returns
