@@ -31,32 +31,6 @@ pub fn found_later(vm: &PikeVM, cache: &mut Cache, input: Input<'_>, start: usiz
     vm.find(cache, later)
 }
 
-/// Returns the first position, from the start of the search on, with a byte that a match may begin with, or the end of
-/// the span. Nothing matches before it.
-pub fn first_candidate(vm: &PikeVM, input: &Input<'_>) -> usize
-    ensures first { IsFirstStart vm.now.nfa (search_of input.now) result }
-    ensures within { result ≤ (search_of input.now).end + 1 }
-{
-    laws::bytes_may_be_skipped();
-    let haystack = input.haystack();
-    let mut at = input.start();
-    while at < input.end() && !vm.may_begin(haystack[at]) {
-        at += 1;
-    }
-    at
-}
-
-/// Returns the match of a search that begins at that position. It is the match of the whole input.
-pub fn found_after_skip(vm: &PikeVM, cache: &mut Cache, input: Input<'_>) -> Option<Match>
-    requires fits { Fits cache.old vm.now.nfa }
-    requires unbound { IsUnbound vm.now.nfa (search_of input) }
-    ensures { IsMatchAnswer vm.now.nfa (kind_of vm.now) (search_of input.entry).earliest (search_of input.entry)
-        (option_map found_of result) }
-{
-    let start = first_candidate(vm, &input);
-    found_later(vm, cache, input, start)
-}
-
 /// Returns the pattern of the anchored search at the first start that has one, as a search from a prefilter's candidate
 /// does, and fills the slots. They are the answer of the unanchored search.
 pub fn found_at_candidate(
