@@ -1,0 +1,4 @@
+pub mod ExploreLemmas
+pub mod FollowLemmas
+pub mod MatchLemmas
+pub mod PositionLemmas
