@@ -126,8 +126,7 @@ module _ (nfa : Automaton) (x : Search) where
 
   -- all sets of matches at once
 
-  pub record AllScan (at : ℕ) (c : Configuration) : Type 0 where
-    pub spent : ℕ
+  pub record AllScan (at spent : ℕ) (c : Configuration) : Type 0 where
     pub scanning : Scanning (bare nfa x) (is_match nfa) [] at (Fresh at) spent []
         (map Explore (pairs at c.states ++ waiting at c.starts)) []
 
@@ -152,16 +151,16 @@ module _ (nfa : Automaton) (x : Search) where
       among [] i = absurd i
       among (t ∷ ts) i = elim i [ inl e ↦ inl (ap (λ (v : Pair). v.0) e) | inr j ↦ inr (among ts j) ]
 
-  module _ (at : ℕ) (c : Configuration) (s : AllScan at c) where
+  module _ (at spent : ℕ) (c : Configuration) (s : AllScan at spent c) where
     -- after the position's closure
     abbrev pub turns_here : ℕ
-    turns_here = s.spent + (closed at c).turns
+    turns_here = spent + (closed at c).turns
 
     Scanning-here : Scanning (bare nfa x) (is_match nfa) [] at (SeenAt at (closed at c).after) turns_here
         (map (place at) (closure_at nfa x at c)) (map Explore (waiting (at + 1) (c.starts - 1))) []
     Scanning-here = record {
       searching = λ target m.
-          follow-here at c target (λ v t. (m v t).0) s.spent None (s.scanning.searching target m);
+          follow-here at c target (λ v t. (m v t).0) spent None (s.scanning.searching target m);
     }
 
     later_starts : (k : Pair) → In k (waiting (at + 1) (c.starts - 1)) → at < k.1
@@ -181,9 +180,8 @@ module _ (nfa : Automaton) (x : Search) where
 
     -- the next position, where all states are kept and starts are left
     pub AllScan-next : (d : Configuration) → d.states ≡ step nfa (byte_at x at) (closure_at nfa x at c)
-        → d.starts ≡ c.starts - 1 → AllScan (at + 1) d
+        → d.starts ≡ c.starts - 1 → AllScan (at + 1) turns_here d
     AllScan-next d states_are starts_are = record {
-      spent = turns_here;
       scanning = record {
         searching = λ target m.
             let sooner : (v : Pair) → target v ≡ true → (is_match nfa v ≡ true) × (at ≤ v.1) =
