@@ -57,7 +57,7 @@ module _ (nfa : Automaton) (x : Search) where
   earliest-end kind at c past (inr s) = s.answered
 
   -- each kind of scan
-  scan-answered : (kind : MatchKind) (earliest : Bool) → Answered nfa x kind earliest (scan_half nfa x kind earliest)
+  pub scan-answered : (kind : MatchKind) (earliest : Bool) → Answered nfa x kind earliest (scan_half nfa x kind earliest)
   scan-answered LeftmostFirst false =
       let n = position_count x in
       first-end (x.start + n) (scanned nfa x LeftmostFirst false n)

@@ -1,14 +1,14 @@
 -- What an exploration keeps: states that rest, each once, of those that were not seen before.
-use Rattle.std.proofs.Common.{◌≡◌, ℕ, zero, suc, ◌≤◌, ◌⊎◌, inl, inr, Bool, true, false, List, [], ◌∷◌, ◌++◌, length, replicate, get_or, set, map, refl, ap, sym, ◌∙◌, arith, get_or-set_same, get_or-set_other}
+use Rattle.std.proofs.Common.{◌≡◌, ℕ, zero, suc, ◌≤◌, ◌<◌, ◌⊎◌, inl, inr, Bool, true, false, List, [], ◌∷◌, ◌++◌, length, replicate, get_or, set, map, refl, ap, sym, ◌∙◌, arith, get_or-set_same, get_or-set_other}
 use Rattle.std.proofs.Math.Decide.{ℕ_discrete}
 use Rattle.std.proofs.lemmas.Bool.{cases_Bool}
-use Rattle.std.proofs.lemmas.List.{get_or_default}
+use Rattle.std.proofs.lemmas.List.{length-replicate}
 use Rattle.thompson_nfa.specs.Automaton.{Automaton}
 use Rattle.nfa_paths.specs.Graphs.{Pair, In, NoRepeats}
 use Rattle.nfa_paths.specs.Exploring.{Slots}
 use Rattle.nfa_paths.specs.Kinds.{rests}
 use Rattle.nfa_paths.specs.Paths.{node_at}
-use Rattle.nfa_determinize.specs.Closures.{Holding, EachOnce, epsilon_states, explore}
+use Rattle.nfa_determinize.specs.Closures.{Holding, EachOnce, closure, epsilon_states, explore}
 
 -- how many states were not seen
 abbrev pub unseen : List Bool → ℕ
@@ -116,3 +116,33 @@ module _ (nfa : Automaton) (holding : Holding) where
                   (epsilon_states holding (node_at nfa w) ++ waiting))
             ]
       ]
+
+  -- no more are kept than were not seen
+  pub explore-short : (left : ℕ) (seen : List Bool) (waiting : List ℕ)
+      → length (explore nfa holding left seen waiting) ≤ left
+  unfolding explore
+  explore-short left seen [] = omega arith
+  explore-short zero seen (w ∷ waiting) = omega arith
+  explore-short (suc left) seen (w ∷ waiting) =
+      elim (cases_Bool (get_or seen w true)) [
+        | inl t ↦ rw t (explore-short (suc left) seen waiting)
+        | inr f ↦
+            elim (cases_Bool (rests (node_at nfa w))) [
+              | inl r ↦ rw (f, r)
+                  (let k : length (explore nfa holding left (set seen w true) waiting) ≤ left =
+                  explore-short left (set seen w true) waiting in omega arith)
+              | inr r ↦ rw (f, r)
+                  (let next = epsilon_states holding (node_at nfa w) ++ waiting in
+                  let k : length (explore nfa holding left (set seen w true) next) ≤ left =
+                  explore-short left (set seen w true) next in omega arith)
+            ]
+      ]
+
+  -- the closure's states
+  pub closure-rests : (states : List ℕ) (s : ℕ) → In s (closure nfa holding states)
+      → (rests (node_at nfa s) ≡ true) × (s < length nfa.states)
+  closure-rests states s i =
+      let n = length nfa.states in
+      let h = explore-keeps n (replicate n false) states s i in
+      let inside : suc s ≤ length (replicate n false) = unseen-inside (replicate n false) s h.1 in
+      (h.0, omega (arith, length-replicate n false))

@@ -102,7 +102,7 @@ work-append (v ∷ states) more = ap (λ (w : List Item). Explore v ∷ w) (work
 
 -- a state that does not rest leads to the states that it leads to without a byte
 epsilon-edges : (x : Search) (at : ℕ) (node : Node) → rests node ≡ false
-    → edges_of x node at ≡ pairs at (epsilon_states (holding_at x at) node)
+    → edges_of x node at ≡ pairs at (epsilon_states (holding_at x.haystack at) node)
 unfolding edges_of
 epsilon-edges x at (ByteRange t) r = cc
 epsilon-edges x at (Sparse ts) r = cc
@@ -270,7 +270,7 @@ module _ (nfa : Automaton) (x : Search) (at : ℕ) where
 
     -- any other gives way to the states that it leads to
     Followed-left : rests (node_at nfa s) ≡ false
-        → Followed (set seen s true) (epsilon_states (holding_at x at) (node_at nfa s) ++ waiting) out
+        → Followed (set seen s true) (epsilon_states (holding_at x.haystack at) (node_at nfa s) ++ waiting) out
         → Followed seen (s ∷ waiting) out
     Followed-left r f = record {
       after = f.after;
@@ -278,7 +278,7 @@ module _ (nfa : Automaton) (x : Search) (at : ℕ) where
       leads = λ target ok spent front otherwise rest h.
           let inside : s < length seen = unseen-inside seen s clear in
           let same : spent + 1 + f.turns ≡ spent + suc f.turns = omega arith in
-          let next = epsilon_states (holding_at x at) (node_at nfa s) in
+          let next = epsilon_states (holding_at x.haystack at) (node_at nfa s) in
           let plain = Searching-plain (bare nfa x) target h (SeenAt-clear at s seen inside clear)
           (SeenAt-set at s seen inside) (unrested target ok s r) (pairs at next)
           (epsilon-edges x at (node_at nfa s) r) refl in
@@ -296,29 +296,29 @@ module _ (nfa : Automaton) (x : Search) (at : ℕ) where
 
   -- the waiting states, all of them
   pub follow : (left : ℕ) (seen : List Bool) (waiting : List ℕ) → length seen ≡ length nfa.states
-      → unseen seen ≤ left → Followed seen waiting (explore nfa (holding_at x at) left seen waiting)
+      → unseen seen ≤ left → Followed seen waiting (explore nfa (holding_at x.haystack at) left seen waiting)
   unfolding explore
   follow left seen [] size few = Followed-none seen
   follow zero seen (s ∷ waiting) size few =
       let none : unseen seen ≡ 0 = omega arith in
       Followed-seen seen s waiting [] size (unseen-none seen none s)
-      (subst (λ (out : List ℕ). Followed seen waiting out) (explore-none nfa (holding_at x at) seen waiting)
+      (subst (λ (out : List ℕ). Followed seen waiting out) (explore-none nfa (holding_at x.haystack at) seen waiting)
       (follow zero seen waiting size few))
   follow (suc left) seen (s ∷ waiting) size few =
       elim (cases_Bool (get_or seen s true)) [
-        | inl t ↦ rw t (Followed-seen seen s waiting (explore nfa (holding_at x at) (suc left) seen waiting) size t
+        | inl t ↦ rw t (Followed-seen seen s waiting (explore nfa (holding_at x.haystack at) (suc left) seen waiting) size t
             (follow (suc left) seen waiting size few))
         | inr f ↦
             let again : length (set seen s true) ≡ length nfa.states = length-set seen s true ∙ size in
             let fewer : unseen (set seen s true) ≤ left = omega (arith, unseen-set seen s f) in
             elim (cases_Bool (rests (node_at nfa s))) [
               | inl r ↦ rw (f, r) (Followed-kept seen s waiting
-                  (explore nfa (holding_at x at) left (set seen s true) waiting) f r
+                  (explore nfa (holding_at x.haystack at) left (set seen s true) waiting) f r
                   (follow left (set seen s true) waiting again fewer))
               | inr r ↦ rw (f, r) (Followed-left seen s waiting
-                  (explore nfa (holding_at x at) left (set seen s true)
-                  (epsilon_states (holding_at x at) (node_at nfa s) ++ waiting)) f r
-                  (follow left (set seen s true) (epsilon_states (holding_at x at) (node_at nfa s) ++ waiting)
+                  (explore nfa (holding_at x.haystack at) left (set seen s true)
+                  (epsilon_states (holding_at x.haystack at) (node_at nfa s) ++ waiting)) f r
+                  (follow left (set seen s true) (epsilon_states (holding_at x.haystack at) (node_at nfa s) ++ waiting)
                   again fewer))
             ]
       ]

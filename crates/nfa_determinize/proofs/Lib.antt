@@ -5,3 +5,4 @@ pub mod PositionLemmas
 pub mod FirstScanLemmas
 pub mod LastScanLemmas
 pub mod AnswerLemmas
+pub mod SearchLemmas

@@ -97,11 +97,11 @@ module _ (nfa : Automaton) (x : Search) where
 
     pub closed-rests : (s : ℕ) → In s (closure_at nfa x at c) → rests (node_at nfa s) ≡ true
     closed-rests s i =
-        (explore-keeps nfa (holding_at x at) (length nfa.states) (replicate (length nfa.states) false)
+        (explore-keeps nfa (holding_at x.haystack at) (length nfa.states) (replicate (length nfa.states) false)
         (c.states ++ start_here nfa x c.starts) s i).0
 
     pub closed-once : EachOnce (closure_at nfa x at c)
-    closed-once = explore-once nfa (holding_at x at) (length nfa.states) (replicate (length nfa.states) false)
+    closed-once = explore-once nfa (holding_at x.haystack at) (length nfa.states) (replicate (length nfa.states) false)
         (c.states ++ start_here nfa x c.starts)
 
   -- the search for one set of matches, before a position

@@ -2,7 +2,6 @@
 use Rattle.std.specs.Prelude.{ℕ, zero, suc, Bool, true, false, List, [], ◌∷◌, ◌++◌, length, replicate, is_some, if◌then◌else◌, ⊤}
 use Rattle.std.specs.Prelude.{Option, None, Some, option_and_then, option_to_list, slice_index_or, slice_set}
 use Rattle.std.specs.Option.{option_or}
-use Rattle.regex_search_core.specs.Search.{Search}
 use Rattle.regex_search_core.specs.declared.search.MatchKind.{MatchKind}
 use Rattle.regex_search_core.specs.declared.search.MatchKind.TheVariants.{All, LeftmostFirst}
 use Rattle.thompson_nfa.specs.Automaton.{Automaton, Node}
@@ -18,8 +17,8 @@ abbrev pub Holding : Type 0
 Holding = looks.Look → Bool
 
 -- those that hold at a position of the haystack: all that a closure reads of it
-abbrev pub holding_at : Search → ℕ → Holding
-holding_at x at look = look_holds look x.haystack at
+abbrev pub holding_at : List ℕ → ℕ → Holding
+holding_at haystack at look = look_holds look haystack at
 
 -- no state is in the list twice
 abbrev pub EachOnce : List ℕ → Type 0

@@ -52,7 +52,7 @@ module _ (nfa : Automaton) (x : Search) where
 
   -- the closure at a position: of the states there, and of the start as the last one
   abbrev pub closure_at : ℕ → Configuration → List ℕ
-  closure_at at c = closure nfa (holding_at x at) (c.states ++ start_here c.starts)
+  closure_at at c = closure nfa (holding_at x.haystack at) (c.states ++ start_here c.starts)
 
   module _ (kind : MatchKind) (earliest : Bool) where
     -- what follows a closure: the match in it counts, and the byte leads on from the states that are kept

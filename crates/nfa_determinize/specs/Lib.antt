@@ -1,5 +1,6 @@
 pub mod Closures
 pub mod Configurations
+pub mod Searches
 pub mod Laws
 pub use Rattle.nfa_paths.specs.Graphs
 pub use Rattle.nfa_paths.specs.Paths
