@@ -8,7 +8,7 @@ use Rattle.regex_search_core.specs.declared.search.MatchKind.{MatchKind}
 use Rattle.regex_search_core.specs.declared.search.MatchKind.TheVariants.{All, LeftmostFirst}
 use Rattle.thompson_nfa.specs.Automaton.{Automaton}
 use Rattle.nfa_paths.specs.Graphs.{Pair, NoPath}
-use Rattle.nfa_paths.specs.Kinds.{is_resting, EndsBefore}
+use Rattle.nfa_paths.specs.Kinds.{is_resting}
 use Rattle.nfa_paths.specs.Paths.{byte_at, edges, starts, is_match, IsMatch, IsScanAnswer, path_half}
 use Rattle.nfa_paths.proofs.AnswerLemmas.{scan_answer-unique}
 use Rattle.nfa_paths.proofs.SearchingLemmas.{Searching-done}
@@ -57,7 +57,8 @@ module _ (nfa : Automaton) (x : Search) where
   earliest-end kind at c past (inr s) = s.answered
 
   -- each kind of scan
-  pub scan-answered : (kind : MatchKind) (earliest : Bool) → Answered nfa x kind earliest (scan_half nfa x kind earliest)
+  pub scan-answered : (kind : MatchKind) (earliest : Bool)
+      → Answered nfa x kind earliest (scan_half nfa x kind earliest)
   scan-answered LeftmostFirst false =
       let n = position_count x in
       first-end (x.start + n) (scanned nfa x LeftmostFirst false n)

@@ -1,9 +1,7 @@
 -- The scan for the first path, position by position.
-use Rattle.std.proofs.Common.{◌≡◌, ℕ, zero, suc, ◌+◌, ◌-◌, ◌<◌, ◌≤◌, inl, inr, Bool, true, false, List, [], ◌∷◌, ◌++◌, length, map, refl, ap, sym, ◌∙◌, subst, arith}
-use Rattle.std.specs.Prelude.{Option, None, Some, is_some, option_map}
-use Rattle.std.specs.Option.{option_or}
+use Rattle.std.proofs.Common.{◌≡◌, ℕ, zero, suc, ◌+◌, ◌-◌, ◌≤◌, inl, inr, Bool, true, false, List, [], ◌∷◌, ◌++◌, length, map, refl, ap, sym, ◌∙◌, subst, arith}
+use Rattle.std.specs.Prelude.{None, Some, is_some}
 use Rattle.std.proofs.lemmas.List.{map-append}
-use Rattle.regex_search_core.specs.Found.{HalfFound}
 use Rattle.regex_search_core.specs.Search.{Search}
 use Rattle.regex_search_core.specs.declared.search.MatchKind.TheVariants.{LeftmostFirst}
 use Rattle.thompson_nfa.specs.Automaton.{Automaton}
@@ -15,9 +13,10 @@ use Rattle.nfa_paths.proofs.MemberLemmas.{In-append_left}
 use Rattle.nfa_paths.proofs.PathToLemmas.{is_false}
 use Rattle.nfa_paths.proofs.ScanningLemmas.{Searching-cut}
 use Rattle.nfa_determinize.specs.Closures.{before_first_match, step}
-use Rattle.nfa_determinize.specs.Configurations.{Configuration, half_at, begin, closure_at, after, advance, scanned}
-use Rattle.nfa_determinize.proofs.FollowLemmas.{pairs, place, SeenAt, bare, Finding, Finding-next}
-use Rattle.nfa_determinize.proofs.MatchLemmas.{half_of, NoneMatches, FirstIn, NoneIn, first-is}
+use Rattle.nfa_determinize.specs.Configurations.{Configuration, begin, closure_at, after, advance, scanned}
+use Rattle.nfa_determinize.proofs.FollowLemmas.{pairs, place, SeenAt, bare, Finding}
+use Rattle.nfa_determinize.proofs.NextLemmas.{Finding-next}
+use Rattle.nfa_determinize.proofs.MatchLemmas.{half_of, FirstIn, NoneIn, first-is}
 use Rattle.nfa_determinize.proofs.PositionLemmas.{waiting, waiting-none, waiting-later, Fresh, closed, closed-rests, follow-here, Finding-begin}
 
 module _ (nfa : Automaton) (x : Search) where

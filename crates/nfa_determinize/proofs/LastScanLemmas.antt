@@ -1,5 +1,5 @@
 -- The scans for the last path and for the paths with the least end, position by position.
-use Rattle.std.proofs.Common.{◌≡◌, ◌⊎◌, ℕ, zero, suc, ◌+◌, ◌-◌, ◌<◌, ◌≤◌, inl, inr, Bool, true, false, List, [], ◌∷◌, ◌++◌, length, map, refl, ap, sym, ◌∙◌, subst, arith}
+use Rattle.std.proofs.Common.{◌≡◌, ◌⊎◌, ℕ, zero, suc, ◌+◌, ◌≤◌, inl, inr, Bool, true, false, List, [], ◌∷◌, ◌++◌, map, refl, ap, sym, ◌∙◌, subst, arith}
 use Rattle.std.specs.Prelude.{Option, None, Some, is_some, option_map, option_and_then}
 use Rattle.std.specs.Option.{option_or}
 use Rattle.std.proofs.lemmas.List.{map-append}
@@ -10,17 +10,18 @@ use Rattle.regex_search_core.specs.declared.search.MatchKind.TheVariants.{All, L
 use Rattle.thompson_nfa.specs.Automaton.{Automaton}
 use Rattle.nfa_paths.specs.Graphs.{Pair, In, IsFirstPath, WantedAt}
 use Rattle.nfa_paths.specs.Exploring.{Slots, Hit}
-use Rattle.nfa_paths.specs.Kinds.{Passes, IsFoundBy, NoneBefore, LastBefore, last_match, NoMatch, is_resting}
-use Rattle.nfa_paths.specs.Paths.{is_match, byte_at, starts, IsScanAnswer, path_half}
+use Rattle.nfa_paths.specs.Kinds.{Passes, IsFoundBy, NoneBefore, LastBefore, last_match, is_resting}
+use Rattle.nfa_paths.specs.Paths.{is_match, IsScanAnswer, path_half}
 use Rattle.nfa_paths.proofs.FrontMatchLemmas.{FirstMatch, last_match-is}
 use Rattle.nfa_paths.proofs.KindsLemmas.{IsFront-first_match}
 use Rattle.nfa_paths.proofs.ScanAnswerLemmas.{starts-from}
 use Rattle.nfa_paths.proofs.ScanLemmas.{NoneBefore-start, NoneBefore-step, IsEarliestPath-found, IsEarliestLastPath-found, LastBefore-start, LastBefore-step}
 use Rattle.nfa_determinize.specs.Closures.{state_pattern, last_pattern, before_first_match}
 use Rattle.nfa_determinize.specs.Configurations.{Configuration, half_at, begin, closure_at, advance, scanned}
-use Rattle.nfa_determinize.proofs.FollowLemmas.{place, bare, place-among}
-use Rattle.nfa_determinize.proofs.MatchLemmas.{half_of, NoneMatches, FirstIn, NoneIn, first-is, half-last, half-found}
-use Rattle.nfa_determinize.proofs.PositionLemmas.{AllScan, shape, closed, turns_here, front, AllScan-next, Finding-begin}
+use Rattle.nfa_determinize.proofs.FollowLemmas.{place, bare}
+use Rattle.nfa_determinize.proofs.NextLemmas.{place-among}
+use Rattle.nfa_determinize.proofs.MatchLemmas.{half_of, FirstIn, NoneIn, first-is, half-last, half-found}
+use Rattle.nfa_determinize.proofs.PositionLemmas.{AllScan, shape, turns_here, front, AllScan-next, Finding-begin}
 
 module _ (nfa : Automaton) (x : Search) where
   -- the pattern and the end of the answer of a scan
@@ -141,8 +142,8 @@ module _ (nfa : Automaton) (x : Search) where
           plain = λ b i m. miss b (place-among at before b i) m;
           matches = ap is_some some.is;
         } in
-        let h = IsFront-first_match (bare nfa x) (is_resting nfa) (is_match nfa) [] (turns_here nfa x at s.spent c s.all)
-        (shape nfa x) (front nfa x at s.spent c s.all) (place at some.state) first in
+        let h = IsFront-first_match (bare nfa x) (is_resting nfa) (is_match nfa) []
+        (turns_here nfa x at s.spent c s.all) (shape nfa x) (front nfa x at s.spent c s.all) (place at some.state) first in
         let by : IsFoundBy (λ v. None) []
         (IsFirstPath (bare nfa x).edges (bare nfa x).starts (WantedAt (Passes (is_match nfa)) at))
         (turns_here nfa x at s.spent c s.all) (Some (place at some.state)) =
@@ -170,7 +171,7 @@ module _ (nfa : Automaton) (x : Search) where
           | inl none ↦
               inl (record {
                 spent = turns_here nfa x at s.spent c s.all;
-        all = AllScan-next nfa x at s.spent c s.all (advance nfa x All true at c) refl refl;
+                all = AllScan-next nfa x at s.spent c s.all (advance nfa x All true at c) refl refl;
                 found_is = rw s.found_is (sym hit_is ∙ ap (half_of nfa) none.0);
                 none = NoneBefore-step (bare nfa x) (is_resting nfa) (is_match nfa) [] (shape nfa x) s.none
                     (front nfa x at s.spent c s.all) none.1;

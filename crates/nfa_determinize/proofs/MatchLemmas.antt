@@ -1,12 +1,12 @@
 -- The matches among the states at a position, and what was found of them.
-use Rattle.std.proofs.Common.{◌≡◌, ℕ, ◌⊎◌, inl, inr, Bool, true, false, List, [], ◌∷◌, ◌++◌, map, refl, ap, sym, ◌∙◌}
+use Rattle.std.proofs.Common.{◌≡◌, ℕ, ◌⊎◌, inl, inr, true, false, List, [], ◌∷◌, ◌++◌, map, refl, ap, ◌∙◌}
 use Rattle.std.specs.Prelude.{Option, None, Some, cond, is_some, option_map, option_and_then}
 use Rattle.std.specs.List.{last_or}
 use Rattle.std.specs.Option.{option_or}
 use Rattle.regex_search_core.specs.Found.{HalfFound}
 use Rattle.thompson_nfa.specs.Automaton.{Automaton}
 use Rattle.nfa_paths.specs.Graphs.{Pair, In}
-use Rattle.nfa_paths.specs.Exploring.{Slots, Hit, apply, found}
+use Rattle.nfa_paths.specs.Exploring.{Hit, apply}
 use Rattle.nfa_paths.specs.Kinds.{found_along, last_match}
 use Rattle.nfa_paths.specs.Paths.{node_at, pattern_of, is_match, path_half}
 use Rattle.nfa_determinize.specs.Closures.{state_pattern, first_pattern, last_pattern, before_first_match}
@@ -104,7 +104,8 @@ module _ (nfa : Automaton) where
   half-found (Some p) = of (last_or None p)
     where
       of : (o : Option Pair)
-          → option_and_then (λ v. option_map (λ k. record { pattern = k; offset = v.1 }) (pattern_of (node_at nfa v.0))) o
+          → option_and_then
+          (λ v. option_map (λ k. record { pattern = k; offset = v.1 }) (pattern_of (node_at nfa v.0))) o
           ≡ half_of (option_map (λ e. (e, apply (λ v. None) p [])) o)
       of None = refl
       of (Some v) = refl

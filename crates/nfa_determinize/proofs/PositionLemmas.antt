@@ -1,6 +1,6 @@
 -- From one position of a scan to the next, and what is left at the end of the span.
 use Rattle.std.proofs.Common.{◌≡◌, ℕ, zero, suc, ◌+◌, ◌-◌, ◌<◌, ◌≤◌, inl, inr, Bool, true, false, List, [], ◌∷◌, ◌++◌, length, replicate, map, refl, ap, sym, ◌∙◌, subst, arith, append-nil, cond}
-use Rattle.std.specs.Prelude.{Option, None, Some, nat_lt, option_to_list}
+use Rattle.std.specs.Prelude.{Option, None, Some, option_to_list}
 use Rattle.std.specs.Option.{option_map_or}
 use Rattle.std.proofs.lemmas.Bool.{cases_lt, le-ltb}
 use Rattle.std.proofs.lemmas.List.{length-replicate}
@@ -9,7 +9,7 @@ use Rattle.regex_search_core.specs.declared.search.MatchKind.{MatchKind}
 use Rattle.regex_search_core.specs.declared.search.MatchKind.TheVariants.{All, LeftmostFirst}
 use Rattle.thompson_nfa.specs.Automaton.{Automaton}
 use Rattle.nfa_paths.specs.Graphs.{Pair, In, NoRepeats}
-use Rattle.nfa_paths.specs.Exploring.{Slots, Hit, Item}
+use Rattle.nfa_paths.specs.Exploring.{Slots, Hit}
 use Rattle.nfa_paths.specs.Exploring.Item.{Explore}
 use Rattle.nfa_paths.specs.Kinds.{rests, is_resting, Scanned, IsFront, Scanning, EndsBefore}
 use Rattle.nfa_paths.specs.Paths.{node_at, is_match, byte_at, pairs_from, start_state, start_count, starts}
@@ -18,10 +18,11 @@ use Rattle.nfa_paths.proofs.ScanAnswerLemmas.{Scanned-matches, EndsBefore-span}
 use Rattle.nfa_paths.proofs.ScanningLemmas.{Scanning-front}
 use Rattle.nfa_paths.proofs.SearchingLemmas.{Searching-start}
 use Rattle.nfa_paths.proofs.StartLemmas.{pairs_from-ahead, starts-none}
-use Rattle.nfa_determinize.specs.Closures.{EachOnce, holding_at, closure, step, match_in, kept}
+use Rattle.nfa_determinize.specs.Closures.{EachOnce, holding_at, step, match_in, kept}
 use Rattle.nfa_determinize.specs.Configurations.{Configuration, start_here, closure_at, starts_after, position_count, scanned}
 use Rattle.nfa_determinize.proofs.ExploreLemmas.{unseen, unseen-all, explore-keeps, explore-once}
-use Rattle.nfa_determinize.proofs.FollowLemmas.{pairs, place, SeenAt, SeenAt-none, bare, Finding, pairs-append, Followed, follow, place-among, Explore-among, Finding-next}
+use Rattle.nfa_determinize.proofs.FollowLemmas.{pairs, place, SeenAt, SeenAt-none, bare, Finding, pairs-append, Followed, follow}
+use Rattle.nfa_determinize.proofs.NextLemmas.{place-among, Explore-among, Finding-next}
 
 -- the list has as many pairs
 length-pairs_from : (state at count : ℕ) → length (pairs_from state at count) ≡ count

@@ -1,6 +1,6 @@
 -- What the steps find is the half match of a search, with its restarts.
-use Rattle.std.proofs.Common.{◌≡◌, ◌↔◌, ℕ, ◌<◌, inl, inr, Bool, true, false, List, [], ◌∷◌, refl, ap, sym, ◌∙◌, subst}
-use Rattle.std.specs.Prelude.{Option, None, Some, MatchBool, is_some, option_map, option_and_then}
+use Rattle.std.proofs.Common.{◌≡◌, ◌↔◌, ℕ, inl, inr, Bool, true, false, List, [], ◌∷◌, refl, sym, ◌∙◌, subst}
+use Rattle.std.specs.Prelude.{Option, None, Some, MatchBool, is_some, option_and_then}
 use Rattle.regex_search_core.specs.Boundary.{IsBoundary}
 use Rattle.regex_search_core.specs.Found.{HalfFound}
 use Rattle.regex_search_core.specs.Search.{Search, is_anchored}
@@ -8,12 +8,11 @@ use Rattle.regex_search_core.specs.declared.search.MatchKind.{MatchKind}
 use Rattle.thompson_nfa.specs.Automaton.{Automaton}
 use Rattle.nfa_paths.specs.Graphs.{Pair}
 use Rattle.nfa_paths.specs.Paths.{node_at, pattern_of, last_of, path_half, is_utf8_empty, raised, EndsOnBoundary, IsWhole}
-use Rattle.nfa_paths.specs.Paths.{IsScanAnswer, SplitsCharacter, IsKeptAnswer, IsRestartedAnswer, IsSearchAnswer, IsHalfAnswer}
+use Rattle.nfa_paths.specs.Paths.{IsScanAnswer, SplitsCharacter, IsKeptAnswer, IsRestartedAnswer, IsHalfAnswer}
 use Rattle.nfa_paths.proofs.PathToLemmas.{EndsWith-last}
 use Rattle.nfa_paths.proofs.AnswerLemmas.{ends_on_boundary, scan_answer-leads}
 use Rattle.nfa_determinize.specs.Configurations.{scan_half}
 use Rattle.nfa_determinize.specs.Searches.{IsWholeHalf, FindsSplit, IsKeptHalf, IsRestartedHalf, IsStepsHalf}
-use Rattle.nfa_determinize.proofs.LastScanLemmas.{Answered}
 use Rattle.nfa_determinize.proofs.AnswerLemmas.{scan-answered, steps-find}
 
 never-none : {A : Type 0} (a : A) → None ≡ Some a → ⊥

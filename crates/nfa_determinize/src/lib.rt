@@ -2,4 +2,5 @@
 //! answer.
 #![tactic(auto)]
 
+pub mod closure;
 pub mod laws;
