@@ -1,0 +1,200 @@
+-- How an exploration goes on when a state is taken from the stack, and what steps and matches are of a longer list.
+use Rattle.std.proofs.Common.{◌≡◌, ℕ, zero, suc, ◌+◌, ◌-◌, ◌<◌, ◌≤◌, Bool, true, false, List, [], ◌∷◌, ◌++◌, length, replicate, get_or, set, length-set, map, reverse, refl, ap, sym, ◌∙◌, subst, arith, append_assoc, append-nil}
+use Rattle.std.specs.Prelude.{Some, cond, All, sum}
+use Rattle.std.specs.List.{slice_get}
+use Rattle.std.proofs.lemmas.List.{length-append, length-replicate, length-reverse, reverse-append, reverse-reverse}
+use Rattle.std.proofs.lemmas.List.Elements.{All-append, All-cons, All-head, All-nil, All-push, All-tail}
+use Rattle.std.proofs.lemmas.Option.{get_or_from_slice_get, slice_get-map}
+use Rattle.thompson_nfa.specs.Automaton.{Automaton, Node, LeadsBelow}
+use Rattle.thompson_nfa.specs.Automaton.Node.{ByteRange, Sparse, Dense, Look, Union, BinaryUnion, Capture, Fail, Match}
+use Rattle.nfa_paths.specs.Kinds.{rests}
+use Rattle.nfa_paths.specs.Paths.{degree, node_at}
+use Rattle.nfa_paths.specs.Turns.{marked_sum}
+use Rattle.nfa_paths.proofs.TurnLemmas.{marked_sum-set, marked_sum-le}
+use Rattle.nfa_determinize.specs.Closures.{Holding, closure, epsilon_states, explore}
+use Rattle.nfa_determinize.proofs.ExploreLemmas.{unseen, unseen-all, unseen-set, explore-none}
+
+-- each state of a list is below n
+abbrev pub AreBelow : ℕ → List ℕ → Type 0
+AreBelow n states = All (λ s. s < n) states
+
+AreBelow-reverse : (n : ℕ) (states : List ℕ) → AreBelow n states → AreBelow n (reverse states)
+AreBelow-reverse n [] below = All-nil (λ s. s < n)
+AreBelow-reverse n (s ∷ states) below =
+    subst (AreBelow n) (sym (reverse-append (s ∷ []) states))
+    (All-push (λ s. s < n) (reverse states) s (AreBelow-reverse n states (All-tail (λ s. s < n) s states below))
+    (All-head (λ s. s < n) s states below))
+
+-- all but the last, and the last
+pub AreBelow-last : (n : ℕ) (states : List ℕ) (s : ℕ) → AreBelow n (states ++ s ∷ []) → AreBelow n states × (s < n)
+AreBelow-last n [] s below = (All-nil (λ s. s < n), All-head (λ s. s < n) s [] below)
+AreBelow-last n (t ∷ states) s below =
+    let h = AreBelow-last n states s (All-tail (λ s. s < n) t (states ++ s ∷ []) below) in
+    (All-cons (λ s. s < n) t states (All-head (λ s. s < n) t (states ++ s ∷ []) below) h.0, h.1)
+
+-- a state's number names its node
+pub node_at-get : (nfa : Automaton) (s : ℕ) (node : Node) → slice_get nfa.states s ≡ Some node → node_at nfa s ≡ node
+unfolding node_at
+node_at-get nfa s node is = get_or_from_slice_get nfa.states s node Fail is
+
+-- the states that a state leads to without a byte
+epsilon-below : (holding : Holding) (n : ℕ) (node : Node) → LeadsBelow n node
+    → AreBelow n (epsilon_states holding node)
+epsilon-below holding n (ByteRange t) leads = All-nil (λ s. s < n)
+epsilon-below holding n (Sparse ts) leads = All-nil (λ s. s < n)
+epsilon-below holding n (Dense targets) leads = All-nil (λ s. s < n)
+epsilon-below holding n (Look look next) leads = of (holding look)
+  where
+    of : (b : Bool) → AreBelow n (cond b (next ∷ []) [])
+    of true = All-cons (λ s. s < n) next [] leads (All-nil (λ s. s < n))
+    of false = All-nil (λ s. s < n)
+epsilon-below holding n (Union alternates) leads = leads
+epsilon-below holding n (BinaryUnion a b) leads =
+    All-cons (λ s. s < n) a (b ∷ []) leads.0 (All-cons (λ s. s < n) b [] leads.1 (All-nil (λ s. s < n)))
+epsilon-below holding n (Capture next slot) leads = All-cons (λ s. s < n) next [] leads (All-nil (λ s. s < n))
+epsilon-below holding n Fail leads = All-nil (λ s. s < n)
+epsilon-below holding n (Match pattern) leads = All-nil (λ s. s < n)
+
+epsilon-few : (holding : Holding) (node : Node) → length (epsilon_states holding node) ≤ degree node
+epsilon-few holding (ByteRange t) = omega arith
+epsilon-few holding (Sparse ts) = omega arith
+epsilon-few holding (Dense targets) = omega arith
+epsilon-few holding (Look look next) = of (holding look)
+  where
+    of : (b : Bool) → length (cond b (next ∷ []) []) ≤ 1
+    of true = omega arith
+    of false = omega arith
+epsilon-few holding (Union alternates) = omega arith
+epsilon-few holding (BinaryUnion a b) = omega arith
+epsilon-few holding (Capture next slot) = omega arith
+epsilon-few holding Fail = omega arith
+epsilon-few holding (Match pattern) = omega arith
+
+-- how many states may still be taken from the stack
+abbrev pub takes_left : Automaton → List Bool → List ℕ → ℕ
+takes_left nfa seen waiting =
+    length waiting + (sum (map degree nfa.states) - marked_sum (map degree nfa.states) seen)
+
+module _ (nfa : Automaton) (holding : Holding) where
+  -- An exploration under way: what was kept, and what the states on the stack come to, are the goal.
+  pub record IsUnderWay (goal : List ℕ) (seen : List Bool) (waiting kept : List ℕ) : Type 0 where
+    pub size : length seen ≡ length nfa.states
+    pub states : AreBelow (length nfa.states) waiting
+    pub below : AreBelow (length nfa.states) kept
+    pub leads : kept ++ explore nfa holding (unseen seen) seen (reverse waiting) ≡ goal
+
+  pub IsUnderWay-begin : (states : List ℕ) → AreBelow (length nfa.states) states
+      → IsUnderWay (closure nfa holding states) (replicate (length nfa.states) false) (reverse states) []
+  IsUnderWay-begin states below = record {
+    size = length-replicate (length nfa.states) false;
+    states = AreBelow-reverse (length nfa.states) states below;
+    below = All-nil (λ s. s < length nfa.states);
+    leads = rw (unseen-all (length nfa.states), reverse-reverse states) refl;
+  }
+
+  pub IsUnderWay-done : {goal : List ℕ} {seen : List Bool} {kept : List ℕ} → IsUnderWay goal seen [] kept
+      → kept ≡ goal
+  unfolding explore
+  IsUnderWay-done {kept = kept} h = sym (append-nil kept) ∙ h.leads
+
+  -- the last of the stack is the first that is explored
+  top : (waiting : List ℕ) (s : ℕ) → reverse (waiting ++ s ∷ []) ≡ s ∷ reverse waiting
+  top waiting s = reverse-append waiting (s ∷ [])
+
+  explore-seen : (left : ℕ) (seen : List Bool) (s : ℕ) (states : List ℕ) → get_or seen s true ≡ true
+      → explore nfa holding left seen (s ∷ states) ≡ explore nfa holding left seen states
+  unfolding explore
+  explore-seen zero seen s states t = sym (explore-none nfa holding seen states)
+  explore-seen (suc left) seen s states t = rw t refl
+
+  explore-kept : (seen : List Bool) (s : ℕ) (states : List ℕ) → get_or seen s true ≡ false
+      → rests (node_at nfa s) ≡ true
+      → explore nfa holding (unseen seen) seen (s ∷ states)
+      ≡ s ∷ explore nfa holding (unseen (set seen s true)) (set seen s true) states
+  unfolding explore
+  explore-kept seen s states clear r = rw (unseen-set seen s clear) (rw (clear, r) refl)
+
+  explore-left : (seen : List Bool) (s : ℕ) (states : List ℕ) → get_or seen s true ≡ false
+      → rests (node_at nfa s) ≡ false
+      → explore nfa holding (unseen seen) seen (s ∷ states)
+      ≡ explore nfa holding (unseen (set seen s true)) (set seen s true)
+      (epsilon_states holding (node_at nfa s) ++ states)
+  unfolding explore
+  explore-left seen s states clear r = rw (unseen-set seen s clear) (rw (clear, r) refl)
+
+  module _ {goal : List ℕ} {seen : List Bool} (waiting : List ℕ) (s : ℕ) {kept : List ℕ}
+      (h : IsUnderWay goal seen (waiting ++ s ∷ []) kept) where
+    -- the goal, with the state that was taken first
+    leads-top : kept ++ explore nfa holding (unseen seen) seen (s ∷ reverse waiting) ≡ goal
+    leads-top = ap (λ states. kept ++ explore nfa holding (unseen seen) seen states) (sym (top waiting s)) ∙ h.leads
+
+    pub IsUnderWay-seen : get_or seen s true ≡ true → IsUnderWay goal seen waiting kept
+    IsUnderWay-seen t = record {
+      size = h.size;
+      states = (AreBelow-last (length nfa.states) waiting s h.states).0;
+      below = h.below;
+      leads = ap (λ out. kept ++ out) (sym (explore-seen (unseen seen) seen s (reverse waiting) t)) ∙ leads-top;
+    }
+
+    pub IsUnderWay-kept : get_or seen s true ≡ false → rests (node_at nfa s) ≡ true
+        → IsUnderWay goal (set seen s true) waiting (kept ++ s ∷ [])
+    IsUnderWay-kept clear r =
+        let last = AreBelow-last (length nfa.states) waiting s h.states in
+        record {
+          size = length-set seen s true ∙ h.size;
+          states = last.0;
+          below = All-push (λ s. s < length nfa.states) kept s h.below last.1;
+          leads = append_assoc kept (s ∷ [])
+              (explore nfa holding (unseen (set seen s true)) (set seen s true) (reverse waiting))
+              ∙ ap (λ out. kept ++ out) (sym (explore-kept seen s (reverse waiting) clear r)) ∙ leads-top;
+        }
+
+    pub IsUnderWay-left : (node : Node) → node_at nfa s ≡ node → LeadsBelow (length nfa.states) node
+        → get_or seen s true ≡ false → rests node ≡ false
+        → IsUnderWay goal (set seen s true) (waiting ++ reverse (epsilon_states holding node)) kept
+    IsUnderWay-left node is leads clear r =
+        let n = length nfa.states in
+        let next = epsilon_states holding node in
+        let last = AreBelow-last n waiting s h.states in
+        let stack : reverse (waiting ++ reverse next) ≡ next ++ reverse waiting =
+        reverse-append waiting (reverse next) ∙ ap (λ ts. ts ++ reverse waiting) (reverse-reverse next) in
+        record {
+          size = length-set seen s true ∙ h.size;
+          states = All-append (λ s. s < n) waiting (reverse next) last.0
+              (AreBelow-reverse n next (epsilon-below holding n node leads));
+          below = h.below;
+          leads = ap (λ states. kept ++ explore nfa holding (unseen (set seen s true)) (set seen s true) states) stack
+              ∙ ap (λ (m : Node). kept ++ explore nfa holding (unseen (set seen s true)) (set seen s true)
+              (epsilon_states holding m ++ reverse waiting)) (sym is)
+              ∙ ap (λ out. kept ++ out) (sym (explore-left seen s (reverse waiting) clear
+              (ap rests is ∙ r))) ∙ leads-top;
+        }
+
+  -- the stack ends
+
+  module _ (seen : List Bool) (waiting : List ℕ) (s : ℕ) where
+    pub takes-seen : takes_left nfa seen waiting < takes_left nfa seen (waiting ++ s ∷ [])
+    takes-seen = omega (arith, length-append waiting (s ∷ []))
+
+    pub takes-kept : get_or seen s true ≡ false
+        → takes_left nfa (set seen s true) waiting < takes_left nfa seen (waiting ++ s ∷ [])
+    takes-kept clear =
+        omega (arith, length-append waiting (s ∷ []), marked_sum-set (map degree nfa.states) seen s clear)
+
+    pub takes-left : (node : Node) → slice_get nfa.states s ≡ Some node → get_or seen s true ≡ false
+        → takes_left nfa (set seen s true) (waiting ++ reverse (epsilon_states holding node))
+        < takes_left nfa seen (waiting ++ s ∷ [])
+    takes-left node is clear =
+        let ws = map degree nfa.states in
+        let one : get_or ws s 0 ≡ degree node =
+        get_or_from_slice_get ws s (degree node) 0 (rw (slice_get-map degree nfa.states s, is) refl) in
+        omega (
+          arith,
+          one,
+          length-append waiting (s ∷ []),
+          length-append waiting (reverse (epsilon_states holding node)),
+          length-reverse (epsilon_states holding node),
+          epsilon-few holding node,
+          marked_sum-set ws seen s clear,
+          marked_sum-le ws (set seen s true),
+        )

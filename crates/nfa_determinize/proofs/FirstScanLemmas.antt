@@ -1,0 +1,94 @@
+-- The scan for the first path, position by position.
+use Rattle.std.proofs.Common.{◌≡◌, ℕ, zero, suc, ◌+◌, ◌-◌, ◌≤◌, inl, inr, Bool, true, false, List, [], ◌∷◌, ◌++◌, length, map, refl, ap, sym, ◌∙◌, subst, arith}
+use Rattle.std.specs.Prelude.{None, Some, is_some}
+use Rattle.std.proofs.lemmas.List.{map-append}
+use Rattle.regex_search_core.specs.Search.{Search}
+use Rattle.regex_search_core.specs.declared.search.MatchKind.TheVariants.{LeftmostFirst}
+use Rattle.thompson_nfa.specs.Automaton.{Automaton}
+use Rattle.nfa_paths.specs.Graphs.{Pair, In}
+use Rattle.nfa_paths.specs.Exploring.{Slots, Hit}
+use Rattle.nfa_paths.specs.Kinds.{rests}
+use Rattle.nfa_paths.specs.Paths.{node_at, is_match, byte_at}
+use Rattle.nfa_paths.proofs.MemberLemmas.{In-append_left}
+use Rattle.nfa_paths.proofs.PathToLemmas.{is_false}
+use Rattle.nfa_paths.proofs.ScanningLemmas.{Searching-cut}
+use Rattle.nfa_determinize.specs.Closures.{before_first_match, step}
+use Rattle.nfa_determinize.specs.Configurations.{Configuration, begin, closure_at, after, advance, scanned}
+use Rattle.nfa_determinize.proofs.FollowLemmas.{pairs, place, SeenAt, bare, Finding}
+use Rattle.nfa_determinize.proofs.NextLemmas.{Finding-next}
+use Rattle.nfa_determinize.proofs.MatchLemmas.{half_of, FirstIn, NoneIn, first-is}
+use Rattle.nfa_determinize.proofs.PositionLemmas.{waiting, waiting-none, waiting-later, Fresh, closed, closed-rests, follow-here, Finding-begin}
+
+module _ (nfa : Automaton) (x : Search) where
+  -- before a position, with what was found so far
+  pub record FirstScan (at : ℕ) (c : Configuration) : Type 0 where
+    pub spent : ℕ
+    pub so_far : Hit
+    pub found_is : half_of nfa so_far ≡ c.found
+    pub finding : Finding nfa x (is_match nfa) (Fresh nfa x at) spent [] so_far
+        (pairs at c.states ++ waiting nfa x at c.starts)
+
+  module _ (at : ℕ) (here : List ℕ) (rest : (s : ℕ) → In s here → rests (node_at nfa s) ≡ true) (c : Configuration)
+      (seen : List Bool) (spent : ℕ) (so_far : Hit) (found_is : half_of nfa so_far ≡ c.found)
+      (finding : Finding nfa x (is_match nfa) (SeenAt at seen) spent (map (place at) here) so_far
+      (waiting nfa x (at + 1) (c.starts - 1))) where
+    past : (v : Pair) → SeenAt at seen v → v.1 ≤ at
+    past v h = let k : v.1 ≡ at = h.here in omega arith
+
+    -- no match at the position
+    first-miss : NoneIn nfa here → FirstScan (at + 1) (after nfa x LeftmostFirst false at here c)
+    first-miss none = record {
+      spent = spent;
+      so_far = so_far;
+      found_is = rw none.first found_is;
+      finding = rw (none.first, none.kept) (Finding-next nfa x at (is_match nfa) here rest
+          (λ s i. is_false (is_match nfa (s, at)) (none.plain s i)) (waiting nfa x (at + 1) (c.starts - 1)) finding past
+          (λ k i. let l : at + 1 ≤ k.1 = waiting-later nfa x (at + 1) (c.starts - 1) k i in omega arith)
+          (length nfa.states));
+    }
+
+    -- a match at the position: what is after it is dropped
+    first-hit : FirstIn nfa here → FirstScan (at + 1) (after nfa x LeftmostFirst false at here c)
+    first-hit some =
+        let before = before_first_match nfa here in
+        let split : map (place at) here ≡ map (place at) before ++ place at some.state ∷ map (place at) some.after =
+        ap (map (place at)) some.split ∙ map-append (place at) before (some.state ∷ some.after) in
+        let matches : is_match nfa (some.state, at) ≡ true = ap is_some some.is in
+        let cut = Searching-cut (bare nfa x) (is_match nfa) (map (place at) before) (place at some.state)
+        (map (place at) some.after)
+        (subst (λ (f : List (Pair × Slots)). Finding nfa x (is_match nfa) (SeenAt at seen) spent f so_far
+        (waiting nfa x (at + 1) (c.starts - 1))) split finding) matches refl in
+        record {
+          spent = spent;
+          so_far = Some (place at some.state);
+          found_is = rw (some.first, some.is) refl;
+          finding = rw some.first (subst (λ (w : List Pair). Finding nfa x (is_match nfa) (Fresh nfa x (at + 1)) spent
+              [] (Some (place at some.state)) (pairs (at + 1) (step nfa (byte_at x at) before) ++ w))
+              (sym (waiting-none nfa x (at + 1)))
+              (Finding-next nfa x at (is_match nfa) before
+              (λ s i. rest s (rw some.split (In-append_left s before (some.state ∷ some.after) i)))
+              (λ s i. is_false (is_match nfa (s, at)) (some.plain s i)) [] cut past (λ k i. absurd i)
+              (length nfa.states)));
+        }
+
+    first-next : FirstScan (at + 1) (after nfa x LeftmostFirst false at here c)
+    first-next = elim (first-is nfa here) [ inl none ↦ first-miss none | inr some ↦ first-hit some ]
+
+  -- the next position
+  pub FirstScan-advance : (at : ℕ) (c : Configuration) → FirstScan at c
+      → FirstScan (at + 1) (advance nfa x LeftmostFirst false at c)
+  FirstScan-advance at c s =
+      first-next at (closure_at nfa x at c) (closed-rests nfa x at c) c (closed nfa x at c).after
+      (s.spent + (closed nfa x at c).turns) s.so_far s.found_is
+      (follow-here nfa x at c (is_match nfa) (λ v t. t) s.spent s.so_far s.finding)
+
+  -- after so many positions
+  pub FirstScan-scanned : (n : ℕ) → FirstScan (x.start + n) (scanned nfa x LeftmostFirst false n)
+  FirstScan-scanned zero =
+      let same : x.start ≡ x.start + 0 = omega arith in
+      subst (λ (at : ℕ). FirstScan at (begin nfa x)) same
+      (record { spent = 0; so_far = None; found_is = refl; finding = Finding-begin nfa x (is_match nfa) })
+  FirstScan-scanned (suc n) =
+      let same : x.start + n + 1 ≡ x.start + suc n = omega arith in
+      subst (λ (at : ℕ). FirstScan at (scanned nfa x LeftmostFirst false (suc n))) same
+      (FirstScan-advance (x.start + n) (scanned nfa x LeftmostFirst false n) (FirstScan-scanned n))

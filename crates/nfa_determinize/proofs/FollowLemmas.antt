@@ -1,0 +1,325 @@
+-- The search for paths, without slots, goes through the closure of the states at a position, and on to the next one.
+use Rattle.std.proofs.Common.{◌≡◌, ℕ, zero, suc, ◌+◌, ◌<◌, ◌≤◌, ◌⊎◌, ◌↔◌, inl, inr, Bool, true, false, List, [], ◌∷◌, ◌++◌, length, replicate, get_or, set, length-set, map, refl, ap, sym, ◌∙◌, subst, arith, append_assoc, append-nil, get_or-set_same, get_or-set_other}
+use Rattle.std.specs.Prelude.{Option, None, Some, cond, is_some, option_and_then, option_map, option_to_list}
+use Rattle.std.proofs.Math.Decide.{ℕ_discrete}
+use Rattle.std.proofs.lemmas.Bool.{cases_Bool}
+use Rattle.std.proofs.lemmas.List.{get_or_default, get_or_past}
+use Rattle.regex_search_core.specs.Search.{Search}
+use Rattle.thompson_nfa.specs.Automaton.{Automaton, Node}
+use Rattle.thompson_nfa.specs.Automaton.Node.{ByteRange, Sparse, Dense, Look, Union, BinaryUnion, Capture, Fail, Match}
+use Rattle.thompson_nfa.specs.Looks.{look_holds}
+use Rattle.nfa_paths.specs.Graphs.{Pair, Space, In}
+use Rattle.nfa_paths.specs.FirstPaths.{Path}
+use Rattle.nfa_paths.specs.FirstPaths.Path.{stop, go}
+use Rattle.nfa_paths.specs.Exploring.{Slots, Hit, Item, ExploresTo, Searching}
+use Rattle.nfa_paths.specs.Exploring.Item.{Explore}
+use Rattle.nfa_paths.specs.Kinds.{rests}
+use Rattle.nfa_paths.specs.Paths.{node_at, pattern_of, is_match, byte_at, target_on, edges, edges_of, starts}
+use Rattle.nfa_paths.proofs.PathToLemmas.{is_false}
+use Rattle.nfa_paths.proofs.SearchLemmas.{AnswerBehind-along}
+use Rattle.nfa_paths.proofs.SearchingLemmas.{Searching-marked, Searching-plain, Searching-keep}
+use Rattle.nfa_paths.proofs.ScanAnswerLemmas.{edges-onward, edges-rise}
+use Rattle.nfa_determinize.specs.Closures.{holding_at, epsilon_states, explore}
+use Rattle.nfa_determinize.proofs.ExploreLemmas.{unseen, unseen-set, unseen-none, unseen-inside, seen-past, explore-none}
+
+-- the states at a position
+abbrev pub pairs : ℕ → List ℕ → List Pair
+pairs at states = map (λ s. (s, at)) states
+
+-- a state that was put aside, with no slots
+abbrev pub place : ℕ → ℕ → Pair × Slots
+place at s = ((s, at), [])
+
+-- the pair is at the position, and its state was seen
+pub record SeenAt (at : ℕ) (seen : List Bool) (v : Pair) : Type 0 where
+  pub here : v.1 ≡ at
+  pub set : get_or seen v.0 false ≡ true
+
+-- each pair of the set is a Match
+abbrev pub AreMatches : Automaton → (Pair → Bool) → Type 0
+AreMatches nfa target = (v : Pair) → target v ≡ true → is_match nfa v ≡ true
+
+-- all that a scan explores, where no slot is written
+abbrev pub bare : Automaton → Search → Space
+bare nfa x = record { edges = edges nfa x; capture = λ v. None; starts = starts nfa x }
+
+-- the search for a set of match pairs, of which this work is left
+abbrev pub Finding : Automaton → Search → (Pair → Bool) → (Pair → Type 0) → ℕ → List (Pair × Slots) → Hit → List Pair
+    → Type 0
+Finding nfa x target Seen spent front otherwise work =
+    Searching (bare nfa x) target
+    (λ g total. ExploresTo (bare nfa x) target total None [] (map Explore (starts nfa x)) [] g) Seen spent front
+    otherwise (map Explore work) []
+
+-- what is seen
+
+-- to see a state adds its pair and no other
+SeenAt-set : (at s : ℕ) (seen : List Bool) → s < length seen → (v : Pair)
+    → SeenAt at (set seen s true) v ↔ ((v ≡ (s, at)) ⊎ SeenAt at seen v)
+SeenAt-set at s seen inside v = (
+  λ m.
+      elim (ℕ_discrete v.0 s) [
+        | yes e ↦ inl (λ i. (e i, m.here i))
+        | no n ↦ inr (record { here = m.here; set = sym (get_or-set_other seen s v.0 true false n) ∙ m.set })
+      ],
+  λ m.
+      elim m [
+        | inl e ↦ rw e (record { here = refl; set = get_or-set_same seen s true false inside })
+        | inr old ↦
+            elim (ℕ_discrete v.0 s) [
+              | yes e ↦ record { here = old.here; set = rw e (get_or-set_same seen s true false inside) }
+              | no n ↦ record { here = old.here; set = get_or-set_other seen s v.0 true false n ∙ old.set }
+            ]
+      ],
+)
+
+-- a state that was not seen
+SeenAt-clear : (at s : ℕ) (seen : List Bool) → s < length seen → get_or seen s true ≡ false
+    → ¬ (SeenAt at seen (s, at))
+SeenAt-clear at s seen inside clear m =
+    let e : get_or seen s false ≡ false = get_or_default seen s false true inside ∙ clear in
+    absurd (cc (m.set, e))
+
+-- at first no pair was seen
+pub SeenAt-none : (at n : ℕ) (v : Pair) → SeenAt at (replicate n false) v → ⊥
+SeenAt-none at n v s = never n v.0 s.set
+  where
+    never : (n k : ℕ) → get_or (replicate n false) k false ≡ true → ⊥
+    never zero k e = cc
+    never (suc n) zero e = cc
+    never (suc n) (suc k) e = never n k e
+
+-- the work of several states
+
+pub pairs-append : (at : ℕ) (states more : List ℕ) (rest : List Pair)
+    → pairs at (states ++ more) ++ rest ≡ pairs at states ++ (pairs at more ++ rest)
+pairs-append at [] more rest = refl
+pairs-append at (s ∷ states) more rest = ap (λ (ps : List Pair). (s, at) ∷ ps) (pairs-append at states more rest)
+
+pub work-append : (states more : List Pair) → map Explore states ++ map Explore more ≡ map Explore (states ++ more)
+work-append [] more = refl
+work-append (v ∷ states) more = ap (λ (w : List Item). Explore v ∷ w) (work-append states more)
+
+-- a state that does not rest leads to the states that it leads to without a byte
+epsilon-edges : (x : Search) (at : ℕ) (node : Node) → rests node ≡ false
+    → edges_of x node at ≡ pairs at (epsilon_states (holding_at x.haystack at) node)
+unfolding edges_of
+epsilon-edges x at (ByteRange t) r = cc
+epsilon-edges x at (Sparse ts) r = cc
+epsilon-edges x at (Dense targets) r = cc
+epsilon-edges x at (Look look next) r = of (look_holds look x.haystack at)
+  where
+    of : (b : Bool) → cond b ((next, at) ∷ []) [] ≡ pairs at (cond b (next ∷ []) [])
+    of true = refl
+    of false = refl
+epsilon-edges x at (Union alternates) r = refl
+epsilon-edges x at (BinaryUnion a b) r = refl
+epsilon-edges x at (Capture next slot) r = refl
+epsilon-edges x at Fail r = cc
+epsilon-edges x at (Match pattern) r = cc
+
+-- a state that rests leads to its target
+byte-edges : (at : ℕ) (on : ℕ → Option ℕ) (byte : Option ℕ)
+    → option_to_list (option_and_then (λ b. option_map (λ next. (let v : Pair = (next, at + 1) in v)) (on b)) byte)
+    ≡ pairs (at + 1) (option_to_list (option_and_then on byte))
+byte-edges at on None = refl
+byte-edges at on (Some b) = of (on b)
+  where
+    of : (o : Option ℕ) → option_to_list (option_map (λ next. (let v : Pair = (next, at + 1) in v)) o)
+        ≡ pairs (at + 1) (option_to_list o)
+    of None = refl
+    of (Some t) = refl
+
+no-edges : (at : ℕ) (byte : Option ℕ) → [] ≡ pairs (at + 1) (option_to_list (option_and_then (λ b. None) byte))
+no-edges at None = refl
+no-edges at (Some b) = refl
+
+pub resting-edges : (x : Search) (at : ℕ) (node : Node) → rests node ≡ true
+    → edges_of x node at ≡ pairs (at + 1) (option_to_list (option_and_then (target_on node) (byte_at x at)))
+unfolding edges_of
+resting-edges x at (ByteRange t) r = byte-edges at (target_on (ByteRange t)) (byte_at x at)
+resting-edges x at (Sparse ts) r = byte-edges at (target_on (Sparse ts)) (byte_at x at)
+resting-edges x at (Dense targets) r = byte-edges at (target_on (Dense targets)) (byte_at x at)
+resting-edges x at (Look look next) r = cc
+resting-edges x at (Union alternates) r = cc
+resting-edges x at (BinaryUnion a b) r = cc
+resting-edges x at (Capture next slot) r = cc
+resting-edges x at Fail r = no-edges at (byte_at x at)
+resting-edges x at (Match pattern) r = no-edges at (byte_at x at)
+
+-- a match rests
+match-rests : (node : Node) → is_some (pattern_of node) ≡ true → rests node ≡ true
+match-rests (ByteRange t) m = refl
+match-rests (Sparse ts) m = refl
+match-rests (Dense targets) m = refl
+match-rests (Look look next) m = cc
+match-rests (Union alternates) m = cc
+match-rests (BinaryUnion a b) m = cc
+match-rests (Capture next slot) m = cc
+match-rests Fail m = refl
+match-rests (Match pattern) m = refl
+
+module _ (nfa : Automaton) (x : Search) (at : ℕ) where
+  -- What the search for any set of matches comes to by the waiting states: some states are put aside, and some pairs
+  -- were seen, after as many turns for each set.
+  pub record Followed (seen : List Bool) (waiting out : List ℕ) : Type 0 where
+    pub after : List Bool
+    pub turns : ℕ
+    pub leads : (target : Pair → Bool) → AreMatches nfa target → (spent : ℕ) (front : List (Pair × Slots))
+        (otherwise : Hit) (rest : List Pair)
+        → Finding nfa x target (SeenAt at seen) spent front otherwise (pairs at waiting ++ rest)
+        → Finding nfa x target (SeenAt at after) (spent + turns) (front ++ map (place at) out) otherwise rest
+
+  -- with no state to follow
+  Followed-none : (seen : List Bool) → Followed seen [] []
+  Followed-none seen = record {
+    after = seen;
+    turns = 0;
+    leads = λ target ok spent front otherwise rest h.
+        let same : spent ≡ spent + 0 = omega arith in
+        subst (λ (n : ℕ). Finding nfa x target (SeenAt at seen) n (front ++ []) otherwise rest) same
+        (subst (λ (f : List (Pair × Slots)). Finding nfa x target (SeenAt at seen) spent f otherwise rest)
+        (sym (append-nil front)) h);
+  }
+
+  -- a pair that leads nowhere and is no match is left out
+  Finding-dead : (target : Pair → Bool) (v : Pair) → edges nfa x v ≡ [] → (target v ≡ true → ⊥) → {Seen : Pair → Type 0}
+      {spent : ℕ} {front : List (Pair × Slots)} {otherwise : Hit} (rest : List Pair)
+      → Finding nfa x target Seen spent front otherwise (v ∷ rest)
+      → Finding nfa x target Seen spent front otherwise rest
+  unfolding ExploresTo
+  Finding-dead target v leads plain {front = front} {otherwise} rest s = record {
+    marks = s.marks;
+    agrees = s.agrees;
+    leads = λ g left total e h.
+        s.leads g left total e
+        (AnswerBehind-along (bare nfa x) target front left left (omega arith) otherwise otherwise s.marks s.marks
+        (map Explore rest) (map Explore (v ∷ rest)) [] [] g (λ a. inr (λ p q. none q.path leads plain, a)) h);
+  }
+    where
+      none : {w : Pair} {p : List Pair} → Path (edges nfa x) target w p → edges nfa x w ≡ []
+          → (target w ≡ true → ⊥) → ⊥
+      none (stop t) leads plain = plain t
+      none (go {w = y} t i n h) leads plain = let never : In y [] = rw leads at i in never
+
+  -- no match of a set does not rest
+  unrested : (target : Pair → Bool) → AreMatches nfa target → (s : ℕ) → rests (node_at nfa s) ≡ false
+      → target (s, at) ≡ false
+  unrested target ok s r = is_false (target (s, at)) (λ t. never (match-rests (node_at nfa s) (ok (s, at) t)))
+    where
+      never : rests (node_at nfa s) ≡ true → ⊥
+      never t = absurd (cc (t, r))
+
+  -- a number past the last state leads nowhere
+  past-edges : (s : ℕ) → length nfa.states ≤ s → edges nfa x (s, at) ≡ []
+  unfolding node_at edges_of
+  past-edges s past = ap (λ (n : Node). edges_of x n at) (get_or_past nfa.states s Fail past)
+
+  past-plain : (s : ℕ) → length nfa.states ≤ s → is_match nfa (s, at) ≡ true → ⊥
+  unfolding node_at
+  past-plain s past m = let never : false ≡ true = rw (get_or_past nfa.states s Fail past) at m in absurd (cc never)
+
+  -- a state that was seen before is passed over
+  Followed-seen : (seen : List Bool) (s : ℕ) (waiting out : List ℕ) → length seen ≡ length nfa.states
+      → get_or seen s true ≡ true → Followed seen waiting out → Followed seen (s ∷ waiting) out
+  Followed-seen seen s waiting out size t f =
+      elim (cases_Bool (get_or seen s false)) [
+        | inl m ↦ record {
+          after = f.after;
+          turns = suc f.turns;
+          leads = λ target ok spent front otherwise rest h.
+              let same : spent + 1 + f.turns ≡ spent + suc f.turns = omega arith in
+              subst (λ (n : ℕ). Finding nfa x target (SeenAt at f.after) n (front ++ map (place at) out) otherwise rest)
+              same (f.leads target ok (spent + 1) front otherwise rest
+              (Searching-marked (bare nfa x) target h (record { here = refl; set = m })));
+        }
+        | inr m ↦
+            let k : length seen ≤ s = seen-past seen s t m in
+            let past : length nfa.states ≤ s = omega arith in
+            record {
+              after = f.after;
+              turns = f.turns;
+              leads = λ target ok spent front otherwise rest h.
+                  f.leads target ok spent front otherwise rest
+                  (Finding-dead target (s, at) (past-edges s past) (λ d. past-plain s past (ok (s, at) d))
+                  (pairs at waiting ++ rest) h);
+            }
+      ]
+
+  module _ (seen : List Bool) (s : ℕ) (waiting out : List ℕ) (clear : get_or seen s true ≡ false) where
+    -- a state that rests is put aside
+    Followed-kept : rests (node_at nfa s) ≡ true → Followed (set seen s true) waiting out
+        → Followed seen (s ∷ waiting) (s ∷ out)
+    Followed-kept r f = record {
+      after = f.after;
+      turns = suc f.turns;
+      leads = λ target ok spent front otherwise rest h.
+          let inside : s < length seen = unseen-inside seen s clear in
+          let same : spent + 1 + f.turns ≡ spent + suc f.turns = omega arith in
+          let kept = Searching-keep (bare nfa x) target h (SeenAt-clear at s seen inside clear)
+          (SeenAt-set at s seen inside) (λ v. at < v.1)
+          (λ v y a j. let k : v.1 ≤ y.1 = edges-onward nfa x v y j in let l : at < v.1 = a in omega arith)
+          (λ w j. edges-rise nfa x (s, at) w r j)
+          (λ v m a. let k : v.1 ≡ at = m.here in let l : at < v.1 = a in omega arith) in
+          subst (λ (n : ℕ). Finding nfa x target (SeenAt at f.after) n (front ++ map (place at) (s ∷ out)) otherwise
+          rest) same
+          (subst (λ (ys : List (Pair × Slots)). Finding nfa x target (SeenAt at f.after) (spent + 1 + f.turns) ys
+          otherwise rest) (append_assoc front (place at s ∷ []) (map (place at) out))
+          (f.leads target ok (spent + 1) (front ++ place at s ∷ []) otherwise rest kept));
+    }
+
+    -- any other gives way to the states that it leads to
+    Followed-left : rests (node_at nfa s) ≡ false
+        → Followed (set seen s true) (epsilon_states (holding_at x.haystack at) (node_at nfa s) ++ waiting) out
+        → Followed seen (s ∷ waiting) out
+    Followed-left r f = record {
+      after = f.after;
+      turns = suc f.turns;
+      leads = λ target ok spent front otherwise rest h.
+          let inside : s < length seen = unseen-inside seen s clear in
+          let same : spent + 1 + f.turns ≡ spent + suc f.turns = omega arith in
+          let next = epsilon_states (holding_at x.haystack at) (node_at nfa s) in
+          let plain = Searching-plain (bare nfa x) target h (SeenAt-clear at s seen inside clear)
+          (SeenAt-set at s seen inside) (unrested target ok s r) (pairs at next)
+          (epsilon-edges x at (node_at nfa s) r) refl in
+          let joined : map Explore (pairs at next) ++ map Explore (pairs at waiting ++ rest)
+          ≡ map Explore (pairs at (next ++ waiting) ++ rest) =
+          work-append (pairs at next) (pairs at waiting ++ rest)
+          ∙ ap (map Explore) (sym (pairs-append at next waiting rest)) in
+          subst (λ (n : ℕ). Finding nfa x target (SeenAt at f.after) n (front ++ map (place at) out) otherwise rest)
+          same
+          (f.leads target ok (spent + 1) front otherwise rest
+          (subst (λ (w : List Item). Searching (bare nfa x) target
+          (λ g total. ExploresTo (bare nfa x) target total None [] (map Explore (starts nfa x)) [] g)
+          (SeenAt at (set seen s true)) (spent + 1) front otherwise w []) joined plain));
+    }
+
+  -- the waiting states, all of them
+  pub follow : (left : ℕ) (seen : List Bool) (waiting : List ℕ) → length seen ≡ length nfa.states
+      → unseen seen ≤ left → Followed seen waiting (explore nfa (holding_at x.haystack at) left seen waiting)
+  unfolding explore
+  follow left seen [] size few = Followed-none seen
+  follow zero seen (s ∷ waiting) size few =
+      let none : unseen seen ≡ 0 = omega arith in
+      Followed-seen seen s waiting [] size (unseen-none seen none s)
+      (subst (λ (out : List ℕ). Followed seen waiting out) (explore-none nfa (holding_at x.haystack at) seen waiting)
+      (follow zero seen waiting size few))
+  follow (suc left) seen (s ∷ waiting) size few =
+      elim (cases_Bool (get_or seen s true)) [
+        | inl t ↦ rw t (Followed-seen seen s waiting
+            (explore nfa (holding_at x.haystack at) (suc left) seen waiting) size t
+            (follow (suc left) seen waiting size few))
+        | inr f ↦
+            let again : length (set seen s true) ≡ length nfa.states = length-set seen s true ∙ size in
+            let fewer : unseen (set seen s true) ≤ left = omega (arith, unseen-set seen s f) in
+            elim (cases_Bool (rests (node_at nfa s))) [
+              | inl r ↦ rw (f, r) (Followed-kept seen s waiting
+                  (explore nfa (holding_at x.haystack at) left (set seen s true) waiting) f r
+                  (follow left (set seen s true) waiting again fewer))
+              | inr r ↦ rw (f, r) (Followed-left seen s waiting
+                  (explore nfa (holding_at x.haystack at) left (set seen s true)
+                  (epsilon_states (holding_at x.haystack at) (node_at nfa s) ++ waiting)) f r
+                  (follow left (set seen s true) (epsilon_states (holding_at x.haystack at) (node_at nfa s) ++ waiting)
+                  again fewer))
+            ]
+      ]

@@ -1,0 +1,11 @@
+pub mod ExploreLemmas
+pub mod FollowLemmas
+pub mod NextLemmas
+pub mod MatchLemmas
+pub mod PositionLemmas
+pub mod FirstScanLemmas
+pub mod LastScanLemmas
+pub mod AnswerLemmas
+pub mod SearchLemmas
+pub mod ClosureLemmas
+pub mod StepLemmas

@@ -1,0 +1,256 @@
+-- From one position of a scan to the next, and what is left at the end of the span.
+use Rattle.std.proofs.Common.{◌≡◌, ℕ, zero, suc, ◌+◌, ◌-◌, ◌<◌, ◌≤◌, inl, inr, Bool, true, false, List, [], ◌∷◌, ◌++◌, length, replicate, map, refl, ap, sym, ◌∙◌, subst, arith, append-nil, cond}
+use Rattle.std.specs.Prelude.{Option, None, Some, option_to_list}
+use Rattle.std.specs.Option.{option_map_or}
+use Rattle.std.proofs.lemmas.Bool.{cases_lt, le-ltb}
+use Rattle.std.proofs.lemmas.List.{length-replicate}
+use Rattle.regex_search_core.specs.Search.{Search}
+use Rattle.regex_search_core.specs.declared.search.MatchKind.{MatchKind}
+use Rattle.regex_search_core.specs.declared.search.MatchKind.TheVariants.{All, LeftmostFirst}
+use Rattle.thompson_nfa.specs.Automaton.{Automaton}
+use Rattle.nfa_paths.specs.Graphs.{Pair, In, NoRepeats}
+use Rattle.nfa_paths.specs.Exploring.{Slots, Hit}
+use Rattle.nfa_paths.specs.Exploring.Item.{Explore}
+use Rattle.nfa_paths.specs.Kinds.{rests, is_resting, Scanned, IsFront, Scanning, EndsBefore}
+use Rattle.nfa_paths.specs.Paths.{node_at, is_match, byte_at, pairs_from, start_state, start_count, starts}
+use Rattle.nfa_paths.proofs.PathToLemmas.{is_false}
+use Rattle.nfa_paths.proofs.ScanAnswerLemmas.{Scanned-matches, EndsBefore-span}
+use Rattle.nfa_paths.proofs.ScanningLemmas.{Scanning-front}
+use Rattle.nfa_paths.proofs.SearchingLemmas.{Searching-start}
+use Rattle.nfa_paths.proofs.StartLemmas.{pairs_from-ahead, starts-none}
+use Rattle.nfa_determinize.specs.Closures.{EachOnce, holding_at, step, match_in, kept}
+use Rattle.nfa_determinize.specs.Configurations.{Configuration, start_here, closure_at, starts_after, position_count, scanned}
+use Rattle.nfa_determinize.proofs.ExploreLemmas.{unseen, unseen-all, explore-keeps, explore-once}
+use Rattle.nfa_determinize.proofs.FollowLemmas.{pairs, place, SeenAt, SeenAt-none, bare, Finding, pairs-append, Followed, follow}
+use Rattle.nfa_determinize.proofs.NextLemmas.{place-among, Explore-among, Finding-next}
+
+-- the list has as many pairs
+length-pairs_from : (state at count : ℕ) → length (pairs_from state at count) ≡ count
+length-pairs_from state at zero = refl
+length-pairs_from state at (suc count) = ap suc (length-pairs_from state (at + 1) count)
+
+module _ (nfa : Automaton) (x : Search) where
+  -- the starts from a position on
+  abbrev pub waiting : ℕ → ℕ → List Pair
+  waiting at count = option_map_or (λ state. pairs_from state at count) (start_state nfa x.anchored) []
+
+  -- no state was seen yet
+  abbrev pub Fresh : ℕ → Pair → Type 0
+  Fresh at = SeenAt at (replicate (length nfa.states) false)
+
+  -- the starts
+
+  -- at first all are left
+  pub waiting-all : waiting x.start (length (starts nfa x)) ≡ starts nfa x
+  waiting-all = of (start_state nfa x.anchored)
+    where
+      of : (o : Option ℕ)
+          → option_map_or (λ state. pairs_from state x.start
+          (length (option_map_or (λ s. pairs_from s x.start (start_count nfa x)) o []))) o []
+          ≡ option_map_or (λ state. pairs_from state x.start (start_count nfa x)) o []
+      of None = refl
+      of (Some state) = ap (pairs_from state x.start) (length-pairs_from state x.start (start_count nfa x))
+
+  -- none is left
+  pub waiting-none : (at : ℕ) → waiting at 0 ≡ []
+  waiting-none at = of (start_state nfa x.anchored)
+    where
+      of : (o : Option ℕ) → option_map_or (λ state. pairs_from state at 0) o [] ≡ []
+      of None = refl
+      of (Some state) = refl
+
+  -- they are at the position or later
+  pub waiting-later : (at count : ℕ) (k : Pair) → In k (waiting at count) → at ≤ k.1
+  waiting-later at count k = of (start_state nfa x.anchored)
+    where
+      of : (o : Option ℕ) → In k (option_map_or (λ state. pairs_from state at count) o []) → at ≤ k.1
+      of None i = absurd i
+      of (Some state) i = pairs_from-ahead state at count k i
+
+  -- the first one joins the states at its position
+  pub waiting-joins : (at : ℕ) (states : List ℕ) (count : ℕ)
+      → pairs at states ++ waiting at count
+      ≡ pairs at (states ++ start_here nfa x count) ++ waiting (at + 1) (count - 1)
+  waiting-joins at states zero =
+      rw (append-nil states) (ap (λ (w : List Pair). pairs at states ++ w)
+      (waiting-none at ∙ sym (waiting-none (at + 1))))
+  waiting-joins at states (suc count) =
+      let less : suc count - 1 ≡ count = omega arith in
+      rw less (of (start_state nfa x.anchored))
+    where
+      of : (o : Option ℕ)
+          → pairs at states ++ option_map_or (λ state. pairs_from state at (suc count)) o []
+          ≡ pairs at (states ++ option_to_list o) ++ option_map_or (λ state. pairs_from state (at + 1) count) o []
+      of None = rw (append-nil states) refl
+      of (Some state) = sym (pairs-append at states (state ∷ []) (pairs_from state (at + 1) count))
+
+  -- one position
+
+  module _ (at : ℕ) (c : Configuration) where
+    -- the closure is what the states and the start come to
+    pub closed : Followed nfa x at (replicate (length nfa.states) false) (c.states ++ start_here nfa x c.starts)
+        (closure_at nfa x at c)
+    closed =
+        let n = length nfa.states in
+        let few : unseen (replicate n false) ≤ n = omega (arith, unseen-all n) in
+        follow nfa x at n (replicate n false) (c.states ++ start_here nfa x c.starts)
+        (length-replicate n false) few
+
+    pub closed-rests : (s : ℕ) → In s (closure_at nfa x at c) → rests (node_at nfa s) ≡ true
+    closed-rests s i =
+        (explore-keeps nfa (holding_at x.haystack at) (length nfa.states) (replicate (length nfa.states) false)
+        (c.states ++ start_here nfa x c.starts) s i).0
+
+    pub closed-once : EachOnce (closure_at nfa x at c)
+    closed-once = explore-once nfa (holding_at x.haystack at) (length nfa.states) (replicate (length nfa.states) false)
+        (c.states ++ start_here nfa x c.starts)
+
+  -- the search for one set of matches, before a position
+  pub follow-here : (at : ℕ) (c : Configuration) (target : Pair → Bool)
+      → ((v : Pair) → target v ≡ true → is_match nfa v ≡ true) → (spent : ℕ) (otherwise : Hit)
+      → Finding nfa x target (Fresh at) spent [] otherwise (pairs at c.states ++ waiting at c.starts)
+      → Finding nfa x target (SeenAt at (closed at c).after) (spent + (closed at c).turns)
+      (map (place at) (closure_at nfa x at c)) otherwise (waiting (at + 1) (c.starts - 1))
+  follow-here at c target ok spent otherwise h =
+      (closed at c).leads target ok spent [] otherwise (waiting (at + 1) (c.starts - 1))
+      (subst (λ (w : List Pair). Finding nfa x target (Fresh at) spent [] otherwise w)
+      (waiting-joins at c.states c.starts) h)
+
+  -- it begins
+  pub Finding-begin : (target : Pair → Bool)
+      → Finding nfa x target (Fresh x.start) 0 [] None
+      (pairs x.start [] ++ waiting x.start (length (starts nfa x)))
+  Finding-begin target =
+      subst (λ (w : List Pair). Finding nfa x target (Fresh x.start) 0 [] None w) (sym waiting-all)
+      (Searching-start (bare nfa x) target (Fresh x.start) None (map Explore (starts nfa x)) []
+      (SeenAt-none x.start (length nfa.states)))
+
+  -- all sets of matches at once
+
+  pub record AllScan (at spent : ℕ) (c : Configuration) : Type 0 where
+    pub scanning : Scanning (bare nfa x) (is_match nfa) [] at (Fresh at) spent []
+        (map Explore (pairs at c.states ++ waiting at c.starts)) []
+
+  pub shape : Scanned (bare nfa x) (is_resting nfa) (is_match nfa)
+  shape =
+      let s = Scanned-matches nfa x (is_match nfa) (λ v t. t) in
+      record {
+        onward = s.onward;
+        rises = s.rises;
+        leads_nowhere = s.leads_nowhere;
+        writes_nothing = λ v m. refl;
+        increasing = s.increasing;
+      }
+
+  -- no pair is put aside twice
+  once-placed : (at : ℕ) (states : List ℕ) → EachOnce states
+      → NoRepeats (map (λ (a : Pair × Slots). a.0) (map (place at) states))
+  once-placed at [] once = tt
+  once-placed at (s ∷ states) once = (λ i. once.0 (among states i), once-placed at states once.1)
+    where
+      among : (ts : List ℕ) → In (s, at) (map (λ (a : Pair × Slots). a.0) (map (place at) ts)) → In s ts
+      among [] i = absurd i
+      among (t ∷ ts) i = elim i [ inl e ↦ inl (ap (λ (v : Pair). v.0) e) | inr j ↦ inr (among ts j) ]
+
+  module _ (at spent : ℕ) (c : Configuration) (s : AllScan at spent c) where
+    -- after the position's closure
+    abbrev pub turns_here : ℕ
+    turns_here = spent + (closed at c).turns
+
+    Scanning-here : Scanning (bare nfa x) (is_match nfa) [] at (SeenAt at (closed at c).after) turns_here
+        (map (place at) (closure_at nfa x at c)) (map Explore (waiting (at + 1) (c.starts - 1))) []
+    Scanning-here = record {
+      searching = λ target m.
+          follow-here at c target (λ v t. (m v t).0) spent None (s.scanning.searching target m);
+    }
+
+    later_starts : (k : Pair) → In k (waiting (at + 1) (c.starts - 1)) → at < k.1
+    later_starts k i = let l : at + 1 ≤ k.1 = waiting-later (at + 1) (c.starts - 1) k i in omega arith
+
+    pub front : IsFront (bare nfa x) (is_resting nfa) (is_match nfa) [] turns_here
+        (map (place at) (closure_at nfa x at c)) at
+    front =
+        Scanning-front (bare nfa x) (is_match nfa) [] Scanning-here
+        (λ a i. aside a (place-among at (closure_at nfa x at c) a i))
+        (once-placed at (closure_at nfa x at c) (closed-once at c))
+        (λ k i. later_starts k (Explore-among k (waiting (at + 1) (c.starts - 1)) i))
+      where
+        aside : (a : Pair × Slots) → ((t : ℕ) × In t (closure_at nfa x at c) × (a ≡ place at t))
+            → (is_resting nfa a.0 ≡ true) × (a.0.1 ≡ at)
+        aside a h = rw h.2 (closed-rests at c h.0 h.1, refl)
+
+    -- the next position, where all states are kept and starts are left
+    pub AllScan-next : (d : Configuration) → d.states ≡ step nfa (byte_at x at) (closure_at nfa x at c)
+        → d.starts ≡ c.starts - 1 → AllScan (at + 1) turns_here d
+    AllScan-next d states_are starts_are = record {
+      scanning = record {
+        searching = λ target m.
+            let sooner : (v : Pair) → target v ≡ true → (is_match nfa v ≡ true) × (at ≤ v.1) =
+            λ v t. let k : at + 1 ≤ v.1 = (m v t).1 in ((m v t).0, omega arith) in
+            let plain : (t : ℕ) → In t (closure_at nfa x at c) → target (t, at) ≡ false =
+            λ t i. is_false (target (t, at)) (λ h. let k : at + 1 ≤ at = (m (t, at) h).1 in omega arith) in
+            rw (states_are, starts_are) (Finding-next nfa x at target (closure_at nfa x at c) (closed-rests at c) plain
+            (waiting (at + 1) (c.starts - 1)) (Scanning-here.searching target sooner)
+            (λ v h. let k : v.1 ≡ at = h.here in omega arith) later_starts (length nfa.states));
+      };
+    }
+
+  -- the end of the span
+
+  -- fewer starts are left at each position
+  starts-fewer : (kind : MatchKind) (hit : Option ℕ) (count : ℕ) → starts_after kind hit count ≤ count - 1
+  starts-fewer LeftmostFirst (Some k) count = omega arith
+  starts-fewer LeftmostFirst None count = omega arith
+  starts-fewer All hit count = omega arith
+
+  module _ (kind : MatchKind) (earliest : Bool) where
+    starts-left : (n : ℕ) → (scanned nfa x kind earliest n).starts ≤ length (starts nfa x) - n
+    starts-left zero = omega arith
+    starts-left (suc n) =
+        let c = scanned nfa x kind earliest n in
+        let few : c.starts ≤ length (starts nfa x) - n = starts-left n in
+        let less : starts_after kind (match_in nfa kind (closure_at nfa x (x.start + n) c)) c.starts ≤ c.starts - 1 =
+        starts-fewer kind (match_in nfa kind (closure_at nfa x (x.start + n) c)) c.starts in
+        omega arith
+
+    -- no state is left past the end
+    pub states-end : (n : ℕ) → x.end < x.start + n → (scanned nfa x kind earliest n).states ≡ []
+    states-end zero past = refl
+    states-end (suc n) past =
+        let reached : x.end ≤ x.start + n = omega arith in
+        rw (le-ltb (x.start + n) x.end reached)
+        (no-step (kept nfa kind (closure_at nfa x (x.start + n) (scanned nfa x kind earliest n))))
+      where
+        no-step : (states : List ℕ) → step nfa None states ≡ []
+        no-step [] = refl
+        no-step (s ∷ states) = no-step states
+
+    -- and no start
+    starts-few : length (starts nfa x) ≤ position_count x
+    starts-few =
+        elim (cases_lt x.end x.start) [
+          | inl past ↦ rw (starts-none nfa x past) (omega arith)
+          | inr within ↦ of within (start_state nfa x.anchored)
+        ]
+      where
+        few : (within : x.start ≤ x.end) → (b : Bool) → cond b 1 (x.end - x.start + 1) ≤ x.end + 1 - x.start
+        few within true = omega arith
+        few within false = omega arith
+
+        of : x.start ≤ x.end → (o : Option ℕ)
+            → length (option_map_or (λ state. pairs_from state x.start (start_count nfa x)) o []) ≤ x.end + 1 - x.start
+        of within None = omega arith
+        of within (Some state) =
+            rw (length-pairs_from state x.start (start_count nfa x), le-ltb x.end x.start within) (few within _)
+
+    pub starts-end : (scanned nfa x kind earliest (position_count x)).starts ≡ 0
+    starts-end = omega (arith, starts-left (position_count x), starts-few)
+
+  -- the positions reach past the end
+  pub past-end : x.end < x.start + position_count x
+  past-end = omega arith
+
+  -- every path has ended
+  pub ends-there : (at : ℕ) → x.end < at → EndsBefore (bare nfa x) (is_match nfa) at
+  ends-there at past m p w t =
+      let k : m.1 < x.end + 1 = EndsBefore-span nfa x (is_match nfa) m p w t in omega arith

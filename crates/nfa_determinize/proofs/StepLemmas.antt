@@ -1,0 +1,82 @@
+-- Steps and matches of a list, a state at a time.
+use Rattle.std.proofs.Common.{◌≡◌, ℕ, ◌+◌, ◌<◌, List, [], ◌∷◌, ◌++◌, length, get_or, take, drop, reverse, refl, ap, sym, ◌∙◌, append_assoc}
+use Rattle.std.specs.Prelude.{Option, None, Some, is_some, true, false, option_and_then, option_map, option_to_list}
+use Rattle.std.specs.Option.{option_or}
+use Rattle.std.proofs.lemmas.List.{drop_more, reverse-append, take_more}
+use Rattle.regex_search_core.specs.Patterns.{number_of}
+use Rattle.regex_search_core.specs.declared.primitives.PatternID.{PatternID}
+use Rattle.thompson_nfa.specs.Automaton.{Automaton, Node, LeadsBelow}
+use Rattle.nfa_paths.specs.Paths.{node_at, target_on}
+use Rattle.nfa_scanning.proofs.TargetLemmas.{target-below}
+use Rattle.nfa_determinize.specs.Closures.{state_pattern, first_pattern, last_pattern, before_first_match, step}
+
+-- a pattern, and its number
+pub number-some : (o : Option PatternID) → is_some o ≡ true → is_some (option_map number_of o) ≡ true
+number-some None e = cc
+number-some (Some k) e = refl
+
+pub number-none : (o : Option PatternID) → is_some o ≡ false → option_map number_of o ≡ None
+number-none None e = refl
+number-none (Some k) e = cc
+
+pub number-or : (o p : Option PatternID)
+    → option_map number_of (option_or o p) ≡ option_or (option_map number_of o) (option_map number_of p)
+number-or None p = refl
+number-or (Some k) p = refl
+
+-- where a byte leads is a state
+pub stepped-below : (n t : ℕ) (node : Node) (byte : Option ℕ) → LeadsBelow n node
+    → Some t ≡ option_and_then (target_on node) byte → t < n
+stepped-below n t node None leads e = absurd (cc e)
+stepped-below n t node (Some b) leads e = target-below n node b t leads (sym e)
+
+module _ (nfa : Automaton) (xs : List ℕ) (i : ℕ) (s : ℕ) (inside : i < length xs) (is : s ≡ get_or xs i s) where
+  -- the list from a place on is its state and the rest
+  drop-here : drop i xs ≡ s ∷ drop (i + 1) xs
+  drop-here = drop_more xs i s inside ∙ ap (λ t. t ∷ drop (i + 1) xs) (sym is)
+
+  take-here : take (i + 1) xs ≡ take i xs ++ s ∷ []
+  take-here = take_more xs i s inside ∙ ap (λ t. take i xs ++ t ∷ []) (sym is)
+
+  pub first-none : state_pattern nfa s ≡ None → first_pattern nfa (drop (i + 1) xs) ≡ first_pattern nfa (drop i xs)
+  first-none none = rw drop-here (rw none refl)
+
+  pub first-some : is_some (state_pattern nfa s) ≡ true → first_pattern nfa (drop i xs) ≡ state_pattern nfa s
+  first-some some = rw drop-here (of (state_pattern nfa s) some)
+    where
+      of : (o : Option ℕ) → is_some o ≡ true → option_or o (first_pattern nfa (drop (i + 1) xs)) ≡ o
+      of None e = cc
+      of (Some k) e = refl
+
+  pub last-more : (o : Option ℕ)
+      → option_or (last_pattern nfa (drop (i + 1) xs)) (option_or (state_pattern nfa s) o)
+      ≡ option_or (last_pattern nfa (drop i xs)) o
+  last-more o = rw drop-here (of (last_pattern nfa (drop (i + 1) xs)) (state_pattern nfa s))
+    where
+      of : (a b : Option ℕ) → option_or a (option_or b o) ≡ option_or (option_or a b) o
+      of None b = refl
+      of (Some k) b = refl
+
+  pub before-none : state_pattern nfa s ≡ None
+      → take (i + 1) xs ++ before_first_match nfa (drop (i + 1) xs)
+      ≡ take i xs ++ before_first_match nfa (drop i xs)
+  before-none none =
+      rw (drop-here, take-here) (rw none
+      (append_assoc (take i xs) (s ∷ []) (before_first_match nfa (drop (i + 1) xs))))
+
+  pub before-some : is_some (state_pattern nfa s) ≡ true → before_first_match nfa (drop i xs) ≡ []
+  before-some some = rw drop-here (rw some refl)
+
+  pub step-more : (byte : Option ℕ) (next : List ℕ) (o : Option ℕ)
+      → o ≡ option_and_then (target_on (node_at nfa s)) byte
+      → (next ++ option_to_list o) ++ step nfa byte (drop (i + 1) xs) ≡ next ++ step nfa byte (drop i xs)
+  step-more byte next o e =
+      rw (drop-here, e) (append_assoc next (option_to_list (option_and_then (target_on (node_at nfa s)) byte))
+      (step nfa byte (drop (i + 1) xs)))
+
+  -- the states from the last to the first
+  pub pushed-more : (stack : List ℕ)
+      → (stack ++ s ∷ []) ++ reverse (take i xs) ≡ stack ++ reverse (take (i + 1) xs)
+  pushed-more stack =
+      rw take-here (append_assoc stack (s ∷ []) (reverse (take i xs))
+      ∙ ap (λ ts. stack ++ ts) (sym (reverse-append (take i xs) (s ∷ []))))

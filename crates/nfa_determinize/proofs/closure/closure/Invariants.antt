@@ -1,0 +1,12 @@
+-- What was kept, and what the states on the stack come to, are the closure.
+use Rattle.nfa_determinize.specs.Closures.{closure, holding_at}
+use Rattle.nfa_determinize.proofs.ClosureLemmas.{IsUnderWay, takes_left}
+use Rattle.nfa_determinize.proofs.closure.closure.Given as goal
+
+abbrev pub invariant-loop-sid : goal.invariant-loop-sid
+invariant-loop-sid l =
+    IsUnderWay l.nfa (holding_at l.haystack l.at) (closure l.nfa (holding_at l.haystack l.at) l.states) l.seen.items
+    l.waiting.items l.kept.items
+
+abbrev pub decreases-loop-sid : goal.decreases-loop-sid
+decreases-loop-sid l = takes_left l.nfa l.seen.items l.waiting.items

@@ -1,0 +1,6 @@
+-- The half match of a search is what the steps find.
+use Rattle.nfa_determinize.proofs.SearchLemmas.{steps-find-half}
+use Rattle.nfa_determinize.proofs.laws.steps_find_the_half.Goals as goal
+
+pub returns : goal.returns
+returns c = λ nfa x kind earliest. steps-find-half nfa kind earliest x

@@ -1,0 +1,85 @@
+-- The NFA states that a search is in at a position, in order of priority: what one state of a DFA stands for.
+use Rattle.std.specs.Prelude.{ℕ, zero, suc, Bool, true, false, List, [], ◌∷◌, ◌++◌, length, replicate, is_some, if◌then◌else◌, ⊤}
+use Rattle.std.specs.Prelude.{Option, None, option_and_then, option_to_list, slice_index_or, slice_set}
+use Rattle.std.specs.Option.{option_or}
+use Rattle.regex_search_core.specs.declared.search.MatchKind.{MatchKind}
+use Rattle.regex_search_core.specs.declared.search.MatchKind.TheVariants.{All, LeftmostFirst}
+use Rattle.thompson_nfa.specs.Automaton.{Automaton, Node}
+use Rattle.thompson_nfa.specs.Automaton.Node.{Look, Union, BinaryUnion, Capture}
+use Rattle.thompson_nfa.specs.Looks.{look_holds}
+use Rattle.thompson_nfa.specs.declared.look.Look as looks
+use Rattle.nfa_paths.specs.Graphs.{In}
+use Rattle.nfa_paths.specs.Kinds.{rests}
+use Rattle.nfa_paths.specs.Paths.{node_at, pattern_of, target_on}
+
+-- which assertions hold at a position
+abbrev pub Holding : Type 0
+Holding = looks.Look → Bool
+
+-- those that hold at a position of the haystack: all that a closure reads of it
+abbrev pub holding_at : List ℕ → ℕ → Holding
+holding_at haystack at look = look_holds look haystack at
+
+-- no state is in the list twice
+abbrev pub EachOnce : List ℕ → Type 0
+EachOnce [] = ⊤
+EachOnce (s ∷ states) = (In s states → ⊥) × EachOnce states
+
+-- the states that a state leads to without a byte, in order of preference
+abbrev pub epsilon_states : Holding → Node → List ℕ
+epsilon_states holding (Look look next) = if holding look then next ∷ [] else []
+epsilon_states holding (Union alternates) = alternates
+epsilon_states holding (BinaryUnion alt1 alt2) = alt1 ∷ (alt2 ∷ [])
+epsilon_states holding (Capture next slot) = next ∷ []
+epsilon_states holding _ = []
+
+module _ (nfa : Automaton) where
+  module _ (holding : Holding) where
+    -- The waiting states, explored depth first. A state that was seen before is passed over. A byte state, a Fail or a
+    -- Match is kept; any other gives way to the states that it leads to. At most `left` states are still to be seen.
+    unfoldable pub explore : ℕ → List Bool → List ℕ → List ℕ
+    explore left seen [] = []
+    explore zero seen (s ∷ waiting) = []
+    explore (suc left) seen (s ∷ waiting) =
+        if slice_index_or seen s true then explore (suc left) seen waiting
+        else if rests (node_at nfa s) then s ∷ explore left (slice_set seen s true) waiting
+        else explore left (slice_set seen s true) (epsilon_states holding (node_at nfa s) ++ waiting)
+
+    -- the closure of a list of states: what they lead to without a byte, each state once, in order of priority
+    abbrev pub closure : List ℕ → List ℕ
+    closure states = explore (length nfa.states) (replicate (length nfa.states) false) states
+
+  -- The states that the byte leads to, in order; a state may stand there twice. None without a byte, so at the end of
+  -- the span.
+  abbrev pub step : Option ℕ → List ℕ → List ℕ
+  step byte [] = []
+  step byte (s ∷ states) = option_to_list (option_and_then (target_on (node_at nfa s)) byte) ++ step byte states
+
+  -- the pattern of the state, if it is a Match
+  abbrev pub state_pattern : ℕ → Option ℕ
+  state_pattern s = pattern_of (node_at nfa s)
+
+  -- the pattern of the first Match
+  abbrev pub first_pattern : List ℕ → Option ℕ
+  first_pattern [] = None
+  first_pattern (s ∷ states) = option_or (state_pattern s) (first_pattern states)
+
+  -- the pattern of the last Match
+  abbrev pub last_pattern : List ℕ → Option ℕ
+  last_pattern [] = None
+  last_pattern (s ∷ states) = option_or (last_pattern states) (state_pattern s)
+
+  -- the states before the first Match
+  abbrev pub before_first_match : List ℕ → List ℕ
+  before_first_match [] = []
+  before_first_match (s ∷ states) = if is_some (state_pattern s) then [] else s ∷ before_first_match states
+
+  -- the pattern that matches at the position
+  abbrev pub match_in : MatchKind → List ℕ → Option ℕ
+  match_in LeftmostFirst states = first_pattern states
+  match_in All states = last_pattern states
+
+  -- the states that the search goes on with: leftmost first drops those after a Match
+  abbrev pub kept : MatchKind → List ℕ → List ℕ
+  kept LeftmostFirst states = before_first_match states
+  kept All states = states

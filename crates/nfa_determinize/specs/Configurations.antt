@@ -1,0 +1,77 @@
+-- A scan as steps over lists of states, position by position.
+use Rattle.std.specs.Prelude.{◌≡◌, ℕ, zero, suc, ◌+◌, ◌-◌, Bool, List, [], ◌++◌, length}
+use Rattle.std.specs.Prelude.{Option, None, Some, option_map, option_to_list, if◌then◌else◌}
+use Rattle.std.specs.Option.{option_or}
+use Rattle.regex_search_core.specs.Found.{HalfFound}
+use Rattle.regex_search_core.specs.Search.{Search}
+use Rattle.regex_search_core.specs.declared.search.MatchKind.{MatchKind}
+use Rattle.regex_search_core.specs.declared.search.MatchKind.TheVariants.{All, LeftmostFirst}
+use Rattle.thompson_nfa.specs.Automaton.{Automaton}
+use Rattle.nfa_paths.specs.Paths.{byte_at, start_state, starts}
+use Rattle.nfa_determinize.specs.Closures.{holding_at, closure, step, match_in, kept}
+
+-- What a scan knows at a position: the states that the bytes so far led to, before their closure; at how many positions
+-- from here on a match may start; and the match that was found so far.
+pub record Configuration : Type 0 where
+  pub states : List ℕ
+  pub starts : ℕ
+  pub found : Option HalfFound
+
+-- nothing can change what was found: no state is left, and no match may start
+pub record IsDead (c : Configuration) : Type 0 where
+  pub states : c.states ≡ []
+  pub starts : c.starts ≡ 0
+
+-- a match of the pattern that ends at the position
+abbrev pub half_at : ℕ → ℕ → HalfFound
+half_at at pattern = record { pattern = pattern; offset = at }
+
+-- at how many later positions a match may start: at none after a match, if it is leftmost first
+abbrev pub starts_after : MatchKind → Option ℕ → ℕ → ℕ
+starts_after LeftmostFirst (Some pattern) count = 0
+starts_after LeftmostFirst None count = count - 1
+starts_after All hit count = count - 1
+
+-- the later match, or with `earliest` the earlier one
+abbrev pub found_after : Bool → Option HalfFound → Option HalfFound → Option HalfFound
+found_after earliest found hit = if earliest then option_or found hit else option_or hit found
+
+-- how many positions the span has, its end included
+abbrev pub position_count : Search → ℕ
+position_count x = x.end + 1 - x.start
+
+module _ (nfa : Automaton) (x : Search) where
+  -- before the first position
+  abbrev pub begin : Configuration
+  begin = record { states = []; starts = length (starts nfa x); found = None }
+
+  -- the state that a match starts with, if one may start here
+  abbrev pub start_here : ℕ → List ℕ
+  start_here zero = []
+  start_here (suc later) = option_to_list (start_state nfa x.anchored)
+
+  -- the closure at a position: of the states there, and of the start as the last one
+  abbrev pub closure_at : ℕ → Configuration → List ℕ
+  closure_at at c = closure nfa (holding_at x.haystack at) (c.states ++ start_here c.starts)
+
+  module _ (kind : MatchKind) (earliest : Bool) where
+    -- what follows a closure: the match in it counts, and the byte leads on from the states that are kept
+    abbrev pub after : ℕ → List ℕ → Configuration → Configuration
+    after at here c = record {
+      states = step nfa (byte_at x at) (kept nfa kind here);
+      starts = starts_after kind (match_in nfa kind here) c.starts;
+      found = found_after earliest c.found (option_map (half_at at) (match_in nfa kind here));
+    }
+
+    -- the configuration at the next position
+    abbrev pub advance : ℕ → Configuration → Configuration
+    advance at c = after at (closure_at at c) c
+
+    -- the configuration after so many positions
+    abbrev pub scanned : ℕ → Configuration
+    scanned zero = begin
+    scanned (suc n) = advance (x.start + n) (scanned n)
+
+    -- what the whole scan found
+    abbrev pub scan_half : Option HalfFound
+    scan_half = (scanned (position_count x)).found

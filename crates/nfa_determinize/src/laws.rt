@@ -1,0 +1,32 @@
+//! Laws of the steps. Each function is empty: its contract is the theorem.
+ghost use Rattle.nfa_determinize.specs.Laws.{ClosureHasEachOnce, ClosureIsShort, ClosureReadsAssertions, ClosureRests};
+ghost use Rattle.nfa_determinize.specs.Laws.{DeadStays, StepsFindTheAnswer, StepsFindTheHalf};
+
+/// The steps over all positions of the span find the pattern and the end of the scan's answer, of each match kind and
+/// `earliest`.
+pub fn steps_find_the_answer()
+    ensures { StepsFindTheAnswer }
+{}
+
+/// The half match of a search is what the steps find, scan by scan, and only that: what `find_half` returns.
+pub fn steps_find_the_half()
+    ensures { StepsFindTheHalf }
+{}
+
+/// A configuration without states and starts stays as it is, so a scan may end there.
+pub fn dead_stays()
+    ensures { DeadStays }
+{}
+
+/// A closure has each state once, no more of them than the NFA, and only byte states, Fails and Matches. So there are
+/// only so many closures of an NFA.
+pub fn closures_are_finite()
+    ensures once { ClosureHasEachOnce }
+    ensures short { ClosureIsShort }
+    ensures rests { ClosureRests }
+{}
+
+/// Of the haystack, a closure depends only on which assertions hold at its position.
+pub fn closures_read_assertions()
+    ensures { ClosureReadsAssertions }
+{}
