@@ -1,5 +1,5 @@
 //! Callers of the laws on half matches.
-ghost use Rattle.std.specs.Prelude.{◌≡◌, map, option_map, IfOk, List};
+ghost use Rattle.std.specs.Prelude.{◌≡◌, map, option_map, IfOk, List, Option};
 ghost use Rattle.nfa_engines.specs.Found.{Found, HalfFound, found_of, half_found_of};
 ghost use Rattle.nfa_engines.specs.Search.{search_of};
 ghost use Rattle.nfa_engines.specs.Agreement.{end_of};
