@@ -9,4 +9,5 @@ mod looks;
 mod nfas;
 mod samples;
 mod shown;
+mod steps;
 mod values;

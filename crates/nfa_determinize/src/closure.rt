@@ -213,7 +213,8 @@ fn last_pattern(nfa: &NFA, states: &[StateID]) -> Option<PatternID>
 /// The caller must ensure that each state is one of the NFA's.
 pub fn kept<'s>(nfa: &NFA, kind: MatchKind, states: &'s [StateID]) -> &'s [StateID]
     requires { All (λ s. s < length nfa.now.states) states.now }
-    ensures { result.now ≡ kept nfa.now kind states.now }
+    ensures kept { result.now ≡ kept nfa.now kind states.now }
+    ensures below { All (λ s. s < length nfa.now.states) result.now }
 {
     if kind.continue_past_first_match() {
         states
