@@ -1,5 +1,6 @@
 //! The examples by type, and the engines that they borrow.
 
+ghost use Rattle.std.specs.Prelude.{◌≡◌, length};
 ghost use Rattle.nfa_engines.specs.Engines.{Fits};
 
 mod backtracker;
@@ -54,4 +55,11 @@ fn expect_fits(rt: &impl Abort, vm: &PikeVM, cache: &Cache)
 {
     let fits = cache.fits(vm);
     assert!(rt; fits);
+}
+
+fn expect_one_state(rt: &impl Abort, nfa: &NFA)
+    ensures { length nfa.now.states ≡ 1 }
+{
+    let count = nfa.states().len();
+    assert!(rt; count == 1);
 }

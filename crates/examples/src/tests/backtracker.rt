@@ -1,6 +1,8 @@
 //! The examples of `BoundedBacktracker`.
 
-use super::{backtracker_of, nfa};
+ghost use Rattle.std.specs.Prelude.{◌≡◌, length};
+
+use super::{backtracker_of, expect_one_state, nfa};
 use nfa_compiler::Compiler;
 use nfa_engines::backtrack::{self, BoundedBacktracker, Cache};
 use nfa_engines::error::SearchError;
@@ -18,7 +20,9 @@ fn of_itself(rt: &impl Abort, alloc: Global) -> Result<(), Fail> {
     Ok(())
 }
 
-fn min_visited_capacity(rt: &impl Abort, nfa: &NFA) {
+fn min_visited_capacity(rt: &impl Abort, nfa: &NFA)
+    requires { length nfa.now.states ≡ 1 }
+{
     // nfa of one state: nine positions take nine bits
     let bytes = backtrack::min_visited_capacity(nfa, &Input::new(b"foo12345"));
     assert_eq!(rt; bytes, 2);
@@ -258,6 +262,7 @@ fn made(rt: HostRuntime) -> Result<(), Fail> {
 fn that_never_match(rt: HostRuntime) {
     let alloc = rt.alloc();
     let backtracker = BoundedBacktracker::never_match(alloc).expect(&rt, "a backtracker");
+    expect_one_state(&rt, backtracker.get_nfa());
     min_visited_capacity(&rt, backtracker.get_nfa());
     max_haystack_len(&rt, &backtracker);
 }

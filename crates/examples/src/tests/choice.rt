@@ -177,13 +177,19 @@ fn made(rt: HostRuntime) -> Result<(), Fail> {
     new(&rt, rt.alloc())
 }
 
-fn run_searches(rt: &impl Abort, alloc: Global, choice: &mut Choice) {
+fn run_searches(rt: &impl Abort, choice: &mut Choice) {
     may_begin(rt, choice);
     ran(rt, choice);
     get_nfa(rt, choice);
     find(rt, choice);
+}
+
+fn run_tests(rt: &impl Abort, choice: &mut Choice) {
     find_half(rt, choice);
     is_match(rt, choice);
+}
+
+fn run_captures(rt: &impl Abort, alloc: Global, choice: &mut Choice) {
     create_captures(rt, alloc, choice).expect(rt, "memory");
     search(rt, alloc, choice).expect(rt, "memory");
     captures(rt, alloc, choice).expect(rt, "memory");
@@ -206,7 +212,9 @@ fn run_replace(rt: &impl Abort, alloc: Global, choice: &mut Choice) {
 fn of_foo(rt: HostRuntime) {
     let alloc = rt.alloc();
     let mut choice = choice_of(&rt, alloc, &["foo(?<n>[0-9]+)"]);
-    run_searches(&rt, alloc, &mut choice);
+    run_searches(&rt, &mut choice);
+    run_tests(&rt, &mut choice);
+    run_captures(&rt, alloc, &mut choice);
     run_lists(&rt, alloc, &mut choice);
     run_replace(&rt, alloc, &mut choice);
 }

@@ -250,11 +250,14 @@ fn made(rt: HostRuntime) -> Result<(), Fail> {
     Ok(())
 }
 
-fn run_searches(rt: &impl Abort, alloc: Global, vm: &PikeVM, cache: &mut Cache) {
+fn run_made(rt: &impl Abort, alloc: Global, vm: &PikeVM, cache: &mut Cache) {
     may_begin(rt, vm);
     create_captures(rt, alloc, vm).expect(rt, "memory");
     expect_fits(rt, vm, cache);
     clone(rt, vm, cache).expect(rt, "memory");
+}
+
+fn run_searches(rt: &impl Abort, vm: &PikeVM, cache: &mut Cache) {
     expect_fits(rt, vm, cache);
     find(rt, vm, cache);
     expect_fits(rt, vm, cache);
@@ -263,11 +266,14 @@ fn run_searches(rt: &impl Abort, alloc: Global, vm: &PikeVM, cache: &mut Cache) 
     is_match(rt, vm, cache);
 }
 
-fn run_captures(rt: &impl Abort, alloc: Global, vm: &PikeVM, cache: &mut Cache) {
+fn run_filled(rt: &impl Abort, alloc: Global, vm: &PikeVM, cache: &mut Cache) {
     expect_fits(rt, vm, cache);
     search(rt, alloc, vm, cache).expect(rt, "memory");
     expect_fits(rt, vm, cache);
     captures(rt, alloc, vm, cache).expect(rt, "memory");
+}
+
+fn run_captures(rt: &impl Abort, alloc: Global, vm: &PikeVM, cache: &mut Cache) {
     expect_fits(rt, vm, cache);
     captures_iter(rt, alloc, vm, cache).expect(rt, "memory");
     expect_fits(rt, vm, cache);
@@ -288,7 +294,9 @@ fn of_foo(rt: HostRuntime) {
     let alloc = rt.alloc();
     let vm = pikevm_of(&rt, alloc, &["foo(?<n>[0-9]+)"]);
     let mut cache = vm.create_cache(alloc).expect(&rt, "a cache");
-    run_searches(&rt, alloc, &vm, &mut cache);
+    run_made(&rt, alloc, &vm, &mut cache);
+    run_searches(&rt, &vm, &mut cache);
+    run_filled(&rt, alloc, &vm, &mut cache);
     run_captures(&rt, alloc, &vm, &mut cache);
     run_lists(&rt, alloc, &vm, &mut cache);
 }

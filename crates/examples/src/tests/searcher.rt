@@ -169,6 +169,9 @@ fn into_captures_iter(
 fn run_steps(rt: &impl Abort, backtracker: &BoundedBacktracker, cache: &mut Cache) {
     try_advance(rt, backtracker, cache).expect(rt, "an answer");
     try_advance_by_ref(rt, backtracker, cache).expect(rt, "an answer");
+}
+
+fn run_half_steps(rt: &impl Abort, backtracker: &BoundedBacktracker, cache: &mut Cache) {
     try_advance_half(rt, backtracker, cache).expect(rt, "an answer");
     try_advance_half_by_ref(rt, backtracker, cache).expect(rt, "an answer");
 }
@@ -186,6 +189,7 @@ fn of_foo(rt: HostRuntime) {
     let backtracker = backtracker_of(&rt, alloc, &["foo(?<n>[0-9]+)"]);
     let mut cache = backtracker.create_cache(alloc);
     run_steps(&rt, &backtracker, &mut cache);
+    run_half_steps(&rt, &backtracker, &mut cache);
     run_lists(&rt, alloc, &backtracker, &mut cache);
 }
 
@@ -194,6 +198,9 @@ fn run_sure_steps(rt: &impl Abort, choice: &mut Choice) {
     input(rt, choice);
     advance(rt, choice);
     advance_by_ref(rt, choice);
+}
+
+fn run_sure_half_steps(rt: &impl Abort, choice: &mut Choice) {
     advance_half(rt, choice);
     advance_half_by_ref(rt, choice);
 }
@@ -203,6 +210,7 @@ fn of_foo_surely(rt: HostRuntime) {
     let alloc = rt.alloc();
     let mut choice = choice_of(&rt, alloc, &["foo(?<n>[0-9]+)"]);
     run_sure_steps(&rt, &mut choice);
+    run_sure_half_steps(&rt, &mut choice);
 }
 
 #[test]
