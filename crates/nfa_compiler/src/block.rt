@@ -37,7 +37,7 @@ impl Site {
         StateID::new(self.base.saturating_add(id as usize)).ok_or(CompileError::TooManyStates)
     }
 
-    /// Returns the error of a pattern whose tree is not well formed.
+    /// Returns the error of a pattern whose tree is not one that a parser returns.
     fn bad_tree(self) -> CompileError
         ensures { IsOfNoText result }
     {

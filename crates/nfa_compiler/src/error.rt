@@ -18,16 +18,16 @@ pub enum CompileError {
     TooBig { pattern: usize, limit: usize },
     /// A tree passed to [`Compiler::build_from_hir`](crate::Compiler::build_from_hir) is not one that a parser returns:
     /// a byte class goes above 255, a group has the number 0, or a group has a number but no name entry.
-    #[error("the tree of pattern {pattern} is not well formed")]
+    #[error("the tree of pattern {pattern} is not one that a parser returns")]
     Tree { pattern: usize },
-    /// There are more states than state numbers.
-    #[error("too many states")]
+    /// The NFA would have more than 2³¹ − 1 states, as many as there are state numbers.
+    #[error("the patterns need more than 2147483647 states")]
     TooManyStates,
-    /// There are more patterns than pattern numbers.
-    #[error("too many patterns")]
+    /// There are more than 2³¹ − 1 patterns, as many as there are pattern numbers.
+    #[error("there are more than 2147483647 patterns")]
     TooManyPatterns,
-    /// There are more slots of groups than slot numbers.
-    #[error("too many groups")]
+    /// The groups would need more than 2³¹ − 2 slots, as many as a `GroupInfo` holds.
+    #[error("the groups need more than 2147483646 slots")]
     TooManyGroups,
 }
 

@@ -18,7 +18,7 @@ use thiserror::Error;
 #[derive(Clone, Copy, Debug, PartialEq, Eq, Error)]
 pub enum SearchError {
     /// The span has `len` bytes, more than the engine's visited capacity allows for its NFA.
-    #[error("the span of {len} bytes is too long to search")]
+    #[error("the span of {len} bytes is too long for the visited capacity")]
     HaystackTooLong { len: usize },
     /// An allocation failed.
     #[error("out of memory")]

@@ -421,7 +421,7 @@ impl Match {
 #[derive(Clone, Copy, Debug, PartialEq, Eq, Hash, Error)]
 pub enum MatchError {
     /// The search stopped at this byte, which it may not go past, at this offset.
-    #[error("the search may not go on at the byte {byte} at offset {offset}")]
+    #[error("the search must stop at byte {byte}, at offset {offset}")]
     Quit { byte: u8, offset: usize },
     /// The search gave up at this offset, since going on would have been inefficient.
     #[error("the search gave up at offset {offset}")]
@@ -430,6 +430,6 @@ pub enum MatchError {
     #[error("the haystack of {len} bytes is too long to search")]
     HaystackTooLong { len: usize },
     /// The search does not support this anchoring.
-    #[error("the search does not offer matches that are bound by {mode:?}")]
+    #[error("anchored mode {mode:?} is not supported")]
     UnsupportedAnchored { mode: Anchored },
 }

@@ -7,7 +7,7 @@ use regex_search_core::MatchError;
 fn errors_are_told(rt: HostRuntime) {
     let alloc = rt.alloc();
     let too_long = SearchError::HaystackTooLong { len: 32 };
-    let want = "the span of 32 bytes is too long to search";
+    let want = "the span of 32 bytes is too long for the visited capacity";
     expect_told(&rt, alloc, &too_long, want);
     expect_told(&rt, alloc, &SearchError::Memory, "out of memory");
     let gave_up = SearchError::Finder(MatchError::GaveUp { offset: 7 });

@@ -86,7 +86,7 @@ fn errors_are_told(rt: HostRuntime) {
         byte: 255,
         offset: 4,
     };
-    let want = "the search may not go on at the byte 255 at offset 4";
+    let want = "the search must stop at byte 255, at offset 4";
     expect_told(&rt, alloc, &quit, want);
     let gave_up = MatchError::GaveUp { offset: 7 };
     let want = "the search gave up at offset 7";
@@ -96,6 +96,6 @@ fn errors_are_told(rt: HostRuntime) {
     expect_told(&rt, alloc, &too_long, want);
     let mode = Anchored::Yes;
     let unsupported = MatchError::UnsupportedAnchored { mode };
-    let want = "the search does not offer matches that are bound by Yes";
+    let want = "anchored mode Yes is not supported";
     expect_told(&rt, alloc, &unsupported, want);
 }
