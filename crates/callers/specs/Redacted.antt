@@ -1,12 +1,12 @@
 -- A text with stars in place of what a group holds.
 use Rattle.std.specs.Prelude.{ℕ, ◌≡◌, Bool, false, ◌&&◌, nat_le, nat_lt, All, List, map, Option, None, Some, if◌then◌else◌}
 use Rattle.std.specs.List.{enumerate_from, list_any}
-use Rattle.nfa_engines.specs.Catching.{row_of}
-use Rattle.nfa_engines.specs.CaughtLists.{AreRows, HasGroups}
+use Rattle.nfa_engines.specs.WithCaptures.{row_of}
+use Rattle.nfa_engines.specs.CapturesLists.{AreRows, HasGroups}
 use Rattle.nfa_engines.specs.Search.{whole}
 use Rattle.nfa_engines.specs.Slots.{Captured, named_span}
 use Rattle.nfa_engines.specs.Span.{Span}
-use Rattle.nfa_choice.specs.Choosing.{Choosing, kind_in}
+use Rattle.nfa_choice.specs.ChoiceState.{ChoiceState, kind_in}
 
 -- the star
 abbrev pub star : ℕ
@@ -26,7 +26,7 @@ abbrev pub starred : List Captured → List ℕ → List ℕ → List ℕ
 starred caught name text = map (λ p. if is_hidden caught name p.0 then star else p.1) (enumerate_from 0 text)
 
 -- what the group holds in the matches of the text is stars, and the rest of the text is as it was
-pub record IsRedacted (c : Choosing) (name text redacted : List ℕ) : Type 0 where
+pub record IsRedacted (c : ChoiceState) (name text redacted : List ℕ) : Type 0 where
   pub caught : List Captured
   pub are : AreRows c.nfa (kind_in c) false (whole text) (map row_of caught)
   pub groups : All (HasGroups c.nfa) caught

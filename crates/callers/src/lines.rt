@@ -3,7 +3,7 @@ ghost use Rattle.std.specs.Prelude.{◌≡◌, ◌≤◌, All, IfOk, length};
 ghost use Rattle.std.specs.List.{filter};
 ghost use Rattle.callers.specs.Lines.{AreLines, IsLine, IsLineEnd};
 ghost use Rattle.callers.specs.Finding.{AreThoseThatMatch, matches};
-ghost use Rattle.nfa_choice.specs.Choosing.{KeepsEngines};
+ghost use Rattle.nfa_choice.specs.ChoiceState.{KeepsEngines};
 
 use nfa_choice::choose::Choice;
 use nfa_engines::Input;

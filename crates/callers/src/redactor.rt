@@ -1,6 +1,6 @@
 //! A text with stars in place of what a named group holds.
 ghost use Rattle.std.specs.Prelude.{◌≡◌, IfOk};
-ghost use Rattle.nfa_choice.specs.Choosing.{KeepsEngines};
+ghost use Rattle.nfa_choice.specs.ChoiceState.{KeepsEngines};
 ghost use Rattle.callers.specs.Redacted.{IsRedacted, is_hidden, is_within, starred};
 
 use anyhow::Result;

@@ -2,7 +2,7 @@
 ghost use Rattle.std.specs.Prelude.{◌≡◌};
 ghost use Rattle.std.specs.List.{count_by};
 ghost use Rattle.nfa_engines.specs.Search.{whole};
-ghost use Rattle.nfa_choice.specs.Choosing.{finds_in, KeepsEngines};
+ghost use Rattle.nfa_choice.specs.ChoiceState.{finds_in, KeepsEngines};
 
 use nfa_choice::choose::Choice;
 use nfa_engines::{Captures, Input};

@@ -3,23 +3,23 @@ use Rattle.std.proofs.Common.{◌≡◌, ◌∙◌, ℕ, ◌+◌, ◌≤◌, Boo
 use Rattle.std.specs.Prelude.{option_and_then, option_map}
 use Rattle.nfa_engines.specs.Agreement.{FindsEnds, HalfAndFullAgree, IsFoundIn, end_answer, end_item, end_of}
 use Rattle.nfa_engines.specs.Automaton.{Automaton, IsAutomaton}
-use Rattle.nfa_engines.specs.Behind.{IsBehind}
+use Rattle.nfa_engines.specs.LastEnd.{EndsBy}
 use Rattle.nfa_engines.specs.Found.{Found, HalfFound}
 use Rattle.nfa_engines.specs.Groups.{slot_count}
 use Rattle.nfa_engines.specs.HalfLaws.{OneHalfMatch}
 use Rattle.nfa_engines.specs.Items.{Item, greedy, matches_in}
 use Rattle.nfa_engines.specs.Laws.{EverySearchHasAnAnswer, OneMatch}
-use Rattle.nfa_engines.specs.Lists.{AreMatches, TellsMatch}
+use Rattle.nfa_engines.specs.Lists.{AreMatches, AnswersMatch}
 use Rattle.nfa_engines.specs.MatchKind.{MatchKind}
 use Rattle.nfa_engines.specs.Paths.{path_half, path_pattern, slot_row}
 use Rattle.nfa_engines.specs.Search.{Search}
 use Rattle.nfa_engines.specs.Slots.{match_of}
 use Rattle.nfa_engines.specs.Span.{Span}
-use Rattle.nfa_engines.specs.Walks.{Answer, AnswerIsInside, fresh, half_span_of, place_of, span_of}
-use Rattle.nfa_bounds.specs.BoundsLaws.{HalfMatchesAreEnds}
-use Rattle.nfa_bounds.specs.Ways.{RecordsBounds}
+use Rattle.nfa_engines.specs.IterStates.{Answer, AnswerIsInside, fresh, half_span_of, answer_span, span_of}
+use Rattle.nfa_match_spans.specs.MatchSpanLaws.{HalfMatchesAreEnds}
+use Rattle.nfa_match_spans.specs.StatePaths.{RecordsMatchSpans}
 use Rattle.nfa_search_base.proofs.ListLemmas.{as_items, items-greedy, last-unique, match-lies, matches_in-as_items}
-use Rattle.nfa_search_base.proofs.WalkLemmas.{IsOrdered}
+use Rattle.nfa_search_base.proofs.IterStateLemmas.{IsOrdered}
 use Rattle.law_callers.specs.Halves.{AreHalves, TellsHalf}
 
 -- the ends of matches as items
@@ -33,7 +33,7 @@ end-told : (half : Option HalfFound) (found : Option Found) → half ≡ option_
 end-told half None is = rw is refl
 end-told half (Some m) is = rw is refl
 
-behind-none : (n : ℕ) → IsBehind None n
+behind-none : (n : ℕ) → EndsBy None n
 behind-none n = λ e is. let never : None ≡ Some e = is in cc
 
 module _ (answered : EverySearchHasAnAnswer) (one : OneMatch) (one_half : OneHalfMatch) (agree : HalfAndFullAgree)
@@ -42,7 +42,7 @@ module _ (answered : EverySearchHasAnAnswer) (one : OneMatch) (one_half : OneHal
   tells = TellsHalf nfa kind earliest
 
   abbrev tells_match : Search → Answer Found → Type 0
-  tells_match = TellsMatch nfa kind earliest
+  tells_match = AnswersMatch nfa kind earliest
 
   -- the half match, and the match, of the path that a search answers
   abbrev half_at : Search → Option HalfFound
@@ -83,7 +83,7 @@ module _ (answered : EverySearchHasAnAnswer) (one : OneMatch) (one_half : OneHal
       let k = match-lies nfa kind earliest t (Ok (Some m)) h in
       (k.0.0, k.1 (span_of m) refl, k.0.1)
 
-  module _ (valid : IsAutomaton nfa) (records : RecordsBounds nfa) where
+  module _ (valid : IsAutomaton nfa) (records : RecordsMatchSpans nfa) where
     half-end : (t : Search) (half : Option HalfFound) → tells t (Ok half) → half ≡ option_map end_of (match_at t)
     half-end t half h = ends nfa kind earliest t half (match_at t) valid records h (match_at-told t)
 
@@ -97,7 +97,7 @@ module _ (answered : EverySearchHasAnAnswer) (one : OneMatch) (one_half : OneHal
         rw same (omega (arith, h.0, h.1), h.2)
 
     half-lies : (t : Search) (a : Answer HalfFound) → tells t a
-        → AnswerIsInside half_span_of t a × IsOrdered (place_of half_span_of a)
+        → AnswerIsInside half_span_of t a × IsOrdered (answer_span half_span_of a)
     half-lies t (Ok (Some half)) h = (
       end-in t half (match_at t) (found-in t (match_at t) (match_at-told t)) (half-end t (Some half) h),
       λ p is.

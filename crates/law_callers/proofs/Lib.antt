@@ -1,5 +1,5 @@
 mod KindLemmas
 mod DigitLemmas
 mod SetKindLemmas
-mod PlaceLemmas
+mod PathStateLemmas
 mod HalfLemmas

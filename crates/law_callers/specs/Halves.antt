@@ -6,7 +6,7 @@ use Rattle.nfa_engines.specs.Lists.{Fails, ItemsLast}
 use Rattle.nfa_engines.specs.MatchKind.{MatchKind}
 use Rattle.nfa_engines.specs.Paths.{IsHalfAnswer}
 use Rattle.nfa_engines.specs.Search.{Search}
-use Rattle.nfa_engines.specs.Walks.{Answer, fresh, half_span_of}
+use Rattle.nfa_engines.specs.IterStates.{Answer, fresh, half_span_of}
 
 module _ (nfa : Automaton) (kind : MatchKind) (earliest : Bool) where
   -- a search gives its half match, and never fails

@@ -12,7 +12,7 @@ ghost use Rattle.nfa_engines.specs.GapLaws.{PathsWriteTheirEnds};
 ghost use Rattle.nfa_engines.specs.Graphs.{Pair};
 ghost use Rattle.nfa_engines.specs.Overlaps.{HoldsPattern};
 ghost use Rattle.nfa_engines.specs.Paths.{IsSearchAnswer, is_utf8_empty, raised};
-ghost use Rattle.nfa_bounds.specs.Matches.{AreOneMatch};
+ghost use Rattle.nfa_match_spans.specs.Matches.{AreOneMatch};
 ghost use Rattle.nfa_compiler.specs.Blocks.{look_of};
 ghost use Rattle.nfa_compiler.specs.Compiled.{IsCompiled, IsNfaOf, res_of};
 ghost use Rattle.nfa_compiler.specs.KindLaws.{MatchesSomewhere, PatternMatches};
@@ -20,13 +20,13 @@ ghost use Rattle.nfa_compiler.specs.NameLaws.{AreNamed};
 ghost use Rattle.nfa_compiler.specs.Settings.{syntax_of};
 
 use anyhow::Result;
-use nfa_bounds::laws::{
-    anchored_matches_start_the_span, bounds_are_written, matches_are_of_paths,
-    no_match_is_passed_over, pikevm_nfa_is_valid,
-};
 use nfa_compiler::{Compiler, Parsed, laws};
 use nfa_engines::pikevm::{Cache, PikeVM};
 use nfa_engines::{Input, Look, Match, MatchKind, NFA, PatternSet, look_matches};
+use nfa_match_spans::laws::{
+    anchored_matches_start_the_span, match_spans_are_written, matches_are_of_paths,
+    no_match_is_missed, pikevm_nfa_is_valid,
+};
 use std::alloc::Global;
 
 /// Puts into the set the patterns that match somewhere in the haystack: under `All` and not `earliest`, those for which
@@ -153,7 +153,7 @@ fn has_no_match(
     ensures { result ≡ true → MatchesNothing vm.now.nfa (search_of input.entry) }
 {
     laws::compiled_nfas_record_bounds();
-    no_match_is_passed_over();
+    no_match_is_missed();
     pikevm_nfa_is_valid(vm);
     match vm.find(cache, input) {
         None => true,
@@ -189,7 +189,7 @@ pub fn paths_write_their_ends(compiler: &Compiler, pattern: &str, vm: &PikeVM, i
     ensures { PathsWriteTheirEnds vm.now.nfa (search_of input.now) }
 {
     laws::compiled_nfas_record_bounds();
-    bounds_are_written();
+    match_spans_are_written();
 }
 
 /// Returns the match of a search. It is the match of the path that the search answers.

@@ -8,7 +8,7 @@ ghost use Rattle.nfa_engines.specs.Found.{found_of};
 ghost use Rattle.nfa_engines.specs.Search.{search_of, whole};
 ghost use Rattle.nfa_engines.specs.Anchored.TheVariants.{No};
 ghost use Rattle.regex_syntax.specs.WellFormed.{IsWellFormed};
-ghost use Rattle.nfa_engines.specs.Catching.{row_of};
+ghost use Rattle.nfa_engines.specs.WithCaptures.{row_of};
 ghost use Rattle.nfa_engines.specs.Paths.{is_utf8_empty};
 ghost use Rattle.nfa_compiler.specs.AllHits.{all_hits, row_of_hit};
 ghost use Rattle.nfa_compiler.specs.BoundaryHits.{all_boundary_hits, boundary_hit};

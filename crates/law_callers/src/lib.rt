@@ -25,10 +25,11 @@ ghost use Rattle.nfa_engines.specs.Backtrack.{capacity_of, max_haystack_len_of};
 ghost use Rattle.nfa_engines.specs.Engines.{Fits, kind_of};
 ghost use Rattle.nfa_engines.specs.Graphs.{Pair};
 ghost use Rattle.nfa_engines.specs.IterationLaws.{IsCall};
-ghost use Rattle.nfa_engines.specs.Paths.{IsFoundAnswer, IsScanAnswer, IsSearchAnswer, is_utf8_empty, path_pattern, span_len};
-ghost use Rattle.nfa_engines.specs.Finders.{match_place};
-ghost use Rattle.nfa_engines.specs.Searchers.{walk_of};
-ghost use Rattle.nfa_engines.specs.Walks.{LiesIn};
+ghost use Rattle.nfa_engines.specs.Paths.{IsBoolAnswer, IsScanAnswer, IsSearchAnswer, is_utf8_empty, path_pattern};
+ghost use Rattle.nfa_engines.specs.Paths.{span_len};
+ghost use Rattle.nfa_engines.specs.Finders.{match_span};
+ghost use Rattle.nfa_engines.specs.Searchers.{iter_state_of};
+ghost use Rattle.nfa_engines.specs.IterStates.{LiesIn};
 
 use nfa_engines::backtrack::{self, BoundedBacktracker};
 use nfa_engines::error::SearchError;
@@ -236,7 +237,7 @@ pub fn found_with_the_flag(
 /// Whether there is a match does not depend on the flag that the input carries.
 pub fn found_under_the_flag(vm: &PikeVM, cache: &mut Cache, input: Input<'_>) -> bool
     requires { Fits cache.old vm.now.nfa }
-    ensures { IsFoundAnswer vm.now.nfa (kind_of vm.now) false (search_of input.entry) result }
+    ensures { IsBoolAnswer vm.now.nfa (kind_of vm.now) false (search_of input.entry) result }
 {
     laws::earliest_flag_is_not_read();
     let flagged = input.earliest(true);
@@ -246,14 +247,14 @@ pub fn found_under_the_flag(vm: &PikeVM, cache: &mut Cache, input: Input<'_>) ->
 // A step of an iteration is a call in the sense of the laws. The finder returns the given match if it is inside the
 // span, and none otherwise.
 fn step(searcher: &mut Searcher<'_>, told: Option<Match>) -> Result<Option<Match>, SearchError>
-    ensures { IsCall (walk_of searcher.old) (match_place result) (walk_of searcher.new) }
+    ensures { IsCall (iter_state_of searcher.old) (match_span result) (iter_state_of searcher.new) }
 {
     searcher.try_advance(|input: &Input<'_>| Ok(within(input, told)))
 }
 
 // The match, if it lies in the span.
 fn within(input: &Input<'_>, told: Option<Match>) -> Option<Match>
-    ensures { LiesIn (search_of input.now) (match_place (Ok result)) }
+    ensures { LiesIn (search_of input.now) (match_span (Ok result)) }
 {
     let found = told?;
     if input.start() <= found.start() && found.end() <= input.end() {

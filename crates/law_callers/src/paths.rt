@@ -9,10 +9,10 @@ ghost use Rattle.nfa_engines.specs.GapLaws.{PathsWriteTheirEnds, StartsBeforePat
 ghost use Rattle.nfa_engines.specs.Graphs.{ComesBefore, Pair, PathTo};
 ghost use Rattle.nfa_engines.specs.Items.{greedy};
 ghost use Rattle.nfa_engines.specs.Paths.{edges, is_utf8_empty, span_len, starts, IsMatch};
-ghost use Rattle.nfa_engines.specs.Walks.{Answer, half_span_of, span_of};
+ghost use Rattle.nfa_engines.specs.IterStates.{Answer, half_span_of, span_of};
 ghost use Rattle.nfa_engines.specs.Agreement.{IsFoundIn, end_answer, end_item};
-ghost use Rattle.nfa_engines.specs.Lists.{AreApart, AreFirstMatches};
-ghost use Rattle.nfa_engines.specs.Searchers.{walk_of};
+ghost use Rattle.nfa_engines.specs.Lists.{AreDisjoint, AreFirstMatches};
+ghost use Rattle.nfa_engines.specs.Searchers.{iter_state_of};
 
 use nfa_engines::iter::Searcher;
 use nfa_engines::iter::laws::half_and_full_agree;
@@ -79,10 +79,10 @@ pub fn first_two(
     input: Input<'_>,
 ) -> Result<Vec<Match>, AllocError>
     requires { Fits cache.old vm.now.nfa }
-    ensures apart { IfOk result (λ v. AreApart (search_of input.entry) None (map found_of v.items)) }
+    ensures apart { IfOk result (λ v. AreDisjoint (search_of input.entry) None (map found_of v.items)) }
     ensures few { IfOk result (λ v. length (map found_of v.items) ≤ span_len (search_of input.entry) + 1) }
 {
-    laws::matches_are_apart();
+    laws::matches_are_disjoint();
     let found = found_first(alloc, vm, cache, input)?;
     Ok(found)
 }
@@ -91,8 +91,8 @@ pub fn first_two(
 /// each match is in the span of its search.
 pub fn ends_are_those_of_matches(searcher: &Searcher<'_>)
     ensures { (h : Search → Answer Found) → ((t : Search) → IsFoundIn t (h t))
-        → greedy half_span_of (λ t. end_answer (h t)) (walk_of searcher.now)
-        ≡ map end_item (greedy span_of h (walk_of searcher.now)) }
+        → greedy half_span_of (λ t. end_answer (h t)) (iter_state_of searcher.now)
+        ≡ map end_item (greedy span_of h (iter_state_of searcher.now)) }
 {
     half_and_full_agree();
 }

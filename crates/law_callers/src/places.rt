@@ -6,7 +6,7 @@ ghost use Rattle.nfa_engines.specs.Search.{search_of};
 ghost use Rattle.nfa_engines.specs.Anchored.TheVariants.{Yes};
 ghost use Rattle.nfa_engines.specs.MatchKind.TheVariants.{LeftmostFirst};
 ghost use Rattle.nfa_engines.specs.Engines.{Fits, kind_of};
-ghost use Rattle.nfa_engines.specs.Paths.{is_utf8_empty, IsAnswer, IsMatchAnswer};
+ghost use Rattle.nfa_engines.specs.Paths.{is_utf8_empty, IsAnswer, IsFindAnswer};
 ghost use Rattle.nfa_engines.specs.PatternLaws.{IsOfPattern, TriesPatternsInOrder};
 ghost use Rattle.nfa_engines.specs.SpanLaws.{moved_match, HasNoLook};
 ghost use Rattle.nfa_engines.specs.StartLaws.{IsFirstStart, IsUnbound};
@@ -21,7 +21,7 @@ pub fn found_later(vm: &PikeVM, cache: &mut Cache, input: Input<'_>, start: usiz
     requires unbound { IsUnbound vm.now.nfa (search_of input) }
     requires first { IsFirstStart vm.now.nfa (search_of input) start }
     requires within { start ≤ (search_of input).end + 1 }
-    ensures { IsMatchAnswer vm.now.nfa (kind_of vm.now) (search_of input.entry).earliest (search_of input.entry)
+    ensures { IsFindAnswer vm.now.nfa (kind_of vm.now) (search_of input.entry).earliest (search_of input.entry)
         (option_map found_of result) }
 {
     laws::starts_may_be_passed();
@@ -49,7 +49,7 @@ pub fn first_candidate(vm: &PikeVM, input: &Input<'_>) -> usize
 pub fn found_after_skip(vm: &PikeVM, cache: &mut Cache, input: Input<'_>) -> Option<Match>
     requires fits { Fits cache.old vm.now.nfa }
     requires unbound { IsUnbound vm.now.nfa (search_of input) }
-    ensures { IsMatchAnswer vm.now.nfa (kind_of vm.now) (search_of input.entry).earliest (search_of input.entry)
+    ensures { IsFindAnswer vm.now.nfa (kind_of vm.now) (search_of input.entry).earliest (search_of input.entry)
         (option_map found_of result) }
 {
     let start = first_candidate(vm, &input);

@@ -5,7 +5,7 @@ ghost use Rattle.nfa_engines.specs.Search.{search_of};
 ghost use Rattle.nfa_engines.specs.MatchKind.TheVariants.{All, LeftmostFirst};
 ghost use Rattle.nfa_engines.specs.Engines.{Fits, kind_of};
 ghost use Rattle.nfa_engines.specs.Graphs.{IsFirstPath, Pair};
-ghost use Rattle.nfa_engines.specs.Overlaps.{HoldsPattern, IsFirstBefore, IsFirstHeld, IsPatternOf, IsPermitted};
+ghost use Rattle.nfa_engines.specs.Overlaps.{HoldsPattern, IsFirstBefore, IsFirstInsertable, IsPatternOf, IsPermitted};
 ghost use Rattle.nfa_engines.specs.Paths.{edges, starts};
 
 use nfa_engines::pikevm::{Cache, PikeVM};
@@ -91,7 +91,7 @@ pub fn sets_of_all_are_one(
 /// With room for each pattern the first path that counts is the first of all that may end where they do.
 pub fn all_paths_count(vm: &PikeVM, input: &Input<'_>, capacity: usize)
     requires room { length vm.now.nfa.patterns ≤ capacity }
-    ensures { (path : Option (List Pair)) → IsFirstHeld vm.now.nfa (search_of input.now) capacity path
+    ensures { (path : Option (List Pair)) → IsFirstInsertable vm.now.nfa (search_of input.now) capacity path
         → IsFirstPath (edges vm.now.nfa (search_of input.now)) (starts vm.now.nfa (search_of input.now))
         (IsPermitted vm.now.nfa (search_of input.now)) path }
 {

@@ -2,7 +2,7 @@
 ghost use Rattle.std.specs.Prelude.{◌+◌, ◌*◌, ◌≤◌, length, IfOk};
 ghost use Rattle.nfa_engines.specs.Search.{search_of};
 ghost use Rattle.nfa_engines.specs.Engines.{Fits};
-ghost use Rattle.nfa_engines.specs.Paths.{span_len, turn_weight};
+ghost use Rattle.nfa_engines.specs.Paths.{span_len, total_degree};
 ghost use Rattle.nfa_engines.specs.PikeVMFinding.{PikeFindsOn};
 ghost use Rattle.nfa_engines.specs.WorkLaws.{list_scan_limit};
 
@@ -24,7 +24,7 @@ pub fn all_by_pikevm(
         ≤ cache.old.all_scans + list_scan_limit vm.now.nfa (search_of input.entry) (length found.items)) }
     ensures turns { IfOk result (λ found. cache.new.all_turns
         ≤ cache.old.all_turns + list_scan_limit vm.now.nfa (search_of input.entry) (length found.items)
-        * ((1 + turn_weight vm.now.nfa) * (span_len (search_of input.entry) + 1))) }
+        * ((1 + total_degree vm.now.nfa) * (span_len (search_of input.entry) + 1))) }
 {
     laws::lists_are_bounded();
     vm.find_all(alloc, cache, input)
@@ -41,7 +41,7 @@ pub fn all_by_backtracker(
         ≤ cache.old.all_scans + list_scan_limit engine.now.nfa (search_of input.entry) (length found.items)) }
     ensures turns { IfOk result (λ found. cache.new.all_turns
         ≤ cache.old.all_turns + list_scan_limit engine.now.nfa (search_of input.entry) (length found.items)
-        * ((1 + turn_weight engine.now.nfa) * (span_len (search_of input.entry) + 1))) }
+        * ((1 + total_degree engine.now.nfa) * (span_len (search_of input.entry) + 1))) }
 {
     laws::lists_are_bounded();
     engine.try_find_all(alloc, cache, input)

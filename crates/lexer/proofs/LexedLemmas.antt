@@ -6,8 +6,8 @@ use Rattle.std.proofs.lemmas.List.{map-append, reverse-append, reverse-reverse}
 use Rattle.regex_hir.specs.Re.{Re}
 use Rattle.regex_search_core.specs.Found.{Found, found_of}
 use Rattle.nfa_engines.specs.Engines.{Pike, kind_of}
-use Rattle.nfa_engines.specs.Paths.{IsMatchAnswer, is_utf8_empty}
-use Rattle.nfa_bounds.specs.Matches.{HasNoByteAt}
+use Rattle.nfa_engines.specs.Paths.{IsFindAnswer, is_utf8_empty}
+use Rattle.nfa_match_spans.specs.Matches.{HasNoByteAt}
 use Rattle.nfa_compiler.specs.Compiled.{AreMeant}
 use Rattle.nfa_compiler.specs.Laws.{TextsAreMatched}
 use Rattle.nfa_compiler.specs.Patterns.{Hit, expected, found_at, found_in, pick}
@@ -31,7 +31,8 @@ module _ (res : List Re) (text : List ℕ) where
           rw (le-ltb h.start h.trace.end no_byte) refl
 
   none-at-end : token_there res text (length text) ≡ None
-  none-at-end = none-there (length text) (omega arith) (λ h is. (of-pick text res 0 (length text) h (omega arith) is).inside)
+  none-at-end = none-there (length text) (omega arith)
+      (λ h is. (of-pick text res 0 (length text) h (omega arith) is).inside)
 
   end-of-last : (at : ℕ) (ms : List Found) (m : Found) → end_after at (ms ++ m ∷ []) ≡ m.end
   end-of-last at [] m = refl
@@ -94,7 +95,7 @@ module _ (law : TextsAreMatched) (patterns : List (List ℕ)) (vm : Pike) (of : 
   picked at within bound = rw (le-ltb (length text) at within) refl
 
   hit-is : (at : ℕ) → at ≤ length text → (found : Option Found)
-      → IsMatchAnswer vm.nfa (kind_of vm) false (search_at text at) found → found ≡ hit_there res text at
+      → IsFindAnswer vm.nfa (kind_of vm) false (search_at text at) found → found ≡ hit_there res text at
   hit-is at within found answer =
       law rule_syntax patterns res vm.nfa (kind_of vm) false (search_at text at) found of.compiled meant anywhere
       (record { leftmost = of.leftmost; latest = refl; whole = refl }) bytes answer
@@ -111,7 +112,8 @@ module _ (law : TextsAreMatched) (patterns : List (List ℕ)) (vm : Pike) (of : 
   stuck-none stuck is =
       let here = hit-is stuck.at (omega (arith, is.before_end)) (option_map found_of stuck.found) is.answer in
       let short : HasNoByteAt stuck.at (hit_there res text stuck.at) = rw here at is.no_token in
-      none-there res text stuck.at (omega (arith, is.before_end)) (λ h at. of-hit stuck.at h (omega (arith, is.before_end)) at short)
+      none-there res text stuck.at (omega (arith, is.before_end))
+      (λ h at. of-hit stuck.at h (omega (arith, is.before_end)) at short)
     where
       of-hit : (at : ℕ) (h : Hit) → at ≤ length text → pick text res 0 at ≡ Some h
           → HasNoByteAt at (hit_there res text at) → h.trace.end ≤ at

@@ -2,7 +2,7 @@
 use Rattle.std.specs.Prelude.{ℕ, ◌≡◌, ◌-◌, ◌⊎◌, Bool, true, false, List, length, flat_map, drop, ◌++◌, Option, Some, None, Result, Ok, Err, if◌then◌else◌}
 use Rattle.std.specs.Borrow.{MutBor}
 use Rattle.std.specs.Iterator.{Count, at_most}
-use Rattle.nfa_engines.specs.Engines.{Pike, PikeCache, SameNumbers}
+use Rattle.nfa_engines.specs.Engines.{Pike, PikeCache, SameCapacities}
 use Rattle.lexer.specs.Tokens.{AreTokens, IsStuck, IsToken, text_of}
 use Rattle.lexer.specs.declared.lexer.Lexer.{Lexer}
 use Rattle.lexer.specs.declared.lexer.Stuck.{Stuck}
@@ -46,7 +46,7 @@ pub record TakesLexerStep (s : Lexer) (r : Option (Result Token Stuck)) (t : Lex
   pub gives : Gives s r t
   pub vm : t.vm.now ≡ s.vm.now
   pub text : t.text.now ≡ s.text.now
-  pub numbers : SameNumbers s.cache.now t.cache.now
+  pub capacities : SameCapacities s.cache.now t.cache.now
   pub cache : t.cache.ghost_name ≡ s.cache.ghost_name
 
 abbrev pub lexer_steps : Lexer → Option (Result Token Stuck) → Lexer → Type 0
@@ -61,4 +61,4 @@ pub record HasLexed (vm : Pike) (text : List ℕ) (first s : Lexer) (tokens : Li
   pub vm_is : s.vm.now ≡ vm
   pub text_is : s.text.now ≡ text
   pub cache : s.cache.ghost_name ≡ first.cache.ghost_name
-  pub numbers : SameNumbers first.cache.now s.cache.now
+  pub capacities : SameCapacities first.cache.now s.cache.now

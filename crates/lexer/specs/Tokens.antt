@@ -5,10 +5,10 @@ use Rattle.regex_search_core.specs.Patterns.{number_of}
 use Rattle.regex_search_core.specs.Search.{Search}
 use Rattle.regex_search_core.specs.declared.search.Anchored.TheVariants.{Yes}
 use Rattle.nfa_engines.specs.Engines.{Pike, kind_of}
-use Rattle.nfa_engines.specs.Paths.{IsMatchAnswer}
+use Rattle.nfa_engines.specs.Paths.{IsFindAnswer}
 use Rattle.regex_syntax.specs.Verdict.{default_config}
 use Rattle.regex_syntax.specs.declared.Config.{Config}
-use Rattle.nfa_bounds.specs.Matches.{AnswersBytes, AnswersNoBytes, HasNoByteAt}
+use Rattle.nfa_match_spans.specs.Matches.{AnswersBytes, AnswersNoBytes, HasNoByteAt}
 use Rattle.lexer.specs.declared.lexer.Stuck.{Stuck}
 use Rattle.lexer.specs.declared.lexer.Token.{Token}
 
@@ -49,7 +49,7 @@ module _ (vm : Pike) (text : List ℕ) where
 
   -- the token is what the search that is bound to its start answers, and has a byte at least
   pub record IsToken (token : Token) : Type 0 where
-    pub answer : IsMatchAnswer vm.nfa (kind_of vm) false (search_at text token.span.start) (Some (token_found token))
+    pub answer : IsFindAnswer vm.nfa (kind_of vm) false (search_at text token.span.start) (Some (token_found token))
     pub some_bytes : token.span.start < token.span.end
 
   -- tokens from the last to the first: the last ends at this offset, each starts where the one before it in the text
@@ -65,5 +65,5 @@ module _ (vm : Pike) (text : List ℕ) where
   -- At this place, before the end of the text, the search that is bound to start there gives this, which is no token.
   pub record IsStuck (stuck : Stuck) : Type 0 where
     pub before_end : stuck.at < length text
-    pub answer : IsMatchAnswer vm.nfa (kind_of vm) false (search_at text stuck.at) (option_map found_of stuck.found)
+    pub answer : IsFindAnswer vm.nfa (kind_of vm) false (search_at text stuck.at) (option_map found_of stuck.found)
     pub no_token : HasNoByteAt stuck.at (option_map found_of stuck.found)

@@ -3,18 +3,19 @@ ghost use Rattle.std.specs.Prelude.{◌≡◌, ◌≤◌, ◌<◌, IfErr, IfOk, 
 ghost use Rattle.std.specs.Prelude.{List, option_map, ℕ};
 ghost use Rattle.regex_hir.specs.Re.{Re};
 ghost use Rattle.regex_search_core.specs.Found.{found_of};
-ghost use Rattle.nfa_engines.specs.Engines.{Fits, SameNumbers, kind_of};
-ghost use Rattle.nfa_engines.specs.Paths.{IsMatchAnswer};
-ghost use Rattle.nfa_bounds.specs.Matches.{HasNoByteAt};
-ghost use Rattle.nfa_bounds.specs.Ways.{RecordsBounds};
+ghost use Rattle.nfa_engines.specs.Engines.{Fits, SameCapacities, kind_of};
+ghost use Rattle.nfa_engines.specs.Paths.{IsFindAnswer};
+ghost use Rattle.nfa_match_spans.specs.Matches.{HasNoByteAt};
+ghost use Rattle.nfa_match_spans.specs.StatePaths.{RecordsMatchSpans};
 ghost use Rattle.nfa_compiler.specs.Compiled.{AreMeant};
 ghost use Rattle.lexer.specs.Lexed.{AreLexed, IsLexerOf};
-ghost use Rattle.lexer.specs.Tokens.{AreTokens, IsStuck, IsToken, StartsNoToken, StartsToken, end_of_tokens, rule_syntax};
+ghost use Rattle.lexer.specs.Tokens.{AreTokens, IsStuck, IsToken, StartsNoToken, StartsToken, end_of_tokens};
+ghost use Rattle.lexer.specs.Tokens.{rule_syntax};
 ghost use Rattle.lexer.specs.Tokens.{search_at, text_of};
 
-use nfa_bounds::laws::{anchored_matches_tell_bytes, pikevm_nfa_is_valid};
 use nfa_compiler::laws;
 use nfa_engines::pikevm::{Cache, PikeVM};
+use nfa_match_spans::laws::{anchored_matches_show_bytes, pikevm_nfa_is_valid};
 use regex_search_core::{Anchored, Input, Match, PatternID, Span};
 use std::alloc::{AllocError, Global};
 
@@ -51,11 +52,13 @@ pub fn token_at(vm: &PikeVM, cache: &mut Cache, text: &[u8], at: usize) -> Resul
     ensures inside { IfOk result (λ token. token.span.end ≤ length text.now) }
     ensures stuck { IfErr result (IsStuck vm.now text.now) }
     ensures place { IfErr result (λ stuck. stuck.at ≡ at) }
-    ensures starts { RecordsBounds vm.now.nfa → IfOk result (λ token. StartsToken vm.now text.now token.span.start) }
-    ensures starts_none { RecordsBounds vm.now.nfa → IfErr result (λ stuck. StartsNoToken vm.now text.now stuck.at) }
-    ensures numbers { SameNumbers cache.old cache.new }
+    ensures starts { RecordsMatchSpans vm.now.nfa → IfOk result
+        (λ token. StartsToken vm.now text.now token.span.start) }
+    ensures starts_none { RecordsMatchSpans vm.now.nfa
+        → IfErr result (λ stuck. StartsNoToken vm.now text.now stuck.at) }
+    ensures capacities { SameCapacities cache.old cache.new }
 {
-    anchored_matches_tell_bytes();
+    anchored_matches_show_bytes();
     pikevm_nfa_is_valid(vm);
     let input = Input::new(text)
         .range(at..text.len())
@@ -74,12 +77,12 @@ pub fn token_at(vm: &PikeVM, cache: &mut Cache, text: &[u8], at: usize) -> Resul
 
 /// Where the NFA records its bounds, a search that gave no token says rightly that none starts there.
 fn starts_no_token(vm: &PikeVM, text: &[u8], stuck: Stuck)
-    requires answer { IsMatchAnswer vm.now.nfa (kind_of vm.now) false (search_at text.now stuck.at)
+    requires answer { IsFindAnswer vm.now.nfa (kind_of vm.now) false (search_at text.now stuck.at)
         (option_map found_of stuck.found) }
     requires no_token { HasNoByteAt stuck.at (option_map found_of stuck.found) }
-    ensures { RecordsBounds vm.now.nfa → StartsNoToken vm.now text.now stuck.at }
+    ensures { RecordsMatchSpans vm.now.nfa → StartsNoToken vm.now text.now stuck.at }
 {
-    anchored_matches_tell_bytes();
+    anchored_matches_show_bytes();
     pikevm_nfa_is_valid(vm);
 }
 
@@ -164,9 +167,9 @@ pub fn tokens(
     ensures joined { IfOk result (λ lexed. flat_map (text_of text.now) lexed.tokens.items
         ++ drop (end_of_tokens lexed.stuck (length text.now)) text.now ≡ text.now) }
     ensures stuck { IfOk result (λ lexed. IfSome lexed.stuck (IsStuck vm.now text.now)) }
-    ensures starts_none { RecordsBounds vm.now.nfa → IfOk result (λ lexed.
+    ensures starts_none { RecordsMatchSpans vm.now.nfa → IfOk result (λ lexed.
         IfSome lexed.stuck (λ stuck. StartsNoToken vm.now text.now stuck.at)) }
-    ensures numbers { SameNumbers cache.old cache.new }
+    ensures capacities { SameCapacities cache.old cache.new }
 {
     let lexed = searched_tokens(alloc, vm, cache, text)?;
     are_meant(vm, text, &lexed);
@@ -198,9 +201,9 @@ fn searched_tokens(
     ensures joined { IfOk result (λ lexed. flat_map (text_of text.now) lexed.tokens.items
         ++ drop (end_of_tokens lexed.stuck (length text.now)) text.now ≡ text.now) }
     ensures stuck { IfOk result (λ lexed. IfSome lexed.stuck (IsStuck vm.now text.now)) }
-    ensures starts_none { RecordsBounds vm.now.nfa → IfOk result (λ lexed.
+    ensures starts_none { RecordsMatchSpans vm.now.nfa → IfOk result (λ lexed.
         IfSome lexed.stuck (λ stuck. StartsNoToken vm.now text.now stuck.at)) }
-    ensures numbers { SameNumbers cache.old cache.new }
+    ensures capacities { SameCapacities cache.old cache.new }
 {
     let mut tokens = Vec::new(alloc);
     for item in Lexer::new(vm, cache, text) {

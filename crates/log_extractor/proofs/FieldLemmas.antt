@@ -38,7 +38,8 @@ pub bound-hit : (p : LinePattern) (nfa : Automaton) (line : List ℕ) → nfa.an
 bound-hit p nfa line bound =
     bound-hit-at p.tree nfa (whole line) bound refl (omega arith) ∙ same (attempt line p.tree accept 0)
   where
-    same : (o : Option Trace) → hit_of 0 0 o ≡ option_map (hit_by 0) (option_map (λ t. record { start = 0; trace = t }) o)
+    same : (o : Option Trace) → hit_of 0 0 o ≡ option_map (hit_by 0)
+        (option_map (λ t. record { start = 0; trace = t }) o)
     same None = refl
     same (Some t) = refl
 
@@ -52,7 +53,8 @@ between (None ∷ names) n f g same = between names (n + 1) f g (λ k low high. 
 between (Some name ∷ names) n f g same =
     let here = same n (omega arith) (omega arith) in
     let later = between names (n + 1) f g (λ k low high. same k (omega arith) (omega arith)) in
-    ap (λ fields. f n ∷ fields) later ∙ ap (λ field. field ∷ map (λ (group : NamedGroup). g group.number) (named_groups (n + 1) names)) here
+    ap (λ fields. f n ∷ fields) later ∙ ap (λ field. field ∷ map (λ (group : NamedGroup). g group.number)
+    (named_groups (n + 1) names)) here
 
 module _ (p : LinePattern) (nfa : Automaton) (line : List ℕ) (captures : Captured)
     (bound : nfa.anchored ≡ nfa.unanchored) (groups : nfa.groups ≡ drop 1 p.names ∷ [])
@@ -79,7 +81,8 @@ module _ (p : LinePattern) (nfa : Automaton) (line : List ℕ) (captures : Captu
             → Some (map (λ (group : NamedGroup). cut line (group_span captures group.number)) (columns_of p))
             ≡ option_map (fields_of p line) o
         of None h =
-            absurd (no (subst (λ (o : Option ℕ). IsSome o) (pattern ∙ ap (option_map (λ (one : Hit). one.pattern)) h) some))
+            absurd (no (subst (λ (o : Option ℕ). IsSome o)
+            (pattern ∙ ap (option_map (λ (one : Hit). one.pattern)) h) some))
         of (Some m) h =
             let is : captures.pattern ≡ Some 0 = pattern ∙ ap (option_map (λ (one : Hit). one.pattern)) h in
             let are : captures.slots ≡ slots_of nfa.groups (slot_count nfa.groups) (Some (hit_by 0 m)) =
@@ -88,9 +91,11 @@ module _ (p : LinePattern) (nfa : Automaton) (line : List ℕ) (captures : Captu
             λ i. record { groups = same i; pattern = is i; slots = are i } in
             let counted : length nfa.groups ≡ 1 = ap length groups in
             let explicit : groups_at nfa.groups 0 ≡ drop 1 p.names = ap (λ gs. groups_at gs 0) groups in
-            ap Some (between (drop 1 p.names) 1 (λ k. cut line (group_span captures k)) (λ k. cut line (written_span k m))
+            ap Some (between (drop 1 p.names) 1 (λ k. cut line (group_span captures k))
+            (λ k. cut line (written_span k m))
             (λ k low high. ap (cut line) (ap (λ c. group_span c k) all
-            ∙ law (p.tree ∷ []) nfa (whole line) (hit_by 0 m) k counted h low (omega (arith, ap length explicit, high)))))
+            ∙ law (p.tree ∷ []) nfa (whole line) (hit_by 0 m) k counted h low
+            (omega (arith, ap length explicit, high)))))
 
 -- a function of the numbers of columns
 pub of-groups : {A : Type 0} (f : ℕ → A) (columns : List Column)

@@ -64,7 +64,8 @@ unfolding Reads
 columns-read text tree names reads zero named =
     first-none tree.names.items zero
     ∙ ap (λ (ns : Names). named_groups 1 (drop 1 ns))
-    (names-of (map bytes_of tree.names.items) names tree.hir line_syntax.nest_limit (read line_syntax (chars text)) reads named)
+    (names-of (map bytes_of tree.names.items) names tree.hir line_syntax.nest_limit (read line_syntax (chars text))
+    reads named)
 
 named-one : (own : Names) (hir : Hir) (limit : ℕ) (o : Option (Nested Re × Names))
     → IsSomeAnd o (λ (re, found). (re.depth ≤ limit) × SameCaptures (meaning hir) re.value × (own ≡ found)

@@ -22,7 +22,8 @@ pub members-step : (cs : List NamedGroup) (fs : List (Option (List ℕ))) (n m :
     → new ≡ old ++ 44 ∷ [] ++ member_text c f
     → new ≡ before ++ flat_map (λ m. 44 ∷ m) (members (take m cs) (take m fs))
 members-step cs fs n m c f before old new next left right c-is f-is so_far here =
-    let lengths : length (take n cs) ≡ length (take n fs) = length-take-le n cs (omega arith) ∙ sym (length-take-le n fs (omega arith)) in
+    let lengths : length (take n cs) ≡ length (take n fs) = length-take-le n cs (omega arith)
+    ∙ sym (length-take-le n fs (omega arith)) in
     let more : members (take m cs) (take m fs) ≡ members (take n cs) (take n fs) ++ member_text c f ∷ [] =
     ap (λ k. members (take k cs) (take k fs)) next ∙ ap₂ members c-is f-is
     ∙ members-append (take n cs) (take n fs) c f lengths in
@@ -42,8 +43,10 @@ members-all (c ∷ cs) [] zero none = refl
 members-all (c ∷ cs) [] (suc n) none = refl
 members-all (c ∷ cs) (f ∷ fs) zero (inl bad) = absurd (omega (arith, bad))
 members-all (c ∷ cs) (f ∷ fs) zero (inr bad) = absurd (omega (arith, bad))
-members-all (c ∷ cs) (f ∷ fs) (suc n) (inl less) = ap (λ ms. member_text c f ∷ ms) (members-all cs fs n (inl (omega (arith, less))))
-members-all (c ∷ cs) (f ∷ fs) (suc n) (inr less) = ap (λ ms. member_text c f ∷ ms) (members-all cs fs n (inr (omega (arith, less))))
+members-all (c ∷ cs) (f ∷ fs) (suc n) (inl less) = ap (λ ms. member_text c f ∷ ms)
+    (members-all cs fs n (inl (omega (arith, less))))
+members-all (c ∷ cs) (f ∷ fs) (suc n) (inr less) = ap (λ ms. member_text c f ∷ ms)
+    (members-all cs fs n (inr (omega (arith, less))))
 
 pub ended : (n a b : ℕ) → n ≡ min a b → (a ≤ n) ⊎ (b ≤ n)
 ended n a b end =

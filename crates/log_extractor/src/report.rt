@@ -81,7 +81,8 @@ fn print_lines<R: BufRead, W: Write>(
     input: &mut R,
     out: &mut W,
 ) -> Result<(), Failure>
-    ensures printed { OnOk result (Writes (extracted_lines output) parser.old (R.remaining input.old) (W.contents out.old)
+    ensures printed { OnOk result (Writes (extracted_lines output) parser.old (R.remaining input.old)
+        (W.contents out.old)
         (W.contents out.new)) }
     ensures kept { parser.new ≡ parser.old }
 {

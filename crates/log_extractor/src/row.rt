@@ -1,7 +1,8 @@
 //! Rows as lines with tabs.
 ghost use Rattle.std.specs.Prelude.{◌≡◌, ◌∷◌, ◌++◌, OnOk, flat_map, map, option_map};
 ghost use Rattle.log_extractor.specs.Fields.{group_of, fields_now};
-ghost use Rattle.log_extractor.specs.Printed.{field_line, column_names, row_line, separated, tab, field_text, field_texts};
+ghost use Rattle.log_extractor.specs.Printed.{field_line, column_names, row_line, separated, tab, field_text};
+ghost use Rattle.log_extractor.specs.Printed.{field_texts};
 
 use crate::pattern::Column;
 use std::alloc::AllocError;

@@ -5,9 +5,9 @@ use Rattle.regex_search_core.specs.Found.{Found, found_of}
 use Rattle.regex_search_core.specs.Search.{Search}
 use Rattle.regex_search_core.specs.declared.search.Match.{Match}
 use Rattle.lower_tests.specs.EmptyFinder.{empty_answer, zero_row}
-use Rattle.nfa_search_base.specs.Catching.{Row, row_span}
+use Rattle.nfa_search_base.specs.WithCaptures.{Row, row_span}
 use Rattle.nfa_search_base.specs.Finders.{answer_by}
-use Rattle.nfa_search_base.specs.Walks.{Answer, AnswerIsInside, LiesIn, place_of}
+use Rattle.nfa_search_base.specs.IterStates.{Answer, AnswerIsInside, LiesIn, answer_span}
 
 pub empty_found : (s : Search) (m : Match) → found_of m ≡ record { pattern = 0; start = s.start; end = s.start }
     → s.start ≤ s.end → answer_by found_of (Ok (Some m)) ≡ empty_answer s
@@ -24,6 +24,6 @@ zero_inside s a is = subst (λ (b : Answer Row). AnswerIsInside row_span s b) (s
     found : Row
     found = record { pattern = Some 0; slots = Some 0 ∷ Some 0 ∷ [] }
 
-    of : (b : Bool) → (b ≡ true → s.start ≡ 0) → LiesIn s (place_of row_span (Ok (if b then Some found else None)))
+    of : (b : Bool) → (b ≡ true → s.start ≡ 0) → LiesIn s (answer_span row_span (Ok (if b then Some found else None)))
     of true e = let low = e refl in (omega (arith, low), omega arith)
     of false e = tt

@@ -12,7 +12,7 @@ use Rattle.regex_search_core.specs.declared.search.HalfMatch.{HalfMatch}
 use Rattle.regex_search_core.specs.declared.search.Match.{Match}
 use Rattle.regex_search_core.specs.declared.search.MatchKind.TheVariants.{LeftmostFirst}
 use Rattle.thompson_nfa.specs.Automaton.{Automaton, IsAutomaton}
-use Rattle.nfa_paths.specs.Paths.{IsAnswer, IsHalfAnswer, IsMatchAnswer}
+use Rattle.nfa_paths.specs.Paths.{IsAnswer, IsHalfAnswer, IsFindAnswer}
 use Rattle.nfa_paths.specs.Exploring.{Slots}
 use Rattle.nfa_paths.specs.Restarts.{SearchGives}
 use Rattle.nfa_paths.proofs.InsideLemmas.{half-within, match-within, match-pattern, slots-within}
@@ -67,7 +67,7 @@ module _ (nfa : Automaton) (x : Search) where
       → All (IsSlotInside x) slots
   slots-inside pattern slots a = slots-within nfa LeftmostFirst false x pattern slots a
 
-  pub inside-of : (r : Option Match) → IsMatchAnswer nfa LeftmostFirst false x (option_map found_of r)
+  pub inside-of : (r : Option Match) → IsFindAnswer nfa LeftmostFirst false x (option_map found_of r)
       → IfSome r (λ m. IsInside x (found_of m))
   inside-of None h = tt
   inside-of (Some m) h =
@@ -82,7 +82,7 @@ module _ (nfa : Automaton) (x : Search) where
   half-inside (Ok (Some m)) h = half-within nfa LeftmostFirst false x (half_found_of m) h
 
   pub pattern-of : IsAutomaton nfa → (r : Option Match)
-      → IsMatchAnswer nfa LeftmostFirst false x (option_map found_of r)
+      → IsFindAnswer nfa LeftmostFirst false x (option_map found_of r)
       → IfSome r (λ m. (found_of m).pattern < length nfa.patterns)
   pattern-of valid None h = tt
   pattern-of valid (Some m) h = match-pattern nfa LeftmostFirst false valid x (found_of m) h

@@ -14,24 +14,24 @@ use Rattle.nfa_search_base.specs.Asking.{SameButStart}
 use Rattle.nfa_search_base.specs.EngineSearches.{AnswersBy, Keeping}
 use Rattle.nfa_search_base.specs.Finders.{answer_by}
 use Rattle.nfa_search_base.specs.Leaving.{StepsLead, asks_keeping}
-use Rattle.nfa_search_base.specs.Lending.{With}
-use Rattle.nfa_search_base.specs.Lent.{TakesLentStep, lent_state, lent_walk}
+use Rattle.nfa_search_base.specs.WithCache.{WithCache}
+use Rattle.nfa_search_base.specs.StepsWith.{TakesStepWith, steps_with_state, steps_with_iter_state}
 use Rattle.nfa_search_base.specs.Steps.{GivesItem}
-use Rattle.nfa_search_base.specs.Stored.{steps_walk, can_step, takes_steps}
-use Rattle.nfa_search_base.specs.Walks.{Advances, Answer, AnswerIsInside, Walk, after, fresh, place_of}
-use Rattle.nfa_search_base.specs.Walks.{repeats, shifted, span_of}
+use Rattle.nfa_search_base.specs.Stored.{steps_iter_state, can_step, takes_steps}
+use Rattle.nfa_search_base.specs.IterStates.{Advances, Answer, AnswerIsInside, IterState, after, fresh, answer_span}
+use Rattle.nfa_search_base.specs.IterStates.{repeats, shifted, span_of}
 use Rattle.nfa_search_base.specs.declared.error.SearchError.{SearchError}
 use Rattle.nfa_search_base.specs.declared.iter.steps.Steps.{Steps}
 use Rattle.nfa_search_base.proofs.EngineLemmas.{calls-kept, finder-acts, finder-goes, finder-serves}
 use Rattle.nfa_search_base.proofs.LeavingLemmas.{finds-leave, finds-to_end, first-leaves, same-item, same-items}
 use Rattle.nfa_search_base.proofs.ListLemmas.{match-lies}
-use Rattle.nfa_search_base.proofs.WalkLemmas.{IsOrdered}
-use Rattle.nfa_backtrack.specs.Backtrack.{Backtracker, CountsAnswer, CountsRefusal, IsTooLong, Work}
+use Rattle.nfa_search_base.proofs.IterStateLemmas.{IsOrdered}
+use Rattle.nfa_backtrack.specs.Backtrack.{Backtracker, CountsAnswer, CountsRefusal, IsTooLong, BacktrackCache}
 use Rattle.nfa_backtrack.specs.Backtrack.{refused_early}
 use Rattle.nfa_backtrack.specs.FindMatches.{AsksBacktracker, FindsBySearches}
-use Rattle.nfa_backtrack.specs.FindMatches.{MayFindByBacktracker, backtracker_finds, backtracker_finds_next}
+use Rattle.nfa_backtrack.specs.FindMatches.{MayFindByBacktracker, backtrack_matches, backtrack_matches_next}
 use Rattle.nfa_backtrack.specs.FindMatches.{backtracker_knowing, fits_always}
-use Rattle.nfa_backtrack.specs.Finding.{Counts, DoesWork, IsFindOf, IsSureAt, SearchesOnce}
+use Rattle.nfa_backtrack.specs.Finding.{Counts, DoesWork, IsTryFindAnswer, IsSureAt, SearchesOnce}
 use Rattle.nfa_backtrack.specs.declared.find_iter.Finder.{Finder}
 use Rattle.nfa_backtrack.specs.declared.find_iter.TryFindMatches.{TryFindMatches}
 
@@ -45,21 +45,21 @@ still-fits e x y end on fits long =
     fits (omega (arith, long, more))
 
 -- a match that is sure to be found is the answer, and the other way round
-pub sure-finds : (e : Backtracker) (t : Search) (m : Found) → IsSureAt e t m → IsFindOf e t (Ok (Some m))
+pub sure-finds : (e : Backtracker) (t : Search) (m : Found) → IsSureAt e t m → IsTryFindAnswer e t (Ok (Some m))
 sure-finds e t m sure = (sure.0, sure-match e.nfa LeftmostFirst false t m sure.1)
 
-pub finds-sure : (e : Backtracker) (t : Search) (m : Found) → IsFindOf e t (Ok (Some m)) → IsSureAt e t m
+pub finds-sure : (e : Backtracker) (t : Search) (m : Found) → IsTryFindAnswer e t (Ok (Some m)) → IsSureAt e t m
 finds-sure e t m finds = (finds.0, match-sure e.nfa LeftmostFirst false t m finds.1)
 
 -- a reply is counted as what it is
-pub counts-by : (r : Result (Option Match) SearchError) (old new : Work) → OnOk r (CountsAnswer old new)
+pub counts-by : (r : Result (Option Match) SearchError) (old new : BacktrackCache) → OnOk r (CountsAnswer old new)
     → OnErr r (CountsRefusal old new) → Counts (answer_by found_of r) old new
 counts-by (Ok (Some m)) old new answered refused = answered
 counts-by (Ok None) old new answered refused = answered
 counts-by (Err error) old new answered refused = refused
 
 -- and its work is that of what it answers
-pub work-by : (e : Backtracker) (x : Search) (r : Result (Option Match) SearchError) (new : Work)
+pub work-by : (e : Backtracker) (x : Search) (r : Result (Option Match) SearchError) (new : BacktrackCache)
     → OnOk r (IsWork e.nfa LeftmostFirst false x new.scans new.turns)
     → OnErr r (IsWithinScans e.nfa LeftmostFirst false x new.scans) → DoesWork e x (answer_by found_of r) new
 work-by e x (Ok (Some m)) new work within = work
@@ -67,61 +67,64 @@ work-by e x (Ok None) new work within = work
 work-by e x (Err error) new work within = within
 
 -- a match that is found is inside the span
-pub find-lies : (e : Backtracker) (t : Search) (a : Answer Found) → IsFindOf e t a
-    → AnswerIsInside span_of t a × IsOrdered (place_of span_of a)
+pub find-lies : (e : Backtracker) (t : Search) (a : Answer Found) → IsTryFindAnswer e t a
+    → AnswerIsInside span_of t a × IsOrdered (answer_span span_of a)
 find-lies e t (Ok found) h = match-lies e.nfa LeftmostFirst false t (Ok found) h.1
 find-lies e t (Err error) h = (tt, λ p is. let never : None ≡ Some p = is in cc)
 
 -- the iterator may search in every state
 pub find-serves : (s : TryFindMatches)
-    → can_step MayFindByBacktracker AsksBacktracker span_of (lent_state (backtracker_finds s))
+    → can_step MayFindByBacktracker AsksBacktracker span_of (steps_with_state (backtrack_matches s))
 find-serves s =
-    finder-serves IsSureAt backtracker_knowing fits_always IsFindOf (λ e x a. SearchesOnce e x a)
+    finder-serves IsSureAt backtracker_knowing fits_always IsTryFindAnswer (λ e x a. SearchesOnce e x a)
     (λ e x a old new work fits. tt) (AnswerIsInside span_of) (λ e t a h. (find-lies e t a h).0)
-    (lent_state (backtracker_finds s)).asker (lent_walk (backtracker_finds s)).at
+    (steps_with_state (backtrack_matches s)).backend (steps_with_iter_state (backtrack_matches s)).at
     (record { fits = tt; knows = s.knows })
 
 -- and goes on after a step
-pub step-goes : (s : TryFindMatches) (r : Option (Result Match SearchError)) (t : Steps (With Finder Work))
-    → takes_steps span_of AsksBacktracker (λ q. GivesItem found_of) (lent_state (backtracker_finds s)) r t
-    → MayFindByBacktracker t.asker (steps_walk t).at
+pub step-goes : (s : TryFindMatches) (r : Option (Result Match SearchError))
+    (t : Steps (WithCache Finder BacktrackCache))
+    → takes_steps span_of AsksBacktracker (λ q. GivesItem found_of) (steps_with_state (backtrack_matches s)) r t
+    → MayFindByBacktracker t.backend (steps_iter_state t).at
 step-goes s r t st =
-    finder-goes IsSureAt backtracker_knowing fits_always IsFindOf (λ e x a. SearchesOnce e x a)
-    (λ e x a old new work fits. tt) (λ _. GivesItem found_of) (lent_state (backtracker_finds s)) r t st
+    finder-goes IsSureAt backtracker_knowing fits_always IsTryFindAnswer (λ e x a. SearchesOnce e x a)
+    (λ e x a old new work fits. tt) (λ _. GivesItem found_of) (steps_with_state (backtrack_matches s)) r t st
     (record { fits = tt; knows = s.knows })
 
 -- the backtracker gives the answers of its searches, and does not change
-pub back-acts : (e : Backtracker) (x : Search) (s : With Finder Work) (t : Search) (a : Answer Found)
-    (s' : With Finder Work) → SameButStart x t
-    → s.asker.engine.now ≡ e → AsksBacktracker s t a s' → IsFindOf e t a × (s'.asker.engine.now ≡ e)
+pub back-acts : (e : Backtracker) (x : Search) (s : WithCache Finder BacktrackCache) (t : Search) (a : Answer Found)
+    (s' : WithCache Finder BacktrackCache) → SameButStart x t
+    → s.backend.engine.now ≡ e → AsksBacktracker s t a s' → IsTryFindAnswer e t a × (s'.backend.engine.now ≡ e)
 back-acts e x s t a s' same is asked =
-    finder-acts IsSureAt backtracker_knowing fits_always IsFindOf (λ e x a. SearchesOnce e x a)
+    finder-acts IsSureAt backtracker_knowing fits_always IsTryFindAnswer (λ e x a. SearchesOnce e x a)
     (λ e x a old new work fits. tt) e s t a s' is asked
 
 -- ---- the cache
 
 -- the searches of an iteration, seen with the cache and what is known
-abbrev Looks : Backtracker → Keeping Work → Search → Answer Found → Keeping Work → Type 0
-Looks e = asks_keeping (IsFindOf e) (λ y a. SearchesOnce e y a)
+abbrev Looks : Backtracker → Keeping BacktrackCache → Search → Answer Found → Keeping BacktrackCache → Type 0
+Looks e = asks_keeping (IsTryFindAnswer e) (λ y a. SearchesOnce e y a)
 
 -- a first search that is too long is refused early, and is the only one
-module _ (e : Backtracker) (x : Search) (long : IsTooLong e x) (old : Work) where
-  abbrev begun : Keeping Work
+module _ (e : Backtracker) (x : Search) (long : IsTooLong e x) (old : BacktrackCache) where
+  abbrev begun : Keeping BacktrackCache
   begun = record { cache = old; known = None }
 
-  step-early : (a : Answer Found) (q : Keeping Work) (v : Walk) → Advances span_of (Looks e) begun (fresh x) a q v
+  step-early : (a : Answer Found) (q : Keeping BacktrackCache) (v : IterState)
+      → Advances span_of (Looks e) begun (fresh x) a q v
       → (error : SearchError) × (a ≡ Err error) × (q.cache ≡ refused_early old)
   step-early a q v step = of step.answer step.first.tells step.first.work.by_known step.rest
     where
-      of : (f : Answer Found) → IsFindOf e x f → AnswersBy (λ y b. SearchesOnce e y b) x f None begun step.between
-          → MatchBool (repeats (fresh x) (place_of span_of f))
-          (Looks e step.between (shifted (fresh x)).at a q × (v ≡ after (shifted (fresh x)) (place_of span_of a)))
-          ((a ≡ f) × (q ≡ step.between) × (v ≡ after (fresh x) (place_of span_of a)))
+      of : (f : Answer Found) → IsTryFindAnswer e x f
+          → AnswersBy (λ y b. SearchesOnce e y b) x f None begun step.between
+          → MatchBool (repeats (fresh x) (answer_span span_of f))
+          (Looks e step.between (shifted (fresh x)).at a q × (v ≡ after (shifted (fresh x)) (answer_span span_of a)))
+          ((a ≡ f) × (q ≡ step.between) × (v ≡ after (fresh x) (answer_span span_of a)))
           → (error : SearchError) × (a ≡ Err error) × (q.cache ≡ refused_early old)
       of (Ok found) told work rest = absurd (told.0 long)
       of (Err error) told work rest = (error, rest.0, ap (λ k. k.cache) rest.1 ∙ work.0.early long)
 
-  steps-early : (a : Answer Found) (more : List (Answer Found)) (q : Keeping Work)
+  steps-early : (a : Answer Found) (more : List (Answer Found)) (q : Keeping BacktrackCache)
       → StepsLead span_of (Looks e) (fresh x) begun (a ∷ more) q → q.cache ≡ refused_early old
   steps-early (Ok (Some m)) more q h =
       let k = step-early (Ok (Some m)) h.0 h.1 h.2 in
@@ -130,31 +133,32 @@ module _ (e : Backtracker) (x : Search) (long : IsTooLong e x) (old : Work) wher
   steps-early (Err error) more q h = (step-early (Err error) q h.0 h.1).2
 
 -- An iterator of e that begins at x.
-module _ (e : Backtracker) (x : Search) (s : TryFindMatches) (engine : s.steps.asker.engine.now ≡ e)
-    (known : s.steps.asker.known ≡ None) (walk : lent_walk (backtracker_finds s) ≡ fresh x)
+module _ (e : Backtracker) (x : Search) (s : TryFindMatches) (engine : s.steps.backend.engine.now ≡ e)
+    (known : s.steps.backend.known ≡ None) (walk : steps_with_iter_state (backtrack_matches s) ≡ fresh x)
     (going : s.steps.done ≡ false) where
   step-is : (p : TryFindMatches) (r : Option (Result Match SearchError)) (q : TryFindMatches)
-      → backtracker_finds_next p r q
-      → TakesLentStep span_of AsksBacktracker (λ _. GivesItem found_of) (backtracker_finds p)
-      (option_map (λ i. i) r) (backtracker_finds q)
-  step-is p r q st = subst (λ (o : Option (Result Match SearchError)). TakesLentStep span_of AsksBacktracker
-      (λ _. GivesItem found_of) (backtracker_finds p) o (backtracker_finds q)) (sym (same-item r)) st.takes
+      → backtrack_matches_next p r q
+      → TakesStepWith span_of AsksBacktracker (λ _. GivesItem found_of) (backtrack_matches p)
+      (option_map (λ i. i) r) (backtrack_matches q)
+  step-is p r q st = subst (λ (o : Option (Result Match SearchError)). TakesStepWith span_of AsksBacktracker
+      (λ _. GivesItem found_of) (backtrack_matches p) o (backtrack_matches q)) (sym (same-item r)) st.takes
 
   -- the calls change the cache only by their searches
   pub finds-searches : FindsBySearches e x s
   finds-searches = record {
     keeps = λ xs t r u ran st. record {
       cache = (calls-kept span_of AsksBacktracker (λ _. GivesItem found_of) (λ c d. Unit {0}) (λ c. tt)
-          (λ a b c f g. tt) (λ q y a p asked. tt) backtracker_finds_next backtracker_finds (λ i. i)
+          (λ a b c f g. tt) (λ q y a p asked. tt) backtrack_matches_next backtrack_matches (λ i. i)
           (λ p i q h. h.takes) s xs t r u ran st).cache;
     };
-    on = λ xs t r u ran st. finds-leave IsSureAt backtracker_knowing IsFindOf (λ b y a. SearchesOnce b y a) e
-        backtracker_finds_next backtracker_finds (λ i. i) step-is x s engine known walk going xs t r u ran st;
+    on = λ xs t r u ran st. finds-leave IsSureAt backtracker_knowing IsTryFindAnswer (λ b y a. SearchesOnce b y a) e
+        backtrack_matches_next backtrack_matches (λ i. i) step-is x s engine known walk going xs t r u ran st;
     early = λ xs t r u ran st long.
-        let first = first-leaves IsSureAt backtracker_knowing IsFindOf (λ b y a. SearchesOnce b y a) e
-        backtracker_finds_next backtracker_finds (λ i. i) step-is x s engine known walk going xs t r u ran st in
+        let first = first-leaves IsSureAt backtracker_knowing IsTryFindAnswer (λ b y a. SearchesOnce b y a) e
+        backtrack_matches_next backtrack_matches (λ i. i) step-is x s engine known walk going xs t r u ran st in
         steps-early e x long s.cache.now first.0 first.1 _ first.2;
-    to_end = λ xs t u ms ran st is. finds-to_end IsSureAt backtracker_knowing IsFindOf (λ b y a. SearchesOnce b y a) e
-        backtracker_finds_next backtracker_finds (λ i. i) step-is x s engine known walk going xs ms t u
+    to_end = λ xs t u ms ran st is. finds-to_end IsSureAt backtracker_knowing IsTryFindAnswer
+        (λ b y a. SearchesOnce b y a) e
+        backtrack_matches_next backtrack_matches (λ i. i) step-is x s engine known walk going xs ms t u
         (same-items xs ∙ is) ran st;
   }

@@ -2,4 +2,4 @@
 pub mod EngineLemmas
 pub mod FindLemmas
 pub mod RunLemmas
-pub mod CaughtLemmas
+pub mod CapturesLemmas

@@ -11,14 +11,14 @@ use Rattle.regex_search_core.specs.declared.search.Match.{Match}
 use Rattle.regex_search_core.specs.declared.search.MatchKind.TheVariants.{LeftmostFirst}
 use Rattle.nfa_paths.specs.Paths.{span_len}
 use Rattle.nfa_search_base.specs.Items.{item_by}
-use Rattle.nfa_search_base.specs.Lists.{IsStep, Fails, ItemsNext, ItemsLast, TellsMatch, ComeNext, ComeLast}
+use Rattle.nfa_search_base.specs.Lists.{IsStep, Fails, ItemsNext, ItemsLast, AnswersMatch, ComeNext, ComeLast}
 use Rattle.nfa_search_base.specs.Lists.{IsInside}
-use Rattle.nfa_search_base.specs.Lending.{With}
-use Rattle.nfa_search_base.specs.Lent.{lent_state, lent_walk}
+use Rattle.nfa_search_base.specs.WithCache.{WithCache}
+use Rattle.nfa_search_base.specs.StepsWith.{steps_with_state, steps_with_iter_state}
 use Rattle.nfa_search_base.specs.Runs.{RunsGive, GivesFirst, GivesNext}
 use Rattle.nfa_search_base.specs.Steps.{GivesItem}
 use Rattle.nfa_search_base.specs.Stored.{takes_steps}
-use Rattle.nfa_search_base.specs.Walks.{Walk, Answer, fresh, after, repeats, shifted, span_of, place_of}
+use Rattle.nfa_search_base.specs.IterStates.{IterState, Answer, fresh, after, repeats, shifted, span_of, answer_span}
 use Rattle.nfa_search_base.specs.declared.error.SearchError.{SearchError}
 use Rattle.nfa_search_base.specs.declared.error.SearchError.TheVariants.{HaystackTooLong, Memory}
 use Rattle.nfa_search_base.specs.declared.iter.steps.Steps.{Steps}
@@ -26,10 +26,10 @@ use Rattle.nfa_search_base.proofs.ListLemmas.{matches-apart, step-lies}
 use Rattle.nfa_search_base.proofs.MatchRunLemmas.{yields-inner}
 use Rattle.nfa_search_base.proofs.RunLemmas.{item-says, Says, gives-first, gives-all, runs-give, yields-more}
 use Rattle.nfa_search_base.proofs.StepLemmas.{chosen}
-use Rattle.nfa_backtrack.specs.Backtrack.{Backtracker, IsTooLong, Work}
-use Rattle.nfa_backtrack.specs.FindMatches.{AsksBacktracker, backtracker_finds, backtracker_finds_next}
-use Rattle.nfa_backtrack.specs.Finding.{AnswersByLength, IsFindOf, IsRefusal}
-use Rattle.nfa_backtrack.specs.Runs.{RunsMatch, RunsInside, RunsApart, RunsRefused}
+use Rattle.nfa_backtrack.specs.Backtrack.{Backtracker, IsTooLong, BacktrackCache}
+use Rattle.nfa_backtrack.specs.FindMatches.{AsksBacktracker, backtrack_matches, backtrack_matches_next}
+use Rattle.nfa_backtrack.specs.Finding.{AnswersByLength, IsTryFindAnswer, IsRefusal}
+use Rattle.nfa_backtrack.specs.Runs.{RunsMatch, RunsInside, RunsDisjoint, RunsRefused}
 use Rattle.nfa_backtrack.specs.Runs.{GivesFirstMatches, GivesAllMatches, GivesNextMatch, AreFirstItems, AreAllItems}
 use Rattle.nfa_backtrack.specs.declared.find_iter.Finder.{Finder}
 use Rattle.nfa_backtrack.specs.Runs.{GivesByLength, EndsByLength}
@@ -57,30 +57,30 @@ no-items (y ∷ ys) h = cc
 
 module _ (e : Backtracker) where
   abbrev tells : Search → Answer Found → Type 0
-  tells = IsFindOf e
+  tells = IsTryFindAnswer e
 
-  abbrev Step : Walk → Answer Found → Type 0
+  abbrev Step : IterState → Answer Found → Type 0
   Step = IsStep span_of tells
 
-  abbrev Next : Walk → List (Result Match SearchError) → Type 0
+  abbrev Next : IterState → List (Result Match SearchError) → Type 0
   Next w xs = ItemsNext span_of tells (Fails span_of tells) w (map (item_by found_of) xs)
 
-  abbrev Last : Walk → List (Result Match SearchError) → Type 0
+  abbrev Last : IterState → List (Result Match SearchError) → Type 0
   Last w xs = ItemsLast span_of tells (Fails span_of tells) w (map (item_by found_of) xs)
 
-  says : (w : Walk) (s : With Finder Work) (a : Answer Found)
+  says : (w : IterState) (s : WithCache Finder BacktrackCache) (a : Answer Found)
       (r : Option (Result Match SearchError)) → GivesItem found_of a r
       → Step w a → Says found_of a (Fails span_of tells w) r
   says w s a r gives step = item-says found_of (λ b. Step w b) a r gives step
 
   -- a step without an error is one of the matches of the NFA
-  ok-step : (w : Walk) (o : Option Found) → Step w (Ok o)
-      → IsStep span_of (TellsMatch e.nfa LeftmostFirst false) w (Ok o)
+  ok-step : (w : IterState) (o : Option Found) → Step w (Ok o)
+      → IsStep span_of (AnswersMatch e.nfa LeftmostFirst false) w (Ok o)
   ok-step w o h = of h.first h.is_first h.rest
     where
       of : (f : Answer Found) → tells w.at f
-          → MatchBool (repeats w (place_of span_of f)) (tells (shifted w).at (Ok o)) (Ok o ≡ f)
-          → IsStep span_of (TellsMatch e.nfa LeftmostFirst false) w (Ok o)
+          → MatchBool (repeats w (answer_span span_of f)) (tells (shifted w).at (Ok o)) (Ok o ≡ f)
+          → IsStep span_of (AnswersMatch e.nfa LeftmostFirst false) w (Ok o)
       of (Err q) is rest = let k : Ok o ≡ Err q = rest in cc
       of (Ok None) is rest = record { first = Ok None; is_first = is.1; rest = rest }
       of (Ok (Some f)) is rest = elim (chosen (repeats w (Some (span_of f))) rest) [
@@ -89,7 +89,7 @@ module _ (e : Backtracker) where
       ]
 
   -- so items that are all `Ok` are its matches
-  matches-next : (ms : List Match) (w : Walk) → Next w (oked ms)
+  matches-next : (ms : List Match) (w : IterState) → Next w (oked ms)
       → ComeNext e.nfa LeftmostFirst false w (map found_of ms)
   matches-next [] w h = tt
   matches-next (m ∷ ms) w h = (
@@ -97,7 +97,7 @@ module _ (e : Backtracker) where
     matches-next ms (after w (Some (span_of (found_of m)))) h.1,
   )
 
-  matches-last : (ms : List Match) (w : Walk) → Last w (oked ms)
+  matches-last : (ms : List Match) (w : IterState) → Last w (oked ms)
       → ComeLast e.nfa LeftmostFirst false w (map found_of ms)
   matches-last [] w h = ok-step w None h
   matches-last (m ∷ ms) w h = (
@@ -106,7 +106,7 @@ module _ (e : Backtracker) where
   )
 
   -- each is inside the span
-  items-inside : (x : Search) (xs : List (Result Match SearchError)) (w : Walk) → x.start ≤ w.at.start
+  items-inside : (x : Search) (xs : List (Result Match SearchError)) (w : IterState) → x.start ≤ w.at.start
       → w.at.end ≡ x.end
       → Next w xs → All (λ item. IfOk item (λ m. IsInside x (found_of m))) xs
   items-inside x [] w from to h = All-nil (λ item. IfOk item (λ m. IsInside x (found_of m)))
@@ -126,7 +126,7 @@ module _ (e : Backtracker) where
   long-step x a long h = of h.first h.is_first h.rest
     where
       of : (f : Answer Found) → tells x f
-          → MatchBool (repeats (fresh x) (place_of span_of f)) (tells (shifted (fresh x)).at a) (a ≡ f)
+          → MatchBool (repeats (fresh x) (answer_span span_of f)) (tells (shifted (fresh x)).at a) (a ≡ f)
           → a ≡ Err (HaystackTooLong (span_len x))
       of (Ok found) is rest = absurd (is.0 long)
       of (Err error) is rest = elim is [
@@ -147,14 +147,14 @@ module _ (e : Backtracker) where
       rw (same, no-items xs h.1) refl
 
   -- the error of any other search is `Memory`
-  memory-step : (w : Walk) (r : SearchError) → ¬ (IsTooLong e w.at) → Step w (Err r) → r ≡ Memory
+  memory-step : (w : IterState) (r : SearchError) → ¬ (IsTooLong e w.at) → Step w (Err r) → r ≡ Memory
   memory-step w r fits h = of h.first h.is_first h.rest
     where
       fits-on : ¬ (IsTooLong e (shifted w).at)
       fits-on = still-fits e w.at (shifted w).at refl (omega arith) fits
 
       of : (f : Answer Found) → tells w.at f
-          → MatchBool (repeats w (place_of span_of f)) (tells (shifted w).at (Err r)) (Err r ≡ f) → r ≡ Memory
+          → MatchBool (repeats w (answer_span span_of f)) (tells (shifted w).at (Err r)) (Err r ≡ f) → r ≡ Memory
       of (Err q) is rest = elim is [
         | inl long ↦ absurd (fits long.0)
         | inr memory ↦ err-same r q rest ∙ memory.1
@@ -168,7 +168,7 @@ module _ (e : Backtracker) where
         | inr p ↦ let k : Err r ≡ Ok (Some f) = p.1 in cc
       ]
 
-  memory-items : (x : Search) (xs : List (Result Match SearchError)) (w : Walk) → ¬ (IsTooLong e x)
+  memory-items : (x : Search) (xs : List (Result Match SearchError)) (w : IterState) → ¬ (IsTooLong e x)
       → x.start ≤ w.at.start → w.at.end ≡ x.end
       → Next w xs → All (λ item. IfErr item (λ error. error ≡ Memory)) xs
   memory-items x [] w fits from to h = All-nil (λ item. IfErr item (λ error. error ≡ Memory))
@@ -183,11 +183,12 @@ module _ (e : Backtracker) where
       (All-nil (λ item. IfErr item (λ error. error ≡ Memory))))
 
   -- an error of a step is a refusal
-  error-step : (w : Walk) (r : SearchError) → Step w (Err r) → IsRefusal e w.at r
+  error-step : (w : IterState) (r : SearchError) → Step w (Err r) → IsRefusal e w.at r
   error-step w r h = of h.first h.is_first h.rest
     where
       of : (f : Answer Found) → tells w.at f
-          → MatchBool (repeats w (place_of span_of f)) (tells (shifted w).at (Err r)) (Err r ≡ f) → IsRefusal e w.at r
+          → MatchBool (repeats w (answer_span span_of f)) (tells (shifted w).at (Err r)) (Err r ≡ f)
+          → IsRefusal e w.at r
       of (Err q) is rest = subst (λ (error : SearchError). IsRefusal e w.at error) (sym (err-same r q rest)) is
       of (Ok None) is rest = let k : Err r ≡ Ok None = rest in cc
       of (Ok (Some f)) is rest = elim (chosen (repeats w (Some (span_of f))) rest) [
@@ -209,7 +210,7 @@ module _ (e : Backtracker) where
   none-after (y ∷ ys) i is = cc
 
   -- the last of some items of a search that is not too long
-  last-by-length : (x : Search) (xs : List (Result Match SearchError)) (i : Result Match SearchError) (w : Walk)
+  last-by-length : (x : Search) (xs : List (Result Match SearchError)) (i : Result Match SearchError) (w : IterState)
       → ¬ (IsTooLong e x) → x.start ≤ w.at.start → w.at.end ≡ x.end → Next w (xs ++ i ∷ []) → AnswersByLength e x i
   last-by-length x [] (Ok m) w fits from to h = fits
   last-by-length x [] (Err r) w fits from to h = inr (fits, memory-step w r (still-fits e x w.at to from fits) h.0)
@@ -234,36 +235,39 @@ module _ (e : Backtracker) where
   oks-fit x (m ∷ ms) h = λ long.
       let k : oked (m ∷ ms) ≡ Err (HaystackTooLong (span_len x)) ∷ [] = long-items x (oked (m ∷ ms)) long h in cc
 
-  module _ (x : Search) (s : TryFindMatches) (engine : (backtracker_finds s).steps.asker.engine.now ≡ e)
-      (walk : lent_walk (backtracker_finds s) ≡ fresh x) (going : (backtracker_finds s).steps.done ≡ false) where
-    abbrev core : Steps (With Finder Work) → Option (Result Match SearchError)
-        → Steps (With Finder Work) → Type 0
+  module _ (x : Search) (s : TryFindMatches) (engine : (backtrack_matches s).steps.backend.engine.now ≡ e)
+      (walk : steps_with_iter_state (backtrack_matches s) ≡ fresh x)
+      (going : (backtrack_matches s).steps.done ≡ false) where
+    abbrev core : Steps (WithCache Finder BacktrackCache) → Option (Result Match SearchError)
+        → Steps (WithCache Finder BacktrackCache) → Type 0
     core = takes_steps span_of AsksBacktracker (λ q. GivesItem found_of)
 
-    first-come : (xs : List (Result Match SearchError)) (t : TryFindMatches) → Yields backtracker_finds_next s xs t
+    first-come : (xs : List (Result Match SearchError)) (t : TryFindMatches) → Yields backtrack_matches_next s xs t
         → Next (fresh x) xs
     first-come xs t ran =
         gives-first span_of AsksBacktracker (λ q. GivesItem found_of) found_of tells (Fails span_of tells) x
-        (λ q. q.asker.engine.now ≡ e) (back-acts e x) says
-        (lent_state (backtracker_finds s)) walk going engine xs (lent_state (backtracker_finds t))
-        (yields-inner backtracker_finds_next core (λ q. lent_state (backtracker_finds q)) (λ a r b st. st.takes.step) xs
+        (λ q. q.backend.engine.now ≡ e) (back-acts e x) says
+        (steps_with_state (backtrack_matches s)) walk going engine xs (steps_with_state (backtrack_matches t))
+        (yields-inner backtrack_matches_next core (λ q. steps_with_state (backtrack_matches q))
+        (λ a r b st. st.takes.step) xs
         s t ran)
 
-    all-come : (xs : List (Result Match SearchError)) (t u : TryFindMatches) → Yields backtracker_finds_next s xs t
-        → backtracker_finds_next t None u → Last (fresh x) xs
+    all-come : (xs : List (Result Match SearchError)) (t u : TryFindMatches) → Yields backtrack_matches_next s xs t
+        → backtrack_matches_next t None u → Last (fresh x) xs
     all-come xs t u ran st =
         gives-all span_of AsksBacktracker (λ q. GivesItem found_of) found_of tells (Fails span_of tells) x
-        (λ q. q.asker.engine.now ≡ e) (back-acts e x) says
-        (lent_state (backtracker_finds s)) walk going engine xs (lent_state (backtracker_finds t))
-        (lent_state (backtracker_finds u))
-        (yields-inner backtracker_finds_next core (λ q. lent_state (backtracker_finds q)) (λ a r b st. st.takes.step) xs
+        (λ q. q.backend.engine.now ≡ e) (back-acts e x) says
+        (steps_with_state (backtrack_matches s)) walk going engine xs (steps_with_state (backtrack_matches t))
+        (steps_with_state (backtrack_matches u))
+        (yields-inner backtrack_matches_next core (λ q. steps_with_state (backtrack_matches q))
+        (λ a r b st. st.takes.step) xs
         s t ran) st.takes.step
 
-    pub gives-first_items : GivesFirst backtracker_finds_next (AreFirstItems e x) s
+    pub gives-first_items : GivesFirst backtrack_matches_next (AreFirstItems e x) s
     gives-first_items = λ xs t ran. record { come = first-come xs t ran }
 
-    pub runs-give_items : RunsGive backtracker_finds_next (AreFirstItems e x) (AreAllItems e x) s
-    runs-give_items = runs-give backtracker_finds_next (λ xs. AreFirstItems e x xs) (λ xs. AreAllItems e x xs) s
+    pub runs-give_items : RunsGive backtrack_matches_next (AreFirstItems e x) (AreAllItems e x) s
+    runs-give_items = runs-give backtrack_matches_next (λ xs. AreFirstItems e x xs) (λ xs. AreAllItems e x xs) s
         gives-first_items (λ xs t u ran st. record { come = all-come xs t u ran st })
 
     pub runs-match : RunsMatch e x s
@@ -283,7 +287,7 @@ module _ (e : Backtracker) where
     runs-inside = λ p seen from. items-inside x p.items (fresh x) (omega arith) refl
         (runs-give_items p seen from).0.come
 
-    pub runs-apart : RunsApart x s
+    pub runs-apart : RunsDisjoint x s
     runs-apart = λ p seen from ms is. matches-apart e.nfa LeftmostFirst false x (map found_of ms)
         (runs-match p seen from ms is).0
 
@@ -309,18 +313,18 @@ module _ (e : Backtracker) where
               (subst (λ (l : List (Result Match SearchError)). Last (fresh x) l) is (all-come xs t u ran st));
         }
 
-    pub gives-next : GivesNext backtracker_finds_next (AreFirstItems e x) s
+    pub gives-next : GivesNext backtrack_matches_next (AreFirstItems e x) s
     gives-next = λ xs t i u ran st. gives-first_items (xs ++ i ∷ []) u
-        (yields-more backtracker_finds_next xs s t u i ran st)
+        (yields-more backtrack_matches_next xs s t u i ran st)
 
     pub gives-next-match : GivesNextMatch e x s
     gives-next-match = λ xs t i u ms m ran st is ok.
-        gives-first-matches (xs ++ i ∷ []) u (ms ++ m ∷ []) (yields-more backtracker_finds_next xs s t u i ran st)
+        gives-first-matches (xs ++ i ∷ []) u (ms ++ m ∷ []) (yields-more backtrack_matches_next xs s t u i ran st)
         (oks xs ms i m is ok)
 
     pub gives-by-length : GivesByLength e x s
     gives-by-length = λ xs t i u ran st.
-        item-by-length x xs i (first-come (xs ++ i ∷ []) u (yields-more backtracker_finds_next xs s t u i ran st))
+        item-by-length x xs i (first-come (xs ++ i ∷ []) u (yields-more backtrack_matches_next xs s t u i ran st))
 
     pub ends-by-length : EndsByLength e x s
     ends-by-length = λ xs t u ms ran st is.

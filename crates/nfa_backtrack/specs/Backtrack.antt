@@ -3,7 +3,7 @@ use Rattle.std.specs.Prelude.{◌≡◌, ℕ, ◌+◌, ◌*◌, ◌/◌, ◌-◌
 use Rattle.regex_search_core.specs.Search.{Search}
 use Rattle.thompson_nfa.specs.Automaton.{Automaton}
 use Rattle.nfa_paths.specs.Paths.{span_len}
-use Rattle.nfa_scanning.specs.Numbers.{saturated}
+use Rattle.nfa_scan_core.specs.Numbers.{saturated}
 
 -- an NFA, and the capacity in bytes, if one was set
 pub record Backtracker : Type 0 where
@@ -12,7 +12,7 @@ pub record Backtracker : Type 0 where
 
 -- what a cache shows: the scans and turns of its last search, and those of all its searches; its frames, blocks of
 -- marks and slots; and how many of its searches were answered and how many refused
-pub record Work : Type 0 where
+pub record BacktrackCache : Type 0 where
   pub scans : ℕ
   pub turns : ℕ
   pub frames : ℕ
@@ -24,8 +24,8 @@ pub record Work : Type 0 where
   pub all_turns : ℕ
 
 -- a cache that has made no search and holds nothing
-abbrev pub unused : Work
-unused = record {
+abbrev pub empty_cache : BacktrackCache
+empty_cache = record {
   scans = 0;
   turns = 0;
   frames = 0;
@@ -38,17 +38,17 @@ unused = record {
 }
 
 -- one search more was answered
-pub record CountsAnswer (old new : Work) : Type 0 where
+pub record CountsAnswer (old new : BacktrackCache) : Type 0 where
   pub answered : new.answered ≡ old.answered + 1
   pub refused : new.refused ≡ old.refused
 
 -- one search more was refused
-pub record CountsRefusal (old new : Work) : Type 0 where
+pub record CountsRefusal (old new : BacktrackCache) : Type 0 where
   pub answered : new.answered ≡ old.answered
   pub refused : new.refused ≡ old.refused + 1
 
 -- the totals rise by exactly the scans and turns of the new search
-pub record AddsWork (old new : Work) : Type 0 where
+pub record AddsBacktrackWork (old new : BacktrackCache) : Type 0 where
   pub scans : new.all_scans ≡ old.all_scans + new.scans
   pub turns : new.all_turns ≡ old.all_turns + new.turns
 
@@ -59,17 +59,17 @@ pub record GrowsBlocks (nfa : Automaton) (x : Search) (old new : ℕ) : Type 0 w
 
 -- The cache has no frame that it did not have before. It keeps its slots, and has no more of them than before or than
 -- needed.
-pub record HoldsNoMore (needed : ℕ) (old new : Work) : Type 0 where
+pub record HoldsNoMore (needed : ℕ) (old new : BacktrackCache) : Type 0 where
   pub frames : new.frames ≤ old.frames
   pub slots_kept : old.slots ≤ new.slots
   pub slots : new.slots ≤ max old.slots needed
 
 -- the cache after a search that was refused before it began
-abbrev pub refused_early : Work → Work
+abbrev pub refused_early : BacktrackCache → BacktrackCache
 refused_early w = record w { scans = 0; turns = 0; refused = w.refused + 1 }
 
 -- the bytes of a cache: 24 for a frame, 8 for a block, 8 for a slot
-abbrev pub memory_of : Work → ℕ
+abbrev pub memory_of : BacktrackCache → ℕ
 memory_of w = saturated (24 * w.frames + 8 * w.blocks + 8 * w.slots)
 
 -- the default capacity in bytes

@@ -6,15 +6,15 @@ use Rattle.regex_search_core.specs.Found.{Found, found_of}
 use Rattle.regex_search_core.specs.Search.{Search}
 use Rattle.regex_search_core.specs.declared.search.Match.{Match}
 use Rattle.nfa_search_base.specs.EngineSearches.{AsksEngine, Knowing, MayFind}
-use Rattle.nfa_search_base.specs.Lending.{With}
-use Rattle.nfa_search_base.specs.Lent.{Lent, TakesLentStep}
+use Rattle.nfa_search_base.specs.WithCache.{WithCache}
+use Rattle.nfa_search_base.specs.StepsWith.{StepsWith, TakesStepWith}
 use Rattle.nfa_search_base.specs.Runs.{GivesKept}
 use Rattle.nfa_search_base.specs.Steps.{GivesItem}
-use Rattle.nfa_search_base.specs.Searchers.{walk_of}
-use Rattle.nfa_search_base.specs.Walks.{Answer, Walk, span_of}
+use Rattle.nfa_search_base.specs.Searchers.{iter_state_of}
+use Rattle.nfa_search_base.specs.IterStates.{Answer, IterState, span_of}
 use Rattle.nfa_search_base.specs.declared.error.SearchError.{SearchError}
-use Rattle.nfa_backtrack.specs.Backtrack.{Backtracker, IsTooLong, Work, refused_early}
-use Rattle.nfa_backtrack.specs.Finding.{BacktrackerFindsOn, BacktrackerFindsToEnd, IsFindOf, IsSureAt, SearchesOnce}
+use Rattle.nfa_backtrack.specs.Backtrack.{Backtracker, IsTooLong, BacktrackCache, refused_early}
+use Rattle.nfa_backtrack.specs.Finding.{BacktrackerFindsOn, BacktrackerFindsToEnd, IsTryFindAnswer, IsSureAt, SearchesOnce}
 use Rattle.nfa_backtrack.specs.declared.find_iter.Finder.{Finder}
 use Rattle.nfa_backtrack.specs.declared.find_iter.TryFindMatches.{TryFindMatches}
 
@@ -23,48 +23,49 @@ abbrev pub backtracker_knowing : Finder → Knowing Backtracker
 backtracker_knowing a = record { engine = a.engine.now; known = a.known }
 
 -- the steps of the iterator, and the cache that it borrows
-abbrev pub backtracker_finds : TryFindMatches → Lent Finder Work
-backtracker_finds s = record { steps = s.steps; cache = s.cache }
+abbrev pub backtrack_matches : TryFindMatches → StepsWith Finder BacktrackCache
+backtrack_matches s = record { steps = s.steps; cache = s.cache }
 
 -- the cache that it searches with
-abbrev pub backtracker_finds_cache : TryFindMatches → MutBor Work
-backtracker_finds_cache s = s.cache
+abbrev pub backtrack_matches_cache : TryFindMatches → MutBor BacktrackCache
+backtrack_matches_cache s = s.cache
 
 -- the engine that it searches with
-abbrev pub backtracker_finds_engine : TryFindMatches → Backtracker
-backtracker_finds_engine s = s.steps.asker.engine.now
+abbrev pub backtrack_matches_engine : TryFindMatches → Backtracker
+backtrack_matches_engine s = s.steps.backend.engine.now
 
 -- its position, and whether it has ended
-abbrev pub backtracker_finds_walk : TryFindMatches → Walk
-backtracker_finds_walk s = walk_of s.steps.searcher
+abbrev pub backtrack_matches_iter_state : TryFindMatches → IterState
+backtrack_matches_iter_state s = iter_state_of s.steps.searcher
 
-abbrev pub backtracker_finds_done : TryFindMatches → Bool
-backtracker_finds_done s = s.steps.done
+abbrev pub backtrack_matches_done : TryFindMatches → Bool
+backtrack_matches_done s = s.steps.done
 
 -- each cache fits
-abbrev pub fits_always : Work → Backtracker → Type 0
+abbrev pub fits_always : BacktrackCache → Backtracker → Type 0
 fits_always w e = ⊤
 
 -- the backtracker may search if the known match is right
-abbrev pub MayFindByBacktracker : With Finder Work → Search → Type 0
+abbrev pub MayFindByBacktracker : WithCache Finder BacktrackCache → Search → Type 0
 MayFindByBacktracker = MayFind IsSureAt backtracker_knowing fits_always
 
 -- a search by the backtracker may answer this
-abbrev pub AsksBacktracker : With Finder Work → Search → Answer Found → With Finder Work → Type 0
-AsksBacktracker = AsksEngine IsSureAt backtracker_knowing IsFindOf (λ e x a. SearchesOnce e x a)
+abbrev pub AsksBacktracker : WithCache Finder BacktrackCache → Search → Answer Found
+    → WithCache Finder BacktrackCache → Type 0
+AsksBacktracker = AsksEngine IsSureAt backtracker_knowing IsTryFindAnswer (λ e x a. SearchesOnce e x a)
 
 -- a call
 pub record BacktrackerFindsNext (s : TryFindMatches) (r : Option (Result Match SearchError))
     (t : TryFindMatches) : Type 0 where
-  pub takes : TakesLentStep span_of AsksBacktracker (λ _. GivesItem found_of) (backtracker_finds s)
-      r (backtracker_finds t)
+  pub takes : TakesStepWith span_of AsksBacktracker (λ _. GivesItem found_of) (backtrack_matches s)
+      r (backtrack_matches t)
 
-abbrev pub backtracker_finds_next : TryFindMatches → Option (Result Match SearchError) → TryFindMatches → Type 0
-backtracker_finds_next s r t = BacktrackerFindsNext s r t
+abbrev pub backtrack_matches_next : TryFindMatches → Option (Result Match SearchError) → TryFindMatches → Type 0
+backtrack_matches_next s r t = BacktrackerFindsNext s r t
 
 -- the known answer of its next search
 abbrev pub backtracker_finds_known : TryFindMatches → Option Found
-backtracker_finds_known s = option_map found_of s.steps.asker.known
+backtracker_finds_known s = option_map found_of s.steps.backend.known
 
 -- the calls keep the cache
 pub record KeepsLentCache (s t : TryFindMatches) : Type 0 where
@@ -73,10 +74,10 @@ pub record KeepsLentCache (s t : TryFindMatches) : Type 0 where
 -- The calls keep the cache, and change it only by the searches of an iteration over x. A search that is too long
 -- changes only the count of refusals. At `None` the iteration went to its end, past the matches so far.
 pub record FindsBySearches (e : Backtracker) (x : Search) (s : TryFindMatches) : Type 0 where
-  pub keeps : GivesKept backtracker_finds_next KeepsLentCache s
-  pub on : GivesKept backtracker_finds_next (λ p q. BacktrackerFindsOn e x p.cache.now q.cache.now) s
-  pub early : GivesKept backtracker_finds_next
+  pub keeps : GivesKept backtrack_matches_next KeepsLentCache s
+  pub on : GivesKept backtrack_matches_next (λ p q. BacktrackerFindsOn e x p.cache.now q.cache.now) s
+  pub early : GivesKept backtrack_matches_next
       (λ p q. IsTooLong e x → q.cache.now ≡ refused_early p.cache.now) s
   pub to_end : (xs : List (Result Match SearchError)) (t u : TryFindMatches) (ms : List Match)
-      → Yields backtracker_finds_next s xs t → backtracker_finds_next t None u → xs ≡ map Ok ms
+      → Yields backtrack_matches_next s xs t → backtrack_matches_next t None u → xs ≡ map Ok ms
       → BacktrackerFindsToEnd e x (map found_of ms) s.cache.now u.cache.now

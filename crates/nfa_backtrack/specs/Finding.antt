@@ -4,14 +4,14 @@ use Rattle.regex_search_core.specs.Found.{Found}
 use Rattle.regex_search_core.specs.Search.{Search}
 use Rattle.regex_search_core.specs.declared.search.MatchKind.TheVariants.{LeftmostFirst}
 use Rattle.nfa_paths.specs.Known.{IsSureMatch}
-use Rattle.nfa_paths.specs.Paths.{IsMatchAnswer, IsWithinScans, IsWork, scan_limit, span_len, turn_weight}
-use Rattle.nfa_search_base.specs.Catching.{Row, row_span}
-use Rattle.nfa_search_base.specs.CaughtLists.{TellsRow}
+use Rattle.nfa_paths.specs.Paths.{IsFindAnswer, IsWithinScans, IsWork, max_scans, span_len, total_degree}
+use Rattle.nfa_search_base.specs.WithCaptures.{Row, row_span}
+use Rattle.nfa_search_base.specs.CapturesLists.{AnswersRow}
 use Rattle.nfa_search_base.specs.Leaving.{DoesSearch, FindsLeave, FindsLeaveAtEnd, Leaves, LeavesAtEnd}
-use Rattle.nfa_search_base.specs.Walks.{Answer}
+use Rattle.nfa_search_base.specs.IterStates.{Answer}
 use Rattle.nfa_search_base.specs.declared.error.SearchError.{SearchError}
 use Rattle.nfa_search_base.specs.declared.error.SearchError.TheVariants.{HaystackTooLong, Memory}
-use Rattle.nfa_backtrack.specs.Backtrack.{Backtracker, Work, AddsWork, CountsAnswer, CountsRefusal, GrowsBlocks}
+use Rattle.nfa_backtrack.specs.Backtrack.{Backtracker, BacktrackCache, AddsBacktrackWork, CountsAnswer, CountsRefusal, GrowsBlocks}
 use Rattle.nfa_backtrack.specs.Backtrack.{HoldsNoMore, IsTooLong, refused_early}
 
 -- the error of a search: `HaystackTooLong` if it is too long, otherwise `Memory`
@@ -25,52 +25,54 @@ AnswersByLength e x (Ok y) = ¬ (IsTooLong e x)
 AnswersByLength e x (Err error) = IsRefusal e x error
 
 -- the answer of one search for a match: its match, or a refusal
-abbrev pub IsFindOf : Backtracker → Search → Answer Found → Type 0
-IsFindOf e x (Ok found) = ¬ (IsTooLong e x) × IsMatchAnswer e.nfa LeftmostFirst false x found
-IsFindOf e x (Err error) = IsRefusal e x error
+abbrev pub IsTryFindAnswer : Backtracker → Search → Answer Found → Type 0
+IsTryFindAnswer e x (Ok found) = ¬ (IsTooLong e x) × IsFindAnswer e.nfa LeftmostFirst false x found
+IsTryFindAnswer e x (Err error) = IsRefusal e x error
 
 -- the answer of one search for captures: its row, or a refusal
-abbrev pub IsCatchOf : Backtracker → Search → Answer Row → Type 0
-IsCatchOf e x (Ok row) = ¬ (IsTooLong e x) × TellsRow e.nfa LeftmostFirst false x (Ok row)
-IsCatchOf e x (Err error) = IsRefusal e x error
+abbrev pub IsTryCapturesAnswer : Backtracker → Search → Answer Row → Type 0
+IsTryCapturesAnswer e x (Ok row) = ¬ (IsTooLong e x) × AnswersRow e.nfa LeftmostFirst false x (Ok row)
+IsTryCapturesAnswer e x (Err error) = IsRefusal e x error
 
 -- a match that is sure to be found, by a search that is not too long
 abbrev pub IsSureAt : Backtracker → Search → Found → Type 0
 IsSureAt e x m = ¬ (IsTooLong e x) × IsSureMatch e.nfa LeftmostFirst false x m
 
 -- an answer is counted as an answer, and an error as a refusal
-abbrev pub Counts : {X : Type 0} → Answer X → Work → Work → Type 0
+abbrev pub Counts : {X : Type 0} → Answer X → BacktrackCache → BacktrackCache → Type 0
 Counts (Ok found) old new = CountsAnswer old new
 Counts (Err error) old new = CountsRefusal old new
 
 -- the work of an answer is exact, and a refusal took no more scans than an answer would
-abbrev pub DoesWork : {X : Type 0} → Backtracker → Search → Answer X → Work → Type 0
+abbrev pub DoesWork : {X : Type 0} → Backtracker → Search → Answer X → BacktrackCache → Type 0
 DoesWork e x (Ok found) new = IsWork e.nfa LeftmostFirst false x new.scans new.turns
 DoesWork e x (Err error) new = IsWithinScans e.nfa LeftmostFirst false x new.scans
 
 -- one search was made with the cache, and its work and the cache's size are within their bounds
-pub record SearchesOnce {X : Type 0} (e : Backtracker) (x : Search) (a : Answer X) (old new : Work) : Type 0 where
-  pub total : AddsWork old new
+pub record SearchesOnce {X : Type 0} (e : Backtracker) (x : Search) (a : Answer X) (old new : BacktrackCache)
+    : Type 0 where
+  pub total : AddsBacktrackWork old new
   pub counts : Counts a old new
   pub exact : DoesWork e x a new
-  pub scans : new.scans ≤ scan_limit e.nfa x
-  pub turns : new.turns ≤ new.scans * ((1 + turn_weight e.nfa) * (span_len x + 1))
+  pub scans : new.scans ≤ max_scans e.nfa x
+  pub turns : new.turns ≤ new.scans * ((1 + total_degree e.nfa) * (span_len x + 1))
   pub blocks : GrowsBlocks e.nfa x old.blocks new.blocks
   pub holds : HoldsNoMore (2 * length e.nfa.groups) old new
   pub early : IsTooLong e x → new ≡ refused_early old
 
 -- an iteration over the matches of x led from one cache to the other only by its searches, as far as it went
-abbrev pub BacktrackerFindsOn : Backtracker → Search → Work → Work → Type 0
-BacktrackerFindsOn e x old new = FindsLeave (IsFindOf e) (λ y a. SearchesOnce e y a) x old new
+abbrev pub BacktrackerFindsOn : Backtracker → Search → BacktrackCache → BacktrackCache → Type 0
+BacktrackerFindsOn e x old new = FindsLeave (IsTryFindAnswer e) (λ y a. SearchesOnce e y a) x old new
 
 -- the same, and the iteration went to its end, past these matches
-abbrev pub BacktrackerFindsToEnd : Backtracker → Search → List Found → Work → Work → Type 0
-BacktrackerFindsToEnd e x ms old new = FindsLeaveAtEnd (IsFindOf e) (λ y a. SearchesOnce e y a) x ms old new
+abbrev pub BacktrackerFindsToEnd : Backtracker → Search → List Found → BacktrackCache → BacktrackCache → Type 0
+BacktrackerFindsToEnd e x ms old new = FindsLeaveAtEnd (IsTryFindAnswer e) (λ y a. SearchesOnce e y a) x ms old new
 
 -- the same for an iteration over captures
-abbrev pub BacktrackerCatchesOn : Backtracker → Search → Work → Work → Type 0
-BacktrackerCatchesOn e x old new = Leaves row_span (DoesSearch (IsCatchOf e) (λ y a. SearchesOnce e y a)) x old new
+abbrev pub BacktrackerCatchesOn : Backtracker → Search → BacktrackCache → BacktrackCache → Type 0
+BacktrackerCatchesOn e x old new = Leaves row_span (DoesSearch (IsTryCapturesAnswer e)
+    (λ y a. SearchesOnce e y a)) x old new
 
-abbrev pub BacktrackerCatchesToEnd : Backtracker → Search → List Row → Work → Work → Type 0
+abbrev pub BacktrackerCatchesToEnd : Backtracker → Search → List Row → BacktrackCache → BacktrackCache → Type 0
 BacktrackerCatchesToEnd e x rows old new =
-    LeavesAtEnd row_span (DoesSearch (IsCatchOf e) (λ y a. SearchesOnce e y a)) x rows old new
+    LeavesAtEnd row_span (DoesSearch (IsTryCapturesAnswer e) (λ y a. SearchesOnce e y a)) x rows old new

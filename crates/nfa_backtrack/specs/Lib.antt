@@ -12,4 +12,4 @@ pub use Rattle.regex_search_core.specs.Patterns
 pub use Rattle.regex_search_core.specs.Search
 pub use Rattle.regex_search_core.specs.Slots
 pub use Rattle.thompson_nfa.specs.Automaton
-pub use Rattle.nfa_scanning.specs.FirstBytes
+pub use Rattle.nfa_scan_core.specs.FirstBytes

@@ -1,11 +1,11 @@
 //! The memory that a backtracker's searches write to, kept from one search to the next.
 ghost use Rattle.std.specs.Prelude.{◌≡◌, IfOk, IsOkUnless};
-ghost use Rattle.nfa_backtrack.specs.Backtrack.{unused, memory_of};
+ghost use Rattle.nfa_backtrack.specs.Backtrack.{empty_cache, memory_of};
 
 use crate::engine::BoundedBacktracker;
 use nfa_backtrack_scan::scratch::Scratch;
 use nfa_backtrack_scan::visited::Visited;
-use nfa_scanning::counter::Counter;
+use nfa_scan_core::counter::Counter;
 use nfa_search_base::error::SearchError;
 use regex_search_core::{NonMaxUsize, Refused};
 use std::alloc::Global;
@@ -32,9 +32,9 @@ pub struct Cache {
 
 impl Model for Cache {
     ghost use Rattle.std.specs.Prelude.{◌+◌, ◌/◌, length};
-    ghost use Rattle.nfa_backtrack.specs.Backtrack.{Work};
+    ghost use Rattle.nfa_backtrack.specs.Backtrack.{BacktrackCache};
 
-    ghost Value = { Work };
+    ghost Value = { BacktrackCache };
 
     ghost view = { λ c. record {
       scans = c.scratch.scans;
@@ -52,7 +52,7 @@ impl Model for Cache {
 impl Cache {
     /// Makes a cache. Does not allocate.
     pub fn new(alloc: Global, _: &BoundedBacktracker) -> Cache
-        ensures { result ≡ unused }
+        ensures { result ≡ empty_cache }
     {
         Cache {
             scratch: Scratch {

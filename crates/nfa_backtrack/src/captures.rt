@@ -3,8 +3,9 @@ ghost use Rattle.std.specs.Prelude.{◌≡◌, ◌↔◌, ◌⊎◌, ◌+◌, �
 ghost use Rattle.std.specs.Prelude.{IfSome, IfNone, IsErrOf, OnErr, OnOk};
 ghost use Rattle.regex_search_core.specs.Search.{search_of};
 ghost use Rattle.regex_search_core.specs.declared.search.MatchKind.TheVariants.{LeftmostFirst};
-ghost use Rattle.nfa_paths.specs.Paths.{span_len, turn_weight, scan_limit, IsAnswer, IsWork, IsWithinScans};
-ghost use Rattle.nfa_backtrack.specs.Backtrack.{IsTooLong, AddsWork, CountsAnswer, CountsRefusal, GrowsBlocks, HoldsNoMore};
+ghost use Rattle.nfa_paths.specs.Paths.{span_len, total_degree, max_scans, IsAnswer, IsWork, IsWithinScans};
+ghost use Rattle.nfa_backtrack.specs.Backtrack.{IsTooLong, AddsBacktrackWork, CountsAnswer, CountsRefusal, GrowsBlocks};
+ghost use Rattle.nfa_backtrack.specs.Backtrack.{HoldsNoMore};
 ghost use Rattle.nfa_backtrack.specs.Backtrack.{refused_early};
 ghost use Rattle.nfa_search_base.specs.Lists.{IsSlotInside};
 ghost use Rattle.nfa_search_base.specs.Spans.{SpansInside};
@@ -56,13 +57,13 @@ impl BoundedBacktracker {
             cache.new.scans cache.new.turns) }
         ensures within { OnErr result (IsWithinScans self.now.nfa LeftmostFirst false (search_of input.now)
             cache.new.scans) }
-        ensures scans { cache.new.scans ≤ scan_limit self.now.nfa (search_of input.now) }
+        ensures scans { cache.new.scans ≤ max_scans self.now.nfa (search_of input.now) }
         ensures turns { cache.new.turns
-            ≤ cache.new.scans * ((1 + turn_weight self.now.nfa) * (span_len (search_of input.now) + 1)) }
+            ≤ cache.new.scans * ((1 + total_degree self.now.nfa) * (span_len (search_of input.now) + 1)) }
         // The search is counted once.
         ensures answered { OnOk result (CountsAnswer cache.old cache.new) }
         ensures refused { OnErr result (CountsRefusal cache.old cache.new) }
-        ensures total { AddsWork cache.old cache.new }
+        ensures total { AddsBacktrackWork cache.old cache.new }
         ensures blocks { GrowsBlocks self.now.nfa (search_of input.now) cache.old.blocks cache.new.blocks }
         ensures holds { HoldsNoMore 0 cache.old cache.new }
         ensures early { IsTooLong self.now (search_of input.now) → cache.new ≡ refused_early cache.old }
@@ -108,13 +109,13 @@ impl BoundedBacktracker {
             cache.new.scans cache.new.turns) }
         ensures within { OnErr result (IsWithinScans self.now.nfa LeftmostFirst false (search_of input.entry)
             cache.new.scans) }
-        ensures scans { cache.new.scans ≤ scan_limit self.now.nfa (search_of input.entry) }
+        ensures scans { cache.new.scans ≤ max_scans self.now.nfa (search_of input.entry) }
         ensures turns { cache.new.turns
-            ≤ cache.new.scans * ((1 + turn_weight self.now.nfa) * (span_len (search_of input.entry) + 1)) }
+            ≤ cache.new.scans * ((1 + total_degree self.now.nfa) * (span_len (search_of input.entry) + 1)) }
         // The search is counted once.
         ensures answered { OnOk result (CountsAnswer cache.old cache.new) }
         ensures refused { OnErr result (CountsRefusal cache.old cache.new) }
-        ensures total { AddsWork cache.old cache.new }
+        ensures total { AddsBacktrackWork cache.old cache.new }
         ensures blocks { GrowsBlocks self.now.nfa (search_of input.entry) cache.old.blocks cache.new.blocks }
         ensures holds { HoldsNoMore 0 cache.old cache.new }
         ensures early { IsTooLong self.now (search_of input.entry) → cache.new ≡ refused_early cache.old }

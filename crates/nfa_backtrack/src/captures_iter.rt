@@ -1,11 +1,11 @@
 //! Iteration over the captures of the matches of an input.
-ghost use Rattle.nfa_search_base.specs.CaughtLists.{HasGroups};
+ghost use Rattle.nfa_search_base.specs.CapturesLists.{HasGroups};
 
 use crate::cache::Cache;
 use crate::engine::BoundedBacktracker;
 use nfa_search_base::error::SearchError;
-use nfa_search_base::iter::catching::{caught_item, caught_span};
-use nfa_search_base::iter::{Searcher, Searches, Steps};
+use nfa_search_base::iter::captures_items::{captures_item, captures_span};
+use nfa_search_base::iter::{FindWith, Searcher, Steps};
 use regex_search_core::{Captures, Input, Span};
 use std::alloc::Global;
 use std::marker::Model;
@@ -19,22 +19,22 @@ use std::marker::Model;
 #[derive(Debug, Drop)]
 pub struct TryCapturesMatches<'r, 'c, 'h> {
     cache: &'c mut Cache,
-    steps: Steps<'h, Catcher<'r>>,
-    ghost holds: { HasGroups steps.asker.finder.nfa steps.asker.captures },
+    steps: Steps<'h, CapturesFinder<'r>>,
+    ghost holds: { HasGroups steps.backend.finder.nfa steps.backend.captures },
 }
 
 // The backtracker that answers the searches of one iteration, and the captures that it fills.
 #[derive(Debug, Drop)]
-struct Catcher<'r> {
+struct CapturesFinder<'r> {
     engine: &'r BoundedBacktracker,
     captures: Captures,
 }
 
-impl<'r> Model for Catcher<'r> {
-    ghost use Rattle.nfa_search_base.specs.Catching.{Catching};
+impl<'r> Model for CapturesFinder<'r> {
+    ghost use Rattle.nfa_search_base.specs.WithCaptures.{WithCaptures};
     ghost use Rattle.nfa_backtrack.specs.Backtrack.{Backtracker};
 
-    ghost Value = { Catching Backtracker };
+    ghost Value = { WithCaptures Backtracker };
 
     ghost view = { λ a. record { finder = a.engine.now; captures = a.captures } };
 }
@@ -44,21 +44,21 @@ impl BoundedBacktracker {
     ghost use Rattle.regex_search_core.specs.Search.{search_of};
     ghost use Rattle.regex_search_core.specs.declared.search.MatchKind.TheVariants.{LeftmostFirst};
     ghost use Rattle.nfa_search_base.specs.CapturesGiven.{CapturesGiven};
-    ghost use Rattle.nfa_search_base.specs.Catching.{caught_by, row_of};
-    ghost use Rattle.nfa_search_base.specs.CaughtLists.{AreRows};
-    ghost use Rattle.nfa_search_base.specs.CaughtRuns.{CapturesApart, CapturesFirst, CapturesGroups, CapturesNext};
-    ghost use Rattle.nfa_search_base.specs.CaughtRuns.{CapturesRun, CapturesWithin, MatchesInAll, MatchesInFirst};
-    ghost use Rattle.nfa_search_base.specs.CaughtRuns.{MatchesInNext, MatchesInRun, RowsAll, RowsFirst, RowsNext};
-    ghost use Rattle.nfa_search_base.specs.CaughtRuns.{CapturesInside, RowsRun, match_in};
-    ghost use Rattle.nfa_search_base.specs.Lists.{AreApart, AreMatches};
-    ghost use Rattle.nfa_search_base.specs.Walks.{fresh};
+    ghost use Rattle.nfa_search_base.specs.WithCaptures.{filled_answer, row_of};
+    ghost use Rattle.nfa_search_base.specs.CapturesLists.{AreRows};
+    ghost use Rattle.nfa_search_base.specs.CapturesRuns.{CapturesDisjoint, CapturesFirst, CapturesGroups, CapturesNext};
+    ghost use Rattle.nfa_search_base.specs.CapturesRuns.{CapturesRun, CapturesWithin, MatchesInAll, MatchesInFirst};
+    ghost use Rattle.nfa_search_base.specs.CapturesRuns.{MatchesInNext, MatchesInRun, RowsAll, RowsFirst, RowsNext};
+    ghost use Rattle.nfa_search_base.specs.CapturesRuns.{CapturesInside, RowsRun, match_in};
+    ghost use Rattle.nfa_search_base.specs.Lists.{AreDisjoint, AreMatches};
+    ghost use Rattle.nfa_search_base.specs.IterStates.{fresh};
     ghost use Rattle.nfa_backtrack.specs.CapturesMatches.{CatchesBySearches, CatchesRefused};
-    ghost use Rattle.nfa_backtrack.specs.CapturesMatches.{backtracker_catches_cache};
-    ghost use Rattle.nfa_backtrack.specs.CapturesMatches.{backtracker_catches_done, backtracker_catches_engine};
-    ghost use Rattle.nfa_backtrack.specs.CapturesMatches.{backtracker_catches_next, backtracker_catches_walk};
+    ghost use Rattle.nfa_backtrack.specs.CapturesMatches.{backtrack_captures_cache};
+    ghost use Rattle.nfa_backtrack.specs.CapturesMatches.{backtrack_captures_done, backtrack_captures_engine};
+    ghost use Rattle.nfa_backtrack.specs.CapturesMatches.{backtrack_captures_next, backtrack_captures_iter_state};
     ghost use Rattle.nfa_backtrack.specs.Backtrack.{IsTooLong};
     ghost use Rattle.nfa_backtrack.specs.Finding.{AnswersByLength, BacktrackerCatchesOn, BacktrackerCatchesToEnd};
-    ghost use Rattle.nfa_backtrack.specs.Finding.{IsCatchOf, SearchesOnce};
+    ghost use Rattle.nfa_backtrack.specs.Finding.{IsTryCapturesAnswer, SearchesOnce};
 
     /// Returns an iterator over the captures of all matches that do not overlap, from left to right, each with all
     /// groups of the NFA. This call does not change the cache. The only error is [`SearchError::Memory`]: the captures
@@ -85,38 +85,39 @@ impl BoundedBacktracker {
     ) -> Result<TryCapturesMatches<'r, 'c, 'h>, SearchError>
         ensures memory { IsOkUnless result SearchError.Memory }
         ensures same_reference { IfOk result (λ made.
-            (backtracker_catches_cache made).ghost_name ≡ cache.entry.ghost_name) }
-        ensures same_cache { IfOk result (λ made. (backtracker_catches_cache made).now ≡ cache.entry.now) }
-        ensures engine { IfOk result (λ made. backtracker_catches_engine made ≡ self.now) }
-        ensures walk { IfOk result (λ made. backtracker_catches_walk made ≡ fresh (search_of input.entry)) }
-        ensures going { IfOk result (λ made. backtracker_catches_done made ≡ false) }
+            (backtrack_captures_cache made).ghost_name ≡ cache.entry.ghost_name) }
+        ensures same_cache { IfOk result (λ made. (backtrack_captures_cache made).now ≡ cache.entry.now) }
+        ensures engine { IfOk result (λ made. backtrack_captures_engine made ≡ self.now) }
+        ensures walk { IfOk result (λ made. backtrack_captures_iter_state made ≡ fresh (search_of input.entry)) }
+        ensures going { IfOk result (λ made. backtrack_captures_done made ≡ false) }
         // Each run of calls gives the first captures of the input, and all of them if it goes on to `None`.
-        ensures runs { IfOk result (CapturesRun backtracker_catches_next (IsCatchOf self.now) (search_of input.entry)) }
-        ensures first { IfOk result (CapturesFirst backtracker_catches_next (IsCatchOf self.now)
+        ensures runs { IfOk result (CapturesRun backtrack_captures_next (IsTryCapturesAnswer self.now)
             (search_of input.entry)) }
-        ensures next { IfOk result (CapturesNext backtracker_catches_next (IsCatchOf self.now)
+        ensures first { IfOk result (CapturesFirst backtrack_captures_next (IsTryCapturesAnswer self.now)
+            (search_of input.entry)) }
+        ensures next { IfOk result (CapturesNext backtrack_captures_next (IsTryCapturesAnswer self.now)
             (search_of input.entry)) }
         ensures refused { IfOk result (CatchesRefused self.now (search_of input.entry)) }
         // If no copy fails, their rows and their matches are those of the input.
-        ensures rows { IfOk result (RowsRun backtracker_catches_next self.now.nfa LeftmostFirst false
+        ensures rows { IfOk result (RowsRun backtrack_captures_next self.now.nfa LeftmostFirst false
             (search_of input.entry)) }
-        ensures first_rows { IfOk result (RowsFirst backtracker_catches_next self.now.nfa LeftmostFirst false
+        ensures first_rows { IfOk result (RowsFirst backtrack_captures_next self.now.nfa LeftmostFirst false
             (search_of input.entry)) }
-        ensures next_row { IfOk result (RowsNext backtracker_catches_next self.now.nfa LeftmostFirst false
+        ensures next_row { IfOk result (RowsNext backtrack_captures_next self.now.nfa LeftmostFirst false
             (search_of input.entry)) }
-        ensures all_rows { IfOk result (RowsAll backtracker_catches_next self.now.nfa LeftmostFirst false
+        ensures all_rows { IfOk result (RowsAll backtrack_captures_next self.now.nfa LeftmostFirst false
             (search_of input.entry)) }
-        ensures matches { IfOk result (MatchesInRun backtracker_catches_next self.now.nfa LeftmostFirst false
+        ensures matches { IfOk result (MatchesInRun backtrack_captures_next self.now.nfa LeftmostFirst false
             (search_of input.entry)) }
-        ensures first_matches { IfOk result (MatchesInFirst backtracker_catches_next self.now.nfa LeftmostFirst false
+        ensures first_matches { IfOk result (MatchesInFirst backtrack_captures_next self.now.nfa LeftmostFirst false
             (search_of input.entry)) }
-        ensures next_match { IfOk result (MatchesInNext backtracker_catches_next self.now.nfa LeftmostFirst false
+        ensures next_match { IfOk result (MatchesInNext backtrack_captures_next self.now.nfa LeftmostFirst false
             (search_of input.entry)) }
-        ensures all_matches { IfOk result (MatchesInAll backtracker_catches_next self.now.nfa LeftmostFirst false
+        ensures all_matches { IfOk result (MatchesInAll backtrack_captures_next self.now.nfa LeftmostFirst false
             (search_of input.entry)) }
-        ensures groups { IfOk result (CapturesGroups backtracker_catches_next self.now.nfa) }
-        ensures inside { IfOk result (CapturesWithin backtracker_catches_next (search_of input.entry)) }
-        ensures apart { IfOk result (CapturesApart backtracker_catches_next (search_of input.entry)) }
+        ensures groups { IfOk result (CapturesGroups backtrack_captures_next self.now.nfa) }
+        ensures inside { IfOk result (CapturesWithin backtrack_captures_next (search_of input.entry)) }
+        ensures apart { IfOk result (CapturesDisjoint backtrack_captures_next (search_of input.entry)) }
         // The cache changes only by the searches of the steps.
         ensures searches { IfOk result (CatchesBySearches self.now (search_of input.entry)) }
     {
@@ -145,40 +146,43 @@ impl BoundedBacktracker {
         captures: Captures,
     ) -> TryCapturesMatches<'r, 'c, 'h>
         requires { HasGroups self.now.nfa captures }
-        ensures same_reference { (backtracker_catches_cache result).ghost_name ≡ cache.entry.ghost_name }
-        ensures same_cache { (backtracker_catches_cache result).now ≡ cache.entry.now }
-        ensures engine { backtracker_catches_engine result ≡ self.now }
-        ensures walk { backtracker_catches_walk result ≡ fresh (search_of input.entry) }
-        ensures going { backtracker_catches_done result ≡ false }
+        ensures same_reference { (backtrack_captures_cache result).ghost_name ≡ cache.entry.ghost_name }
+        ensures same_cache { (backtrack_captures_cache result).now ≡ cache.entry.now }
+        ensures engine { backtrack_captures_engine result ≡ self.now }
+        ensures walk { backtrack_captures_iter_state result ≡ fresh (search_of input.entry) }
+        ensures going { backtrack_captures_done result ≡ false }
         // Each run of calls gives the first captures of the input, and all of them if it goes on to `None`.
-        ensures runs { CapturesRun backtracker_catches_next (IsCatchOf self.now) (search_of input.entry) result }
-        ensures first { CapturesFirst backtracker_catches_next (IsCatchOf self.now) (search_of input.entry) result }
-        ensures next { CapturesNext backtracker_catches_next (IsCatchOf self.now) (search_of input.entry) result }
+        ensures runs { CapturesRun backtrack_captures_next (IsTryCapturesAnswer self.now)
+            (search_of input.entry) result }
+        ensures first { CapturesFirst backtrack_captures_next (IsTryCapturesAnswer self.now)
+            (search_of input.entry) result }
+        ensures next { CapturesNext backtrack_captures_next (IsTryCapturesAnswer self.now)
+            (search_of input.entry) result }
         ensures refused { CatchesRefused self.now (search_of input.entry) result }
         // If no copy fails, their rows and their matches are those of the input.
-        ensures rows { RowsRun backtracker_catches_next self.now.nfa LeftmostFirst false
+        ensures rows { RowsRun backtrack_captures_next self.now.nfa LeftmostFirst false
             (search_of input.entry) result }
-        ensures first_rows { RowsFirst backtracker_catches_next self.now.nfa LeftmostFirst false
+        ensures first_rows { RowsFirst backtrack_captures_next self.now.nfa LeftmostFirst false
             (search_of input.entry) result }
-        ensures next_row { RowsNext backtracker_catches_next self.now.nfa LeftmostFirst false
+        ensures next_row { RowsNext backtrack_captures_next self.now.nfa LeftmostFirst false
             (search_of input.entry) result }
-        ensures all_rows { RowsAll backtracker_catches_next self.now.nfa LeftmostFirst false
+        ensures all_rows { RowsAll backtrack_captures_next self.now.nfa LeftmostFirst false
             (search_of input.entry) result }
-        ensures matches { MatchesInRun backtracker_catches_next self.now.nfa LeftmostFirst false
+        ensures matches { MatchesInRun backtrack_captures_next self.now.nfa LeftmostFirst false
             (search_of input.entry) result }
-        ensures first_matches { MatchesInFirst backtracker_catches_next self.now.nfa LeftmostFirst false
+        ensures first_matches { MatchesInFirst backtrack_captures_next self.now.nfa LeftmostFirst false
             (search_of input.entry) result }
-        ensures next_match { MatchesInNext backtracker_catches_next self.now.nfa LeftmostFirst false
+        ensures next_match { MatchesInNext backtrack_captures_next self.now.nfa LeftmostFirst false
             (search_of input.entry) result }
-        ensures all_matches { MatchesInAll backtracker_catches_next self.now.nfa LeftmostFirst false
+        ensures all_matches { MatchesInAll backtrack_captures_next self.now.nfa LeftmostFirst false
             (search_of input.entry) result }
-        ensures groups { CapturesGroups backtracker_catches_next self.now.nfa result }
-        ensures inside { CapturesWithin backtracker_catches_next (search_of input.entry) result }
-        ensures apart { CapturesApart backtracker_catches_next (search_of input.entry) result }
+        ensures groups { CapturesGroups backtrack_captures_next self.now.nfa result }
+        ensures inside { CapturesWithin backtrack_captures_next (search_of input.entry) result }
+        ensures apart { CapturesDisjoint backtrack_captures_next (search_of input.entry) result }
         // The cache changes only by the searches of the steps.
         ensures searches { CatchesBySearches self.now (search_of input.entry) result }
     {
-        self.catch_from(cache, input, captures)
+        self.fill_from(cache, input, captures)
     }
 
     /// Returns the captures of all matches of the input that do not overlap, from left to right, each with all groups
@@ -207,7 +211,7 @@ impl BoundedBacktracker {
             (map match_in all.items)) }
         ensures groups { IfOk result (λ all. All (HasGroups self.now.nfa) all.items) }
         ensures inside { IfOk result (λ all. All (CapturesInside (search_of input.entry)) all.items) }
-        ensures apart { IfOk result (λ all. AreApart (search_of input.entry) None (map match_in all.items)) }
+        ensures apart { IfOk result (λ all. AreDisjoint (search_of input.entry) None (map match_in all.items)) }
         ensures by_length { AnswersByLength self.now (search_of input.entry) result }
         // The cache changes only by the searches of an iteration. If all captures are returned, these searches go to
         // its end.
@@ -222,7 +226,7 @@ impl BoundedBacktracker {
                 len: input.get_span().len(),
             });
         }
-        let catcher = Catcher {
+        let catcher = CapturesFinder {
             engine: self,
             captures: self.create_captures(alloc)?,
         };
@@ -231,19 +235,20 @@ impl BoundedBacktracker {
 
     // Returns the iterator that searches with these captures.
     #[inline]
-    fn catch_from<'r, 'c, 'h>(
+    fn fill_from<'r, 'c, 'h>(
         &'r self,
         cache: &'c mut Cache,
         input: Input<'h>,
         captures: Captures,
     ) -> TryCapturesMatches<'r, 'c, 'h>
         requires { HasGroups self.now.nfa captures }
-        ensures same_reference { (backtracker_catches_cache result).ghost_name ≡ cache.entry.ghost_name }
-        ensures same_cache { (backtracker_catches_cache result).now ≡ cache.entry.now }
-        ensures engine { backtracker_catches_engine result ≡ self.now }
-        ensures walk { backtracker_catches_walk result ≡ fresh (search_of input.entry) }
-        ensures going { backtracker_catches_done result ≡ false }
-        ensures given { CapturesGiven backtracker_catches_next self.now.nfa LeftmostFirst false (IsCatchOf self.now)
+        ensures same_reference { (backtrack_captures_cache result).ghost_name ≡ cache.entry.ghost_name }
+        ensures same_cache { (backtrack_captures_cache result).now ≡ cache.entry.now }
+        ensures engine { backtrack_captures_engine result ≡ self.now }
+        ensures walk { backtrack_captures_iter_state result ≡ fresh (search_of input.entry) }
+        ensures going { backtrack_captures_done result ≡ false }
+        ensures given { CapturesGiven backtrack_captures_next self.now.nfa LeftmostFirst false
+            (IsTryCapturesAnswer self.now)
             (search_of input.entry) result }
         ensures refused { CatchesRefused self.now (search_of input.entry) result }
         ensures searches { CatchesBySearches self.now (search_of input.entry) result }
@@ -252,7 +257,7 @@ impl BoundedBacktracker {
             cache,
             steps: Steps {
                 searcher: Searcher::new(input),
-                asker: Catcher {
+                backend: CapturesFinder {
                     engine: self,
                     captures,
                 },
@@ -263,23 +268,24 @@ impl BoundedBacktracker {
 
     // Returns the captures of one search, and states its work.
     #[inline]
-    fn catch_at(
+    fn fill_at(
         &self,
         cache: &mut Cache,
         input: &Input<'_>,
         captures: &mut Captures,
     ) -> Result<(), SearchError>
         requires { HasGroups self.now.nfa captures.old }
-        ensures tells { IsCatchOf self.now (search_of input.now) (caught_by captures.new result) }
+        ensures tells { IsTryCapturesAnswer self.now (search_of input.now) (filled_answer captures.new result) }
         ensures holds { HasGroups self.now.nfa captures.new }
-        ensures once { SearchesOnce self.now (search_of input.now) (caught_by captures.new result) cache.old cache.new }
+        ensures once { SearchesOnce self.now (search_of input.now) (filled_answer captures.new result) cache.old
+            cache.new }
     {
         self.try_search(cache, input, captures)
     }
 }
 
-impl<'r> Searches for Catcher<'r> {
-    ghost use Rattle.nfa_search_base.specs.Catching.{Row, caught_by, row_span, GivesCaptures};
+impl<'r> FindWith for CapturesFinder<'r> {
+    ghost use Rattle.nfa_search_base.specs.WithCaptures.{Row, filled_answer, row_span, GivesCaptures};
     ghost use Rattle.nfa_backtrack.specs.CapturesMatches.{AsksBacktrackerRow, MayCatchByBacktracker};
 
     type Cache = Cache;
@@ -288,7 +294,7 @@ impl<'r> Searches for Catcher<'r> {
 
     ghost Value = { Row };
 
-    ghost shows = { λ c reply. caught_by c.captures reply };
+    ghost shows = { λ c reply. filled_answer c.captures reply };
 
     ghost span = { row_span };
 
@@ -302,29 +308,29 @@ impl<'r> Searches for Catcher<'r> {
 
     #[inline]
     fn answer(&mut self, cache: &mut Cache, input: &Input<'_>) -> Result<(), SearchError> {
-        self.engine.catch_at(cache, input, &mut self.captures)
+        self.engine.fill_at(cache, input, &mut self.captures)
     }
 
     #[inline]
     fn place(&self, reply: Result<(), SearchError>) -> Option<Span> {
-        caught_span(&self.captures, reply)
+        captures_span(&self.captures, reply)
     }
 
     #[inline]
     fn item(&self, reply: Result<(), SearchError>) -> Option<Result<Captures, SearchError>> {
-        caught_item(&self.captures, reply)
+        captures_item(&self.captures, reply)
     }
 }
 
 impl<'r, 'c, 'h> Iterator for TryCapturesMatches<'r, 'c, 'h> {
-    ghost use Rattle.nfa_search_base.specs.Lent.{lent_left};
-    ghost use Rattle.nfa_backtrack.specs.CapturesMatches.{backtracker_catches, backtracker_catches_next};
+    ghost use Rattle.nfa_search_base.specs.StepsWith.{steps_with_left};
+    ghost use Rattle.nfa_backtrack.specs.CapturesMatches.{backtrack_captures, backtrack_captures_next};
 
     type Item = Result<Captures, SearchError>;
 
-    ghost next_gives = { backtracker_catches_next };
+    ghost next_gives = { backtrack_captures_next };
 
-    ghost remaining = { λ s. lent_left (backtracker_catches s) };
+    ghost remaining = { λ s. steps_with_left (backtrack_captures s) };
 
     fn next(&mut self) -> Option<Result<Captures, SearchError>> {
         self.steps.next_with(self.cache)

@@ -1,5 +1,6 @@
 //! The backtracker: its constructors, getters and searches.
-ghost use Rattle.std.specs.Prelude.{◌≡◌, ◌↔◌, ◌⊎◌, ◌+◌, ◌*◌, ◌/◌, ◌<◌, ◌≤◌, ◌^◌, None, Ok, length, max, vec_len, replicate};
+ghost use Rattle.std.specs.Prelude.{◌≡◌, ◌↔◌, ◌⊎◌, ◌+◌, ◌*◌, ◌/◌, ◌<◌, ◌≤◌, ◌^◌, None, Ok, length, max, vec_len};
+ghost use Rattle.std.specs.Prelude.{replicate};
 ghost use Rattle.std.specs.Prelude.{option_map, All, IfOk, OnOk, IfErr, OnErr, IsErrOf, IsOkUnless, IsTrue, false};
 ghost use Rattle.std.specs.Prelude.{IfNone, IfSome, IsOk, vec_capacity};
 ghost use Rattle.regex_search_core.specs.Search.{search_of};
@@ -8,11 +9,13 @@ ghost use Rattle.regex_search_core.specs.Patterns.{number_of};
 ghost use Rattle.regex_search_core.specs.Found.{found_of, half_found_of};
 ghost use Rattle.regex_search_core.specs.declared.search.MatchKind.TheVariants.{LeftmostFirst};
 ghost use Rattle.thompson_nfa.specs.Simple.{always, never};
-ghost use Rattle.nfa_paths.specs.Paths.{span_len, turn_weight, scan_limit, IsAnswer, IsMatchAnswer, IsFoundAnswer};
+ghost use Rattle.nfa_paths.specs.Paths.{span_len, total_degree, max_scans, IsAnswer, IsFindAnswer, IsBoolAnswer};
 ghost use Rattle.nfa_paths.specs.Paths.{IsWork, IsWithinScans};
-ghost use Rattle.nfa_paths.specs.Restarts.{scan_turns};
-ghost use Rattle.nfa_backtrack.specs.Backtrack.{IsTooLong, AddsWork, CountsAnswer, CountsRefusal, GrowsBlocks, HoldsNoMore};
-ghost use Rattle.nfa_backtrack.specs.Backtrack.{refused_early, unused, capacity_of, rounded_bits, max_haystack_len_of};
+ghost use Rattle.nfa_paths.specs.Restarts.{max_scan_turns};
+ghost use Rattle.nfa_backtrack.specs.Backtrack.{IsTooLong, AddsBacktrackWork, CountsAnswer, CountsRefusal, GrowsBlocks};
+ghost use Rattle.nfa_backtrack.specs.Backtrack.{HoldsNoMore};
+ghost use Rattle.nfa_backtrack.specs.Backtrack.{refused_early, empty_cache, capacity_of, rounded_bits};
+ghost use Rattle.nfa_backtrack.specs.Backtrack.{max_haystack_len_of};
 ghost use Rattle.nfa_backtrack.specs.Backtrack.{min_capacity_of};
 ghost use Rattle.nfa_search_base.specs.Finds.{finds};
 ghost use Rattle.nfa_search_base.specs.Lists.{IsInside, IsSlotInside};
@@ -20,7 +23,7 @@ ghost use Rattle.nfa_search_base.specs.Lists.{IsInside, IsSlotInside};
 use crate::cache::Cache;
 use crate::config::{Builder, Config};
 use nfa_backtrack_scan::scratch::Scratch;
-use nfa_scanning::first_bytes::FirstBytes;
+use nfa_scan_core::first_bytes::FirstBytes;
 use nfa_search_base::error::SearchError;
 use regex_search_core::{Captures, HalfMatch, Input, Match, NonMaxUsize, PatternID, Refused};
 use std::alloc::Global;
@@ -48,7 +51,7 @@ pub struct BoundedBacktracker {
 
 impl Model for BoundedBacktracker {
     ghost use Rattle.nfa_backtrack.specs.Backtrack.{Backtracker};
-    ghost use Rattle.nfa_scanning.specs.FirstBytes.{IsFirstBytes};
+    ghost use Rattle.nfa_scan_core.specs.FirstBytes.{IsFirstBytes};
 
     ghost Value = { Backtracker };
 
@@ -167,7 +170,7 @@ impl BoundedBacktracker {
 
     /// Makes a cache for this backtracker. Does not allocate.
     pub fn create_cache(&self, alloc: Global) -> Cache
-        ensures { result ≡ unused }
+        ensures { result ≡ empty_cache }
     {
         Cache::new(alloc, self)
     }
@@ -320,13 +323,13 @@ impl BoundedBacktracker {
             cache.new.turns) }
         ensures within { OnErr result (IsWithinScans self.now.nfa LeftmostFirst false (search_of input.now)
             cache.new.scans) }
-        ensures scans { cache.new.scans ≤ scan_limit self.now.nfa (search_of input.now) }
+        ensures scans { cache.new.scans ≤ max_scans self.now.nfa (search_of input.now) }
         ensures turns { cache.new.turns
-            ≤ cache.new.scans * ((1 + turn_weight self.now.nfa) * (span_len (search_of input.now) + 1)) }
+            ≤ cache.new.scans * ((1 + total_degree self.now.nfa) * (span_len (search_of input.now) + 1)) }
         // The search is counted once.
         ensures answered { OnOk result (CountsAnswer cache.old cache.new) }
         ensures refused { OnErr result (CountsRefusal cache.old cache.new) }
-        ensures total { AddsWork cache.old cache.new }
+        ensures total { AddsBacktrackWork cache.old cache.new }
         ensures blocks { GrowsBlocks self.now.nfa (search_of input.now) cache.old.blocks cache.new.blocks }
         ensures holds { HoldsNoMore 0 cache.old cache.new }
         ensures early { IsTooLong self.now (search_of input.now) → cache.new ≡ refused_early cache.old }
@@ -352,7 +355,7 @@ impl BoundedBacktracker {
         cache: &mut Cache,
         input: Input<'h>,
     ) -> Result<Option<Match>, SearchError>
-        ensures answer { IfOk result (λ found. IsMatchAnswer self.now.nfa LeftmostFirst false (search_of input.entry)
+        ensures answer { IfOk result (λ found. IsFindAnswer self.now.nfa LeftmostFirst false (search_of input.entry)
             (option_map found_of found)) }
         ensures inside { IfOk result (λ found. IfSome found (λ m. IsInside (search_of input.entry) (found_of m))) }
         ensures pattern { IfOk result (λ found. IfSome found
@@ -367,13 +370,13 @@ impl BoundedBacktracker {
             cache.new.turns) }
         ensures within { OnErr result (IsWithinScans self.now.nfa LeftmostFirst false (search_of input.entry)
             cache.new.scans) }
-        ensures scans { cache.new.scans ≤ scan_limit self.now.nfa (search_of input.entry) }
+        ensures scans { cache.new.scans ≤ max_scans self.now.nfa (search_of input.entry) }
         ensures turns { cache.new.turns
-            ≤ cache.new.scans * ((1 + turn_weight self.now.nfa) * (span_len (search_of input.entry) + 1)) }
+            ≤ cache.new.scans * ((1 + total_degree self.now.nfa) * (span_len (search_of input.entry) + 1)) }
         // The search is counted once.
         ensures answered { OnOk result (CountsAnswer cache.old cache.new) }
         ensures refused { OnErr result (CountsRefusal cache.old cache.new) }
-        ensures total { AddsWork cache.old cache.new }
+        ensures total { AddsBacktrackWork cache.old cache.new }
         ensures blocks { GrowsBlocks self.now.nfa (search_of input.entry) cache.old.blocks cache.new.blocks }
         ensures holds { HoldsNoMore (2 * length self.now.nfa.groups) cache.old cache.new }
         ensures early { IsTooLong self.now (search_of input.entry) → cache.new ≡ refused_early cache.old }
@@ -386,7 +389,7 @@ impl BoundedBacktracker {
             past_scans,
             past_turns,
         } = cache;
-        past_scans.take(&mut scratch.scans);
+        past_scans.absorb(&mut scratch.scans);
         scratch.visited.restart_turns(past_turns);
         if self.is_too_long(&input) {
             refused.tick();
@@ -412,7 +415,7 @@ impl BoundedBacktracker {
         requires fits { length self.now.nfa.states * (span_len (search_of input.now) + 1) < 2 ^ 64 }
         requires counted { scratch.old.scans ≡ 0 }
         requires turned { scratch.old.visited.turns ≡ 0 }
-        ensures answer { IfOk result (λ found. IsMatchAnswer self.now.nfa LeftmostFirst false (search_of input.now)
+        ensures answer { IfOk result (λ found. IsFindAnswer self.now.nfa LeftmostFirst false (search_of input.now)
             (option_map found_of found)) }
         ensures inside { IfOk result (λ found. IfSome found (λ m. IsInside (search_of input.now) (found_of m))) }
         ensures pattern { IfOk result (λ found. IfSome found
@@ -426,8 +429,9 @@ impl BoundedBacktracker {
         // Two slots for each pattern are enough.
         ensures slots { vec_len slots.old ≤ vec_len slots.new }
         ensures few { vec_len slots.new ≤ max (vec_len slots.old) (2 * length self.now.nfa.groups) }
-        ensures scans { scratch.new.scans ≤ scan_limit self.now.nfa (search_of input.now) }
-        ensures turns { scratch.new.visited.turns ≤ scratch.new.scans * scan_turns self.now.nfa (search_of input.now) }
+        ensures scans { scratch.new.scans ≤ max_scans self.now.nfa (search_of input.now) }
+        ensures turns { scratch.new.visited.turns ≤ scratch.new.scans * max_scan_turns self.now.nfa
+            (search_of input.now) }
     {
         let slot_len = self.nfa.group_info().implicit_slot_len();
         grow(slots, slot_len)?;
@@ -448,7 +452,7 @@ impl BoundedBacktracker {
     /// assert!(rt; !backtracker.try_is_match(cache, Input::new(b"foobar"))?);
     /// ```
     pub fn try_is_match<'h>(&self, cache: &mut Cache, input: Input<'h>) -> Result<bool, SearchError>
-        ensures answer { IfOk result (λ found. IsFoundAnswer self.now.nfa LeftmostFirst false (search_of input.entry)
+        ensures answer { IfOk result (λ found. IsBoolAnswer self.now.nfa LeftmostFirst false (search_of input.entry)
             found) }
         ensures finds { IfOk result (λ found. found ≡ finds self.now.nfa LeftmostFirst false (search_of input.entry)) }
 
@@ -461,13 +465,13 @@ impl BoundedBacktracker {
             cache.new.turns) }
         ensures within { OnErr result (IsWithinScans self.now.nfa LeftmostFirst false (search_of input.entry)
             cache.new.scans) }
-        ensures scans { cache.new.scans ≤ scan_limit self.now.nfa (search_of input.entry) }
+        ensures scans { cache.new.scans ≤ max_scans self.now.nfa (search_of input.entry) }
         ensures turns { cache.new.turns
-            ≤ cache.new.scans * ((1 + turn_weight self.now.nfa) * (span_len (search_of input.entry) + 1)) }
+            ≤ cache.new.scans * ((1 + total_degree self.now.nfa) * (span_len (search_of input.entry) + 1)) }
         // The search is counted once.
         ensures answered { OnOk result (CountsAnswer cache.old cache.new) }
         ensures refused { OnErr result (CountsRefusal cache.old cache.new) }
-        ensures total { AddsWork cache.old cache.new }
+        ensures total { AddsBacktrackWork cache.old cache.new }
         ensures blocks { GrowsBlocks self.now.nfa (search_of input.entry) cache.old.blocks cache.new.blocks }
         ensures holds { HoldsNoMore 0 cache.old cache.new }
         ensures early { IsTooLong self.now (search_of input.entry) → cache.new ≡ refused_early cache.old }

@@ -5,14 +5,14 @@ ghost use Rattle.regex_search_core.specs.Found.{found_of};
 ghost use Rattle.regex_search_core.specs.Search.{search_of};
 ghost use Rattle.nfa_search_base.specs.EngineSearches.{IsKnownFrom, found_in};
 ghost use Rattle.nfa_search_base.specs.Finders.{answer_by};
-ghost use Rattle.nfa_search_base.specs.Stored.{steps_walk};
+ghost use Rattle.nfa_search_base.specs.Stored.{steps_iter_state};
 ghost use Rattle.nfa_backtrack.specs.Finding.{IsSureAt};
 
 use crate::cache::Cache;
 use crate::engine::BoundedBacktracker;
 use nfa_search_base::error::SearchError;
-use nfa_search_base::iter::finding::ending_at;
-use nfa_search_base::iter::{Searcher, Searches, Steps};
+use nfa_search_base::iter::match_items::ending_at;
+use nfa_search_base::iter::{FindWith, Searcher, Steps};
 use regex_search_core::{Input, Match, Span};
 use std::alloc::Global;
 
@@ -25,7 +25,7 @@ use std::alloc::Global;
 pub struct TryFindMatches<'r, 'c, 'h> {
     cache: &'c mut Cache,
     steps: Steps<'h, Finder<'r>>,
-    ghost knows: { IsKnownFrom IsSureAt steps.asker.engine.now (steps_walk steps).at steps.asker.known },
+    ghost knows: { IsKnownFrom IsSureAt steps.backend.engine.now (steps_iter_state steps).at steps.backend.known },
 }
 
 // The backtracker that answers the searches of one iteration. It has no model: with one, a caller of the iterator would
@@ -43,18 +43,20 @@ impl BoundedBacktracker {
     ghost use Rattle.regex_search_core.specs.Found.{found_of};
     ghost use Rattle.regex_search_core.specs.declared.search.MatchKind.TheVariants.{LeftmostFirst};
     ghost use Rattle.nfa_search_base.specs.Finders.{answer_by};
-    ghost use Rattle.nfa_search_base.specs.Lists.{AreMatches, AreApart, IsInside};
+    ghost use Rattle.nfa_search_base.specs.Lists.{AreMatches, AreDisjoint, IsInside};
     ghost use Rattle.nfa_backtrack.specs.Backtrack.{IsTooLong, refused_early};
-    ghost use Rattle.nfa_backtrack.specs.Finding.{AnswersByLength, BacktrackerFindsOn, BacktrackerFindsToEnd, IsFindOf};
+    ghost use Rattle.nfa_backtrack.specs.Finding.{AnswersByLength, BacktrackerFindsOn, BacktrackerFindsToEnd};
+    ghost use Rattle.nfa_backtrack.specs.Finding.{IsTryFindAnswer};
     ghost use Rattle.nfa_backtrack.specs.Finding.{SearchesOnce};
     ghost use Rattle.nfa_search_base.specs.Runs.{GivesFirst, GivesNext, RunsGive};
-    ghost use Rattle.nfa_search_base.specs.Walks.{fresh};
-    ghost use Rattle.nfa_backtrack.specs.FindMatches.{backtracker_finds_cache, backtracker_finds_done};
-    ghost use Rattle.nfa_backtrack.specs.FindMatches.{backtracker_finds_engine, backtracker_finds_next};
-    ghost use Rattle.nfa_backtrack.specs.FindMatches.{backtracker_finds_known, backtracker_finds_walk};
+    ghost use Rattle.nfa_search_base.specs.IterStates.{fresh};
+    ghost use Rattle.nfa_backtrack.specs.FindMatches.{backtrack_matches_cache, backtrack_matches_done};
+    ghost use Rattle.nfa_backtrack.specs.FindMatches.{backtrack_matches_engine, backtrack_matches_next};
+    ghost use Rattle.nfa_backtrack.specs.FindMatches.{backtracker_finds_known, backtrack_matches_iter_state};
     ghost use Rattle.nfa_backtrack.specs.FindMatches.{FindsBySearches};
-    ghost use Rattle.nfa_backtrack.specs.Runs.{AreAllItems, AreFirstItems, GivesAllMatches, GivesFirstMatches, GivesNextMatch};
-    ghost use Rattle.nfa_backtrack.specs.Runs.{RunsApart, RunsInside, RunsMatch, RunsRefused};
+    ghost use Rattle.nfa_backtrack.specs.Runs.{AreAllItems, AreFirstItems, GivesAllMatches, GivesFirstMatches};
+    ghost use Rattle.nfa_backtrack.specs.Runs.{GivesNextMatch};
+    ghost use Rattle.nfa_backtrack.specs.Runs.{RunsDisjoint, RunsInside, RunsMatch, RunsRefused};
     ghost use Rattle.nfa_backtrack.specs.Runs.{GivesByLength, EndsByLength};
 
     /// Returns an iterator over all matches that do not overlap, from left to right. Does not allocate.
@@ -76,22 +78,22 @@ impl BoundedBacktracker {
         cache: &'c mut Cache,
         input: Input<'h>,
     ) -> TryFindMatches<'r, 'c, 'h>
-        ensures same_reference { (backtracker_finds_cache result).ghost_name ≡ cache.entry.ghost_name }
-        ensures same_cache { (backtracker_finds_cache result).now ≡ cache.entry.now }
-        ensures engine { backtracker_finds_engine result ≡ self.now }
-        ensures walk { backtracker_finds_walk result ≡ fresh (search_of input.entry) }
-        ensures going { backtracker_finds_done result ≡ false }
+        ensures same_reference { (backtrack_matches_cache result).ghost_name ≡ cache.entry.ghost_name }
+        ensures same_cache { (backtrack_matches_cache result).now ≡ cache.entry.now }
+        ensures engine { backtrack_matches_engine result ≡ self.now }
+        ensures walk { backtrack_matches_iter_state result ≡ fresh (search_of input.entry) }
+        ensures going { backtrack_matches_done result ≡ false }
         ensures known { backtracker_finds_known result ≡ None }
         // Each run of calls gives the first items, and all of them if it goes on to `None`.
-        ensures runs { RunsGive backtracker_finds_next (AreFirstItems self.now (search_of input.entry))
+        ensures runs { RunsGive backtrack_matches_next (AreFirstItems self.now (search_of input.entry))
             (AreAllItems self.now (search_of input.entry)) result }
         ensures matches { RunsMatch self.now (search_of input.entry) result }
         ensures inside { RunsInside (search_of input.entry) result }
-        ensures apart { RunsApart (search_of input.entry) result }
+        ensures apart { RunsDisjoint (search_of input.entry) result }
         ensures refused { RunsRefused self.now (search_of input.entry) result }
-        ensures first { GivesFirst backtracker_finds_next (AreFirstItems self.now (search_of input.entry)) result }
+        ensures first { GivesFirst backtrack_matches_next (AreFirstItems self.now (search_of input.entry)) result }
         ensures first_matches { GivesFirstMatches self.now (search_of input.entry) result }
-        ensures next { GivesNext backtracker_finds_next (AreFirstItems self.now (search_of input.entry)) result }
+        ensures next { GivesNext backtrack_matches_next (AreFirstItems self.now (search_of input.entry)) result }
         ensures next_match { GivesNextMatch self.now (search_of input.entry) result }
         ensures all_matches { GivesAllMatches self.now (search_of input.entry) result }
         // A match is given, and the items end without an error, only if the span is not too long. An error is a
@@ -105,7 +107,7 @@ impl BoundedBacktracker {
             cache,
             steps: Steps {
                 searcher: Searcher::new(input),
-                asker: Finder {
+                backend: Finder {
                     engine: self,
                     known: None,
                 },
@@ -134,7 +136,7 @@ impl BoundedBacktracker {
     ) -> Result<Vec<Match>, SearchError>
         ensures all { IfOk result (λ found.
             AreMatches self.now.nfa LeftmostFirst false (search_of input.entry) (map found_of found.items)) }
-        ensures apart { IfOk result (λ found. AreApart (search_of input.entry) None (map found_of found.items)) }
+        ensures apart { IfOk result (λ found. AreDisjoint (search_of input.entry) None (map found_of found.items)) }
         ensures inside { IfOk result (λ found. All (λ m. IsInside (search_of input.entry) (found_of m)) found.items) }
         ensures by_length { AnswersByLength self.now (search_of input.entry) result }
         // The cache changes only by the searches of an iteration. If all matches are returned, these searches go to its
@@ -155,18 +157,18 @@ impl BoundedBacktracker {
     // Returns the match of one search, and states its work.
     #[inline]
     fn find_at(&self, cache: &mut Cache, input: &Input<'_>) -> Result<Option<Match>, SearchError>
-        ensures finds { IsFindOf self.now (search_of input.now) (answer_by found_of result) }
+        ensures finds { IsTryFindAnswer self.now (search_of input.now) (answer_by found_of result) }
         ensures once { SearchesOnce self.now (search_of input.now) (answer_by found_of result) cache.old cache.new }
     {
         self.try_find(cache, *input)
     }
 }
 
-impl<'r> Searches for Finder<'r> {
+impl<'r> FindWith for Finder<'r> {
     ghost use Rattle.regex_search_core.specs.Found.{Found, found_of};
     ghost use Rattle.nfa_search_base.specs.Finders.{answer_by};
     ghost use Rattle.nfa_search_base.specs.Steps.{GivesItem};
-    ghost use Rattle.nfa_search_base.specs.Walks.{span_of};
+    ghost use Rattle.nfa_search_base.specs.IterStates.{span_of};
     ghost use Rattle.nfa_backtrack.specs.FindMatches.{AsksBacktracker, MayFindByBacktracker};
 
     type Cache = Cache;
@@ -233,14 +235,14 @@ fn found_in(reply: Result<Option<Match>, SearchError>) -> Option<Match>
 }
 
 impl<'r, 'c, 'h> Iterator for TryFindMatches<'r, 'c, 'h> {
-    ghost use Rattle.nfa_search_base.specs.Lent.{lent_left};
-    ghost use Rattle.nfa_backtrack.specs.FindMatches.{backtracker_finds, backtracker_finds_next};
+    ghost use Rattle.nfa_search_base.specs.StepsWith.{steps_with_left};
+    ghost use Rattle.nfa_backtrack.specs.FindMatches.{backtrack_matches, backtrack_matches_next};
 
     type Item = Result<Match, SearchError>;
 
-    ghost next_gives = { backtracker_finds_next };
+    ghost next_gives = { backtrack_matches_next };
 
-    ghost remaining = { λ s. lent_left (backtracker_finds s) };
+    ghost remaining = { λ s. steps_with_left (backtrack_matches s) };
 
     fn next(&mut self) -> Option<Result<Match, SearchError>> {
         self.steps.next_with(self.cache)

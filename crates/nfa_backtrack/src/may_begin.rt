@@ -1,6 +1,6 @@
 //! The bytes that a match may begin with.
 ghost use Rattle.std.specs.Prelude.{◌≡◌, false, true};
-ghost use Rattle.nfa_scanning.specs.FirstBytes.{MayBegin};
+ghost use Rattle.nfa_scan_core.specs.FirstBytes.{MayBegin};
 ghost use Rattle.nfa_search_base.specs.Beginnings.{NoMatchBegins};
 
 use crate::engine::BoundedBacktracker;
@@ -8,10 +8,10 @@ use crate::engine::BoundedBacktracker;
 impl BoundedBacktracker {
     /// Returns whether a match may begin with the byte.
     ///
-    /// If this is false, no match starts at a position with the byte, so a caller may skip such positions. If it is true,
-    /// a match may start there or not. It is true for every byte if the NFA can match the empty string, or if more than 64
-    /// states can be reached before a byte is read. It does not cover `Anchored::Pattern`, whose searches begin with
-    /// another state.
+    /// If this is false, no match starts at a position with the byte, so a caller may skip such positions. If it is
+    /// true, a match may start there or not. It is true for every byte if the NFA can match the empty string, or if
+    /// more than 64 states can be reached before a byte is read. It does not cover `Anchored::Pattern`, whose searches
+    /// begin with another state.
     ///
     /// ```
     /// // backtracker of "foo(?<n>[0-9]+)"

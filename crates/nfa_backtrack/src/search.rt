@@ -5,9 +5,10 @@ ghost use Rattle.std.specs.Prelude.{◌↔◌, ◌⊎◌, IfErr, IfOk, IfSome, I
 ghost use Rattle.regex_search_core.specs.Found.{half_found_of};
 ghost use Rattle.regex_search_core.specs.Search.{search_of};
 ghost use Rattle.regex_search_core.specs.declared.search.MatchKind.TheVariants.{LeftmostFirst};
-ghost use Rattle.nfa_paths.specs.Paths.{span_len, starts, scan_limit, IsWork, IsWithinScans};
-ghost use Rattle.nfa_paths.specs.Restarts.{scan_turns, ScanGives, SearchGives};
-ghost use Rattle.nfa_backtrack.specs.Backtrack.{AddsWork, CountsAnswer, CountsRefusal, GrowsBlocks, HoldsNoMore};
+ghost use Rattle.nfa_paths.specs.Paths.{span_len, starts, max_scans, IsWork, IsWithinScans};
+ghost use Rattle.nfa_paths.specs.Restarts.{max_scan_turns, ScanGives, SearchGives};
+ghost use Rattle.nfa_backtrack.specs.Backtrack.{AddsBacktrackWork, CountsAnswer, CountsRefusal, GrowsBlocks};
+ghost use Rattle.nfa_backtrack.specs.Backtrack.{HoldsNoMore};
 ghost use Rattle.nfa_backtrack.specs.Backtrack.{IsTooLong, refused_early};
 ghost use Rattle.nfa_backtrack_scan.specs.Walk.{HasBits};
 
@@ -15,7 +16,7 @@ use crate::cache::Cache;
 use crate::engine::BoundedBacktracker;
 use nfa_backtrack_scan::scan::{scan, unset};
 use nfa_backtrack_scan::scratch::Scratch;
-use nfa_scanning::starts::may_end_at;
+use nfa_scan_core::starts::may_end_at;
 use nfa_search_base::error::SearchError;
 use regex_search_core::{HalfMatch, Input, NonMaxUsize, Refused};
 
@@ -32,7 +33,7 @@ impl BoundedBacktracker {
         ensures scans { scratch.new.scans ≡ scratch.old.scans + 1 }
         ensures size { length scratch.new.visited.bits ≡ length scratch.old.visited.bits }
         ensures turns { scratch.new.visited.turns
-            ≤ scratch.old.visited.turns + scan_turns self.now.nfa (search_of input.now) }
+            ≤ scratch.old.visited.turns + max_scan_turns self.now.nfa (search_of input.now) }
         ensures answer { IfOk result (λ half. ScanGives self.now.nfa LeftmostFirst false (search_of input.now) half
             slots.new (scratch.new.visited.turns - scratch.old.visited.turns)) }
         ensures refused { OnErr result (slots.new ≡ replicate (length slots.old) None) }
@@ -58,9 +59,9 @@ impl BoundedBacktracker {
         ensures stack { scratch.new.stack.items ≡ [] }
         ensures within { IsWithinScans self.now.nfa LeftmostFirst false (search_of input.now) scratch.new.scans }
         ensures size { length scratch.new.visited.bits ≡ length scratch.old.visited.bits }
-        ensures scans { scratch.new.scans ≤ scan_limit self.now.nfa (search_of input.now) }
+        ensures scans { scratch.new.scans ≤ max_scans self.now.nfa (search_of input.now) }
         ensures turns { scratch.new.visited.turns
-            ≤ scratch.new.scans * scan_turns self.now.nfa (search_of input.now) }
+            ≤ scratch.new.scans * max_scan_turns self.now.nfa (search_of input.now) }
     {
         let mut search = *input;
         loop {
@@ -98,9 +99,9 @@ impl BoundedBacktracker {
         ensures within { IsWithinScans self.now.nfa LeftmostFirst false (search_of input.now) scratch.new.scans }
         ensures blocks { GrowsBlocks self.now.nfa (search_of input.now) (length scratch.old.visited.bits / 64)
             (length scratch.new.visited.bits / 64) }
-        ensures scans { scratch.new.scans ≤ scan_limit self.now.nfa (search_of input.now) }
+        ensures scans { scratch.new.scans ≤ max_scans self.now.nfa (search_of input.now) }
         ensures turns { scratch.new.visited.turns
-            ≤ scratch.new.scans * scan_turns self.now.nfa (search_of input.now) }
+            ≤ scratch.new.scans * max_scan_turns self.now.nfa (search_of input.now) }
     {
         let pairs = self.nfa.states().len() * (input.get_span().len() + 1);
         if let Err(refused) = scratch.visited.reserve(pairs) {
@@ -131,11 +132,11 @@ impl BoundedBacktracker {
             cache.new.turns) }
         ensures within { OnErr result (IsWithinScans self.now.nfa LeftmostFirst false (search_of input.now)
             cache.new.scans) }
-        ensures scans { cache.new.scans ≤ scan_limit self.now.nfa (search_of input.now) }
-        ensures turns { cache.new.turns ≤ cache.new.scans * scan_turns self.now.nfa (search_of input.now) }
+        ensures scans { cache.new.scans ≤ max_scans self.now.nfa (search_of input.now) }
+        ensures turns { cache.new.turns ≤ cache.new.scans * max_scan_turns self.now.nfa (search_of input.now) }
         ensures answered { OnOk result (CountsAnswer cache.old cache.new) }
         ensures refused { OnErr result (CountsRefusal cache.old cache.new) }
-        ensures total { AddsWork cache.old cache.new }
+        ensures total { AddsBacktrackWork cache.old cache.new }
         ensures blocks { GrowsBlocks self.now.nfa (search_of input.now) cache.old.blocks cache.new.blocks }
         ensures holds { HoldsNoMore 0 cache.old cache.new }
         ensures early { IsTooLong self.now (search_of input.now) → cache.new ≡ refused_early cache.old }
@@ -148,7 +149,7 @@ impl BoundedBacktracker {
             past_turns,
             ..
         } = cache;
-        past_scans.take(&mut scratch.scans);
+        past_scans.absorb(&mut scratch.scans);
         scratch.visited.restart_turns(past_turns);
         if self.is_too_long(input) {
             unset(slots);

@@ -3,6 +3,6 @@ pub mod PassLemmas
 pub mod WalkLemmas
 pub mod StepLemmas
 pub mod BeginLemmas
-pub mod UnwindLemmas
+pub mod ApplyFrameLemmas
 pub mod ScanLemmas
-pub mod RoundLemmas
+pub mod ByteLoopLemmas

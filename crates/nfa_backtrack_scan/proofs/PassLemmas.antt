@@ -7,17 +7,17 @@ use Rattle.thompson_nfa.specs.Automaton.{Automaton}
 use Rattle.nfa_paths.specs.Graphs.{Pair}
 use Rattle.nfa_paths.specs.FirstPaths.{IsFirst}
 use Rattle.nfa_paths.specs.Paths.{start_state, starts, pairs_from, edges, is_match, space}
-use Rattle.nfa_paths.specs.Exploring.{Item, Slots, ExploresTo}
-use Rattle.nfa_paths.specs.Exploring.Item.{Explore}
+use Rattle.nfa_paths.specs.Exploring.{Task, Slots, ExploresTo}
+use Rattle.nfa_paths.specs.Exploring.Task.{Explore}
 use Rattle.nfa_paths.proofs.StartLemmas.{pairs_from-step, pairs_from-end}
-use Rattle.nfa_scanning.specs.Marks.{Marks}
-use Rattle.nfa_scanning.specs.FirstBytes.{IsRefused, IsFirstBytes}
+use Rattle.nfa_scan_core.specs.Marks.{Marks}
+use Rattle.nfa_scan_core.specs.FirstBytes.{IsRefused, IsFirstBytes}
 use Rattle.nfa_backtrack_scan.specs.Walk.{WalkAnswer, Carries}
 use Rattle.nfa_backtrack_scan.proofs.WalkLemmas.{Carries-then, Carries-none}
 
 module _ (nfa : Automaton) (x : Search) where
   -- a start from which no match is reached is passed over, with no turn
-  Carries-dead : (m : Marks) (v : Pair) (w : List Item) (s : Slots)
+  Carries-dead : (m : Marks) (v : Pair) (w : List Task) (s : Slots)
       → ((marks : List Pair) → IsFirst (edges nfa x) (is_match nfa) marks v None)
       → Carries nfa x m (Explore v ∷ w) s m w s
   unfolding WalkAnswer ExploresTo

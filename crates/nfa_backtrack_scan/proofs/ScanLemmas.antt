@@ -8,13 +8,13 @@ use Rattle.regex_search_core.specs.declared.search.HalfMatch.{HalfMatch}
 use Rattle.regex_search_core.specs.declared.search.MatchKind.TheVariants.{LeftmostFirst}
 use Rattle.thompson_nfa.specs.Automaton.{Automaton}
 use Rattle.nfa_paths.specs.Paths.{span_len, raised, starts, IsScanAnswer}
-use Rattle.nfa_paths.specs.Restarts.{scan_turns, GivesPath}
+use Rattle.nfa_paths.specs.Restarts.{max_scan_turns, GivesPath}
 use Rattle.nfa_paths.specs.Exploring.{Slots}
-use Rattle.nfa_paths.specs.Exploring.Item.{Explore}
+use Rattle.nfa_paths.specs.Exploring.Task.{Explore}
 use Rattle.nfa_paths.specs.Turns.{marked_sum}
 use Rattle.nfa_paths.proofs.AnswerLemmas.{scan_none, scan_some}
 use Rattle.nfa_paths.proofs.TurnLemmas.{marked_sum-le}
-use Rattle.nfa_scanning.specs.Marks.{Marks}
+use Rattle.nfa_scan_core.specs.Marks.{Marks}
 use Rattle.nfa_backtrack_scan.specs.Walk.{HasBits, Agrees, WalkAnswer, Ends, EndsAt, weights}
 use Rattle.nfa_backtrack_scan.proofs.WalkLemmas.{IsMarked-clear, sum-weights}
 
@@ -57,12 +57,13 @@ module _ (nfa : Automaton) (x : Search) where
 
   pub turns-all : (tried turns before : ℕ) (bits : List Bool) → tried ≤ span_len x + 1 → turns
       ≤ before + tried + marked_sum (weights nfa x) bits
-      → turns ≤ before + scan_turns nfa x
+      → turns ≤ before + max_scan_turns nfa x
   turns-all tried turns before bits few h = omega (arith, marked_sum-le (weights nfa x) bits, sum-weights nfa x)
 
   pub turns-bound : (tried turns after before : ℕ) (bits : List Bool) → tried ≤ span_len x → turns
       ≤ before + tried + marked_sum (weights nfa x) bits
-      → after + marked_sum (weights nfa x) bits ≤ turns + 1 + sum (weights nfa x) → after ≤ before + scan_turns nfa x
+      → after + marked_sum (weights nfa x) bits ≤ turns + 1 + sum (weights nfa x)
+      → after ≤ before + max_scan_turns nfa x
   turns-bound tried turns after before bits few h k = omega (arith, sum-weights nfa x)
 
   -- a scan from further on has room too

@@ -17,13 +17,13 @@ use Rattle.thompson_nfa.specs.declared.state.State.{State}
 use Rattle.thompson_nfa.specs.declared.state.Transition.{Transition}
 use Rattle.nfa_paths.specs.Graphs.{Pair}
 use Rattle.nfa_paths.specs.Paths.{span_len, degree, node_at, pattern_of, slot_of, edges_of, byte_at, target_on}
-use Rattle.nfa_paths.specs.Exploring.{Item, Slots}
-use Rattle.nfa_paths.specs.Exploring.Item.{Explore, Restore}
-use Rattle.nfa_scanning.proofs.TargetLemmas.{byte_at-within, target-below, target-degree}
-use Rattle.nfa_scanning.specs.Marks.{Marks}
+use Rattle.nfa_paths.specs.Exploring.{Task, Slots}
+use Rattle.nfa_paths.specs.Exploring.Task.{Explore, Restore}
+use Rattle.nfa_scan_core.proofs.TargetLemmas.{byte_at-within, target-below, target-degree}
+use Rattle.nfa_scan_core.specs.Marks.{Marks}
 use Rattle.nfa_backtrack_scan.specs.Walk.{pair_of, work_item, stacked, restoring, move_of, frame_tries, tries_of_move, bit_of}
-use Rattle.nfa_backtrack_scan.specs.Walk.{HasBits, IsPlace, IsFrame, PaidFor, Carries, Ends, Goes, Taken, WasMarked}
-use Rattle.nfa_backtrack_scan.specs.declared.frame.Place.{Place}
+use Rattle.nfa_backtrack_scan.specs.Walk.{HasBits, IsStatePos, IsFrame, PaidFor, Carries, Ends, Goes, Taken, WasMarked}
+use Rattle.nfa_backtrack_scan.specs.declared.frame.StatePos.{StatePos}
 use Rattle.nfa_backtrack_scan.specs.declared.frame.Frame.{Frame}
 use Rattle.nfa_backtrack_scan.specs.declared.frame.Frame.TheVariants.{Step}
 use Rattle.nfa_backtrack_scan.proofs.WalkLemmas.{node_at-get, bit_of-within, marked_sum-weights, Carries-plain}
@@ -35,7 +35,7 @@ pub same_size : (nfa : Automaton) (states : List State) → map node_of states �
 same_size nfa states nodes = rw (← nodes, length-map) refl
 
 -- a place's bit, as the code computes it, and what fits a `usize`
-module _ (nfa : Automaton) (x : Search) (place : Place) (is_place : IsPlace nfa x place) where
+module _ (nfa : Automaton) (x : Search) (place : StatePos) (is_place : IsStatePos nfa x place) where
   pub bit_of-place : (sid : ℕ) → sid ≡ place.sid → place.row + sid ≡ bit_of nfa x (pair_of place)
   bit_of-place sid is = rw (is_place.row, is) refl
 
@@ -58,7 +58,7 @@ row-next nfa x at row states from is wide =
     one-more k n = grind arith
 
 -- a row ends in the table
-pub Fits-row : (nfa : Automaton) (x : Search) (place : Place) (bits : List Bool) → IsPlace nfa x place
+pub Fits-row : (nfa : Automaton) (x : Search) (place : StatePos) (bits : List Bool) → IsStatePos nfa x place
     → HasBits nfa x bits
     → (states : ℕ) → states ≡ length nfa.states → place.row + states ≤ 2 ^ 64 - 1
 Fits-row nfa x place bits p room states wide =
@@ -72,9 +72,9 @@ Fits-row nfa x place bits p room states wide =
     row-le k m n le = grind arith
 
 -- the turn at a place marked it
-pub Taken-place : (nfa : Automaton) (x : Search) (place : Place) (marks marked : Marks) (bit : ℕ) → bit
+pub Taken-place : (nfa : Automaton) (x : Search) (place : StatePos) (marks marked : Marks) (bit : ℕ) → bit
     ≡ bit_of nfa x (pair_of place)
-    → IsPlace nfa x place → HasBits nfa x marks.bits → marked.turns ≡ marks.turns + 1
+    → IsStatePos nfa x place → HasBits nfa x marks.bits → marked.turns ≡ marks.turns + 1
     → (get_or marks.bits bit true ≡ false) × (marked.bits ≡ set marks.bits bit true)
     → Taken nfa x (pair_of place) marks marked
 Taken-place nfa x place marks marked bit is p room counted fresh = record {
@@ -88,9 +88,9 @@ Taken-place nfa x place marks marked bit is p room counted fresh = record {
 }
 
 -- it found it marked
-pub WasMarked-place : (nfa : Automaton) (x : Search) (place : Place) (marks marked : Marks) (bit : ℕ) → bit
+pub WasMarked-place : (nfa : Automaton) (x : Search) (place : StatePos) (marks marked : Marks) (bit : ℕ) → bit
     ≡ bit_of nfa x (pair_of place)
-    → IsPlace nfa x place → marked.turns ≡ marks.turns + 1 → (get_or marks.bits bit false ≡ true)
+    → IsStatePos nfa x place → marked.turns ≡ marks.turns + 1 → (get_or marks.bits bit false ≡ true)
     × (marked.bits ≡ marks.bits)
     → WasMarked nfa x (pair_of place) marks marked
 WasMarked-place nfa x place marks marked bit is p counted seen = record {
@@ -109,7 +109,7 @@ none-nil [] e = refl
 none-nil (x ∷ xs) e = cc
 
 -- frames as work
-pub stacked-push : (fs : List Frame) (f : Frame) (work : List Item) → stacked (fs ++ f ∷ []) work
+pub stacked-push : (fs : List Frame) (f : Frame) (work : List Task) → stacked (fs ++ f ∷ []) work
     ≡ work_item f ∷ stacked fs work
 stacked-push [] f work = refl
 stacked-push (g ∷ fs) f work = stacked-push fs f (work_item g ∷ work)
@@ -125,7 +125,7 @@ put-cons stack at row e es =
     (map_push (λ s. Step s at row) (reverse es) e)
     ∙ sym (append_assoc stack (put at row es) (Step e at row ∷ []))
 
-pub stacked-put : (stack : List Frame) (at row : ℕ) (es : List ℕ) (work : List Item)
+pub stacked-put : (stack : List Frame) (at row : ℕ) (es : List ℕ) (work : List Task)
     → stacked (stack ++ put at row es) work ≡ map Explore (map (λ n. (n, at)) es) ++ stacked stack work
 stacked-put stack at row [] work = rw append-nil refl
 stacked-put stack at row (e ∷ es) work =
@@ -170,7 +170,7 @@ tries-restoring slot None = refl
 tries-restoring slot (Some offset) = refl
 
 -- the turns that a byte state leaves to take
-pub target-tries : (node : Node) (place : Place) (states : ℕ) (byte : Option ℕ)
+pub target-tries : (node : Node) (place : StatePos) (states : ℕ) (byte : Option ℕ)
     → tries_of_move (move_of (option_and_then (target_on node) byte) place states) ≤ degree node
 target-tries node place states None = omega arith
 target-tries node place states (Some b) =
@@ -220,7 +220,7 @@ module _ {nfa : Automaton} {x : Search} {s at : ℕ} {m n : Marks} (t : Taken nf
 
   -- on to the edges
   pub Goes-edges : (node : Node) → slice_get nfa.states s ≡ Some node → pattern_of node ≡ None → slot_of node ≡ None
-      → (es : List Pair) → edges_of x node at ≡ es → (rest : List Item) (slots : Slots)
+      → (es : List Pair) → edges_of x node at ≡ es → (rest : List Task) (slots : Slots)
       → Carries nfa x m (Explore (s, at) ∷ rest) slots n (map Explore es ++ rest) slots
   Goes-edges node is plain writes es leads rest slots =
       Carries-plain nfa x m s at rest slots n t.counted t.state t.from t.inside t.clear t.set node is plain writes es
@@ -281,7 +281,7 @@ module _ {nfa : Automaton} {x : Search} {s at : ℕ} {m n : Marks} (t : Taken nf
     Goes-dense targets is below = Goes-target (Dense targets) is refl refl below refl
 
   -- an assertion
-  module _ (look : looks.Look) (next : ℕ) (is : slice_get nfa.states s ≡ Some (Look look next)) (rest : List Item)
+  module _ (look : looks.Look) (next : ℕ) (is : slice_get nfa.states s ≡ Some (Look look next)) (rest : List Task)
       (slots : Slots) where
     pub Goes-look : look_holds look x.haystack at ≡ true
         → Carries nfa x m (Explore (s, at) ∷ rest) slots n (Explore (next, at) ∷ rest) slots
@@ -295,7 +295,7 @@ module _ {nfa : Automaton} {x : Search} {s at : ℕ} {m n : Marks} (t : Taken nf
 
   -- alternatives
   module _ (alternates : List ℕ) (is : slice_get nfa.states s ≡ Some (Union alternates)) (slots : Slots) where
-    pub Goes-union : (f : ℕ) → slice_get alternates 0 ≡ Some f → (stack : List Frame) (work : List Item)
+    pub Goes-union : (f : ℕ) → slice_get alternates 0 ≡ Some f → (stack : List Frame) (work : List Task)
         → (row : ℕ) → Carries nfa x m (Explore (s, at) ∷ stacked stack work) slots n
         (Explore (f, at) ∷ stacked (stack ++ put at row (drop 1 alternates)) work) slots
     unfolding edges_of
@@ -305,14 +305,14 @@ module _ {nfa : Automaton} {x : Search} {s at : ℕ} {m n : Marks} (t : Taken nf
         (Goes-edges (Union alternates) is refl refl ((f, at) ∷ map (λ q. (q, at)) (drop 1 alternates))
         (ap (map (λ q. (q, at))) split) (stacked stack work) slots)
 
-    pub Goes-no_union : slice_get alternates 0 ≡ None → (rest : List Item)
+    pub Goes-no_union : slice_get alternates 0 ≡ None → (rest : List Task)
         → Carries nfa x m (Explore (s, at) ∷ rest) slots n rest slots
     unfolding edges_of
     Goes-no_union none rest = Goes-edges (Union alternates) is refl refl []
         (ap (map (λ q. (q, at))) (none-nil alternates none)) rest slots
 
   pub Goes-both : (alt1 alt2 : ℕ) → slice_get nfa.states s ≡ Some (BinaryUnion alt1 alt2)
-      → (slots : Slots) (stack : List Frame) (work : List Item) (row : ℕ)
+      → (slots : Slots) (stack : List Frame) (work : List Task) (row : ℕ)
       → Carries nfa x m (Explore (s, at) ∷ stacked stack work) slots n
       (Explore (alt1, at) ∷ stacked (stack ++ Step alt2 at row ∷ []) work) slots
   unfolding edges_of
@@ -320,14 +320,14 @@ module _ {nfa : Automaton} {x : Search} {s at : ℕ} {m n : Marks} (t : Taken nf
       rw (stacked-push stack (Step alt2 at row) work)
       (Goes-edges (BinaryUnion alt1 alt2) is refl refl ((alt1, at) ∷ (alt2, at) ∷ []) refl (stacked stack work) slots)
 
-  pub Goes-fail : slice_get nfa.states s ≡ Some Fail → (rest : List Item) (slots : Slots)
+  pub Goes-fail : slice_get nfa.states s ≡ Some Fail → (rest : List Task) (slots : Slots)
       → Carries nfa x m (Explore (s, at) ∷ rest) slots n rest slots
   unfolding edges_of
   Goes-fail is rest slots = Goes-edges Fail is refl refl [] refl rest slots
 
   -- a Capture, whose slot is tracked or is not
   module _ (next slot : ℕ) (is : slice_get nfa.states s ≡ Some (Capture next slot)) (slots : Slots) (stack : List Frame)
-      (work : List Item) where
+      (work : List Task) where
     pub Goes-write : Carries nfa x m (Explore (s, at) ∷ stacked stack work) slots n
         (Explore (next, at) ∷ stacked (stack ++ restoring slot (get_or slots slot None) ∷ []) work)
         (set slots slot (Some at))
@@ -347,7 +347,7 @@ module _ {nfa : Automaton} {x : Search} {s at : ℕ} {m n : Marks} (t : Taken nf
         t.clear t.set next slot is past
 
   -- a match
-  pub Goes-match : (pattern : ℕ) → slice_get nfa.states s ≡ Some (Match pattern) → (rest : List Item) (slots : Slots)
+  pub Goes-match : (pattern : ℕ) → slice_get nfa.states s ≡ Some (Match pattern) → (rest : List Task) (slots : Slots)
       → (pattern_of (node_at nfa s) ≡ Some pattern)
       × Ends nfa x m (Explore (s, at) ∷ rest) slots (Some ((s, at), slots)) n.turns
   Goes-match pattern is rest slots = (

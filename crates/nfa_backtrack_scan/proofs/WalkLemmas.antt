@@ -14,14 +14,14 @@ use Rattle.thompson_nfa.specs.Automaton.{Automaton, Node}
 use Rattle.thompson_nfa.specs.Automaton.Node.{Capture, Fail, Match}
 use Rattle.nfa_paths.specs.Graphs.{Pair, In}
 use Rattle.nfa_paths.specs.Paths.{span_len, degree, node_at, pattern_of, slot_of, edges_of, is_match, space}
-use Rattle.nfa_paths.specs.Paths.{turn_weight}
-use Rattle.nfa_paths.specs.Exploring.{Item, Slots, Hit, ExploresTo}
-use Rattle.nfa_paths.specs.Exploring.Item.{Explore, Restore}
+use Rattle.nfa_paths.specs.Paths.{total_degree}
+use Rattle.nfa_paths.specs.Exploring.{Task, Slots, Hit, ExploresTo}
+use Rattle.nfa_paths.specs.Exploring.Task.{Explore, Restore}
 use Rattle.nfa_paths.specs.Turns.{marked_sum, repeated}
 use Rattle.nfa_paths.proofs.SearchLemmas.{Answer-none, Answer-restore, Answer-marked, Answer-target, Answer-plain}
 use Rattle.nfa_paths.proofs.SearchLemmas.{Answer-write, Answer-unkept}
 use Rattle.nfa_paths.proofs.TurnLemmas.{marked_sum-set, sum-repeated, get_or-repeated}
-use Rattle.nfa_scanning.specs.Marks.{Marks}
+use Rattle.nfa_scan_core.specs.Marks.{Marks}
 use Rattle.regex_search_core.specs.declared.search.HalfMatch.{HalfMatch}
 use Rattle.nfa_backtrack_scan.specs.Walk.{bit_of, HasBits, IsMarked, Agrees, weights, WalkAnswer, Carries, Ends, EndsAt}
 
@@ -60,7 +60,7 @@ module _ (nfa : Automaton) (x : Search) where
       ∙ ap (λ k. marked_sum (repeated (span_len x + 1) (map degree nfa.states)) bits + k) e
 
   -- all of them together
-  pub sum-weights : sum (weights nfa x) ≡ (span_len x + 1) * turn_weight nfa
+  pub sum-weights : sum (weights nfa x) ≡ (span_len x + 1) * total_degree nfa
   unfolding weights
   sum-weights = sum-repeated (span_len x + 1) (map degree nfa.states) ∙ ap (λ k. (span_len x + 1) * k)
       (sum-map degree nfa.states)
@@ -116,7 +116,7 @@ module _ (nfa : Automaton) (x : Search) where
         ],
   )
 
-  module _ (marks : Marks) (s at : ℕ) (rest : List Item) (slots : Slots) (after : Marks)
+  module _ (marks : Marks) (s at : ℕ) (rest : List Task) (slots : Slots) (after : Marks)
       (counted : after.turns ≡ marks.turns + 1) where
     -- a turn that finds its pair marked
     pub Carries-marked : s < length nfa.states → x.start ≤ at → get_or marks.bits (bit_of nfa x (s, at)) false ≡ true
@@ -151,7 +151,7 @@ module _ (nfa : Automaton) (x : Search) where
           )
 
       -- a turn that marks the pair
-      Carries-taken : (work : List Item) (written : Slots)
+      Carries-taken : (work : List Task) (written : Slots)
           → ((left : ℕ) (pairs : List Pair) (g : Hit) → ¬ (In (s, at) pairs)
           → ExploresTo (space nfa x) (is_match nfa) left None ((s, at) ∷ pairs) work written g
           → ExploresTo (space nfa x) (is_match nfa) (suc left) None pairs (Explore (s, at) ∷ rest) slots g)
@@ -211,9 +211,9 @@ module _ (nfa : Automaton) (x : Search) where
           g f (rw n refl) ((next, at) ∷ []) (rw n refl) slot (rw n refl) past)
 
   -- steps one after another
-  module _ {m : Marks} {w : List Item} {s : Slots} where
-    module _ {n : Marks} {y : List Item} {t : Slots} (f : Carries nfa x m w s n y t) where
-      pub Carries-then : {o : Marks} {z : List Item} {u : Slots} → Carries nfa x n y t o z u → Carries nfa x m w s o z u
+  module _ {m : Marks} {w : List Task} {s : Slots} where
+    module _ {n : Marks} {y : List Task} {t : Slots} (f : Carries nfa x m w s n y t) where
+      pub Carries-then : {o : Marks} {z : List Task} {u : Slots} → Carries nfa x n y t o z u → Carries nfa x m w s o z u
       Carries-then {o = o} k = let p = f.grows in let q = k.grows in record {
         grows = omega arith;
         back = λ left more g e h.
@@ -227,14 +227,14 @@ module _ (nfa : Automaton) (x : Search) where
         answer = λ left k. f.back (turns - n.turns) left g (omega arith) (e.answer (turns - n.turns) (omega arith));
       }
 
-  pub Carries-none : (m : Marks) (w : List Item) (s : Slots) → Carries nfa x m w s m w s
+  pub Carries-none : (m : Marks) (w : List Task) (s : Slots) → Carries nfa x m w s m w s
   Carries-none m w s = record {
     grows = omega arith;
     back = λ left more g e h. let same : more ≡ left = omega arith in rw same h;
   }
 
   -- a slot has its old value again
-  pub Carries-restore : (m : Marks) (w : List Item) (s : Slots) (k : ℕ) (old : Option ℕ)
+  pub Carries-restore : (m : Marks) (w : List Task) (s : Slots) (k : ℕ) (old : Option ℕ)
       → Carries nfa x m (Restore k old ∷ w) s m w (set s k old)
   unfolding WalkAnswer
   Carries-restore m w s k old = record {
@@ -253,7 +253,7 @@ module _ (nfa : Automaton) (x : Search) where
   }
 
   -- steps before the end
-  pub EndsAt-along : {half : HalfMatch} {m : Marks} {w : List Item} {s : Slots} {n : Marks} {y : List Item}
+  pub EndsAt-along : {half : HalfMatch} {m : Marks} {w : List Task} {s : Slots} {n : Marks} {y : List Task}
       {t written : Slots} {turns : ℕ}
       → Carries nfa x m w s n y t → EndsAt nfa x half n y t written turns → EndsAt nfa x half m w s written turns
   EndsAt-along f e = record { state = e.state; matches = e.matches; ends = Carries-ends f e.ends }

@@ -4,15 +4,15 @@ use Rattle.std.specs.Option.{ForSome}
 use Rattle.regex_search_core.specs.Search.{Search}
 use Rattle.thompson_nfa.specs.Automaton.{Automaton}
 use Rattle.nfa_paths.specs.Graphs.{Pair}
-use Rattle.nfa_paths.specs.Exploring.{Slots, Item}
-use Rattle.nfa_paths.specs.Exploring.Item.{Explore as ToExplore, Restore as ToRestore}
+use Rattle.nfa_paths.specs.Exploring.{Slots, Task}
+use Rattle.nfa_paths.specs.Exploring.Task.{Explore as ToExplore, Restore as ToRestore}
 use Rattle.nfa_paths.specs.Turns.{marked_sum}
-use Rattle.nfa_scanning.specs.Marks.{Marks}
-use Rattle.nfa_backtrack_scan.specs.Walk.{pair_of, weights, IsPlace, Carries, WalkFails}
+use Rattle.nfa_scan_core.specs.Marks.{Marks}
+use Rattle.nfa_backtrack_scan.specs.Walk.{pair_of, weights, IsStatePos, Carries, WalkFails}
 use Rattle.nfa_backtrack_scan.specs.declared.walk.Begun.{Begun}
 
 -- some work, with the slot that was written to be unset after it
-abbrev pub kept_onto : Option ℕ → List Item → List Item
+abbrev pub kept_onto : Option ℕ → List Task → List Task
 kept_onto None work = work
 kept_onto (Some slot) work = ToRestore slot None ∷ work
 
@@ -26,9 +26,9 @@ module _ (nfa : Automaton) (x : Search) where
   pub record BeginsAt (v : Pair) (begun : Begun) (marks : Marks) (slots : Slots) (marked : Marks)
       (written : Slots) : Type
       0 where
-    pub place : IsPlace nfa x begun.place
+    pub place : IsStatePos nfa x begun.place
     pub slot : ForSome begun.slot (λ k. k < length written)
-    pub follows : (work : List Item)
+    pub follows : (work : List Task)
         → Carries nfa x marks (ToExplore v ∷ work) slots marked
         (ToExplore (pair_of begun.place) ∷ kept_onto begun.slot work) written
     pub spent : marked.turns + marked_sum (weights nfa x) marks.bits

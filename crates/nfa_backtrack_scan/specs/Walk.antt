@@ -14,24 +14,24 @@ use Rattle.thompson_nfa.specs.declared.state.Transition.{Transition}
 use Rattle.nfa_paths.specs.Graphs.{Pair, In}
 use Rattle.nfa_paths.specs.Paths.{span_len, degree, node_at, pattern_of, is_match, IsScanAnswer, space}
 use Rattle.nfa_paths.specs.Restarts.{GivesPath}
-use Rattle.nfa_paths.specs.Exploring.{Slots, Hit, Item, ExploresTo}
-use Rattle.nfa_paths.specs.Exploring.Item.{Explore as ToExplore, Restore as ToRestore}
+use Rattle.nfa_paths.specs.Exploring.{Slots, Hit, Task, ExploresTo}
+use Rattle.nfa_paths.specs.Exploring.Task.{Explore as ToExplore, Restore as ToRestore}
 use Rattle.nfa_paths.specs.Turns.{marked_sum, repeated}
-use Rattle.nfa_scanning.specs.Marks.{Marks}
-use Rattle.nfa_backtrack_scan.specs.declared.frame.Place.{Place}
+use Rattle.nfa_scan_core.specs.Marks.{Marks}
+use Rattle.nfa_backtrack_scan.specs.declared.frame.StatePos.{StatePos}
 use Rattle.nfa_backtrack_scan.specs.declared.frame.Frame.{Frame}
 use Rattle.nfa_backtrack_scan.specs.declared.frame.Frame.TheVariants.{Step, Restore, Clear}
 use Rattle.nfa_backtrack_scan.specs.declared.walk.Move.{Move}
-use Rattle.nfa_backtrack_scan.specs.declared.walk.Move.TheVariants.{Go, Stuck, Matched}
-use Rattle.nfa_backtrack_scan.specs.declared.walk.Turn.{Turn}
-use Rattle.nfa_backtrack_scan.specs.declared.walk.Turn.TheVariants.{On, Ended, Over}
+use Rattle.nfa_backtrack_scan.specs.declared.walk.Move.TheVariants.{On, DeadEnd, Matched}
+use Rattle.nfa_backtrack_scan.specs.declared.walk.Outcome.{Outcome}
+use Rattle.nfa_backtrack_scan.specs.declared.walk.Outcome.TheVariants.{On, Matched, Failed}
 
 -- the state and position of a place
-abbrev pub pair_of : Place → Pair
+abbrev pub pair_of : StatePos → Pair
 pair_of place = (place.sid, place.at)
 
 -- the work that a frame leaves
-abbrev pub work_item : Frame → Item
+abbrev pub work_item : Frame → Task
 work_item (Step sid at row) = ToExplore (sid, at)
 work_item (Restore slot offset) = ToRestore slot (Some offset)
 work_item (Clear slot) = ToRestore slot None
@@ -42,9 +42,9 @@ restoring slot None = Clear slot
 restoring slot (Some offset) = Restore slot offset
 
 -- the move to the target at the next position, if there is one; a row has `states` marks
-abbrev pub move_of : Option ℕ → Place → ℕ → Move
-move_of None place states = Stuck
-move_of (Some sid) place states = Go (record { sid = sid; at = place.at + 1; row = place.row + states })
+abbrev pub move_of : Option ℕ → StatePos → ℕ → Move
+move_of None place states = DeadEnd
+move_of (Some sid) place states = On (record { sid = sid; at = place.at + 1; row = place.row + states })
 
 -- the turns that a frame still has to take
 abbrev pub frame_tries : Frame → ℕ
@@ -59,39 +59,39 @@ WritesSlot count (Restore slot offset) = slot < count
 WritesSlot count (Clear slot) = slot < count
 
 -- the frames of a stack, the top first, above some work
-abbrev pub stacked : List Frame → List Item → List Item
+abbrev pub stacked : List Frame → List Task → List Task
 stacked [] work = work
 stacked (f ∷ fs) work = stacked fs (work_item f ∷ work)
 
 -- the result of applying a frame: a place to search from, or a slot that has its old value again
-abbrev pub Unwinds : Frame → Slots → Option Place → Slots → Type 0
-Unwinds (Step sid at row) slots place after = (place ≡ Some (record { sid = sid; at = at; row = row }))
+abbrev pub AppliesFrame : Frame → Slots → Option StatePos → Slots → Type 0
+AppliesFrame (Step sid at row) slots place after = (place ≡ Some (record { sid = sid; at = at; row = row }))
     × (after ≡ slots)
-Unwinds (Restore slot offset) slots place after = (place ≡ None) × (after ≡ slice_set slots slot (Some offset))
-Unwinds (Clear slot) slots place after = (place ≡ None) × (after ≡ slice_set slots slot None)
+AppliesFrame (Restore slot offset) slots place after = (place ≡ None) × (after ≡ slice_set slots slot (Some offset))
+AppliesFrame (Clear slot) slots place after = (place ≡ None) × (after ≡ slice_set slots slot None)
 
 -- the work with a place to search from, if there is one
-abbrev pub with_place : Option Place → List Item → List Item
-with_place None work = work
-with_place (Some place) work = ToExplore (pair_of place) ∷ work
+abbrev pub with_state_pos : Option StatePos → List Task → List Task
+with_state_pos None work = work
+with_state_pos (Some place) work = ToExplore (pair_of place) ∷ work
 
 -- the tries to mark that are due after a turn
-abbrev pub tries_of_place : Option Place → ℕ
-tries_of_place None = 0
-tries_of_place (Some place) = 1
+abbrev pub tries_of_state_pos : Option StatePos → ℕ
+tries_of_state_pos None = 0
+tries_of_state_pos (Some place) = 1
 
 abbrev pub tries_of_move : Move → ℕ
-tries_of_move (Go place) = 1
-tries_of_move Stuck = 0
+tries_of_move (On place) = 1
+tries_of_move DeadEnd = 0
 tries_of_move (Matched pattern) = 0
 
-abbrev pub tries_of_turn : Turn → ℕ
-tries_of_turn (On place) = 1
-tries_of_turn (Ended half) = 0
-tries_of_turn Over = 0
+abbrev pub tries_of_outcome : Outcome → ℕ
+tries_of_outcome (On place) = 1
+tries_of_outcome (Matched half) = 0
+tries_of_outcome Failed = 0
 
 -- A loop over one byte: the transition leads from the state `body` to a union that prefers `body` to `exit`.
-pub record IsLoop (nfa : Automaton) (body exit : ℕ) (trans : Transition) : Type 0 where
+pub record IsByteLoop (nfa : Automaton) (body exit : ℕ) (trans : Transition) : Type 0 where
   pub over : slice_get nfa.states body ≡ Some (ByteRange trans)
   pub back : slice_get nfa.states trans.next ≡ Some (BinaryUnion body exit)
   pub onto : trans.next < length nfa.states
@@ -101,20 +101,20 @@ pub record IsLoop (nfa : Automaton) (body exit : ℕ) (trans : Transition) : Typ
 module _ (nfa : Automaton) (x : Search) where
   -- the place has a state of the NFA and a position of the span, and its row is the distance from the start times the
   -- number of states
-  pub record IsPlace (place : Place) : Type 0 where
+  pub record IsStatePos (place : StatePos) : Type 0 where
     pub state : place.sid < length nfa.states
     pub from : x.start ≤ place.at
     pub to : place.at ≤ x.end
     pub row : place.row ≡ (place.at - x.start) * length nfa.states
 
   -- the same of a place, if there is one
-  abbrev pub IsPlaceOr : Option Place → Type 0
-  IsPlaceOr None = Unit {0}
-  IsPlaceOr (Some place) = IsPlace place
+  abbrev pub IsStatePosOr : Option StatePos → Type 0
+  IsStatePosOr None = Unit {0}
+  IsStatePosOr (Some place) = IsStatePos place
 
   -- a frame's place is in the span, and its slot is below `count`
   abbrev pub IsFrame : ℕ → Frame → Type 0
-  IsFrame count (Step sid at row) = IsPlace (record { sid = sid; at = at; row = row })
+  IsFrame count (Step sid at row) = IsStatePos (record { sid = sid; at = at; row = row })
   IsFrame count (Restore slot offset) = slot < count
   IsFrame count (Clear slot) = slot < count
 
@@ -142,7 +142,7 @@ module _ (nfa : Automaton) (x : Search) where
   weights = repeated (span_len x + 1) (map degree nfa.states)
 
   -- the answer of the search from here on, with `left` turns left
-  unfoldable pub WalkAnswer : ℕ → List Bool → List Item → Slots → Hit → Type 0
+  unfoldable pub WalkAnswer : ℕ → List Bool → List Task → Slots → Hit → Type 0
   WalkAnswer left bits work slots g =
       (seen : List Pair) → Agrees bits seen → ExploresTo (space nfa x) (is_match nfa) left None seen work slots g
 
@@ -176,72 +176,72 @@ module _ (nfa : Automaton) (x : Search) where
       ≤ marks.turns + 1 + sum_by frame_tries stack + sum weights
 
   -- The answer from the state after is the answer from the state before.
-  pub record Carries (marks : Marks) (work : List Item) (slots : Slots) (after : Marks) (work_after : List Item)
+  pub record Carries (marks : Marks) (work : List Task) (slots : Slots) (after : Marks) (work_after : List Task)
       (slots_after : Slots) : Type 0 where
     pub grows : marks.turns ≤ after.turns
     pub back : (left more : ℕ) (g : Hit) → marks.turns + more ≡ after.turns + left
         → WalkAnswer left after.bits work_after slots_after g → WalkAnswer more marks.bits work slots g
 
   -- The answer is g.
-  pub record Ends (marks : Marks) (work : List Item) (slots : Slots) (g : Hit) (turns : ℕ) : Type 0 where
+  pub record Ends (marks : Marks) (work : List Task) (slots : Slots) (g : Hit) (turns : ℕ) : Type 0 where
     pub grows : marks.turns ≤ turns
     pub answer : (left : ℕ) → marks.turns + left ≡ turns → WalkAnswer left marks.bits work slots g
 
   -- the result of a turn at v
   abbrev pub Goes : Pair → Move → List Frame → Marks → Slots → List Frame → Marks → Slots → Type 0
-  Goes v (Go place) stack marks slots after marked written =
-      IsPlace place
-      × ((work : List Item) → Carries marks (ToExplore v ∷ stacked stack work) slots marked
+  Goes v (On place) stack marks slots after marked written =
+      IsStatePos place
+      × ((work : List Task) → Carries marks (ToExplore v ∷ stacked stack work) slots marked
       (ToExplore (pair_of place) ∷ stacked after work) written)
-  Goes v Stuck stack marks slots after marked written =
-      (work : List Item) → Carries marks (ToExplore v ∷ stacked stack work) slots marked (stacked after work)
+  Goes v DeadEnd stack marks slots after marked written =
+      (work : List Task) → Carries marks (ToExplore v ∷ stacked stack work) slots marked (stacked after work)
       written
   Goes v (Matched pattern) stack marks slots after marked written =
       (pattern_of (node_at nfa v.0) ≡ Some (number_of pattern))
-      × ((work : List Item) → Ends marks (ToExplore v ∷ stacked stack work) slots (Some (v, written)) marked.turns)
+      × ((work : List Task) → Ends marks (ToExplore v ∷ stacked stack work) slots (Some (v, written)) marked.turns)
 
   -- The result of turns from v on that write no slot and meet no match: the search goes on at the place or, if there is
   -- none, with the frames of the stack.
-  pub record TurnsLead (v : Pair) (place : Option Place) (stack : List Frame) (marks : Marks) (after : List Frame)
+  pub record TurnsLead (v : Pair) (place : Option StatePos) (stack : List Frame) (marks : Marks) (after : List Frame)
       (marked : Marks) : Type 0 where
-    pub goes : IsPlaceOr place
+    pub goes : IsStatePosOr place
     pub within : (count : ℕ) → All (IsFrame count) stack → All (IsFrame count) after
-    pub tried : marked.turns + sum_by frame_tries after + tries_of_place place + marked_sum weights marks.bits
+    pub tried : marked.turns + sum_by frame_tries after + tries_of_state_pos place + marked_sum weights marks.bits
         ≤ marks.turns + 1 + sum_by frame_tries stack + marked_sum weights marked.bits
-    pub follows : (work : List Item) (slots : Slots) → Carries marks (ToExplore v ∷ stacked stack work) slots marked
-        (with_place place (stacked after work)) slots
+    pub follows : (work : List Task) (slots : Slots) → Carries marks (ToExplore v ∷ stacked stack work) slots marked
+        (with_state_pos place (stacked after work)) slots
 
   -- the search ends at a match: its state is one of the pattern, and its position is the end
-  pub record EndsAt (half : HalfMatch) (marks : Marks) (work : List Item) (slots : Slots) (written : Slots) (turns : ℕ)
+  pub record EndsAt (half : HalfMatch) (marks : Marks) (work : List Task) (slots : Slots) (written : Slots) (turns : ℕ)
       : Type 0 where
     pub state : ℕ
     pub matches : pattern_of (node_at nfa state) ≡ Some (half_found_of half).pattern
     pub ends : Ends marks work slots (Some ((state, (half_found_of half).offset), written)) turns
 
   -- the result of a turn at v and, if the turn leads nowhere, of the frames after it
-  abbrev pub ComesTo : Pair → Turn → List Frame → Marks → Slots → List Frame → Marks → Slots → Type 0
+  abbrev pub ComesTo : Pair → Outcome → List Frame → Marks → Slots → List Frame → Marks → Slots → Type 0
   ComesTo v (On place) stack marks slots after marked written =
-      IsPlace place
-      × ((work : List Item) → Carries marks (ToExplore v ∷ stacked stack work) slots marked
+      IsStatePos place
+      × ((work : List Task) → Carries marks (ToExplore v ∷ stacked stack work) slots marked
       (ToExplore (pair_of place) ∷ stacked after work) written)
-  ComesTo v (Ended half) stack marks slots after marked written =
-      (work : List Item) → EndsAt half marks (ToExplore v ∷ stacked stack work) slots written marked.turns
-  ComesTo v Over stack marks slots after marked written =
-      (after ≡ []) × ((work : List Item) → Carries marks (ToExplore v ∷ stacked stack work) slots marked work written)
+  ComesTo v (Matched half) stack marks slots after marked written =
+      (work : List Task) → EndsAt half marks (ToExplore v ∷ stacked stack work) slots written marked.turns
+  ComesTo v Failed stack marks slots after marked written =
+      (after ≡ []) × ((work : List Task) → Carries marks (ToExplore v ∷ stacked stack work) slots marked work written)
 
   -- nothing was found at v, and the marks pay for the tries
   pub record WalkFails (v : Pair) (marks : Marks) (slots : Slots) (after : List Frame) (marked : Marks)
       (written : Slots) :
       Type 0 where
     pub empty : after ≡ []
-    pub follows : (work : List Item) → Carries marks (ToExplore v ∷ work) slots marked work written
+    pub follows : (work : List Task) → Carries marks (ToExplore v ∷ work) slots marked work written
     pub spent : marked.turns + marked_sum weights marks.bits ≤ marks.turns + 1 + marked_sum weights marked.bits
 
   -- the result of a walk from v
   abbrev pub Walks : Pair → Option HalfMatch → Marks → Slots → List Frame → Marks → Slots → Type 0
   Walks v None marks slots after marked written = WalkFails v marks slots after marked written
   Walks v (Some half) marks slots after marked written =
-      (work : List Item) → EndsAt half marks (ToExplore v ∷ work) slots written marked.turns
+      (work : List Task) → EndsAt half marks (ToExplore v ∷ work) slots written marked.turns
 
   -- the result of the search from all starts, in this number of turns
   abbrev pub StartsGive : Option HalfMatch → Slots → ℕ → Type 0

@@ -5,7 +5,7 @@ use regex_search_core::{NonMaxUsize, StateID};
 
 /// A state, and a position in the haystack with the row of its marks.
 #[derive(Clone, Copy, Debug)]
-pub struct Place {
+pub struct StatePos {
     pub sid: StateID,
     pub at: usize,
     /// The number of the position's first mark: its distance from the start of the span, times the number of states. A
@@ -13,15 +13,15 @@ pub struct Place {
     pub row: usize,
 }
 
-impl Place {
+impl StatePos {
     ghost use Rattle.nfa_backtrack_scan.specs.declared.frame.Frame.TheVariants.{Step};
 
     /// Returns another state at this position.
     #[inline(always)]
-    pub fn to(&self, sid: StateID) -> Place
+    pub fn to(&self, sid: StateID) -> StatePos
         ensures { result ≡ record self.now { sid = sid } }
     {
-        Place {
+        StatePos {
             sid,
             at: self.at,
             row: self.row,

@@ -5,8 +5,8 @@
 //! crate of its own and is proved in parallel with them.
 #![tactic(auto)]
 
+pub mod byte_loop;
 pub mod frame;
-pub mod round;
 pub mod scan;
 pub mod scratch;
 pub mod turn;

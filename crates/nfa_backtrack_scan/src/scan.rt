@@ -1,17 +1,18 @@
 //! A scan: a walk from each start in turn, with the marks kept.
-ghost use Rattle.std.specs.Prelude.{◌≡◌, ◌+◌, ◌-◌, ◌*◌, ◌^◌, ◌<◌, ◌≤◌, [], None, false, length, replicate, IfOk, OnErr, OnOk};
+ghost use Rattle.std.specs.Prelude.{◌≡◌, ◌+◌, ◌-◌, ◌*◌, ◌^◌, ◌<◌, ◌≤◌, [], None, false, length, replicate, IfOk, OnErr};
+ghost use Rattle.std.specs.Prelude.{OnOk};
 ghost use Rattle.regex_search_core.specs.Search.{search_of};
 ghost use Rattle.regex_search_core.specs.declared.search.MatchKind.TheVariants.{LeftmostFirst};
 ghost use Rattle.nfa_paths.specs.Paths.{span_len, start_count};
-ghost use Rattle.nfa_paths.specs.Restarts.{scan_turns, ScanGives};
-ghost use Rattle.nfa_scanning.specs.FirstBytes.{IsFirstBytes, IsRefused};
-ghost use Rattle.nfa_backtrack_scan.specs.Walk.{pair_of, HasBits, IsPlace, StartsGive};
+ghost use Rattle.nfa_paths.specs.Restarts.{max_scan_turns, ScanGives};
+ghost use Rattle.nfa_scan_core.specs.FirstBytes.{IsFirstBytes, IsRefused};
+ghost use Rattle.nfa_backtrack_scan.specs.Walk.{pair_of, HasBits, IsStatePos, StartsGive};
 
-use crate::frame::Place;
+use crate::frame::StatePos;
 use crate::scratch::Scratch;
 use crate::walk::walk;
-use nfa_scanning::first_bytes::FirstBytes;
-use nfa_scanning::starts::{next_start, skip_limit, start_limit, start_state};
+use nfa_scan_core::first_bytes::FirstBytes;
+use nfa_scan_core::starts::{next_start, skip_limit, start_limit, start_state};
 use regex_search_core::{HalfMatch, Input, NonMaxUsize, Refused, StateID};
 use thompson_nfa::NFA;
 
@@ -25,7 +26,13 @@ pub fn unset(slots: &mut [Option<NonMaxUsize>])
 /// Returns the place of a start: a state, and a position of the span that may not be skipped for its byte. Only that
 /// clause uses the table of first bytes.
 #[inline(always)]
-fn place_of(nfa: &NFA, first: &FirstBytes, input: &Input<'_>, sid: StateID, at: usize) -> Place
+fn state_pos_at(
+    nfa: &NFA,
+    first: &FirstBytes,
+    input: &Input<'_>,
+    sid: StateID,
+    at: usize,
+) -> StatePos
     requires state { sid < length nfa.now.states }
     requires from { (search_of input.now).start ≤ at }
     requires to { at ≤ (search_of input.now).end }
@@ -33,10 +40,10 @@ fn place_of(nfa: &NFA, first: &FirstBytes, input: &Input<'_>, sid: StateID, at: 
     requires due { at + 1 < (search_of input.now).start + start_count nfa.now (search_of input.now)
         → IsRefused first.now.may_begin (search_of input.now) at → ⊥ }
     ensures pair { pair_of result ≡ (sid, at) }
-    ensures place { IsPlace nfa.now (search_of input.now) result }
+    ensures place { IsStatePos nfa.now (search_of input.now) result }
 {
     let row = (at - input.start()) * nfa.states().len();
-    Place { sid, at, row }
+    StatePos { sid, at, row }
 }
 
 /// Searches from each start in turn that is not skipped for its byte, with the marks kept.
@@ -54,7 +61,8 @@ fn try_starts(
     requires unset { slots.old ≡ replicate (length slots.old) None }
     ensures scans { scratch.new.scans ≡ scratch.old.scans }
     ensures size { length scratch.new.visited.bits ≡ length scratch.old.visited.bits }
-    ensures turns { scratch.new.visited.turns ≤ scratch.old.visited.turns + scan_turns nfa.now (search_of input.now) }
+    ensures turns { scratch.new.visited.turns ≤ scratch.old.visited.turns + max_scan_turns nfa.now
+        (search_of input.now) }
     ensures answer { IfOk result (λ half. StartsGive nfa.now (search_of input.now) half slots.new
         (scratch.new.visited.turns - scratch.old.visited.turns)) }
     ensures over { OnOk result (scratch.new.stack.items ≡ []) }
@@ -69,7 +77,7 @@ fn try_starts(
     let stop = skip_limit(nfa, input);
     let mut at = next_start(first, input, input.start(), stop);
     while at < limit {
-        let place = place_of(nfa, first, input, sid, at);
+        let place = state_pos_at(nfa, first, input, sid, at);
         if let Some(half) = walk(nfa, input, place, scratch, slots)? {
             return Ok(Some(half));
         }
@@ -91,7 +99,8 @@ pub fn scan(
     requires room { HasBits nfa.now (search_of input.now) scratch.old.visited.bits }
     ensures scans { scratch.new.scans ≡ scratch.old.scans + 1 }
     ensures size { length scratch.new.visited.bits ≡ length scratch.old.visited.bits }
-    ensures turns { scratch.new.visited.turns ≤ scratch.old.visited.turns + scan_turns nfa.now (search_of input.now) }
+    ensures turns { scratch.new.visited.turns ≤ scratch.old.visited.turns + max_scan_turns nfa.now
+        (search_of input.now) }
     ensures answer { IfOk result (λ half. ScanGives nfa.now LeftmostFirst false (search_of input.now) half slots.new
         (scratch.new.visited.turns - scratch.old.visited.turns)) }
     ensures refused { OnErr result (slots.new ≡ replicate (length slots.old) None) }

@@ -1,7 +1,7 @@
 //! The stack, the marks and the count of scans of one search.
 use crate::frame::Frame;
 use crate::visited::Visited;
-use nfa_scanning::counter::Counter;
+use nfa_scan_core::counter::Counter;
 
 /// All that a search writes besides its slots.
 #[derive(Debug, Drop)]

@@ -2,9 +2,9 @@
 ghost use Rattle.std.specs.Prelude.{◌≡◌, ◌+◌, ◌<◌, Some, true, false, length, map, slice_get};
 ghost use Rattle.regex_search_core.specs.Search.{search_of};
 ghost use Rattle.thompson_nfa.specs.Automaton.{IsAutomaton, LeadsBelow, node_of};
-ghost use Rattle.nfa_backtrack_scan.specs.Walk.{pair_of, IsPlace, HasBits, Taken, WasMarked};
+ghost use Rattle.nfa_backtrack_scan.specs.Walk.{pair_of, IsStatePos, HasBits, Taken, WasMarked};
 
-use crate::frame::Place;
+use crate::frame::StatePos;
 use crate::visited::Visited;
 use regex_search_core::{Input, StateID};
 use thompson_nfa::{NFA, State};
@@ -23,8 +23,8 @@ pub fn state_at<'a>(nfa: &NFA, states: &'a [State], sid: StateID) -> &'a State
 
 /// Tries to mark the place, and returns whether it was unmarked. This is one turn.
 #[inline(always)]
-pub fn mark(nfa: &NFA, input: &Input<'_>, place: Place, visited: &mut Visited) -> bool
-    requires place { IsPlace nfa.now (search_of input.now) place }
+pub fn mark(nfa: &NFA, input: &Input<'_>, place: StatePos, visited: &mut Visited) -> bool
+    requires place { IsStatePos nfa.now (search_of input.now) place }
     requires room { HasBits nfa.now (search_of input.now) visited.old.bits }
     ensures turns { visited.new.turns ≡ visited.old.turns + 1 }
     ensures size { length visited.new.bits ≡ length visited.old.bits }

@@ -2,7 +2,7 @@
 ghost use Rattle.std.specs.Prelude.{◌≡◌, ℕ, ◌+◌, ◌/◌, ◌<◌, ◌≤◌, max, [], true, false, length, replicate, slice_index};
 ghost use Rattle.std.specs.Prelude.{slice_index_or, slice_set, IfOk, IsOk, OnOk};
 
-use nfa_scanning::counter::Counter;
+use nfa_scan_core::counter::Counter;
 use regex_search_core::Refused;
 use std::alloc::Global;
 use std::marker::Model;
@@ -23,7 +23,7 @@ pub struct Visited {
 
 impl Model for Visited {
     ghost use Rattle.std.specs.Prelude.{◌≤◌, length};
-    ghost use Rattle.nfa_scanning.specs.Marks.{Marks};
+    ghost use Rattle.nfa_scan_core.specs.Marks.{Marks};
     ghost use Rattle.nfa_backtrack_scan.specs.Bits.{bits_of, IsClearFrom};
 
     ghost Value = { Marks };
@@ -76,7 +76,7 @@ impl Visited {
         ensures restarted { self.new ≡ record self.old { turns = 0 } }
         ensures total { total.new ≡ total.old + self.old.turns }
     {
-        total.take(&mut self.turns);
+        total.absorb(&mut self.turns);
     }
 
     /// Makes room for this number of marks. Fails only if it has to allocate.

@@ -10,22 +10,24 @@ ghost use Rattle.thompson_nfa.specs.Automaton.Node.{ByteRange, Sparse, Dense};
 ghost use Rattle.thompson_nfa.specs.Looks.{look_holds};
 ghost use Rattle.regex_search_core.specs.Search.{Search};
 ghost use Rattle.nfa_paths.specs.Paths.{byte_at};
-ghost use Rattle.nfa_paths.specs.Exploring.{Item};
+ghost use Rattle.nfa_paths.specs.Exploring.{Task};
 ghost use Rattle.nfa_paths.specs.Turns.{marked_sum};
 ghost use Rattle.nfa_backtrack_scan.specs.Begin.{Begins, IsPutBack};
-ghost use Rattle.nfa_scanning.specs.Marks.{Marks};
+ghost use Rattle.nfa_scan_core.specs.Marks.{Marks};
 ghost use Rattle.nfa_backtrack_scan.specs.Walk.{pair_of, stacked, restoring, move_of, frame_tries, tries_of_move};
-ghost use Rattle.nfa_backtrack_scan.specs.Walk.{tries_of_place, tries_of_turn, with_place, WritesSlot, Unwinds, IsPlace};
-ghost use Rattle.nfa_backtrack_scan.specs.Walk.{IsPlaceOr, IsFrame, HasBits, PaidFor, Carries, Goes, ComesTo, Walks, weights};
+ghost use Rattle.nfa_backtrack_scan.specs.Walk.{tries_of_state_pos, tries_of_outcome, with_state_pos, WritesSlot};
+ghost use Rattle.nfa_backtrack_scan.specs.Walk.{AppliesFrame, IsStatePos};
+ghost use Rattle.nfa_backtrack_scan.specs.Walk.{IsStatePosOr, IsFrame, HasBits, PaidFor, Carries, Goes, ComesTo, Walks};
+ghost use Rattle.nfa_backtrack_scan.specs.Walk.{weights};
 ghost use Rattle.nfa_backtrack_scan.specs.Walk.{IsAfforded};
 ghost use Rattle.nfa_backtrack_scan.specs.declared.frame.Frame.TheVariants.{Step};
 
-use crate::frame::{Frame, Place};
-use crate::round::{go_round, way_back};
+use crate::byte_loop::{byte_loop_at, run_byte_loop};
+use crate::frame::{Frame, StatePos};
 use crate::scratch::Scratch;
 use crate::turn::{mark, state_at};
 use crate::visited::Visited;
-use nfa_scanning::transitions::{byte_at, dense_target, range_target, sparse_target};
+use nfa_scan_core::transitions::{byte_at, dense_target, range_target, sparse_target};
 use regex_search_core::{HalfMatch, Input, NonMaxUsize, PatternID, Refused, StateID};
 use thompson_nfa::{Look, NFA, State, look_matches};
 
@@ -33,37 +35,37 @@ use thompson_nfa::{Look, NFA, State, look_matches};
 #[derive(Clone, Copy)]
 pub enum Move {
     /// The search goes on at this place.
-    Go(Place),
+    On(StatePos),
     /// The turn leads nowhere.
-    Stuck,
+    DeadEnd,
     /// The turn leads to a match of the pattern.
     Matched(PatternID),
 }
 
 /// The result of a turn and, if the turn leads nowhere, of the frames after it.
-pub enum Turn {
+pub enum Outcome {
     /// The search goes on at this place.
-    On(Place),
+    On(StatePos),
     /// The search ends with a match.
-    Ended(HalfMatch),
+    Matched(HalfMatch),
     /// The search ends without a match.
-    Over,
+    Failed,
 }
 
 /// Returns the move to the target at the next position, if there is a target. A row has `states` marks.
 #[inline(always)]
-fn past_byte(target: Option<StateID>, place: Place, states: usize) -> Move
+fn past_byte(target: Option<StateID>, place: StatePos, states: usize) -> Move
     requires at { place.at < usize.MAX }
     requires row { place.row + states ≤ usize.MAX }
     ensures { result ≡ move_of target place states }
 {
     match target {
-        Some(sid) => Move::Go(Place {
+        Some(sid) => Move::On(StatePos {
             sid,
             at: place.at + 1,
             row: place.row + states,
         }),
-        None => Move::Stuck,
+        None => Move::DeadEnd,
     }
 }
 
@@ -78,7 +80,11 @@ fn assertion_holds(look: Look, haystack: &[u8], at: usize) -> bool
 }
 
 /// Pushes all alternatives but the first, with the earliest on top.
-fn put_off(stack: &mut Vec<Frame>, alternates: &[StateID], place: Place) -> Result<(), Refused>
+fn push_alternates(
+    stack: &mut Vec<Frame>,
+    alternates: &[StateID],
+    place: StatePos,
+) -> Result<(), Refused>
     ensures { OnOk result (stack.new.items
         ≡ stack.old.items ++ map (λ sid. Step sid place.at place.row) (reverse (drop 1 alternates.now))) }
 {
@@ -104,14 +110,14 @@ fn save(
         ≡ stack.old.items ++ restoring slot (slice_index_or slots.old slot None) ∷ []) }
     ensures slots { OnOk result (slots.new ≡ slice_set slots.old slot (Some at)) }
 {
-    push_restoring(stack, slot, slots[slot])?;
+    push_restore(stack, slot, slots[slot])?;
     write(slots, slot, at);
     Ok(())
 }
 
 /// Pushes a frame that restores the old value of the slot.
 #[inline(always)]
-fn push_restoring(
+fn push_restore(
     stack: &mut Vec<Frame>,
     slot: usize,
     old: Option<NonMaxUsize>,
@@ -133,7 +139,7 @@ fn push_restoring(
 /// The place at which a walk goes on after its first turn, and the slot that this turn wrote, if any.
 #[derive(Clone, Copy)]
 pub struct Begun {
-    place: Place,
+    place: StatePos,
     slot: Option<usize>,
 }
 
@@ -143,13 +149,13 @@ fn step(
     nfa: &NFA,
     states: &[State],
     input: &Input<'_>,
-    place: Place,
+    place: StatePos,
     scratch: &mut Scratch,
     slots: &mut [Option<NonMaxUsize>],
 ) -> Result<Move, Refused>
     requires states { map node_of states.now ≡ nfa.now.states }
     requires valid { IsAutomaton nfa.now }
-    requires place { IsPlace nfa.now (search_of input.now) place }
+    requires place { IsStatePos nfa.now (search_of input.now) place }
     requires room { HasBits nfa.now (search_of input.now) scratch.old.visited.bits }
     requires within { All (IsFrame nfa.now (search_of input.now) (length slots.old)) scratch.old.stack.items }
     ensures turns { scratch.old.visited.turns + 1 ≤ scratch.new.visited.turns }
@@ -162,9 +168,9 @@ fn step(
     ensures goes { IfOk result (λ move. Goes nfa.now (search_of input.now) (pair_of place) move scratch.old.stack.items
         scratch.old.visited slots.old scratch.new.stack.items scratch.new.visited slots.new) }
 {
-    let Place { sid, at, .. } = place;
+    let StatePos { sid, at, .. } = place;
     if !mark(nfa, input, place, &mut scratch.visited) {
-        return Ok(Move::Stuck);
+        return Ok(Move::DeadEnd);
     }
     match state_at(nfa, states, sid) {
         State::ByteRange { trans } => {
@@ -181,49 +187,49 @@ fn step(
         }
         State::Look { look, next } => {
             if assertion_holds(*look, input.haystack(), at) {
-                Ok(Move::Go(place.to(*next)))
+                Ok(Move::On(place.to(*next)))
             } else {
-                Ok(Move::Stuck)
+                Ok(Move::DeadEnd)
             }
         }
         State::Union { alternates } => {
             let Some(first) = alternates.first() else {
-                return Ok(Move::Stuck);
+                return Ok(Move::DeadEnd);
             };
-            put_off(&mut scratch.stack, alternates, place)?;
-            Ok(Move::Go(place.to(*first)))
+            push_alternates(&mut scratch.stack, alternates, place)?;
+            Ok(Move::On(place.to(*first)))
         }
         State::BinaryUnion { alt1, alt2 } => {
             // Read before the stack is written: the compiler then reads each arm's target in its arm.
             let preferred = place.to(*alt1);
             scratch.stack.push(place.later(*alt2))?;
-            if let Some(trans) = way_back(nfa, states, input, at, *alt1, *alt2) {
+            if let Some(trans) = byte_loop_at(nfa, states, input, at, *alt1, *alt2) {
                 // A copy: a value that is borrowed by a call is in memory, and the walk keeps its values in registers.
                 let lent = *input;
-                go_round(nfa, &lent, place.to(*alt1), trans, *alt2, scratch)?;
-                return Ok(Move::Stuck);
+                run_byte_loop(nfa, &lent, place.to(*alt1), trans, *alt2, scratch)?;
+                return Ok(Move::DeadEnd);
             }
-            Ok(Move::Go(preferred))
+            Ok(Move::On(preferred))
         }
         State::Capture { next, slot } => {
             if *slot < slots.len() {
                 save(&mut scratch.stack, slots, *slot, at)?;
             }
-            Ok(Move::Go(place.to(*next)))
+            Ok(Move::On(place.to(*next)))
         }
-        State::Fail => Ok(Move::Stuck),
+        State::Fail => Ok(Move::DeadEnd),
         State::Match { pattern_id } => Ok(Move::Matched(*pattern_id)),
     }
 }
 
 /// Applies a frame: returns its place to search from, or restores the slot.
 #[inline(always)]
-fn unwind(frame: Frame, slots: &mut [Option<NonMaxUsize>]) -> Option<Place>
+fn apply_frame(frame: Frame, slots: &mut [Option<NonMaxUsize>]) -> Option<StatePos>
     requires { WritesSlot (length slots.old) frame }
-    ensures { Unwinds frame slots.old result slots.new }
+    ensures { AppliesFrame frame slots.old result slots.new }
 {
     match frame {
-        Frame::Step { sid, at, row } => Some(Place { sid, at, row }),
+        Frame::Step { sid, at, row } => Some(StatePos { sid, at, row }),
         Frame::Restore { slot, offset } => {
             slots[slot] = Some(offset);
             None
@@ -237,18 +243,19 @@ fn unwind(frame: Frame, slots: &mut [Option<NonMaxUsize>]) -> Option<Place>
 
 /// Pops and applies frames, down to a place to search from.
 #[inline(always)]
-fn resume(stack: &mut Vec<Frame>, slots: &mut [Option<NonMaxUsize>]) -> Option<Place>
+fn resume(stack: &mut Vec<Frame>, slots: &mut [Option<NonMaxUsize>]) -> Option<StatePos>
     requires { All (WritesSlot (length slots.old)) stack.old.items }
-    ensures follows { (nfa : Automaton) (x : Search) (marks : Marks) (work : List Item)
+    ensures follows { (nfa : Automaton) (x : Search) (marks : Marks) (work : List Task)
         → Carries nfa x marks (stacked stack.old.items work) slots.old marks
-        (with_place result (stacked stack.new.items work)) slots.new }
+        (with_state_pos result (stacked stack.new.items work)) slots.new }
     ensures within { (nfa : Automaton) (x : Search) → All (IsFrame nfa x (length slots.old)) stack.old.items
-        → All (IsFrame nfa x (length slots.old)) stack.new.items × IsPlaceOr nfa x result }
-    ensures tried { sum_by frame_tries stack.new.items + tries_of_place result ≡ sum_by frame_tries stack.old.items }
+        → All (IsFrame nfa x (length slots.old)) stack.new.items × IsStatePosOr nfa x result }
+    ensures tried { sum_by frame_tries stack.new.items + tries_of_state_pos result ≡ sum_by frame_tries
+        stack.old.items }
     ensures over { result ≡ None → stack.new.items ≡ [] }
 {
     while let Some(frame) = stack.pop() {
-        if let Some(place) = unwind(frame, slots) {
+        if let Some(place) = apply_frame(frame, slots) {
             return Some(place);
         }
     }
@@ -261,20 +268,20 @@ fn advance(
     nfa: &NFA,
     states: &[State],
     input: &Input<'_>,
-    place: Place,
+    place: StatePos,
     scratch: &mut Scratch,
     slots: &mut [Option<NonMaxUsize>],
-) -> Result<Turn, Refused>
+) -> Result<Outcome, Refused>
     requires states { map node_of states.now ≡ nfa.now.states }
     requires valid { IsAutomaton nfa.now }
-    requires place { IsPlace nfa.now (search_of input.now) place }
+    requires place { IsStatePos nfa.now (search_of input.now) place }
     requires room { HasBits nfa.now (search_of input.now) scratch.old.visited.bits }
     requires within { All (IsFrame nfa.now (search_of input.now) (length slots.old)) scratch.old.stack.items }
     ensures turns { scratch.old.visited.turns + 1 ≤ scratch.new.visited.turns }
     ensures scans { scratch.new.scans ≡ scratch.old.scans }
     ensures size { length scratch.new.visited.bits ≡ length scratch.old.visited.bits }
     ensures paid { IfOk result (λ turn. PaidFor nfa.now (search_of input.now) (length slots.old) scratch.old.stack.items
-        scratch.old.visited scratch.new.stack.items scratch.new.visited (tries_of_turn turn)) }
+        scratch.old.visited scratch.new.stack.items scratch.new.visited (tries_of_outcome turn)) }
     ensures refused { OnErr result (IsAfforded nfa.now (search_of input.now) scratch.old.stack.items scratch.old.visited
         scratch.new.visited) }
     ensures advances { IfOk result
@@ -283,11 +290,11 @@ fn advance(
 {
     let at = place.at;
     match step(nfa, states, input, place, scratch, slots)? {
-        Move::Go(next) => Ok(Turn::On(next)),
-        Move::Matched(pattern) => Ok(Turn::Ended(HalfMatch::new(pattern, at))),
-        Move::Stuck => match resume(&mut scratch.stack, slots) {
-            Some(next) => Ok(Turn::On(next)),
-            None => Ok(Turn::Over),
+        Move::On(next) => Ok(Outcome::On(next)),
+        Move::Matched(pattern) => Ok(Outcome::Matched(HalfMatch::new(pattern, at))),
+        Move::DeadEnd => match resume(&mut scratch.stack, slots) {
+            Some(next) => Ok(Outcome::On(next)),
+            None => Ok(Outcome::Failed),
         },
     }
 }
@@ -319,11 +326,11 @@ fn write(slots: &mut [Option<NonMaxUsize>], slot: usize, at: usize)
 fn begin(
     nfa: &NFA,
     input: &Input<'_>,
-    place: Place,
+    place: StatePos,
     visited: &mut Visited,
     slots: &mut [Option<NonMaxUsize>],
 ) -> Option<Begun>
-    requires place { IsPlace nfa.now (search_of input.now) place }
+    requires place { IsStatePos nfa.now (search_of input.now) place }
     requires room { HasBits nfa.now (search_of input.now) visited.old.bits }
     ensures size { length visited.new.bits ≡ length visited.old.bits }
     ensures begins { Begins nfa.now (search_of input.now) (pair_of place) result visited.old slots.old visited.new
@@ -364,11 +371,11 @@ fn put_back(slot: Option<usize>, slots: &mut [Option<NonMaxUsize>])
 pub fn walk(
     nfa: &NFA,
     input: &Input<'_>,
-    start: Place,
+    start: StatePos,
     scratch: &mut Scratch,
     slots: &mut [Option<NonMaxUsize>],
 ) -> Result<Option<HalfMatch>, Refused>
-    requires place { IsPlace nfa.now (search_of input.now) start }
+    requires place { IsStatePos nfa.now (search_of input.now) start }
     requires room { HasBits nfa.now (search_of input.now) scratch.old.visited.bits }
     requires empty { scratch.old.stack.items ≡ [] }
     ensures scans { scratch.new.scans ≡ scratch.old.scans }
@@ -399,11 +406,11 @@ pub fn walk(
 fn walk_on(
     nfa: &NFA,
     input: &Input<'_>,
-    start: Place,
+    start: StatePos,
     scratch: &mut Scratch,
     slots: &mut [Option<NonMaxUsize>],
 ) -> Result<Option<HalfMatch>, Refused>
-    requires place { IsPlace nfa.now (search_of input.now) start }
+    requires place { IsStatePos nfa.now (search_of input.now) start }
     requires room { HasBits nfa.now (search_of input.now) scratch.old.visited.bits }
     requires empty { scratch.old.stack.items ≡ [] }
     ensures scans { scratch.new.scans ≡ scratch.old.scans }
@@ -420,9 +427,9 @@ fn walk_on(
     let mut place = start;
     loop {
         match advance(nfa, states, &own_input, place, scratch, slots)? {
-            Turn::On(next) => place = next,
-            Turn::Ended(half) => return Ok(Some(half)),
-            Turn::Over => return Ok(None),
+            Outcome::On(next) => place = next,
+            Outcome::Matched(half) => return Ok(Some(half)),
+            Outcome::Failed => return Ok(None),
         }
     }
 }

@@ -1,3 +1,3 @@
-pub mod CaughtLemmas
+pub mod CapturesLemmas
 pub mod FindLemmas
 pub mod WorkLemmas

@@ -8,16 +8,16 @@ use Rattle.regex_search_core.specs.declared.search.MatchKind.{MatchKind}
 use Rattle.regex_search_core.specs.declared.search.MatchKind.TheVariants.{All, LeftmostFirst}
 use Rattle.thompson_nfa.specs.Automaton.{Automaton}
 use Rattle.nfa_paths.specs.Paths.{span_len}
-use Rattle.nfa_search_base.specs.Catching.{Row, row_span}
+use Rattle.nfa_search_base.specs.WithCaptures.{Row, row_span}
 use Rattle.nfa_search_base.specs.Leaving.{DoesSearch}
-use Rattle.nfa_search_base.specs.Walks.{Answer, place_of, span_of}
+use Rattle.nfa_search_base.specs.IterStates.{Answer, answer_span, span_of}
 use Rattle.nfa_search_base.proofs.StepLemmas.{chosen}
 use Rattle.nfa_engines.specs.WorkLaws.{AddsAtMost, Totals, backtracker_totals, list_scan_limit, pike_totals}
 use Rattle.nfa_engines.proofs.EngineWorkLemmas.{Hit, Worked, calls-add, list-adds, match-hit, row-hit, worked}
 use Rattle.nfa_engines.proofs.EngineWorkLemmas.{worked-within}
 use Rattle.nfa_choice.specs.CapturesMatches.{CatchesByRule, ChoiceCatchesOn, ChoiceCatchesToEnd, ChoiceTellsRow}
-use Rattle.nfa_choice.specs.Choosing.{BacktrackerRan, Choosing, KeepsEngines, PikeStoodIn, RunsByRule}
-use Rattle.nfa_choice.specs.Choosing.{is_for_backtracker, is_leftmost_first, kind_in}
+use Rattle.nfa_choice.specs.ChoiceState.{BacktrackerRan, ChoiceState, KeepsEngines, FellBackToPike, RunsByRule}
+use Rattle.nfa_choice.specs.ChoiceState.{is_for_backtracker, is_leftmost_first, kind_in}
 use Rattle.nfa_choice.specs.Matches.{ChoiceFindsOn, ChoiceFindsToEnd, ChoiceTells, FindsByRule}
 use Rattle.nfa_choice.specs.WorkLaws.{ChoiceAddsAtMost}
 use Rattle.nfa_choice.proofs.FindLemmas.{IsOf, is-kept}
@@ -32,14 +32,14 @@ not-asked false is = refl
 not-asked true is = cc
 
 -- the totals of either cache
-abbrev back_in : Choosing → Totals
+abbrev back_in : ChoiceState → Totals
 back_in c = backtracker_totals c.back
 
-abbrev pike_in : Choosing → Totals
+abbrev pike_in : ChoiceState → Totals
 pike_in c = pike_totals c.pike
 
-module _ (y : Search) (s t : Choosing) (runs : RunsByRule s y y.earliest t) where
-  abbrev Does : (Choosing → Totals) → Type 0
+module _ (y : Search) (s t : ChoiceState) (runs : RunsByRule s y y.earliest t) where
+  abbrev Does : (ChoiceState → Totals) → Type 0
   Does totals = Worked s.nfa (kind_in s) y.earliest y (totals s) (totals t) ⊎ (totals t ≡ totals s)
 
   back-runs : Does back_in
@@ -54,7 +54,7 @@ module _ (y : Search) (s t : Choosing) (runs : RunsByRule s y y.earliest t) wher
     | inr p ↦ inr (ap backtracker_totals p.1.back)
   ]
     where
-      of : BacktrackerRan y y.earliest s t ⊎ PikeStoodIn y y.earliest s t
+      of : BacktrackerRan y y.earliest s t ⊎ FellBackToPike y y.earliest s t
           → Worked s.nfa LeftmostFirst false y (back_in s) (back_in t)
       of (inl h) = worked s.nfa LeftmostFirst false y (back_in s) (back_in t) t.back.scans t.back.turns h.exact
           h.bounded.scans h.bounded.turns h.work.scans h.work.turns
@@ -70,7 +70,7 @@ module _ (y : Search) (s t : Choosing) (runs : RunsByRule s y y.earliest t) wher
         p.1.bounded.scans p.1.bounded.turns p.1.work.scans p.1.work.turns)
   ]
     where
-      of : BacktrackerRan y y.earliest s t ⊎ PikeStoodIn y y.earliest s t → Does pike_in
+      of : BacktrackerRan y y.earliest s t ⊎ FellBackToPike y y.earliest s t → Does pike_in
       of (inl h) = inr (ap pike_totals h.pike)
       of (inr h) =
           inl
@@ -78,7 +78,7 @@ module _ (y : Search) (s t : Choosing) (runs : RunsByRule s y y.earliest t) wher
           h.bounded.scans h.bounded.turns h.work.scans h.work.turns)
 
 -- what runs by what is kept runs as at first
-from-first : (c s t : Choosing) (y : Search) (old new : Totals) → IsOf c s
+from-first : (c s t : ChoiceState) (y : Search) (old new : Totals) → IsOf c s
     → Worked s.nfa (kind_in s) y.earliest y old new ⊎ (new ≡ old)
     → Worked c.nfa (kind_in c) y.earliest y old new ⊎ (new ≡ old)
 from-first c s t y old new is (inr same) = inr same
@@ -88,27 +88,28 @@ from-first c s t y old new is (inl w) =
     (subst (λ (n : Automaton). Worked n (kind_in s) y.earliest y old new) is.nfa w))
 
 -- Each search tells a match or a row, and runs by the rule, which is some work for one of the caches.
-module _ (totals : Choosing → Totals)
-    (runs : (y : Search) (s t : Choosing) → RunsByRule s y y.earliest t
+module _ (totals : ChoiceState → Totals)
+    (runs : (y : Search) (s t : ChoiceState) → RunsByRule s y y.earliest t
     → Worked s.nfa (kind_in s) y.earliest y (totals s) (totals t) ⊎ (totals t ≡ totals s))
-    (x : Search) (c d : Choosing) where
-  abbrev WorksOf : Choosing → Search → Choosing → Type 0
+    (x : Search) (c d : ChoiceState) where
+  abbrev WorksOf : ChoiceState → Search → ChoiceState → Type 0
   WorksOf s y t = (Worked c.nfa (kind_in c) y.earliest y (totals s) (totals t) ⊎ (totals t ≡ totals s)) × IsOf c t
 
-  works : (y : Search) (s t : Choosing) → IsOf c s → RunsByRule s y y.earliest t → KeepsEngines s t → WorksOf s y t
+  works : (y : Search) (s t : ChoiceState) → IsOf c s → RunsByRule s y y.earliest t → KeepsEngines s t → WorksOf s y t
   works y s t is rule keeps = (from-first c s t y (totals s) (totals t) is (runs y s t rule), is-kept c s t is keeps)
 
   first : IsOf c c
   first = record { nfa = refl; kind = refl }
 
-  abbrev Finds : Choosing → Search → Answer Found → Choosing → Type 0
+  abbrev Finds : ChoiceState → Search → Answer Found → ChoiceState → Type 0
   Finds = DoesSearch (ChoiceTells c) (λ y a. FindsByRule y)
 
-  finds-hit : (s : Choosing) (y : Search) (a : Answer Found) (t : Choosing) → Finds s y a t
-      → Hit c.nfa (kind_in c) y.earliest y (place_of span_of a)
+  finds-hit : (s : ChoiceState) (y : Search) (a : Answer Found) (t : ChoiceState) → Finds s y a t
+      → Hit c.nfa (kind_in c) y.earliest y (answer_span span_of a)
   finds-hit s y a t asked = match-hit c.nfa (kind_in c) y.earliest y a asked.tells
 
-  finds-work : (s : Choosing) (y : Search) (a : Answer Found) (t : Choosing) → IsOf c s → Finds s y a t → WorksOf s y t
+  finds-work : (s : ChoiceState) (y : Search) (a : Answer Found) (t : ChoiceState) → IsOf c s → Finds s y a t
+      → WorksOf s y t
   finds-work s y a t is asked = works y s t is asked.work.runs asked.work.keeps
 
   matches-add : (ms : List Found) → ChoiceFindsToEnd x ms c d
@@ -120,49 +121,49 @@ module _ (totals : Choosing → Totals)
   finds-add h = calls-add span_of Finds totals (IsOf c) c.nfa (kind_in c) (λ y. y.earliest) x finds-hit finds-work
       h.answers c d first h.steps
 
-  abbrev Catches : Choosing → Search → Answer Row → Choosing → Type 0
-  Catches = DoesSearch (ChoiceTellsRow c) (λ y a. CatchesByRule y)
+  abbrev Fills : ChoiceState → Search → Answer Row → ChoiceState → Type 0
+  Fills = DoesSearch (ChoiceTellsRow c) (λ y a. CatchesByRule y)
 
-  catches-hit : (s : Choosing) (y : Search) (a : Answer Row) (t : Choosing) → Catches s y a t
-      → Hit c.nfa (kind_in c) y.earliest y (place_of row_span a)
+  catches-hit : (s : ChoiceState) (y : Search) (a : Answer Row) (t : ChoiceState) → Fills s y a t
+      → Hit c.nfa (kind_in c) y.earliest y (answer_span row_span a)
   catches-hit s y a t asked = row-hit c.nfa (kind_in c) y.earliest y a asked.tells
 
-  catches-work : (s : Choosing) (y : Search) (a : Answer Row) (t : Choosing) → IsOf c s → Catches s y a t
+  catches-work : (s : ChoiceState) (y : Search) (a : Answer Row) (t : ChoiceState) → IsOf c s → Fills s y a t
       → WorksOf s y t
   catches-work s y a t is asked = works y s t is asked.work.runs asked.work.keeps
 
   rows-add : (rows : List Row) → ChoiceCatchesToEnd x rows c d
       → AddsAtMost (list_scan_limit c.nfa x (length rows)) c.nfa x (totals c) (totals d)
-  rows-add rows h = list-adds row_span Catches totals (IsOf c) c.nfa (kind_in c) (λ y. y.earliest) x catches-hit
+  rows-add rows h = list-adds row_span Fills totals (IsOf c) c.nfa (kind_in c) (λ y. y.earliest) x catches-hit
       catches-work rows c d first h.steps
 
   catches-add : ChoiceCatchesOn x c d → AddsAtMost (2 * span_len x + 3) c.nfa x (totals c) (totals d)
-  catches-add h = calls-add row_span Catches totals (IsOf c) c.nfa (kind_in c) (λ y. y.earliest) x catches-hit
+  catches-add h = calls-add row_span Fills totals (IsOf c) c.nfa (kind_in c) (λ y. y.earliest) x catches-hit
       catches-work h.answers c d first h.steps
 
 -- So it is of both caches.
 module _ (x : Search) where
-  pub choice-matches : (ms : List Found) (c d : Choosing) → ChoiceFindsToEnd x ms c d
+  pub choice-matches : (ms : List Found) (c d : ChoiceState) → ChoiceFindsToEnd x ms c d
       → ChoiceAddsAtMost (list_scan_limit c.nfa x (length ms)) x c d
   choice-matches ms c d h = record {
     back = matches-add back_in back-runs x c d ms h;
     pike = matches-add pike_in pike-runs x c d ms h;
   }
 
-  pub choice-rows : (rows : List Row) (c d : Choosing) → ChoiceCatchesToEnd x rows c d
+  pub choice-rows : (rows : List Row) (c d : ChoiceState) → ChoiceCatchesToEnd x rows c d
       → ChoiceAddsAtMost (list_scan_limit c.nfa x (length rows)) x c d
   choice-rows rows c d h = record {
     back = rows-add back_in back-runs x c d rows h;
     pike = rows-add pike_in pike-runs x c d rows h;
   }
 
-  pub choice-finds : (c d : Choosing) → ChoiceFindsOn x c d → ChoiceAddsAtMost (2 * span_len x + 3) x c d
+  pub choice-finds : (c d : ChoiceState) → ChoiceFindsOn x c d → ChoiceAddsAtMost (2 * span_len x + 3) x c d
   choice-finds c d h = record {
     back = finds-add back_in back-runs x c d h;
     pike = finds-add pike_in pike-runs x c d h;
   }
 
-  pub choice-catches : (c d : Choosing) → ChoiceCatchesOn x c d → ChoiceAddsAtMost (2 * span_len x + 3) x c d
+  pub choice-catches : (c d : ChoiceState) → ChoiceCatchesOn x c d → ChoiceAddsAtMost (2 * span_len x + 3) x c d
   choice-catches c d h = record {
     back = catches-add back_in back-runs x c d h;
     pike = catches-add pike_in pike-runs x c d h;

@@ -1,4 +1,4 @@
 pub mod CapturesMatches
-pub mod Choosing
+pub mod ChoiceState
 pub mod Matches
 pub mod WorkLaws

@@ -15,12 +15,13 @@ ghost use Rattle.std.specs.Prelude.{All, IfOk, IfNone, IfSome, OnOk, OnErr, IsOk
 ghost use Rattle.regex_search_core.specs.Search.{search_of};
 ghost use Rattle.regex_search_core.specs.Patterns.{number_of};
 ghost use Rattle.regex_search_core.specs.Found.{found_of};
-ghost use Rattle.nfa_paths.specs.Paths.{IsAnswer, IsMatchAnswer, IsFoundAnswer, is_utf8_empty};
+ghost use Rattle.nfa_paths.specs.Paths.{IsAnswer, IsFindAnswer, IsBoolAnswer, is_utf8_empty};
 ghost use Rattle.nfa_search_base.specs.Lists.{IsInside, IsSlotInside};
 ghost use Rattle.nfa_search_base.specs.Spans.{SpansInside};
-ghost use Rattle.nfa_backtrack.specs.Backtrack.{unused, HoldsNoMore};
+ghost use Rattle.nfa_backtrack.specs.Backtrack.{empty_cache, HoldsNoMore};
 ghost use Rattle.nfa_pikevm.specs.Engines.{cache_for};
-ghost use Rattle.nfa_choice.specs.Choosing.{finds_in, is_for_backtracker, kind_in, IsRefitted, KeepsEngines, RunsByRule};
+ghost use Rattle.nfa_choice.specs.ChoiceState.{finds_in, is_for_backtracker, kind_in, IsFitFor, KeepsEngines};
+ghost use Rattle.nfa_choice.specs.ChoiceState.{RunsByRule};
 
 mod captures;
 mod captures_iter;
@@ -66,9 +67,9 @@ pub struct Choice {
 impl Model for Choice {
     ghost use Rattle.std.specs.Prelude.{◌≡◌};
     ghost use Rattle.nfa_pikevm.specs.Engines.{Fits};
-    ghost use Rattle.nfa_choice.specs.Choosing.{Choosing};
+    ghost use Rattle.nfa_choice.specs.ChoiceState.{ChoiceState};
 
-    ghost Value = { Choosing };
+    ghost Value = { ChoiceState };
 
     ghost view = { λ c. record {
       nfa = c.back.nfa;
@@ -125,7 +126,7 @@ impl Choice {
           nfa = nfa;
           visited_capacity = back;
           match_kind = pike;
-          back = unused;
+          back = empty_cache;
           pike = cache_for nfa;
           ran = None;
         }) }
@@ -290,7 +291,7 @@ impl Choice {
     /// assert_eq!(rt; found.expect(rt, "a match").range(), 0..8);
     /// ```
     pub fn find<'h>(&mut self, input: Input<'h>) -> Option<Match>
-        ensures answer { IsMatchAnswer self.old.nfa (kind_in self.old) (search_of input.entry).earliest
+        ensures answer { IsFindAnswer self.old.nfa (kind_in self.old) (search_of input.entry).earliest
             (search_of input.entry)
             (option_map found_of result) }
         ensures pattern { IfSome result (λ m. (found_of m).pattern < length self.old.nfa.patterns) }
@@ -318,7 +319,7 @@ impl Choice {
     /// assert!(rt; !choice.is_match(Input::new(b"foobar")));
     /// ```
     pub fn is_match<'h>(&mut self, input: Input<'h>) -> bool
-        ensures answer { IsFoundAnswer self.old.nfa (kind_in self.old) false (search_of input.entry) result }
+        ensures answer { IsBoolAnswer self.old.nfa (kind_in self.old) false (search_of input.entry) result }
         ensures finds { result ≡ finds_in self.old (search_of input.entry) }
         ensures runs { RunsByRule self.old (search_of input.entry) (not (is_utf8_empty self.old.nfa)) self.new }
         ensures holds { HoldsNoMore 0 self.old.back self.new.back }
@@ -343,7 +344,7 @@ impl Choice {
     /// ```
     pub fn replace(&mut self, nfa: NFA) -> Result<(), SearchError>
         ensures made { OnOk result (self.new ≡ record self.old { nfa = nfa; pike = self.new.pike }) }
-        ensures refitted { OnOk result (IsRefitted self.old.pike nfa self.new.pike) }
+        ensures reset_for { OnOk result (IsFitFor self.old.pike nfa self.new.pike) }
         ensures kept { OnErr result (self.new ≡ self.old) }
         ensures memory { IsOkUnless result SearchError.Memory }
     {

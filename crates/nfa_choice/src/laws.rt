@@ -6,9 +6,9 @@ ghost use Rattle.nfa_engines.specs.WorkLaws.{list_scan_limit};
 ghost use Rattle.nfa_choice.specs.WorkLaws.{ChoiceCatchesWithin, ChoiceFindsWithin, ChoiceMatchesAreWithin};
 ghost use Rattle.nfa_choice.specs.WorkLaws.{ChoiceRowsAreWithin};
 
-/// A whole list takes little more than one search. Over the calls that find all k matches in a span of n bytes, or their
-/// captures, the totals of each of both caches rise by at most n + k + 2 scans; if no search may restart, by at most
-/// 2k + 1. The turns are at most those of so many scans, (1 + D)(n + 1) each.
+/// A whole list takes little more than one search. Over the calls that find all k matches in a span of n bytes, or
+/// their captures, the totals of each of both caches rise by at most n + k + 2 scans; if no search may restart, by at
+/// most 2k + 1. The turns are at most those of so many scans, (1 + D)(n + 1) each.
 ///
 /// The premises are what `find_all` and `captures_all` ensure where they are `Ok` (`to_end`), and what `find_iter`
 /// ensures where it goes on to `None` (`searches`).
@@ -17,7 +17,8 @@ pub fn lists_are_bounded()
     ensures rows { ChoiceRowsAreWithin list_scan_limit }
 {}
 
-/// Wherever an iteration stops, the totals of each cache rise by at most 2n + 3 scans, and by the turns of so many scans.
+/// Wherever an iteration stops, the totals of each cache rise by at most 2n + 3 scans, and by the turns of so many
+/// scans.
 ///
 /// The premises are what all lists and iterators ensure (`searches`).
 pub fn iterations_are_bounded()

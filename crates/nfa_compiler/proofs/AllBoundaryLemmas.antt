@@ -7,8 +7,8 @@ use Rattle.regex_search_core.specs.Search.{Search}
 use Rattle.regex_search_core.specs.declared.search.MatchKind.TheVariants.{LeftmostFirst}
 use Rattle.thompson_nfa.specs.Automaton.{Automaton}
 use Rattle.nfa_paths.specs.Paths.{is_utf8_empty}
-use Rattle.nfa_search_base.specs.Catching.{Row}
-use Rattle.nfa_search_base.specs.CaughtLists.{AreRows}
+use Rattle.nfa_search_base.specs.WithCaptures.{Row}
+use Rattle.nfa_search_base.specs.CapturesLists.{AreRows}
 use Rattle.nfa_search_base.specs.Lists.{AreMatches}
 use Rattle.nfa_compiler.specs.AllHits.{row_of_hit}
 use Rattle.nfa_compiler.specs.BoundaryHits.{all_boundary_hits, boundary_hit}

@@ -7,7 +7,7 @@ use Rattle.regex_hir.specs.Find.{Match, find_after, matches_from}
 use Rattle.regex_search_core.specs.Search.{Search}
 use Rattle.regex_search_core.specs.declared.search.Span.{Span}
 use Rattle.nfa_search_base.specs.Lists.{Fails, IsStep, ItemsLast}
-use Rattle.nfa_search_base.specs.Walks.{Answer, Walk, fresh, place_of, repeats, shifted}
+use Rattle.nfa_search_base.specs.IterStates.{Answer, IterState, fresh, answer_span, repeats, shifted}
 use Rattle.nfa_compiler.specs.AllHits.{hit_after, hits_from}
 use Rattle.nfa_compiler.specs.Patterns.{Hit, hit_by}
 use Rattle.nfa_compiler.proofs.BoundLemmas.{LiesFrom}
@@ -30,7 +30,7 @@ module _ {X : Type 0} (span : X → Span) (give : Hit → X) where
       (meets : (i : ℕ) (a : Answer X) → tells (record x { start = i }) a → Meets a (hit_from i))
       (lies : (i : ℕ) (h : Hit) → hit_from i ≡ Some h → LiesFrom haystack i (length haystack + 1) h) where
     -- the iteration after a match that ended at i
-    abbrev walk_at : ℕ → Walk
+    abbrev walk_at : ℕ → IterState
     walk_at i = record { at = record x { start = i }; last = Some i }
 
     -- a step after that match
@@ -69,7 +69,8 @@ module _ {X : Type 0} (span : X → Span) (give : Hit → X) where
             never false = refl
 
         of : (first : Answer X) (o : Option Hit) → hit_from i ≡ o → Meets first o
-            → MatchBool (repeats (walk_at i) (place_of span first)) (tells (record x { start = i + 1 }) a) (a ≡ first)
+            → MatchBool (repeats (walk_at i) (answer_span span first)) (tells (record x { start = i + 1 }) a)
+            (a ≡ first)
             → Meets a (if is_some_and o (λ h. h.trace.end == i) then hit_from (i + 1) else o)
         of (Err error) o e m rest = absurd m
         of (Ok None) (Some h) e m rest = absurd m
@@ -86,7 +87,7 @@ module _ {X : Type 0} (span : X → Span) (give : Hit → X) where
         never false = refl
 
         of : (first : Answer X) → Meets first (hit_from x.start)
-            → MatchBool (repeats (fresh x) (place_of span first)) (tells (shifted (fresh x)).at a) (a ≡ first)
+            → MatchBool (repeats (fresh x) (answer_span span first)) (tells (shifted (fresh x)).at a) (a ≡ first)
             → Meets a (hit_from x.start)
         of (Err error) m rest = absurd m
         of (Ok None) m rest = subst (λ c. Meets c (hit_from x.start)) (sym rest) m

@@ -11,11 +11,11 @@ use Rattle.regex_search_core.specs.declared.search.Anchored.TheVariants.{No}
 use Rattle.regex_search_core.specs.declared.search.MatchKind.TheVariants.{LeftmostFirst}
 use Rattle.regex_syntax.specs.declared.Config.{Config}
 use Rattle.thompson_nfa.specs.Automaton.{Automaton}
-use Rattle.nfa_paths.specs.Paths.{is_utf8_empty, path_pattern, slot_row, IsAnswer, IsMatchAnswer}
-use Rattle.nfa_search_base.specs.Catching.{Row, row_found, row_span}
-use Rattle.nfa_search_base.specs.CaughtLists.{AreRows, TellsRow}
-use Rattle.nfa_search_base.specs.Lists.{AreMatches, TellsMatch}
-use Rattle.nfa_search_base.specs.Walks.{Answer, span_of}
+use Rattle.nfa_paths.specs.Paths.{is_utf8_empty, path_pattern, slot_row, IsAnswer, IsFindAnswer}
+use Rattle.nfa_search_base.specs.WithCaptures.{Row, row_found, row_span}
+use Rattle.nfa_search_base.specs.CapturesLists.{AreRows, AnswersRow}
+use Rattle.nfa_search_base.specs.Lists.{AreMatches, AnswersMatch}
+use Rattle.nfa_search_base.specs.IterStates.{Answer, span_of}
 use Rattle.nfa_compiler.specs.AllHits.{all_hits, hit_at, hits_from, row_of_hit}
 use Rattle.nfa_compiler.specs.Compiled.{AreMeant, IsCompiled, IsNfaOf}
 use Rattle.nfa_compiler.specs.Patterns.{Hit, found_at, found_in, hit_by, slots_of}
@@ -36,7 +36,7 @@ module _ (nfa : Automaton) (x : Search) (hit_from : ℕ → Option Hit)
     (lies : (i : ℕ) (h : Hit) → hit_from i ≡ Some h → LiesFrom x.haystack i (length x.haystack + 1) h) where
   -- each search has the match of the hit
   abbrev pub HasMatches : Type 0
-  HasMatches = (i : ℕ) (found : Option Found) → IsMatchAnswer nfa LeftmostFirst false (record x { start = i }) found
+  HasMatches = (i : ℕ) (found : Option Found) → IsFindAnswer nfa LeftmostFirst false (record x { start = i }) found
       → found ≡ found_in (hit_from i)
 
   -- and its pattern and slots
@@ -49,9 +49,9 @@ module _ (nfa : Automaton) (x : Search) (hit_from : ℕ → Option Hit)
   pub matches-of : HasMatches → (ms : List Found) → AreMatches nfa LeftmostFirst false x ms
       → ms ≡ map found_at (hits_from hit_from (length x.haystack + 1) (hit_from x.start))
   matches-of has ms are =
-      all-items span_of found_at x (TellsMatch nfa LeftmostFirst false) hit_from x.haystack meets lies ms are.come
+      all-items span_of found_at x (AnswersMatch nfa LeftmostFirst false) hit_from x.haystack meets lies ms are.come
     where
-      meets : (i : ℕ) (a : Answer Found) → TellsMatch nfa LeftmostFirst false (record x { start = i }) a
+      meets : (i : ℕ) (a : Answer Found) → AnswersMatch nfa LeftmostFirst false (record x { start = i }) a
           → Meets span_of found_at a (hit_from i)
       meets i (Ok found) answer = found-meets found (hit_from i) (has i found answer)
       meets i (Err error) never = absurd never
@@ -59,7 +59,7 @@ module _ (nfa : Automaton) (x : Search) (hit_from : ℕ → Option Hit)
   pub rows-of : HasMatches → HasAnswers → (rows : List Row) → AreRows nfa LeftmostFirst false x rows
       → rows ≡ map (row_of_hit nfa) (hits_from hit_from (length x.haystack + 1) (hit_from x.start))
   rows-of has tells rows are =
-      all-items row_span (row_of_hit nfa) x (TellsRow nfa LeftmostFirst false) hit_from x.haystack meets lies rows
+      all-items row_span (row_of_hit nfa) x (AnswersRow nfa LeftmostFirst false) hit_from x.haystack meets lies rows
       are.come
     where
       row-meets : (row : Row) (o : Option Hit) → Some (row_found row) ≡ found_in o
@@ -71,7 +71,7 @@ module _ (nfa : Automaton) (x : Search) (hit_from : ℕ → Option Hit)
           let same : row_found row ≡ found_at h = (cc) in
           (ap₂ (λ p s. record { pattern = p; slots = s }) pattern slots, ap span_of same)
 
-      meets : (i : ℕ) (a : Answer Row) → TellsRow nfa LeftmostFirst false (record x { start = i }) a
+      meets : (i : ℕ) (a : Answer Row) → AnswersRow nfa LeftmostFirst false (record x { start = i }) a
           → Meets row_span (row_of_hit nfa) a (hit_from i)
       meets i (Err error) never = absurd never
       meets i (Ok None) answer = of (hit_from i) (has i None answer)

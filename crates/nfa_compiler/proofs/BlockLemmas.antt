@@ -140,8 +140,8 @@ module _ (a : Automaton) (x : Search) (nfa : Nfa) (s : Site) (block : IsBlock a.
     pub match : (j : ℕ) → In (match_at s, j) marks → ⊥
 
   -- from this pair the first path is what the pattern's NFA does
-  abbrev Walks : ℕ → ℕ → Type 0
-  Walks q i = q < s.size → i ≤ x.end → (r : Option (List Pair)) × Tells a s (go q i) r
+  abbrev IterStates : ℕ → ℕ → Type 0
+  IterStates q i = q < s.size → i ≤ x.end → (r : Option (List Pair)) × Tells a s (go q i) r
       × ((marks : List Pair) → IsClear marks (suc (left q i))
       → IsFirst (edges a x) (is_match a) marks (s.base + q, i) r)
 
@@ -189,12 +189,12 @@ module _ (a : Automaton) (x : Search) (nfa : Nfa) (s : Site) (block : IsBlock a.
     abbrev v : Pair
     v = (s.base + q, i)
 
-    abbrev Walk : Type 0
-    Walk = (r : Option (List Pair)) × Tells a s (go q i) r
+    abbrev IterState : Type 0
+    IterState = (r : Option (List Pair)) × Tells a s (go q i) r
         × ((marks : List Pair) → IsClear marks (suc (left q i)) → IsFirst (edges a x) (is_match a) marks v r)
 
     -- nothing leads on
-    walk-dead : go q i ≡ None → is_match a v ≡ false → edges a x v ≡ [] → Walk
+    walk-dead : go q i ≡ None → is_match a v ≡ false → edges a x v ≡ [] → IterState
     walk-dead none plain dead = (
       None,
       subst (λ o. Tells a s o None) (sym none) tt,
@@ -206,7 +206,7 @@ module _ (a : Automaton) (x : Search) (nfa : Nfa) (s : Site) (block : IsBlock a.
         → (w : (p : Option (List Pair)) × Tells a s (go r j) p
         × ((marks : List Pair) → IsClear marks (suc (left r j))
         → IsFirst (edges a x) (is_match a) marks (s.base + r, j) p))
-        → Tells a s (go q i) (option_map (λ p. v ∷ p) w.0) → Walk
+        → Tells a s (go q i) (option_map (λ p. v ∷ p) w.0) → IterState
     walk-one r j plain one less w tells = (
       option_map (λ p. v ∷ p) w.0,
       tells,
@@ -225,7 +225,7 @@ module _ (a : Automaton) (x : Search) (nfa : Nfa) (s : Site) (block : IsBlock a.
         → IsFirst (edges a x) (is_match a) marks (s.base + r, i) p))
         → (z : (p : Option (List Pair)) × Tells a s (go u i) p
         × ((marks : List Pair) → IsClear marks (suc (left u i))
-        → IsFirst (edges a x) (is_match a) marks (s.base + u, i) p)) → Walk
+        → IsFirst (edges a x) (is_match a) marks (s.base + u, i) p)) → IterState
     walk-two r u plain none two less small gives w z = (
       option_map (λ p. v ∷ p) (option_or w.0 z.0),
       Tells-cons a s v (go q i) (option_or w.0 z.0) none
@@ -241,7 +241,7 @@ module _ (a : Automaton) (x : Search) (nfa : Nfa) (s : Site) (block : IsBlock a.
 
     -- the walks from what is below this pair
     abbrev Below : Type 0
-    Below = (r j : ℕ) → left r j < left q i → Walks r j
+    Below = (r j : ℕ) → left r j < left q i → IterStates r j
 
     -- what is known of a node for a state that reads a byte
     record Reads (state : their_state.State) (n : Node) : Type 0 where
@@ -256,7 +256,7 @@ module _ (a : Automaton) (x : Search) (nfa : Nfa) (s : Site) (block : IsBlock a.
 
     -- a state that reads a byte
     walk-read : Below → (state : their_state.State) (n : Node) → state_of nfa q ≡ state → node_at a (s.base + q) ≡ n
-        → Reads state n → Walk
+        → Reads state n → IterState
     unfolding byte_below
     walk-read under state n is node reads = by_byte (byte_below x.haystack x.end i) refl
       where
@@ -270,7 +270,7 @@ module _ (a : Automaton) (x : Search) (nfa : Nfa) (s : Site) (block : IsBlock a.
         unwritten = ap slot_of node ∙ reads.writes_nothing
 
         by_target : (b : ℕ) → byte_below x.haystack x.end i ≡ Some b → (o : Option ℕ)
-            → next_on nfa.transitions.items state b ≡ o → Walk
+            → next_on nfa.transitions.items state b ≡ o → IterState
         by_target b byte None next =
             walk-dead
             (gives ∙ ap (λ o. option_and_then (λ r. go r (i + 1))
@@ -298,7 +298,7 @@ module _ (a : Automaton) (x : Search) (nfa : Nfa) (s : Site) (block : IsBlock a.
             less w
             (Tells-cons a s v (go q i) w.0 unwritten (subst (λ o. Tells a s o w.0) (sym same) w.1))
 
-        by_byte : (o : Option ℕ) → byte_below x.haystack x.end i ≡ o → Walk
+        by_byte : (o : Option ℕ) → byte_below x.haystack x.end i ≡ o → IterState
         by_byte None byte =
             walk-dead
             (gives ∙ ap (λ o. option_and_then (λ r. go r (i + 1))
@@ -310,7 +310,7 @@ module _ (a : Automaton) (x : Search) (nfa : Nfa) (s : Site) (block : IsBlock a.
 
     -- the walk from here, by the state at this place
     walk-from : Below → (state : their_state.State) → state_of nfa q ≡ state
-        → Stands nfa.transitions.items s state (node_at a (s.base + q)) → Walk
+        → Stands nfa.transitions.items s state (node_at a (s.base + q)) → IterState
     unfolding edges_of next_on
     walk-from under (their.ByteRange t) is stands =
         walk-read under (their.ByteRange t) (ByteRange (moved s t)) is stands.1 (record {
@@ -379,7 +379,7 @@ module _ (a : Automaton) (x : Search) (nfa : Nfa) (s : Site) (block : IsBlock a.
         gives : go q i ≡ (if holds l x.haystack i then go next i else None)
         gives = run_at nfa x.haystack x.end q i (their.Look l next) is
 
-        by_holds : (b : Bool) → holds l x.haystack i ≡ b → Walk
+        by_holds : (b : Bool) → holds l x.haystack i ≡ b → IterState
         by_holds false fails =
             walk-dead
             (gives ∙ ap (λ b. if b then go next i else None) fails)
@@ -424,7 +424,7 @@ module _ (a : Automaton) (x : Search) (nfa : Nfa) (s : Site) (block : IsBlock a.
         (ap (λ k. edges_of x k i) stands)
 
   -- from each pair of the pattern's states
-  pub walks : (q i : ℕ) → Walks q i
-  walks = measure_induction nfa x.haystack x.end Walks
+  pub walks : (q i : ℕ) → IterStates q i
+  walks = measure_induction nfa x.haystack x.end IterStates
       (λ q i under below within.
       walk-from q i below within under (state_of nfa q) refl (here q below (state_of nfa q) refl))

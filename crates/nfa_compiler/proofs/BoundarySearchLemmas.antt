@@ -12,7 +12,7 @@ use Rattle.regex_search_core.specs.declared.search.Anchored.TheVariants.{No, Yes
 use Rattle.regex_search_core.specs.declared.search.MatchKind.TheVariants.{LeftmostFirst}
 use Rattle.thompson_nfa.specs.Automaton.{Automaton}
 use Rattle.nfa_paths.specs.Graphs.{Pair}
-use Rattle.nfa_paths.specs.Paths.{is_utf8_empty, raised, EndsOnBoundary, IsWhole, SplitsCharacter, IsKeptAnswer, IsRestartedAnswer, IsScanAnswer, IsSearchAnswer, IsAnswer, IsMatchAnswer, IsFoundAnswer}
+use Rattle.nfa_paths.specs.Paths.{is_utf8_empty, raised, EndsOnBoundary, IsWhole, SplitsCharacter, IsKeptAnswer, IsRestartedAnswer, IsScanAnswer, IsSearchAnswer, IsAnswer, IsFindAnswer, IsBoolAnswer}
 use Rattle.nfa_paths.proofs.AnswerLemmas.{ends_on_boundary as ends_where, scan_answer-unique}
 use Rattle.nfa_paths.proofs.PathToLemmas.{EndsWith-last}
 use Rattle.nfa_compiler.specs.BoundaryHits.{ends_on_boundary, expected_on_boundary, on_boundary}
@@ -163,13 +163,13 @@ module _ (res : List Re) (a : Automaton) (made : IsNfaOf res a) (mode : is_utf8_
           answer.slots_are ∙ told-slots res a made x whole (length slots) (searched x) answer.path t,
         )
 
-    pub boundary-match : (found : Option Found) → IsMatchAnswer a LeftmostFirst false x found
+    pub boundary-match : (found : Option Found) → IsFindAnswer a LeftmostFirst false x found
         → found ≡ found_in (searched x)
     boundary-match found answer =
         answer.found_is ∙ told-match res a made x whole (searched x) answer.path
         (told-search answer.restarts answer.path answer.answers)
 
-    pub boundary-found : (found : Bool) → IsFoundAnswer a LeftmostFirst false x found → found ≡ is_some (searched x)
+    pub boundary-found : (found : Bool) → IsBoolAnswer a LeftmostFirst false x found → found ≡ is_some (searched x)
     boundary-found found answer =
         answer.found_is ∙ told-found res a made x whole (searched x) answer.path
         (told-search answer.restarts answer.path answer.answers)

@@ -8,7 +8,7 @@ use Rattle.regex_search_core.specs.Search.{whole}
 use Rattle.regex_search_core.specs.declared.search.MatchKind.TheVariants.{LeftmostFirst}
 use Rattle.regex_syntax.specs.declared.Config.{Config}
 use Rattle.thompson_nfa.specs.Automaton.{Automaton}
-use Rattle.nfa_paths.specs.Paths.{is_utf8_empty, IsMatchAnswer}
+use Rattle.nfa_paths.specs.Paths.{is_utf8_empty, IsFindAnswer}
 use Rattle.nfa_search_base.specs.Lists.{AreMatches}
 use Rattle.nfa_compiler.specs.Compiled.{IsCompiled, IsMeant}
 use Rattle.nfa_compiler.specs.Patterns.{found_at, found_by, found_in, hit_by}
@@ -28,7 +28,7 @@ module _ (syntax : Config) (text : List ℕ) (nfa : Automaton) (haystack : List 
     (compiled : IsCompiled syntax (text ∷ []) nfa) (anywhere : is_utf8_empty nfa ≡ false)
     (free : (nfa.anchored == nfa.unanchored) ≡ false) (bytes : All (λ b. b < 256) haystack) (re : Re)
     (meant : IsMeant syntax text re) where
-  pub call-match : (found : Option Found) → IsMatchAnswer nfa LeftmostFirst false (whole haystack) found
+  pub call-match : (found : Option Found) → IsFindAnswer nfa LeftmostFirst false (whole haystack) found
       → found ≡ option_map found_by (find re haystack 0)
   call-match found answer =
       text-match syntax (text ∷ []) (re ∷ []) nfa (whole haystack) compiled (meant, tt) anywhere refl bytes found answer

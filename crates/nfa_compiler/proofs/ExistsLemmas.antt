@@ -23,15 +23,15 @@ use Rattle.nfa_paths.proofs.PatternLemmas.{some-pattern}
 use Rattle.nfa_paths.proofs.AnswerLemmas.{scan_answer-leads}
 use Rattle.nfa_paths.proofs.ExistenceLemmas.{scan_answer-none}
 use Rattle.nfa_paths.proofs.StartLemmas.{IsMatch-edges}
-use Rattle.nfa_bounds.proofs.LawLemmas.{linked-open}
-use Rattle.nfa_bounds.proofs.WayLemmas.{In-map}
+use Rattle.nfa_match_spans.proofs.LawLemmas.{linked-open}
+use Rattle.nfa_match_spans.proofs.StatePathLemmas.{In-map}
 use Rattle.nfa_compiler.specs.Compiled.{IsNfaOf}
 use Rattle.nfa_compiler.specs.KindLaws.{IsTried, MatchesSomewhere, PatternMatches}
 use Rattle.nfa_compiler.specs.Patterns.{hit_of}
 use Rattle.nfa_compiler.proofs.SearchLemmas.{is_bound, told-found}
 use Rattle.nfa_compiler.proofs.BlockLemmas.{ends-cons}
 use Rattle.nfa_compiler.proofs.StartPairLemmas.{starts-sound, starts-complete, within-end}
-use Rattle.nfa_compiler.proofs.StartLemmas.{IsBehind, TellsHit, pattern-first}
+use Rattle.nfa_compiler.proofs.StartLemmas.{EndsBy, TellsHit, pattern-first}
 use Rattle.nfa_compiler.proofs.WayLemmas.{from-pattern, start-among}
 
 module _ (haystack : List ℕ) where
@@ -86,7 +86,7 @@ module _ (res : List Re) (a : Automaton) (made : IsNfaOf res a) (x : Search) (wh
   first-of : (k : ℕ) → k < length res → (i : ℕ) → i ≤ x.end
       → (r : Option (List Pair))
       × TellsHit a (hit_of k i (attempt x.haystack (slice_index_or res k empty) accept i)) r
-      × ((marks : List Pair) → IsBehind a x whole (start_of k) marks
+      × ((marks : List Pair) → EndsBy a x whole (start_of k) marks
       → IsFirst (edges a x) (is_match a) marks (start_of k, i) r)
   first-of k known i within = pattern-first a x whole k (start_of k) (slice_index_or res k empty) (made.each k known)
       (omega (arith, made.groups)) i within
@@ -127,7 +127,7 @@ module _ (res : List Re) (a : Automaton) (made : IsNfaOf res a) (x : Search) (wh
 
   -- If pattern k matches, a path leads from its start to a Match, and holds none of the pairs that are marked.
   match-leads : (k i : ℕ) → i ≤ x.end → MatchesFrom k i → (marks : List Pair)
-      → IsBehind a x whole (start_of k) marks
+      → EndsBy a x whole (start_of k) marks
       → (p : LeadsTo (start_of k, i) k) × ((w : Pair) → In w p.along → In w marks → ⊥)
   match-leads k i within m marks behind =
       let first = first-of k m.0 i within in

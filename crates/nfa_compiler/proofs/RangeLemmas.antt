@@ -20,7 +20,7 @@ use Rattle.thompson_nfa.specs.declared.state.Transition.{Transition}
 use Rattle.thompson_nfa.specs.Flaws.{IsFirstFlaw}
 use Rattle.thompson_nfa.specs.declared.flaw.Flaw.{Flaw}
 use Rattle.thompson_nfa.specs.declared.flaw.Flaw.TheVariants as flaw
-use Rattle.thompson_nfa.specs.declared.flaw.Holder.TheVariants as holder
+use Rattle.thompson_nfa.specs.declared.flaw.Referrer.TheVariants as holder
 use Rattle.nfa_compiler.specs.declared.block.Site.{Site}
 use Rattle.nfa_compiler.specs.Blocks.{Stands, IsBlock, match_at, moved, slot_in}
 use Rattle.nfa_compiler.specs.Added.{Adds, IsInRange, AreInRange, KeepsInRange}

@@ -19,14 +19,14 @@ use Rattle.regex_hir.specs.Find.{last_write}
 use Rattle.thompson_nfa.specs.Automaton.{Automaton, Union, Fail}
 use Rattle.nfa_paths.specs.Graphs.{Pair, IsFirstPath}
 use Rattle.nfa_paths.specs.FirstPaths.{IsFirst, FirstAmong, IsLeast}
-use Rattle.nfa_paths.specs.Paths.{pattern_of, slot_of, node_at, is_match, IsMatch, edges_of, edges, pairs_from, start_state, starts, slot_among, slot_row, path_pattern, is_utf8_empty, IsScanAnswer, IsSearchAnswer, IsAnswer, IsMatchAnswer, IsFoundAnswer}
+use Rattle.nfa_paths.specs.Paths.{pattern_of, slot_of, node_at, is_match, IsMatch, edges_of, edges, pairs_from, start_state, starts, slot_among, slot_row, path_pattern, is_utf8_empty, IsScanAnswer, IsSearchAnswer, IsAnswer, IsFindAnswer, IsBoolAnswer}
 use Rattle.nfa_paths.proofs.PathLemmas.{IsFirst-step, IsFirstOfAll-from_among, IsLeast-from_first}
 use Rattle.nfa_paths.proofs.PathToLemmas.{EndsWith-last, IsLeast-none, IsLeast-first, IsFirstPath-unique}
 use Rattle.nfa_paths.proofs.StartLemmas.{IsMatch-edges, starts-increase}
 use Rattle.nfa_compiler.specs.Compiled.{IsPattern, IsNfaOf}
 use Rattle.nfa_compiler.specs.Patterns.{Hit, pick, pick_one, first_hit, hit_at_start, expected, writes_of, slots_of, found_in}
 use Rattle.nfa_compiler.proofs.BlockLemmas.{among-one, among-cons}
-use Rattle.nfa_compiler.proofs.StartLemmas.{TellsHit, TellsHit-or, TellsHit-cons, IsBehind, pattern-first, patterns-among}
+use Rattle.nfa_compiler.proofs.StartLemmas.{TellsHit, TellsHit-or, TellsHit-cons, EndsBy, pattern-first, patterns-among}
 
 -- the first of a list of one is that of its pair
 from-one : (edges : Pair → List Pair) (target : Pair → Bool) (marks : List Pair) (w : Pair) (r : Option (List Pair))
@@ -53,7 +53,7 @@ module _ (res : List Re) (a : Automaton) (made : IsNfaOf res a) where
             (made.each j less)
 
         among : (marks : List Pair)
-            → ((j : ℕ) → j < length a.patterns → IsBehind a x whole (slice_index a.patterns j) marks)
+            → ((j : ℕ) → j < length a.patterns → EndsBy a x whole (slice_index a.patterns j) marks)
             → (r : Option (List Pair)) × TellsHit a (pick x.haystack res 0 i) r
             × FirstAmong (edges a x) (is_match a) marks (map (λ state. (state, i)) a.patterns) r
         among marks behind = patterns-among a x whole i within res a.patterns 0 made.patterns
@@ -258,13 +258,13 @@ module _ (res : List Re) (a : Automaton) (made : IsNfaOf res a) where
             answer.slots_are ∙ told-slots (length slots) (expected res is_bound x) answer.path t,
           )
 
-      pub match-is : (found : Option Found) → IsMatchAnswer a LeftmostFirst false x found
+      pub match-is : (found : Option Found) → IsFindAnswer a LeftmostFirst false x found
           → found ≡ found_in (expected res is_bound x)
       match-is found answer =
           answer.found_is ∙ told-match (expected res is_bound x) answer.path
           (told answer.restarts answer.path answer.answers)
 
-      pub found-is : (found : Bool) → IsFoundAnswer a LeftmostFirst false x found
+      pub found-is : (found : Bool) → IsBoolAnswer a LeftmostFirst false x found
           → found ≡ is_some (expected res is_bound x)
       found-is found answer =
           answer.found_is ∙ told-found (expected res is_bound x) answer.path

@@ -114,8 +114,8 @@ module _ (a : Automaton) where
 
 module _ (a : Automaton) (x : Search) (whole : x.end ≡ length x.haystack) where
   -- every pair of the list has a state after this one
-  abbrev pub IsBehind : ℕ → List Pair → Type 0
-  IsBehind state marks = (v : Pair) → In v marks → state < v.0
+  abbrev pub EndsBy : ℕ → List Pair → Type 0
+  EndsBy state marks = (v : Pair) → In v marks → state < v.0
 
   -- one pattern
   module _ (k start : ℕ) (re : Re) (made : IsPattern a.states a.groups k start re) (known : k < length a.groups)
@@ -194,7 +194,7 @@ module _ (a : Automaton) (x : Search) (whole : x.end ≡ length x.haystack) wher
 
     -- from the start the first path is the hit of the pattern
     pub pattern-first : (r : Option (List Pair)) × TellsHit a (hit_of k i (attempt x.haystack re accept i)) r
-        × ((marks : List Pair) → IsBehind start marks → IsFirst (edges a x) (is_match a) marks (start, i) r)
+        × ((marks : List Pair) → EndsBy start marks → IsFirst (edges a x) (is_match a) marks (start, i) r)
     unfolding edges_of
     pattern-first =
         let w = walks a x made.nfa s made.block (omega arith) made.nfa.start i made.block.start_in within in
@@ -214,10 +214,10 @@ module _ (a : Automaton) (x : Search) (whole : x.end ≡ length x.haystack) wher
               (w.2 (v ∷ marks) (clear marks behind))))),
         )
       where
-        free : (marks : List Pair) → IsBehind start marks → In v marks → ⊥
+        free : (marks : List Pair) → EndsBy start marks → In v marks → ⊥
         free marks behind member = let less : start < match_at s + 1 = behind v member in omega (arith, made.start_is)
 
-        clear : (marks : List Pair) → IsBehind start marks → {n : ℕ}
+        clear : (marks : List Pair) → EndsBy start marks → {n : ℕ}
             → IsClear a x made.nfa s made.block (omega arith) (v ∷ marks) n
         clear marks behind {n} = record {
           states = λ r j below small member.
@@ -241,7 +241,7 @@ module _ (a : Automaton) (x : Search) (whole : x.end ≡ length x.haystack) wher
       → k + length res ≤ length a.groups
       → ((j : ℕ) → j < length res
       → IsPattern a.states a.groups (k + j) (slice_index starts j) (slice_index_or res j empty))
-      → (marks : List Pair) → ((j : ℕ) → j < length starts → IsBehind (slice_index starts j) marks)
+      → (marks : List Pair) → ((j : ℕ) → j < length starts → EndsBy (slice_index starts j) marks)
       → (r : Option (List Pair)) × TellsHit a (pick x.haystack res k i) r
       × FirstAmong (edges a x) (is_match a) marks (map (λ state. (state, i)) starts) r
   patterns-among i within [] [] k count room made marks behind = (None, tt, refl)

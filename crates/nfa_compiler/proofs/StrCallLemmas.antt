@@ -10,7 +10,7 @@ use Rattle.regex_search_core.specs.Slots.{Captured, group_span, named_span}
 use Rattle.regex_search_core.specs.declared.search.MatchKind.TheVariants.{LeftmostFirst}
 use Rattle.regex_syntax.specs.declared.Config.{Config}
 use Rattle.thompson_nfa.specs.Automaton.{Automaton}
-use Rattle.nfa_paths.specs.Paths.{IsAnswer, IsMatchAnswer}
+use Rattle.nfa_paths.specs.Paths.{IsAnswer, IsFindAnswer}
 use Rattle.nfa_search_base.specs.Lists.{AreMatches}
 use Rattle.nfa_compiler.specs.Compiled.{IsCompiled, IsMeant}
 use Rattle.nfa_compiler.specs.Patterns.{Hit, found_at, found_by, found_in, hit_by, slots_of}
@@ -24,7 +24,7 @@ module _ (syntax : Config) (text : List ℕ) (nfa : Automaton) (haystack : List 
     (compiled : IsCompiled syntax (text ∷ []) nfa) (mode : nfa.utf8 ≡ true)
     (free : (nfa.anchored == nfa.unanchored) ≡ false) (valid : IsUtf8 haystack) (re : Re)
     (meant : IsMeant syntax text re) where
-  pub call-match-in-str : (found : Option Found) → IsMatchAnswer nfa LeftmostFirst false (whole haystack) found
+  pub call-match-in-str : (found : Option Found) → IsFindAnswer nfa LeftmostFirst false (whole haystack) found
       → found ≡ option_map found_by (find_str re haystack 0)
   call-match-in-str found answer =
       str-match syntax (text ∷ []) (re ∷ []) nfa compiled (meant, tt) mode (whole haystack) refl valid

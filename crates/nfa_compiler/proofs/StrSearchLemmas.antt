@@ -21,9 +21,9 @@ use Rattle.regex_syntax.specs.Captures.{SameCaptures}
 use Rattle.regex_syntax.specs.declared.Config.{Config}
 use Rattle.regex_syntax.specs.declared.Parsed.{Parsed}
 use Rattle.thompson_nfa.specs.Automaton.{Automaton}
-use Rattle.nfa_paths.specs.Paths.{is_utf8_empty, IsAnswer, IsMatchAnswer}
-use Rattle.nfa_search_base.specs.Catching.{Row}
-use Rattle.nfa_search_base.specs.CaughtLists.{AreRows}
+use Rattle.nfa_paths.specs.Paths.{is_utf8_empty, IsAnswer, IsFindAnswer}
+use Rattle.nfa_search_base.specs.WithCaptures.{Row}
+use Rattle.nfa_search_base.specs.CapturesLists.{AreRows}
 use Rattle.nfa_search_base.specs.Lists.{AreMatches}
 use Rattle.nfa_compiler.specs.AllHits.{hits_from, row_of_hit}
 use Rattle.nfa_compiler.specs.BoundaryHits.{boundary_hit}
@@ -115,7 +115,7 @@ module _ (syntax : Config) (texts : List (List ℕ)) (res : List Re) (nfa : Auto
     own-alike = str-alike x (text-bytes x.haystack text) own res bound
         (all-meant syntax texts compiled.trees res compiled.read meant)
 
-    pub str-match : (found : Option Found) → IsMatchAnswer nfa LeftmostFirst false x found
+    pub str-match : (found : Option Found) → IsFindAnswer nfa LeftmostFirst false x found
         → found ≡ found_in (str_hit res nfa x)
     str-match found answer =
         of (is_utf8_empty nfa) refl ∙ found-alike (str_hit own nfa x) (str_hit res nfa x) own-alike

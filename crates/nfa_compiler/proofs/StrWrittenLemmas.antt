@@ -21,7 +21,7 @@ use Rattle.regex_syntax.specs.declared.Config.{Config}
 use Rattle.regex_syntax.specs.declared.Parsed.{Parsed}
 use Rattle.regex_syntax.proofs.CapturesLemmas.{alike_sym}
 use Rattle.thompson_nfa.specs.Automaton.{Automaton}
-use Rattle.nfa_paths.specs.Paths.{is_utf8_empty, IsFoundAnswer}
+use Rattle.nfa_paths.specs.Paths.{is_utf8_empty, IsBoolAnswer}
 use Rattle.nfa_compiler.specs.Compiled.{IsCompiled, IsRead, res_of}
 use Rattle.nfa_compiler.specs.Patterns.{hit_by}
 use Rattle.nfa_compiler.specs.StrHits.{MatchesCharacters, str_hit}
@@ -90,7 +90,7 @@ module _ (syntax : Config) (text : List ℕ) (nfa : Automaton) (haystack : List 
       of : (b : Bool) → b ≡ false → b ≡ true → ⊥
       of b off on = cc
 
-  str-found : (found : Bool) → IsFoundAnswer nfa LeftmostFirst false (whole haystack) found
+  str-found : (found : Bool) → IsBoolAnswer nfa LeftmostFirst false (whole haystack) found
       → found ≡ is_some (str_hit trees-mean nfa (whole haystack))
   str-found found answer = of (is_utf8_empty nfa) refl
     where
@@ -132,6 +132,6 @@ module _ (syntax : Config) (text : List ℕ) (nfa : Automaton) (haystack : List 
           matches = match-alike haystack (text-bytes haystack valid) a b like m.start m.end m.matches;
         }
 
-    pub found-as-read-in-str : IsFoundAnswer nfa LeftmostFirst false (whole haystack) found
+    pub found-as-read-in-str : IsBoolAnswer nfa LeftmostFirst false (whole haystack) found
         → (found ≡ true) ↔ MatchesInStr haystack re
     found-as-read-in-str answer = of-tree compiled.trees compiled.read (str-found found answer)

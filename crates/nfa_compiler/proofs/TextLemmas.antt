@@ -11,7 +11,7 @@ use Rattle.regex_hir.specs.Re.{Re, accept, attempt}
 use Rattle.regex_hir.specs.Find.{first_from, find}
 use Rattle.regex_syntax.specs.declared.Config.{Config}
 use Rattle.thompson_nfa.specs.Automaton.{Automaton}
-use Rattle.nfa_paths.specs.Paths.{is_utf8_empty, IsAnswer, IsMatchAnswer}
+use Rattle.nfa_paths.specs.Paths.{is_utf8_empty, IsAnswer, IsFindAnswer}
 use Rattle.nfa_compiler.specs.Compiled.{AreMeant, IsCompiled, res_of}
 use Rattle.nfa_compiler.specs.Laws.{hit}
 use Rattle.nfa_compiler.specs.Patterns.{Hit, expected, first_hit, found_in, hit_by, hit_of, pick, slots_of}
@@ -35,7 +35,7 @@ module _ (syntax : Config) (texts : List (List ℕ)) (res : List Re) (nfa : Auto
             (expected-known (res_of compiled.trees) nfa compiled.made x whole) alike,
       )
 
-  pub text-match : (found : Option Found) → IsMatchAnswer nfa LeftmostFirst false x found
+  pub text-match : (found : Option Found) → IsFindAnswer nfa LeftmostFirst false x found
       → found ≡ found_in (hit res nfa x)
   text-match found answer =
       match-is (res_of compiled.trees) nfa compiled.made x whole anywhere found answer

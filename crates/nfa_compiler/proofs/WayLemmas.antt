@@ -18,7 +18,7 @@ use Rattle.thompson_nfa.specs.Automaton.Node.{ByteRange, Sparse, Look, Union, Bi
 use Rattle.nfa_paths.specs.Graphs.{Pair, In, Linked, EndsWith}
 use Rattle.nfa_paths.specs.Paths.{pattern_of, slot_of, node_at, start_state, slot_among, IsMatch}
 use Rattle.nfa_paths.proofs.PathToLemmas.{EndsWith-last}
-use Rattle.nfa_bounds.specs.Ways.{targets, reads, position_after, open_edges, RecordsBounds}
+use Rattle.nfa_match_spans.specs.StatePaths.{targets, reads, position_after, open_edges, RecordsMatchSpans}
 use Rattle.nfa_compiler.specs.declared.block.Site.{Site}
 use Rattle.nfa_compiler.specs.Blocks.{look_of, match_at, slot_in, moved, Stands, IsBlock}
 use Rattle.nfa_compiler.specs.Compiled.{IsNfaOf, first_slot}
@@ -323,7 +323,7 @@ module _ (res : List Re) (a : Automaton) (made : IsNfaOf res a) where
   )
 
   -- each way writes its bounds
-  pub ways-recorded : RecordsBounds a
+  pub ways-recorded : RecordsMatchSpans a
   ways-recorded end [] way matches = absurd way.head
   ways-recorded end (v ∷ rest) way matches =
       let anchored = way.starts.0 in

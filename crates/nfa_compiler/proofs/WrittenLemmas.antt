@@ -21,7 +21,7 @@ use Rattle.regex_syntax.specs.declared.Config.{Config}
 use Rattle.regex_syntax.specs.declared.Parsed.{Parsed}
 use Rattle.regex_syntax.proofs.CapturesLemmas.{◌also◌, alike_of_same, alike_sym}
 use Rattle.thompson_nfa.specs.Automaton.{Automaton}
-use Rattle.nfa_paths.specs.Paths.{is_utf8_empty, IsFoundAnswer, IsScanAnswer}
+use Rattle.nfa_paths.specs.Paths.{is_utf8_empty, IsBoolAnswer, IsScanAnswer}
 use Rattle.nfa_compiler.specs.Compiled.{IsCompiled, IsRead, res_of}
 use Rattle.nfa_compiler.specs.KindLaws.{MatchesSomewhere}
 use Rattle.nfa_compiler.specs.Written.{IsReadAs, MatchesIn}
@@ -108,7 +108,7 @@ module _ (syntax : Config) (text : List ℕ) (nfa : Automaton) (haystack : List 
       same = read-as syntax text tree re read.0 is
 
   -- a search of the whole haystack finds something exactly if the pattern matches
-  pub found-as-read : (found : Bool) → IsFoundAnswer nfa LeftmostFirst false (whole haystack) found
+  pub found-as-read : (found : Bool) → IsBoolAnswer nfa LeftmostFirst false (whole haystack) found
       → (found ≡ true) ↔ MatchesIn haystack re
   found-as-read found answer =
       let own : (answer.restarts ≡ 0) × IsScanAnswer nfa (whole haystack) LeftmostFirst false answer.path =

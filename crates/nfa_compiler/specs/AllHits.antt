@@ -5,7 +5,7 @@ use Rattle.regex_hir.specs.Re.{Re}
 use Rattle.regex_search_core.specs.Groups.{slot_count}
 use Rattle.regex_search_core.specs.Search.{Search}
 use Rattle.thompson_nfa.specs.Automaton.{Automaton}
-use Rattle.nfa_search_base.specs.Catching.{Row}
+use Rattle.nfa_search_base.specs.WithCaptures.{Row}
 use Rattle.nfa_compiler.specs.Patterns.{Hit, slots_of}
 use Rattle.nfa_compiler.specs.Laws.{hit}
 

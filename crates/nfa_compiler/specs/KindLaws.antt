@@ -8,7 +8,7 @@ use Rattle.regex_search_core.specs.declared.search.Anchored.{Anchored}
 use Rattle.regex_search_core.specs.declared.search.Anchored.TheVariants.{No, Yes, Pattern}
 use Rattle.regex_search_core.specs.declared.search.MatchKind.{MatchKind}
 use Rattle.thompson_nfa.specs.Automaton.{Automaton}
-use Rattle.nfa_paths.specs.Paths.{is_utf8_empty, IsAnswer, IsFoundAnswer}
+use Rattle.nfa_paths.specs.Paths.{is_utf8_empty, IsAnswer, IsBoolAnswer}
 use Rattle.nfa_compiler.specs.Compiled.{IsNfaOf}
 
 -- a search in this mode tries the pattern of this number
@@ -38,7 +38,7 @@ pub record MatchesSomewhere (res : List Re) (bound : Bool) (x : Search) : Type 0
 abbrev pub FindsIfMatches : Type 0
 FindsIfMatches =
     (res : List Re) (nfa : Automaton) (kind : MatchKind) (earliest : Bool) (x : Search) (found : Bool)
-    → IsNfaOf res nfa → is_utf8_empty nfa ≡ false → x.end ≡ length x.haystack → IsFoundAnswer nfa kind earliest x found
+    → IsNfaOf res nfa → is_utf8_empty nfa ≡ false → x.end ≡ length x.haystack → IsBoolAnswer nfa kind earliest x found
     → (found ≡ true) ↔ MatchesSomewhere res (nfa.anchored == nfa.unanchored) x
 
 -- and a search for slots answers a pattern exactly then
@@ -56,7 +56,7 @@ AnswersIfMatches =
 abbrev pub FindsOnlyMatches : Type 0
 FindsOnlyMatches =
     (res : List Re) (nfa : Automaton) (kind : MatchKind) (earliest : Bool) (x : Search) (found : Bool)
-    → IsNfaOf res nfa → x.end ≡ length x.haystack → IsFoundAnswer nfa kind earliest x found
+    → IsNfaOf res nfa → x.end ≡ length x.haystack → IsBoolAnswer nfa kind earliest x found
     → found ≡ true → MatchesSomewhere res false x
 
 abbrev pub AnswersOnlyMatches : Type 0
@@ -70,7 +70,7 @@ abbrev pub FindsIfAsciiMatches : Type 0
 FindsIfAsciiMatches =
     (res : List Re) (nfa : Automaton) (kind : MatchKind) (earliest : Bool) (x : Search) (found : Bool)
     → IsNfaOf res nfa → x.end ≡ length x.haystack → All (λ b. b < 128) x.haystack
-    → IsFoundAnswer nfa kind earliest x found
+    → IsBoolAnswer nfa kind earliest x found
     → (found ≡ true) ↔ MatchesSomewhere res (nfa.anchored == nfa.unanchored) x
 
 abbrev pub AnswersIfAsciiMatches : Type 0

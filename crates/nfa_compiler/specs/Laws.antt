@@ -9,7 +9,7 @@ use Rattle.regex_search_core.specs.declared.search.MatchKind.{MatchKind}
 use Rattle.regex_search_core.specs.declared.search.MatchKind.TheVariants.{LeftmostFirst}
 use Rattle.thompson_nfa.specs.Automaton.{Automaton}
 use Rattle.thompson_nfa.specs.Looks.{look_holds}
-use Rattle.nfa_paths.specs.Paths.{is_utf8_empty, IsAnswer, IsMatchAnswer, IsFoundAnswer}
+use Rattle.nfa_paths.specs.Paths.{is_utf8_empty, IsAnswer, IsFindAnswer, IsBoolAnswer}
 use Rattle.nfa_compiler.specs.Blocks.{look_of}
 use Rattle.nfa_compiler.specs.Compiled.{AreMeant, IsCompiled, IsNfaOf}
 use Rattle.regex_hir.specs.Find.{find}
@@ -45,14 +45,14 @@ abbrev pub MatchesAreHits : Type 0
 MatchesAreHits =
     (res : List Re) (nfa : Automaton) (kind : MatchKind) (earliest : Bool) (x : Search) (found : Option Found)
     → IsNfaOf res nfa → is_utf8_empty nfa ≡ false → IsLeftmostToTheEnd kind earliest x
-    → IsMatchAnswer nfa kind earliest x found → found ≡ found_in (hit res nfa x)
+    → IsFindAnswer nfa kind earliest x found → found ≡ found_in (hit res nfa x)
 
 -- it finds something exactly if there is a hit
 abbrev pub FindsHits : Type 0
 FindsHits =
     (res : List Re) (nfa : Automaton) (kind : MatchKind) (earliest : Bool) (x : Search) (found : Bool)
     → IsNfaOf res nfa → is_utf8_empty nfa ≡ false → IsLeftmostToTheEnd kind earliest x
-    → IsFoundAnswer nfa kind earliest x found → found ≡ is_some (hit res nfa x)
+    → IsBoolAnswer nfa kind earliest x found → found ≡ is_some (hit res nfa x)
 
 -- The same for texts: what is found is what the grammar reads in them. The haystack consists of bytes.
 abbrev pub TextsAreAnswered : Type 0
@@ -70,7 +70,7 @@ TextsAreMatched =
     (syntax : Config) (texts : List (List ℕ)) (res : List Re) (nfa : Automaton) (kind : MatchKind) (earliest : Bool)
     (x : Search) (found : Option Found) → IsCompiled syntax texts nfa → AreMeant syntax texts res
     → is_utf8_empty nfa ≡ false → IsLeftmostToTheEnd kind earliest x → All (λ b. b < 256) x.haystack
-    → IsMatchAnswer nfa kind earliest x found → found ≡ found_in (hit res nfa x)
+    → IsFindAnswer nfa kind earliest x found → found ≡ found_in (hit res nfa x)
 
 -- The hit of one pattern in a search that is not bound to its start is what `find` of `regex_hir` gives.
 abbrev pub OneHitIsFind : Type 0

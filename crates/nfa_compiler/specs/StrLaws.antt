@@ -9,9 +9,9 @@ use Rattle.regex_search_core.specs.declared.search.Anchored.TheVariants.{No}
 use Rattle.regex_search_core.specs.declared.search.MatchKind.{MatchKind}
 use Rattle.regex_syntax.specs.declared.Config.{Config}
 use Rattle.thompson_nfa.specs.Automaton.{Automaton}
-use Rattle.nfa_paths.specs.Paths.{IsAnswer, IsMatchAnswer}
-use Rattle.nfa_search_base.specs.Catching.{Row}
-use Rattle.nfa_search_base.specs.CaughtLists.{AreRows}
+use Rattle.nfa_paths.specs.Paths.{IsAnswer, IsFindAnswer}
+use Rattle.nfa_search_base.specs.WithCaptures.{Row}
+use Rattle.nfa_search_base.specs.CapturesLists.{AreRows}
 use Rattle.nfa_search_base.specs.Lists.{AreMatches}
 use Rattle.nfa_compiler.specs.AllHits.{row_of_hit}
 use Rattle.nfa_compiler.specs.Compiled.{AreMeant, IsCompiled}
@@ -35,7 +35,7 @@ StrsAreMatched =
     (syntax : Config) (texts : List (List ℕ)) (res : List Re) (nfa : Automaton) (kind : MatchKind) (earliest : Bool)
     (x : Search) (found : Option Found) → IsCompiled syntax texts nfa → AreMeant syntax texts res → nfa.utf8 ≡ true
     → IsLeftmostToTheEnd kind earliest x → IsUtf8 x.haystack → StartsOnBoundary nfa x
-    → IsMatchAnswer nfa kind earliest x found → found ≡ found_in (str_hit res nfa x)
+    → IsFindAnswer nfa kind earliest x found → found ≡ found_in (str_hit res nfa x)
 
 -- The hit of one pattern in a search that is not bound to its start is what `find_str` of `regex_hir` gives.
 abbrev pub OneHitIsFindStr : Type 0

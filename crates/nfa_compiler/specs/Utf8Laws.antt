@@ -8,9 +8,9 @@ use Rattle.regex_search_core.specs.declared.search.MatchKind.{MatchKind}
 use Rattle.regex_syntax.specs.WellFormed.{IsWellFormed}
 use Rattle.regex_syntax.specs.declared.Parsed.{Parsed}
 use Rattle.thompson_nfa.specs.Automaton.{Automaton}
-use Rattle.nfa_paths.specs.Paths.{is_utf8_empty, IsAnswer, IsMatchAnswer, IsFoundAnswer}
-use Rattle.nfa_search_base.specs.Catching.{Row}
-use Rattle.nfa_search_base.specs.CaughtLists.{AreRows}
+use Rattle.nfa_paths.specs.Paths.{is_utf8_empty, IsAnswer, IsFindAnswer, IsBoolAnswer}
+use Rattle.nfa_search_base.specs.WithCaptures.{Row}
+use Rattle.nfa_search_base.specs.CapturesLists.{AreRows}
 use Rattle.nfa_search_base.specs.Lists.{AreMatches}
 use Rattle.nfa_compiler.specs.AllHits.{row_of_hit}
 use Rattle.nfa_compiler.specs.BoundaryHits.{all_boundary_hits, boundary_hit}
@@ -34,14 +34,14 @@ abbrev pub MatchesAreBoundaryHits : Type 0
 MatchesAreBoundaryHits =
     (res : List Re) (nfa : Automaton) (kind : MatchKind) (earliest : Bool) (x : Search) (found : Option Found)
     → IsNfaOf res nfa → is_utf8_empty nfa ≡ true → IsLeftmostToTheEnd kind earliest x
-    → IsMatchAnswer nfa kind earliest x found → found ≡ found_in (boundary_hit res nfa x)
+    → IsFindAnswer nfa kind earliest x found → found ≡ found_in (boundary_hit res nfa x)
 
 -- it finds something exactly if there is a hit
 abbrev pub FindsBoundaryHits : Type 0
 FindsBoundaryHits =
     (res : List Re) (nfa : Automaton) (kind : MatchKind) (earliest : Bool) (x : Search) (found : Bool)
     → IsNfaOf res nfa → is_utf8_empty nfa ≡ true → IsLeftmostToTheEnd kind earliest x
-    → IsFoundAnswer nfa kind earliest x found → found ≡ is_some (boundary_hit res nfa x)
+    → IsBoolAnswer nfa kind earliest x found → found ≡ is_some (boundary_hit res nfa x)
 
 -- the matches of an iteration are those of all hits
 abbrev pub MatchesAreAllBoundaryHits : Type 0

@@ -14,7 +14,7 @@ ghost use Rattle.regex_search_core.specs.Groups.{group_named, slot_count};
 ghost use Rattle.regex_search_core.specs.Search.{whole};
 ghost use Rattle.regex_search_core.specs.Slots.{named_span};
 ghost use Rattle.regex_search_core.specs.declared.search.MatchKind.TheVariants.{LeftmostFirst};
-ghost use Rattle.nfa_paths.specs.Paths.{is_utf8_empty, IsAnswer, IsFoundAnswer, IsMatchAnswer};
+ghost use Rattle.nfa_paths.specs.Paths.{is_utf8_empty, IsAnswer, IsBoolAnswer, IsFindAnswer};
 ghost use Rattle.nfa_search_base.specs.Lists.{AreMatches};
 ghost use Rattle.nfa_compiler.specs.Compiled.{IsCompiled, IsMeant};
 ghost use Rattle.nfa_compiler.specs.NameLaws.{IsNamed, written_span};
@@ -38,7 +38,7 @@ pub fn match_of_text(
     requires compiled { IsCompiled (syntax_of compiler.now) (pattern.now ∷ []) nfa.now }
     requires anywhere { is_utf8_empty nfa.now ≡ false }
     requires free { (nfa.now.anchored == nfa.now.unanchored) ≡ false }
-    requires answer { IsMatchAnswer nfa.now LeftmostFirst false (whole haystack.now) (option_map found_of found) }
+    requires answer { IsFindAnswer nfa.now LeftmostFirst false (whole haystack.now) (option_map found_of found) }
     ensures { (re : Re) → IsMeant (syntax_of compiler.now) pattern.now re
         → option_map found_of found ≡ option_map found_by (find re haystack.now 0) }
 {}
@@ -49,7 +49,7 @@ pub fn is_match_of_text(compiler: &Compiler, pattern: &str, nfa: &NFA, haystack:
     requires compiled { IsCompiled (syntax_of compiler.now) (pattern.now ∷ []) nfa.now }
     requires anywhere { is_utf8_empty nfa.now ≡ false }
     requires free { (nfa.now.anchored == nfa.now.unanchored) ≡ false }
-    requires answer { IsFoundAnswer nfa.now LeftmostFirst false (whole haystack.now) found }
+    requires answer { IsBoolAnswer nfa.now LeftmostFirst false (whole haystack.now) found }
     ensures { (re : Re) → IsReadAs (syntax_of compiler.now) pattern.now re
         → (found ≡ true) ↔ MatchesIn haystack.now re }
 {}
@@ -84,7 +84,7 @@ pub fn match_in_str(
     requires utf8 { nfa.now.utf8 ≡ true }
     requires text { IsUtf8 haystack.now }
     requires free { (nfa.now.anchored == nfa.now.unanchored) ≡ false }
-    requires answer { IsMatchAnswer nfa.now LeftmostFirst false (whole haystack.now) (option_map found_of found) }
+    requires answer { IsFindAnswer nfa.now LeftmostFirst false (whole haystack.now) (option_map found_of found) }
     ensures { (re : Re) → IsMeant (syntax_of compiler.now) pattern.now re
         → option_map found_of found ≡ option_map found_by (find_str re haystack.now 0) }
 {}
@@ -96,7 +96,7 @@ pub fn is_match_in_str(compiler: &Compiler, pattern: &str, nfa: &NFA, haystack: 
     requires utf8 { nfa.now.utf8 ≡ true }
     requires text { IsUtf8 haystack.now }
     requires free { (nfa.now.anchored == nfa.now.unanchored) ≡ false }
-    requires answer { IsFoundAnswer nfa.now LeftmostFirst false (whole haystack.now) found }
+    requires answer { IsBoolAnswer nfa.now LeftmostFirst false (whole haystack.now) found }
     ensures { (re : Re) → IsReadAs (syntax_of compiler.now) pattern.now re
         → (found ≡ true) ↔ MatchesInStr haystack.now re }
 {}

@@ -7,13 +7,15 @@ ghost use Rattle.nfa_compiler.specs.BoundaryHits.{boundary_hit};
 ghost use Rattle.nfa_compiler.specs.Laws.{AnswersAreHits, FindsHits, LooksAgree, MatchesAreHits, OneHitIsFind, hit};
 ghost use Rattle.nfa_compiler.specs.Laws.{TextsAreAnswered, TextsAreMatched};
 ghost use Rattle.nfa_compiler.specs.NameLaws.{GroupsAreCounted, GroupsAreNamed, GroupsAreWritten, NamesAreWritten};
-ghost use Rattle.nfa_compiler.specs.SetLaws.{SetsHoldAsciiMatches, SetsHoldMatches, SetsHoldMatchesOfStrs, SetsHoldOnlyMatches};
+ghost use Rattle.nfa_compiler.specs.SetLaws.{SetsHoldAsciiMatches, SetsHoldMatches, SetsHoldMatchesOfStrs};
+ghost use Rattle.nfa_compiler.specs.SetLaws.{SetsHoldOnlyMatches};
 ghost use Rattle.nfa_compiler.specs.WayLaws.{PatternsRecordBounds, TextsRecordBounds};
 ghost use Rattle.nfa_compiler.specs.StrHits.{str_hit};
 ghost use Rattle.nfa_compiler.specs.StrLaws.{AllHitsAreFindAllStr, MatchesAreAllOfStrs, OneHitIsFindStr};
 ghost use Rattle.nfa_compiler.specs.StrLaws.{RowsAreAllOfStrs, StrsAreAnswered, StrsAreMatched};
 ghost use Rattle.nfa_compiler.specs.Utf8Laws.{AnswersAreBoundaryHits, FindsBoundaryHits, MatchesAreBoundaryHits};
-ghost use Rattle.nfa_compiler.specs.Utf8Laws.{BoundaryHitsAreStrHits, MatchesAreAllBoundaryHits, RowsAreAllBoundaryHits};
+ghost use Rattle.nfa_compiler.specs.Utf8Laws.{BoundaryHitsAreStrHits, MatchesAreAllBoundaryHits};
+ghost use Rattle.nfa_compiler.specs.Utf8Laws.{RowsAreAllBoundaryHits};
 ghost use Rattle.nfa_compiler.specs.Utf8Laws.{TreesMatchCharacters};
 
 /// An assertion of an NFA holds exactly if that of the pattern does.
@@ -21,8 +23,9 @@ pub fn assertions_agree()
     ensures { LooksAgree }
 {}
 
-/// `nfa_bounds::records_bounds` is true of a compiled NFA: each way through its states, from a start of a search to a
-/// match, writes its start and its end. The laws of `nfa_bounds` therefore hold for it, and no test is needed.
+/// `nfa_match_spans::records_match_spans` is true of a compiled NFA: each way through its states, from a start of a
+/// search to a match, writes its start and its end. The laws of `nfa_match_spans` therefore hold for it, and no test is
+/// needed.
 pub fn compiled_nfas_record_bounds()
     ensures patterns { PatternsRecordBounds }
     ensures texts { TextsRecordBounds }

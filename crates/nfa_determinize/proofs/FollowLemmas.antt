@@ -11,8 +11,8 @@ use Rattle.thompson_nfa.specs.Looks.{look_holds}
 use Rattle.nfa_paths.specs.Graphs.{Pair, Space, In}
 use Rattle.nfa_paths.specs.FirstPaths.{Path}
 use Rattle.nfa_paths.specs.FirstPaths.Path.{stop, go}
-use Rattle.nfa_paths.specs.Exploring.{Slots, Hit, Item, ExploresTo, Searching}
-use Rattle.nfa_paths.specs.Exploring.Item.{Explore}
+use Rattle.nfa_paths.specs.Exploring.{Slots, Hit, Task, ExploresTo, Searching}
+use Rattle.nfa_paths.specs.Exploring.Task.{Explore}
 use Rattle.nfa_paths.specs.Kinds.{rests}
 use Rattle.nfa_paths.specs.Paths.{node_at, pattern_of, is_match, byte_at, target_on, edges, edges_of, starts}
 use Rattle.nfa_paths.proofs.PathToLemmas.{is_false}
@@ -98,7 +98,7 @@ pairs-append at (s ∷ states) more rest = ap (λ (ps : List Pair). (s, at) ∷ 
 
 pub work-append : (states more : List Pair) → map Explore states ++ map Explore more ≡ map Explore (states ++ more)
 work-append [] more = refl
-work-append (v ∷ states) more = ap (λ (w : List Item). Explore v ∷ w) (work-append states more)
+work-append (v ∷ states) more = ap (λ (w : List Task). Explore v ∷ w) (work-append states more)
 
 -- a state that does not rest leads to the states that it leads to without a byte
 epsilon-edges : (x : Search) (at : ℕ) (node : Node) → rests node ≡ false
@@ -289,7 +289,7 @@ module _ (nfa : Automaton) (x : Search) (at : ℕ) where
           subst (λ (n : ℕ). Finding nfa x target (SeenAt at f.after) n (front ++ map (place at) out) otherwise rest)
           same
           (f.leads target ok (spent + 1) front otherwise rest
-          (subst (λ (w : List Item). Searching (bare nfa x) target
+          (subst (λ (w : List Task). Searching (bare nfa x) target
           (λ g total. ExploresTo (bare nfa x) target total None [] (map Explore (starts nfa x)) [] g)
           (SeenAt at (set seen s true)) (spent + 1) front otherwise w []) joined plain));
     }

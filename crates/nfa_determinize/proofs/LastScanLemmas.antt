@@ -12,8 +12,8 @@ use Rattle.nfa_paths.specs.Graphs.{Pair, In, IsFirstPath, WantedAt}
 use Rattle.nfa_paths.specs.Exploring.{Slots, Hit}
 use Rattle.nfa_paths.specs.Kinds.{Passes, IsFoundBy, NoneBefore, LastBefore, last_match, is_resting}
 use Rattle.nfa_paths.specs.Paths.{is_match, IsScanAnswer, path_half}
-use Rattle.nfa_paths.proofs.FrontMatchLemmas.{FirstMatch, last_match-is}
-use Rattle.nfa_paths.proofs.KindsLemmas.{IsFront-first_match}
+use Rattle.nfa_paths.proofs.FrontierMatchLemmas.{FirstMatch, last_match-is}
+use Rattle.nfa_paths.proofs.KindsLemmas.{IsFrontier-first_match}
 use Rattle.nfa_paths.proofs.ScanAnswerLemmas.{starts-from}
 use Rattle.nfa_paths.proofs.ScanLemmas.{NoneBefore-start, NoneBefore-step, IsEarliestPath-found, IsEarliestLastPath-found, LastBefore-start, LastBefore-step}
 use Rattle.nfa_determinize.specs.Closures.{state_pattern, last_pattern, before_first_match}
@@ -142,8 +142,9 @@ module _ (nfa : Automaton) (x : Search) where
           plain = λ b i m. miss b (place-among at before b i) m;
           matches = ap is_some some.is;
         } in
-        let h = IsFront-first_match (bare nfa x) (is_resting nfa) (is_match nfa) []
-        (turns_here nfa x at s.spent c s.all) (shape nfa x) (front nfa x at s.spent c s.all) (place at some.state) first in
+        let h = IsFrontier-first_match (bare nfa x) (is_resting nfa) (is_match nfa) []
+        (turns_here nfa x at s.spent c s.all) (shape nfa x) (front nfa x at s.spent c s.all)
+        (place at some.state) first in
         let by : IsFoundBy (λ v. None) []
         (IsFirstPath (bare nfa x).edges (bare nfa x).starts (WantedAt (Passes (is_match nfa)) at))
         (turns_here nfa x at s.spent c s.all) (Some (place at some.state)) =

@@ -4,8 +4,8 @@ use Rattle.std.specs.Prelude.{None, option_and_then, option_to_list}
 use Rattle.regex_search_core.specs.Search.{Search}
 use Rattle.thompson_nfa.specs.Automaton.{Automaton}
 use Rattle.nfa_paths.specs.Graphs.{Pair, In}
-use Rattle.nfa_paths.specs.Exploring.{Slots, Hit, Item, ExploresTo, ExploresBehind, Searching, round}
-use Rattle.nfa_paths.specs.Exploring.Item.{Explore, Load}
+use Rattle.nfa_paths.specs.Exploring.{Slots, Hit, Task, ExploresTo, ExploresAfter, Searching, next_tasks}
+use Rattle.nfa_paths.specs.Exploring.Task.{Explore, Load}
 use Rattle.nfa_paths.specs.Kinds.{rests}
 use Rattle.nfa_paths.specs.Paths.{node_at, byte_at, target_on, edges, starts}
 use Rattle.nfa_paths.proofs.SearchLemmas.{AnswerBehind-along}
@@ -16,7 +16,7 @@ use Rattle.nfa_determinize.proofs.FollowLemmas.{pairs, place, SeenAt, SeenAt-non
 
 module _ (nfa : Automaton) (x : Search) (at : ℕ) where
   -- more work before it does not matter
-  work-after : (target : Pair → Bool) (es : List Pair) (w v : List Item) (left : ℕ) (otherwise : Hit)
+  work-after : (target : Pair → Bool) (es : List Pair) (w v : List Task) (left : ℕ) (otherwise : Hit)
       (marks : List Pair) (g : Hit)
       → (ExploresTo (bare nfa x) target left otherwise marks w [] g
       → ExploresTo (bare nfa x) target left otherwise marks v [] g)
@@ -34,8 +34,8 @@ module _ (nfa : Automaton) (x : Search) (at : ℕ) where
       → ExploresTo (bare nfa x) target left otherwise marks
       (map Explore (pairs (at + 1) (step nfa (byte_at x at) states) ++ rest)) [] g
       → ExploresTo (bare nfa x) target left otherwise marks
-      (round (edges nfa x) (map (place at) states) (Load [] ∷ map Explore rest)) [] g
-  unfolding ExploresTo round
+      (next_tasks (edges nfa x) (map (place at) states) (Load [] ∷ map Explore rest)) [] g
+  unfolding ExploresTo next_tasks
   round-work target [] r rest left otherwise marks g h = h
   round-work target (s ∷ states) r rest left otherwise marks g h =
       let next = option_to_list (option_and_then (target_on (node_at nfa s)) (byte_at x at)) in
@@ -46,9 +46,9 @@ module _ (nfa : Automaton) (x : Search) (at : ℕ) where
       ∙ sym (work-append (pairs (at + 1) next) (pairs (at + 1) more ++ rest)) in
       rw (resting-edges x at (node_at nfa s) (r s (inl refl)))
       (work-after target (pairs (at + 1) next) (map Explore (pairs (at + 1) more ++ rest))
-      (round (edges nfa x) (map (place at) states) (Load [] ∷ map Explore rest)) left otherwise marks g
+      (next_tasks (edges nfa x) (map (place at) states) (Load [] ∷ map Explore rest)) left otherwise marks g
       (round-work target states (λ t i. r t (inr i)) rest left otherwise marks g)
-      (subst (λ (w : List Item). ExploresTo (bare nfa x) target left otherwise marks w [] g) split h))
+      (subst (λ (w : List Task). ExploresTo (bare nfa x) target left otherwise marks w [] g) split h))
 
 -- a pair that was put aside is one of the states
 pub place-among : (at : ℕ) (states : List ℕ) (a : Pair × Slots) → In a (map (place at) states)
@@ -91,7 +91,7 @@ module _ (nfa : Automaton) (x : Search) (at : ℕ) (target : Pair → Bool) wher
       → ((v : Pair) → Seen v → v.1 ≤ at) → ((k : Pair) → In k rest → at < k.1) → (n : ℕ)
       → Finding nfa x target (SeenAt (at + 1) (replicate n false)) spent [] otherwise
       (pairs (at + 1) (step nfa (byte_at x at) states) ++ rest)
-  unfolding ExploresBehind
+  unfolding ExploresAfter
   Finding-next states r plain {spent = spent} {otherwise} rest s past later n =
       let next = Searching-round (bare nfa x) target {After = SeenAt (at + 1) (replicate n false)}
       (Finding-load rest s) (λ v. at < v.1)

@@ -10,8 +10,8 @@ use Rattle.regex_search_core.specs.declared.search.MatchKind.TheVariants.{All, L
 use Rattle.thompson_nfa.specs.Automaton.{Automaton}
 use Rattle.nfa_paths.specs.Graphs.{Pair, In, NoRepeats}
 use Rattle.nfa_paths.specs.Exploring.{Slots, Hit}
-use Rattle.nfa_paths.specs.Exploring.Item.{Explore}
-use Rattle.nfa_paths.specs.Kinds.{rests, is_resting, Scanned, IsFront, Scanning, EndsBefore}
+use Rattle.nfa_paths.specs.Exploring.Task.{Explore}
+use Rattle.nfa_paths.specs.Kinds.{rests, is_resting, Scanned, IsFrontier, Scanning, EndsBefore}
 use Rattle.nfa_paths.specs.Paths.{node_at, is_match, byte_at, pairs_from, start_state, start_count, starts}
 use Rattle.nfa_paths.proofs.PathToLemmas.{is_false}
 use Rattle.nfa_paths.proofs.ScanAnswerLemmas.{Scanned-matches, EndsBefore-span}
@@ -167,7 +167,7 @@ module _ (nfa : Automaton) (x : Search) where
     later_starts : (k : Pair) → In k (waiting (at + 1) (c.starts - 1)) → at < k.1
     later_starts k i = let l : at + 1 ≤ k.1 = waiting-later (at + 1) (c.starts - 1) k i in omega arith
 
-    pub front : IsFront (bare nfa x) (is_resting nfa) (is_match nfa) [] turns_here
+    pub front : IsFrontier (bare nfa x) (is_resting nfa) (is_match nfa) [] turns_here
         (map (place at) (closure_at nfa x at c)) at
     front =
         Scanning-front (bare nfa x) (is_match nfa) [] Scanning-here

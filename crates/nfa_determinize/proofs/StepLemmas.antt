@@ -7,7 +7,7 @@ use Rattle.regex_search_core.specs.Patterns.{number_of}
 use Rattle.regex_search_core.specs.declared.primitives.PatternID.{PatternID}
 use Rattle.thompson_nfa.specs.Automaton.{Automaton, Node, LeadsBelow}
 use Rattle.nfa_paths.specs.Paths.{node_at, target_on}
-use Rattle.nfa_scanning.proofs.TargetLemmas.{target-below}
+use Rattle.nfa_scan_core.proofs.TargetLemmas.{target-below}
 use Rattle.nfa_determinize.specs.Closures.{state_pattern, first_pattern, last_pattern, before_first_match, step}
 
 -- a pattern, and its number

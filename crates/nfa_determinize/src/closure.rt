@@ -1,14 +1,16 @@
 //! The closure of a list of states, and the step over a byte.
-ghost use Rattle.std.specs.Prelude.{◌≡◌, ◌<◌, ◌≤◌, ◌++◌, All, IfOk, OnOk, length, reverse, take, replicate, true, false};
+ghost use Rattle.std.specs.Prelude.{◌≡◌, ◌<◌, ◌≤◌, ◌++◌, All, IfOk, OnOk, length, reverse, take, replicate, true};
+ghost use Rattle.std.specs.Prelude.{false};
 ghost use Rattle.std.specs.Prelude.{option_and_then, option_map, slice_index_or, slice_set};
 ghost use Rattle.regex_search_core.specs.Patterns.{number_of};
 ghost use Rattle.thompson_nfa.specs.Automaton.{node_of};
 ghost use Rattle.nfa_paths.specs.Kinds.{rests};
 ghost use Rattle.nfa_paths.specs.Paths.{pattern_of, target_on};
-ghost use Rattle.nfa_determinize.specs.Closures.{before_first_match, closure, epsilon_states, first_pattern, holding_at, kept};
+ghost use Rattle.nfa_determinize.specs.Closures.{before_first_match, closure, epsilon_states, first_pattern};
+ghost use Rattle.nfa_determinize.specs.Closures.{holding_at, kept};
 ghost use Rattle.nfa_determinize.specs.Closures.{last_pattern, match_in, step};
 
-use nfa_scanning::transitions::{dense_target, range_target, sparse_target};
+use nfa_scan_core::transitions::{dense_target, range_target, sparse_target};
 use regex_search_core::{MatchKind, PatternID, StateID};
 use std::alloc::{AllocError, Global};
 use thompson_nfa::{NFA, State, look_matches};

@@ -18,7 +18,7 @@ use Rattle.regex_search_core.specs.declared.search.MatchKind.TheVariants.{All, L
 use Rattle.thompson_nfa.specs.Automaton.{Automaton}
 use Rattle.nfa_paths.specs.Graphs.{Pair, IsFirstPath, IsEarliestPath, IsLastPath, IsEarliestLastPath}
 use Rattle.nfa_paths.specs.Paths.{edges, is_utf8_empty, node_at, pairs_from, path_pattern, slot_among}
-use Rattle.nfa_paths.specs.Paths.{slot_row, starts, EndsOnBoundary, IsAnswer, IsKeptAnswer, IsMatch, IsMatchAnswer}
+use Rattle.nfa_paths.specs.Paths.{slot_row, starts, EndsOnBoundary, IsAnswer, IsKeptAnswer, IsMatch, IsFindAnswer}
 use Rattle.nfa_paths.specs.Paths.{IsScanAnswer, IsSearchAnswer}
 use Rattle.nfa_engines.specs.PatternLaws.{started_at}
 use Rattle.nfa_engines.proofs.FirstStartLemmas.{same_edges}
@@ -173,8 +173,8 @@ module _ (nfa : Automaton) (x : Search) (pattern : PatternID) (state : ℕ)
         sym (λ i. match_of (p i) (s i))
 
     pub match-alone : (found : Option Found)
-        → IsMatchAnswer nfa kind earliest (record x { anchored = Pattern pattern }) found
-        → IsMatchAnswer (started_at nfa state) kind earliest (record x { anchored = Yes }) found
+        → IsFindAnswer nfa kind earliest (record x { anchored = Pattern pattern }) found
+        → IsFindAnswer (started_at nfa state) kind earliest (record x { anchored = Yes }) found
     match-alone found h = record {
       restarts = h.restarts;
       path = h.path;
@@ -183,8 +183,8 @@ module _ (nfa : Automaton) (x : Search) (pattern : PatternID) (state : ℕ)
     }
 
     pub match-bound : (found : Option Found)
-        → IsMatchAnswer (started_at nfa state) kind earliest (record x { anchored = Yes }) found
-        → IsMatchAnswer nfa kind earliest (record x { anchored = Pattern pattern }) found
+        → IsFindAnswer (started_at nfa state) kind earliest (record x { anchored = Yes }) found
+        → IsFindAnswer nfa kind earliest (record x { anchored = Pattern pattern }) found
     match-bound found h = record {
       restarts = h.restarts;
       path = h.path;

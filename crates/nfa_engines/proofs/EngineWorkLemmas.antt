@@ -10,18 +10,18 @@ use Rattle.regex_search_core.specs.declared.search.MatchKind.{MatchKind}
 use Rattle.regex_search_core.specs.declared.search.Span.{Span}
 use Rattle.thompson_nfa.specs.Automaton.{Automaton}
 use Rattle.nfa_paths.specs.Graphs.{Pair}
-use Rattle.nfa_paths.specs.Paths.{IsMatchAnswer, IsSearchAnswer, IsWithinScans, IsWork, scan_limit, span_len, turn_weight}
+use Rattle.nfa_paths.specs.Paths.{IsFindAnswer, IsSearchAnswer, IsWithinScans, IsWork, max_scans, span_len, total_degree}
 use Rattle.nfa_paths.specs.Paths.{is_utf8_empty}
 use Rattle.nfa_paths.proofs.ExistenceLemmas.{search_answer-exists}
 use Rattle.nfa_paths.proofs.InsideLemmas.{match-within}
-use Rattle.nfa_search_base.specs.Catching.{Row, row_found, row_span}
-use Rattle.nfa_search_base.specs.CaughtLists.{TellsRow}
+use Rattle.nfa_search_base.specs.WithCaptures.{Row, row_found, row_span}
+use Rattle.nfa_search_base.specs.CapturesLists.{AnswersRow}
 use Rattle.nfa_search_base.specs.Leaving.{StepsLead, answers_to_end}
-use Rattle.nfa_search_base.specs.Likes.{SameButStart}
-use Rattle.nfa_search_base.specs.Lists.{TellsMatch}
-use Rattle.nfa_search_base.specs.Walks.{Answer, LiesIn, fresh, place_of, span_of}
-use Rattle.nfa_search_base.proofs.CaughtLemmas.{row-tells}
-use Rattle.nfa_search_base.proofs.WalkLemmas.{IsOrdered}
+use Rattle.nfa_search_base.specs.SameBut.{SameButStart}
+use Rattle.nfa_search_base.specs.Lists.{AnswersMatch}
+use Rattle.nfa_search_base.specs.IterStates.{Answer, LiesIn, fresh, answer_span, span_of}
+use Rattle.nfa_search_base.proofs.CapturesLemmas.{row-tells}
+use Rattle.nfa_search_base.proofs.IterStateLemmas.{IsOrdered}
 use Rattle.nfa_engines.specs.WorkLaws.{AddsAtMost, Totals, list_scan_limit}
 use Rattle.nfa_engines.proofs.IterationLemmas.{first-ends}
 use Rattle.nfa_engines.proofs.ReachLemmas.{Reaches, few-scans, match-known, match-reaches, one-scan, restarts_in}
@@ -32,14 +32,14 @@ module _ (nfa : Automaton) (kind : MatchKind) (earliest : Bool) where
   -- the match of a search lies there, if there is one
   abbrev pub Hit : Search → Option Span → Type 0
   Hit x None = Unit {0}
-  Hit x (Some p) = (f : Found) × IsMatchAnswer nfa kind earliest x (Some f) × (p ≡ span_of f)
+  Hit x (Some p) = (f : Found) × IsFindAnswer nfa kind earliest x (Some f) × (p ≡ span_of f)
 
-  pub match-hit : (x : Search) (a : Answer Found) → TellsMatch nfa kind earliest x a → Hit x (place_of span_of a)
+  pub match-hit : (x : Search) (a : Answer Found) → AnswersMatch nfa kind earliest x a → Hit x (answer_span span_of a)
   match-hit x (Ok (Some m)) h = (m, h, refl)
   match-hit x (Ok None) h = tt
   match-hit x (Err e) h = tt
 
-  pub row-hit : (x : Search) (a : Answer Row) → TellsRow nfa kind earliest x a → Hit x (place_of row_span a)
+  pub row-hit : (x : Search) (a : Answer Row) → AnswersRow nfa kind earliest x a → Hit x (answer_span row_span a)
   row-hit x (Ok (Some row)) h = (row_found row, row-tells nfa kind earliest x (Ok (Some row)) h, refl)
   row-hit x (Ok None) h = tt
   row-hit x (Err e) h = tt
@@ -59,14 +59,14 @@ module _ (nfa : Automaton) (kind : MatchKind) (earliest : Bool) where
     pub path : Option (List Pair)
     pub answers : IsSearchAnswer nfa kind earliest x restarts path
     pub few : count ≤ restarts + 1
-    pub limit : count ≤ scan_limit nfa x
+    pub limit : count ≤ max_scans nfa x
     pub scans : new.scans ≡ old.scans + count
     pub turns : new.turns ≡ old.turns + turned
-    pub bound : turned ≤ count * ((1 + turn_weight nfa) * (span_len x + 1))
+    pub bound : turned ≤ count * ((1 + total_degree nfa) * (span_len x + 1))
 
   -- a search that answered
   pub worked : (x : Search) (old new : Totals) (count turned : ℕ) → IsWork nfa kind earliest x count turned
-      → count ≤ scan_limit nfa x → turned ≤ count * ((1 + turn_weight nfa) * (span_len x + 1))
+      → count ≤ max_scans nfa x → turned ≤ count * ((1 + total_degree nfa) * (span_len x + 1))
       → new.scans ≡ old.scans + count → new.turns ≡ old.turns + turned → Worked x old new
   worked x old new count turned work limit bound scans turns = record {
     count = count;
@@ -83,7 +83,7 @@ module _ (nfa : Automaton) (kind : MatchKind) (earliest : Bool) where
 
   -- a search that was refused
   pub worked-within : (x : Search) (old new : Totals) (count turned : ℕ) → IsWithinScans nfa kind earliest x count
-      → count ≤ scan_limit nfa x → turned ≤ count * ((1 + turn_weight nfa) * (span_len x + 1))
+      → count ≤ max_scans nfa x → turned ≤ count * ((1 + total_degree nfa) * (span_len x + 1))
       → new.scans ≡ old.scans + count → new.turns ≡ old.turns + turned → Worked x old new
   worked-within x old new count turned within limit bound scans turns =
       let answer = search_answer-exists nfa kind earliest x in
@@ -121,8 +121,8 @@ module _ (nfa : Automaton) (kind : MatchKind) (earliest : Bool) where
             let bound = w.bound in
             let end = like.end in
             let short : span_len y + 1 ≤ span_len x + 1 = omega (arith, from, end) in
-            let each = mul-le-mul_left (1 + turn_weight nfa) short in
-            let all : w.count * ((1 + turn_weight nfa) * (span_len y + 1)) ≤ w.count * turns_in nfa x =
+            let each = mul-le-mul_left (1 + total_degree nfa) short in
+            let all : w.count * ((1 + total_degree nfa) * (span_len y + 1)) ≤ w.count * turns_in nfa x =
             mul-le-mul_left w.count each in
             by-more new.turns old.turns w.turned _ _ turns bound all;
       },
@@ -160,15 +160,16 @@ module _ (nfa : Automaton) (kind : MatchKind) (earliest : Bool) where
 -- Each search `asks` what has `totals`, and does its work, or none; what it asks is `Good`, and stays so.
 module _ {S X : Type 0} (span : X → Span) (asks : S → Search → Answer X → S → Type 0) (totals : S → Totals)
     (Good : S → Type 0) (nfa : Automaton) (kind : MatchKind) (early : Search → Bool) (x : Search)
-    (hits : (s : S) (y : Search) (a : Answer X) (t : S) → asks s y a t → Hit nfa kind (early y) y (place_of span a))
+    (hits : (s : S) (y : Search) (a : Answer X) (t : S) → asks s y a t → Hit nfa kind (early y) y (answer_span span a))
     (works : (s : S) (y : Search) (a : Answer X) (t : S) → Good s → asks s y a t
     → (Worked nfa kind (early y) y (totals s) (totals t) ⊎ (totals t ≡ totals s)) × Good t) where
   costs : (s : S) (y : Search) (a : Answer X) (t : S) → SameButStart x y → x.start ≤ y.start → Good s → asks s y a t
-      → (count : ℕ) × Costs (restarts_in nfa x) y (place_of span a) count
+      → (count : ℕ) × Costs (restarts_in nfa x) y (answer_span span a) count
       × Adds (turns_in nfa x) (totals s) (totals t) count × Good t
   costs s y a t like from good asked =
       let k = works s y a t good asked in
-      let c = cost-of nfa kind (early y) x y like from (place_of span a) (hits s y a t asked) (totals s) (totals t) k.0 in
+      let c = cost-of nfa kind (early y) x y like from (answer_span span a) (hits s y a t asked) (totals s)
+      (totals t) k.0 in
       (c.0, c.1, c.2, k.1)
 
   -- an iteration to its end, past these matches
@@ -188,7 +189,7 @@ module _ {S X : Type 0} (span : X → Span) (asks : S → Search → Answer X �
       let all = led span asks totals Good (turns_in nfa x) (restarts_in nfa x) x costs (fresh x) s answers t
       (is_of-fresh x) good steps in
       let few = few-found span asks totals Good (turns_in nfa x) (restarts_in nfa x) x costs
-      (λ p y a q asked. hit-lies nfa kind (early y) y (place_of span a) (hits p y a q asked)) (fresh x) s answers t
+      (λ p y a q asked. hit-lies nfa kind (early y) y (answer_span span a) (hits p y a q asked)) (fresh x) s answers t
       (is_of-fresh x) good steps in
       let ends = first-ends x in
       calls-within nfa x (found_count answers) (totals s) (totals t) all (omega (arith, few, ends))

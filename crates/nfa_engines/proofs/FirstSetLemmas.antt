@@ -9,8 +9,8 @@ use Rattle.regex_search_core.specs.Search.{Search}
 use Rattle.regex_search_core.specs.declared.search.MatchKind.TheVariants.{LeftmostFirst}
 use Rattle.thompson_nfa.specs.Automaton.{Automaton, IsAutomaton}
 use Rattle.nfa_paths.specs.Graphs.{Pair, WantedAt, IsFirstPath, IsEarliestPath, IsLeastEnd}
-use Rattle.nfa_paths.specs.Overlaps.{HoldsPattern, HoldsMeant, HoldsPath, IsFirstBefore, IsFirstHeld, IsEarliestHeld}
-use Rattle.nfa_paths.specs.Overlaps.{IsHeld, IsMeantPath, IsOverlapResult, IsPermitted, pattern_at}
+use Rattle.nfa_paths.specs.Overlaps.{HoldsPattern, HoldsSelected, HoldsPath, IsFirstBefore, IsFirstInsertable, IsEarliestInsertable}
+use Rattle.nfa_paths.specs.Overlaps.{IsInsertable, IsSelectedPath, IsOverlapResult, IsPermitted, pattern_at}
 use Rattle.nfa_paths.specs.Paths.{edges, starts, last_of, node_at, path_pattern, pattern_of}
 use Rattle.nfa_paths.proofs.PathToLemmas.{IsEarliestPath-unique, IsFirstTo-along}
 use Rattle.nfa_paths.proofs.PatternLemmas.{node-pattern, some-pattern}
@@ -27,11 +27,11 @@ module _ (nfa : Automaton) (x : Search) where
   same-number m n e = cc
 
   -- an empty set gains the patterns of the first paths before some limit
-  meant-firsts : (capacity : ℕ) (set : List Bool) → length set ≡ capacity → HoldsMeant nfa x false capacity set
+  meant-firsts : (capacity : ℕ) (set : List Bool) → length set ≡ capacity → HoldsSelected nfa x false capacity set
       → (k : ℕ) → HoldsPattern set k ↔ IsFirstBefore nfa x capacity k
   meant-firsts capacity set size m k = of m.path m.meant m.holds
     where
-      of : (path : Option (List Pair)) → IsMeantPath nfa x false capacity path → HoldsPath nfa x false path set
+      of : (path : Option (List Pair)) → IsSelectedPath nfa x false capacity path → HoldsPath nfa x false path set
           → HoldsPattern set k ↔ IsFirstBefore nfa x capacity k
       of None none empty = (
         λ held. absurd (size-none set empty k held),
@@ -40,17 +40,18 @@ module _ (nfa : Automaton) (x : Search) where
       of (Some p) first holds = subst (λ n. HoldsPattern set k ↔ IsFirstBefore nfa x n k) size (holds.exact k)
 
   -- with `earliest` that of the earliest path
-  meant-earliest : (capacity : ℕ) (set : List Bool) → HoldsMeant nfa x true capacity set
+  meant-earliest : (capacity : ℕ) (set : List Bool) → HoldsSelected nfa x true capacity set
       → (k : ℕ) → HoldsPattern set k ↔ IsPatternOfEarliest nfa x capacity k
   meant-earliest capacity set m k = of m.path m.meant m.holds
     where
-      one : (r s : Option (List Pair)) → IsEarliestHeld nfa x capacity r → IsEarliestHeld nfa x capacity s → r ≡ s
-      one = IsEarliestPath-unique (edges nfa x) (starts nfa x) (IsHeld nfa x capacity)
+      one : (r s : Option (List Pair)) → IsEarliestInsertable nfa x capacity r
+          → IsEarliestInsertable nfa x capacity s → r ≡ s
+      one = IsEarliestPath-unique (edges nfa x) (starts nfa x) (IsInsertable nfa x capacity)
 
       same-path : (p q : List Pair) → Some p ≡ Some q → p ≡ q
       same-path p q e = cc
 
-      of : (path : Option (List Pair)) → IsMeantPath nfa x true capacity path → HoldsPath nfa x true path set
+      of : (path : Option (List Pair)) → IsSelectedPath nfa x true capacity path → HoldsPath nfa x true path set
           → HoldsPattern set k ↔ IsPatternOfEarliest nfa x capacity k
       of None none empty = (
         λ held. absurd (size-none set empty k held),
@@ -101,13 +102,13 @@ module _ (nfa : Automaton) (x : Search) where
 
   -- with room for each pattern a permitted match is one that counts
   module _ (valid : IsAutomaton nfa) (capacity : ℕ) (room : length nfa.patterns ≤ capacity) where
-    has-room : (v : Pair) → IsPermitted nfa x v → IsHeld nfa x capacity v
+    has-room : (v : Pair) → IsPermitted nfa x v → IsInsertable nfa x capacity v
     has-room v h =
         let some = some-pattern (node_at nfa v.0) h.matches in
         let below : some.0 < length nfa.patterns = node-pattern nfa valid v.0 some.0 some.1 in
         record { permitted = h; pattern = some.0; pattern_is = some.1; below = omega arith }
 
-    permitted : (v : Pair) → IsHeld nfa x capacity v → IsPermitted nfa x v
+    permitted : (v : Pair) → IsInsertable nfa x capacity v → IsPermitted nfa x v
     permitted v h = h.permitted
 
     -- a path that is meant of some paths is meant of the same ones under another name
@@ -142,10 +143,10 @@ module _ (nfa : Automaton) (x : Search) where
             h.2,
       )
 
-    pub first-room : (path : Option (List Pair)) → IsFirstHeld nfa x capacity path
+    pub first-room : (path : Option (List Pair)) → IsFirstInsertable nfa x capacity path
         ↔ IsFirstPath (edges nfa x) (starts nfa x) (IsPermitted nfa x) path
     first-room path = (first-along _ _ permitted has-room path, first-along _ _ has-room permitted path)
 
-    pub earliest-room : (path : Option (List Pair)) → IsEarliestHeld nfa x capacity path
+    pub earliest-room : (path : Option (List Pair)) → IsEarliestInsertable nfa x capacity path
         ↔ IsEarliestPath (edges nfa x) (starts nfa x) (IsPermitted nfa x) path
     earliest-room path = (earliest-along _ _ permitted has-room path, earliest-along _ _ has-room permitted path)

@@ -8,35 +8,36 @@ use Rattle.regex_search_core.specs.declared.search.MatchKind.{MatchKind}
 use Rattle.regex_search_core.specs.declared.search.MatchKind.TheVariants.{LeftmostFirst}
 use Rattle.regex_search_core.specs.declared.search.Span.{Span}
 use Rattle.thompson_nfa.specs.Automaton.{Automaton}
-use Rattle.nfa_paths.specs.Paths.{IsAnswer, IsFoundAnswer, IsMatchAnswer}
+use Rattle.nfa_paths.specs.Paths.{IsAnswer, IsBoolAnswer, IsFindAnswer}
 use Rattle.nfa_paths.proofs.EarliestLemmas.{asked, search_answer-asked}
 use Rattle.nfa_paths.proofs.KnownLemmas.{match-unique}
-use Rattle.nfa_search_base.specs.Catching.{Row, row_span}
-use Rattle.nfa_search_base.specs.CaughtLists.{AreRows, IsRow, TellsRow}
+use Rattle.nfa_search_base.specs.WithCaptures.{Row, row_span}
+use Rattle.nfa_search_base.specs.CapturesLists.{AreRows, IsRow, AnswersRow}
 use Rattle.nfa_search_base.specs.Items.{Item}
-use Rattle.nfa_search_base.specs.Lists.{AreMatches, Fails, IsStep, ItemsLast, TellsMatch}
-use Rattle.nfa_search_base.specs.Walks.{Answer, Walk, after, fresh, place_of, repeats, shifted, span_of}
+use Rattle.nfa_search_base.specs.Lists.{AreMatches, Fails, IsStep, ItemsLast, AnswersMatch}
+use Rattle.nfa_search_base.specs.IterStates.{Answer, IterState, after, fresh, answer_span, repeats, shifted, span_of}
 use Rattle.nfa_engines.proofs.LawLemmas.{same-slots}
 use Rattle.nfa_engines.proofs.OneLemmas.{found-pattern}
 
 -- the walk whose search carries this flag
-abbrev flagged : Walk → Bool → Walk
+abbrev flagged : IterState → Bool → IterState
 flagged w flag = record w { at = asked w.at flag }
 
-repeats-flagged : (w : Walk) (flag : Bool) (place : Option Span) → repeats (flagged w flag) place ≡ repeats w place
+repeats-flagged : (w : IterState) (flag : Bool) (place : Option Span) → repeats (flagged w flag) place ≡ repeats w place
 repeats-flagged w flag None = refl
 repeats-flagged w flag (Some p) = refl
 
 -- If the answers of searches do not read the flag, neither does the list of an iteration.
 module _ {X : Type 0} (span : X → Span) (tells : Search → Answer X → Type 0)
     (free : (t : Search) (flag : Bool) (a : Answer X) → tells (asked t flag) a → tells t a) where
-  step-flagged : (w : Walk) (flag : Bool) (a : Answer X) → IsStep span tells (flagged w flag) a → IsStep span tells w a
+  step-flagged : (w : IterState) (flag : Bool) (a : Answer X) → IsStep span tells (flagged w flag) a
+      → IsStep span tells w a
   step-flagged w flag a h = record {
     first = h.first;
     is_first = free w.at flag h.first h.is_first;
-    rest = of (repeats w (place_of span h.first))
+    rest = of (repeats w (answer_span span h.first))
         (subst (λ (b : Bool). MatchBool b (tells (asked (shifted w).at flag) a) (a ≡ h.first))
-        (repeats-flagged w flag (place_of span h.first)) h.rest);
+        (repeats-flagged w flag (answer_span span h.first)) h.rest);
   }
     where
       of : (again : Bool) → MatchBool again (tells (asked (shifted w).at flag) a) (a ≡ h.first)
@@ -44,7 +45,7 @@ module _ {X : Type 0} (span : X → Span) (tells : Search → Answer X → Type 
       of true k = free (shifted w).at flag a k
       of false k = k
 
-  last-flagged : (w : Walk) (flag : Bool) (items : List (Item X))
+  last-flagged : (w : IterState) (flag : Bool) (items : List (Item X))
       → ItemsLast span tells (Fails span tells) (flagged w flag) items → ItemsLast span tells (Fails span tells) w items
   last-flagged w flag [] h = step-flagged w flag (Ok None) h
   last-flagged w flag (Ok x ∷ items) h =
@@ -64,8 +65,8 @@ module _ (nfa : Automaton) (kind : MatchKind) (earliest : Bool) where
   }
 
   -- whether there is a match
-  pub found-asked : (x : Search) (flag found : Bool) → IsFoundAnswer nfa kind earliest (asked x flag) found
-      → IsFoundAnswer nfa kind earliest x found
+  pub found-asked : (x : Search) (flag found : Bool) → IsBoolAnswer nfa kind earliest (asked x flag) found
+      → IsBoolAnswer nfa kind earliest x found
   found-asked x flag found h = record {
     restarts = h.restarts;
     path = h.path;
@@ -75,7 +76,7 @@ module _ (nfa : Automaton) (kind : MatchKind) (earliest : Bool) where
 
   -- the match
   pub match-asked : (x : Search) (flag : Bool) (found : Option Found)
-      → IsMatchAnswer nfa kind earliest (asked x flag) found → IsMatchAnswer nfa kind earliest x found
+      → IsFindAnswer nfa kind earliest (asked x flag) found → IsFindAnswer nfa kind earliest x found
   match-asked x flag found h = record {
     restarts = h.restarts;
     path = h.path;
@@ -83,13 +84,13 @@ module _ (nfa : Automaton) (kind : MatchKind) (earliest : Bool) where
     found_is = h.found_is;
   }
 
-  tells_match-asked : (t : Search) (flag : Bool) (a : Answer Found) → TellsMatch nfa kind earliest (asked t flag) a
-      → TellsMatch nfa kind earliest t a
+  tells_match-asked : (t : Search) (flag : Bool) (a : Answer Found) → AnswersMatch nfa kind earliest (asked t flag) a
+      → AnswersMatch nfa kind earliest t a
   tells_match-asked t flag (Ok found) h = match-asked t flag found h
   tells_match-asked t flag (Err e) h = h
 
-  tells_row-asked : (t : Search) (flag : Bool) (a : Answer Row) → TellsRow nfa kind earliest (asked t flag) a
-      → TellsRow nfa kind earliest t a
+  tells_row-asked : (t : Search) (flag : Bool) (a : Answer Row) → AnswersRow nfa kind earliest (asked t flag) a
+      → AnswersRow nfa kind earliest t a
   tells_row-asked t flag (Ok None) h = match-asked t flag None h
   tells_row-asked t flag (Ok (Some row)) h = record {
     answer = answer-asked t flag row.pattern row.slots h.answer;
@@ -102,7 +103,7 @@ module _ (nfa : Automaton) (kind : MatchKind) (earliest : Bool) where
   pub matches-asked : (x : Search) (flag : Bool) (ms : List Found) → AreMatches nfa kind earliest (asked x flag) ms
       → AreMatches nfa kind earliest x ms
   matches-asked x flag ms h = record {
-    come = last-flagged span_of (TellsMatch nfa kind earliest) tells_match-asked (fresh x) flag (map (λ m. Ok m) ms)
+    come = last-flagged span_of (AnswersMatch nfa kind earliest) tells_match-asked (fresh x) flag (map (λ m. Ok m) ms)
         h.come;
   }
 
@@ -110,18 +111,18 @@ module _ (nfa : Automaton) (kind : MatchKind) (earliest : Bool) where
   pub rows-asked : (x : Search) (flag : Bool) (rows : List Row) → AreRows nfa kind earliest (asked x flag) rows
       → AreRows nfa kind earliest x rows
   rows-asked x flag rows h = record {
-    come = last-flagged row_span (TellsRow nfa kind earliest) tells_row-asked (fresh x) flag (map (λ r. Ok r) rows)
+    come = last-flagged row_span (AnswersRow nfa kind earliest) tells_row-asked (fresh x) flag (map (λ r. Ok r) rows)
         h.come;
   }
 
 -- If the flag is off, a call that ignores the flag gives, under any flag, the answer of a call without it.
 module _ (nfa : Automaton) (x y : Search) (flag : Bool) (same : y ≡ asked x flag) (off : x.earliest ≡ false) where
   pub found-under : (kind : MatchKind) (found : Bool) (pattern : Option ℕ) (slots : List (Option ℕ))
-      → IsFoundAnswer nfa kind false y found → IsAnswer nfa kind x.earliest x pattern slots → found ≡ is_some pattern
+      → IsBoolAnswer nfa kind false y found → IsAnswer nfa kind x.earliest x pattern slots → found ≡ is_some pattern
   found-under kind found pattern slots h k =
       found-pattern nfa x kind false pattern slots found
       (subst (λ (b : Bool). IsAnswer nfa kind b x pattern slots) off k)
-      (found-asked nfa kind false x flag found (subst (λ (z : Search). IsFoundAnswer nfa kind false z found) same h))
+      (found-asked nfa kind false x flag found (subst (λ (z : Search). IsBoolAnswer nfa kind false z found) same h))
 
   module _ (other : Automaton) (is_nfa : other ≡ nfa) (kind : MatchKind) (leftmost : kind ≡ LeftmostFirst) where
     pub answers-under : (p q : Option ℕ) (s t : List (Option ℕ)) → IsAnswer nfa kind x.earliest x p s
@@ -134,12 +135,12 @@ module _ (nfa : Automaton) (x y : Search) (flag : Bool) (same : y ≡ asked x fl
         (subst (λ (z : Search). IsAnswer nfa LeftmostFirst false z q t) same
         (subst (λ (n : Automaton). IsAnswer n LeftmostFirst false y q t) is_nfa k)))
 
-    pub match-under : (a b : Option Found) → IsMatchAnswer nfa kind x.earliest x a
-        → IsMatchAnswer other LeftmostFirst false y b → a ≡ b
+    pub match-under : (a b : Option Found) → IsFindAnswer nfa kind x.earliest x a
+        → IsFindAnswer other LeftmostFirst false y b → a ≡ b
     match-under a b h k =
         match-unique nfa LeftmostFirst false x a b
-        (subst (λ (e : Bool). IsMatchAnswer nfa LeftmostFirst e x a) off
-        (subst (λ (n : MatchKind). IsMatchAnswer nfa n x.earliest x a) leftmost h))
+        (subst (λ (e : Bool). IsFindAnswer nfa LeftmostFirst e x a) off
+        (subst (λ (n : MatchKind). IsFindAnswer nfa n x.earliest x a) leftmost h))
         (match-asked nfa LeftmostFirst false x flag b
-        (subst (λ (z : Search). IsMatchAnswer nfa LeftmostFirst false z b) same
-        (subst (λ (n : Automaton). IsMatchAnswer n LeftmostFirst false y b) is_nfa k)))
+        (subst (λ (z : Search). IsFindAnswer nfa LeftmostFirst false z b) same
+        (subst (λ (n : Automaton). IsFindAnswer n LeftmostFirst false y b) is_nfa k)))

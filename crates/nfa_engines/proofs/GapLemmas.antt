@@ -12,7 +12,7 @@ use Rattle.regex_search_core.specs.declared.search.MatchKind.{MatchKind}
 use Rattle.regex_search_core.specs.declared.search.MatchKind.TheVariants.{LeftmostFirst}
 use Rattle.thompson_nfa.specs.Automaton.{Automaton, IsAutomaton}
 use Rattle.nfa_paths.specs.Graphs.{Pair, HeadIs, Linked, EndsWith, ComesBefore, PathTo, NoPath}
-use Rattle.nfa_paths.specs.Paths.{edges, starts, is_utf8_empty, IsMatch, IsScanAnswer, IsSearchAnswer, IsMatchAnswer}
+use Rattle.nfa_paths.specs.Paths.{edges, starts, is_utf8_empty, IsMatch, IsScanAnswer, IsSearchAnswer, IsFindAnswer}
 use Rattle.nfa_paths.specs.Paths.{path_pattern, slot_among, slot_row}
 use Rattle.nfa_paths.proofs.AnswerLemmas.{scan_answer-leads, never_none}
 use Rattle.nfa_paths.proofs.ExistenceLemmas.{scan_answer-none}
@@ -76,7 +76,7 @@ module _ (nfa : Automaton) where
 
     -- there is no match exactly if there is no accepting path
     pub none-is_no_path : (kind : MatchKind) (earliest : Bool) (found : Option Found)
-        → IsMatchAnswer nfa kind earliest x found
+        → IsFindAnswer nfa kind earliest x found
         → (found ≡ None) ↔ NoPath (edges nfa x) (starts nfa x) (IsMatch nfa)
     none-is_no_path kind earliest found answer =
         of answer.path (scanned kind earliest answer.restarts answer.path answer.answers) answer.found_is
@@ -107,7 +107,7 @@ module _ (nfa : Automaton) where
         ]
 
     -- the match starts not after any accepting path
-    pub none-starts_before : (found : Option Found) → IsMatchAnswer nfa LeftmostFirst false x found
+    pub none-starts_before : (found : Option Found) → IsFindAnswer nfa LeftmostFirst false x found
         → IfSome found (StartsBeforePaths nfa x)
     none-starts_before None answer = tt
     none-starts_before (Some m) answer =

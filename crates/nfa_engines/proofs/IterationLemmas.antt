@@ -5,21 +5,30 @@ use Rattle.std.specs.Prelude.{Option, None, Some}
 use Rattle.regex_search_core.specs.Search.{Search}
 use Rattle.regex_search_core.specs.declared.search.Span.{Span}
 use Rattle.nfa_paths.specs.Paths.{span_len}
-use Rattle.nfa_search_base.specs.Walks.{Advances, Answer, ComesAfter, LeavesFewer, Walk, fresh, ends_left, place_of}
-use Rattle.nfa_search_base.specs.Walks.{repeats}
+use Rattle.nfa_search_base.specs.IterStates.{Advances, Answer, ComesAfter, LeavesFewer, IterState, fresh, ends_left, answer_span}
+use Rattle.nfa_search_base.specs.IterStates.{repeats}
 use Rattle.nfa_search_base.proofs.StepLemmas.{chosen}
 use Rattle.nfa_engines.specs.IterationLaws.{IsCall, AreCalls, places_of, EndsRise}
 
 -- a call that gave a match leaves its end as the last one
-call-last : (w : Walk) (p : Span) (w' : Walk) → IsCall w (Some p) w' → w'.last ≡ Some p.end
-call-last w p w' call = elim call.moves [ inl e ↦ ap (λ (v : Walk). v.last) e | inr e ↦ ap (λ (v : Walk). v.last) e ]
+call-last : (w : IterState) (p : Span) (w' : IterState) → IsCall w (Some p) w' → w'.last ≡ Some p.end
+call-last w p w' call = elim call.moves [
+  | inl e ↦ ap (λ (v : IterState). v.last) e
+  | inr e ↦ ap
+      (λ (v : IterState). v.last) e
+]
 
 -- and one that gave none leaves the last end
-none-last : (w w' : Walk) → IsCall w None w' → w'.last ≡ w.last
-none-last w w' call = elim call.moves [ inl e ↦ ap (λ (v : Walk). v.last) e | inr e ↦ ap (λ (v : Walk). v.last) e ]
+none-last : (w w' : IterState) → IsCall w None w' → w'.last ≡ w.last
+none-last w w' call = elim call.moves [
+  | inl e ↦ ap (λ (v : IterState). v.last) e
+  | inr e ↦ ap
+      (λ (v : IterState). v.last) e
+]
 
 -- the ends go up
-pub ends-rise : (w : Walk) (calls : List (Option Span × Walk)) → AreCalls w calls → EndsRise w.last (places_of calls)
+pub ends-rise : (w : IterState) (calls : List (Option Span × IterState)) → AreCalls w calls
+    → EndsRise w.last (places_of calls)
 ends-rise w [] are = tt
 ends-rise w ((Some p, w') ∷ calls) are =
     let rest = ends-rise w' calls are.1 in
@@ -28,7 +37,7 @@ ends-rise w ((None, w') ∷ calls) are =
     subst (λ (o : Option ℕ). EndsRise o (places_of calls)) (none-last w w' are.0) (ends-rise w' calls are.1)
 
 -- each match takes an end of those that are left
-pub few-matches : (w : Walk) (calls : List (Option Span × Walk)) → AreCalls w calls
+pub few-matches : (w : IterState) (calls : List (Option Span × IterState)) → AreCalls w calls
     → length (places_of calls) ≤ ends_left w
 few-matches w [] are = omega arith
 few-matches w ((Some p, w') ∷ calls) are =
@@ -45,13 +54,13 @@ pub first-ends : (x : Search) → ends_left (fresh x) ≤ span_len x + 1
 first-ends x = omega arith
 
 -- a step of a `Searcher` is a call
-pub step-call : {X S : Type 0} (span : X → Span) (asks : S → Search → Answer X → S → Type 0) (s : S) (w : Walk)
-    (r : Answer X) (s' : S) (w' : Walk) → Advances span asks s w r s' w' → ComesAfter w (place_of span r)
-    → LeavesFewer w (place_of span r) w' → IsCall w (place_of span r) w'
+pub step-call : {X S : Type 0} (span : X → Span) (asks : S → Search → Answer X → S → Type 0) (s : S) (w : IterState)
+    (r : Answer X) (s' : S) (w' : IterState) → Advances span asks s w r s' w' → ComesAfter w (answer_span span r)
+    → LeavesFewer w (answer_span span r) w' → IsCall w (answer_span span r) w'
 step-call span asks s w r s' w' step rises fewer = record {
   rises = rises;
   fewer = fewer;
-  moves = elim (chosen (repeats w (place_of span step.answer)) step.rest) [
+  moves = elim (chosen (repeats w (answer_span span step.answer)) step.rest) [
     | inl again ↦ inr again.1.1
     | inr first ↦ inl first.1.2
   ];

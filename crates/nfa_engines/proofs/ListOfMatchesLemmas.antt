@@ -4,10 +4,10 @@ use Rattle.std.specs.Prelude.{None, Some}
 use Rattle.regex_search_core.specs.Found.{Found}
 use Rattle.regex_search_core.specs.Search.{Search}
 use Rattle.nfa_paths.specs.Paths.{span_len}
-use Rattle.nfa_search_base.specs.Lists.{AreApart}
+use Rattle.nfa_search_base.specs.Lists.{AreDisjoint}
 
 -- matches that are apart end one after another, so there are few
-few-behind : (x : Search) (last : ℕ) (ms : List Found) → AreApart x (Some last) ms → length ms ≤ x.end - last
+few-behind : (x : Search) (last : ℕ) (ms : List Found) → AreDisjoint x (Some last) ms → length ms ≤ x.end - last
 few-behind x last [] apart = omega arith
 few-behind x last (m ∷ ms) apart =
     let past = apart.1 last refl in
@@ -17,7 +17,7 @@ few-behind x last (m ∷ ms) apart =
     omega arith
 
 -- as many as the span has bytes, and one more
-pub few-apart : (x : Search) (ms : List Found) → AreApart x None ms → length ms ≤ span_len x + 1
+pub few-apart : (x : Search) (ms : List Found) → AreDisjoint x None ms → length ms ≤ span_len x + 1
 few-apart x [] apart = omega arith
 few-apart x (m ∷ ms) apart =
     let rest : length ms ≤ x.end - m.end = few-behind x m.end ms apart.2 in

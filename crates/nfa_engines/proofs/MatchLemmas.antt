@@ -13,8 +13,8 @@ use Rattle.regex_search_core.specs.Slots.{offset_at, match_of}
 use Rattle.regex_search_core.specs.declared.search.MatchKind.{MatchKind}
 use Rattle.thompson_nfa.specs.Automaton.{Automaton, AreGroupsOfPatterns, IsAutomaton}
 use Rattle.nfa_paths.specs.Graphs.{Pair}
-use Rattle.nfa_paths.specs.Paths.{is_utf8_empty, path_pattern, slot_among, slot_row, IsAnswer, IsFoundAnswer}
-use Rattle.nfa_paths.specs.Paths.{IsMatchAnswer, IsScanAnswer, IsSearchAnswer}
+use Rattle.nfa_paths.specs.Paths.{is_utf8_empty, path_pattern, slot_among, slot_row, IsAnswer, IsBoolAnswer}
+use Rattle.nfa_paths.specs.Paths.{IsFindAnswer, IsScanAnswer, IsSearchAnswer}
 use Rattle.nfa_paths.proofs.AnswerLemmas.{scan_answer-leads}
 use Rattle.nfa_paths.proofs.ExistenceLemmas.{scan_answer-none}
 use Rattle.nfa_paths.proofs.KnownLemmas.{match-unique}
@@ -82,7 +82,7 @@ module _ (nfa : Automaton) where
     -- what all slots give is the match of the search
     pub all-match : (pattern : Option ℕ) (slots : List (Option ℕ)) (found : Option Found)
         → length slots ≡ slot_count nfa.groups → IsAnswer nfa kind earliest x pattern slots
-        → IsMatchAnswer nfa kind earliest x found → match_of pattern slots ≡ found
+        → IsFindAnswer nfa kind earliest x found → match_of pattern slots ≡ found
     all-match pattern slots found count a h =
         match-unique nfa kind earliest x (match_of pattern slots) found
         (record {
@@ -98,7 +98,7 @@ module _ (nfa : Automaton) where
     -- so do the slots that each pattern has
     pub two-match : (pattern : Option ℕ) (slots : List (Option ℕ)) (found : Option Found)
         → IsAutomaton nfa → 2 * length nfa.groups ≤ length slots → IsAnswer nfa kind earliest x pattern slots
-        → IsMatchAnswer nfa kind earliest x found → match_of pattern slots ≡ found
+        → IsFindAnswer nfa kind earliest x found → match_of pattern slots ≡ found
     two-match pattern slots found valid enough a h =
         match-unique nfa kind earliest x (match_of pattern slots) found
         (record {
@@ -134,7 +134,7 @@ module _ (nfa : Automaton) where
     none-nothing : IsScanAnswer nfa x kind earliest None → MatchesNothing nfa x
     none-nothing h = record { no_path = scan_answer-none nfa x kind earliest h }
 
-    pub found-something : (found : Bool) → found ≡ true → IsFoundAnswer nfa kind earliest x found
+    pub found-something : (found : Bool) → found ≡ true → IsBoolAnswer nfa kind earliest x found
         → MatchesSomething nfa x
     found-something found is_true h = of h.path (scanned h.restarts h.path h.answers) (sym is_true ∙ h.found_is)
       where
@@ -145,7 +145,7 @@ module _ (nfa : Automaton) where
             let to = scan_answer-leads nfa x kind earliest p scan in
             record { end = to.end; along = p; path = to.path; accepts = to.matches }
 
-    pub not_found-nothing : (found : Bool) → found ≡ false → IsFoundAnswer nfa kind earliest x found
+    pub not_found-nothing : (found : Bool) → found ≡ false → IsBoolAnswer nfa kind earliest x found
         → MatchesNothing nfa x
     not_found-nothing found is_false h = of h.path (scanned h.restarts h.path h.answers) (sym is_false ∙ h.found_is)
       where

@@ -18,7 +18,7 @@ use Rattle.regex_search_core.specs.declared.search.MatchKind.TheVariants.{All, L
 use Rattle.thompson_nfa.specs.Automaton.{Automaton}
 use Rattle.nfa_paths.specs.Graphs.{Pair}
 use Rattle.nfa_paths.specs.Paths.{capture, edges, is_utf8_empty, node_at, path_pattern, pattern_of, slot_among}
-use Rattle.nfa_paths.specs.Paths.{slot_row, starts, IsAnswer, IsMatch, IsMatchAnswer, IsScanAnswer, IsSearchAnswer}
+use Rattle.nfa_paths.specs.Paths.{slot_row, starts, IsAnswer, IsMatch, IsFindAnswer, IsScanAnswer, IsSearchAnswer}
 use Rattle.nfa_engines.specs.SpanLaws.{moved_match, moved_slots}
 use Rattle.nfa_engines.proofs.MovedLemmas.{moved, moved_path, ArePathsMoved, first_path-moved, earliest_path-moved}
 use Rattle.nfa_engines.proofs.MovedLemmas.{last_path-moved, earliest_last_path-moved}
@@ -179,8 +179,8 @@ module _ (nfa : Automaton) (k : ℕ) where
       }
 
       -- the match
-      pub match_answer-moved : (found : Option Found) → IsMatchAnswer nfa kind earliest x found
-          → IsMatchAnswer nfa kind earliest y (option_map (moved_match k) found)
+      pub match_answer-moved : (found : Option Found) → IsFindAnswer nfa kind earliest x found
+          → IsFindAnswer nfa kind earliest y (option_map (moved_match k) found)
       match_answer-moved found h = record {
         restarts = 0;
         path = option_map (moved_path k) h.path;

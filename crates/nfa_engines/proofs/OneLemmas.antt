@@ -8,7 +8,7 @@ use Rattle.regex_search_core.specs.declared.search.MatchKind.{MatchKind}
 use Rattle.regex_search_core.specs.declared.search.MatchKind.TheVariants.{All}
 use Rattle.thompson_nfa.specs.Automaton.{Automaton, IsAutomaton}
 use Rattle.nfa_paths.specs.Overlaps.{HoldsPattern, IsPermitted, IsPatternOf, IsOverlapResult}
-use Rattle.nfa_paths.specs.Paths.{IsAnswer, IsFoundAnswer}
+use Rattle.nfa_paths.specs.Paths.{IsAnswer, IsBoolAnswer}
 use Rattle.nfa_paths.proofs.AnswerLemmas.{search_answer-unique}
 use Rattle.nfa_paths.proofs.PatternLemmas.{node-pattern, found-of}
 
@@ -20,15 +20,15 @@ same-test false false f g = refl
 
 module _ (nfa : Automaton) (x : Search) where
   -- whether a search finds something has one answer
-  pub found-unique : (kind : MatchKind) (earliest : Bool) (a b : Bool) → IsFoundAnswer nfa kind earliest x a
-      → IsFoundAnswer nfa kind earliest x b → a ≡ b
+  pub found-unique : (kind : MatchKind) (earliest : Bool) (a b : Bool) → IsBoolAnswer nfa kind earliest x a
+      → IsBoolAnswer nfa kind earliest x b → a ≡ b
   found-unique kind earliest a b h k =
       let one = search_answer-unique nfa kind earliest x h.restarts k.restarts h.path k.path h.answers k.answers in
       h.found_is ∙ ap is_some one.1 ∙ sym k.found_is
 
   -- and it is whether the search has a pattern
   pub found-pattern : (kind : MatchKind) (earliest : Bool) (p : Option ℕ) (s : List (Option ℕ)) (found : Bool)
-      → IsAnswer nfa kind earliest x p s → IsFoundAnswer nfa kind earliest x found → found ≡ is_some p
+      → IsAnswer nfa kind earliest x p s → IsBoolAnswer nfa kind earliest x found → found ≡ is_some p
   found-pattern kind earliest p s found answer h =
       found-unique kind earliest found (is_some p) h (found-of nfa kind earliest x s p answer)
 

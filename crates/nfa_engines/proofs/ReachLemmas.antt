@@ -8,11 +8,11 @@ use Rattle.regex_search_core.specs.declared.search.MatchKind.{MatchKind}
 use Rattle.regex_search_core.specs.declared.search.Span.{Span}
 use Rattle.thompson_nfa.specs.Automaton.{Automaton}
 use Rattle.nfa_paths.specs.Graphs.{Pair}
-use Rattle.nfa_paths.specs.Paths.{EndsOnBoundary, IsKeptAnswer, IsMatchAnswer, IsRestartedAnswer, IsScanAnswer}
-use Rattle.nfa_paths.specs.Paths.{IsSearchAnswer, IsWhole, SplitsCharacter, is_utf8_empty, raised, scan_limit}
+use Rattle.nfa_paths.specs.Paths.{EndsOnBoundary, IsKeptAnswer, IsFindAnswer, IsRestartedAnswer, IsScanAnswer}
+use Rattle.nfa_paths.specs.Paths.{IsSearchAnswer, IsWhole, SplitsCharacter, is_utf8_empty, raised, max_scans}
 use Rattle.nfa_paths.proofs.AnswerLemmas.{scan_answer-within, search_answer-unique}
 use Rattle.nfa_paths.proofs.InsideLemmas.{match-within}
-use Rattle.nfa_search_base.specs.Walks.{span_of}
+use Rattle.nfa_search_base.specs.IterStates.{span_of}
 
 -- no restart
 unmoved : (x : Search) (i : ℕ) → i ≡ 0 → x ≡ raised x i
@@ -87,7 +87,7 @@ module _ (nfa : Automaton) (kind : MatchKind) (earliest : Bool) where
     few-scans = let all = few-restarts x restarts path answers in omega (arith, few, all)
 
     -- the match ends behind the starts that were passed
-    pub match-reaches : (f : Found) → IsMatchAnswer nfa kind earliest x (Some f) → Reaches x count (Some (span_of f))
+    pub match-reaches : (f : Found) → IsFindAnswer nfa kind earliest x (Some f) → Reaches x count (Some (span_of f))
     match-reaches f a =
         let one = search_answer-unique nfa kind earliest x a.restarts restarts a.path path a.answers answers in
         let same : a.restarts ≡ restarts = one.0 in
@@ -100,12 +100,12 @@ module _ (nfa : Automaton) (kind : MatchKind) (earliest : Bool) where
         (omega (arith, k.0, k.1), k.2, omega (arith, few, k.0, k.1, same))
 
   -- a match that no scan finds lies in the span
-  pub match-known : (x : Search) (f : Found) → IsMatchAnswer nfa kind earliest x (Some f)
+  pub match-known : (x : Search) (f : Found) → IsFindAnswer nfa kind earliest x (Some f)
       → Reaches x 0 (Some (span_of f))
   match-known x f a = let k = match-within nfa kind earliest x f a in
       (omega (arith, k.0, k.1), k.2, omega (arith, k.0, k.1))
 
 -- one scan, where none restarts
-pub one-scan : (nfa : Automaton) (x : Search) (count : ℕ) → restarts_in nfa x ≡ false → count ≤ scan_limit nfa x
+pub one-scan : (nfa : Automaton) (x : Search) (count : ℕ) → restarts_in nfa x ≡ false → count ≤ max_scans nfa x
     → count ≤ 1
 one-scan nfa x count never few = rw never at few

@@ -13,7 +13,7 @@ use Rattle.thompson_nfa.specs.Automaton.{Automaton, Node}
 use Rattle.thompson_nfa.specs.Automaton.Node.{ByteRange, Sparse, Dense, Look, Union, BinaryUnion, Capture, Fail, Match}
 use Rattle.nfa_paths.specs.Graphs.{Pair, In}
 use Rattle.nfa_paths.specs.Paths.{byte_at, edges, edges_of, is_utf8_empty, node_at, pairs_from, start_count}
-use Rattle.nfa_paths.specs.Paths.{start_state, starts, target_on, IsAnswer, IsMatch, IsMatchAnswer}
+use Rattle.nfa_paths.specs.Paths.{start_state, starts, target_on, IsAnswer, IsMatch, IsFindAnswer}
 use Rattle.nfa_paths.proofs.ScanAnswerLemmas.{edges-onward}
 use Rattle.nfa_paths.proofs.StartLemmas.{pairs_from-ahead}
 use Rattle.nfa_engines.specs.SpanLaws.{cut_out, moved_match, moved_slots, AreBytesMoved, AssertsNothing, HasNoLook}
@@ -151,10 +151,10 @@ module _ (nfa : Automaton) (k : ℕ) (x y : Search) (plain : HasNoLook nfa) (spa
         subst (λ (z : Search). IsAnswer nfa kind earliest z pattern (moved_slots k slots)) (sym is_there)
         (answer-moved nfa k x there span-paths anywhere kind earliest pattern slots h)
 
-    pub span-match : (found : Option Found) → IsMatchAnswer nfa kind earliest x found
-        → IsMatchAnswer nfa kind earliest y (option_map (moved_match k) found)
+    pub span-match : (found : Option Found) → IsFindAnswer nfa kind earliest x found
+        → IsFindAnswer nfa kind earliest y (option_map (moved_match k) found)
     span-match found h =
-        subst (λ (z : Search). IsMatchAnswer nfa kind earliest z (option_map (moved_match k) found)) (sym is_there)
+        subst (λ (z : Search). IsFindAnswer nfa kind earliest z (option_map (moved_match k) found)) (sym is_there)
         (match_answer-moved nfa k x there span-paths anywhere kind earliest found h)
 
 -- the same span
@@ -179,9 +179,9 @@ same-answer nfa x y kind earliest pattern slots plain anywhere same h =
 
 pub same-match : (nfa : Automaton) (x y : Search) (kind : MatchKind) (earliest : Bool) (found : Option Found)
     → HasNoLook nfa → is_utf8_empty nfa ≡ false → IsSameSpan x y
-    → IsMatchAnswer nfa kind earliest x found → IsMatchAnswer nfa kind earliest y found
+    → IsFindAnswer nfa kind earliest x found → IsFindAnswer nfa kind earliest y found
 same-match nfa x y kind earliest found plain anywhere same h =
-    subst (IsMatchAnswer nfa kind earliest y) (moved_match-none found)
+    subst (IsFindAnswer nfa kind earliest y) (moved_match-none found)
     (span-match nfa 0 x y plain (same-moved x y same) (same-bytes x y same) anywhere kind earliest found h)
 
 -- the span cut out
@@ -217,7 +217,7 @@ cut-answer nfa x kind earliest pattern slots plain anywhere ordered h =
 
 pub cut-match : (nfa : Automaton) (x : Search) (kind : MatchKind) (earliest : Bool) (found : Option Found)
     → HasNoLook nfa → is_utf8_empty nfa ≡ false → x.start ≤ x.end
-    → IsMatchAnswer nfa kind earliest (cut_out x) found
-    → IsMatchAnswer nfa kind earliest x (option_map (moved_match x.start) found)
+    → IsFindAnswer nfa kind earliest (cut_out x) found
+    → IsFindAnswer nfa kind earliest x (option_map (moved_match x.start) found)
 cut-match nfa x kind earliest found plain anywhere ordered h =
     span-match nfa x.start (cut_out x) x plain (cut-moved x ordered) (cut-bytes x) anywhere kind earliest found h

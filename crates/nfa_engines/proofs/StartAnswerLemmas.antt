@@ -13,7 +13,7 @@ use Rattle.regex_search_core.specs.declared.search.MatchKind.TheVariants.{Leftmo
 use Rattle.thompson_nfa.specs.Automaton.{Automaton}
 use Rattle.nfa_paths.specs.Graphs.{Pair, ComesBefore, PathTo, IsFirstTo}
 use Rattle.nfa_paths.specs.Paths.{edges, path_pattern, slot_row, starts, IsAnswer, IsMatch}
-use Rattle.nfa_paths.specs.Paths.{IsMatchAnswer, IsScanAnswer, IsSearchAnswer}
+use Rattle.nfa_paths.specs.Paths.{IsFindAnswer, IsScanAnswer, IsSearchAnswer}
 use Rattle.nfa_engines.specs.Accepting.{MatchesNothing}
 use Rattle.nfa_engines.specs.StartLaws.{anchored_at, from_start, IsAnswerStart, IsFirstStart, IsUnbound}
 use Rattle.nfa_engines.proofs.MovedLemmas.{moved, moved_path, moved_path-none, ArePathsMoved}
@@ -130,11 +130,11 @@ module _ (nfa : Automaton) (x : Search) (free : IsUnbound nfa x) where
     )
 
     pub match-passed : (kind : MatchKind) (earliest : Bool) (found : Option Found)
-        → IsMatchAnswer nfa kind earliest x found ↔ IsMatchAnswer nfa kind earliest (from_start x s) found
+        → IsFindAnswer nfa kind earliest x found ↔ IsFindAnswer nfa kind earliest (from_start x s) found
     match-passed kind earliest found = (
-      λ h. subst (IsMatchAnswer nfa kind earliest (from_start x s)) (moved_match-none found)
+      λ h. subst (IsFindAnswer nfa kind earliest (from_start x s)) (moved_match-none found)
           (match_answer-moved nfa 0 x (from_start x s) on free.anywhere kind earliest found h),
-      λ h. subst (IsMatchAnswer nfa kind earliest x) (moved_match-none found)
+      λ h. subst (IsFindAnswer nfa kind earliest x) (moved_match-none found)
           (match_answer-moved nfa 0 (from_start x s) x back free.anywhere kind earliest found h),
     )
 
@@ -193,13 +193,13 @@ module _ (nfa : Automaton) (x : Search) (free : IsUnbound nfa x) where
       }
 
   pub match-first : (s : ℕ) (m : Found) → IsFirstStart nfa x s
-      → IsMatchAnswer nfa LeftmostFirst false (anchored_at x s) (Some m)
-      → IsMatchAnswer nfa LeftmostFirst false x (Some m)
+      → IsFindAnswer nfa LeftmostFirst false (anchored_at x s) (Some m)
+      → IsFindAnswer nfa LeftmostFirst false x (Some m)
   match-first s m first h = of h.path (scan-of (anchored_at x s) h.restarts h.path h.answers) h.found_is
     where
       of : (r : Option (List Pair)) → IsScanAnswer nfa (anchored_at x s) LeftmostFirst false r
           → Some m ≡ match_of (option_and_then (path_pattern nfa) r) (slot_row nfa (slot_count nfa.groups) r)
-          → IsMatchAnswer nfa LeftmostFirst false x (Some m)
+          → IsFindAnswer nfa LeftmostFirst false x (Some m)
       of None scan is = cc
       of (Some p) scan is = record {
         restarts = 0;

@@ -7,21 +7,21 @@ use Rattle.std.proofs.lemmas.Bool.{and_parts, eqb-true}
 use Rattle.regex_search_core.specs.Search.{Search}
 use Rattle.regex_search_core.specs.declared.search.Span.{Span}
 use Rattle.thompson_nfa.specs.Automaton.{Automaton}
-use Rattle.nfa_paths.specs.Paths.{span_len, turn_weight}
-use Rattle.nfa_search_base.specs.Behind.{IsBehind}
+use Rattle.nfa_paths.specs.Paths.{span_len, total_degree}
+use Rattle.nfa_search_base.specs.LastEnd.{EndsBy}
 use Rattle.nfa_search_base.specs.Leaving.{StepsLead, answers_to_end}
-use Rattle.nfa_search_base.specs.Likes.{SameButStart}
-use Rattle.nfa_search_base.specs.Walks.{Advances, Answer, AnswerIsInside, Walk, after, ends_left, fresh}
-use Rattle.nfa_search_base.specs.Walks.{place_of, repeats, shifted}
+use Rattle.nfa_search_base.specs.SameBut.{SameButStart}
+use Rattle.nfa_search_base.specs.IterStates.{Advances, Answer, AnswerIsInside, IterState, after, ends_left, fresh}
+use Rattle.nfa_search_base.specs.IterStates.{answer_span, repeats, shifted}
 use Rattle.nfa_search_base.proofs.AskingLemmas.{same_start-self, same_start-then}
 use Rattle.nfa_search_base.proofs.StepLemmas.{Advances-fewer, chosen, same_start-after, same_start-shifted}
-use Rattle.nfa_search_base.proofs.WalkLemmas.{IsOrdered}
+use Rattle.nfa_search_base.proofs.IterStateLemmas.{IsOrdered}
 use Rattle.nfa_engines.specs.WorkLaws.{AddsAtMost, Totals, list_scan_limit}
 use Rattle.nfa_engines.proofs.ReachLemmas.{Reaches, restarts_in, starts_left}
 
 -- the turns of a scan of the span of x, or of a part of it, at most
 abbrev pub turns_in : Automaton → Search → ℕ
-turns_in nfa x = (1 + turn_weight nfa) * (span_len x + 1)
+turns_in nfa x = (1 + total_degree nfa) * (span_len x + 1)
 
 -- so many scans were added, each of at most `weight` turns
 pub record Adds (weight : ℕ) (old new : Totals) (count : ℕ) : Type 0 where
@@ -46,7 +46,8 @@ adds-both weight a b c m n h k = record {
 }
 
 -- the match that is repeated ends where the last one did
-repeated : (at : Search) (last : Option ℕ) (place : Option Span) → repeats (record { at = at; last = last }) place ≡ true
+repeated : (at : Search) (last : Option ℕ) (place : Option Span)
+    → repeats (record { at = at; last = last }) place ≡ true
     → (p : Span) × (place ≡ Some p) × (last ≡ Some p.end)
 repeated at last None again = cc
 repeated at None (Some p) again = let never : false ≡ true = (and_parts (p.start == p.end) false again).1 in cc
@@ -73,10 +74,10 @@ two-searches last e is = rw is (omega arith)
 
 module _ (x : Search) where
   -- where an iteration over x stands
-  pub record IsOf (w : Walk) : Type 0 where
+  pub record IsOf (w : IterState) : Type 0 where
     pub like : SameButStart x w.at
     pub from : x.start ≤ w.at.start
-    pub behind : IsBehind w.last w.at.start
+    pub behind : EndsBy w.last w.at.start
 
   pub is_of-fresh : IsOf (fresh x)
   is_of-fresh = record {
@@ -85,7 +86,7 @@ module _ (x : Search) where
     behind = λ e is. let never : None ≡ Some e = is in cc;
   }
 
-  is_of-after : (w : Walk) (p : Span) → IsOf w → w.at.start ≤ p.end → IsOf (after w (Some p))
+  is_of-after : (w : IterState) (p : Span) → IsOf w → w.at.start ≤ p.end → IsOf (after w (Some p))
   is_of-after w p h on = record {
     like = same_start-then x w.at (after w (Some p)).at h.like (same_start-after w (Some p));
     from = let from = h.from in omega (arith, from, on);
@@ -96,12 +97,12 @@ module _ (x : Search) where
       some-same a b e = cc
 
   -- What a step from w to v with a match at `place` leaves, by so many scans.
-  abbrev Onward : Walk → Walk → Option Span → ℕ → Type 0
+  abbrev Onward : IterState → IterState → Option Span → ℕ → Type 0
   Onward w v None count = count ≤ starts_left w.at + 1
   Onward w v (Some p) count =
       IsOf v × (v.last ≡ Some p.end) × (count + starts_left v.at ≤ starts_left w.at + 1)
 
-  onward-once : (free : Bool) (w v : Walk) (place : Option Span) (count : ℕ) → IsOf w → v ≡ after w place
+  onward-once : (free : Bool) (w v : IterState) (place : Option Span) (count : ℕ) → IsOf w → v ≡ after w place
       → Costs free w.at place count → Onward w v place count
   onward-once free w v None count h is cost = cost.starts
   onward-once free w v (Some p) count h is cost =
@@ -109,12 +110,12 @@ module _ (x : Search) where
       let there : IsOf (after w (Some p)) = is_of-after w p h reach.0 in
       let fewer : count + starts_left (after w (Some p)).at ≤ starts_left w.at + 1 =
       omega (arith, reach.0, reach.1, reach.2) in (
-        subst (λ (u : Walk). IsOf u) (sym is) there,
-        ap (λ (u : Walk). u.last) is,
-        subst (λ (u : Walk). count + starts_left u.at ≤ starts_left w.at + 1) (sym is) fewer,
+        subst (λ (u : IterState). IsOf u) (sym is) there,
+        ap (λ (u : IterState). u.last) is,
+        subst (λ (u : IterState). count + starts_left u.at ≤ starts_left w.at + 1) (sym is) fewer,
       )
 
-  onward-twice : (free : Bool) (w v : Walk) (p : Span) (place : Option Span) (first second : ℕ) → IsOf w
+  onward-twice : (free : Bool) (w v : IterState) (p : Span) (place : Option Span) (first second : ℕ) → IsOf w
       → p.end ≤ w.at.start → v ≡ after (shifted w) place → Reaches w.at first (Some p)
       → Costs free (shifted w).at place second
       → Onward w v place (first + second)
@@ -125,9 +126,9 @@ module _ (x : Search) where
       let there : IsOf (after w (Some q)) = is_of-after w q h (omega (arith, again.0)) in
       let fewer : first + second + starts_left (after w (Some q)).at ≤ starts_left w.at + 1 =
       omega (arith, at, reach.0, reach.1, reach.2, again.0, again.1, again.2) in (
-        subst (λ (u : Walk). IsOf u) (sym is) there,
-        ap (λ (u : Walk). u.last) is,
-        subst (λ (u : Walk). first + second + starts_left u.at ≤ starts_left w.at + 1) (sym is) fewer,
+        subst (λ (u : IterState). IsOf u) (sym is) there,
+        ap (λ (u : IterState). u.last) is,
+        subst (λ (u : IterState). first + second + starts_left u.at ≤ starts_left w.at + 1) (sym is) fewer,
       )
 
 -- the matches among answers
@@ -142,7 +143,7 @@ found_count-to_end [] = refl
 found_count-to_end (m ∷ ms) = let rest = found_count-to_end ms in omega (arith, rest)
 
 -- What steps from w on add that give so many matches.
-pub record Led (weight : ℕ) (free : Bool) (w : Walk) (found : ℕ) (old new : Totals) : Type 0 where
+pub record Led (weight : ℕ) (free : Bool) (w : IterState) (found : ℕ) (old new : Totals) : Type 0 where
   pub count : ℕ
   pub adds : Adds weight old new count
   pub starts : count ≤ starts_left w.at + 1 + found
@@ -152,32 +153,33 @@ pub record Led (weight : ℕ) (free : Bool) (w : Walk) (found : ℕ) (old new : 
 module _ {S X : Type 0} (span : X → Span) (asks : S → Search → Answer X → S → Type 0) (totals : S → Totals)
     (Good : S → Type 0) (weight : ℕ) (free : Bool) (x : Search)
     (costs : (s : S) (y : Search) (a : Answer X) (t : S) → SameButStart x y → x.start ≤ y.start → Good s → asks s y a t
-    → (count : ℕ) × Costs free y (place_of span a) count × Adds weight (totals s) (totals t) count × Good t) where
+    → (count : ℕ) × Costs free y (answer_span span a) count × Adds weight (totals s) (totals t) count × Good t) where
   -- what a step adds
-  record Stepped (s : S) (w : Walk) (a : Answer X) (t : S) (v : Walk) : Type 0 where
+  record Stepped (s : S) (w : IterState) (a : Answer X) (t : S) (v : IterState) : Type 0 where
     count : ℕ
     adds : Adds weight (totals s) (totals t) count
-    onward : Onward x w v (place_of span a) count
+    onward : Onward x w v (answer_span span a) count
     once : free ≡ false → count ≤ searches_at w.last
     good : Good t
 
-  stepped : (s : S) (w : Walk) (a : Answer X) (t : S) (v : Walk) → IsOf x w → Good s → Advances span asks s w a t v
+  stepped : (s : S) (w : IterState) (a : Answer X) (t : S) (v : IterState) → IsOf x w → Good s
+      → Advances span asks s w a t v
       → Stepped s w a t v
   stepped s w a t v h good step =
       let one = costs s w.at step.answer step.between h.like h.from good step.first in
-      elim (chosen (repeats w (place_of span step.answer)) step.rest) [
+      elim (chosen (repeats w (answer_span span step.answer)) step.rest) [
         | inl p ↦
             let from : x.start ≤ (shifted w).at.start = let from = h.from in omega (arith, from) in
             let like = same_start-then x w.at (shifted w).at h.like (same_start-shifted w) in
             let two = costs step.between (shifted w).at a t like from one.3 p.1.0 in
-            let same = repeated w.at w.last (place_of span step.answer) p.0 in
+            let same = repeated w.at w.last (answer_span span step.answer) p.0 in
             let reach : Reaches w.at one.0 (Some same.0) =
             subst (λ (o : Option Span). Reaches w.at one.0 o) same.1 one.1.reach in
             record {
               count = one.0 + two.0;
               adds = adds-both weight (totals s) (totals step.between) (totals t) one.0 two.0 one.2 two.2;
               onward =
-                  onward-twice x free w v same.0 (place_of span a) one.0 two.0 h (h.behind same.0.end same.2) p.1.1
+                  onward-twice x free w v same.0 (answer_span span a) one.0 two.0 h (h.behind same.0.end same.2) p.1.1
                   reach two.1;
               once = λ never.
                   let a = one.1.once never in
@@ -187,18 +189,18 @@ module _ {S X : Type 0} (span : X → Span) (asks : S → Search → Answer X �
               good = two.3;
             }
         | inr p ↦
-            let cost : Costs free w.at (place_of span a) one.0 =
-            subst (λ (b : Answer X). Costs free w.at (place_of span b) one.0) (sym p.1.0) one.1 in
+            let cost : Costs free w.at (answer_span span a) one.0 =
+            subst (λ (b : Answer X). Costs free w.at (answer_span span b) one.0) (sym p.1.0) one.1 in
             record {
               count = one.0;
               adds = subst (λ (u : S). Adds weight (totals s) (totals u) one.0) (sym p.1.1) one.2;
-              onward = onward-once x free w v (place_of span a) one.0 h p.1.2 cost;
+              onward = onward-once x free w v (answer_span span a) one.0 h p.1.2 cost;
               once = λ never. let a = cost.once never in let b = few-searches w.last in omega (arith, a, b);
               good = subst (λ (u : S). Good u) (sym p.1.1) one.3;
             }
       ]
 
-  pub led : (w : Walk) (s : S) (answers : List (Answer X)) (t : S) → IsOf x w → Good s
+  pub led : (w : IterState) (s : S) (answers : List (Answer X)) (t : S) → IsOf x w → Good s
       → StepsLead span asks w s answers t → Led weight free w (found_count answers) (totals s) (totals t)
   led w s [] t h good steps = record {
     count = 0;
@@ -240,8 +242,8 @@ module _ {S X : Type 0} (span : X → Span) (asks : S → Search → Answer X �
 
   -- There are at most as many matches as ends are left.
   module _ (lies : (s : S) (y : Search) (a : Answer X) (t : S) → asks s y a t → AnswerIsInside span y a
-      × IsOrdered (place_of span a)) where
-    pub few-found : (w : Walk) (s : S) (answers : List (Answer X)) (t : S) → IsOf x w → Good s
+      × IsOrdered (answer_span span a)) where
+    pub few-found : (w : IterState) (s : S) (answers : List (Answer X)) (t : S) → IsOf x w → Good s
         → StepsLead span asks w s answers t → found_count answers ≤ ends_left w
     few-found w s [] t h good steps = omega arith
     few-found w s (Ok (Some m) ∷ rest) t h good steps =
@@ -269,7 +271,8 @@ module _ (nfa : Automaton) (x : Search) (found : ℕ) (old new : Totals)
     (all : Led (turns_in nfa x) (restarts_in nfa x) (fresh x) found old new) where
   -- past so many matches
   pub list-within : AddsAtMost (list_scan_limit nfa x found) nfa x old new
-  list-within = within-limit nfa x old new all.count (list_scan_limit nfa x found) (fits (restarts_in nfa x) refl) all.adds
+  list-within = within-limit nfa x old new all.count (list_scan_limit nfa x found)
+      (fits (restarts_in nfa x) refl) all.adds
     where
       fits : (free : Bool) → restarts_in nfa x ≡ free → all.count ≤ cond free (span_len x + found + 2) (2 * found + 1)
       fits true is = let few = all.starts in omega (arith, few)

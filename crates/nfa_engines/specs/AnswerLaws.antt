@@ -6,7 +6,7 @@ use Rattle.regex_search_core.specs.Search.{Search}
 use Rattle.regex_search_core.specs.Slots.{match_of}
 use Rattle.regex_search_core.specs.declared.search.MatchKind.{MatchKind}
 use Rattle.thompson_nfa.specs.Automaton.{Automaton, IsAutomaton}
-use Rattle.nfa_paths.specs.Paths.{is_utf8_empty, IsAnswer, IsFoundAnswer, IsMatchAnswer}
+use Rattle.nfa_paths.specs.Paths.{is_utf8_empty, IsAnswer, IsBoolAnswer, IsFindAnswer}
 use Rattle.nfa_engines.specs.Accepting.{MatchesNothing, MatchesPattern, MatchesSomething}
 
 -- the match that the pattern and slots of an answer give is that of the search, if all slots of the NFA were given
@@ -14,7 +14,7 @@ abbrev pub AllSlotsGiveTheMatch : Type 0
 AllSlotsGiveTheMatch =
     (nfa : Automaton) (x : Search) (kind : MatchKind) (earliest : Bool) (pattern : Option ℕ) (slots : List (Option ℕ))
     (found : Option Found) → length slots ≡ slot_count nfa.groups
-    → IsAnswer nfa kind earliest x pattern slots → IsMatchAnswer nfa kind earliest x found
+    → IsAnswer nfa kind earliest x pattern slots → IsFindAnswer nfa kind earliest x found
     → match_of pattern slots ≡ found
 
 -- the same with any number of slots, if each pattern that has groups has its two
@@ -22,20 +22,20 @@ abbrev pub TwoSlotsGiveTheMatch : Type 0
 TwoSlotsGiveTheMatch =
     (nfa : Automaton) (x : Search) (kind : MatchKind) (earliest : Bool) (pattern : Option ℕ) (slots : List (Option ℕ))
     (found : Option Found) → IsAutomaton nfa → 2 * length nfa.groups ≤ length slots
-    → IsAnswer nfa kind earliest x pattern slots → IsMatchAnswer nfa kind earliest x found
+    → IsAnswer nfa kind earliest x pattern slots → IsFindAnswer nfa kind earliest x found
     → match_of pattern slots ≡ found
 
 -- If a match may end anywhere: a search that finds something has an accepting path,
 abbrev pub FoundIsSomething : Type 0
 FoundIsSomething =
     (nfa : Automaton) (x : Search) (kind : MatchKind) (earliest found : Bool) → is_utf8_empty nfa ≡ false
-    → found ≡ true → IsFoundAnswer nfa kind earliest x found → MatchesSomething nfa x
+    → found ≡ true → IsBoolAnswer nfa kind earliest x found → MatchesSomething nfa x
 
 -- and a search that finds nothing has none;
 abbrev pub NotFoundIsNothing : Type 0
 NotFoundIsNothing =
     (nfa : Automaton) (x : Search) (kind : MatchKind) (earliest found : Bool) → is_utf8_empty nfa ≡ false
-    → found ≡ false → IsFoundAnswer nfa kind earliest x found → MatchesNothing nfa x
+    → found ≡ false → IsBoolAnswer nfa kind earliest x found → MatchesNothing nfa x
 
 -- a pattern of its answer is that of an accepting path,
 abbrev pub PatternIsMatched : Type 0

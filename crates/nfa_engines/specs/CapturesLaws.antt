@@ -6,8 +6,8 @@ use Rattle.regex_search_core.specs.Slots.{Captured}
 use Rattle.regex_search_core.specs.declared.search.MatchKind.{MatchKind}
 use Rattle.regex_search_core.specs.declared.search.MatchKind.TheVariants.{LeftmostFirst}
 use Rattle.thompson_nfa.specs.Automaton.{Automaton}
-use Rattle.nfa_search_base.specs.Catching.{Row, UpToRefusal, row_found, row_of}
-use Rattle.nfa_search_base.specs.CaughtLists.{AreAllCaptures, AreFirstRows, AreRows, TellsRow}
+use Rattle.nfa_search_base.specs.WithCaptures.{Row, UpToRefusal, row_found, row_of}
+use Rattle.nfa_search_base.specs.CapturesLists.{AreAllCaptures, AreFirstRows, AreRows, AnswersRow}
 use Rattle.nfa_search_base.specs.Items.{item_by}
 use Rattle.nfa_search_base.specs.Lists.{AreFirstMatches, AreMatches}
 use Rattle.nfa_search_base.specs.declared.error.SearchError.{SearchError}
@@ -47,5 +47,5 @@ abbrev pub CapturesUpToRefusal : Type 0
 CapturesUpToRefusal =
     (nfa : Automaton) (x : Search) (kind : MatchKind) (earliest : Bool) (rows : List Row)
     (items : List (Result Captured SearchError))
-    → AreRows nfa kind earliest x rows → AreAllCaptures (TellsRow nfa kind earliest) x items
+    → AreRows nfa kind earliest x rows → AreAllCaptures (AnswersRow nfa kind earliest) x items
     → UpToRefusal (map (λ row. Ok row) rows) (map (item_by row_of) items)

@@ -8,9 +8,9 @@ use Rattle.regex_search_core.specs.declared.search.MatchKind.TheVariants.{Leftmo
 use Rattle.thompson_nfa.specs.Automaton.{Automaton}
 use Rattle.nfa_paths.specs.Graphs.{Pair}
 use Rattle.nfa_paths.specs.Overlaps.{IsOverlapResult}
-use Rattle.nfa_paths.specs.Paths.{IsSearchAnswer, IsAnswer, IsFoundAnswer, IsMatchAnswer}
-use Rattle.nfa_search_base.specs.Catching.{Row}
-use Rattle.nfa_search_base.specs.CaughtLists.{AreRows}
+use Rattle.nfa_paths.specs.Paths.{IsSearchAnswer, IsAnswer, IsBoolAnswer, IsFindAnswer}
+use Rattle.nfa_search_base.specs.WithCaptures.{Row}
+use Rattle.nfa_search_base.specs.CapturesLists.{AreRows}
 use Rattle.nfa_search_base.specs.Lists.{AreMatches}
 
 -- the path that a search answers
@@ -33,15 +33,15 @@ AnswerReadsNoFlag =
 abbrev pub FoundReadsNoFlag : Type 0
 FoundReadsNoFlag =
     (nfa : Automaton) (x : Search) (flag : Bool) (kind : MatchKind) (earliest found : Bool)
-    → IsFoundAnswer nfa kind earliest (record x { earliest = flag }) found
-    ↔ IsFoundAnswer nfa kind earliest x found
+    → IsBoolAnswer nfa kind earliest (record x { earliest = flag }) found
+    ↔ IsBoolAnswer nfa kind earliest x found
 
 -- the match
 abbrev pub MatchReadsNoFlag : Type 0
 MatchReadsNoFlag =
     (nfa : Automaton) (x : Search) (flag : Bool) (kind : MatchKind) (earliest : Bool) (found : Option Found)
-    → IsMatchAnswer nfa kind earliest (record x { earliest = flag }) found
-    ↔ IsMatchAnswer nfa kind earliest x found
+    → IsFindAnswer nfa kind earliest (record x { earliest = flag }) found
+    ↔ IsFindAnswer nfa kind earliest x found
 
 -- the list of the matches
 abbrev pub MatchesReadNoFlag : Type 0
@@ -71,7 +71,7 @@ FoundUnderAnyFlag =
     (nfa : Automaton) (x y : Search) (flag : Bool) (kind : MatchKind) (found : Bool)
     (pattern : Option ℕ) (slots : List (Option ℕ))
     → y ≡ record x { earliest = flag } → x.earliest ≡ false
-    → IsFoundAnswer nfa kind false y found → IsAnswer nfa kind x.earliest x pattern slots → found ≡ is_some pattern
+    → IsBoolAnswer nfa kind false y found → IsAnswer nfa kind x.earliest x pattern slots → found ≡ is_some pattern
 
 -- An engine that ignores the flag gives, under any flag, the answer of one that searches without it.
 abbrev pub AnswersUnderAnyFlag : Type 0
@@ -86,4 +86,4 @@ abbrev pub MatchUnderAnyFlag : Type 0
 MatchUnderAnyFlag =
     (nfa other : Automaton) (x y : Search) (flag : Bool) (kind : MatchKind) (a b : Option Found)
     → other ≡ nfa → kind ≡ LeftmostFirst → y ≡ record x { earliest = flag } → x.earliest ≡ false
-    → IsMatchAnswer nfa kind x.earliest x a → IsMatchAnswer other LeftmostFirst false y b → a ≡ b
+    → IsFindAnswer nfa kind x.earliest x a → IsFindAnswer other LeftmostFirst false y b → a ≡ b

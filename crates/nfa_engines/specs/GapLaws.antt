@@ -5,7 +5,7 @@ use Rattle.regex_search_core.specs.Search.{Search}
 use Rattle.regex_search_core.specs.declared.search.MatchKind.{MatchKind}
 use Rattle.thompson_nfa.specs.Automaton.{Automaton, IsAutomaton}
 use Rattle.nfa_paths.specs.Graphs.{Pair, HeadIs, PathTo, NoPath}
-use Rattle.nfa_paths.specs.Paths.{edges, starts, is_utf8_empty, IsMatch, IsMatchAnswer, path_pattern, slot_among}
+use Rattle.nfa_paths.specs.Paths.{edges, starts, is_utf8_empty, IsMatch, IsFindAnswer, path_pattern, slot_among}
 
 -- the path writes its start and its end into the two slots of its pattern
 pub record WritesItsEnds (nfa : Automaton) (end : Pair) (p : List Pair) : Type 0 where
@@ -26,7 +26,7 @@ abbrev pub NoneIsNoPath : MatchKind → Bool → Type 0
 NoneIsNoPath kind earliest =
     (nfa : Automaton) (x : Search) (found : Option Found) → IsAutomaton nfa → is_utf8_empty nfa ≡ false
     → PathsWriteTheirEnds nfa x
-    → IsMatchAnswer nfa kind earliest x found → (found ≡ None) ↔ NoPath (edges nfa x) (starts nfa x) (IsMatch nfa)
+    → IsFindAnswer nfa kind earliest x found → (found ≡ None) ↔ NoPath (edges nfa x) (starts nfa x) (IsMatch nfa)
 
 -- no accepting path starts before the match
 abbrev pub StartsBeforePaths : Automaton → Search → Found → Type 0
@@ -39,5 +39,5 @@ abbrev pub NoneStartsBefore : MatchKind → Bool → Type 0
 NoneStartsBefore kind earliest =
     (nfa : Automaton) (x : Search) (found : Option Found) → IsAutomaton nfa → is_utf8_empty nfa ≡ false
     → PathsWriteTheirEnds nfa x
-    → IsMatchAnswer nfa kind earliest x found
+    → IsFindAnswer nfa kind earliest x found
     → IfSome found (StartsBeforePaths nfa x)

@@ -4,22 +4,22 @@ use Rattle.std.specs.Option.{ForSome}
 use Rattle.regex_search_core.specs.Search.{Search}
 use Rattle.regex_search_core.specs.declared.search.Span.{Span}
 use Rattle.nfa_paths.specs.Paths.{span_len}
-use Rattle.nfa_search_base.specs.Walks.{Walk, fresh, after, shifted, ComesAfter, LeavesFewer}
+use Rattle.nfa_search_base.specs.IterStates.{IterState, fresh, after, shifted, ComesAfter, LeavesFewer}
 
 -- What each call that gets the next match from a `Searcher` ensures of the walk before it, of the place of its match
 -- (`None` if there is no match), and of the walk after it.
-pub record IsCall (w : Walk) (place : Option Span) (w' : Walk) : Type 0 where
+pub record IsCall (w : IterState) (place : Option Span) (w' : IterState) : Type 0 where
   pub rises : ComesAfter w place
   pub fewer : LeavesFewer w place w'
   pub moves : (w' ≡ after w place) ⊎ (w' ≡ after (shifted w) place)
 
 -- These calls were made from w on, one after the other: for each, the place of its match, and the walk after it.
-abbrev pub AreCalls : Walk → List (Option Span × Walk) → Type 0
+abbrev pub AreCalls : IterState → List (Option Span × IterState) → Type 0
 AreCalls w [] = ⊤
 AreCalls w (call ∷ calls) = IsCall w call.0 call.1 × AreCalls call.1 calls
 
 -- the places of the matches that the calls gave
-abbrev pub places_of : List (Option Span × Walk) → List Span
+abbrev pub places_of : List (Option Span × IterState) → List Span
 places_of [] = []
 places_of ((Some p, w) ∷ calls) = p ∷ places_of calls
 places_of ((None, w) ∷ calls) = places_of calls
@@ -32,10 +32,10 @@ EndsRise last (p ∷ places) = ForSome last (λ e. (e ≤ p.start) × (e < p.end
 -- over all calls of one iteration the ends increase
 abbrev pub EndsIncrease : Type 0
 EndsIncrease =
-    (x : Search) (calls : List (Option Span × Walk)) → AreCalls (fresh x) calls → EndsRise None (places_of calls)
+    (x : Search) (calls : List (Option Span × IterState)) → AreCalls (fresh x) calls → EndsRise None (places_of calls)
 
 -- and there are at most `more` matches more than the span has bytes
 abbrev pub AtMostMatches : ℕ → Type 0
 AtMostMatches more =
-    (x : Search) (calls : List (Option Span × Walk)) → AreCalls (fresh x) calls
+    (x : Search) (calls : List (Option Span × IterState)) → AreCalls (fresh x) calls
     → length (places_of calls) ≤ span_len x + more

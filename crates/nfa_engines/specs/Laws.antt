@@ -9,7 +9,7 @@ use Rattle.nfa_paths.specs.Graphs.{Pair, PathTo, ComesBefore}
 use Rattle.regex_search_core.specs.Found.{Found}
 use Rattle.regex_search_core.specs.declared.search.MatchKind.TheVariants.{LeftmostFirst}
 use Rattle.nfa_paths.specs.Paths.{edges, starts, IsMatch, is_utf8_empty, IsScanAnswer, IsSearchAnswer, IsAnswer}
-use Rattle.nfa_paths.specs.Paths.{IsFoundAnswer, IsMatchAnswer}
+use Rattle.nfa_paths.specs.Paths.{IsBoolAnswer, IsFindAnswer}
 
 -- two answers of one scan are equal
 abbrev pub OneScanAnswer : Type 0
@@ -84,23 +84,23 @@ SlotsPastAreNone =
 abbrev pub OneMatch : Type 0
 OneMatch =
     (nfa : Automaton) (x : Search) (kind : MatchKind) (earliest : Bool) (a b : Option Found)
-    → IsMatchAnswer nfa kind earliest x a → IsMatchAnswer nfa kind earliest x b → a ≡ b
+    → IsFindAnswer nfa kind earliest x a → IsFindAnswer nfa kind earliest x b → a ≡ b
 
 -- whether a search finds something has one answer
-abbrev pub OneFound : Type 0
-OneFound =
+abbrev pub OneBoolAnswer : Type 0
+OneBoolAnswer =
     (nfa : Automaton) (x : Search) (kind : MatchKind) (earliest : Bool) (a b : Bool)
-    → IsFoundAnswer nfa kind earliest x a → IsFoundAnswer nfa kind earliest x b → a ≡ b
+    → IsBoolAnswer nfa kind earliest x a → IsBoolAnswer nfa kind earliest x b → a ≡ b
 
 -- a search finds something exactly if it has a pattern
-abbrev pub FoundIsPattern : Type 0
-FoundIsPattern =
+abbrev pub BoolIsPattern : Type 0
+BoolIsPattern =
     (nfa : Automaton) (x : Search) (kind : MatchKind) (earliest : Bool)
     (p : Option ℕ) (s : List (Option ℕ)) (found : Bool)
-    → IsAnswer nfa kind earliest x p s → IsFoundAnswer nfa kind earliest x found → found ≡ is_some p
+    → IsAnswer nfa kind earliest x p s → IsBoolAnswer nfa kind earliest x found → found ≡ is_some p
 
 -- a search of the kind finds something exactly if a leftmost first search does
-abbrev pub FoundAsLeftmost : MatchKind → Type 0
-FoundAsLeftmost kind =
+abbrev pub BoolAsLeftmost : MatchKind → Type 0
+BoolAsLeftmost kind =
     (nfa : Automaton) (x : Search) (found other : Bool)
-    → IsFoundAnswer nfa kind false x found → IsFoundAnswer nfa LeftmostFirst false x other → found ≡ other
+    → IsBoolAnswer nfa kind false x found → IsBoolAnswer nfa LeftmostFirst false x other → found ≡ other

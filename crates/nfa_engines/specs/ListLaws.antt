@@ -6,7 +6,7 @@ use Rattle.regex_search_core.specs.declared.search.MatchKind.{MatchKind}
 use Rattle.regex_search_core.specs.declared.search.MatchKind.TheVariants.{LeftmostFirst}
 use Rattle.thompson_nfa.specs.Automaton.{Automaton}
 use Rattle.nfa_paths.specs.Paths.{span_len}
-use Rattle.nfa_search_base.specs.Lists.{AreApart, AreFirstMatches, AreMatches}
+use Rattle.nfa_search_base.specs.Lists.{AreDisjoint, AreFirstMatches, AreMatches}
 
 -- two lists of the matches of a search are equal
 abbrev pub OneList : Type 0
@@ -21,10 +21,10 @@ EverySearchHasAList =
     → (ms : List Found) × AreMatches nfa kind earliest x ms
 
 -- the first matches of a search, all or some, are inside its span, in order, and do not overlap
-abbrev pub MatchesAreApart : Type 0
-MatchesAreApart =
+abbrev pub MatchesAreDisjoint : Type 0
+MatchesAreDisjoint =
     (nfa : Automaton) (x : Search) (kind : MatchKind) (earliest : Bool) (ms : List Found)
-    → AreFirstMatches nfa kind earliest x ms → AreApart x None ms
+    → AreFirstMatches nfa kind earliest x ms → AreDisjoint x None ms
 
 -- there are at most `more` matches more than the span has bytes
 abbrev pub AtMostInList : ℕ → Type 0

@@ -9,7 +9,7 @@ use Rattle.regex_search_core.specs.declared.search.MatchKind.{MatchKind}
 use Rattle.thompson_nfa.specs.Automaton.{Automaton, Node}
 use Rattle.thompson_nfa.specs.Automaton.Node.{Union, BinaryUnion}
 use Rattle.nfa_paths.specs.Graphs.{Pair, PathTo}
-use Rattle.nfa_paths.specs.Paths.{edges, is_utf8_empty, node_at, starts, IsAnswer, IsMatchAnswer}
+use Rattle.nfa_paths.specs.Paths.{edges, is_utf8_empty, node_at, starts, IsAnswer, IsFindAnswer}
 use Rattle.nfa_engines.specs.Accepting.{MatchesNothing}
 
 -- the NFA of one pattern: its anchored start is that of the pattern
@@ -29,8 +29,8 @@ abbrev pub PatternMatchesAlone : Type 0
 PatternMatchesAlone =
     (nfa : Automaton) (x : Search) (pattern : PatternID) (state : ℕ) (kind : MatchKind) (earliest : Bool)
     (found : Option Found) → slice_get nfa.patterns (number_of pattern) ≡ Some state
-    → IsMatchAnswer nfa kind earliest (record x { anchored = Pattern pattern }) found
-    ↔ IsMatchAnswer (started_at nfa state) kind earliest (record x { anchored = Yes }) found
+    → IsFindAnswer nfa kind earliest (record x { anchored = Pattern pattern }) found
+    ↔ IsFindAnswer (started_at nfa state) kind earliest (record x { anchored = Yes }) found
 
 -- the states that a union tries, in order
 abbrev pub alternates_of : Node → Option (List ℕ)

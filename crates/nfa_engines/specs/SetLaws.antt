@@ -6,7 +6,7 @@ use Rattle.regex_search_core.specs.declared.search.MatchKind.{MatchKind}
 use Rattle.regex_search_core.specs.declared.search.MatchKind.TheVariants.{All, LeftmostFirst}
 use Rattle.thompson_nfa.specs.Automaton.{Automaton, IsAutomaton}
 use Rattle.nfa_paths.specs.Graphs.{Pair, IsFirstPath, IsEarliestPath}
-use Rattle.nfa_paths.specs.Overlaps.{HoldsPattern, IsEarliestHeld, IsFirstBefore, IsFirstHeld, IsPermitted}
+use Rattle.nfa_paths.specs.Overlaps.{HoldsPattern, IsEarliestInsertable, IsFirstBefore, IsFirstInsertable, IsPermitted}
 use Rattle.nfa_paths.specs.Overlaps.{IsPatternOf, IsOverlapResult}
 use Rattle.nfa_paths.specs.Paths.{edges, starts, path_pattern}
 
@@ -46,7 +46,7 @@ SetIsOfFirsts =
 -- the pattern of the first of the paths with the least end, of those that count
 abbrev pub IsPatternOfEarliest : Automaton → Search → ℕ → ℕ → Type 0
 IsPatternOfEarliest nfa x capacity k =
-    (p : List Pair) × IsEarliestHeld nfa x capacity (Some p) × (path_pattern nfa p ≡ Some k)
+    (p : List Pair) × IsEarliestInsertable nfa x capacity (Some p) × (path_pattern nfa p ≡ Some k)
 
 -- with `earliest` it gains only that pattern
 abbrev pub SetIsOfEarliest : Type 0
@@ -60,11 +60,11 @@ abbrev pub FirstOfAllPaths : Type 0
 FirstOfAllPaths =
     (nfa : Automaton) (x : Search) (capacity : ℕ) (path : Option (List Pair)) → IsAutomaton nfa
     → length nfa.patterns ≤ capacity
-    → IsFirstHeld nfa x capacity path ↔ IsFirstPath (edges nfa x) (starts nfa x) (IsPermitted nfa x) path
+    → IsFirstInsertable nfa x capacity path ↔ IsFirstPath (edges nfa x) (starts nfa x) (IsPermitted nfa x) path
 
 -- and so is the earliest
 abbrev pub EarliestOfAllPaths : Type 0
 EarliestOfAllPaths =
     (nfa : Automaton) (x : Search) (capacity : ℕ) (path : Option (List Pair)) → IsAutomaton nfa
     → length nfa.patterns ≤ capacity
-    → IsEarliestHeld nfa x capacity path ↔ IsEarliestPath (edges nfa x) (starts nfa x) (IsPermitted nfa x) path
+    → IsEarliestInsertable nfa x capacity path ↔ IsEarliestPath (edges nfa x) (starts nfa x) (IsPermitted nfa x) path

@@ -6,7 +6,7 @@ use Rattle.regex_search_core.specs.Search.{Search}
 use Rattle.regex_search_core.specs.declared.search.MatchKind.{MatchKind}
 use Rattle.thompson_nfa.specs.Automaton.{Automaton, Node}
 use Rattle.thompson_nfa.specs.Automaton.Node.{Look}
-use Rattle.nfa_paths.specs.Paths.{is_utf8_empty, IsAnswer, IsMatchAnswer}
+use Rattle.nfa_paths.specs.Paths.{is_utf8_empty, IsAnswer, IsFindAnswer}
 
 -- each slot that is set, this many positions to the right
 abbrev pub moved_slots : ℕ → List (Option ℕ) → List (Option ℕ)
@@ -50,8 +50,8 @@ abbrev pub MatchesMove : Type 0
 MatchesMove =
     (nfa : Automaton) (k : ℕ) (x y : Search) (kind : MatchKind) (earliest : Bool) (found : Option Found)
     → HasNoLook nfa → is_utf8_empty nfa ≡ false → IsSpanMoved k x y → AreBytesMoved k x y
-    → IsMatchAnswer nfa kind earliest x found
-    → IsMatchAnswer nfa kind earliest y (option_map (moved_match k) found)
+    → IsFindAnswer nfa kind earliest x found
+    → IsFindAnswer nfa kind earliest y (option_map (moved_match k) found)
 
 -- two searches with the same span, the same bytes in it, and the same anchoring
 pub record IsSameSpan (x y : Search) : Type 0 where
@@ -73,7 +73,7 @@ abbrev pub MatchesReadTheSpan : Type 0
 MatchesReadTheSpan =
     (nfa : Automaton) (x y : Search) (kind : MatchKind) (earliest : Bool) (found : Option Found)
     → HasNoLook nfa → is_utf8_empty nfa ≡ false → IsSameSpan x y
-    → IsMatchAnswer nfa kind earliest x found → IsMatchAnswer nfa kind earliest y found
+    → IsFindAnswer nfa kind earliest x found → IsFindAnswer nfa kind earliest y found
 
 -- the search of the span, cut out of its haystack
 abbrev pub cut_out : Search → Search
@@ -97,5 +97,5 @@ abbrev pub CutOutMatches : Type 0
 CutOutMatches =
     (nfa : Automaton) (x : Search) (kind : MatchKind) (earliest : Bool) (found : Option Found)
     → HasNoLook nfa → is_utf8_empty nfa ≡ false → x.start ≤ x.end
-    → IsMatchAnswer nfa kind earliest (cut_out x) found
-    → IsMatchAnswer nfa kind earliest x (option_map (moved_match x.start) found)
+    → IsFindAnswer nfa kind earliest (cut_out x) found
+    → IsFindAnswer nfa kind earliest x (option_map (moved_match x.start) found)

@@ -5,7 +5,7 @@ use Rattle.regex_search_core.specs.Search.{Search}
 use Rattle.regex_search_core.specs.declared.search.Anchored.TheVariants.{No, Yes}
 use Rattle.regex_search_core.specs.declared.search.MatchKind.{MatchKind}
 use Rattle.thompson_nfa.specs.Automaton.{Automaton}
-use Rattle.nfa_paths.specs.Paths.{byte_at, is_utf8_empty, IsAnswer, IsMatchAnswer}
+use Rattle.nfa_paths.specs.Paths.{byte_at, is_utf8_empty, IsAnswer, IsFindAnswer}
 use Rattle.nfa_search_base.specs.Beginnings.{NoMatchBegins}
 use Rattle.nfa_engines.specs.Accepting.{MatchesNothing}
 
@@ -42,7 +42,7 @@ abbrev pub MatchStartsArePassed : Type 0
 MatchStartsArePassed =
     (nfa : Automaton) (x : Search) (s : ℕ) (kind : MatchKind) (earliest : Bool) (found : Option Found)
     → IsUnbound nfa x → IsFirstStart nfa x s
-    → IsMatchAnswer nfa kind earliest x found ↔ IsMatchAnswer nfa kind earliest (from_start x s) found
+    → IsFindAnswer nfa kind earliest x found ↔ IsFindAnswer nfa kind earliest (from_start x s) found
 
 -- If the anchored search at such a start has a pattern, its answer is that of the search.
 abbrev pub FirstStartAnswers : MatchKind → Bool → Type 0
@@ -57,8 +57,8 @@ abbrev pub FirstStartMatches : MatchKind → Bool → Type 0
 FirstStartMatches kind earliest =
     (nfa : Automaton) (x : Search) (s : ℕ) (m : Found)
     → IsUnbound nfa x → IsFirstStart nfa x s
-    → IsMatchAnswer nfa kind earliest (anchored_at x s) (Some m)
-    → IsMatchAnswer nfa kind earliest x (Some m)
+    → IsFindAnswer nfa kind earliest (anchored_at x s) (Some m)
+    → IsFindAnswer nfa kind earliest x (Some m)
 
 -- the start of the answer: the first in the span at which the anchored search matches, and it has this answer
 pub record IsAnswerStart (nfa : Automaton) (kind : MatchKind) (earliest : Bool) (x : Search) (pattern : ℕ)

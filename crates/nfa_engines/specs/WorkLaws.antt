@@ -3,9 +3,9 @@ use Rattle.std.specs.Prelude.{ℕ, ◌+◌, ◌*◌, ◌≤◌, ◌&&◌, not, i
 use Rattle.regex_search_core.specs.Found.{Found}
 use Rattle.regex_search_core.specs.Search.{Search, is_anchored}
 use Rattle.thompson_nfa.specs.Automaton.{Automaton}
-use Rattle.nfa_paths.specs.Paths.{is_utf8_empty, span_len, turn_weight}
-use Rattle.nfa_search_base.specs.Catching.{Row}
-use Rattle.nfa_backtrack.specs.Backtrack.{Backtracker, Work}
+use Rattle.nfa_paths.specs.Paths.{is_utf8_empty, span_len, total_degree}
+use Rattle.nfa_search_base.specs.WithCaptures.{Row}
+use Rattle.nfa_backtrack.specs.Backtrack.{Backtracker, BacktrackCache}
 use Rattle.nfa_backtrack.specs.Finding.{BacktrackerCatchesOn, BacktrackerCatchesToEnd}
 use Rattle.nfa_backtrack.specs.Finding.{BacktrackerFindsOn, BacktrackerFindsToEnd}
 use Rattle.nfa_pikevm.specs.Engines.{Pike, PikeCache}
@@ -19,13 +19,13 @@ pub record Totals : Type 0 where
 abbrev pub pike_totals : PikeCache → Totals
 pike_totals cache = record { scans = cache.all_scans; turns = cache.all_turns }
 
-abbrev pub backtracker_totals : Work → Totals
+abbrev pub backtracker_totals : BacktrackCache → Totals
 backtracker_totals cache = record { scans = cache.all_scans; turns = cache.all_turns }
 
 -- the totals rose by at most `limit` scans of the span of x, and by no more turns than these may make
 pub record AddsAtMost (limit : ℕ) (nfa : Automaton) (x : Search) (old new : Totals) : Type 0 where
   pub scans : new.scans ≤ old.scans + limit
-  pub turns : new.turns ≤ old.turns + limit * ((1 + turn_weight nfa) * (span_len x + 1))
+  pub turns : new.turns ≤ old.turns + limit * ((1 + total_degree nfa) * (span_len x + 1))
 
 -- The maximum number of scans of an iteration over x that ends after `count` matches. If a search may restart: one for
 -- each byte of the span and for each match, and two more. Otherwise: two for each match, and one more.
@@ -47,16 +47,17 @@ module _ (limit : Automaton → Search → ℕ → ℕ) where
 
   abbrev pub BacktrackerMatchesAreWithin : Type 0
   BacktrackerMatchesAreWithin =
-      (e : Backtracker) (x : Search) (ms : List Found) (old new : Work) → BacktrackerFindsToEnd e x ms old new
+      (e : Backtracker) (x : Search) (ms : List Found) (old new : BacktrackCache) → BacktrackerFindsToEnd e x ms old new
       → AddsAtMost (limit e.nfa x (length ms)) e.nfa x (backtracker_totals old) (backtracker_totals new)
 
   abbrev pub BacktrackerRowsAreWithin : Type 0
   BacktrackerRowsAreWithin =
-      (e : Backtracker) (x : Search) (rows : List Row) (old new : Work) → BacktrackerCatchesToEnd e x rows old new
+      (e : Backtracker) (x : Search) (rows : List Row) (old new : BacktrackCache)
+      → BacktrackerCatchesToEnd e x rows old new
       → AddsAtMost (limit e.nfa x (length rows)) e.nfa x (backtracker_totals old) (backtracker_totals new)
 
--- However far an iteration goes, and also if it ends with an error, it makes at most two scans for each byte of the span,
--- and `more` besides.
+-- However far an iteration goes, and also if it ends with an error, it makes at most two scans for each byte of the
+-- span, and `more` besides.
 module _ (more : ℕ) where
   abbrev pub PikeFindsWithin : Type 0
   PikeFindsWithin =
@@ -70,10 +71,10 @@ module _ (more : ℕ) where
 
   abbrev pub BacktrackerFindsWithin : Type 0
   BacktrackerFindsWithin =
-      (e : Backtracker) (x : Search) (old new : Work) → BacktrackerFindsOn e x old new
+      (e : Backtracker) (x : Search) (old new : BacktrackCache) → BacktrackerFindsOn e x old new
       → AddsAtMost (2 * span_len x + more) e.nfa x (backtracker_totals old) (backtracker_totals new)
 
   abbrev pub BacktrackerCatchesWithin : Type 0
   BacktrackerCatchesWithin =
-      (e : Backtracker) (x : Search) (old new : Work) → BacktrackerCatchesOn e x old new
+      (e : Backtracker) (x : Search) (old new : BacktrackCache) → BacktrackerCatchesOn e x old new
       → AddsAtMost (2 * span_len x + more) e.nfa x (backtracker_totals old) (backtracker_totals new)

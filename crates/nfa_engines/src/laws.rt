@@ -23,10 +23,10 @@ ghost use Rattle.nfa_engines.specs.GapLaws.{NoneIsNoPath, NoneStartsBefore};
 ghost use Rattle.nfa_engines.specs.HalfLaws.{HalfMatchHasThePattern, OneHalfMatch};
 ghost use Rattle.nfa_engines.specs.IterationLaws.{AtMostMatches, EndsIncrease};
 ghost use Rattle.nfa_engines.specs.Laws.{AnswersAgree, EveryScanHasAnAnswer, EverySearchHasAnAnswer, FewerSlots};
-ghost use Rattle.nfa_engines.specs.Laws.{FoundAsLeftmost, FoundIsPattern, OneFound, OneMatch, OneScanAnswer};
+ghost use Rattle.nfa_engines.specs.Laws.{BoolAsLeftmost, BoolIsPattern, OneBoolAnswer, OneMatch, OneScanAnswer};
 ghost use Rattle.nfa_engines.specs.Laws.{OneSearchAnswer, PathsAreOrdered, PathsAreOrderedOnce, ScansAgree};
 ghost use Rattle.nfa_engines.specs.Laws.{SearchesAgree, SlotsPastAreNone};
-ghost use Rattle.nfa_engines.specs.ListLaws.{AtMostInList, EverySearchHasAList, ListAsLeftmost, MatchesAreApart};
+ghost use Rattle.nfa_engines.specs.ListLaws.{AtMostInList, EverySearchHasAList, ListAsLeftmost, MatchesAreDisjoint};
 ghost use Rattle.nfa_engines.specs.ListLaws.{OneList};
 ghost use Rattle.nfa_engines.specs.PatternLaws.{AnswersAreOfPatterns, FirstPatternAnswers, NothingOfEachPattern};
 ghost use Rattle.nfa_engines.specs.PatternLaws.{PatternIsAlone, PatternMatchesAlone};
@@ -73,8 +73,8 @@ pub fn every_search_has_an_answer()
 pub fn is_match_agrees()
     ensures scans { ScansAgree }
     ensures searches { SearchesAgree }
-    ensures pattern { FoundIsPattern }
-    ensures engines { FoundAsLeftmost LeftmostFirst }
+    ensures pattern { BoolIsPattern }
+    ensures engines { BoolAsLeftmost LeftmostFirst }
 {}
 
 /// A search has one pattern and one slot row. A PikeVM that searches leftmost first, without `earliest`, therefore
@@ -93,14 +93,14 @@ pub fn fewer_slots()
 /// set, for each kind, with and without `earliest`.
 pub fn one_match()
     ensures matches { OneMatch }
-    ensures found { OneFound }
+    ensures found { OneBoolAnswer }
     ensures sets { OneSet All }
     ensures first_sets { OneSet LeftmostFirst }
 {}
 
 /// A search has at most one half match: `find_half` of both engines gives the same. Its pattern is that of a search for
 /// slots, so there is a half match exactly if there is a pattern. For an NFA that records its bounds, a law of
-/// `nfa_bounds` says that it is the end of the match that `find` gives.
+/// `nfa_match_spans` says that it is the end of the match that `find` gives.
 pub fn one_half_match()
     ensures one { OneHalfMatch }
     ensures pattern { HalfMatchHasThePattern }
@@ -112,7 +112,7 @@ pub fn one_half_match()
 pub fn cache_history_is_invisible()
     ensures slots { AnswersAgree }
     ensures matches { OneMatch }
-    ensures found { OneFound }
+    ensures found { OneBoolAnswer }
     ensures patterns { OneSet All }
     ensures first_patterns { OneSet LeftmostFirst }
 {}
@@ -175,8 +175,8 @@ pub fn one_list_of_matches()
 
 /// The first matches of a search, all or some, are inside its span and in order: each starts at or after the end of the
 /// one before, and ends after that end. There are at most n + 1 for a span of n bytes.
-pub fn matches_are_apart()
-    ensures apart { MatchesAreApart }
+pub fn matches_are_disjoint()
+    ensures apart { MatchesAreDisjoint }
     ensures count { AtMostInList 1 }
 {}
 
@@ -244,9 +244,9 @@ pub fn starts_may_be_passed()
     ensures nothing { NothingAtEachStart }
 {}
 
-/// A position may be skipped if no match begins with its byte, which `may_begin` of the engines says: the anchored search
-/// there has no accepting path. So a start before which nothing matches may move past it, from the start of the search
-/// on, and [`starts_may_be_passed`] says what the search from there answers.
+/// A position may be skipped if no match begins with its byte, which `may_begin` of the engines says: the anchored
+/// search there has no accepting path. So a start before which nothing matches may move past it, from the start of the
+/// search on, and [`starts_may_be_passed`] says what the search from there answers.
 pub fn bytes_may_be_skipped()
     ensures nothing { NothingAtByte }
     ensures first { StartIsFirst }
@@ -296,9 +296,9 @@ pub fn answers_read_the_span()
     ensures cut_out_match { CutOutMatches }
 {}
 
-/// A whole list takes little more than one search. Over the calls that find all k matches in a span of n bytes, or their
-/// captures, the totals of the cache rise by at most n + k + 2 scans; if no search may restart, by at most 2k + 1. The
-/// turns are at most (1 + D)(n + 1) for each of these scans.
+/// A whole list takes little more than one search. Over the calls that find all k matches in a span of n bytes, or
+/// their captures, the totals of the cache rise by at most n + k + 2 scans; if no search may restart, by at most 2k +
+/// 1. The turns are at most (1 + D)(n + 1) for each of these scans.
 ///
 /// The premises are what `find_all` and `captures_all` ensure of the cache where they are `Ok` (`to_end`), and what the
 /// iterators over matches ensure where they go on to `None` (`searches`).
@@ -309,8 +309,8 @@ pub fn lists_are_bounded()
     ensures backtracker_rows { BacktrackerRowsAreWithin list_scan_limit }
 {}
 
-/// Wherever an iteration stops, also after an error, the totals of the cache rise by at most 2n + 3 scans, each of at most
-/// (1 + D)(n + 1) turns.
+/// Wherever an iteration stops, also after an error, the totals of the cache rise by at most 2n + 3 scans, each of at
+/// most (1 + D)(n + 1) turns.
 ///
 /// The premises are what all lists and iterators ensure of the cache (`searches`).
 pub fn iterations_are_bounded()

@@ -13,8 +13,8 @@
 //! }
 //! ```
 //!
-//! This crate re-exports every type that calls of the engines take or return, and its `specs` every word that a contract
-//! of their caller may name. So a user lists no crate below it.
+//! This crate re-exports every type that calls of the engines take or return, and its `specs` every word that a
+//! contract of their caller may name. So a user lists no crate below it.
 #![tactic(auto)]
 
 pub mod backtrack;
@@ -27,5 +27,5 @@ pub use regex_search_core::{
     MatchKind, NonMaxUsize, PatternID, PatternSet, PatternSetIter, Refused, Span, StateID,
 };
 pub use thompson_nfa::{
-    BuildError, Flaw, Holder, Look, NFA, State, Transition, first_flaw, look_matches,
+    BuildError, Flaw, Look, NFA, Referrer, State, Transition, first_flaw, look_matches,
 };

@@ -14,8 +14,8 @@ use Rattle.regex_search_core.specs.declared.search.MatchKind.TheVariants.{All, L
 use Rattle.thompson_nfa.specs.Automaton.{Automaton}
 use Rattle.nfa_paths.specs.Graphs.{Pair, ComesBefore, PathTo}
 use Rattle.nfa_paths.specs.Exploring.{Slots, write, apply, ExploresTo}
-use Rattle.nfa_paths.specs.Exploring.Item.{Explore}
-use Rattle.nfa_paths.specs.Paths.{space, raised, span_len, is_match, IsMatch, capture, is_utf8_empty, edges, starts, IsScanAnswer, last_of, slot_among, slot_row, EndsOnBoundary, IsWhole, SplitsCharacter, IsKeptAnswer, IsRestartedAnswer, IsSearchAnswer, IsWithinScans, scan_limit}
+use Rattle.nfa_paths.specs.Exploring.Task.{Explore}
+use Rattle.nfa_paths.specs.Paths.{space, raised, span_len, is_match, IsMatch, capture, is_utf8_empty, edges, starts, IsScanAnswer, last_of, slot_among, slot_row, EndsOnBoundary, IsWhole, SplitsCharacter, IsKeptAnswer, IsRestartedAnswer, IsSearchAnswer, IsWithinScans, max_scans}
 use Rattle.nfa_paths.proofs.PathLemmas.{IsLeast-from_first}
 use Rattle.nfa_paths.proofs.SearchLemmas.{Answer-starts, found-Some}
 use Rattle.nfa_paths.proofs.PathToLemmas.{EndsWith-last, PathTo-along, found-end, ComesBefore-asymmetric, PathTo-order, IsLeast-none, IsLeast-first, IsFirstPath-unique, IsEarliestPath-unique, IsLastPath-unique, IsEarliestLastPath-unique}
@@ -305,11 +305,11 @@ module _ (nfa : Automaton) where
           ]
 
       -- and within the limit
-      pub split-bound : k + 1 ≤ scan_limit nfa x
+      pub split-bound : k + 1 ≤ max_scans nfa x
       split-bound = rw (empty, free) (skipped-bound x k skipped)
 
 -- one scan is within the limit
-pub one_scan-bound : (nfa : Automaton) (x : Search) {scans : ℕ} → scans ≤ 1 → scans ≤ scan_limit nfa x
+pub one_scan-bound : (nfa : Automaton) (x : Search) {scans : ℕ} → scans ≤ 1 → scans ≤ max_scans nfa x
 one_scan-bound nfa x {scans} few = of (is_utf8_empty nfa && not (is_anchored x.anchored))
   where
     of : (b : Bool) → scans ≤ cond b (span_len x + 2) 1

@@ -4,13 +4,13 @@ use Rattle.std.specs.Prelude.{Option, None, Some}
 use Rattle.std.specs.Option.{option_map_or}
 use Rattle.std.proofs.lemmas.Bool.{cases_Bool}
 use Rattle.nfa_paths.specs.Graphs.{Pair, Space, In, IsFirstPath, WantedAt}
-use Rattle.nfa_paths.specs.Exploring.{Slots, Item, found, ExploresBehind}
+use Rattle.nfa_paths.specs.Exploring.{Slots, Task, found, ExploresAfter}
 use Rattle.nfa_paths.specs.Kinds.{Passes, IsFoundBy, found_along, first_match, Scanned, Scanning}
 use Rattle.nfa_paths.proofs.PathLemmas.{IsFirst-target}
 use Rattle.nfa_paths.proofs.PathToLemmas.{is_false, IsFirstTo-along}
 use Rattle.nfa_paths.proofs.MemberLemmas.{In-middle}
 use Rattle.nfa_paths.proofs.TestLemmas.{is_plain, test, test-true, true-test, tell_at}
-use Rattle.nfa_paths.proofs.FrontMatchLemmas.{first_match-is}
+use Rattle.nfa_paths.proofs.FrontierMatchLemmas.{first_match-is}
 use Rattle.nfa_paths.proofs.KindsLemmas.{IsFirst-rises}
 use Rattle.nfa_paths.proofs.ScanLemmas.{IsFirstPath-found}
 
@@ -32,12 +32,12 @@ module _ (space : Space) (resting is_match : Pair → Bool) (shape : Scanned spa
 
   -- it answers, whatever is left
   pub front-answers : (target : Pair → Bool) (e : ℕ) → ((v : Pair) → target v ≡ true → v.1 ≡ e)
-      → (left : ℕ) (marks : List Pair) (work : List Item) (slots : Slots)
+      → (left : ℕ) (marks : List Pair) (work : List Task) (slots : Slots)
       (front : List (Pair × Slots)) (a : Pair × Slots)
       → ((b : Pair × Slots) → In b front → (resting b.0 ≡ true) × (b.0.1 ≡ e))
       → first_match target front ≡ Some a
-      → ExploresBehind space target left front None marks work slots (found space.capture (a.0 ∷ []) a.1)
-  unfolding ExploresBehind
+      → ExploresAfter space target left front None marks work slots (found space.capture (a.0 ∷ []) a.1)
+  unfolding ExploresAfter
   front-answers target e at left marks work slots [] a rests is = cc
   front-answers target e at left marks work slots (b ∷ front) a rests is =
       elim (cases_Bool (target b.0)) [
@@ -82,7 +82,7 @@ module _ (space : Space) (resting is_match : Pair → Bool) (shape : Scanned spa
 
   -- it is what the first path that ends there finds
   pub first_match-cut : {slots : Slots} {e : ℕ} {Seen : Pair → Type 0} {spent : ℕ} {front : List (Pair × Slots)}
-      {work : List Item} {current : Slots} {a : Pair × Slots}
+      {work : List Task} {current : Slots} {a : Pair × Slots}
       → Scanning space is_match slots e Seen spent front work current
       → ((b : Pair × Slots) → In b front → (resting b.0 ≡ true) × (b.0.1 ≡ e)) → first_match is_match front ≡ Some a
       → IsFoundBy space.capture slots (IsFirstPath space.edges space.starts (WantedAt (Passes is_match) e)) spent

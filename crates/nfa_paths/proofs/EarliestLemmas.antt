@@ -8,7 +8,7 @@ use Rattle.regex_search_core.specs.declared.search.MatchKind.TheVariants.{All, L
 use Rattle.thompson_nfa.specs.Automaton.{Automaton, Node}
 use Rattle.thompson_nfa.specs.Automaton.Node.{ByteRange, Sparse, Dense, Look, Union, BinaryUnion, Capture, Fail, Match}
 use Rattle.nfa_paths.specs.Graphs.{Pair, IsFirstPath, IsEarliestPath, IsLastPath, IsEarliestLastPath}
-use Rattle.nfa_paths.specs.Paths.{raised, node_at, IsMatch, is_utf8_empty, edges_of, edges, starts, IsScanAnswer, EndsOnBoundary, IsWhole, SplitsCharacter, IsKeptAnswer, IsRestartedAnswer, IsSearchAnswer, IsFoundAnswer}
+use Rattle.nfa_paths.specs.Paths.{raised, node_at, IsMatch, is_utf8_empty, edges_of, edges, starts, IsScanAnswer, EndsOnBoundary, IsWhole, SplitsCharacter, IsKeptAnswer, IsRestartedAnswer, IsSearchAnswer, IsBoolAnswer}
 use Rattle.nfa_paths.proofs.ExistenceLemmas.{is_match-agrees}
 
 -- the search with this `earliest` flag
@@ -122,7 +122,7 @@ module _ (nfa : Automaton) where
 
   -- a search that is earliest if a match may end anywhere finds whether there is a match
   pub found_answer-earliest : (kind : MatchKind) (x : Search) (n : ℕ) (p : Option (List Pair))
-      → IsSearchAnswer nfa kind (not (is_utf8_empty nfa)) x n p → IsFoundAnswer nfa kind false x (is_some p)
+      → IsSearchAnswer nfa kind (not (is_utf8_empty nfa)) x n p → IsBoolAnswer nfa kind false x (is_some p)
   found_answer-earliest kind x n p h =
       elim (cases_Bool (is_utf8_empty nfa)) [
         | inl bound ↦ record {

@@ -8,7 +8,7 @@ use Rattle.regex_search_core.specs.declared.search.MatchKind.TheVariants.{All, L
 use Rattle.thompson_nfa.specs.Automaton.{Automaton}
 use Rattle.nfa_paths.specs.Graphs.{Pair, WantedAt, NoPath, IsFirstTo, IsLeastEnd}
 use Rattle.nfa_paths.specs.Kinds.{IsReached, WantedBefore}
-use Rattle.nfa_paths.specs.Overlaps.{IsPermitted, IsHeld, IsPatternOf, IsMeantByAll, IsMeantPath, HoldsPath, Gains, IsFirstBefore}
+use Rattle.nfa_paths.specs.Overlaps.{IsPermitted, IsInsertable, IsPatternOf, IsSelectedByAll, IsSelectedPath, HoldsPath, Gains, IsFirstBefore}
 use Rattle.nfa_paths.specs.Overlaps.{IsOverlapResult, pattern_at}
 use Rattle.nfa_paths.specs.Paths.{edges, starts}
 use Rattle.nfa_paths.proofs.EarliestLemmas.{asked, edges-asked}
@@ -23,7 +23,7 @@ module _ (nfa : Automaton) where
     permitted-asked : (v : Pair) → IsPermitted nfa (asked x flag) v → IsPermitted nfa x v
     permitted-asked v h = record { matches = h.matches; ends = h.ends }
 
-    held-asked : (capacity : ℕ) (v : Pair) → IsHeld nfa (asked x flag) capacity v → IsHeld nfa x capacity v
+    held-asked : (capacity : ℕ) (v : Pair) → IsInsertable nfa (asked x flag) capacity v → IsInsertable nfa x capacity v
     held-asked capacity v h = record {
       permitted = permitted-asked v h.permitted;
       pattern = h.pattern;
@@ -65,7 +65,8 @@ module _ (nfa : Automaton) where
     none-asked P Q back h = λ m p w q. subst (λ es. NoPath es (starts nfa x) P) all h m p w (back m q)
 
   module _ (x : Search) (flag : Bool) where
-    held-unasked : (capacity : ℕ) (v : Pair) → IsHeld nfa x capacity v → IsHeld nfa (asked x flag) capacity v
+    held-unasked : (capacity : ℕ) (v : Pair) → IsInsertable nfa x capacity v
+        → IsInsertable nfa (asked x flag) capacity v
     held-unasked = held-asked (asked x flag) x.earliest
 
     at-asked : (P Q : Pair → Type 0) → ((v : Pair) → P v → Q v) → (e : ℕ) (v : Pair) → WantedAt P e v → WantedAt Q e v
@@ -76,8 +77,8 @@ module _ (nfa : Automaton) where
     before-asked P Q to e v h = record { wanted = to v h.wanted; before = h.before }
 
     -- what is meant by All
-    meant-asked : (earliest : Bool) (capacity k : ℕ) → IsMeantByAll nfa (asked x flag) earliest capacity k
-        → IsMeantByAll nfa x earliest capacity k
+    meant-asked : (earliest : Bool) (capacity k : ℕ) → IsSelectedByAll nfa (asked x flag) earliest capacity k
+        → IsSelectedByAll nfa x earliest capacity k
     meant-asked false capacity k h = pattern-asked x flag _ _ (permitted-asked x flag) k h
     meant-asked true capacity k h = (
       h.0,
@@ -87,7 +88,7 @@ module _ (nfa : Automaton) where
 
     -- the path that is meant by LeftmostFirst
     path-asked : (earliest : Bool) (capacity : ℕ) (path : Option (List Pair))
-        → IsMeantPath nfa (asked x flag) earliest capacity path → IsMeantPath nfa x earliest capacity path
+        → IsSelectedPath nfa (asked x flag) earliest capacity path → IsSelectedPath nfa x earliest capacity path
     path-asked false capacity None h = none-asked x flag _ _ (held-unasked capacity) h
     path-asked false capacity (Some p) h =
         first-asked x flag _ _ (held-asked x flag capacity) (held-unasked capacity) p h

@@ -10,7 +10,7 @@ use Rattle.nfa_paths.specs.Graphs.{Pair, IsFirstTo, IsFirstPath}
 use Rattle.nfa_paths.specs.Exploring.{Slots}
 use Rattle.nfa_paths.specs.Kinds.{Passes, WantedBefore}
 use Rattle.nfa_paths.specs.Paths.{edges, starts, last_of, node_at, pattern_of, path_pattern}
-use Rattle.nfa_paths.specs.Overlaps.{HoldsPattern, HoldsUpTo, pattern_at, IsPermitted, IsHeld, IsPatternOf, IsFirstBefore, IsOverlapResult}
+use Rattle.nfa_paths.specs.Overlaps.{HoldsPattern, HoldsUpTo, pattern_at, IsPermitted, IsInsertable, IsPatternOf, IsFirstBefore, IsOverlapResult}
 use Rattle.nfa_paths.proofs.ExistenceLemmas.{first_wanted-exists}
 use Rattle.nfa_paths.proofs.PathToLemmas.{EndsWith-last, IsFirstTo-along, IsFirstTo-unique}
 use Rattle.nfa_paths.proofs.ReachedLemmas.{IsReached-along}
@@ -26,7 +26,8 @@ same_pair v w e = cc
 
 -- The set before is `old`: wanted is what it has room for. At position e the match `a` is the best one so far.
 module _ (nfa : Automaton) (x : Search) (old : List Bool) (wants : Pair → Bool)
-    (tells : (v : Pair) → (wants v ≡ true) ↔ IsHeld nfa x (length old) v) {e : ℕ} {a : Pair × Slots} {new : List Bool}
+    (tells : (v : Pair) → (wants v ≡ true) ↔ IsInsertable nfa x (length old) v) {e : ℕ} {a : Pair × Slots}
+    {new : List Bool}
     (empty : size_of_set old ≡ 0) (u : UpToMatch nfa x old wants tells e a.0 new)
     (h : Exact nfa x old wants tells e (Some a) new) (full : size_of_set new ≡ length new) where
   -- a first path before some limit has a pattern below the capacity
@@ -123,7 +124,7 @@ module _ (nfa : Automaton) (x : Search) (old : List Bool) (wants : Pair → Bool
               full = λ some. absurd (omega arith);
               empty = λ no. record {
                 path = Some p;
-                meant = IsFirstTo-along (edges nfa x) (starts nfa x) (Passes wants) (IsHeld nfa x (length old))
+                meant = IsFirstTo-along (edges nfa x) (starts nfa x) (Passes wants) (IsInsertable nfa x (length old))
                     (λ v. (tells v).0) (λ v. (tells v).1) first;
                 holds = up_to p first;
               };

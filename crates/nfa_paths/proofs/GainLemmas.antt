@@ -8,9 +8,9 @@ use Rattle.regex_search_core.specs.declared.search.MatchKind.TheVariants.{All}
 use Rattle.thompson_nfa.specs.Automaton.{Automaton}
 use Rattle.nfa_paths.specs.Graphs.{Pair, IsLeastEnd, WantedAt}
 use Rattle.nfa_paths.specs.Exploring.{Slots}
-use Rattle.nfa_paths.specs.Kinds.{Passes, ReachedBefore, EndsBefore, HoldsMatch, Scanned, IsFront, is_resting}
+use Rattle.nfa_paths.specs.Kinds.{Passes, ReachedBefore, EndsBefore, HoldsMatch, Scanned, IsFrontier, is_resting}
 use Rattle.nfa_paths.specs.Paths.{space, edges, starts}
-use Rattle.nfa_paths.specs.Overlaps.{HoldsPattern, pattern_at, IsPermitted, IsHeld, IsPatternOf, IsOverlapResult}
+use Rattle.nfa_paths.specs.Overlaps.{HoldsPattern, pattern_at, IsPermitted, IsInsertable, IsPatternOf, IsOverlapResult}
 use Rattle.nfa_paths.proofs.ReachedLemmas.{IsReached-at, ReachedBefore-start, ReachedBefore-step, ReachedBefore-end, IsReached-along}
 use Rattle.nfa_paths.proofs.SetLemmas.{full-holds}
 use Rattle.nfa_paths.proofs.PathToLemmas.{IsLeastEnd-unique}
@@ -18,7 +18,7 @@ use Rattle.nfa_paths.proofs.ScanAnswerLemmas.{Scanned-matches, starts-from}
 
 -- The set before is `old`: wanted is what it has room for.
 module _ (nfa : Automaton) (x : Search) (old : List Bool) (wants : Pair → Bool)
-    (tells : (v : Pair) → (wants v ≡ true) ↔ IsHeld nfa x (length old) v) where
+    (tells : (v : Pair) → (wants v ≡ true) ↔ IsInsertable nfa x (length old) v) where
   -- what the search goes over
   pub wanted-shape : Scanned (space nfa x) (is_resting nfa) wants
   wanted-shape = Scanned-matches nfa x wants (λ v w. ((tells v).0 w).permitted.matches)
@@ -56,7 +56,7 @@ module _ (nfa : Automaton) (x : Search) (old : List Bool) (wants : Pair → Bool
   }
 
   module _ {slots : Slots} {turns e : ℕ} {front : List (Pair × Slots)}
-      (f : IsFront (space nfa x) (is_resting nfa) wants slots turns front e) where
+      (f : IsFrontier (space nfa x) (is_resting nfa) wants slots turns front e) where
     -- what is reached before the next position
     reached-step : (k : ℕ) → ReachedBefore (space nfa x) wants (pattern_at nfa) (e + 1) k
         ↔ (ReachedBefore (space nfa x) wants (pattern_at nfa) e k
@@ -146,7 +146,7 @@ module _ (nfa : Automaton) (x : Search) (old : List Bool) (wants : Pair → Bool
   }
 
   module _ {slots : Slots} {turns e : ℕ} {front : List (Pair × Slots)}
-      (f : IsFront (space nfa x) (is_resting nfa) wants slots turns front e) where
+      (f : IsFrontier (space nfa x) (is_resting nfa) wants slots turns front e) where
     pub NoneHeld-step : NoneHeld e → ((k : ℕ) → k < length old → HoldsMatch wants (pattern_at nfa) k front → ⊥)
         → NoneHeld (e + 1)
     NoneHeld-step none plain = record {
@@ -174,7 +174,7 @@ module _ (nfa : Automaton) (x : Search) (old : List Bool) (wants : Pair → Bool
 
     -- the first front with a match of a pattern below the capacity is at the least end
     held-least : NoneHeld e → (k : ℕ) → k < length old → HoldsMatch wants (pattern_at nfa) k front
-        → IsLeastEnd (edges nfa x) (starts nfa x) (IsHeld nfa x (length old)) e
+        → IsLeastEnd (edges nfa x) (starts nfa x) (IsInsertable nfa x (length old)) e
     held-least none k less here =
         let r = (reached-here k less).1 here in
         record {
@@ -224,7 +224,8 @@ module _ (nfa : Automaton) (x : Search) (old : List Bool) (wants : Pair → Bool
               elim s [
                 | inl o ↦ (put j).1 (inl o)
                 | inr w ↦
-                    let same : w.1.0 ≡ e = IsLeastEnd-unique (edges nfa x) (starts nfa x) (IsHeld nfa x (length old))
+                    let same : w.1.0 ≡ e = IsLeastEnd-unique (edges nfa x) (starts nfa x)
+                    (IsInsertable nfa x (length old))
                     w.1.0 e w.1.1 (held-least none k less here) in
                     (put j).1 (inr (
                       w.0,

@@ -13,7 +13,7 @@ use Rattle.regex_search_core.specs.declared.search.MatchKind.{MatchKind}
 use Rattle.regex_search_core.specs.declared.search.Span.{Span}
 use Rattle.thompson_nfa.specs.Automaton.{Automaton, IsAutomaton}
 use Rattle.nfa_paths.specs.Graphs.{Pair, In, EndsWith, Linked, PathTo}
-use Rattle.nfa_paths.specs.Paths.{edges, starts, capture, raised, path_pattern, pattern_of, node_at, last_of, slot_among, slot_row, is_utf8_empty, IsScanAnswer, IsKeptAnswer, IsRestartedAnswer, IsSearchAnswer, IsAnswer, IsMatchAnswer}
+use Rattle.nfa_paths.specs.Paths.{edges, starts, capture, raised, path_pattern, pattern_of, node_at, last_of, slot_among, slot_row, is_utf8_empty, IsScanAnswer, IsKeptAnswer, IsRestartedAnswer, IsSearchAnswer, IsAnswer, IsFindAnswer}
 use Rattle.nfa_paths.specs.Paths.{path_half, IsHalfAnswer}
 use Rattle.nfa_paths.proofs.AnswerLemmas.{scan_answer-leads, never_none}
 use Rattle.std.proofs.lemmas.List.Elements.{All-map, All-replicate}
@@ -151,7 +151,7 @@ module _ (nfa : Automaton) where
         ]
 
     -- the match is in the span
-    pub match-within : (x : Search) (f : Found) → IsMatchAnswer nfa kind earliest x (Some f) → (x.start ≤ f.start)
+    pub match-within : (x : Search) (f : Found) → IsFindAnswer nfa kind earliest x (Some f) → (x.start ≤ f.start)
         × (f.start ≤ f.end) × (f.end ≤ x.end)
     match-within x f a = of a.path a.answers a.found_is
       where
@@ -253,7 +253,7 @@ module _ (nfa : Automaton) where
         (λ q e. among valid a.path q (sym a.pattern_is ∙ e))
 
     -- and so is that of a match
-    pub match-pattern : IsAutomaton nfa → (x : Search) (f : Found) → IsMatchAnswer nfa kind earliest x (Some f)
+    pub match-pattern : IsAutomaton nfa → (x : Search) (f : Found) → IsFindAnswer nfa kind earliest x (Some f)
         → f.pattern < length nfa.patterns
     match-pattern valid x f a = of (option_and_then (path_pattern nfa) a.path) refl a.found_is
       where

@@ -4,15 +4,15 @@ use Rattle.std.specs.Prelude.{None, Some}
 use Rattle.nfa_paths.specs.Graphs.{Pair, Space, In, NoRepeats, ComesBefore, PathTo, NoPath, IsFirstTo, WantedAt, IsLastOfFirsts}
 use Rattle.nfa_paths.specs.FirstPaths.{Path, IsFirst}
 use Rattle.nfa_paths.specs.FirstPaths.Path.{stop, go}
-use Rattle.nfa_paths.specs.Exploring.{Slots, Item, apply, found, ExploresTo, ExploresBehind}
-use Rattle.nfa_paths.specs.Exploring.Item.{Explore, Restore, Load}
-use Rattle.nfa_paths.specs.Kinds.{Passes, MatchesAt, NoMatch, Scanned, IsFront}
+use Rattle.nfa_paths.specs.Exploring.{Slots, Task, apply, found, ExploresTo, ExploresAfter}
+use Rattle.nfa_paths.specs.Exploring.Task.{Explore, Restore, Load}
+use Rattle.nfa_paths.specs.Kinds.{Passes, MatchesAt, NoMatch, Scanned, IsFrontier}
 use Rattle.nfa_paths.proofs.PathLemmas.{same, IsFirst-target, IsLeast-from_first}
 use Rattle.nfa_paths.proofs.SearchLemmas.{Answer-starts, found-Some}
 use Rattle.nfa_paths.proofs.PathToLemmas.{found-end, IsFirstTo-along, IsFirstTo-unique, IsLeast-none, IsLeast-first}
 use Rattle.nfa_paths.proofs.MemberLemmas.{In-append_left, In-append_right, In-append}
 use Rattle.nfa_paths.proofs.TestLemmas.{Tested, tell_at, test, test-true, true-test}
-use Rattle.nfa_paths.proofs.FrontMatchLemmas.{FirstMatch, LastMatch}
+use Rattle.nfa_paths.proofs.FrontierMatchLemmas.{FirstMatch, LastMatch}
 
 -- the answer of a front
 
@@ -39,7 +39,7 @@ module _ (space : Space) (target : Pair → Bool) where
         none (go {w = w} t i n h) r f = Path-later h (r w i)
 
     -- work at later positions only finds nothing
-    Answer-later : (left : ℕ) (marks : List Pair) (work : List Item) (slots : Slots)
+    Answer-later : (left : ℕ) (marks : List Pair) (work : List Task) (slots : Slots)
         → ((k : Pair) → In (Explore k) work → e < k.1) → ExploresTo space target left None marks work slots None
     unfolding ExploresTo
     Answer-later left marks [] slots l = refl
@@ -48,14 +48,14 @@ module _ (space : Space) (target : Pair → Bool) where
     Answer-later left marks (Restore k old ∷ rest) slots l = Answer-later left marks rest _ (λ k i. l k (inr i))
     Answer-later left marks (Load old ∷ rest) slots l = Answer-later left marks rest old (λ k i. l k (inr i))
 
-    module _ (left : ℕ) (marks : List Pair) (waiting : List Item) (slots : Slots)
+    module _ (left : ℕ) (marks : List Pair) (waiting : List Task) (slots : Slots)
         (later : (k : Pair) → In (Explore k) waiting → e < k.1) where
       -- a front with no target
       AnswerBehind-none : (front : List (Pair × Slots))
           → ((a : Pair × Slots) → In a front → (w : Pair) → In w (space.edges a.0) → e < w.1)
           → ((a : Pair × Slots) → In a front → target a.0 ≡ true → ⊥)
-          → ExploresBehind space target left front None marks waiting slots None
-      unfolding ExploresBehind
+          → ExploresAfter space target left front None marks waiting slots None
+      unfolding ExploresAfter
       AnswerBehind-none [] rises plain = Answer-later left marks waiting slots later
       AnswerBehind-none (a ∷ front) rises plain =
           inr (
@@ -67,9 +67,9 @@ module _ (space : Space) (target : Pair → Bool) where
       AnswerBehind-first : (before : List (Pair × Slots)) (a : Pair × Slots) (after : List (Pair × Slots))
           → ((b : Pair × Slots) → In b before → (w : Pair) → In w (space.edges b.0) → e < w.1)
           → ((b : Pair × Slots) → In b before → target b.0 ≡ true → ⊥) → target a.0 ≡ true
-          → ExploresBehind space target left (before ++ a ∷ after) None marks waiting slots
+          → ExploresAfter space target left (before ++ a ∷ after) None marks waiting slots
           (found space.capture (a.0 ∷ []) a.1)
-      unfolding ExploresBehind
+      unfolding ExploresAfter
       AnswerBehind-first [] a after rises plain t =
           let short : length (a.0 ∷ []) ≤ suc left = omega arith in
           inl (a.0 ∷ [], IsFirst-target space.edges target [] a.0 (λ n. n) t, refl, short)
@@ -130,7 +130,7 @@ find m (a ∷ front) =
 
 module _ (space : Space) (resting is_match : Pair → Bool) (slots : Slots) (turns : ℕ) where
   module _ (shape : Scanned space resting is_match) {front : List (Pair × Slots)} {e : ℕ}
-      (f : IsFront space resting is_match slots turns front e)
+      (f : IsFrontier space resting is_match slots turns front e)
       (P : Pair → Type 0) (d : Tested P) (matches : (x : Pair) → P x → (is_match x ≡ true) × (x.1 ≡ e)) where
     -- the set as a test
     target : Pair → Bool
@@ -163,8 +163,8 @@ module _ (space : Space) (resting is_match : Pair → Bool) (slots : Slots) (tur
     rising a i w j = let r = f.rest a i in rw (← r.1) (shape.rises a.0 w r.0 j)
 
     -- the front has no pair of the set: no path leads to one
-    pub IsFront-none : ((a : Pair × Slots) → In a front → P a.0 → ⊥) → NoPath space.edges space.starts P
-    IsFront-none plain m p w t =
+    pub IsFrontier-none : ((a : Pair × Slots) → In a front → P a.0 → ⊥) → NoPath space.edges space.starts P
+    IsFrontier-none plain m p w t =
         let leads = f.leads target at_matches in
         let answer = leads.1 None (AnswerBehind-none space target e shape.onward at_end 0 leads.0 f.waiting
         f.current f.later front rising
@@ -176,13 +176,13 @@ module _ (space : Space) (resting is_match : Pair → Bool) (slots : Slots) (tur
         ]
 
     -- the first pair of the set in the front is the end of the first path to a pair of the set
-    pub IsFront-first : (before : List (Pair × Slots)) (a : Pair × Slots) (after : List (Pair × Slots))
+    pub IsFrontier-first : (before : List (Pair × Slots)) (a : Pair × Slots) (after : List (Pair × Slots))
         → front ≡ before ++ a ∷ after
         → ((b : Pair × Slots) → In b before → P b.0 → ⊥) → P a.0
         → (p : List Pair) × (first : IsFirstTo space.edges space.starts P p) × (first.end ≡ a.0)
         × (found space.capture p slots ≡ Some a)
         × (length p ≤ turns)
-    IsFront-first before a after split plain t =
+    IsFrontier-first before a after split plain t =
         let leads = f.leads target at_matches in
         let in_front : (b : Pair × Slots) → In b before
         → In b front = λ b i. rw split (In-append_left b before (a ∷ after) i) in
@@ -190,7 +190,7 @@ module _ (space : Space) (resting is_match : Pair → Bool) (slots : Slots) (tur
         f.later before a after
         (λ b i. rising b (in_front b i)) (λ b i u. plain b i (is_target b.0 u)) (target_is a.0 t) in
         let answer = leads.1 (found space.capture (a.0 ∷ []) a.1)
-        (subst (λ x. ExploresBehind space target 0 x None leads.0 f.waiting f.current
+        (subst (λ x. ExploresAfter space target 0 x None leads.0 f.waiting f.current
         (found space.capture (a.0 ∷ []) a.1)) (sym split) behind) in
         let wrote : found space.capture (a.0 ∷ []) a.1 ≡ Some a =
         rw (shape.writes_nothing a.0 (matches a.0 t).0) refl in
@@ -211,23 +211,23 @@ module _ (space : Space) (resting is_match : Pair → Bool) (slots : Slots) (tur
 
 module _ (space : Space) (resting is_match : Pair → Bool) (slots : Slots) (turns : ℕ)
     (shape : Scanned space resting is_match) {front : List (Pair × Slots)} {e : ℕ}
-    (f : IsFront space resting is_match slots turns front e) where
+    (f : IsFrontier space resting is_match slots turns front e) where
   -- they are match pairs at e
   here_matches : (x : Pair) → WantedAt (Passes is_match) e x → (is_match x ≡ true) × (x.1 ≡ e)
   here_matches x h = (h.wanted, h.at)
 
   -- no match pair in the front: no path ends at e
-  pub IsFront-no_match : NoMatch is_match front → NoPath space.edges space.starts (WantedAt (Passes is_match) e)
-  IsFront-no_match none = IsFront-none space resting is_match slots turns shape f
+  pub IsFrontier-no_match : NoMatch is_match front → NoPath space.edges space.starts (WantedAt (Passes is_match) e)
+  IsFrontier-no_match none = IsFrontier-none space resting is_match slots turns shape f
       (WantedAt (Passes is_match) e) (tell_at is_match e) here_matches (λ a i h. none a i h.wanted)
 
   -- its first match pair is the end of the first path that ends at e
-  pub IsFront-first_match : (a : Pair × Slots) → FirstMatch is_match front a
+  pub IsFrontier-first_match : (a : Pair × Slots) → FirstMatch is_match front a
       → (p : List Pair) × (first : IsFirstTo space.edges space.starts (WantedAt (Passes is_match) e) p)
       × (first.end ≡ a.0)
       × (found space.capture p slots ≡ Some a) × (length p ≤ turns)
-  IsFront-first_match a m =
-      IsFront-first space resting is_match slots turns shape f (WantedAt (Passes is_match) e) (tell_at is_match e)
+  IsFrontier-first_match a m =
+      IsFrontier-first space resting is_match slots turns shape f (WantedAt (Passes is_match) e) (tell_at is_match e)
       here_matches m.before a m.after m.split
       (λ b i h. m.plain b i h.wanted) (record {
         wanted = m.matches;
@@ -256,19 +256,19 @@ module _ (space : Space) (resting is_match : Pair → Bool) (slots : Slots) (tur
   item_here a i t = record { wanted = t; at = (f.rest a i).1 }
 
   -- the match pairs of the front are those to which a path leads
-  pub IsFront-pairs : (m : Pair) → WantedAt (Passes is_match) e m
+  pub IsFrontier-pairs : (m : Pair) → WantedAt (Passes is_match) e m
       → ((p : List Pair) × PathTo space.edges space.starts m p) ↔ ((a : Pair × Slots) × In a front × (a.0 ≡ m))
-  IsFront-pairs m h = (
+  IsFrontier-pairs m h = (
     λ w.
         elim (find m front) [
           | inl r ↦ (r.item, rw r.split (In-append_right r.item r.before (r.item ∷ r.after) (inl refl)), r.is)
-          | inr none ↦ absurd (IsFront-none space resting is_match slots turns shape f (λ x. x ≡ m)
+          | inr none ↦ absurd (IsFrontier-none space resting is_match slots turns shape f (λ x. x ≡ m)
               (one m) (here_at m h) none m w.0 w.1 refl)
         ],
     λ i.
         elim (find m front) [
           | inl r ↦
-              let first = IsFront-first space resting is_match slots turns shape f (λ x. x ≡ m) (one m)
+              let first = IsFrontier-first space resting is_match slots turns shape f (λ x. x ≡ m) (one m)
               (here_at m h) r.before r.item r.after r.split r.plain r.is in
               (first.0, rw first.1.wanted at first.1.path)
           | inr none ↦ absurd (none i.0 i.1 i.2)
@@ -276,14 +276,14 @@ module _ (space : Space) (resting is_match : Pair → Bool) (slots : Slots) (tur
   )
 
   -- the first path to a pair that comes before another in the front comes before every path to the other
-  IsFront-order : (before : List (Pair × Slots)) (b : Pair × Slots) (after : List (Pair × Slots))
+  IsFrontier-order : (before : List (Pair × Slots)) (b : Pair × Slots) (after : List (Pair × Slots))
       → front ≡ before ++ b ∷ after
       → (m n : Pair) → WantedAt (Passes is_match) e m → WantedAt (Passes is_match) e n → b.0 ≡ m
       → ((c : Pair × Slots) → In c before → c.0 ≡ m → ⊥) → ((c : Pair × Slots) → In c before → c.0 ≡ n → ⊥)
       → (p : List Pair) → IsFirstTo space.edges space.starts (λ x. x ≡ m) p → (q : List Pair)
       → PathTo space.edges space.starts n q → (q ≡ p) ⊎ ComesBefore space.edges p q
-  IsFront-order before b after split m n h k eq not_m not_n p first q w =
-      let found_first = IsFront-first space resting is_match slots turns shape f (λ x. (x ≡ m) ⊎ (x ≡ n)) (two m n)
+  IsFrontier-order before b after split m n h k eq not_m not_n p first q w =
+      let found_first = IsFrontier-first space resting is_match slots turns shape f (λ x. (x ≡ m) ⊎ (x ≡ n)) (two m n)
       (λ x s. elim s [ inl y ↦ here_at m h x y | inr y ↦ here_at n k x y ]) before b after split
       (λ c i s. elim s [ inl y ↦ not_m c i y | inr y ↦ not_n c i y ]) (inl eq) in
       let both = found_first.1 in
@@ -316,7 +316,7 @@ module _ (space : Space) (resting is_match : Pair → Bool) (slots : Slots) (tur
                   let joined : front ≡ r.before ++ r.item ∷ (r.after ++ a ∷ l.after) =
                   l.split ∙ ap (λ x. x ++ a ∷ l.after) r.split
                   ∙ append_assoc r.before (r.item ∷ r.after) (a ∷ l.after) in
-                  elim (IsFront-order r.before r.item (r.after ++ a ∷ l.after) joined m a.0 h
+                  elim (IsFrontier-order r.before r.item (r.after ++ a ∷ l.after) joined m a.0 h
                   (item_here a (rw l.split (In-append_right a l.before (a ∷ l.after) (inl refl))) l.matches)
                   r.is r.plain (λ c i. before_a c (rw r.split (In-append_left c r.before (r.item ∷ r.after) i))) q k p
                   (rw first.wanted at first.path)) [
@@ -324,7 +324,7 @@ module _ (space : Space) (resting is_match : Pair → Bool) (slots : Slots) (tur
                     | inr c ↦ inr c
                   ]
               | inr none ↦
-                  let i = (IsFront-pairs m h).0 (q, rw k.wanted at k.path) in
+                  let i = (IsFrontier-pairs m h).0 (q, rw k.wanted at k.path) in
                   elim (In-append i.0 l.before (a ∷ l.after) (subst (λ x. In i.0 x) l.split i.1)) [
                     | inl j ↦ absurd (none i.0 j i.2)
                     | inr j ↦
@@ -337,15 +337,15 @@ module _ (space : Space) (resting is_match : Pair → Bool) (slots : Slots) (tur
       ]
 
   -- its last match pair is the end of the last of the first paths to the match pairs at e
-  pub IsFront-last_match : (a : Pair × Slots) → LastMatch is_match front a
+  pub IsFrontier-last_match : (a : Pair × Slots) → LastMatch is_match front a
       → (p : List Pair) × (last : IsLastOfFirsts space.edges space.starts (Passes is_match) e p) × (last.end ≡ a.0)
       × (found space.capture p slots ≡ Some a) × (length p ≤ turns)
-  IsFront-last_match a l =
+  IsFrontier-last_match a l =
       let in_front : In a front = rw l.split (In-append_right a l.before (a ∷ l.after) (inl refl)) in
       let wanted = item_here a in_front l.matches in
       let before_a : (b : Pair × Slots) → In b l.before → b.0 ≡ a.0
       → ⊥ = apart l.before a l.after (subst (λ x. NoRepeats (map (λ (c : Pair × Slots). c.0) x)) l.split f.once) in
-      let first = IsFront-first space resting is_match slots turns shape f (λ x. x ≡ a.0) (one a.0)
+      let first = IsFrontier-first space resting is_match slots turns shape f (λ x. x ≡ a.0) (one a.0)
       (here_at a.0 wanted) l.before a l.after l.split before_a refl in (
         first.0,
         record {

@@ -9,7 +9,7 @@ use Rattle.regex_search_core.specs.declared.search.MatchKind.{MatchKind}
 use Rattle.thompson_nfa.specs.Automaton.{Automaton}
 use Rattle.nfa_paths.specs.Graphs.{Pair}
 use Rattle.nfa_paths.specs.Known.{IsSureMatch}
-use Rattle.nfa_paths.specs.Paths.{slot_row, path_pattern, IsMatchAnswer}
+use Rattle.nfa_paths.specs.Paths.{slot_row, path_pattern, IsFindAnswer}
 use Rattle.nfa_paths.proofs.AnswerLemmas.{search_answer-unique}
 use Rattle.nfa_paths.proofs.ExistenceLemmas.{search_answer-exists}
 
@@ -19,20 +19,20 @@ module _ (nfa : Automaton) (kind : MatchKind) (earliest : Bool) (x : Search) whe
   worth p = match_of (option_and_then (path_pattern nfa) p) (slot_row nfa (slot_count nfa.groups) p)
 
   -- a search has one match
-  pub match-unique : (a b : Option Found) → IsMatchAnswer nfa kind earliest x a
-      → IsMatchAnswer nfa kind earliest x b → a ≡ b
+  pub match-unique : (a b : Option Found) → IsFindAnswer nfa kind earliest x a
+      → IsFindAnswer nfa kind earliest x b → a ≡ b
   match-unique a b h k =
       let one = search_answer-unique nfa kind earliest x h.restarts k.restarts h.path k.path h.answers k.answers in
       h.found_is ∙ ap worth one.1 ∙ sym k.found_is
 
   -- so a match that was found is sure
-  pub match-sure : (m : Found) → IsMatchAnswer nfa kind earliest x (Some m) → IsSureMatch nfa kind earliest x m
+  pub match-sure : (m : Found) → IsFindAnswer nfa kind earliest x (Some m) → IsSureMatch nfa kind earliest x m
   match-sure m h = λ found k. match-unique found (Some m) k h
 
   -- and a match that is sure is the answer, since there is one
-  pub sure-match : (m : Found) → IsSureMatch nfa kind earliest x m → IsMatchAnswer nfa kind earliest x (Some m)
+  pub sure-match : (m : Found) → IsSureMatch nfa kind earliest x m → IsFindAnswer nfa kind earliest x (Some m)
   sure-match m sure =
       let answer = search_answer-exists nfa kind earliest x in
-      let is : IsMatchAnswer nfa kind earliest x (worth answer.1) =
+      let is : IsFindAnswer nfa kind earliest x (worth answer.1) =
       record { restarts = answer.0; path = answer.1; answers = answer.2; found_is = refl } in
-      subst (λ (o : Option Found). IsMatchAnswer nfa kind earliest x o) (sure (worth answer.1) is) is
+      subst (λ (o : Option Found). IsFindAnswer nfa kind earliest x o) (sure (worth answer.1) is) is

@@ -5,7 +5,7 @@ pub mod SearchingLemmas
 pub mod MemberLemmas
 pub mod TestLemmas
 pub mod FlagSetLemmas
-pub mod FrontMatchLemmas
+pub mod FrontierMatchLemmas
 pub mod KindsLemmas
 pub mod ScanLemmas
 pub mod ReachedLemmas

@@ -9,11 +9,11 @@ use Rattle.thompson_nfa.specs.Automaton.{Automaton}
 use Rattle.nfa_paths.specs.Graphs.{Pair, In, Space, NoPath, IsFirstTo, IsFirstPath}
 use Rattle.nfa_paths.specs.FirstPaths.{Path, IsFirst}
 use Rattle.nfa_paths.specs.FirstPaths.Path.{stop, go}
-use Rattle.nfa_paths.specs.Exploring.{Slots, Hit, Item, apply, ExploresTo}
-use Rattle.nfa_paths.specs.Exploring.Item.{Explore, Restore, Load}
+use Rattle.nfa_paths.specs.Exploring.{Slots, Hit, Task, apply, ExploresTo}
+use Rattle.nfa_paths.specs.Exploring.Task.{Explore, Restore, Load}
 use Rattle.nfa_paths.specs.Kinds.{Passes, WantedBefore, found_along, first_match, before_match, is_resting}
 use Rattle.nfa_paths.specs.Paths.{space, capture, edges, starts, last_of, node_at, path_pattern, pattern_of}
-use Rattle.nfa_paths.specs.Overlaps.{HoldsPattern, IsFirstBefore, IsHeld, pattern_at}
+use Rattle.nfa_paths.specs.Overlaps.{HoldsPattern, IsFirstBefore, IsInsertable, pattern_at}
 use Rattle.nfa_paths.proofs.AnswerLemmas.{same_parts}
 use Rattle.nfa_paths.proofs.GainLemmas.{wanted-shape}
 use Rattle.nfa_paths.proofs.PathToLemmas.{EndsWith-last, found-end, IsFirstTo-along, IsFirstTo-unique}
@@ -29,7 +29,7 @@ module _ (space : Space) (target : Pair → Bool) (e : ℕ)
   Path-ahead (stop {v = v} t) l = let k : v.1 < e = before v t in omega arith
   Path-ahead (go {v = v} {w = w} t i n h) l = let k : v.1 ≤ w.1 = onward v w i in Path-ahead h (omega arith)
 
-  pub Answer-ahead : (left : ℕ) (otherwise : Hit) (marks : List Pair) (work : List Item) (slots : Slots)
+  pub Answer-ahead : (left : ℕ) (otherwise : Hit) (marks : List Pair) (work : List Task) (slots : Slots)
       → ((k : Pair) → In (Explore k) work → e ≤ k.1) → ExploresTo space target left otherwise marks work slots otherwise
   unfolding ExploresTo
   Answer-ahead left otherwise marks [] slots ahead = refl
@@ -108,19 +108,19 @@ module _ (wants : Pair → Bool) (e : ℕ) where
 
 -- The set before is `old`: wanted is what it has room for.
 module _ (nfa : Automaton) (x : Search) (old : List Bool) (wants : Pair → Bool)
-    (tells : (v : Pair) → (wants v ≡ true) ↔ IsHeld nfa x (length old) v) where
+    (tells : (v : Pair) → (wants v ≡ true) ↔ IsInsertable nfa x (length old) v) where
   -- a first path before the limit
   abbrev First : ℕ → List Pair → Type 0
   First limit p = IsFirstTo (edges nfa x) (starts nfa x) (WantedBefore (Passes wants) limit) p
 
   First-held : (limit : ℕ) (p : List Pair) → First limit p
-      → IsFirstTo (edges nfa x) (starts nfa x) (WantedBefore (IsHeld nfa x (length old)) limit) p
+      → IsFirstTo (edges nfa x) (starts nfa x) (WantedBefore (IsInsertable nfa x (length old)) limit) p
   First-held limit p = IsFirstTo-along (edges nfa x) (starts nfa x) _ _
       (λ v w. record { wanted = (tells v).0 w.wanted; before = w.before })
       (λ v w. record { wanted = (tells v).1 w.wanted; before = w.before })
 
   held-First : (limit : ℕ) (p : List Pair)
-      → IsFirstTo (edges nfa x) (starts nfa x) (WantedBefore (IsHeld nfa x (length old)) limit) p → First limit p
+      → IsFirstTo (edges nfa x) (starts nfa x) (WantedBefore (IsInsertable nfa x (length old)) limit) p → First limit p
   held-First limit p = IsFirstTo-along (edges nfa x) (starts nfa x) _ _
       (λ v w. record { wanted = (tells v).1 w.wanted; before = w.before })
       (λ v w. record { wanted = (tells v).0 w.wanted; before = w.before })

@@ -15,7 +15,7 @@ use Rattle.regex_search_core.specs.declared.search.MatchKind.{MatchKind}
 use Rattle.thompson_nfa.specs.Automaton.{Automaton, Node, IsAutomaton, PatternBelow, SlotBelow}
 use Rattle.thompson_nfa.specs.Automaton.Node.{ByteRange, Sparse, Dense, Look, Union, BinaryUnion, Capture, Fail, Match}
 use Rattle.nfa_paths.specs.Graphs.{Pair}
-use Rattle.nfa_paths.specs.Paths.{raised, pattern_of, slot_of, node_at, capture, is_utf8_empty, path_pattern, last_of, slot_among, slot_row, IsScanAnswer, IsKeptAnswer, IsRestartedAnswer, IsSearchAnswer, IsAnswer, IsFoundAnswer}
+use Rattle.nfa_paths.specs.Paths.{raised, pattern_of, slot_of, node_at, capture, is_utf8_empty, path_pattern, last_of, slot_among, slot_row, IsScanAnswer, IsKeptAnswer, IsRestartedAnswer, IsSearchAnswer, IsAnswer, IsBoolAnswer}
 use Rattle.nfa_paths.specs.Exploring.{Slots}
 use Rattle.nfa_paths.proofs.AnswerLemmas.{scan_answer-leads}
 use Rattle.nfa_paths.proofs.PathToLemmas.{EndsWith-last}
@@ -209,7 +209,7 @@ module _ (nfa : Automaton) (kind : MatchKind) (earliest : Bool) where
 
   -- a search that has no pattern has no path, and one that has a pattern has a path
   found-none : (x : Search) (slots : Slots) → IsAnswer nfa kind earliest x None slots
-      → IsFoundAnswer nfa kind earliest x false
+      → IsBoolAnswer nfa kind earliest x false
   found-none x slots a = record {
     restarts = a.restarts;
     path = a.path;
@@ -237,7 +237,7 @@ module _ (nfa : Automaton) (kind : MatchKind) (earliest : Bool) where
       none (Some p) answers e = let some = search-pattern x a.restarts p answers in absurd (let k = some.1 in cc)
 
   pub found-of : (x : Search) (slots : Slots) (pattern : Option ℕ) → IsAnswer nfa kind earliest x pattern slots
-      → IsFoundAnswer nfa kind earliest x (is_some pattern)
+      → IsBoolAnswer nfa kind earliest x (is_some pattern)
   found-of x slots None a = found-none x slots a
   found-of x slots (Some k) a = record {
     restarts = a.restarts;

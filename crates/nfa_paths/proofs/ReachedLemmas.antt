@@ -4,8 +4,8 @@ use Rattle.std.specs.Prelude.{Option}
 use Rattle.std.proofs.lemmas.Bool.{cases_lt}
 use Rattle.nfa_paths.specs.Graphs.{Pair, Space, In, WantedAt}
 use Rattle.nfa_paths.specs.Exploring.{Slots}
-use Rattle.nfa_paths.specs.Kinds.{Passes, IsReached, ReachedBefore, EndsBefore, HoldsMatch, Scanned, IsFront}
-use Rattle.nfa_paths.proofs.KindsLemmas.{IsFront-pairs}
+use Rattle.nfa_paths.specs.Kinds.{Passes, IsReached, ReachedBefore, EndsBefore, HoldsMatch, Scanned, IsFrontier}
+use Rattle.nfa_paths.proofs.KindsLemmas.{IsFrontier-pairs}
 use Rattle.nfa_paths.proofs.ScanLemmas.{NoneBefore-start}
 
 -- the patterns that are reached by the pairs of another set
@@ -23,16 +23,17 @@ IsReached-along to r = record {
 module _ (space : Space) (resting is_match : Pair → Bool) (slots : Slots) (shape : Scanned space resting is_match) where
   module _ (pattern : Pair → Option ℕ) (k : ℕ) where
     -- at one position: those of the match pairs of its front
-    pub IsReached-at : {turns e : ℕ} {front : List (Pair × Slots)} → IsFront space resting is_match slots turns front e
+    pub IsReached-at : {turns e : ℕ} {front : List (Pair × Slots)}
+        → IsFrontier space resting is_match slots turns front e
         → IsReached space.edges space.starts (WantedAt (Passes is_match) e) pattern k
         ↔ HoldsMatch is_match pattern k front
     IsReached-at {turns} f = (
       λ r.
-          let a = (IsFront-pairs space resting is_match slots turns shape f r.end r.wanted).0 (r.along, r.path) in
+          let a = (IsFrontier-pairs space resting is_match slots turns shape f r.end r.wanted).0 (r.along, r.path) in
           record { item = a.0; among = a.1; matches = rw a.2 r.wanted.wanted; pattern_is = rw a.2 r.pattern_is },
       λ a.
           let h = wanted_at a.item.0 a.matches (f.rest a.item a.among).1 in
-          let w = (IsFront-pairs space resting is_match slots turns shape f a.item.0 h).1 (a.item, a.among, refl) in
+          let w = (IsFrontier-pairs space resting is_match slots turns shape f a.item.0 h).1 (a.item, a.among, refl) in
           record { end = a.item.0; along = w.0; path = w.1; wanted = h; pattern_is = a.pattern_is },
     )
       where
@@ -47,7 +48,7 @@ module _ (space : Space) (resting is_match : Pair → Bool) (slots : Slots) (sha
 
     -- before the next position: what was reached before, and the match pairs of the front
     pub ReachedBefore-step : {turns e : ℕ} {front : List (Pair × Slots)}
-        → IsFront space resting is_match slots turns front e
+        → IsFrontier space resting is_match slots turns front e
         → ReachedBefore space is_match pattern (e + 1) k
         ↔ (ReachedBefore space is_match pattern e k ⊎ HoldsMatch is_match pattern k front)
     ReachedBefore-step {e = e} f = (

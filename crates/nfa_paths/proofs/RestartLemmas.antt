@@ -13,10 +13,10 @@ use Rattle.regex_search_core.specs.declared.search.MatchKind.{MatchKind}
 use Rattle.thompson_nfa.specs.Automaton.{Automaton, IsAutomaton}
 use Rattle.nfa_paths.specs.Graphs.{Pair}
 use Rattle.nfa_paths.specs.Exploring.{Slots}
-use Rattle.nfa_paths.specs.Paths.{IsAnswer, IsHalfAnswer, IsMatchAnswer, span_len, raised, is_utf8_empty, slot_row, turn_weight, scan_limit}
+use Rattle.nfa_paths.specs.Paths.{IsAnswer, IsHalfAnswer, IsFindAnswer, span_len, raised, is_utf8_empty, slot_row, total_degree, max_scans}
 use Rattle.nfa_paths.specs.Paths.{last_of, node_at, path_half, path_pattern, pattern_of}
 use Rattle.nfa_paths.specs.Paths.{EndsOnBoundary, SplitsCharacter, IsKeptAnswer, IsRestartedAnswer, IsScanAnswer, IsSearchAnswer, IsWhole, IsWithinScans}
-use Rattle.nfa_paths.specs.Restarts.{scan_turns, AreUnset, GivesPath, ScanGives, SearchGives, Restarts}
+use Rattle.nfa_paths.specs.Restarts.{max_scan_turns, AreUnset, GivesPath, ScanGives, SearchGives, Restarts}
 use Rattle.nfa_paths.proofs.AnswerLemmas.{ends_on_boundary, split-within_scans, split-bound, one_scan-bound, scan_answer-within}
 use Rattle.nfa_paths.proofs.InsideLemmas.{pattern-within}
 use Rattle.nfa_paths.proofs.PatternLemmas.{match-along-path}
@@ -27,9 +27,9 @@ unfolding slot_row
 slot_row-none nfa count = refl
 
 -- a scan from further on takes at most as many turns
-scan_turns-raised : (nfa : Automaton) (x : Search) (i : ℕ) → scan_turns nfa (raised x i) ≤ scan_turns nfa x
-scan_turns-raised nfa x i =
-    let few : span_len (raised x i) + 1 ≤ span_len x + 1 = omega arith in mul-le-mul_left (1 + turn_weight nfa) few
+max_scan_turns-raised : (nfa : Automaton) (x : Search) (i : ℕ) → max_scan_turns nfa (raised x i) ≤ max_scan_turns nfa x
+max_scan_turns-raised nfa x i =
+    let few : span_len (raised x i) + 1 ≤ span_len x + 1 = omega arith in mul-le-mul_left (1 + total_degree nfa) few
 
 -- one more scan, with at most as many turns as each
 turns-more : (limit scans turns extra after : ℕ) → turns ≤ scans * limit → extra ≤ limit → after ≤ turns + extra
@@ -174,18 +174,18 @@ module _ (nfa : Automaton) (kind : MatchKind) (earliest : Bool) where
               sym anchored ∙ no in cc)
 
       -- the turns after one scan more
-      pub turns-after : (after : ℕ) → after ≤ turns + scan_turns nfa y → after ≤ (scans + 1) * scan_turns nfa x
+      pub turns-after : (after : ℕ) → after ≤ turns + max_scan_turns nfa y → after ≤ (scans + 1) * max_scan_turns nfa x
       turns-after after more =
-          turns-more (scan_turns nfa x) scans turns (scan_turns nfa (raised x scans)) after s.turned
-          (scan_turns-raised nfa x scans)
-          (subst (λ z. after ≤ turns + scan_turns nfa z) s.is more)
+          turns-more (max_scan_turns nfa x) scans turns (max_scan_turns nfa (raised x scans)) after s.turned
+          (max_scan_turns-raised nfa x scans)
+          (subst (λ z. after ≤ turns + max_scan_turns nfa z) s.is more)
 
       -- any other search scans again
       pub restarted : (half : HalfMatch) (found : Slots) (last after start : ℕ) (z : Search)
           → GivesPath nfa kind earliest y half found last
           → is_utf8_empty nfa ≡ true → is_anchored x.anchored ≡ false
           → (IsBoundary x.haystack (half_found_of half).offset → ⊥)
-          → after ≤ turns + scan_turns nfa y → start ≡ y.start + 1 → z ≡ record y { start = start }
+          → after ≤ turns + max_scan_turns nfa y → start ≡ y.start + 1 → z ≡ record y { start = start }
           → Restarts nfa kind earliest x z (scans + 1) after
       restarted half found last after start z f mode free off more next moved = record {
         is = moved ∙ raised-start x y scans start s.is next;
@@ -211,11 +211,11 @@ module _ (nfa : Automaton) (kind : MatchKind) (earliest : Bool) where
               split-within_scans nfa kind earliest x modes.0 modes.1 (suc n) split
 
       -- and within the limit
-      pub scans-bound : scans + 1 ≤ scan_limit nfa x
+      pub scans-bound : scans + 1 ≤ max_scans nfa x
       scans-bound = of scans s.split s.free
         where
           of : (n : ℕ) → ((i : ℕ) → i < n → SplitsCharacter nfa kind earliest (raised x i))
-              → (0 < n → (is_utf8_empty nfa ≡ true) × (is_anchored x.anchored ≡ false)) → n + 1 ≤ scan_limit nfa x
+              → (0 < n → (is_utf8_empty nfa ≡ true) × (is_anchored x.anchored ≡ false)) → n + 1 ≤ max_scans nfa x
           of zero split free = one_scan-bound nfa x (omega arith)
           of (suc n) split free = let modes = free (omega arith) in
               split-bound nfa kind earliest x modes.0 modes.1 (suc n) split
@@ -286,7 +286,7 @@ module _ (nfa : Automaton) (kind : MatchKind) (earliest : Bool) (x : Search) {sl
   pub match-some : IsAutomaton nfa → (half : HalfMatch) (k : ℕ) → k ≡ (half_found_of half).pattern
       → length slots ≡ 2 * length nfa.groups
       → (s : SearchGives nfa kind earliest x (Some half) slots scans turns)
-      → (found : Option Found) → found ≡ match_of (Some k) slots → IsMatchAnswer nfa kind earliest x found
+      → (found : Option Found) → found ≡ match_of (Some k) slots → IsFindAnswer nfa kind earliest x found
   match-some valid half k is size s found leads = record {
     restarts = s.restarts;
     path = s.path;

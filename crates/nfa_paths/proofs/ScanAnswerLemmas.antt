@@ -10,9 +10,9 @@ use Rattle.thompson_nfa.specs.Automaton.{Automaton, Node}
 use Rattle.thompson_nfa.specs.Automaton.Node.{ByteRange, Sparse, Dense, Look, Union, BinaryUnion, Capture, Fail, Match}
 use Rattle.thompson_nfa.specs.Looks.{look_holds}
 use Rattle.nfa_paths.specs.Graphs.{Pair, In, NoPath}
-use Rattle.nfa_paths.specs.Exploring.{Item, Slots, Hit, apply, ExploresTo, seeds}
-use Rattle.nfa_paths.specs.Exploring.Item.{Explore, Load}
-use Rattle.nfa_paths.specs.Kinds.{Scanning, IsFoundBy, found_along, NoneBefore, LastBefore, EndsBefore, first_match, last_match, Scanned, IsFront, rests, is_resting}
+use Rattle.nfa_paths.specs.Exploring.{Task, Slots, Hit, apply, ExploresTo, seeds}
+use Rattle.nfa_paths.specs.Exploring.Task.{Explore, Load}
+use Rattle.nfa_paths.specs.Kinds.{Scanning, IsFoundBy, found_along, NoneBefore, LastBefore, EndsBefore, first_match, last_match, Scanned, IsFrontier, rests, is_resting}
 use Rattle.nfa_paths.specs.Paths.{space, target_on, pairs_from, node_at, is_match, IsMatch, capture, start_state, byte_at, edges_of, edges, start_count, starts, IsScanAnswer, last_of, slot_row}
 use Rattle.nfa_paths.proofs.PathToLemmas.{EndsWith-last, found-end}
 use Rattle.nfa_paths.proofs.StartLemmas.{pairs_from-ahead, starts-increase, starts-none, IsMatch-edges, IsMatch-capture}
@@ -249,7 +249,7 @@ module _ (nfa : Automaton) (x : Search) (slots : Slots) where
       (Scanned-matches nfa x (is_match nfa) (λ v m. m)) turns g answer
 
   -- the first front with a match has the earliest path, also if the pairs after it were not followed
-  pub scan_earliest-cut : {e : ℕ} {Seen : Pair → Type 0} {spent : ℕ} {front : List (Pair × Slots)} {work : List Item}
+  pub scan_earliest-cut : {e : ℕ} {Seen : Pair → Type 0} {spent : ℕ} {front : List (Pair × Slots)} {work : List Task}
       {current : Slots} {a : Pair × Slots} → NoneBefore (space nfa x) (is_match nfa) e
       → Scanning (space nfa x) (is_match nfa) slots e Seen spent front work current
       → ((b : Pair × Slots) → In b front → (is_resting nfa b.0 ≡ true) × (b.0.1 ≡ e))
@@ -262,7 +262,7 @@ module _ (nfa : Automaton) (x : Search) (slots : Slots) where
 
   -- and the earliest last path, if all were followed
   pub scan_earliest_last-found : {turns e : ℕ} {front : List (Pair × Slots)} → NoneBefore (space nfa x) (is_match nfa) e
-      → IsFront (space nfa x) (is_resting nfa) (is_match nfa) slots turns front e
+      → IsFrontier (space nfa x) (is_resting nfa) (is_match nfa) slots turns front e
       → (a : Pair × Slots) → last_match (is_match nfa) None front ≡ Some a
       → IsFoundBy (capture nfa) slots (IsScanAnswer nfa x All true) turns (Some a)
   scan_earliest_last-found none f a is =
@@ -270,8 +270,8 @@ module _ (nfa : Automaton) (x : Search) (slots : Slots) where
       (Scanned-matches nfa x (is_match nfa) (λ v m. m)) none f a is
 
   -- once every path has ended, what was found last is the last path's
-  pub scan_last-found : {turns e : ℕ} {g : Hit} → LastBefore (space nfa x) (is_match nfa) slots e turns g
+  pub scan_all-found : {turns e : ℕ} {g : Hit} → LastBefore (space nfa x) (is_match nfa) slots e turns g
       → EndsBefore (space nfa x) (is_match nfa) e → IsFoundBy (capture nfa) slots (IsScanAnswer nfa x All false) turns g
-  scan_last-found so_far ends =
+  scan_all-found so_far ends =
       LastBefore-end (space nfa x) (is_resting nfa) (is_match nfa) slots
       (Scanned-matches nfa x (is_match nfa) (λ v m. m)) so_far ends

@@ -5,14 +5,14 @@ use Rattle.std.specs.Option.{option_map_or}
 use Rattle.std.proofs.lemmas.Bool.{cases_lt, cases_Bool}
 use Rattle.nfa_paths.specs.Graphs.{Pair, Space, In, HeadIs, Linked, EndsWith, PathTo, NoPath, IsEnd, IsLeastEnd, IsGreatestEnd, WantedAt, IsLastOfFirsts, IsFirstPath, IsEarliestPath, IsLastPath, IsEarliestLastPath}
 use Rattle.nfa_paths.specs.Exploring.{Slots, Hit, ExploresTo}
-use Rattle.nfa_paths.specs.Exploring.Item.{Explore}
-use Rattle.nfa_paths.specs.Kinds.{Passes, found_along, WantedBefore, IsFoundBy, NoneBefore, LastBefore, EndsBefore, last_match, NoMatch, Scanned, IsFront, IsOver}
+use Rattle.nfa_paths.specs.Exploring.Task.{Explore}
+use Rattle.nfa_paths.specs.Kinds.{Passes, found_along, WantedBefore, IsFoundBy, NoneBefore, LastBefore, EndsBefore, last_match, NoMatch, Scanned, IsFrontier, IsOver}
 use Rattle.nfa_paths.proofs.PathLemmas.{IsLeast-from_first}
 use Rattle.nfa_paths.proofs.PathToLemmas.{PathTo-along, IsLeast-none, IsLeast-first}
 use Rattle.nfa_paths.proofs.SearchLemmas.{Answer-starts, found-Some}
 use Rattle.nfa_paths.proofs.TestLemmas.{is_plain, test, test-true, true-test}
-use Rattle.nfa_paths.proofs.FrontMatchLemmas.{last_match-is}
-use Rattle.nfa_paths.proofs.KindsLemmas.{IsFront-no_match, IsFront-last_match}
+use Rattle.nfa_paths.proofs.FrontierMatchLemmas.{last_match-is}
+use Rattle.nfa_paths.proofs.KindsLemmas.{IsFrontier-no_match, IsFrontier-last_match}
 
 -- what is found in few turns is found in more
 pub IsFoundBy-more : {capture : Pair → Option ℕ} {slots : Slots} {Meant : Option (List Pair) → Type 0}
@@ -105,13 +105,14 @@ module _ (space : Space) (resting is_match : Pair → Bool) (slots : Slots) (sha
 
   -- no path ends before e, and none at e
   pub NoneBefore-step : {turns e : ℕ} {front : List (Pair × Slots)} → NoneBefore space is_match e
-      → IsFront space resting is_match slots turns front e → NoMatch is_match front → NoneBefore space is_match (e + 1)
+      → IsFrontier space resting is_match slots turns front e → NoMatch is_match front
+      → NoneBefore space is_match (e + 1)
   NoneBefore-step {turns} {e} none f plain m p w h =
       elim (cases_lt m.1 e) [
         | inl less ↦ none m p w (record { wanted = h.wanted; before = less })
         | inr more ↦
             let j : m.1 < e + 1 = h.before in
-            IsFront-no_match space resting is_match slots turns shape f plain m p w
+            IsFrontier-no_match space resting is_match slots turns shape f plain m p w
             (record { wanted = h.wanted; at = omega arith })
       ]
 
@@ -151,14 +152,14 @@ module _ (space : Space) (resting is_match : Pair → Bool) (slots : Slots) (sha
 
   -- the first front with a match pair: its last is the last of the first paths
   pub IsEarliestLastPath-found : {turns e : ℕ} {front : List (Pair × Slots)} → NoneBefore space is_match e
-      → IsFront space resting is_match slots turns front e → (a : Pair × Slots)
+      → IsFrontier space resting is_match slots turns front e → (a : Pair × Slots)
       → last_match is_match None front ≡ Some a
       → IsFoundBy space.capture slots (IsEarliestLastPath space.edges space.starts (Passes is_match)) turns (Some a)
   IsEarliestLastPath-found {turns} {e} {front} none f a found_it =
       elim (last_match-is is_match None front) [
         | inl lacks ↦ let never : Some a ≡ None = sym found_it ∙ lacks.0 in cc
         | inr has ↦
-            let h = IsFront-last_match space resting is_match slots turns shape f has.0 has.2 in
+            let h = IsFrontier-last_match space resting is_match slots turns shape f has.0 has.2 in
             record {
               path = Some h.0;
               meant = (
@@ -178,7 +179,7 @@ module _ (space : Space) (resting is_match : Pair → Bool) (slots : Slots) (sha
 
   -- with one more front: its last match pair, or what was found before
   pub LastBefore-step : {before turns e : ℕ} {front : List (Pair × Slots)} {g : Hit} → before ≤ turns
-      → LastBefore space is_match slots e before g → IsFront space resting is_match slots turns front e
+      → LastBefore space is_match slots e before g → IsFrontier space resting is_match slots turns front e
       → LastBefore space is_match slots (e + 1) turns (last_match is_match g front)
   LastBefore-step {before} {turns} {e} {front} {g} le so_far f =
       elim (last_match-is is_match g front) [
@@ -186,13 +187,13 @@ module _ (space : Space) (resting is_match : Pair → Bool) (slots : Slots) (sha
           path = so_far.path;
           meant = IsLastPath-agree space.edges space.starts (WantedBefore (Passes is_match) e)
               (WantedBefore (Passes is_match) (e + 1)) wider
-              (narrower (IsFront-no_match space resting is_match slots turns shape f lacks.1))
+              (narrower (IsFrontier-no_match space resting is_match slots turns shape f lacks.1))
               so_far.path so_far.meant;
           leads = so_far.leads ∙ sym lacks.0;
           short = let k : option_map_or length so_far.path 0 ≤ turns = omega (arith, so_far.short) in k;
         }
         | inr has ↦
-            let h = IsFront-last_match space resting is_match slots turns shape f has.0 has.2 in
+            let h = IsFrontier-last_match space resting is_match slots turns shape f has.0 has.2 in
             let w : PathTo space.edges space.starts h.1.end h.0 =
             PathTo-along space.edges space.starts h.1.first.wanted h.1.first.path in
             record {

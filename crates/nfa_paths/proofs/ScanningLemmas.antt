@@ -2,17 +2,17 @@
 use Rattle.std.proofs.Common.{◌≡◌, ℕ, suc, ◌+◌, ◌≤◌, ◌<◌, ◌⊎◌, inl, inr, Bool, true, List, [], ◌∷◌, ◌++◌, map, length, refl, arith}
 use Rattle.std.specs.Prelude.{None, Some}
 use Rattle.nfa_paths.specs.Graphs.{Pair, Space, In, NoRepeats}
-use Rattle.nfa_paths.specs.Exploring.{Slots, Hit, Item, round, found, Searching, ExploresTo, ExploresBehind}
-use Rattle.nfa_paths.specs.Exploring.Item.{Explore, Load}
-use Rattle.nfa_paths.specs.Kinds.{before_match, IsFront, IsOver, Scanning}
-use Rattle.nfa_paths.proofs.FrontMatchLemmas.{before_match-plain, before_match-among}
+use Rattle.nfa_paths.specs.Exploring.{Slots, Hit, Task, next_tasks, found, Searching, ExploresTo, ExploresAfter}
+use Rattle.nfa_paths.specs.Exploring.Task.{Explore, Load}
+use Rattle.nfa_paths.specs.Kinds.{before_match, IsFrontier, IsOver, Scanning}
+use Rattle.nfa_paths.proofs.FrontierMatchLemmas.{before_match-plain, before_match-among}
 use Rattle.nfa_paths.proofs.PathLemmas.{IsFirst-target}
 use Rattle.nfa_paths.proofs.PathToLemmas.{is_false}
 use Rattle.nfa_paths.proofs.SearchLemmas.{AnswerBehind-along}
 use Rattle.nfa_paths.proofs.SearchingLemmas.{Searching-load, Searching-round, Searching-done}
 
 module _ (space : Space) (is_match : Pair → Bool) (slots : Slots) where
-  module _ {e : ℕ} {Seen : Pair → Type 0} {spent : ℕ} {front : List (Pair × Slots)} {rest : List Item}
+  module _ {e : ℕ} {Seen : Pair → Type 0} {spent : ℕ} {front : List (Pair × Slots)} {rest : List Task}
       {current : Slots} where
     -- slots are loaded
     pub Scanning-load : {old : Slots} → Scanning space is_match slots e Seen spent front (Load old ∷ rest) current
@@ -21,14 +21,14 @@ module _ (space : Space) (is_match : Pair → Bool) (slots : Slots) where
 
   -- the next position
   pub Scanning-round : {e : ℕ} {Seen After : Pair → Type 0} {spent : ℕ} {front : List (Pair × Slots)}
-      {waiting : List Item} {current old : Slots}
+      {waiting : List Task} {current old : Slots}
       → Scanning space is_match slots e Seen spent front (Load old ∷ waiting) current
       → ((x y : Pair) → In y (space.edges x) → x.1 ≤ y.1)
       → ((a : Pair × Slots) → In a front → (space.capture a.0 ≡ None) × (a.0.1 ≡ e)
       × ((w : Pair) → In w (space.edges a.0) → e < w.1))
       → ((k : Pair) → In (Explore k) waiting → e < k.1) → ((x : Pair) → Seen x → x.1 ≤ e) → ((x : Pair) → After x → ⊥)
       → (after : Slots) → Scanning space is_match slots (e + 1) After spent []
-      (round space.edges front (Load old ∷ waiting)) after
+      (next_tasks space.edges front (Load old ∷ waiting)) after
   Scanning-round {e} s onward rests comes past fresh after = record {
     searching = λ target at.
         let sooner : (x : Pair) → target x ≡ true → (is_match x ≡ true) × (e ≤ x.1) =
@@ -47,9 +47,9 @@ module _ (space : Space) (is_match : Pair → Bool) (slots : Slots) where
 
   -- the scan has nothing left to explore at e: its front is complete
   pub Scanning-front : {resting : Pair → Bool} {e : ℕ} {Seen : Pair → Type 0} {spent : ℕ} {front : List (Pair × Slots)}
-      {waiting : List Item} {current : Slots} → Scanning space is_match slots e Seen spent front waiting current
+      {waiting : List Task} {current : Slots} → Scanning space is_match slots e Seen spent front waiting current
       → ((a : Pair × Slots) → In a front → (resting a.0 ≡ true) × (a.0.1 ≡ e)) → NoRepeats (map (λ a. a.0) front)
-      → ((k : Pair) → In (Explore k) waiting → e < k.1) → IsFront space resting is_match slots spent front e
+      → ((k : Pair) → In (Explore k) waiting → e < k.1) → IsFrontier space resting is_match slots spent front e
   Scanning-front {e = e} {spent = spent} {waiting = waiting} {current} s rest once later = record {
     waiting = waiting;
     current = current;
@@ -88,10 +88,10 @@ module _ (space : Space) (target : Pair → Bool) where
   -- a target that was put aside answers, if nothing before it does
   AnswerBehind-cut : (left : ℕ) (before : List (Pair × Slots)) (a : Pair × Slots) (after : List (Pair × Slots))
       (otherwise : Hit) (m n : List Pair)
-      (work : List Item) (current slots : Slots) (g : Hit) → target a.0 ≡ true
-      → ExploresBehind space target left before (found space.capture (a.0 ∷ []) a.1) m [] current g
-      → ExploresBehind space target left (before ++ a ∷ after) otherwise n work slots g
-  unfolding ExploresTo ExploresBehind
+      (work : List Task) (current slots : Slots) (g : Hit) → target a.0 ≡ true
+      → ExploresAfter space target left before (found space.capture (a.0 ∷ []) a.1) m [] current g
+      → ExploresAfter space target left (before ++ a ∷ after) otherwise n work slots g
+  unfolding ExploresTo ExploresAfter
   AnswerBehind-cut left [] a after otherwise m n work current slots g t h =
       let short : length (a.0 ∷ []) ≤ suc left = omega arith in
       inl (a.0 ∷ [], IsFirst-target space.edges target [] a.0 (λ i. i) t, h, short)
@@ -101,7 +101,7 @@ module _ (space : Space) (target : Pair → Bool) where
 
   -- what comes after a target is dropped, and the target becomes the answer otherwise
   pub Searching-cut : {goal : Hit → ℕ → Type 0} {Seen : Pair → Type 0} {spent : ℕ} {otherwise : Hit}
-      {work : List Item} {slots : Slots}
+      {work : List Task} {slots : Slots}
       (before : List (Pair × Slots)) (a : Pair × Slots) (after : List (Pair × Slots))
       → Searching space target goal Seen spent (before ++ a ∷ after) otherwise work slots → target a.0 ≡ true
       → space.capture a.0 ≡ None → Searching space target goal Seen spent before (Some a) [] slots
@@ -130,7 +130,7 @@ module _ (space : Space) (target : Pair → Bool) where
   -- The next position of the search that drops what comes after a match pair: the items before the front's first match
   -- pair go on.
   pub Searching-before_round : {goal : Hit → ℕ → Type 0} {e : ℕ} {Seen After : Pair → Type 0} {spent : ℕ}
-      {otherwise : Hit} {waiting : List Item} {slots old : Slots} (front : List (Pair × Slots))
+      {otherwise : Hit} {waiting : List Task} {slots old : Slots} (front : List (Pair × Slots))
       → Searching space target goal Seen spent (before_match target front) otherwise (Load old ∷ waiting) slots
       → ((x y : Pair) → In y (space.edges x) → x.1 ≤ y.1)
       → ((a : Pair × Slots) → In a front → (space.capture a.0 ≡ None) × (a.0.1 ≡ e)
@@ -138,7 +138,7 @@ module _ (space : Space) (target : Pair → Bool) where
       → ((k : Pair) → In (Explore k) waiting → e < k.1) → ((x : Pair) → Seen x → x.1 ≤ e) → ((x : Pair) → After x → ⊥)
       → (after : Slots)
       → Searching space target goal After spent [] otherwise
-      (round space.edges (before_match target front) (Load old ∷ waiting)) after
+      (next_tasks space.edges (before_match target front) (Load old ∷ waiting)) after
   Searching-before_round {e = e} front s onward rests comes past fresh after =
       Searching-round space target s (λ x. e < x.1)
       (λ x y a i. let k : x.1 ≤ y.1 = onward x y i in let l : e < x.1 = a in omega arith)

@@ -7,8 +7,8 @@ use Rattle.std.specs.List.{last_or}
 use Rattle.nfa_paths.specs.Graphs.{Pair, Space, In}
 use Rattle.nfa_paths.specs.FirstPaths.{Path, IsFirst, FirstAmong, IsFirstOfAll}
 use Rattle.nfa_paths.specs.FirstPaths.Path.{stop, go}
-use Rattle.nfa_paths.specs.Exploring.{Slots, Hit, Item, write, apply, found, ExploresTo, ExploresBehind, round, seeds}
-use Rattle.nfa_paths.specs.Exploring.Item.{Explore, Restore, Load}
+use Rattle.nfa_paths.specs.Exploring.{Slots, Hit, Task, write, apply, found, ExploresTo, ExploresAfter, next_tasks, seeds}
+use Rattle.nfa_paths.specs.Exploring.Task.{Explore, Restore, Load}
 use Rattle.nfa_paths.proofs.PathLemmas.{IsFirst-marked, IsFirst-dead, IsFirst-target, IsFirstOfAll-from_among, IsFirst-step, IsFirst-mark, IsFirst-ahead, IsFirst-resting}
 
 -- a list with an item has a last one
@@ -24,7 +24,7 @@ module _ (space : Space) (target : Pair → Bool) where
   Answer-none left otherwise marks slots = refl
 
   -- a slot is restored
-  pub Answer-restore : (left : ℕ) (otherwise : Hit) (marks : List Pair) (k : ℕ) (old : Option ℕ) (rest : List Item)
+  pub Answer-restore : (left : ℕ) (otherwise : Hit) (marks : List Pair) (k : ℕ) (old : Option ℕ) (rest : List Task)
       (slots : Slots) (g : Hit)
       → ExploresTo space target left otherwise marks rest (set slots k old) g
       ↔ ExploresTo space target left otherwise marks (Restore k old ∷ rest) slots g
@@ -32,7 +32,7 @@ module _ (space : Space) (target : Pair → Bool) where
   Answer-restore left otherwise marks k old rest slots g = (λ h. h, λ h. h)
 
   -- slots are loaded
-  pub Answer-load : (left : ℕ) (otherwise : Hit) (marks : List Pair) (old : Slots) (rest : List Item)
+  pub Answer-load : (left : ℕ) (otherwise : Hit) (marks : List Pair) (old : Slots) (rest : List Task)
       (slots : Slots) (g : Hit)
       → ExploresTo space target left otherwise marks rest old g
       ↔ ExploresTo space target left otherwise marks (Load old ∷ rest) slots g
@@ -40,7 +40,7 @@ module _ (space : Space) (target : Pair → Bool) where
   Answer-load left otherwise marks old rest slots g = (λ h. h, λ h. h)
 
   -- the result of the pairs at the head of the work
-  pub Answer-among : (left : ℕ) (otherwise : Hit) (marks es : List Pair) (rest : List Item)
+  pub Answer-among : (left : ℕ) (otherwise : Hit) (marks es : List Pair) (rest : List Task)
       (slots : Slots) (g : Hit) → ExploresTo space target left otherwise marks (map Explore es ++ rest) slots g
       → ((p : List Pair) × FirstAmong space.edges target marks es (Some p) × (g ≡ found space.capture p slots)
       × (length p ≤ left))
@@ -54,7 +54,7 @@ module _ (space : Space) (target : Pair → Bool) where
 
   -- marks that agree at what is to be explored, and no fewer turns
   Answer-along : (left more : ℕ) → left ≤ more
-      → (otherwise : Hit) (m n : List Pair) (work : List Item) (slots : Slots) (g : Hit)
+      → (otherwise : Hit) (m n : List Pair) (work : List Task) (slots : Slots) (g : Hit)
       → ((k : Pair) → In (Explore k) work → (r : Option (List Pair)) → IsFirst space.edges target m k r
       → IsFirst space.edges target n k r) → ExploresTo space target left otherwise m work slots g
       → ExploresTo space target more otherwise n work slots g
@@ -72,7 +72,7 @@ module _ (space : Space) (target : Pair → Bool) where
 
   -- more turns may be left
   pub Answer-more : (left more : ℕ) → left ≤ more
-      → (otherwise : Hit) (marks : List Pair) (work : List Item) (slots : Slots) (g : Hit)
+      → (otherwise : Hit) (marks : List Pair) (work : List Task) (slots : Slots) (g : Hit)
       → ExploresTo space target left otherwise marks work slots g
       → ExploresTo space target more otherwise marks work slots g
   Answer-more left more le otherwise marks work slots g =
@@ -80,7 +80,7 @@ module _ (space : Space) (target : Pair → Bool) where
 
   -- marking a pair that leads to no target loses nothing, and takes a turn
   pub Answer-mark : (left : ℕ) (otherwise : Hit) (marks : List Pair) (v : Pair)
-      → IsFirst space.edges target marks v None → (work : List Item) (slots : Slots) (g : Hit)
+      → IsFirst space.edges target marks v None → (work : List Task) (slots : Slots) (g : Hit)
       → ExploresTo space target left otherwise (v ∷ marks) work slots g
       → ExploresTo space target (suc left) otherwise marks work slots g
   Answer-mark left otherwise marks v none work slots g =
@@ -93,7 +93,7 @@ module _ (space : Space) (target : Pair → Bool) where
   found-cons v slots (stop t) = refl
   found-cons v slots (go t e n h) = refl
 
-  module _ (left : ℕ) (otherwise : Hit) (marks : List Pair) (v : Pair) (rest : List Item) (slots : Slots)
+  module _ (left : ℕ) (otherwise : Hit) (marks : List Pair) (v : Pair) (rest : List Task) (slots : Slots)
       (g : Hit) where
     -- a marked pair is dropped
     pub Answer-marked : In v marks → ExploresTo space target left otherwise marks rest slots g
@@ -113,7 +113,7 @@ module _ (space : Space) (target : Pair → Bool) where
 
     module _ (free : ¬ (In v marks)) (plain : target v ≡ false) (es : List Pair) (leads : space.edges v ≡ es) where
       -- a pair gives way to its edges, and to `next` below them, which leads back to `rest`
-      pub Answer-step : (next : List Item) (after : Slots) → write (space.capture v) v.1 slots ≡ after
+      pub Answer-step : (next : List Task) (after : Slots) → write (space.capture v) v.1 slots ≡ after
           → (ExploresTo space target left otherwise (v ∷ marks) next after g
           → ExploresTo space target left otherwise (v ∷ marks) rest slots g)
           → ExploresTo space target left otherwise (v ∷ marks) (map Explore es ++ next) after g
@@ -199,11 +199,11 @@ module _ (space : Space) (target : Pair → Bool) where
 
   -- after a front, each step goes on as before
   pub AnswerBehind-along : (front : List (Pair × Slots)) (left more : ℕ) → left ≤ more
-      → (o u : Hit) (m n : List Pair) (work later : List Item) (slots after : Slots) (g : Hit)
+      → (o u : Hit) (m n : List Pair) (work later : List Task) (slots after : Slots) (g : Hit)
       → (ExploresTo space target left o m work slots g → ExploresTo space target more u n later after g)
-      → ExploresBehind space target left front o m work slots g
-      → ExploresBehind space target more front u n later after g
-  unfolding ExploresBehind
+      → ExploresAfter space target left front o m work slots g
+      → ExploresAfter space target more front u n later after g
+  unfolding ExploresAfter
   AnswerBehind-along [] left more le o u m n work later slots after g f h = f h
   AnswerBehind-along (a ∷ front) left more le o u m n work later slots after g f (inl h) =
       let short : length h.0 ≤ suc more = omega (arith, h.3) in inl (h.0, h.1, h.2, short)
@@ -213,11 +213,11 @@ module _ (space : Space) (target : Pair → Bool) where
   module _ (ahead : Pair → Type 0) (closed : (x y : Pair) → ahead x → In y (space.edges x) → ahead y) where
     -- a resting pair is put aside: its edges lead to pairs ahead of all that is marked
     pub AnswerBehind-keep : (left : ℕ) (front : List (Pair × Slots)) (otherwise : Hit) (marks : List Pair) (v : Pair)
-        (rest : List Item) (slots : Slots) (g : Hit)
+        (rest : List Task) (slots : Slots) (g : Hit)
         → ¬ (In v marks) → ((w : Pair) → In w (space.edges v) → ahead w) → ((x : Pair) → In x marks → ahead x → ⊥)
-        → ExploresBehind space target left (front ++ (v, slots) ∷ []) otherwise (v ∷ marks) rest slots g
-        → ExploresBehind space target (suc left) front otherwise marks (Explore v ∷ rest) slots g
-    unfolding ExploresTo ExploresBehind
+        → ExploresAfter space target left (front ++ (v, slots) ∷ []) otherwise (v ∷ marks) rest slots g
+        → ExploresAfter space target (suc left) front otherwise marks (Explore v ∷ rest) slots g
+    unfolding ExploresTo ExploresAfter
     AnswerBehind-keep left [] otherwise marks v rest slots g free leaves past (inl h) =
         inl (h.0, (IsFirst-resting space.edges target ahead closed marks v free leaves past (Some h.0)).0 h.1, h.2, h.3)
     AnswerBehind-keep left [] otherwise marks v rest slots g free leaves past (inr h) =
@@ -229,7 +229,7 @@ module _ (space : Space) (target : Pair → Bool) where
         inr (h.0, AnswerBehind-keep left front otherwise marks v rest slots g free leaves past h.1)
 
     -- marks that are not ahead do not matter to work that is
-    pub Answer-ahead : (left : ℕ) (otherwise : Hit) (marks : List Pair) (work : List Item) (slots : Slots) (g : Hit)
+    pub Answer-ahead : (left : ℕ) (otherwise : Hit) (marks : List Pair) (work : List Task) (slots : Slots) (g : Hit)
         → ((k : Pair) → In (Explore k) work → ahead k) → ((x : Pair) → In x marks → ahead x → ⊥)
         → ExploresTo space target left otherwise [] work slots g
         → ExploresTo space target left otherwise marks work slots g
@@ -254,13 +254,13 @@ module _ (space : Space) (target : Pair → Bool) where
 
     -- the next position: what was put aside is taken up in turn, with no marks
     pub AnswerBehind-round : (left : ℕ) (front : List (Pair × Slots)) (otherwise : Hit) (marks : List Pair)
-        (waiting : List Item) (slots old after : Slots) (g : Hit)
+        (waiting : List Task) (slots old after : Slots) (g : Hit)
         → ((a : Pair × Slots) → In a front → (target a.0 ≡ false) × (space.capture a.0 ≡ None) × (ahead a.0 → ⊥)
         × ((w : Pair) → In w (space.edges a.0) → ahead w))
         → ((k : Pair) → In (Explore k) waiting → ahead k) → ((x : Pair) → In x marks → ahead x → ⊥)
-        → ExploresTo space target left otherwise [] (round space.edges front (Load old ∷ waiting)) after g
-        → ExploresBehind space target left front otherwise marks (Load old ∷ waiting) slots g
-    unfolding ExploresTo ExploresBehind round
+        → ExploresTo space target left otherwise [] (next_tasks space.edges front (Load old ∷ waiting)) after g
+        → ExploresAfter space target left front otherwise marks (Load old ∷ waiting) slots g
+    unfolding ExploresTo ExploresAfter next_tasks
     AnswerBehind-round left [] otherwise marks waiting slots old after g rests comes past h =
         Answer-ahead left otherwise marks waiting old g comes past h
     AnswerBehind-round left (a ∷ front) otherwise marks waiting slots old after g rests comes past h =
@@ -269,7 +269,8 @@ module _ (space : Space) (target : Pair → Bool) where
         → IsFirst space.edges target [] a.0 (option_map (λ p. a.0 ∷ p) r) =
         λ r f. IsFirst-step space.edges target [] a.0 (λ m. m) at.0 r
         (FirstAmong-ahead a.0 at.2 (space.edges a.0) at.3 r f) in
-        elim (Answer-among left otherwise [] (space.edges a.0) (round space.edges front (Load old ∷ waiting)) a.1 g h) [
+        elim (Answer-among left otherwise [] (space.edges a.0)
+        (next_tasks space.edges front (Load old ∷ waiting)) a.1 g h) [
           | inl k ↦
               let some = IsFirstOfAll-from_among space.edges target [] (space.edges a.0) (Some k.0) k.1 in
               let short : length (a.0 ∷ k.0) ≤ suc left = omega (arith, k.3) in

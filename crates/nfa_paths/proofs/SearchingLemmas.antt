@@ -2,17 +2,17 @@
 use Rattle.std.proofs.Common.{◌≡◌, ℕ, suc, ◌+◌, ◌≤◌, arith, ◌⊎◌, ◌↔◌, inl, inr, Bool, false, List, [], ◌∷◌, ◌++◌, map, length, get_or, set, refl}
 use Rattle.std.specs.Prelude.{Option, None, Some}
 use Rattle.nfa_paths.specs.Graphs.{Pair, Space, In}
-use Rattle.nfa_paths.specs.Exploring.{Slots, Hit, Item, ExploresTo, ExploresBehind, round, seeds, Searching}
-use Rattle.nfa_paths.specs.Exploring.Item.{Explore, Restore, Load}
+use Rattle.nfa_paths.specs.Exploring.{Slots, Hit, Task, ExploresTo, ExploresAfter, next_tasks, seeds, Searching}
+use Rattle.nfa_paths.specs.Exploring.Task.{Explore, Restore, Load}
 use Rattle.nfa_paths.proofs.SearchLemmas.{Answer-more, Answer-seeds, Answer-restore, Answer-load, Answer-marked, Answer-plain, Answer-write, Answer-unkept, Answer-end, AnswerBehind-along, AnswerBehind-keep, AnswerBehind-round}
 
 module _ (space : Space) (target : Pair → Bool) where
   -- nothing is seen yet
-  pub Searching-start : (Seen : Pair → Type 0) (otherwise : Hit) (work : List Item) (slots : Slots)
+  pub Searching-start : (Seen : Pair → Type 0) (otherwise : Hit) (work : List Task) (slots : Slots)
       → ((x : Pair) → Seen x → ⊥)
       → Searching space target (λ g total. ExploresTo space target total otherwise [] work slots g) Seen 0
       [] otherwise work slots
-  unfolding ExploresBehind
+  unfolding ExploresAfter
   Searching-start Seen otherwise work slots fresh = record {
     marks = [];
     agrees = λ x. (λ i. absurd i, λ s. absurd (fresh x s));
@@ -24,7 +24,7 @@ module _ (space : Space) (target : Pair → Bool) where
       → ((x : Pair) → Seen x → ⊥)
       → Searching space target (λ g total. ExploresTo space target total otherwise [] (map Explore starts)
       slots g) Seen 0 [] otherwise (Load slots ∷ seeds slots starts) current
-  unfolding ExploresTo ExploresBehind
+  unfolding ExploresTo ExploresAfter
   Searching-seeds Seen otherwise starts slots current fresh = record {
     marks = [];
     agrees = λ x. (λ i. absurd i, λ s. absurd (fresh x s));
@@ -36,12 +36,12 @@ module _ (space : Space) (target : Pair → Bool) where
   -- nothing is left to do, and nothing was put aside
   pub Searching-done : {goal : Hit → ℕ → Type 0} {Seen : Pair → Type 0} {spent : ℕ} {otherwise : Hit}
       {slots : Slots} → Searching space target goal Seen spent [] otherwise [] slots → goal otherwise spent
-  unfolding ExploresTo ExploresBehind
+  unfolding ExploresTo ExploresAfter
   Searching-done {spent = spent} s = s.leads _ 0 spent (omega arith) refl
 
   module _ {goal : Hit → ℕ → Type 0} {Seen : Pair → Type 0} {spent : ℕ} {front : List (Pair × Slots)}
       {otherwise : Hit} where
-    module _ {rest : List Item} {slots : Slots} where
+    module _ {rest : List Task} {slots : Slots} where
       -- a slot is restored
       pub Searching-restore : {k : ℕ} {old : Option ℕ}
           → Searching space target goal Seen spent front otherwise (Restore k old ∷ rest) slots
@@ -70,7 +70,7 @@ module _ (space : Space) (target : Pair → Bool) where
       }
 
   module _ {goal : Hit → ℕ → Type 0} {Seen : Pair → Type 0} {spent : ℕ} {front : List (Pair × Slots)}
-      {otherwise : Hit} {v : Pair} {rest : List Item} {slots : Slots}
+      {otherwise : Hit} {v : Pair} {rest : List Task} {slots : Slots}
       (s : Searching space target goal Seen spent front otherwise (Explore v ∷ rest) slots) where
     -- a turn that finds its pair marked
     pub Searching-marked : Seen v → Searching space target goal Seen (spent + 1) front otherwise rest slots
@@ -97,7 +97,7 @@ module _ (space : Space) (target : Pair → Bool) where
       )
 
       -- v is marked and gives way to `next`
-      Searching-next : (next : List Item) (after : Slots)
+      Searching-next : (next : List Task) (after : Slots)
           → ((left : ℕ) (g : Hit) → ExploresTo space target left otherwise (v ∷ s.marks) next after g
           → ExploresTo space target (suc left) otherwise s.marks (Explore v ∷ rest) slots g)
           → Searching space target goal After (spent + 1) front otherwise next after
@@ -158,7 +158,7 @@ module _ (space : Space) (target : Pair → Bool) where
 
   -- the next position
   pub Searching-round : {goal : Hit → ℕ → Type 0} {Seen After : Pair → Type 0} {spent : ℕ}
-      {front : List (Pair × Slots)} {otherwise : Hit} {waiting : List Item} {slots old : Slots}
+      {front : List (Pair × Slots)} {otherwise : Hit} {waiting : List Task} {slots old : Slots}
       → Searching space target goal Seen spent front otherwise (Load old ∷ waiting) slots
       → (ahead : Pair → Type 0) → ((x y : Pair) → ahead x → In y (space.edges x) → ahead y)
       → ((a : Pair × Slots) → In a front → (target a.0 ≡ false) × (space.capture a.0 ≡ None) × (ahead a.0 → ⊥)
@@ -166,8 +166,8 @@ module _ (space : Space) (target : Pair → Bool) where
       → ((k : Pair) → In (Explore k) waiting → ahead k) → ((x : Pair) → Seen x → ahead x → ⊥)
       → ((x : Pair) → After x → ⊥)
       → (after : Slots) → Searching space target goal After spent [] otherwise
-      (round space.edges front (Load old ∷ waiting)) after
-  unfolding ExploresBehind
+      (next_tasks space.edges front (Load old ∷ waiting)) after
+  unfolding ExploresAfter
   Searching-round {front = front} {otherwise} {waiting} {slots} {old} s ahead closed rests comes past fresh after =
       record {
         marks = [];

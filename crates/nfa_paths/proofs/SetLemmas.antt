@@ -10,7 +10,7 @@ use Rattle.regex_search_core.specs.declared.search.MatchKind.TheVariants.{All, L
 use Rattle.thompson_nfa.specs.Automaton.{Automaton}
 use Rattle.nfa_paths.specs.Graphs.{NoPath}
 use Rattle.nfa_paths.specs.Paths.{edges, starts}
-use Rattle.nfa_paths.specs.Overlaps.{HoldsPattern, IsHeld, IsMeantPath, HoldsPath, IsOverlapResult}
+use Rattle.nfa_paths.specs.Overlaps.{HoldsPattern, IsInsertable, IsSelectedPath, HoldsPath, IsOverlapResult}
 
 size-cons : (b : Bool) (bs : List Bool) → size_of_set (b ∷ bs) ≡ cond b 1 0 + size_of_set bs
 size-cons b bs = sum_by-cons (λ (c : Bool). cond c 1 0) b bs
@@ -51,10 +51,10 @@ first-gains nfa x earliest set full empty = record {
   };
 }
   where
-    none : NoPath (edges nfa x) (starts nfa x) (IsHeld nfa x (length set))
+    none : NoPath (edges nfa x) (starts nfa x) (IsInsertable nfa x (length set))
     none m p w h = let below : h.pattern < length set = h.below in absurd (omega arith)
 
-    of : (b : Bool) → IsMeantPath nfa x b (length set) None
+    of : (b : Bool) → IsSelectedPath nfa x b (length set) None
     of false = none
     of true = none
 

@@ -6,16 +6,16 @@ use Rattle.std.proofs.lemmas.Bool.{cases_Bool}
 use Rattle.regex_search_core.specs.Search.{Search}
 use Rattle.thompson_nfa.specs.Automaton.{Automaton}
 use Rattle.nfa_paths.specs.Graphs.{Pair, Space, In, PathTo, IsFirstPath, IsFirstTo, WantedAt}
-use Rattle.nfa_paths.specs.Exploring.{Slots, Hit, Item, found, apply, round, ExploresTo, ExploresBehind}
-use Rattle.nfa_paths.specs.Exploring.Item.{Explore, Restore, Load}
+use Rattle.nfa_paths.specs.Exploring.{Slots, Hit, Task, found, apply, next_tasks, ExploresTo, ExploresAfter}
+use Rattle.nfa_paths.specs.Exploring.Task.{Explore, Restore, Load}
 use Rattle.nfa_paths.specs.Kinds.{Passes, found_along, first_match, before_match, MatchesFrom, Scanned, Scanning, rests, is_resting}
 use Rattle.nfa_paths.specs.Paths.{space, capture, edges, starts}
-use Rattle.nfa_paths.specs.Overlaps.{IsHeld}
+use Rattle.nfa_paths.specs.Overlaps.{IsInsertable}
 use Rattle.nfa_paths.proofs.PathLemmas.{same, IsLeast-from_first}
 use Rattle.nfa_paths.proofs.SearchLemmas.{Answer-starts, AnswerBehind-round}
 use Rattle.nfa_paths.proofs.MemberLemmas.{In-append_left, In-middle}
 use Rattle.nfa_paths.proofs.TestLemmas.{test, test-true, true-test}
-use Rattle.nfa_paths.proofs.FrontMatchLemmas.{first_match-is}
+use Rattle.nfa_paths.proofs.FrontierMatchLemmas.{first_match-is}
 use Rattle.nfa_paths.proofs.StartLemmas.{resting-capture}
 use Rattle.nfa_paths.proofs.AnswerLemmas.{same_parts}
 use Rattle.nfa_paths.proofs.GainLemmas.{wanted-shape}
@@ -24,7 +24,7 @@ use Rattle.nfa_paths.proofs.CutLemmas.{first-sub, front-answers, first_match-cut
 use Rattle.nfa_paths.proofs.ScanAnswerLemmas.{edges-onward, edges-rise}
 
 -- the pairs that work is to explore
-unfoldable pub heads : List Item → List Pair
+unfoldable pub heads : List Task → List Pair
 heads [] = []
 heads (Explore v ∷ rest) = v ∷ heads rest
 heads (Restore k old ∷ rest) = heads rest
@@ -43,7 +43,7 @@ module _ (space : Space) (target : Pair → Bool) where
       of None e = refl
       of (Some v) e = cc
 
-  pub heads-Answer : (left : ℕ) (marks : List Pair) (work : List Item) (slots other : Slots) (h : Hit)
+  pub heads-Answer : (left : ℕ) (marks : List Pair) (work : List Task) (slots other : Slots) (h : Hit)
       → ExploresTo space target left None marks (map Explore (heads work)) other h
       → (g : Hit) × ExploresTo space target left None marks work slots g × (g ≡ None → h ≡ None)
   unfolding heads ExploresTo
@@ -58,10 +58,10 @@ module _ (space : Space) (target : Pair → Bool) where
 
   -- what comes after a part of a front is dropped: nothing is found, or what was found is found with it
   pub AnswerBehind-drop : (left : ℕ) (before after : List (Pair × Slots)) (m n : List Pair) (old : Slots)
-      (work : List Item) (slots current : Slots) (g : Hit)
-      → ExploresBehind space target left before None m (Load old ∷ []) slots g
-      → (g ≡ None) ⊎ ExploresBehind space target left (before ++ after) None n work current g
-  unfolding ExploresTo ExploresBehind
+      (work : List Task) (slots current : Slots) (g : Hit)
+      → ExploresAfter space target left before None m (Load old ∷ []) slots g
+      → (g ≡ None) ⊎ ExploresAfter space target left (before ++ after) None n work current g
+  unfolding ExploresTo ExploresAfter
   AnswerBehind-drop left [] after m n old work slots current g h = inl h
   AnswerBehind-drop left (b ∷ before) after m n old work slots current g (inl h) = inr (inl h)
   AnswerBehind-drop left (b ∷ before) after m n old work slots current g (inr h) =
@@ -72,7 +72,7 @@ module _ (space : Space) (target : Pair → Bool) where
 
 -- The set before is `old`: wanted is what it has room for.
 module _ (nfa : Automaton) (x : Search) (old : List Bool) (wants : Pair → Bool)
-    (tells : (v : Pair) → (wants v ≡ true) ↔ IsHeld nfa x (length old) v) where
+    (tells : (v : Pair) → (wants v ≡ true) ↔ IsInsertable nfa x (length old) v) where
   -- what the search goes over
   shape : Scanned (space nfa x) (is_resting nfa) wants
   shape = wanted-shape nfa x old wants tells
@@ -109,7 +109,7 @@ module _ (nfa : Automaton) (x : Search) (old : List Bool) (wants : Pair → Bool
 
   -- the first wanted pair of a front is, also if the pairs after it were not followed
   pub FirstAt-front : {slots : Slots} {e : ℕ} {Seen : Pair → Type 0} {spent : ℕ} {front : List (Pair × Slots)}
-      {work : List Item} {current : Slots} → Scanning (space nfa x) wants slots e Seen spent front work current
+      {work : List Task} {current : Slots} → Scanning (space nfa x) wants slots e Seen spent front work current
       → ((b : Pair × Slots) → In b front → (is_resting nfa b.0 ≡ true) × (b.0.1 ≡ e)) → (a : Pair × Slots)
       → first_match wants front ≡ Some a → FirstAt e a
   FirstAt-front {slots} {e} s rests a is =
@@ -139,14 +139,14 @@ module _ (nfa : Automaton) (x : Search) (old : List Bool) (wants : Pair → Bool
   }
 
   -- a position that is searched from some pairs, for each set of wanted pairs
-  pub record Searched (e : ℕ) (pairs : List Pair) (front : List (Pair × Slots)) (work : List Item)
+  pub record Searched (e : ℕ) (pairs : List Pair) (front : List (Pair × Slots)) (work : List Task)
       (written : Slots) : Type 0 where
     pub leads : (target : Pair → Bool) → ((v : Pair) → target v ≡ true → wants v ≡ true)
         → (marks : List Pair) × ((v : Pair) → In v marks → v.1 ≤ e)
-        × ((left : ℕ) (g : Hit) → ExploresBehind (space nfa x) target left front None marks work written g
+        × ((left : ℕ) (g : Hit) → ExploresAfter (space nfa x) target left front None marks work written g
         → (total : ℕ) × ExploresTo (space nfa x) target total None [] (map Explore pairs) [] g)
 
-  module _ {e : ℕ} {pairs : List Pair} {front : List (Pair × Slots)} {work : List Item} {written : Slots}
+  module _ {e : ℕ} {pairs : List Pair} {front : List (Pair × Slots)} {work : List Task} {written : Slots}
       (sound : Sound e pairs) (s : Searched e pairs front work written)
       (rests_at : (b : Pair × Slots) → In b front → (is_resting nfa b.0 ≡ true) × (b.0.1 ≡ e)) where
     -- the first wanted pair is reached
@@ -182,17 +182,17 @@ module _ (nfa : Automaton) (x : Search) (old : List Bool) (wants : Pair → Bool
         ]
 
     -- the next position, from a part of the front and some of what waits
-    module _ (kept : List (Pair × Slots)) (loaded : Slots) (waiting : List Item)
+    module _ (kept : List (Pair × Slots)) (loaded : Slots) (waiting : List Task)
         (among : (b : Pair × Slots) → In b kept → In b front)
         (comes : (k : Pair) → In (Explore k) waiting → e < k.1)
         (drops : (target : Pair → Bool) (marks : List Pair) (left : ℕ) (g : Hit)
-        → ExploresBehind (space nfa x) target left kept None marks (Load loaded ∷ waiting) written g
-        → (g ≡ None) ⊎ ExploresBehind (space nfa x) target left front None marks work written g) where
-      Sound-next : Sound (e + 1) (heads (round (edges nfa x) kept (Load loaded ∷ waiting)))
+        → ExploresAfter (space nfa x) target left kept None marks (Load loaded ∷ waiting) written g
+        → (g ≡ None) ⊎ ExploresAfter (space nfa x) target left front None marks work written g) where
+      Sound-next : Sound (e + 1) (heads (next_tasks (edges nfa x) kept (Load loaded ∷ waiting)))
       Sound-next = record {
         reaches = λ target at left slots g a.
             let other = heads-Answer (space nfa x) target left []
-            (round (edges nfa x) kept (Load loaded ∷ waiting)) [] slots g a in
+            (next_tasks (edges nfa x) kept (Load loaded ∷ waiting)) [] slots g a in
             let lead = s.leads target (λ v t. (at v t).0) in
             let behind = AnswerBehind-round (space nfa x) target (λ v. e < v.1)
             (λ v y ahead i. let k : v.1 ≤ y.1 = edges-onward nfa x v y i in let l : e < v.1 = ahead in omega arith)
@@ -220,20 +220,20 @@ module _ (nfa : Automaton) (x : Search) (old : List Bool) (wants : Pair → Bool
 
   -- nothing is dropped
   pub Sound-round : {e : ℕ} {pairs : List Pair} {front : List (Pair × Slots)} {written loaded : Slots}
-      {waiting : List Item}
+      {waiting : List Task}
       → Sound e pairs → Searched e pairs front (Load loaded ∷ waiting) written
       → ((b : Pair × Slots) → In b front → (is_resting nfa b.0 ≡ true) × (b.0.1 ≡ e))
       → ((k : Pair) → In (Explore k) waiting → e < k.1)
-      → Sound (e + 1) (heads (round (edges nfa x) front (Load loaded ∷ waiting)))
+      → Sound (e + 1) (heads (next_tasks (edges nfa x) front (Load loaded ∷ waiting)))
   Sound-round {front = front} {loaded = loaded} {waiting = waiting} sound s rests_at comes =
       Sound-next sound s rests_at front loaded waiting (λ b i. i) comes (λ target marks left g h. inr h)
 
   -- what comes after the first wanted pair is dropped
-  pub Sound-cut : {e : ℕ} {pairs : List Pair} {front : List (Pair × Slots)} {work : List Item} {written : Slots}
+  pub Sound-cut : {e : ℕ} {pairs : List Pair} {front : List (Pair × Slots)} {work : List Task} {written : Slots}
       (loaded : Slots)
       → Sound e pairs → Searched e pairs front work written
       → ((b : Pair × Slots) → In b front → (is_resting nfa b.0 ≡ true) × (b.0.1 ≡ e))
-      → Sound (e + 1) (heads (round (edges nfa x) (before_match wants front) (Load loaded ∷ [])))
+      → Sound (e + 1) (heads (next_tasks (edges nfa x) (before_match wants front) (Load loaded ∷ [])))
   Sound-cut {front = front} {work} {written} loaded sound s rests_at =
       let cut = before_match-split front in
       Sound-next sound s rests_at (before_match wants front) loaded []

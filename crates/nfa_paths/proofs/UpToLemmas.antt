@@ -8,10 +8,10 @@ use Rattle.regex_search_core.specs.declared.search.MatchKind.TheVariants.{Leftmo
 use Rattle.thompson_nfa.specs.Automaton.{Automaton}
 use Rattle.nfa_paths.specs.Graphs.{Pair, PathTo, NoPath, IsFirstPath, WantedAt}
 use Rattle.nfa_paths.specs.Exploring.{Slots, Hit, apply, ExploresTo}
-use Rattle.nfa_paths.specs.Exploring.Item.{Explore}
+use Rattle.nfa_paths.specs.Exploring.Task.{Explore}
 use Rattle.nfa_paths.specs.Kinds.{Passes, WantedBefore, NoneBefore, found_along, is_resting}
 use Rattle.nfa_paths.specs.Paths.{space, capture, edges, starts}
-use Rattle.nfa_paths.specs.Overlaps.{HoldsPattern, pattern_at, IsPermitted, IsHeld, IsPatternOf, IsMeantPath, HoldsPath, IsFirstBefore, IsOverlapResult}
+use Rattle.nfa_paths.specs.Overlaps.{HoldsPattern, pattern_at, IsPermitted, IsInsertable, IsPatternOf, IsSelectedPath, HoldsPath, IsFirstBefore, IsOverlapResult}
 use Rattle.nfa_paths.proofs.AnswerLemmas.{same_parts}
 use Rattle.nfa_paths.proofs.ScanLemmas.{IsFirstPath-found}
 use Rattle.nfa_paths.proofs.ReachedLemmas.{IsReached-along}
@@ -26,18 +26,18 @@ same_number m n e = cc
 
 -- The set before is `old`: wanted is what it has room for.
 module _ (nfa : Automaton) (x : Search) (old : List Bool) (wants : Pair → Bool)
-    (tells : (v : Pair) → (wants v ≡ true) ↔ IsHeld nfa x (length old) v) where
+    (tells : (v : Pair) → (wants v ≡ true) ↔ IsInsertable nfa x (length old) v) where
   -- a match that counts, by the test
-  wanted_at : (e : ℕ) (v : Pair) → WantedAt (Passes wants) e v → WantedAt (IsHeld nfa x (length old)) e v
+  wanted_at : (e : ℕ) (v : Pair) → WantedAt (Passes wants) e v → WantedAt (IsInsertable nfa x (length old)) e v
   wanted_at e v w = record { wanted = (tells v).0 w.wanted; at = w.at }
 
-  held_at : (e : ℕ) (v : Pair) → WantedAt (IsHeld nfa x (length old)) e v → WantedAt (Passes wants) e v
+  held_at : (e : ℕ) (v : Pair) → WantedAt (IsInsertable nfa x (length old)) e v → WantedAt (Passes wants) e v
   held_at e v w = record { wanted = (tells v).1 w.wanted; at = w.at }
 
   -- no accepting path has a permitted end
 
   module _ (none : NoPath (edges nfa x) (starts nfa x) (Passes wants)) where
-    never_held : NoPath (edges nfa x) (starts nfa x) (IsHeld nfa x (length old))
+    never_held : NoPath (edges nfa x) (starts nfa x) (IsInsertable nfa x (length old))
     never_held m p w h = none m p w ((tells m).1 h)
 
     pub First-none : (earliest : Bool) → size_of_set old ≡ 0 → IsOverlapResult nfa x LeftmostFirst earliest old old
@@ -51,7 +51,7 @@ module _ (nfa : Automaton) (x : Search) (old : List Bool) (wants : Pair → Bool
       };
     }
       where
-        of : (b : Bool) → IsMeantPath nfa x b (length old) None
+        of : (b : Bool) → IsSelectedPath nfa x b (length old) None
         of false = never_held
         of true = never_held
 
@@ -65,7 +65,7 @@ module _ (nfa : Automaton) (x : Search) (old : List Bool) (wants : Pair → Bool
       → pattern_at nfa a.0 ≡ Some k → size_of_set old ≡ 0 → new ≡ with_pattern old k
       → IsOverlapResult nfa x LeftmostFirst true old new
   FirstAt-found {e} {k} {a} {new} none f pattern_is empty put =
-      let w : WantedAt (IsHeld nfa x (length old)) e f.first.end = wanted_at e f.first.end f.first.wanted in
+      let w : WantedAt (IsInsertable nfa x (length old)) e f.first.end = wanted_at e f.first.end f.first.wanted in
       let at_end : pattern_at nfa f.first.end ≡ Some k = rw f.is pattern_is in
       let only : (j : ℕ) → HoldsPattern new j → (j < length old) × (k ≡ j) =
       λ j h. elim ((holds-with old k j).0 (rw put at h)) [ inl o ↦ absurd (size-none old empty j o) | inr b ↦ b ] in
@@ -105,7 +105,7 @@ module _ (nfa : Automaton) (x : Search) (old : List Bool) (wants : Pair → Bool
                 ];
               },
               IsFirstTo-along (edges nfa x) (starts nfa x) (WantedAt (Passes wants) e)
-                  (WantedAt (IsHeld nfa x (length old)) e) (wanted_at e) (held_at e) f.first,
+                  (WantedAt (IsInsertable nfa x (length old)) e) (wanted_at e) (held_at e) f.first,
             );
             holds = record {
               end = f.first.end;
@@ -226,7 +226,7 @@ module _ (nfa : Automaton) (x : Search) (old : List Bool) (wants : Pair → Bool
       of (Some a) u (Some p) first is =
           let end = found-end (capture nfa) first.end p slots first.path.ends in
           let here : first.end ≡ a.0 = (same_parts (first.end, apply (capture nfa) p slots) a (sym end ∙ is)).0 in
-          let held : IsHeld nfa x (length old) a.0 = (tells a.0).0 u.wanted in
+          let held : IsInsertable nfa x (length old) a.0 = (tells a.0).0 u.wanted in
           let below : u.pattern < length old = subst (λ n. n < length old)
           (same_number held.pattern u.pattern (sym held.pattern_is ∙ u.pattern_is)) held.below in
           let at : pattern_at nfa first.end ≡ Some u.pattern = rw here u.pattern_is in
@@ -255,7 +255,7 @@ module _ (nfa : Automaton) (x : Search) (old : List Bool) (wants : Pair → Bool
               full = λ some. absurd (omega arith);
               empty = λ no. record {
                 path = Some p;
-                meant = IsFirstTo-along (edges nfa x) (starts nfa x) (Passes wants) (IsHeld nfa x (length old))
+                meant = IsFirstTo-along (edges nfa x) (starts nfa x) (Passes wants) (IsInsertable nfa x (length old))
                     (λ v. (tells v).0) (λ v. (tells v).1) first;
                 holds = record {
                   end = first.end;

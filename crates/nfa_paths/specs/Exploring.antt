@@ -14,10 +14,10 @@ abbrev pub Hit : Type 0
 Hit = Option (Pair × Slots)
 
 -- an item of work: a pair to explore, a slot to restore, or slots to load
-pub data Item : Type 0 where
-  Explore : Pair → Item
-  Restore : ℕ → Option ℕ → Item
-  Load : Slots → Item
+pub data Task : Type 0 where
+  Explore : Pair → Task
+  Restore : ℕ → Option ℕ → Task
+  Load : Slots → Task
 
 -- the slots after a pair wrote its position
 abbrev pub write : Option ℕ → ℕ → Slots → Slots
@@ -35,19 +35,19 @@ module _ (capture : Pair → Option ℕ) where
   found p slots = option_map (λ e. (e, apply p slots)) (last_or None p)
 
 -- the pairs of a front as the work of the next position, before the work that waits
-unfoldable pub round : (Pair → List Pair) → List (Pair × Slots) → List Item → List Item
-round edges [] waiting = waiting
-round edges (a ∷ front) waiting = Load a.1 ∷ (map Explore (edges a.0) ++ round edges front waiting)
+unfoldable pub next_tasks : (Pair → List Pair) → List (Pair × Slots) → List Task → List Task
+next_tasks edges [] waiting = waiting
+next_tasks edges (a ∷ front) waiting = Load a.1 ∷ (map Explore (edges a.0) ++ next_tasks edges front waiting)
 
 -- the starts, each followed by the slots to load after it
-unfoldable pub seeds : Slots → List Pair → List Item
+unfoldable pub seeds : Slots → List Pair → List Task
 seeds slots [] = []
 seeds slots (s ∷ starts) = Explore s ∷ Load slots ∷ seeds slots starts
 
 module _ (space : Space) (target : Pair → Bool) where
   -- The answer is that of the first explored pair from which a path is left. If there is none, it is `otherwise`. A
   -- turn tries to mark one pair. `left` turns are left, at least as many as the pairs of the answer's path.
-  unfoldable pub ExploresTo : ℕ → Hit → List Pair → List Item → Slots → Hit → Type 0
+  unfoldable pub ExploresTo : ℕ → Hit → List Pair → List Task → Slots → Hit → Type 0
   ExploresTo left otherwise marks [] slots g = g ≡ otherwise
   ExploresTo left otherwise marks (Explore v ∷ rest) slots g =
       ((p : List Pair) × IsFirst space.edges target marks v (Some p) × (g ≡ found space.capture p slots)
@@ -58,18 +58,18 @@ module _ (space : Space) (target : Pair → Bool) where
   ExploresTo left otherwise marks (Load old ∷ rest) slots g = ExploresTo left otherwise marks rest old g
 
   -- the same after the pairs of a front, each with its slots, which come first
-  unfoldable pub ExploresBehind : ℕ → List (Pair × Slots) → Hit → List Pair → List Item → Slots → Hit → Type 0
-  ExploresBehind left [] otherwise marks work slots g = ExploresTo left otherwise marks work slots g
-  ExploresBehind left (a ∷ front) otherwise marks work slots g =
+  unfoldable pub ExploresAfter : ℕ → List (Pair × Slots) → Hit → List Pair → List Task → Slots → Hit → Type 0
+  ExploresAfter left [] otherwise marks work slots g = ExploresTo left otherwise marks work slots g
+  ExploresAfter left (a ∷ front) otherwise marks work slots g =
       ((p : List Pair) × IsFirst space.edges target [] a.0 (Some p) × (g ≡ found space.capture p a.1)
       × (length p ≤ suc left))
-      ⊎ (IsFirst space.edges target [] a.0 None × ExploresBehind left front otherwise marks work slots g)
+      ⊎ (IsFirst space.edges target [] a.0 None × ExploresAfter left front otherwise marks work slots g)
 
   -- A search in progress, in the form of a loop invariant. Some list holds exactly the pairs that are `Seen`. Any
   -- answer from here on meets `goal`, with the number of turns at the end of the search. `spent` turns were taken.
   pub record Searching (goal : Hit → ℕ → Type 0) (Seen : Pair → Type 0) (spent : ℕ) (front : List (Pair × Slots))
-      (otherwise : Hit) (work : List Item) (slots : Slots) : Type 0 where
+      (otherwise : Hit) (work : List Task) (slots : Slots) : Type 0 where
     pub marks : List Pair
     pub agrees : (x : Pair) → In x marks ↔ Seen x
     pub leads : (g : Hit) (left total : ℕ) → spent + left ≡ total
-        → ExploresBehind left front otherwise marks work slots g → goal g total
+        → ExploresAfter left front otherwise marks work slots g → goal g total

@@ -5,8 +5,8 @@ use Rattle.thompson_nfa.specs.Automaton.{Automaton, Node}
 use Rattle.thompson_nfa.specs.Automaton.Node.{ByteRange, Sparse, Dense, Look, Union, BinaryUnion, Capture, Fail, Match}
 use Rattle.nfa_paths.specs.Graphs.{Pair, In, Space, NoRepeats, WantedAt, PathTo, NoPath, IsLastOfFirsts, IsLastPath}
 use Rattle.nfa_paths.specs.FirstPaths.{Increasing}
-use Rattle.nfa_paths.specs.Exploring.{Slots, Hit, Item, found, ExploresTo, ExploresBehind, Searching}
-use Rattle.nfa_paths.specs.Exploring.Item.{Explore}
+use Rattle.nfa_paths.specs.Exploring.{Slots, Hit, Task, found, ExploresTo, ExploresAfter, Searching}
+use Rattle.nfa_paths.specs.Exploring.Task.{Explore}
 use Rattle.nfa_paths.specs.Paths.{node_at}
 
 -- the pair passes the test
@@ -75,9 +75,9 @@ before_match is_match [] = []
 before_match is_match (a ∷ front) = cond (is_match a.0) [] (a ∷ before_match is_match front)
 
 -- the work that waits after a front, if the front has no match pair
-abbrev pub behind_match : Hit → List Item → List Item
-behind_match None waiting = waiting
-behind_match (Some a) waiting = []
+abbrev pub after_match : Hit → List Task → List Task
+after_match None waiting = waiting
+after_match (Some a) waiting = []
 
 -- the last match pair of a front, or the result g from before
 abbrev pub last_match : (Pair → Bool) → Hit → List (Pair × Slots) → Hit
@@ -115,16 +115,16 @@ MatchesFrom is_match e target = (x : Pair) → target x ≡ true → (is_match x
 
 -- `front` holds the resting pairs that are reached at e, as the search finds them in `turns` turns, for any set of
 -- match pairs at e
-pub record IsFront (space : Space) (resting is_match : Pair → Bool) (slots : Slots) (turns : ℕ)
+pub record IsFrontier (space : Space) (resting is_match : Pair → Bool) (slots : Slots) (turns : ℕ)
     (front : List (Pair × Slots)) (e : ℕ) : Type 0 where
-  pub waiting : List Item
+  pub waiting : List Task
   pub current : Slots
   pub rest : (a : Pair × Slots) → In a front → (resting a.0 ≡ true) × (a.0.1 ≡ e)
   pub once : NoRepeats (map (λ a. a.0) front)
   pub later : (k : Pair) → In (Explore k) waiting → e < k.1
   pub leads : (target : Pair → Bool) → MatchesAt is_match e target
       → (marks : List Pair)
-      × ((g : Hit) → ExploresBehind space target 0 front None marks waiting current g
+      × ((g : Hit) → ExploresAfter space target 0 front None marks waiting current g
       → ExploresTo space target turns None [] (map Explore space.starts) slots g)
 
 -- nothing is left to explore at position e or after it: a search for any match pairs there finds none
@@ -135,7 +135,7 @@ pub record IsOver (space : Space) (is_match : Pair → Bool) (slots : Slots) (tu
 -- A scan at position e, in the form of a loop invariant. It stands for the searches for every set of match pairs at e
 -- or after it, all in one state, after `spent` turns.
 pub record Scanning (space : Space) (is_match : Pair → Bool) (slots : Slots) (e : ℕ) (Seen : Pair → Type 0) (spent : ℕ)
-    (front : List (Pair × Slots)) (work : List Item) (current : Slots) : Type 0 where
+    (front : List (Pair × Slots)) (work : List Task) (current : Slots) : Type 0 where
   pub searching : (target : Pair → Bool) → MatchesFrom is_match e target
       → Searching space target (λ g total. ExploresTo space target total None [] (map Explore space.starts) slots g)
       Seen spent front None work current

@@ -30,7 +30,7 @@ module _ (nfa : Automaton) (x : Search) where
     pub ends : IsPermittedEnd v.1
 
   -- such a match, of a pattern below the capacity
-  pub record IsHeld (capacity : ℕ) (v : Pair) : Type 0 where
+  pub record IsInsertable (capacity : ℕ) (v : Pair) : Type 0 where
     pub permitted : IsPermitted v
     pub pattern : ℕ
     pub pattern_is : pattern_at nfa v ≡ Some pattern
@@ -41,18 +41,18 @@ module _ (nfa : Automaton) (x : Search) where
   IsPatternOf Wanted pattern = IsReached (edges nfa x) (starts nfa x) Wanted (pattern_at nfa) pattern
 
   -- the first accepting path with a permitted end, of a pattern below the capacity, or none if there is none
-  abbrev pub IsFirstHeld : ℕ → Option (List Pair) → Type 0
-  IsFirstHeld capacity = IsFirstPath (edges nfa x) (starts nfa x) (IsHeld capacity)
+  abbrev pub IsFirstInsertable : ℕ → Option (List Pair) → Type 0
+  IsFirstInsertable capacity = IsFirstPath (edges nfa x) (starts nfa x) (IsInsertable capacity)
 
   -- of such paths with the least end, the first, or none if there is none
-  abbrev pub IsEarliestHeld : ℕ → Option (List Pair) → Type 0
-  IsEarliestHeld capacity = IsEarliestPath (edges nfa x) (starts nfa x) (IsHeld capacity)
+  abbrev pub IsEarliestInsertable : ℕ → Option (List Pair) → Type 0
+  IsEarliestInsertable capacity = IsEarliestPath (edges nfa x) (starts nfa x) (IsInsertable capacity)
 
   -- `All` adds this pattern: some accepting path of it has a permitted end. With `earliest`, that end is the least one
   -- of all patterns below the capacity.
-  abbrev pub IsMeantByAll : Bool → ℕ → ℕ → Type 0
-  IsMeantByAll false capacity pattern = IsPatternOf IsPermitted pattern
-  IsMeantByAll true capacity pattern = (e : ℕ) × IsLeastEnd (edges nfa x) (starts nfa x) (IsHeld capacity) e
+  abbrev pub IsSelectedByAll : Bool → ℕ → ℕ → Type 0
+  IsSelectedByAll false capacity pattern = IsPatternOf IsPermitted pattern
+  IsSelectedByAll true capacity pattern = (e : ℕ) × IsLeastEnd (edges nfa x) (starts nfa x) (IsInsertable capacity) e
       × IsPatternOf (WantedAt IsPermitted e) pattern
 
   -- Among patterns below the capacity, the pattern of the first accepting path with a permitted end before some limit.
@@ -60,7 +60,7 @@ module _ (nfa : Automaton) (x : Search) where
   pub record IsFirstBefore (capacity pattern : ℕ) : Type 0 where
     pub limit : ℕ
     pub along : List Pair
-    pub first : IsFirstTo (edges nfa x) (starts nfa x) (WantedBefore (IsHeld capacity) limit) along
+    pub first : IsFirstTo (edges nfa x) (starts nfa x) (WantedBefore (IsInsertable capacity) limit) along
     pub pattern_is : path_pattern nfa along ≡ Some pattern
 
   -- The set holds the pattern of the path. Its other patterns have accepting paths with a permitted end before that of
@@ -90,25 +90,25 @@ module _ (nfa : Automaton) (x : Search) where
 
   -- The path that `LeftmostFirst` means. Matches of patterns at or above the capacity do not count. There are none of
   -- these if the capacity covers each pattern of the NFA.
-  abbrev pub IsMeantPath : Bool → ℕ → Option (List Pair) → Type 0
-  IsMeantPath false capacity path = IsFirstHeld capacity path
-  IsMeantPath true capacity path = IsEarliestHeld capacity path
+  abbrev pub IsSelectedPath : Bool → ℕ → Option (List Pair) → Type 0
+  IsSelectedPath false capacity path = IsFirstInsertable capacity path
+  IsSelectedPath true capacity path = IsEarliestInsertable capacity path
 
   -- the set that `LeftmostFirst` makes of the empty set of this capacity
-  pub record HoldsMeant (earliest : Bool) (capacity : ℕ) (set : List Bool) : Type 0 where
+  pub record HoldsSelected (earliest : Bool) (capacity : ℕ) (set : List Bool) : Type 0 where
     pub path : Option (List Pair)
-    pub meant : IsMeantPath earliest capacity path
+    pub meant : IsSelectedPath earliest capacity path
     pub holds : HoldsPath earliest path set
 
   -- the patterns that the set gains
   pub record GainsAll (earliest : Bool) (old new : List Bool) : Type 0 where
     pub gained : (k : ℕ) → HoldsPattern new k
-        ↔ (HoldsPattern old k ⊎ ((k < length old) × IsMeantByAll earliest (length old) k))
+        ↔ (HoldsPattern old k ⊎ ((k < length old) × IsSelectedByAll earliest (length old) k))
 
   pub record GainsFirst (earliest : Bool) (old new : List Bool) : Type 0 where
     -- a set that holds a pattern gains nothing
     pub full : 0 < size_of_set old → new ≡ old
-    pub empty : size_of_set old ≡ 0 → HoldsMeant earliest (length old) new
+    pub empty : size_of_set old ≡ 0 → HoldsSelected earliest (length old) new
 
   -- the patterns that the set gains, by match kind
   abbrev pub Gains : MatchKind → Bool → List Bool → List Bool → Type 0

@@ -107,8 +107,8 @@ module _ (nfa : Automaton) where
   start_state (Pattern pattern) = slice_get nfa.patterns (number_of pattern)
 
   -- the number of edges of all states at one position, which bounds the turns there
-  abbrev pub turn_weight : ℕ
-  turn_weight = sum_by degree nfa.states
+  abbrev pub total_degree : ℕ
+  total_degree = sum_by degree nfa.states
 
   module _ (x : Search) where
     -- the pairs that follow this one, in order of preference
@@ -206,14 +206,14 @@ module _ (nfa : Automaton) (kind : MatchKind) (earliest : Bool) where
     pub slots_are : slots ≡ slot_row nfa (length slots) path
 
   -- whether the search has an answer
-  pub record IsFoundAnswer (x : Search) (found : Bool) : Type 0 where
+  pub record IsBoolAnswer (x : Search) (found : Bool) : Type 0 where
     pub restarts : ℕ
     pub path : Option (List Pair)
     pub answers : IsSearchAnswer x restarts path
     pub found_is : found ≡ is_some path
 
   -- the match of the search's answer, from its pattern's two slots
-  pub record IsMatchAnswer (x : Search) (found : Option Found) : Type 0 where
+  pub record IsFindAnswer (x : Search) (found : Option Found) : Type 0 where
     pub restarts : ℕ
     pub path : Option (List Pair)
     pub answers : IsSearchAnswer x restarts path
@@ -242,5 +242,5 @@ module _ (nfa : Automaton) (kind : MatchKind) (earliest : Bool) where
       → scans ≤ restarts + 1
 
 -- the maximum number of scans of a search
-abbrev pub scan_limit : Automaton → Search → ℕ
-scan_limit nfa x = if is_utf8_empty nfa && not (is_anchored x.anchored) then (span_len x + 2) else 1
+abbrev pub max_scans : Automaton → Search → ℕ
+max_scans nfa x = if is_utf8_empty nfa && not (is_anchored x.anchored) then (span_len x + 2) else 1

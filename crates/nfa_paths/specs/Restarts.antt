@@ -9,12 +9,12 @@ use Rattle.regex_search_core.specs.declared.search.MatchKind.{MatchKind}
 use Rattle.thompson_nfa.specs.Automaton.{Automaton}
 use Rattle.nfa_paths.specs.Graphs.{Pair}
 use Rattle.nfa_paths.specs.Exploring.{Slots}
-use Rattle.nfa_paths.specs.Paths.{span_len, turn_weight, raised, node_at, pattern_of, last_of, path_half, slot_row}
+use Rattle.nfa_paths.specs.Paths.{span_len, total_degree, raised, node_at, pattern_of, last_of, path_half, slot_row}
 use Rattle.nfa_paths.specs.Paths.{is_utf8_empty, IsScanAnswer, IsSearchAnswer, SplitsCharacter}
 
 -- the maximum number of turns of one scan
-abbrev pub scan_turns : Automaton → Search → ℕ
-scan_turns nfa x = (1 + turn_weight nfa) * (span_len x + 1)
+abbrev pub max_scan_turns : Automaton → Search → ℕ
+max_scan_turns nfa x = (1 + total_degree nfa) * (span_len x + 1)
 
 -- no slot is set
 abbrev pub AreUnset : Slots → Type 0
@@ -51,4 +51,4 @@ module _ (nfa : Automaton) (kind : MatchKind) (earliest : Bool) (x : Search) whe
     pub is : y ≡ raised x scans
     pub split : (i : ℕ) → i < scans → SplitsCharacter nfa kind earliest (raised x i)
     pub free : 0 < scans → (is_utf8_empty nfa ≡ true) × (is_anchored x.anchored ≡ false)
-    pub turned : turns ≤ scans * scan_turns nfa x
+    pub turned : turns ≤ scans * max_scan_turns nfa x

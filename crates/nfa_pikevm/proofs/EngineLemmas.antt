@@ -13,7 +13,7 @@ use Rattle.regex_search_core.specs.Search.{Search}
 use Rattle.regex_search_core.specs.declared.search.MatchKind.{MatchKind}
 use Rattle.thompson_nfa.specs.Automaton.{Automaton, IsAutomaton}
 use Rattle.nfa_paths.specs.Graphs.{Pair}
-use Rattle.nfa_paths.specs.Paths.{slot_row, IsAnswer, IsHalfAnswer, IsMatchAnswer}
+use Rattle.nfa_paths.specs.Paths.{slot_row, IsAnswer, IsHalfAnswer, IsFindAnswer}
 use Rattle.nfa_paths.specs.Exploring.{Slots}
 use Rattle.nfa_paths.proofs.PatternLemmas.{slot_row-more, slots-unset}
 use Rattle.nfa_paths.proofs.InsideLemmas.{half-within, match-within, match-pattern, slots-within, pattern-within}
@@ -46,7 +46,7 @@ module _ (nfa : Automaton) where
 
 -- what callers learn of the numbers in an answer
 module _ (nfa : Automaton) (kind : MatchKind) (earliest : Bool) (x : Search) where
-  pub inside-of : (r : Option Match) → IsMatchAnswer nfa kind earliest x (option_map found_of r)
+  pub inside-of : (r : Option Match) → IsFindAnswer nfa kind earliest x (option_map found_of r)
       → IfSome r (λ m. IsInside x (found_of m))
   inside-of None h = tt
   inside-of (Some m) h = let k = match-within nfa kind earliest x (found_of m) h in
@@ -57,7 +57,7 @@ module _ (nfa : Automaton) (kind : MatchKind) (earliest : Bool) (x : Search) whe
   half-inside None h = tt
   half-inside (Some m) h = half-within nfa kind earliest x (half_found_of m) h
 
-  pub pattern-of : IsAutomaton nfa → (r : Option Match) → IsMatchAnswer nfa kind earliest x (option_map found_of r)
+  pub pattern-of : IsAutomaton nfa → (r : Option Match) → IsFindAnswer nfa kind earliest x (option_map found_of r)
       → IfSome r (λ m. (found_of m).pattern < length nfa.patterns)
   pattern-of valid None h = tt
   pattern-of valid (Some m) h = match-pattern nfa kind earliest valid x (found_of m) h

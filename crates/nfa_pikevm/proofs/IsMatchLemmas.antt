@@ -5,7 +5,7 @@ use Rattle.regex_search_core.specs.Search.{Search}
 use Rattle.regex_search_core.specs.declared.search.MatchKind.{MatchKind}
 use Rattle.thompson_nfa.specs.Automaton.{Automaton}
 use Rattle.nfa_paths.specs.Exploring.{Slots}
-use Rattle.nfa_paths.specs.Paths.{is_utf8_empty, IsAnswer, IsFoundAnswer, IsWork}
+use Rattle.nfa_paths.specs.Paths.{is_utf8_empty, IsAnswer, IsBoolAnswer, IsWork}
 use Rattle.nfa_paths.proofs.EarliestLemmas.{search_answer-asked, found_answer-earliest}
 use Rattle.nfa_paths.proofs.PatternLemmas.{found-of}
 
@@ -29,11 +29,11 @@ module _ (nfa : Automaton) (kind : MatchKind) (x y : Search) (e : Bool) (is_e : 
 
   -- whether there is a match
   pub found-free : (slots : Slots) (pattern : Option ℕ) → IsAnswer nfa kind y.earliest y pattern slots
-      → IsFoundAnswer nfa kind false x (is_some pattern)
+      → IsBoolAnswer nfa kind false x (is_some pattern)
   found-free slots pattern a = of (found-of nfa kind e (record x { earliest = e }) slots pattern (rw is_y at a))
     where
-      of : IsFoundAnswer nfa kind e (record x { earliest = e }) (is_some pattern)
-          → IsFoundAnswer nfa kind false x (is_some pattern)
+      of : IsBoolAnswer nfa kind e (record x { earliest = e }) (is_some pattern)
+          → IsBoolAnswer nfa kind false x (is_some pattern)
       of f = rw f.found_is
           (found_answer-earliest nfa kind x f.restarts f.path
           (rw is_e at (search_answer-asked nfa kind e x e f.restarts f.path f.answers)))

@@ -1,4 +1,4 @@
 pub mod EngineLemmas
 pub mod IsMatchLemmas
 pub mod FindLemmas
-pub mod CaughtLemmas
+pub mod CapturesLemmas

@@ -4,8 +4,8 @@ use Rattle.regex_search_core.specs.Groups.{slot_count}
 use Rattle.regex_search_core.specs.declared.search.MatchKind.{MatchKind}
 use Rattle.regex_search_core.specs.declared.search.MatchKind.TheVariants.{LeftmostFirst}
 use Rattle.thompson_nfa.specs.Automaton.{Automaton}
-use Rattle.nfa_scanning.specs.Numbers.{saturated}
-use Rattle.nfa_pikevm_scan.specs.Needs.{stack_places}
+use Rattle.nfa_scan_core.specs.Numbers.{saturated}
+use Rattle.nfa_pikevm_scan.specs.Needs.{stack_frames}
 
 -- an NFA, and the match kind, if one was set
 pub record Pike : Type 0 where
@@ -22,7 +22,7 @@ pub record PikeCache : Type 0 where
   pub states : ℕ
   pub slots : ℕ
   pub patterns : ℕ
-  pub places : ℕ
+  pub frames : ℕ
   pub scans : ℕ
   pub turns : ℕ
   pub all_scans : ℕ
@@ -38,22 +38,22 @@ pub record Fits (cache : PikeCache) (nfa : Automaton) : Type 0 where
   pub states : length nfa.states ≤ cache.states
   pub slots : slot_count nfa.groups ≤ cache.slots
   pub patterns : length nfa.patterns ≤ cache.patterns
-  pub places : stack_places nfa ≤ cache.places
+  pub frames : stack_frames nfa ≤ cache.frames
 
 -- the sizes of the cache did not change
-pub record SameNumbers (old new : PikeCache) : Type 0 where
+pub record SameCapacities (old new : PikeCache) : Type 0 where
   pub states : new.states ≡ old.states
   pub slots : new.slots ≡ old.slots
   pub patterns : new.patterns ≡ old.patterns
-  pub places : new.places ≡ old.places
+  pub frames : new.frames ≡ old.frames
 
 -- the cache after a reset for the NFA, whatever it was made for before
-abbrev pub refitted : PikeCache → Automaton → PikeCache
-refitted cache nfa = record cache {
+abbrev pub reset_for : PikeCache → Automaton → PikeCache
+reset_for cache nfa = record cache {
   states = length nfa.states;
   slots = slot_count nfa.groups;
   patterns = length nfa.patterns;
-  places = stack_places nfa;
+  frames = stack_frames nfa;
 }
 
 -- a new cache for the NFA
@@ -62,7 +62,7 @@ cache_for nfa = record {
   states = length nfa.states;
   slots = slot_count nfa.groups;
   patterns = length nfa.patterns;
-  places = stack_places nfa;
+  frames = stack_frames nfa;
   scans = 0;
   turns = 0;
   all_scans = 0;
@@ -72,5 +72,5 @@ cache_for nfa = record {
 -- The bytes of a cache: 24 for a frame; 8 for each slot of the row that a search fills, and of the rows of the two
 -- sets, which have one row more than states; 4 for the mark of a state and for each entry of the two sets.
 abbrev pub pike_memory_of : PikeCache → ℕ
-pike_memory_of cache = saturated (24 * cache.places + 8 * ((2 * cache.states + 3) * cache.slots)
+pike_memory_of cache = saturated (24 * cache.frames + 8 * ((2 * cache.states + 3) * cache.slots)
     + 4 * (3 * cache.states + 2))

@@ -6,14 +6,14 @@ use Rattle.regex_search_core.specs.Found.{Found, found_of}
 use Rattle.regex_search_core.specs.Search.{Search}
 use Rattle.regex_search_core.specs.declared.search.Match.{Match}
 use Rattle.nfa_search_base.specs.EngineSearches.{AsksEngine, Knowing, MayFind}
-use Rattle.nfa_search_base.specs.Lending.{With}
-use Rattle.nfa_search_base.specs.Lent.{Lent, TakesLentStep}
+use Rattle.nfa_search_base.specs.WithCache.{WithCache}
+use Rattle.nfa_search_base.specs.StepsWith.{StepsWith, TakesStepWith}
 use Rattle.nfa_search_base.specs.Runs.{GivesKept}
 use Rattle.nfa_search_base.specs.Steps.{GivesItem}
-use Rattle.nfa_search_base.specs.Searchers.{walk_of}
-use Rattle.nfa_search_base.specs.Walks.{Answer, Walk, span_of}
-use Rattle.nfa_pikevm.specs.Engines.{Fits, Pike, PikeCache, SameNumbers}
-use Rattle.nfa_pikevm.specs.Finding.{IsSureOf, PikeFindsOn, PikeFindsToEnd, PikeSearches, PikeTells}
+use Rattle.nfa_search_base.specs.Searchers.{iter_state_of}
+use Rattle.nfa_search_base.specs.IterStates.{Answer, IterState, span_of}
+use Rattle.nfa_pikevm.specs.Engines.{Fits, Pike, PikeCache, SameCapacities}
+use Rattle.nfa_pikevm.specs.Finding.{IsSureOf, PikeFindsOn, PikeFindsToEnd, PikeSearches, PikeAnswersMatch}
 use Rattle.nfa_pikevm.specs.declared.find_iter.FindMatches.{FindMatches}
 use Rattle.nfa_pikevm.specs.declared.find_iter.Finder.{Finder}
 
@@ -22,59 +22,59 @@ abbrev pub pike_knowing : Finder → Knowing Pike
 pike_knowing a = record { engine = a.engine.now; known = a.known }
 
 -- the steps of the iterator, and the cache that it borrows
-abbrev pub pike_finds : FindMatches → Lent Finder PikeCache
-pike_finds s = record { steps = s.steps; cache = s.cache }
+abbrev pub pike_matches : FindMatches → StepsWith Finder PikeCache
+pike_matches s = record { steps = s.steps; cache = s.cache }
 
 -- the cache that it searches with
-abbrev pub pike_finds_cache : FindMatches → MutBor PikeCache
-pike_finds_cache s = s.cache
+abbrev pub pike_matches_cache : FindMatches → MutBor PikeCache
+pike_matches_cache s = s.cache
 
 -- the engine that it searches with
-abbrev pub pike_finds_engine : FindMatches → Pike
-pike_finds_engine s = s.steps.asker.engine.now
+abbrev pub pike_matches_engine : FindMatches → Pike
+pike_matches_engine s = s.steps.backend.engine.now
 
 -- its position, and whether it has ended
-abbrev pub pike_finds_walk : FindMatches → Walk
-pike_finds_walk s = walk_of s.steps.searcher
+abbrev pub pike_matches_iter_state : FindMatches → IterState
+pike_matches_iter_state s = iter_state_of s.steps.searcher
 
-abbrev pub pike_finds_done : FindMatches → Bool
-pike_finds_done s = s.steps.done
+abbrev pub pike_matches_done : FindMatches → Bool
+pike_matches_done s = s.steps.done
 
 -- the cache fits the PikeVM
 abbrev pub fits_pike : PikeCache → Pike → Type 0
 fits_pike cache vm = Fits cache vm.nfa
 
 -- the PikeVM may search if the cache fits and the known match is right
-abbrev pub MayFindByPike : With Finder PikeCache → Search → Type 0
+abbrev pub MayFindByPike : WithCache Finder PikeCache → Search → Type 0
 MayFindByPike = MayFind IsSureOf pike_knowing fits_pike
 
 -- a search by the PikeVM may answer this
-abbrev pub AsksPike : With Finder PikeCache → Search → Answer Found → With Finder PikeCache → Type 0
-AsksPike = AsksEngine IsSureOf pike_knowing PikeTells (λ vm x a. PikeSearches vm x)
+abbrev pub AsksPike : WithCache Finder PikeCache → Search → Answer Found → WithCache Finder PikeCache → Type 0
+AsksPike = AsksEngine IsSureOf pike_knowing PikeAnswersMatch (λ vm x a. PikeSearches vm x)
 
 -- a call
 pub record PikeFindsNext (s : FindMatches) (r : Option Match) (t : FindMatches) : Type 0 where
-  pub takes : TakesLentStep span_of AsksPike (λ _. GivesItem found_of) (pike_finds s)
-      (option_map (λ m. Ok m) r) (pike_finds t)
+  pub takes : TakesStepWith span_of AsksPike (λ _. GivesItem found_of) (pike_matches s)
+      (option_map (λ m. Ok m) r) (pike_matches t)
 
-abbrev pub pike_finds_next : FindMatches → Option Match → FindMatches → Type 0
-pike_finds_next s r t = PikeFindsNext s r t
+abbrev pub pike_matches_next : FindMatches → Option Match → FindMatches → Type 0
+pike_matches_next s r t = PikeFindsNext s r t
 
 -- the known answer of its next search
 abbrev pub pike_finds_known : FindMatches → Option Found
-pike_finds_known s = option_map found_of s.steps.asker.known
+pike_finds_known s = option_map found_of s.steps.backend.known
 
 -- the calls keep the cache, and its sizes
 pub record KeepsCache (s t : FindMatches) : Type 0 where
   pub cache : t.cache.ghost_name ≡ s.cache.ghost_name
-  pub numbers : SameNumbers s.cache.now t.cache.now
+  pub capacities : SameCapacities s.cache.now t.cache.now
 
 abbrev pub GivesCache : FindMatches → Type 0
-GivesCache s = GivesKept pike_finds_next KeepsCache s
+GivesCache s = GivesKept pike_matches_next KeepsCache s
 
 -- The calls change the cache only by the searches of an iteration over x. At `None` the iteration went to its end, past
 -- the matches so far.
 pub record FindsBySearches (vm : Pike) (x : Search) (s : FindMatches) : Type 0 where
-  pub on : GivesKept pike_finds_next (λ p q. PikeFindsOn vm x p.cache.now q.cache.now) s
-  pub to_end : (xs : List Match) (t u : FindMatches) → Yields pike_finds_next s xs t → pike_finds_next t None u
+  pub on : GivesKept pike_matches_next (λ p q. PikeFindsOn vm x p.cache.now q.cache.now) s
+  pub to_end : (xs : List Match) (t u : FindMatches) → Yields pike_matches_next s xs t → pike_matches_next t None u
       → PikeFindsToEnd vm x (map found_of xs) s.cache.now u.cache.now

@@ -4,22 +4,22 @@ use Rattle.regex_search_core.specs.Found.{Found, found_of}
 use Rattle.regex_search_core.specs.Search.{Search}
 use Rattle.regex_search_core.specs.declared.search.Match.{Match}
 use Rattle.nfa_paths.specs.Known.{IsSureMatch}
-use Rattle.nfa_paths.specs.Paths.{IsWork, scan_limit, span_len, turn_weight}
-use Rattle.nfa_search_base.specs.Catching.{Row, row_span}
-use Rattle.nfa_search_base.specs.CaughtLists.{TellsRow}
+use Rattle.nfa_paths.specs.Paths.{IsWork, max_scans, span_len, total_degree}
+use Rattle.nfa_search_base.specs.WithCaptures.{Row, row_span}
+use Rattle.nfa_search_base.specs.CapturesLists.{AnswersRow}
 use Rattle.nfa_search_base.specs.Finders.{answer_by}
 use Rattle.nfa_search_base.specs.Leaving.{DoesSearch, FindsLeave, FindsLeaveAtEnd, Leaves, LeavesAtEnd}
-use Rattle.nfa_search_base.specs.Lists.{TellsMatch}
-use Rattle.nfa_search_base.specs.Walks.{Answer}
-use Rattle.nfa_pikevm.specs.Engines.{Pike, PikeCache, AddsPikeWork, SameNumbers, kind_of}
+use Rattle.nfa_search_base.specs.Lists.{AnswersMatch}
+use Rattle.nfa_search_base.specs.IterStates.{Answer}
+use Rattle.nfa_pikevm.specs.Engines.{Pike, PikeCache, AddsPikeWork, SameCapacities, kind_of}
 
 -- the answer of one search for a match: the match of its kind and its `earliest`, and never an error
-abbrev pub PikeTells : Pike → Search → Answer Found → Type 0
-PikeTells vm x a = TellsMatch vm.nfa (kind_of vm) x.earliest x a
+abbrev pub PikeAnswersMatch : Pike → Search → Answer Found → Type 0
+PikeAnswersMatch vm x a = AnswersMatch vm.nfa (kind_of vm) x.earliest x a
 
 -- the answer of one search for captures: the row of its kind and its `earliest`, and never an error
-abbrev pub PikeTellsRow : Pike → Search → Answer Row → Type 0
-PikeTellsRow vm x a = TellsRow vm.nfa (kind_of vm) x.earliest x a
+abbrev pub PikeAnswersRow : Pike → Search → Answer Row → Type 0
+PikeAnswersRow vm x a = AnswersRow vm.nfa (kind_of vm) x.earliest x a
 
 -- a reply as values
 abbrev pub answer_of : Option Match → Answer Found
@@ -33,22 +33,22 @@ IsSureOf vm x m = IsSureMatch vm.nfa (kind_of vm) x.earliest x m
 pub record PikeSearches (vm : Pike) (x : Search) (old new : PikeCache) : Type 0 where
   pub total : AddsPikeWork old new
   pub work : IsWork vm.nfa (kind_of vm) x.earliest x new.scans new.turns
-  pub scans : new.scans ≤ scan_limit vm.nfa x
-  pub turns : new.turns ≤ new.scans * ((1 + turn_weight vm.nfa) * (span_len x + 1))
-  pub numbers : SameNumbers old new
+  pub scans : new.scans ≤ max_scans vm.nfa x
+  pub turns : new.turns ≤ new.scans * ((1 + total_degree vm.nfa) * (span_len x + 1))
+  pub capacities : SameCapacities old new
 
 -- an iteration over the matches of x led from one cache to the other only by its searches, as far as it went
 abbrev pub PikeFindsOn : Pike → Search → PikeCache → PikeCache → Type 0
-PikeFindsOn vm x old new = FindsLeave (PikeTells vm) (λ y a. PikeSearches vm y) x old new
+PikeFindsOn vm x old new = FindsLeave (PikeAnswersMatch vm) (λ y a. PikeSearches vm y) x old new
 
 -- the same, and the iteration went to its end, past these matches
 abbrev pub PikeFindsToEnd : Pike → Search → List Found → PikeCache → PikeCache → Type 0
-PikeFindsToEnd vm x ms old new = FindsLeaveAtEnd (PikeTells vm) (λ y a. PikeSearches vm y) x ms old new
+PikeFindsToEnd vm x ms old new = FindsLeaveAtEnd (PikeAnswersMatch vm) (λ y a. PikeSearches vm y) x ms old new
 
 -- the same for an iteration over captures
 abbrev pub PikeCatchesOn : Pike → Search → PikeCache → PikeCache → Type 0
-PikeCatchesOn vm x old new = Leaves row_span (DoesSearch (PikeTellsRow vm) (λ y a. PikeSearches vm y)) x old new
+PikeCatchesOn vm x old new = Leaves row_span (DoesSearch (PikeAnswersRow vm) (λ y a. PikeSearches vm y)) x old new
 
 abbrev pub PikeCatchesToEnd : Pike → Search → List Row → PikeCache → PikeCache → Type 0
 PikeCatchesToEnd vm x rows old new =
-    LeavesAtEnd row_span (DoesSearch (PikeTellsRow vm) (λ y a. PikeSearches vm y)) x rows old new
+    LeavesAtEnd row_span (DoesSearch (PikeAnswersRow vm) (λ y a. PikeSearches vm y)) x rows old new

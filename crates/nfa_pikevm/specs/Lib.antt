@@ -3,4 +3,4 @@ pub mod Finding
 pub mod FindMatches
 pub mod CapturesMatches
 pub use Rattle.nfa_pikevm_scan.specs.Needs
-pub use Rattle.nfa_scanning.specs.FirstBytes
+pub use Rattle.nfa_scan_core.specs.FirstBytes

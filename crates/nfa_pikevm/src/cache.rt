@@ -1,12 +1,12 @@
 //! The cache of a PikeVM, and the test whether it fits.
 ghost use Rattle.std.specs.Prelude.{◌≡◌, ◌↔◌, IfOk, IsOk, OnOk, OnErr, IsOkUnless, IsTrue};
-ghost use Rattle.nfa_pikevm.specs.Engines.{Fits, cache_for, refitted, pike_memory_of};
+ghost use Rattle.nfa_pikevm.specs.Engines.{Fits, cache_for, reset_for, pike_memory_of};
 
 use crate::engine::PikeVM;
-use nfa_pikevm_scan::scratch::Threads;
-use nfa_pikevm_scan::sizes::{make_room, size_for, stack_places};
+use nfa_pikevm_scan::sizes::{make_room, size_for, stack_frames};
 use nfa_pikevm_scan::slot::Slot;
-use nfa_scanning::counter::Counter;
+use nfa_pikevm_scan::threads::Threads;
+use nfa_scan_core::counter::Counter;
 use nfa_search_base::error::SearchError;
 use regex_search_core::Refused;
 use std::alloc::Global;
@@ -40,7 +40,7 @@ impl Model for Cache {
       states = length c.threads.reached.seen.bits;
       slots = c.slots;
       patterns = c.patterns;
-      places =
+      frames =
           length c.threads.frames.items;
       scans = c.threads.scans;
       turns = c.threads.reached.seen.turns;
@@ -79,7 +79,7 @@ impl Cache {
     /// cache fits already. The only error is `Memory`. After an error the cache is unchanged, and fits what it fitted.
     pub fn reset(&mut self, vm: &PikeVM) -> Result<(), SearchError>
         ensures granted { Fits self.old vm.now.nfa → IsOk result }
-        ensures made { OnOk result (self.new ≡ refitted self.old vm.now.nfa) }
+        ensures made { OnOk result (self.new ≡ reset_for self.old vm.now.nfa) }
         ensures kept { OnErr result (self.new ≡ self.old) }
         ensures memory { IsOkUnless result SearchError.Memory }
     {
@@ -106,7 +106,7 @@ impl Cache {
     {
         let nfa = vm.get_nfa();
         let frames = self.threads.frames.len();
-        let Some(places) = stack_places(nfa) else {
+        let Some(places) = stack_frames(nfa) else {
             return false;
         };
         nfa.states().len() <= self.threads.reached.seen.len()

@@ -1,12 +1,12 @@
 //! Iteration over the captures of the matches of an input.
-ghost use Rattle.nfa_search_base.specs.CaughtLists.{HasGroups};
+ghost use Rattle.nfa_search_base.specs.CapturesLists.{HasGroups};
 ghost use Rattle.nfa_pikevm.specs.Engines.{Fits};
 
 use crate::cache::Cache;
 use crate::engine::PikeVM;
 use nfa_search_base::error::SearchError;
-use nfa_search_base::iter::catching::{caught_item, caught_span};
-use nfa_search_base::iter::{Searcher, Searches, Steps};
+use nfa_search_base::iter::captures_items::{captures_item, captures_span};
+use nfa_search_base::iter::{FindWith, Searcher, Steps};
 use regex_search_core::{Captures, Input, Span};
 use std::alloc::Global;
 use std::marker::Model;
@@ -20,23 +20,23 @@ use std::marker::Model;
 #[derive(Debug, Drop)]
 pub struct CapturesMatches<'r, 'c, 'h> {
     cache: &'c mut Cache,
-    steps: Steps<'h, Catcher<'r>>,
-    ghost fits: { Fits cache.now steps.asker.finder.nfa },
-    ghost holds: { HasGroups steps.asker.finder.nfa steps.asker.captures },
+    steps: Steps<'h, CapturesFinder<'r>>,
+    ghost fits: { Fits cache.now steps.backend.finder.nfa },
+    ghost holds: { HasGroups steps.backend.finder.nfa steps.backend.captures },
 }
 
 // The PikeVM that answers the searches of one iteration, and the captures that it fills.
 #[derive(Debug, Drop)]
-struct Catcher<'r> {
+struct CapturesFinder<'r> {
     engine: &'r PikeVM,
     captures: Captures,
 }
 
-impl<'r> Model for Catcher<'r> {
-    ghost use Rattle.nfa_search_base.specs.Catching.{Catching};
+impl<'r> Model for CapturesFinder<'r> {
+    ghost use Rattle.nfa_search_base.specs.WithCaptures.{WithCaptures};
     ghost use Rattle.nfa_pikevm.specs.Engines.{Pike};
 
-    ghost Value = { Catching Pike };
+    ghost Value = { WithCaptures Pike };
 
     ghost view = { λ a. record { finder = a.engine.now; captures = a.captures } };
 }
@@ -45,18 +45,20 @@ impl PikeVM {
     ghost use Rattle.std.specs.Prelude.{◌≡◌, false, All, IfOk, IsOkUnless, None, map};
     ghost use Rattle.regex_search_core.specs.Search.{search_of};
     ghost use Rattle.nfa_search_base.specs.CapturesGiven.{CapturesGiven};
-    ghost use Rattle.nfa_search_base.specs.Catching.{row_of};
-    ghost use Rattle.nfa_search_base.specs.CaughtLists.{AreRows, TellsRow};
-    ghost use Rattle.nfa_search_base.specs.CaughtRuns.{CapturesApart, CapturesFirst, CapturesGroups, CapturesMemory};
-    ghost use Rattle.nfa_search_base.specs.CaughtRuns.{CapturesNext, CapturesRun, CapturesWithin, MatchesInAll};
-    ghost use Rattle.nfa_search_base.specs.CaughtRuns.{MatchesInFirst, MatchesInNext, MatchesInRun, RowsAll};
-    ghost use Rattle.nfa_search_base.specs.CaughtRuns.{CapturesInside, RowsFirst, RowsNext, RowsRun, match_in};
-    ghost use Rattle.nfa_search_base.specs.Lists.{AreApart, AreMatches};
-    ghost use Rattle.nfa_search_base.specs.Walks.{fresh};
+    ghost use Rattle.nfa_search_base.specs.WithCaptures.{row_of};
+    ghost use Rattle.nfa_search_base.specs.CapturesLists.{AreRows, AnswersRow};
+    ghost use Rattle.nfa_search_base.specs.CapturesRuns.{CapturesDisjoint, CapturesFirst, CapturesGroups};
+    ghost use Rattle.nfa_search_base.specs.CapturesRuns.{CapturesMemory};
+    ghost use Rattle.nfa_search_base.specs.CapturesRuns.{CapturesNext, CapturesRun, CapturesWithin, MatchesInAll};
+    ghost use Rattle.nfa_search_base.specs.CapturesRuns.{MatchesInFirst, MatchesInNext, MatchesInRun, RowsAll};
+    ghost use Rattle.nfa_search_base.specs.CapturesRuns.{CapturesInside, RowsFirst, RowsNext, RowsRun, match_in};
+    ghost use Rattle.nfa_search_base.specs.Lists.{AreDisjoint, AreMatches};
+    ghost use Rattle.nfa_search_base.specs.IterStates.{fresh};
     ghost use Rattle.nfa_pikevm.specs.CapturesMatches.{CatchesBySearches, CatchesGiveCache};
-    ghost use Rattle.nfa_pikevm.specs.CapturesMatches.{pike_catches_cache, pike_catches_done};
-    ghost use Rattle.nfa_pikevm.specs.CapturesMatches.{pike_catches_engine, pike_catches_next, pike_catches_walk};
-    ghost use Rattle.nfa_pikevm.specs.Engines.{SameNumbers, kind_of};
+    ghost use Rattle.nfa_pikevm.specs.CapturesMatches.{pike_captures_cache, pike_captures_done};
+    ghost use Rattle.nfa_pikevm.specs.CapturesMatches.{pike_captures_engine, pike_captures_next};
+    ghost use Rattle.nfa_pikevm.specs.CapturesMatches.{pike_captures_iter_state};
+    ghost use Rattle.nfa_pikevm.specs.Engines.{SameCapacities, kind_of};
     ghost use Rattle.nfa_pikevm.specs.Finding.{PikeCatchesOn, PikeCatchesToEnd};
 
     /// Returns an iterator over the captures of all matches that do not overlap, from left to right, each with all
@@ -86,39 +88,39 @@ impl PikeVM {
     ) -> Result<CapturesMatches<'r, 'c, 'h>, SearchError>
         requires { Fits cache.old self.now.nfa }
         ensures memory { IsOkUnless result SearchError.Memory }
-        ensures same_reference { IfOk result (λ made. (pike_catches_cache made).ghost_name ≡ cache.entry.ghost_name) }
-        ensures same_cache { IfOk result (λ made. (pike_catches_cache made).now ≡ cache.entry.now) }
-        ensures engine { IfOk result (λ made. pike_catches_engine made ≡ self.now) }
-        ensures walk { IfOk result (λ made. pike_catches_walk made ≡ fresh (search_of input.entry)) }
-        ensures going { IfOk result (λ made. pike_catches_done made ≡ false) }
+        ensures same_reference { IfOk result (λ made. (pike_captures_cache made).ghost_name ≡ cache.entry.ghost_name) }
+        ensures same_cache { IfOk result (λ made. (pike_captures_cache made).now ≡ cache.entry.now) }
+        ensures engine { IfOk result (λ made. pike_captures_engine made ≡ self.now) }
+        ensures walk { IfOk result (λ made. pike_captures_iter_state made ≡ fresh (search_of input.entry)) }
+        ensures going { IfOk result (λ made. pike_captures_done made ≡ false) }
         // Each run of calls gives the first captures of the input, and all of them if it goes on to `None`.
-        ensures runs { IfOk result (CapturesRun pike_catches_next
-            (TellsRow self.now.nfa (kind_of self.now) (search_of input.entry).earliest) (search_of input.entry)) }
-        ensures first { IfOk result (CapturesFirst pike_catches_next
-            (TellsRow self.now.nfa (kind_of self.now) (search_of input.entry).earliest) (search_of input.entry)) }
-        ensures next { IfOk result (CapturesNext pike_catches_next
-            (TellsRow self.now.nfa (kind_of self.now) (search_of input.entry).earliest) (search_of input.entry)) }
-        ensures errors { IfOk result (CapturesMemory pike_catches_next) }
+        ensures runs { IfOk result (CapturesRun pike_captures_next
+            (AnswersRow self.now.nfa (kind_of self.now) (search_of input.entry).earliest) (search_of input.entry)) }
+        ensures first { IfOk result (CapturesFirst pike_captures_next
+            (AnswersRow self.now.nfa (kind_of self.now) (search_of input.entry).earliest) (search_of input.entry)) }
+        ensures next { IfOk result (CapturesNext pike_captures_next
+            (AnswersRow self.now.nfa (kind_of self.now) (search_of input.entry).earliest) (search_of input.entry)) }
+        ensures errors { IfOk result (CapturesMemory pike_captures_next) }
         // If no copy fails, their rows and their matches are those of the input.
-        ensures rows { IfOk result (RowsRun pike_catches_next self.now.nfa (kind_of self.now)
+        ensures rows { IfOk result (RowsRun pike_captures_next self.now.nfa (kind_of self.now)
             (search_of input.entry).earliest (search_of input.entry)) }
-        ensures first_rows { IfOk result (RowsFirst pike_catches_next self.now.nfa (kind_of self.now)
+        ensures first_rows { IfOk result (RowsFirst pike_captures_next self.now.nfa (kind_of self.now)
             (search_of input.entry).earliest (search_of input.entry)) }
-        ensures next_row { IfOk result (RowsNext pike_catches_next self.now.nfa (kind_of self.now)
+        ensures next_row { IfOk result (RowsNext pike_captures_next self.now.nfa (kind_of self.now)
             (search_of input.entry).earliest (search_of input.entry)) }
-        ensures all_rows { IfOk result (RowsAll pike_catches_next self.now.nfa (kind_of self.now)
+        ensures all_rows { IfOk result (RowsAll pike_captures_next self.now.nfa (kind_of self.now)
             (search_of input.entry).earliest (search_of input.entry)) }
-        ensures matches { IfOk result (MatchesInRun pike_catches_next self.now.nfa (kind_of self.now)
+        ensures matches { IfOk result (MatchesInRun pike_captures_next self.now.nfa (kind_of self.now)
             (search_of input.entry).earliest (search_of input.entry)) }
-        ensures first_matches { IfOk result (MatchesInFirst pike_catches_next self.now.nfa (kind_of self.now)
+        ensures first_matches { IfOk result (MatchesInFirst pike_captures_next self.now.nfa (kind_of self.now)
             (search_of input.entry).earliest (search_of input.entry)) }
-        ensures next_match { IfOk result (MatchesInNext pike_catches_next self.now.nfa (kind_of self.now)
+        ensures next_match { IfOk result (MatchesInNext pike_captures_next self.now.nfa (kind_of self.now)
             (search_of input.entry).earliest (search_of input.entry)) }
-        ensures all_matches { IfOk result (MatchesInAll pike_catches_next self.now.nfa (kind_of self.now)
+        ensures all_matches { IfOk result (MatchesInAll pike_captures_next self.now.nfa (kind_of self.now)
             (search_of input.entry).earliest (search_of input.entry)) }
-        ensures groups { IfOk result (CapturesGroups pike_catches_next self.now.nfa) }
-        ensures inside { IfOk result (CapturesWithin pike_catches_next (search_of input.entry)) }
-        ensures apart { IfOk result (CapturesApart pike_catches_next (search_of input.entry)) }
+        ensures groups { IfOk result (CapturesGroups pike_captures_next self.now.nfa) }
+        ensures inside { IfOk result (CapturesWithin pike_captures_next (search_of input.entry)) }
+        ensures apart { IfOk result (CapturesDisjoint pike_captures_next (search_of input.entry)) }
         // The cache changes only by the searches of the steps.
         ensures searches { IfOk result (CatchesBySearches self.now (search_of input.entry)) }
         ensures keeps { IfOk result CatchesGiveCache }
@@ -148,44 +150,47 @@ impl PikeVM {
     ) -> CapturesMatches<'r, 'c, 'h>
         requires fits { Fits cache.old self.now.nfa }
         requires holds { HasGroups self.now.nfa captures }
-        ensures same_reference { (pike_catches_cache result).ghost_name ≡ cache.entry.ghost_name }
-        ensures same_cache { (pike_catches_cache result).now ≡ cache.entry.now }
-        ensures engine { pike_catches_engine result ≡ self.now }
-        ensures walk { pike_catches_walk result ≡ fresh (search_of input.entry) }
-        ensures going { pike_catches_done result ≡ false }
+        ensures same_reference { (pike_captures_cache result).ghost_name ≡ cache.entry.ghost_name }
+        ensures same_cache { (pike_captures_cache result).now ≡ cache.entry.now }
+        ensures engine { pike_captures_engine result ≡ self.now }
+        ensures walk { pike_captures_iter_state result ≡ fresh (search_of input.entry) }
+        ensures going { pike_captures_done result ≡ false }
         // Each run of calls gives the first captures of the input, and all of them if it goes on to `None`.
-        ensures runs { CapturesRun pike_catches_next
-            (TellsRow self.now.nfa (kind_of self.now) (search_of input.entry).earliest) (search_of input.entry) result }
-        ensures first { CapturesFirst pike_catches_next
-            (TellsRow self.now.nfa (kind_of self.now) (search_of input.entry).earliest) (search_of input.entry) result }
-        ensures next { CapturesNext pike_catches_next
-            (TellsRow self.now.nfa (kind_of self.now) (search_of input.entry).earliest) (search_of input.entry) result }
-        ensures errors { CapturesMemory pike_catches_next result }
+        ensures runs { CapturesRun pike_captures_next
+            (AnswersRow self.now.nfa (kind_of self.now) (search_of input.entry).earliest)
+            (search_of input.entry) result }
+        ensures first { CapturesFirst pike_captures_next
+            (AnswersRow self.now.nfa (kind_of self.now) (search_of input.entry).earliest)
+            (search_of input.entry) result }
+        ensures next { CapturesNext pike_captures_next
+            (AnswersRow self.now.nfa (kind_of self.now) (search_of input.entry).earliest)
+            (search_of input.entry) result }
+        ensures errors { CapturesMemory pike_captures_next result }
         // If no copy fails, their rows and their matches are those of the input.
-        ensures rows { RowsRun pike_catches_next self.now.nfa (kind_of self.now)
+        ensures rows { RowsRun pike_captures_next self.now.nfa (kind_of self.now)
             (search_of input.entry).earliest (search_of input.entry) result }
-        ensures first_rows { RowsFirst pike_catches_next self.now.nfa (kind_of self.now)
+        ensures first_rows { RowsFirst pike_captures_next self.now.nfa (kind_of self.now)
             (search_of input.entry).earliest (search_of input.entry) result }
-        ensures next_row { RowsNext pike_catches_next self.now.nfa (kind_of self.now)
+        ensures next_row { RowsNext pike_captures_next self.now.nfa (kind_of self.now)
             (search_of input.entry).earliest (search_of input.entry) result }
-        ensures all_rows { RowsAll pike_catches_next self.now.nfa (kind_of self.now)
+        ensures all_rows { RowsAll pike_captures_next self.now.nfa (kind_of self.now)
             (search_of input.entry).earliest (search_of input.entry) result }
-        ensures matches { MatchesInRun pike_catches_next self.now.nfa (kind_of self.now)
+        ensures matches { MatchesInRun pike_captures_next self.now.nfa (kind_of self.now)
             (search_of input.entry).earliest (search_of input.entry) result }
-        ensures first_matches { MatchesInFirst pike_catches_next self.now.nfa (kind_of self.now)
+        ensures first_matches { MatchesInFirst pike_captures_next self.now.nfa (kind_of self.now)
             (search_of input.entry).earliest (search_of input.entry) result }
-        ensures next_match { MatchesInNext pike_catches_next self.now.nfa (kind_of self.now)
+        ensures next_match { MatchesInNext pike_captures_next self.now.nfa (kind_of self.now)
             (search_of input.entry).earliest (search_of input.entry) result }
-        ensures all_matches { MatchesInAll pike_catches_next self.now.nfa (kind_of self.now)
+        ensures all_matches { MatchesInAll pike_captures_next self.now.nfa (kind_of self.now)
             (search_of input.entry).earliest (search_of input.entry) result }
-        ensures groups { CapturesGroups pike_catches_next self.now.nfa result }
-        ensures inside { CapturesWithin pike_catches_next (search_of input.entry) result }
-        ensures apart { CapturesApart pike_catches_next (search_of input.entry) result }
+        ensures groups { CapturesGroups pike_captures_next self.now.nfa result }
+        ensures inside { CapturesWithin pike_captures_next (search_of input.entry) result }
+        ensures apart { CapturesDisjoint pike_captures_next (search_of input.entry) result }
         // The cache changes only by the searches of the steps.
         ensures searches { CatchesBySearches self.now (search_of input.entry) result }
         ensures keeps { CatchesGiveCache result }
     {
-        self.catch_from(cache, input, captures)
+        self.fill_from(cache, input, captures)
     }
 
     /// Returns the captures of all matches of the input that do not overlap, from left to right, each with all groups
@@ -212,15 +217,15 @@ impl PikeVM {
             (search_of input.entry).earliest (search_of input.entry) (map match_in all.items)) }
         ensures groups { IfOk result (λ all. All (HasGroups self.now.nfa) all.items) }
         ensures inside { IfOk result (λ all. All (CapturesInside (search_of input.entry)) all.items) }
-        ensures apart { IfOk result (λ all. AreApart (search_of input.entry) None (map match_in all.items)) }
-        ensures numbers { SameNumbers cache.old cache.new }
+        ensures apart { IfOk result (λ all. AreDisjoint (search_of input.entry) None (map match_in all.items)) }
+        ensures capacities { SameCapacities cache.old cache.new }
         // The cache changes only by the searches of an iteration. If all captures are returned, these searches go to
         // its end.
         ensures searches { PikeCatchesOn self.now (search_of input.entry) cache.old cache.new }
         ensures to_end { IfOk result (λ all.
             PikeCatchesToEnd self.now (search_of input.entry) (map row_of all.items) cache.old cache.new) }
     {
-        let catcher = Catcher {
+        let catcher = CapturesFinder {
             engine: self,
             captures: self.create_captures(alloc)?,
         };
@@ -229,7 +234,7 @@ impl PikeVM {
 
     // Returns the iterator that searches with these captures.
     #[inline]
-    fn catch_from<'r, 'c, 'h>(
+    fn fill_from<'r, 'c, 'h>(
         &'r self,
         cache: &'c mut Cache,
         input: Input<'h>,
@@ -237,14 +242,16 @@ impl PikeVM {
     ) -> CapturesMatches<'r, 'c, 'h>
         requires fits { Fits cache.old self.now.nfa }
         requires holds { HasGroups self.now.nfa captures }
-        ensures same_reference { (pike_catches_cache result).ghost_name ≡ cache.entry.ghost_name }
-        ensures same_cache { (pike_catches_cache result).now ≡ cache.entry.now }
-        ensures engine { pike_catches_engine result ≡ self.now }
-        ensures walk { pike_catches_walk result ≡ fresh (search_of input.entry) }
-        ensures going { pike_catches_done result ≡ false }
-        ensures given { CapturesGiven pike_catches_next self.now.nfa (kind_of self.now) (search_of input.entry).earliest
-            (TellsRow self.now.nfa (kind_of self.now) (search_of input.entry).earliest) (search_of input.entry) result }
-        ensures errors { CapturesMemory pike_catches_next result }
+        ensures same_reference { (pike_captures_cache result).ghost_name ≡ cache.entry.ghost_name }
+        ensures same_cache { (pike_captures_cache result).now ≡ cache.entry.now }
+        ensures engine { pike_captures_engine result ≡ self.now }
+        ensures walk { pike_captures_iter_state result ≡ fresh (search_of input.entry) }
+        ensures going { pike_captures_done result ≡ false }
+        ensures given { CapturesGiven pike_captures_next self.now.nfa (kind_of self.now)
+            (search_of input.entry).earliest
+            (AnswersRow self.now.nfa (kind_of self.now) (search_of input.entry).earliest)
+            (search_of input.entry) result }
+        ensures errors { CapturesMemory pike_captures_next result }
         ensures searches { CatchesBySearches self.now (search_of input.entry) result }
         ensures keeps { CatchesGiveCache result }
     {
@@ -252,7 +259,7 @@ impl PikeVM {
             cache,
             steps: Steps {
                 searcher: Searcher::new(input),
-                asker: Catcher {
+                backend: CapturesFinder {
                     engine: self,
                     captures,
                 },
@@ -262,8 +269,8 @@ impl PikeVM {
     }
 }
 
-impl<'r> Searches for Catcher<'r> {
-    ghost use Rattle.nfa_search_base.specs.Catching.{Row, caught_by, row_span, GivesCaptures};
+impl<'r> FindWith for CapturesFinder<'r> {
+    ghost use Rattle.nfa_search_base.specs.WithCaptures.{Row, filled_answer, row_span, GivesCaptures};
     ghost use Rattle.nfa_pikevm.specs.CapturesMatches.{AsksPikeRow, MayCatchByPike};
 
     type Cache = Cache;
@@ -272,7 +279,7 @@ impl<'r> Searches for Catcher<'r> {
 
     ghost Value = { Row };
 
-    ghost shows = { λ c reply. caught_by c.captures reply };
+    ghost shows = { λ c reply. filled_answer c.captures reply };
 
     ghost span = { row_span };
 
@@ -292,24 +299,24 @@ impl<'r> Searches for Catcher<'r> {
 
     #[inline]
     fn place(&self, reply: Result<(), SearchError>) -> Option<Span> {
-        caught_span(&self.captures, reply)
+        captures_span(&self.captures, reply)
     }
 
     #[inline]
     fn item(&self, reply: Result<(), SearchError>) -> Option<Result<Captures, SearchError>> {
-        caught_item(&self.captures, reply)
+        captures_item(&self.captures, reply)
     }
 }
 
 impl<'r, 'c, 'h> Iterator for CapturesMatches<'r, 'c, 'h> {
-    ghost use Rattle.nfa_search_base.specs.Lent.{lent_left};
-    ghost use Rattle.nfa_pikevm.specs.CapturesMatches.{pike_catches, pike_catches_next};
+    ghost use Rattle.nfa_search_base.specs.StepsWith.{steps_with_left};
+    ghost use Rattle.nfa_pikevm.specs.CapturesMatches.{pike_captures, pike_captures_next};
 
     type Item = Result<Captures, SearchError>;
 
-    ghost next_gives = { pike_catches_next };
+    ghost next_gives = { pike_captures_next };
 
-    ghost remaining = { λ s. lent_left (pike_catches s) };
+    ghost remaining = { λ s. steps_with_left (pike_captures s) };
 
     fn next(&mut self) -> Option<Result<Captures, SearchError>> {
         self.steps.next_with(self.cache)

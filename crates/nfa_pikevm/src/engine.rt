@@ -1,16 +1,17 @@
 //! The PikeVM and its searches.
-ghost use Rattle.std.specs.Prelude.{◌≡◌, ◌+◌, ◌*◌, ◌≤◌, None, Ok, false, not, length, min, replicate, option_map, IfOk, IfNone, IfSome, All, ◌<◌, IsOk, OnOk, OnErr, IsOkUnless};
+ghost use Rattle.std.specs.Prelude.{◌≡◌, ◌+◌, ◌*◌, ◌≤◌, None, Ok, false, not, length, min, replicate, option_map, IfOk};
+ghost use Rattle.std.specs.Prelude.{IfNone, IfSome, All, ◌<◌, IsOk, OnOk, OnErr, IsOkUnless};
 ghost use Rattle.regex_search_core.specs.Search.{search_of};
 ghost use Rattle.regex_search_core.specs.Groups.{slot_count};
 ghost use Rattle.regex_search_core.specs.Patterns.{number_of};
 ghost use Rattle.regex_search_core.specs.Found.{found_of, half_found_of};
 ghost use Rattle.thompson_nfa.specs.Simple.{always, never};
 ghost use Rattle.nfa_paths.specs.Overlaps.{IsOverlapResult};
-ghost use Rattle.nfa_paths.specs.Paths.{span_len, turn_weight, scan_limit, is_utf8_empty, IsAnswer, IsFoundAnswer};
-ghost use Rattle.nfa_paths.specs.Paths.{IsHalfAnswer, IsMatchAnswer, IsWork};
-ghost use Rattle.nfa_pikevm.specs.Engines.{AddsPikeWork, Fits, SameNumbers, kind_of, cache_for, refitted};
+ghost use Rattle.nfa_paths.specs.Paths.{span_len, total_degree, max_scans, is_utf8_empty, IsAnswer, IsBoolAnswer};
+ghost use Rattle.nfa_paths.specs.Paths.{IsHalfAnswer, IsFindAnswer, IsWork};
+ghost use Rattle.nfa_pikevm.specs.Engines.{AddsPikeWork, Fits, SameCapacities, kind_of, cache_for, reset_for};
 ghost use Rattle.nfa_pikevm_scan.specs.Needs.{overlap_scans};
-ghost use Rattle.nfa_pikevm_scan.specs.Scans.{HaveRoom, SameSizes, scan_turns};
+ghost use Rattle.nfa_pikevm_scan.specs.Scans.{HaveRoom, SameSizes, max_scan_turns};
 ghost use Rattle.nfa_search_base.specs.Finds.{finds};
 ghost use Rattle.nfa_search_base.specs.Lists.{IsInside, IsSlotInside};
 
@@ -18,10 +19,10 @@ use crate::cache::Cache;
 use crate::config::{Builder, Config};
 use crate::search::search;
 use nfa_pikevm_scan::overlap::overlap;
-use nfa_pikevm_scan::scratch::Threads;
-use nfa_pikevm_scan::slot::{Slot, hand_out, match_in};
-use nfa_scanning::first_bytes::FirstBytes;
-use nfa_scanning::starts::is_utf8_empty;
+use nfa_pikevm_scan::slot::{Slot, copy_out, match_in};
+use nfa_pikevm_scan::threads::Threads;
+use nfa_scan_core::first_bytes::FirstBytes;
+use nfa_scan_core::starts::is_utf8_empty;
 use nfa_search_base::error::SearchError;
 use regex_search_core::{Captures, HalfMatch, Input, Match, NonMaxUsize, PatternID, PatternSet};
 use std::alloc::Global;
@@ -48,7 +49,7 @@ pub struct PikeVM {
 }
 
 impl Model for PikeVM {
-    ghost use Rattle.nfa_scanning.specs.FirstBytes.{IsFirstBytes};
+    ghost use Rattle.nfa_scan_core.specs.FirstBytes.{IsFirstBytes};
     ghost use Rattle.nfa_pikevm.specs.Engines.{Pike};
 
     ghost Value = { Pike };
@@ -161,7 +162,7 @@ impl PikeVM {
     /// ```
     pub fn reset_cache(&self, cache: &mut Cache) -> Result<(), SearchError>
         ensures granted { Fits cache.old self.now.nfa → IsOk result }
-        ensures made { OnOk result (cache.new ≡ refitted cache.old self.now.nfa) }
+        ensures made { OnOk result (cache.new ≡ reset_for cache.old self.now.nfa) }
         ensures kept { OnErr result (cache.new ≡ cache.old) }
         ensures memory { IsOkUnless result SearchError.Memory }
     {
@@ -239,14 +240,14 @@ impl PikeVM {
         ensures pattern { IfSome result (λ p. number_of p < length self.now.nfa.patterns) }
         ensures inside { All (IsSlotInside (search_of input.now)) slots.new }
 
-        ensures numbers { SameNumbers cache.old cache.new }
+        ensures capacities { SameCapacities cache.old cache.new }
         ensures total { AddsPikeWork cache.old cache.new }
 
         // The work: exactly one scan more than restarts, within stated bounds.
         ensures work { IsWork self.now.nfa (kind_of self.now) (search_of input.now).earliest (search_of input.now)
             cache.new.scans cache.new.turns }
-        ensures scans { cache.new.scans ≤ scan_limit self.now.nfa (search_of input.now) }
-        ensures turns { cache.new.turns ≤ cache.new.scans * ((1 + turn_weight self.now.nfa)
+        ensures scans { cache.new.scans ≤ max_scans self.now.nfa (search_of input.now) }
+        ensures turns { cache.new.turns ≤ cache.new.scans * ((1 + total_degree self.now.nfa)
             * (span_len (search_of input.now) + 1)) }
     {
         let Cache {
@@ -256,7 +257,7 @@ impl PikeVM {
             past_turns,
             ..
         } = cache;
-        past_scans.take(&mut threads.scans);
+        past_scans.absorb(&mut threads.scans);
         threads.reached.seen.restart_turns(past_turns);
         self.search_with(threads, input, found.as_mut_slice(), slots)
     }
@@ -280,9 +281,9 @@ impl PikeVM {
         ensures work { IsWork self.now.nfa (kind_of self.now) (search_of input.now).earliest (search_of input.now)
             threads.new.scans threads.new.reached.seen.turns }
         ensures sizes { SameSizes threads.old threads.new }
-        ensures scans { threads.new.scans ≤ scan_limit self.now.nfa (search_of input.now) }
+        ensures scans { threads.new.scans ≤ max_scans self.now.nfa (search_of input.now) }
         ensures turns { threads.new.reached.seen.turns
-            ≤ threads.new.scans * scan_turns self.now.nfa (search_of input.now) }
+            ≤ threads.new.scans * max_scan_turns self.now.nfa (search_of input.now) }
     {
         let width = slots.len().min(self.nfa.group_info().slot_len());
         let row = &mut found[..width];
@@ -294,7 +295,7 @@ impl PikeVM {
             threads,
             row,
         );
-        hand_out(row, slots);
+        copy_out(row, slots);
         Some(half?.pattern())
     }
 
@@ -311,15 +312,15 @@ impl PikeVM {
         requires serves { HaveRoom self.now.nfa (2 * length self.now.nfa.groups) threads.old }
         requires counted { threads.old.scans ≡ 0 }
         requires turned { threads.old.reached.seen.turns ≡ 0 }
-        ensures answer { IsMatchAnswer self.now.nfa (kind_of self.now) (search_of input.now).earliest
+        ensures answer { IsFindAnswer self.now.nfa (kind_of self.now) (search_of input.now).earliest
             (search_of input.now) (option_map found_of result) }
         ensures pattern { IfSome result (λ m. (found_of m).pattern < length self.now.nfa.patterns) }
         ensures work { IsWork self.now.nfa (kind_of self.now) (search_of input.now).earliest (search_of input.now)
             threads.new.scans threads.new.reached.seen.turns }
         ensures sizes { SameSizes threads.old threads.new }
-        ensures scans { threads.new.scans ≤ scan_limit self.now.nfa (search_of input.now) }
+        ensures scans { threads.new.scans ≤ max_scans self.now.nfa (search_of input.now) }
         ensures turns { threads.new.reached.seen.turns
-            ≤ threads.new.scans * scan_turns self.now.nfa (search_of input.now) }
+            ≤ threads.new.scans * max_scan_turns self.now.nfa (search_of input.now) }
     {
         let slot_len = self.nfa.group_info().implicit_slot_len();
         let slots = &mut found[..slot_len];
@@ -348,18 +349,18 @@ impl PikeVM {
     /// ```
     pub fn find<'h>(&self, cache: &mut Cache, input: Input<'h>) -> Option<Match>
         requires { Fits cache.old self.now.nfa }
-        ensures answer { IsMatchAnswer self.now.nfa (kind_of self.now) (search_of input.entry).earliest
+        ensures answer { IsFindAnswer self.now.nfa (kind_of self.now) (search_of input.entry).earliest
             (search_of input.entry) (option_map found_of result) }
         ensures pattern { IfSome result (λ m. (found_of m).pattern < length self.now.nfa.patterns) }
         ensures inside { IfSome result (λ m. IsInside (search_of input.entry) (found_of m)) }
 
-        ensures numbers { SameNumbers cache.old cache.new }
+        ensures capacities { SameCapacities cache.old cache.new }
         ensures total { AddsPikeWork cache.old cache.new }
 
         ensures work { IsWork self.now.nfa (kind_of self.now) (search_of input.entry).earliest (search_of input.entry)
             cache.new.scans cache.new.turns }
-        ensures scans { cache.new.scans ≤ scan_limit self.now.nfa (search_of input.entry) }
-        ensures turns { cache.new.turns ≤ cache.new.scans * ((1 + turn_weight self.now.nfa)
+        ensures scans { cache.new.scans ≤ max_scans self.now.nfa (search_of input.entry) }
+        ensures turns { cache.new.turns ≤ cache.new.scans * ((1 + total_degree self.now.nfa)
             * (span_len (search_of input.entry) + 1)) }
     {
         let Cache {
@@ -369,7 +370,7 @@ impl PikeVM {
             past_turns,
             ..
         } = cache;
-        past_scans.take(&mut threads.scans);
+        past_scans.absorb(&mut threads.scans);
         threads.reached.seen.restart_turns(past_turns);
         self.find_with(threads, &input, found.as_mut_slice())
     }
@@ -394,13 +395,13 @@ impl PikeVM {
         ensures inside { IfSome result (λ m. ((search_of input.entry).start ≤ (half_found_of m).offset)
             × ((half_found_of m).offset ≤ (search_of input.entry).end)) }
 
-        ensures numbers { SameNumbers cache.old cache.new }
+        ensures capacities { SameCapacities cache.old cache.new }
         ensures total { AddsPikeWork cache.old cache.new }
 
         ensures work { IsWork self.now.nfa (kind_of self.now) (search_of input.entry).earliest (search_of input.entry)
             cache.new.scans cache.new.turns }
-        ensures scans { cache.new.scans ≤ scan_limit self.now.nfa (search_of input.entry) }
-        ensures turns { cache.new.turns ≤ cache.new.scans * ((1 + turn_weight self.now.nfa)
+        ensures scans { cache.new.scans ≤ max_scans self.now.nfa (search_of input.entry) }
+        ensures turns { cache.new.turns ≤ cache.new.scans * ((1 + total_degree self.now.nfa)
             * (span_len (search_of input.entry) + 1)) }
     {
         let Cache {
@@ -409,7 +410,7 @@ impl PikeVM {
             past_turns,
             ..
         } = cache;
-        past_scans.take(&mut threads.scans);
+        past_scans.absorb(&mut threads.scans);
         threads.reached.seen.restart_turns(past_turns);
         // An NFA that can be read is valid, so the pattern of each Match state exists.
         self.nfa.states();
@@ -431,16 +432,16 @@ impl PikeVM {
     /// ```
     pub fn is_match<'h>(&self, cache: &mut Cache, input: Input<'h>) -> bool
         requires { Fits cache.old self.now.nfa }
-        ensures answer { IsFoundAnswer self.now.nfa (kind_of self.now) false (search_of input.entry) result }
+        ensures answer { IsBoolAnswer self.now.nfa (kind_of self.now) false (search_of input.entry) result }
         ensures finds { result ≡ finds self.now.nfa (kind_of self.now) false (search_of input.entry) }
 
-        ensures numbers { SameNumbers cache.old cache.new }
+        ensures capacities { SameCapacities cache.old cache.new }
         ensures total { AddsPikeWork cache.old cache.new }
 
         ensures work { IsWork self.now.nfa (kind_of self.now) (not (is_utf8_empty self.now.nfa)) (search_of input.entry)
             cache.new.scans cache.new.turns }
-        ensures scans { cache.new.scans ≤ scan_limit self.now.nfa (search_of input.entry) }
-        ensures turns { cache.new.turns ≤ cache.new.scans * ((1 + turn_weight self.now.nfa)
+        ensures scans { cache.new.scans ≤ max_scans self.now.nfa (search_of input.entry) }
+        ensures turns { cache.new.turns ≤ cache.new.scans * ((1 + total_degree self.now.nfa)
             * (span_len (search_of input.entry) + 1)) }
     {
         let earliest = !is_utf8_empty(&self.nfa);
@@ -482,12 +483,12 @@ impl PikeVM {
         ensures result { IsOverlapResult self.now.nfa (search_of input.now) (kind_of self.now)
             (search_of input.now).earliest patterns.old patterns.new }
 
-        ensures numbers { SameNumbers cache.old cache.new }
+        ensures capacities { SameCapacities cache.old cache.new }
         ensures total { AddsPikeWork cache.old cache.new }
 
         // One scan, or none under leftmost first if the set holds a pattern.
         ensures scans { cache.new.scans ≡ overlap_scans (kind_of self.now) patterns.old }
-        ensures turns { cache.new.turns ≤ cache.new.scans * ((1 + turn_weight self.now.nfa)
+        ensures turns { cache.new.turns ≤ cache.new.scans * ((1 + total_degree self.now.nfa)
             * (span_len (search_of input.now) + 1)) }
     {
         let Cache {
@@ -496,7 +497,7 @@ impl PikeVM {
             past_turns,
             ..
         } = cache;
-        past_scans.take(&mut threads.scans);
+        past_scans.absorb(&mut threads.scans);
         threads.reached.seen.restart_turns(past_turns);
         let kind = self.config.get_match_kind();
         overlap(&self.nfa, kind, input, threads, patterns);

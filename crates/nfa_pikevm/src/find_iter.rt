@@ -2,15 +2,15 @@
 ghost use Rattle.std.specs.Prelude.{◌≡◌};
 ghost use Rattle.regex_search_core.specs.Search.{search_of};
 ghost use Rattle.nfa_search_base.specs.EngineSearches.{IsKnownFrom};
-ghost use Rattle.nfa_search_base.specs.Stored.{steps_walk};
+ghost use Rattle.nfa_search_base.specs.Stored.{steps_iter_state};
 ghost use Rattle.nfa_pikevm.specs.Engines.{Fits};
 ghost use Rattle.nfa_pikevm.specs.Finding.{IsSureOf};
 
 use crate::cache::Cache;
 use crate::engine::PikeVM;
 use nfa_search_base::error::SearchError;
-use nfa_search_base::iter::finding::{ending_at, found_item, found_span};
-use nfa_search_base::iter::{Searcher, Searches, Steps};
+use nfa_search_base::iter::match_items::{ending_at, found_item, found_span};
+use nfa_search_base::iter::{FindWith, Searcher, Steps};
 use regex_search_core::{Input, Match, Span};
 use std::alloc::Global;
 
@@ -21,8 +21,8 @@ use std::alloc::Global;
 pub struct FindMatches<'r, 'c, 'h> {
     cache: &'c mut Cache,
     steps: Steps<'h, Finder<'r>>,
-    ghost fits: { Fits cache.now steps.asker.engine.now.nfa },
-    ghost knows: { IsKnownFrom IsSureOf steps.asker.engine.now (steps_walk steps).at steps.asker.known },
+    ghost fits: { Fits cache.now steps.backend.engine.now.nfa },
+    ghost knows: { IsKnownFrom IsSureOf steps.backend.engine.now (steps_iter_state steps).at steps.backend.known },
 }
 
 // The PikeVM that answers the searches of one iteration. It has no model: with one, a caller of the iterator would not
@@ -38,14 +38,15 @@ struct Finder<'r> {
 impl PikeVM {
     ghost use Rattle.std.specs.Prelude.{false, All, IfOk, IsOk, IsOkUnless, None, [], map};
     ghost use Rattle.regex_search_core.specs.Found.{found_of};
-    ghost use Rattle.nfa_search_base.specs.Lists.{AreMatches, AreApart, IsInside};
-    ghost use Rattle.nfa_search_base.specs.Walks.{fresh};
-    ghost use Rattle.nfa_pikevm.specs.Engines.{SameNumbers, kind_of};
-    ghost use Rattle.nfa_pikevm.specs.FindMatches.{FindsBySearches, GivesCache, pike_finds_cache, pike_finds_done};
-    ghost use Rattle.nfa_pikevm.specs.FindMatches.{pike_finds_engine, pike_finds_known, pike_finds_next};
-    ghost use Rattle.nfa_pikevm.specs.FindMatches.{pike_finds_walk};
+    ghost use Rattle.nfa_search_base.specs.Lists.{AreMatches, AreDisjoint, IsInside};
+    ghost use Rattle.nfa_search_base.specs.IterStates.{fresh};
+    ghost use Rattle.nfa_pikevm.specs.Engines.{SameCapacities, kind_of};
+    ghost use Rattle.nfa_pikevm.specs.FindMatches.{FindsBySearches, GivesCache, pike_matches_cache, pike_matches_done};
+    ghost use Rattle.nfa_pikevm.specs.FindMatches.{pike_matches_engine, pike_finds_known, pike_matches_next};
+    ghost use Rattle.nfa_pikevm.specs.FindMatches.{pike_matches_iter_state};
     ghost use Rattle.nfa_pikevm.specs.Finding.{PikeFindsOn, PikeFindsToEnd};
-    ghost use Rattle.nfa_search_base.specs.MatchRuns.{MatchesRun, MatchesAre, MatchesApart, MatchesFirst, MatchesNext};
+    ghost use Rattle.nfa_search_base.specs.MatchRuns.{MatchesRun, MatchesAre, MatchesDisjoint, MatchesFirst};
+    ghost use Rattle.nfa_search_base.specs.MatchRuns.{MatchesNext};
 
     /// Returns an iterator over all matches that do not overlap, from left to right. Does not allocate. Requires a
     /// cache that fits.
@@ -67,18 +68,19 @@ impl PikeVM {
         input: Input<'h>,
     ) -> FindMatches<'r, 'c, 'h>
         requires { Fits cache.old self.now.nfa }
-        ensures same_reference { (pike_finds_cache result).ghost_name ≡ cache.entry.ghost_name }
-        ensures same_cache { (pike_finds_cache result).now ≡ cache.entry.now }
-        ensures engine { pike_finds_engine result ≡ self.now }
-        ensures walk { pike_finds_walk result ≡ fresh (search_of input.entry) }
-        ensures going { pike_finds_done result ≡ false }
+        ensures same_reference { (pike_matches_cache result).ghost_name ≡ cache.entry.ghost_name }
+        ensures same_cache { (pike_matches_cache result).now ≡ cache.entry.now }
+        ensures engine { pike_matches_engine result ≡ self.now }
+        ensures walk { pike_matches_iter_state result ≡ fresh (search_of input.entry) }
+        ensures going { pike_matches_done result ≡ false }
         ensures known { pike_finds_known result ≡ None }
         // Each run of calls gives the first matches of the input, and all of them if it goes on to `None`.
-        ensures runs { MatchesRun self.now.nfa (kind_of self.now) (search_of input.entry) pike_finds_next result }
-        ensures are { MatchesAre self.now.nfa (kind_of self.now) (search_of input.entry) pike_finds_next result }
-        ensures apart { MatchesApart self.now.nfa (kind_of self.now) (search_of input.entry) pike_finds_next result }
-        ensures first { MatchesFirst self.now.nfa (kind_of self.now) (search_of input.entry) pike_finds_next result }
-        ensures next { MatchesNext self.now.nfa (kind_of self.now) (search_of input.entry) pike_finds_next result }
+        ensures runs { MatchesRun self.now.nfa (kind_of self.now) (search_of input.entry) pike_matches_next result }
+        ensures are { MatchesAre self.now.nfa (kind_of self.now) (search_of input.entry) pike_matches_next result }
+        ensures apart { MatchesDisjoint self.now.nfa (kind_of self.now) (search_of input.entry)
+            pike_matches_next result }
+        ensures first { MatchesFirst self.now.nfa (kind_of self.now) (search_of input.entry) pike_matches_next result }
+        ensures next { MatchesNext self.now.nfa (kind_of self.now) (search_of input.entry) pike_matches_next result }
         // The cache changes only by the searches of the steps.
         ensures searches { FindsBySearches self.now (search_of input.entry) result }
         ensures keeps { GivesCache result }
@@ -87,7 +89,7 @@ impl PikeVM {
             cache,
             steps: Steps {
                 searcher: Searcher::new(input),
-                asker: Finder {
+                backend: Finder {
                     engine: self,
                     known: None,
                 },
@@ -118,9 +120,9 @@ impl PikeVM {
         ensures all { IfOk result (λ found.
             AreMatches self.now.nfa (kind_of self.now) (search_of input.entry).earliest (search_of input.entry)
             (map found_of found.items)) }
-        ensures apart { IfOk result (λ found. AreApart (search_of input.entry) None (map found_of found.items)) }
+        ensures apart { IfOk result (λ found. AreDisjoint (search_of input.entry) None (map found_of found.items)) }
         ensures inside { IfOk result (λ found. All (λ m. IsInside (search_of input.entry) (found_of m)) found.items) }
-        ensures numbers { SameNumbers cache.old cache.new }
+        ensures capacities { SameCapacities cache.old cache.new }
         // The cache changes only by the searches of an iteration. If all matches are returned, these searches go to its
         // end.
         ensures searches { PikeFindsOn self.now (search_of input.entry) cache.old cache.new }
@@ -135,10 +137,10 @@ impl PikeVM {
     }
 }
 
-impl<'r> Searches for Finder<'r> {
+impl<'r> FindWith for Finder<'r> {
     ghost use Rattle.regex_search_core.specs.Found.{Found, found_of};
     ghost use Rattle.nfa_search_base.specs.Steps.{GivesItem};
-    ghost use Rattle.nfa_search_base.specs.Walks.{span_of};
+    ghost use Rattle.nfa_search_base.specs.IterStates.{span_of};
     ghost use Rattle.nfa_pikevm.specs.Finding.{answer_of};
     ghost use Rattle.nfa_pikevm.specs.FindMatches.{AsksPike, MayFindByPike};
 
@@ -183,14 +185,14 @@ impl<'r> Searches for Finder<'r> {
 }
 
 impl<'r, 'c, 'h> Iterator for FindMatches<'r, 'c, 'h> {
-    ghost use Rattle.nfa_search_base.specs.Lent.{lent_sure_left};
-    ghost use Rattle.nfa_pikevm.specs.FindMatches.{pike_finds, pike_finds_next};
+    ghost use Rattle.nfa_search_base.specs.StepsWith.{infallible_left_with};
+    ghost use Rattle.nfa_pikevm.specs.FindMatches.{pike_matches, pike_matches_next};
 
     type Item = Match;
 
-    ghost next_gives = { pike_finds_next };
+    ghost next_gives = { pike_matches_next };
 
-    ghost remaining = { λ s. lent_sure_left (pike_finds s) };
+    ghost remaining = { λ s. infallible_left_with (pike_matches s) };
 
     fn next(&mut self) -> Option<Match> {
         match self.steps.next_with(self.cache) {

@@ -1,16 +1,16 @@
 //! A search: a scan, and further scans while the answer ends inside a codepoint.
 ghost use Rattle.std.specs.Prelude.{◌≡◌, ◌*◌, ◌≤◌, length};
 ghost use Rattle.regex_search_core.specs.Search.{search_of};
-ghost use Rattle.nfa_paths.specs.Paths.{scan_limit};
-ghost use Rattle.nfa_paths.specs.Restarts.{scan_turns, SearchGives};
-ghost use Rattle.nfa_scanning.specs.FirstBytes.{IsFirstBytes};
+ghost use Rattle.nfa_paths.specs.Paths.{max_scans};
+ghost use Rattle.nfa_paths.specs.Restarts.{max_scan_turns, SearchGives};
+ghost use Rattle.nfa_scan_core.specs.FirstBytes.{IsFirstBytes};
 ghost use Rattle.nfa_pikevm_scan.specs.Scans.{HaveRoom, SameSizes};
 
 use nfa_pikevm_scan::scan::scan;
-use nfa_pikevm_scan::scratch::Threads;
 use nfa_pikevm_scan::slot::{Slot, unset_row};
-use nfa_scanning::first_bytes::FirstBytes;
-use nfa_scanning::starts::may_end_at;
+use nfa_pikevm_scan::threads::Threads;
+use nfa_scan_core::first_bytes::FirstBytes;
+use nfa_scan_core::starts::may_end_at;
 use regex_search_core::{HalfMatch, Input, MatchKind};
 use thompson_nfa::NFA;
 
@@ -31,8 +31,8 @@ pub fn search(
     ensures answer { SearchGives nfa.now kind (search_of input.now).earliest (search_of input.now) result slots.new
         threads.new.scans threads.new.reached.seen.turns }
     ensures sizes { SameSizes threads.old threads.new }
-    ensures scans { threads.new.scans ≤ scan_limit nfa.now (search_of input.now) }
-    ensures turns { threads.new.reached.seen.turns ≤ threads.new.scans * scan_turns nfa.now (search_of input.now) }
+    ensures scans { threads.new.scans ≤ max_scans nfa.now (search_of input.now) }
+    ensures turns { threads.new.reached.seen.turns ≤ threads.new.scans * max_scan_turns nfa.now (search_of input.now) }
 {
     let mut search = *input;
     loop {

@@ -11,22 +11,22 @@ use Rattle.regex_search_core.specs.declared.search.MatchKind.TheVariants.{All as
 use Rattle.thompson_nfa.specs.Automaton.{Automaton}
 use Rattle.nfa_paths.specs.Graphs.{Pair, In}
 use Rattle.nfa_paths.specs.Exploring.{Slots, Hit}
-use Rattle.nfa_paths.specs.Exploring.Item.{Load}
-use Rattle.nfa_paths.specs.Kinds.{is_resting, NoMatch, IsFoundBy, NoneBefore, LastBefore, last_match, IsFront, Scanning}
+use Rattle.nfa_paths.specs.Exploring.Task.{Load}
+use Rattle.nfa_paths.specs.Kinds.{is_resting, NoMatch, IsFoundBy, NoneBefore, LastBefore, last_match, IsFrontier, Scanning}
 use Rattle.nfa_paths.specs.Paths.{node_at, pattern_of, is_match, capture, starts, IsScanAnswer, space}
-use Rattle.nfa_paths.proofs.FrontMatchLemmas.{first_match-is, first_match-cut, last_match-is}
+use Rattle.nfa_paths.proofs.FrontierMatchLemmas.{first_match-is, first_match-cut, last_match-is}
 use Rattle.nfa_paths.proofs.ScanLemmas.{NoneBefore-step, LastBefore-step}
 use Rattle.nfa_paths.proofs.ScanAnswerLemmas.{edges-onward, seeds-later, Scanned-matches, scan_earliest-cut, scan_earliest_last-found}
 use Rattle.nfa_paths.proofs.ScanningLemmas.{Scanning-load, Scanning-front, Scanning-round}
-use Rattle.nfa_scanning.specs.Marks.{Marks}
-use Rattle.nfa_pikevm_scan.specs.States.{Front, tasks, unmarked, meant, AreMatchPairs, GoesOn, SeenAt, Crosses}
+use Rattle.nfa_scan_core.specs.Marks.{Marks}
+use Rattle.nfa_pikevm_scan.specs.States.{Frontier, tasks, unmarked, meant, AreMatchPairs, GoesOn, SeenAt, NextsGive}
 use Rattle.nfa_pikevm_scan.specs.Scans.{blank, starts_from, half_found, IsSoFar, ScansAll}
 use Rattle.nfa_pikevm_scan.proofs.TaskLemmas.{AnswersFor-round, Searching-for}
-use Rattle.nfa_pikevm_scan.proofs.FrontLemmas.{Formed-rests, Formed-resting, Formed-next, last_match-or, SeenAt-none}
+use Rattle.nfa_pikevm_scan.proofs.FrontierLemmas.{Formed-rests, Formed-resting, Formed-next, last_match-or, SeenAt-none}
 use Rattle.nfa_pikevm_scan.proofs.ScanLemmas.{Crossed, search-crossed}
 
 -- the match that is found last is in the front, or was found before
-last_match-among : (is : Pair → Bool) (g : Hit) (front : Front) (a : Pair × Slots) → last_match is g front ≡ Some a
+last_match-among : (is : Pair → Bool) (g : Hit) (front : Frontier) (a : Pair × Slots) → last_match is g front ≡ Some a
     → (g ≡ Some a) ⊎ In a front
 last_match-among is g [] a e = inl e
 last_match-among is g (b ∷ front) a e =
@@ -58,7 +58,7 @@ pub record HasLast (nfa : Automaton) (x : Search) (at width : ℕ) (found : Opti
   pub last : LastBefore (space nfa x) (is_match nfa) (blank width) at turns so_far
 
 module _ (wanted : Pair → Bool) {nfa : Automaton} (sub : AreMatchPairs nfa wanted) {x : Search}
-    {at width state limit : ℕ} {met after : Marks} {items kept : List (ℕ × Slots)} {front : Front} {goes : Type 0}
+    {at width state limit : ℕ} {met after : Marks} {items kept : List (ℕ × Slots)} {front : Frontier} {goes : Type 0}
     (c : Crossed nfa x at width state limit met items goes after kept front)
     (s : Scanning (space nfa x) wanted (blank width) at (SeenAt at (unmarked met).bits) met.turns []
     (tasks at items (Load (blank width) ∷ starts_from width state (at + 1) limit)) (blank width)) where
@@ -76,7 +76,7 @@ module _ (wanted : Pair → Bool) {nfa : Automaton} (sub : AreMatchPairs nfa wan
   all-whole goes_on = rw (c.leads.whole goes_on) at all-left
 
   -- its front is complete
-  pub all-front : goes → IsFront (space nfa x) (is_resting nfa) wanted (blank width) after.turns front at
+  pub all-front : goes → IsFrontier (space nfa x) (is_resting nfa) wanted (blank width) after.turns front at
   all-front goes_on =
       Scanning-front (space nfa x) wanted (blank width)
       (Scanning-load (space nfa x) wanted (blank width) (all-whole goes_on))
@@ -104,13 +104,13 @@ module _ (wanted : Pair → Bool) {nfa : Automaton} (sub : AreMatchPairs nfa wan
 module _ (nfa : Automaton) (x : Search) (at width state limit : ℕ) where
   module _ {past : Bool} {met : Marks} {items : List (ℕ × Slots)} {slots : Slots} {hit : Option PatternID}
       {after : Marks} {kept : List (ℕ × Slots)} {written : Slots}
-      (c : Crosses nfa x at past met items slots hit after kept written)
+      (c : NextsGive nfa x at past met items slots hit after kept written)
       (s : Scanning (space nfa x) (is_match nfa) (blank width) at (SeenAt at (unmarked met).bits) met.turns []
       (tasks at items (Load (blank width) ∷ starts_from width state (at + 1) limit)) (blank width)) where
     -- the same for a search, if each match is wanted
-    cross-front : GoesOn past hit → IsFront (space nfa x) (is_resting nfa) (is_match nfa) (blank width) after.turns
+    nexts-front : GoesOn past hit → IsFrontier (space nfa x) (is_resting nfa) (is_match nfa) (blank width) after.turns
         c.front at
-    cross-front = all-front (is_match nfa) (λ v t. t) (search-crossed width state limit c) s
+    nexts-front = all-front (is_match nfa) (λ v t. t) (search-crossed width state limit c) s
 
     pub ScansAll-cross : GoesOn past hit → ScansAll nfa x (is_match nfa) (at + 1) width state limit after kept
     ScansAll-cross = ScansAll-next (is_match nfa) (λ v t. t) (search-crossed width state limit c) s
@@ -121,7 +121,7 @@ module _ (nfa : Automaton) (x : Search) (at width state limit : ℕ) where
     NoneBefore-cross none before =
         NoneBefore-step (space nfa x) (is_resting nfa) (is_match nfa) (blank width)
         (Scanned-matches nfa x (is_match nfa) (λ v t. t)) before
-        (cross-front (inr none)) (no_match past (rw none at c.is_hit).0)
+        (nexts-front (inr none)) (no_match past (rw none at c.is_hit).0)
       where
         never : {b : Pair × Slots} → Some b ≡ None → ⊥
         never e = cc
@@ -141,7 +141,7 @@ module _ (nfa : Automaton) (x : Search) (at width state limit : ℕ) where
   -- if the first match ended the position, it is the earliest path's
   pub earliest-first : {met : Marks} {items : List (ℕ × Slots)} {slots : Slots} {hit : Option PatternID} {after : Marks}
       {kept : List (ℕ × Slots)} {written : Slots}
-      → (c : Crosses nfa x at false met items slots hit after kept written)
+      → (c : NextsGive nfa x at false met items slots hit after kept written)
       → Scanning (space nfa x) (is_match nfa) (blank width) at (SeenAt at (unmarked met).bits) met.turns []
       (tasks at items (Load (blank width) ∷ starts_from width state (at + 1) limit)) (blank width)
       → NoneBefore (space nfa x) (is_match nfa) at → (a : Pair × Slots) → meant false (is_match nfa) c.front ≡ Some a
@@ -154,17 +154,17 @@ module _ (nfa : Automaton) (x : Search) (at width state limit : ℕ) where
   -- and if it went on, the last match is the earliest last path's
   pub earliest-last : {met : Marks} {items : List (ℕ × Slots)} {slots : Slots} {hit : Option PatternID} {after : Marks}
       {kept : List (ℕ × Slots)} {written : Slots}
-      → (c : Crosses nfa x at true met items slots hit after kept written)
+      → (c : NextsGive nfa x at true met items slots hit after kept written)
       → Scanning (space nfa x) (is_match nfa) (blank width) at (SeenAt at (unmarked met).bits) met.turns []
       (tasks at items (Load (blank width) ∷ starts_from width state (at + 1) limit)) (blank width)
       → NoneBefore (space nfa x) (is_match nfa) at → (a : Pair × Slots) → meant true (is_match nfa) c.front ≡ Some a
       → IsFoundBy (capture nfa) (blank width) (IsScanAnswer nfa x AllMatches true) after.turns (Some a)
-  earliest-last c s none a last = scan_earliest_last-found nfa x (blank width) none (cross-front c s (inl refl)) a last
+  earliest-last c s none a last = scan_earliest_last-found nfa x (blank width) none (nexts-front c s (inl refl)) a last
 
   -- a match is the half match that was made of it
   pub half-so_far : {past : Bool} {met : Marks} {items : List (ℕ × Slots)} {slots : Slots} {hit : Option PatternID}
       {after : Marks} {kept : List (ℕ × Slots)} {written : Slots}
-      → (c : Crosses nfa x at past met items slots hit after kept written) → (v : Pair)
+      → (c : NextsGive nfa x at past met items slots hit after kept written) → (v : Pair)
       → meant past (is_match nfa) c.front ≡ Some (v, written)
       → (pattern : PatternID) → pattern_of (node_at nfa v.0) ≡ Some (number_of pattern) → (half : HalfMatch)
       → half_found_of half ≡ half_found (number_of pattern) at
@@ -187,7 +187,7 @@ module _ (nfa : Automaton) (x : Search) (at width state limit : ℕ) where
   -- the match at the position, or what was found before
   pub HasLast-cross : {met : Marks} {items : List (ℕ × Slots)} {slots : Slots} {hit : Option PatternID} {after : Marks}
       {kept : List (ℕ × Slots)} {written : Slots} {found : Option HalfMatch}
-      → (c : Crosses nfa x at true met items slots hit after kept written)
+      → (c : NextsGive nfa x at true met items slots hit after kept written)
       → Scanning (space nfa x) (is_match nfa) (blank width) at (SeenAt at (unmarked met).bits) met.turns []
       (tasks at items (Load (blank width) ∷ starts_from width state (at + 1) limit)) (blank width)
       → met.turns ≤ after.turns → (half : Option HalfMatch) → EndsAt at hit half
@@ -199,7 +199,7 @@ module _ (nfa : Automaton) (x : Search) (at width state limit : ℕ) where
         is_so_far = subst (λ (g : Hit). IsSoFar nfa x (option_or half found) written g)
             (sym (last_match-or (is_match nfa) h.so_far c.front)) (of hit refl half is);
         last = LastBefore-step (space nfa x) (is_resting nfa) (is_match nfa) (blank width)
-            (Scanned-matches nfa x (is_match nfa) (λ v t. t)) grows h.last (cross-front c s (inl refl));
+            (Scanned-matches nfa x (is_match nfa) (λ v t. t)) grows h.last (nexts-front c s (inl refl));
       }
     where
       of : (o : Option PatternID) → hit ≡ o → (m : Option HalfMatch) → EndsAt at o m

@@ -8,22 +8,22 @@ use Rattle.regex_search_core.specs.declared.primitives.PatternID.{PatternID}
 use Rattle.thompson_nfa.specs.Automaton.{Automaton}
 use Rattle.nfa_paths.specs.Graphs.{Pair}
 use Rattle.nfa_paths.specs.Paths.{edges, is_match}
-use Rattle.nfa_paths.specs.Exploring.{Item, Slots}
-use Rattle.nfa_paths.specs.Exploring.Item.{Explore as ToExplore, Load as ToLoad}
+use Rattle.nfa_paths.specs.Exploring.{Task, Slots}
+use Rattle.nfa_paths.specs.Exploring.Task.{Explore as ToExplore, Load as ToLoad}
 use Rattle.nfa_paths.specs.Kinds.{NoMatch}
-use Rattle.nfa_scanning.specs.Marks.{Marks}
+use Rattle.nfa_scan_core.specs.Marks.{Marks}
 use Rattle.nfa_pikevm_scan.specs.Rows.{Active}
-use Rattle.nfa_pikevm_scan.specs.States.{Front, moves, work_onto, with_state, state_on, tries, Follows, Formed, Paid, HasRoom, KeepsRoom, Enters, FindsMatch}
-use Rattle.nfa_pikevm_scan.specs.Taking.{Takes, Arrives}
-use Rattle.nfa_pikevm_scan.specs.Taking.Takes.{none}
+use Rattle.nfa_pikevm_scan.specs.States.{Frontier, moves, work_onto, with_state, state_on, tries, Follows, Formed, Paid, HasRoom, KeepsRoom, VisitsState, FindsMatch}
+use Rattle.nfa_pikevm_scan.specs.Sinks.{Takes, ClosureGives}
+use Rattle.nfa_pikevm_scan.specs.Sinks.Takes.{none}
 use Rattle.nfa_pikevm_scan.specs.declared.closure.Move.{Move}
-use Rattle.nfa_pikevm_scan.specs.declared.closure.Reached.{Reached}
+use Rattle.nfa_pikevm_scan.specs.declared.closure.ClosureOutput.{ClosureOutput}
 use Rattle.nfa_pikevm_scan.specs.declared.closure.Move.TheVariants.{Matched}
 use Rattle.nfa_pikevm_scan.specs.declared.frame.FollowEpsilon.{FollowEpsilon}
-use Rattle.nfa_pikevm_scan.proofs.FollowLemmas.{Follows-then, Follows-none}
-use Rattle.nfa_pikevm_scan.proofs.TakingLemmas.{Takes-then}
+use Rattle.nfa_pikevm_scan.proofs.EpsilonClosureLemmas.{Follows-then, Follows-none}
+use Rattle.nfa_pikevm_scan.proofs.SinkLemmas.{Takes-then}
 
-pub moves-append : (edges : Pair → List Pair) (front more : Front)
+pub moves-append : (edges : Pair → List Pair) (front more : Frontier)
     → moves edges (front ++ more) ≡ moves edges front ++ moves edges more
 moves-append edges [] more = refl
 moves-append edges (a ∷ front) more =
@@ -32,10 +32,10 @@ moves-append edges (a ∷ front) more =
 
 -- fronts with no match
 module _ (test : Pair → Bool) where
-  tail-plain : (a : Pair × Slots) (front : Front) → NoMatch test (a ∷ front) → NoMatch test front
+  tail-plain : (a : Pair × Slots) (front : Frontier) → NoMatch test (a ∷ front) → NoMatch test front
   tail-plain a front plain = λ b i. plain b (inr i)
 
-  pub NoMatch-append : (front more : Front) → NoMatch test front → NoMatch test more → NoMatch test (front ++ more)
+  pub NoMatch-append : (front more : Frontier) → NoMatch test front → NoMatch test more → NoMatch test (front ++ more)
   NoMatch-append [] more f m = m
   NoMatch-append (a ∷ front) more f m = λ b i t.
       elim i [ inl e ↦ f b (inl e) t | inr j ↦ NoMatch-append front more (tail-plain a front f) m b j t ]
@@ -46,10 +46,10 @@ pub same-items : (a b c : Active) → b ≡ record a { items = b.items } → c �
 same-items a b c e f = cc
 
 -- the room that is kept
-pub KeepsRoom-none : (a : Reached) → KeepsRoom a a
+pub KeepsRoom-none : (a : ClosureOutput) → KeepsRoom a a
 KeepsRoom-none a = record { size = refl; same = refl }
 
-pub KeepsRoom-then : {a b c : Reached} → KeepsRoom a b → KeepsRoom b c → KeepsRoom a c
+pub KeepsRoom-then : {a b c : ClosureOutput} → KeepsRoom a b → KeepsRoom b c → KeepsRoom a c
 KeepsRoom-then {a} {b} {c} k l = record {
   size = l.size ∙ k.size;
   same = same-items a.next b.next c.next k.same l.same;
@@ -83,11 +83,11 @@ Paid-resumed t u frames left less inside e p = record {
 }
 
 -- there is still room
-pub HasRoom-paid : {nfa : Automaton} {m n : Marks} {size kept places more : ℕ} {hand left : ℕ} (top now : ℕ)
+pub HasRoom-paid : {nfa : Automaton} {m n : Marks} {size kept capacity more : ℕ} {hand left : ℕ} (top now : ℕ)
     (frames after : List FollowEpsilon)
-    → HasRoom nfa m.bits top size kept places → Paid nfa m kept (take top frames) hand n more (take now after) left
+    → HasRoom nfa m.bits top size kept capacity → Paid nfa m kept (take top frames) hand n more (take now after) left
     → length n.bits ≡ length m.bits → top ≤ length frames → now ≤ length after
-    → HasRoom nfa n.bits now size more places
+    → HasRoom nfa n.bits now size more capacity
 HasRoom-paid top now frames after room paid same inside within = record {
   marks = omega (arith, room.marks);
   frames_fit = omega (
@@ -105,11 +105,11 @@ pub record Passed (nfa : Automaton) (x : Search) (at s : ℕ) (met : Marks) (ite
     (below : List FollowEpsilon) (row : Slots)
     (after : Marks) (kept : List (ℕ × Slots)) (state : Option ℕ) (stack : List FollowEpsilon) (now : Slots)
     : Type 0 where
-  pub front : Front
+  pub front : Frontier
   pub added : kept ≡ items ++ moves (edges nfa x) front
   pub plain : NoMatch (is_match nfa) front
-  pub formed : (before : Front) → Formed nfa at met.bits before → Formed nfa at after.bits (before ++ front)
-  pub follows : (before : Front) (old : Slots) (work : List Item)
+  pub formed : (before : Frontier) → Formed nfa at met.bits before → Formed nfa at after.bits (before ++ front)
+  pub follows : (before : Frontier) (old : Slots) (work : List Task)
       → Follows nfa x at met before (ToExplore (s, at) ∷ work_onto at below (ToLoad old ∷ work)) row
       after (before ++ front) (with_state at state (work_onto at stack (ToLoad old ∷ work))) now
 
@@ -131,7 +131,7 @@ module _ {nfa : Automaton} {x : Search} {at s : ℕ} {met : Marks} {items : List
     {m : Marks} {i : List (ℕ × Slots)} {stack : List FollowEpsilon} {now : Slots} where
   -- frames are applied
   pub Passed-resumed : (state : Option ℕ) (above : List FollowEpsilon) (then : Slots)
-      → ((front : Front) (work : List Item) → Follows nfa x at m front (work_onto at stack work) now m front
+      → ((front : Frontier) (work : List Task) → Follows nfa x at m front (work_onto at stack work) now m front
       (with_state at state (work_onto at above work)) then)
       → Passed nfa x at s met items below row m i None stack now
       → Passed nfa x at s met items below row m i state above then
@@ -158,19 +158,19 @@ module _ {nfa : Automaton} {x : Search} {at s : ℕ} {met : Marks} {items : List
   -- A turn adds its front.
   module _ {sid : ℕ} {n : Marks} {j : List (ℕ × Slots)} {above : List FollowEpsilon} {then : Slots} {turn : Move}
       (f : Passed nfa x at s met items below row m i (Some sid) stack now)
-      (h : Enters nfa x at sid m i stack now turn n j above then) where
+      (h : VisitsState nfa x at sid m i stack now turn n j above then) where
     passed_added : j ≡ items ++ moves (edges nfa x) (f.front ++ h.front)
     passed_added =
         h.added ∙ ap (λ l. l ++ moves (edges nfa x) h.front) f.added
         ∙ append_assoc items (moves (edges nfa x) f.front) (moves (edges nfa x) h.front)
         ∙ ap (λ l. items ++ l) (sym (moves-append (edges nfa x) f.front h.front))
 
-    passed_formed : (before : Front) → Formed nfa at met.bits before
+    passed_formed : (before : Frontier) → Formed nfa at met.bits before
         → Formed nfa at n.bits (before ++ (f.front ++ h.front))
     passed_formed before k = rw (← append_assoc before f.front h.front) (h.formed (before ++ f.front)
         (f.formed before k))
 
-    passed_follows : (before : Front) (old : Slots) (work : List Item)
+    passed_follows : (before : Frontier) (old : Slots) (work : List Task)
         → Follows nfa x at met before (ToExplore (s, at) ∷ work_onto at below (ToLoad old ∷ work)) row
         n (before ++ (f.front ++ h.front)) (with_state at (state_on turn) (work_onto at above (ToLoad old ∷ work)))
         then
@@ -192,7 +192,7 @@ module _ {nfa : Automaton} {x : Search} {at s : ℕ} {met : Marks} {items : List
   pub Finds-match : {sid : ℕ} {n : Marks} {j : List (ℕ × Slots)} {above : List FollowEpsilon} {then : Slots}
       {pattern : PatternID}
       → (f : Passed nfa x at s met items below row m i (Some sid) stack now)
-      → (h : Enters nfa x at sid m i stack now (Matched pattern) n j above then)
+      → (h : VisitsState nfa x at sid m i stack now (Matched pattern) n j above then)
       → FindsMatch nfa x at s met items below row (Some pattern) n j above then
   Finds-match {sid} {then = then} f h = record {
     front = f.front ++ h.front;
@@ -207,11 +207,11 @@ module _ {V : Type 0} (nfa : Automaton) (x : Search) (takes : V → PatternID �
   pub record Followed (at s : ℕ) (met : Marks) (items : List (ℕ × Slots)) (row : Slots) (old : V)
       (after : Marks) (kept : List (ℕ × Slots)) (state : Option ℕ) (stack : List FollowEpsilon) (now : Slots) (new : V)
       : Type 0 where
-    pub front : Front
+    pub front : Frontier
     pub added : kept ≡ items ++ moves (edges nfa x) front
     pub takes_all : Takes nfa takes front old false new
-    pub formed : (before : Front) → Formed nfa at met.bits before → Formed nfa at after.bits (before ++ front)
-    pub follows : (before : Front) (old : Slots) (work : List Item)
+    pub formed : (before : Frontier) → Formed nfa at met.bits before → Formed nfa at after.bits (before ++ front)
+    pub follows : (before : Frontier) (old : Slots) (work : List Task)
         → Follows nfa x at met before (ToExplore (s, at) ∷ ToLoad old ∷ work) row
         after (before ++ front) (with_state at state (work_onto at stack (ToLoad old ∷ work))) now
 
@@ -232,7 +232,7 @@ module _ {V : Type 0} {nfa : Automaton} {x : Search} {takes : V → PatternID �
     {m : Marks} {i : List (ℕ × Slots)} {stack : List FollowEpsilon} {now : Slots} {v : V} where
   -- frames are applied
   pub Followed-resumed : (state : Option ℕ) (above : List FollowEpsilon) (then : Slots)
-      → ((front : Front) (work : List Item) → Follows nfa x at m front (work_onto at stack work) now m front
+      → ((front : Frontier) (work : List Task) → Follows nfa x at m front (work_onto at stack work) now m front
       (with_state at state (work_onto at above work)) then)
       → Followed nfa x takes at s met items row old m i None stack now v
       → Followed nfa x takes at s met items row old m i state above then v
@@ -246,10 +246,10 @@ module _ {V : Type 0} {nfa : Automaton} {x : Search} {takes : V → PatternID �
   }
 
   -- all was followed
-  pub Arrives-whole : stack ≡ [] → Followed nfa x takes at s met items row old m i None stack now v
+  pub ClosureGives-whole : stack ≡ [] → Followed nfa x takes at s met items row old m i None stack now v
       → Paid nfa met (length items) [] 1 m (length i) [] 0
-      → Arrives nfa x takes at s met items row old false m i v
-  Arrives-whole empty f paid = record {
+      → ClosureGives nfa x takes at s met items row old false m i v
+  ClosureGives-whole empty f paid = record {
     front = f.front;
     added = f.added;
     takes_all = f.takes_all;
@@ -275,10 +275,10 @@ module _ {V : Type 0} {nfa : Automaton} {x : Search} {takes : V → PatternID �
         ∙ append_assoc items (moves (edges nfa x) f.front) (moves (edges nfa x) h.front)
         ∙ ap (λ l. items ++ l) (sym (moves-append (edges nfa x) f.front h.front))
 
-    formed : (before : Front) → Formed nfa at met.bits before → Formed nfa at n.bits (before ++ (f.front ++ h.front))
+    formed : (before : Frontier) → Formed nfa at met.bits before → Formed nfa at n.bits (before ++ (f.front ++ h.front))
     formed before k = rw (← append_assoc before f.front h.front) (h.formed (before ++ f.front) (f.formed before k))
 
-    follows : (before : Front) (old : Slots) (work : List Item)
+    follows : (before : Frontier) (old : Slots) (work : List Task)
         → Follows nfa x at met before (ToExplore (s, at) ∷ ToLoad old ∷ work) row
         n (before ++ (f.front ++ h.front)) (work_onto at above (ToLoad old ∷ work)) then
     follows before old work = rw (← append_assoc before f.front h.front)
@@ -295,9 +295,9 @@ module _ {V : Type 0} {nfa : Automaton} {x : Search} {takes : V → PatternID �
     }
 
     -- it ends with the match
-    pub Arrives-ended : ended ≡ true → Paid nfa met (length items) [] 1 n (length j) [] 0
-        → Arrives nfa x takes at s met items row old true n j w
-    Arrives-ended stops paid = record {
+    pub ClosureGives-ended : ended ≡ true → Paid nfa met (length items) [] 1 n (length j) [] 0
+        → ClosureGives nfa x takes at s met items row old true n j w
+    ClosureGives-ended stops paid = record {
       front = f.front ++ h.front;
       added = added;
       takes_all = Takes-then f.takes_all (rw stops at t);

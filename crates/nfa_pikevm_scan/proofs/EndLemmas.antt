@@ -11,22 +11,22 @@ use Rattle.regex_search_core.specs.declared.search.MatchKind.TheVariants.{All as
 use Rattle.thompson_nfa.specs.Automaton.{Automaton}
 use Rattle.nfa_paths.specs.Graphs.{Pair}
 use Rattle.nfa_paths.specs.FirstPaths.{IsFirst}
-use Rattle.nfa_paths.specs.Exploring.{Item, Slots, Hit, seeds}
-use Rattle.nfa_paths.specs.Exploring.Item.{Load}
+use Rattle.nfa_paths.specs.Exploring.{Task, Slots, Hit, seeds}
+use Rattle.nfa_paths.specs.Exploring.Task.{Load}
 use Rattle.nfa_paths.specs.Kinds.{is_resting, IsFoundBy, NoneBefore, EndsBefore, Scanning}
 use Rattle.nfa_paths.specs.Restarts.{ScanGives}
 use Rattle.nfa_paths.specs.Paths.{edges, is_match, capture, starts, IsScanAnswer, space}
 use Rattle.nfa_paths.proofs.SearchingLemmas.{Searching-load, Searching-done}
-use Rattle.nfa_paths.proofs.ScanAnswerLemmas.{Scanned-matches, starts-from, EndsBefore-span, IsFoundBy-none, IsFoundBy-some, scan_first-found, scan_last-found}
+use Rattle.nfa_paths.proofs.ScanAnswerLemmas.{Scanned-matches, starts-from, EndsBefore-span, IsFoundBy-none, IsFoundBy-some, scan_first-found, scan_all-found}
 use Rattle.nfa_paths.proofs.ScanLemmas.{IsFoundBy-more, NoneBefore-start, LastBefore-start, EndsBefore-over}
 use Rattle.nfa_paths.proofs.ScanningLemmas.{Scanning-load, Scanning-over}
-use Rattle.nfa_scanning.specs.FirstBytes.{IsFirstBytes}
-use Rattle.nfa_scanning.specs.Marks.{Marks}
-use Rattle.nfa_pikevm_scan.specs.States.{tasks, unmarked, AreMatchPairs, SeenAt, SearchingAt, Crosses}
-use Rattle.nfa_pikevm_scan.specs.Scans.{blank, starts_from, with_start, half_found, IsPassed, Joins, AreStarts, IsSoFar, SearchesFirst, ScansAll}
+use Rattle.nfa_scan_core.specs.FirstBytes.{IsFirstBytes}
+use Rattle.nfa_scan_core.specs.Marks.{Marks}
+use Rattle.nfa_pikevm_scan.specs.States.{tasks, unmarked, AreMatchPairs, SeenAt, SearchingAt, NextsGive}
+use Rattle.nfa_pikevm_scan.specs.Scans.{blank, starts_from, with_start, half_found, IsPassed, AddsStart, AreStarts, IsSoFar, SearchesFirst, ScansAll}
 use Rattle.nfa_pikevm_scan.specs.declared.scan.Starts.{Starts}
 use Rattle.nfa_pikevm_scan.proofs.TaskLemmas.{tasks-joins, tasks-alone, tasks-joined, starts_from-end, AnswersFor, AnswersFor-same, AnswersFor-then, AnswersFor-tasks, AnswersFor-pass, AnswersFor-skip, Searching-for, Searching-seen, Searching-begin}
-use Rattle.nfa_pikevm_scan.proofs.FrontLemmas.{SeenAt-none}
+use Rattle.nfa_pikevm_scan.proofs.FrontierLemmas.{SeenAt-none}
 use Rattle.nfa_pikevm_scan.proofs.RoomLemmas.{over-joined}
 use Rattle.nfa_pikevm_scan.proofs.ScanLemmas.{SearchesFirst-hit}
 use Rattle.nfa_pikevm_scan.proofs.AllLemmas.{HasLast, EndsAt, half-so_far, earliest-first, earliest-last}
@@ -87,7 +87,7 @@ module _ (nfa : Automaton) (x : Search) where
       (tasks at (with_start begins width at items)
       (Load (blank width) ∷ starts_from width begins.state (at + 1) begins.limit)) (blank width)
   ScansAll-joined begins at width {wanted} {met} {items} s =
-      subst (λ (w : List Item). Scanning (space nfa x) wanted (blank width) at
+      subst (λ (w : List Task). Scanning (space nfa x) wanted (blank width) at
       (SeenAt at (unmarked met).bits) met.turns [] w (blank width)) (tasks-joined begins width at items) s.scanning
 
   -- the same by what the join gives
@@ -110,7 +110,7 @@ module _ (nfa : Automaton) (x : Search) where
 
     -- the starts up to a position were passed over, or none was
     skip-work : (at to : ℕ) (items kept : List (ℕ × Slots)) → x.start ≤ at
-        → Joins table x begins limit width at items to kept
+        → AddsStart table x begins limit width at items to kept
         → AnswersFor (space nfa x) (is_match nfa)
         (tasks at items (Load (blank width) ∷ starts_from width begins.state at limit))
         (tasks to items (Load (blank width) ∷ starts_from width begins.state to limit))
@@ -129,20 +129,20 @@ module _ (nfa : Automaton) (x : Search) where
         (AnswersFor-same (space nfa x) (is_match nfa) (blank width) (starts_from width begins.state at limit)))
 
     -- the start joins at the position, or is passed over, or none is left
-    join-work : (at to : ℕ) (items kept : List (ℕ × Slots)) → x.start ≤ at
-        → Joins table x begins limit width at items to kept
+    add_start-work : (at to : ℕ) (items kept : List (ℕ × Slots)) → x.start ≤ at
+        → AddsStart table x begins limit width at items to kept
         → AnswersFor (space nfa x) (is_match nfa)
         (tasks to items (Load (blank width) ∷ starts_from width begins.state to limit))
         (tasks to kept (Load (blank width) ∷ starts_from width begins.state (to + 1) limit))
-    join-work at to items kept low j =
+    add_start-work at to items kept low j =
         let le : at ≤ to = j.ahead in
         let same = AnswersFor-tasks (space nfa x) (is_match nfa) to items
         (AnswersFor-same (space nfa x) (is_match nfa) (blank width) (starts_from width begins.state to limit)) in
-        let to_work : (w : List Item) → tasks to items (Load (blank width) ∷ starts_from width begins.state to limit)
+        let to_work : (w : List Task) → tasks to items (Load (blank width) ∷ starts_from width begins.state to limit)
         ≡ w
         → AnswersFor (space nfa x) (is_match nfa)
         (tasks to items (Load (blank width) ∷ starts_from width begins.state to limit)) w =
-        λ w e. subst (λ (v : List Item). AnswersFor (space nfa x) (is_match nfa)
+        λ w e. subst (λ (v : List Task). AnswersFor (space nfa x) (is_match nfa)
         (tasks to items (Load (blank width) ∷ starts_from width begins.state to limit)) v) e same in
         elim j.last [
           | inl h ↦ rw h.1 (to_work (tasks to (items ++ (begins.state, blank width) ∷ [])
@@ -163,7 +163,7 @@ module _ (nfa : Automaton) (x : Search) where
     -- the first path
     pub SearchesFirst-joins : (at to : ℕ) {items kept : List (ℕ × Slots)} {found : Option HalfMatch} {slots : Slots}
         {met : Marks} → x.start ≤ at
-        → Joins table x begins limit width at items to kept
+        → AddsStart table x begins limit width at items to kept
         → (s : SearchesFirst nfa x at width begins.state limit found slots met items)
         → SearchingAt nfa x to (is_match nfa) (starts nfa x) (blank width) s.so_far (unmarked met) []
         (tasks to kept (Load (blank width) ∷ starts_from width begins.state (to + 1) limit)) (blank width)
@@ -171,7 +171,7 @@ module _ (nfa : Automaton) (x : Search) where
         Searching-seen (space nfa x) (is_match nfa)
         (Searching-for (space nfa x) (is_match nfa) s.searching
         (AnswersFor-then (space nfa x) (is_match nfa) (skip-work at to items kept low j)
-        (join-work at to items kept low j)) (blank width))
+        (add_start-work at to items kept low j)) (blank width))
         (SeenAt to (unmarked met).bits)
         (λ v. (
           λ seen. absurd (SeenAt-none at (length met.bits) v seen),
@@ -235,7 +235,7 @@ module _ (nfa : Automaton) (x : Search) where
       → ScanGives nfa AllMatches false x found slots turns
   last-over at width found slots turns h ends size =
       Scans-so_far AllMatches false width turns found slots h.so_far h.is_so_far
-      (scan_last-found nfa x (blank width) h.last ends) size
+      (scan_all-found nfa x (blank width) h.last ends) size
 
   -- every path ends within the span
   pub ends-at : (at : ℕ) → at ≡ x.end + 1 → EndsBefore (space nfa x) (is_match nfa) at
@@ -244,7 +244,7 @@ module _ (nfa : Automaton) (x : Search) where
   -- a position with a match, of the search for the first path
   pub SearchesFirst-some : (at width state limit : ℕ) {met : Marks} {items : List (ℕ × Slots)} {slots : Slots}
       {hit : Option PatternID} {after : Marks} {kept : List (ℕ × Slots)} {written : Slots} {so_far : Hit}
-      → Crosses nfa x at false met items slots hit after kept written
+      → NextsGive nfa x at false met items slots hit after kept written
       → SearchingAt nfa x at (is_match nfa) (starts nfa x) (blank width) so_far (unmarked met) []
       (tasks at items (Load (blank width) ∷ starts_from width state (at + 1) limit)) (blank width)
       → (half : Option HalfMatch) → EndsAt at hit half → is_some half ≡ true
@@ -259,7 +259,7 @@ module _ (nfa : Automaton) (x : Search) where
   -- the first position with a match
   pub earliest-over : (at width state limit : ℕ) (past : Bool) {met : Marks} {items : List (ℕ × Slots)} {slots : Slots}
       {hit : Option PatternID} {after : Marks} {kept : List (ℕ × Slots)} {written : Slots}
-      → Crosses nfa x at past met items slots hit after kept written
+      → NextsGive nfa x at past met items slots hit after kept written
       → Scanning (space nfa x) (is_match nfa) (blank width) at (SeenAt at (unmarked met).bits) met.turns []
       (tasks at items (Load (blank width) ∷ starts_from width state (at + 1) limit)) (blank width)
       → NoneBefore (space nfa x) (is_match nfa) at → (half : Option HalfMatch) → EndsAt at hit half

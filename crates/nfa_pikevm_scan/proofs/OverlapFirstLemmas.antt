@@ -9,11 +9,11 @@ use Rattle.regex_search_core.specs.declared.search.MatchKind.TheVariants.{Leftmo
 use Rattle.thompson_nfa.specs.Automaton.{Automaton, IsAutomaton}
 use Rattle.nfa_paths.specs.Graphs.{Pair, In}
 use Rattle.nfa_paths.specs.Paths.{edges, starts, pairs_from, space}
-use Rattle.nfa_paths.specs.Exploring.{Slots, Hit, Item, round, seeds, ExploresTo, ExploresBehind}
-use Rattle.nfa_paths.specs.Exploring.Item.{Explore as ToExplore, Load as ToLoad}
+use Rattle.nfa_paths.specs.Exploring.{Slots, Hit, Task, next_tasks, seeds, ExploresTo, ExploresAfter}
+use Rattle.nfa_paths.specs.Exploring.Task.{Explore as ToExplore, Load as ToLoad}
 use Rattle.nfa_paths.specs.Kinds.{before_match, first_match, is_resting}
-use Rattle.nfa_paths.specs.Overlaps.{IsHeld, IsOverlapResult, pattern_at}
-use Rattle.nfa_paths.proofs.FrontMatchLemmas.{first_match-is, before_match-among}
+use Rattle.nfa_paths.specs.Overlaps.{IsInsertable, IsOverlapResult, pattern_at}
+use Rattle.nfa_paths.proofs.FrontierMatchLemmas.{first_match-is, before_match-among}
 use Rattle.nfa_paths.proofs.StartLemmas.{pairs_from-step, pairs_from-end}
 use Rattle.nfa_paths.proofs.SoundLemmas.{heads, Sound, Sound-start, Sound-hit, Sound-round, Sound-cut, Searched}
 use Rattle.nfa_paths.proofs.MetLemmas.{Between, Between-all, Between-before, Between-less, Between-same}
@@ -24,14 +24,14 @@ use Rattle.nfa_paths.proofs.FullLemmas.{UpTo-full}
 use Rattle.nfa_paths.proofs.SetLemmas.{first-gains}
 use Rattle.nfa_paths.proofs.ScanAnswerLemmas.{edges-onward, seeds-later}
 use Rattle.nfa_paths.proofs.SearchingLemmas.{Searching-load, Searching-done}
-use Rattle.nfa_scanning.specs.Marks.{Marks}
-use Rattle.nfa_pikevm_scan.specs.Scans.{starts_from, with_start, AreStarts, AreAt, IsPaidAt, scan_turns}
-use Rattle.nfa_pikevm_scan.specs.States.{Front, moves, tasks, unmarked, SeenAt, SearchingAt}
-use Rattle.nfa_pikevm_scan.specs.Overlapping.{wants, Gathers, GathersFirst, GoesPast, CrossesInSet}
+use Rattle.nfa_scan_core.specs.Marks.{Marks}
+use Rattle.nfa_pikevm_scan.specs.Scans.{starts_from, with_start, AreStarts, AreAt, IsPaidAt, max_scan_turns}
+use Rattle.nfa_pikevm_scan.specs.States.{Frontier, moves, tasks, unmarked, SeenAt, SearchingAt}
+use Rattle.nfa_pikevm_scan.specs.Overlapping.{wants, AddsPatterns, AddsFirstPattern, GoesPast, NextsOverlappingGive}
 use Rattle.nfa_pikevm_scan.specs.declared.scan.Starts.{Starts}
 use Rattle.nfa_pikevm_scan.proofs.RoomLemmas.{AreAt-none, few-joined, over-joined}
 use Rattle.nfa_pikevm_scan.proofs.TaskLemmas.{starts_from-end, tasks-joined, Searching-begin}
-use Rattle.nfa_pikevm_scan.proofs.FrontLemmas.{Formed-resting, Formed-next, SeenAt-none, IsPaidAt-end}
+use Rattle.nfa_pikevm_scan.proofs.FrontierLemmas.{Formed-resting, Formed-next, SeenAt-none, IsPaidAt-end}
 use Rattle.nfa_pikevm_scan.proofs.ScanLemmas.{Crossed, set-crossed, AreAt-cross, IsPaidAt-crossed, first-miss, first-hit}
 use Rattle.nfa_pikevm_scan.proofs.EndLemmas.{SearchingAt-begin}
 use Rattle.nfa_pikevm_scan.proofs.OverlapSetLemmas.{wants-tells, wants-match}
@@ -81,12 +81,12 @@ heads-seeds slots [] = refl
 heads-seeds slots (v ∷ later) = ap (λ l. v ∷ l) (heads-seeds slots later)
 
 -- what was put aside, as the states of the next position
-heads-round : (edges : Pair → List Pair) (at : ℕ) (front : Front) (old : Slots) (waiting : List Item)
+heads-round : (edges : Pair → List Pair) (at : ℕ) (front : Frontier) (old : Slots) (waiting : List Task)
     (later : List Pair)
     → ((a : Pair × Slots) → In a front → (edges a.0 ≡ []) ⊎ ((t : ℕ) × (edges a.0 ≡ (t, at + 1) ∷ [])))
     → heads waiting ≡ later
-    → heads (round edges front (ToLoad old ∷ waiting)) ≡ pairs_at (at + 1) (moves edges front) later
-unfolding heads pairs_at round
+    → heads (next_tasks edges front (ToLoad old ∷ waiting)) ≡ pairs_at (at + 1) (moves edges front) later
+unfolding heads pairs_at next_tasks
 heads-round edges at [] old waiting later one e = e
 heads-round edges at (a ∷ front) old waiting later one e =
     let rest = heads-round edges at front old waiting later (λ b i. one b (inr i)) e in
@@ -103,7 +103,7 @@ fresh-search nfa x target at met from =
     (SeenAt-none at (length met.bits))
 
 -- the states at a position, and what is left after them, are at this position or after it
-tasks-ahead : (at : ℕ) (items : List (ℕ × Slots)) (waiting : List Item)
+tasks-ahead : (at : ℕ) (items : List (ℕ × Slots)) (waiting : List Task)
     → ((k : Pair) → In (ToExplore k) waiting → at ≤ k.1)
     → (k : Pair) → In (ToExplore k) (tasks at items (ToLoad [] ∷ waiting)) → at ≤ k.1
 tasks-ahead at [] waiting later k i = elim i [ inl e ↦ cc | inr j ↦ later k j ]
@@ -128,7 +128,7 @@ module _ (nfa : Automaton) (x : Search) (old : List Bool) where
   abbrev pub wanted : Pair → Bool
   wanted = wants nfa x (length old)
 
-  abbrev pub tells : (v : Pair) → (wanted v ≡ true) ↔ IsHeld nfa x (length old) v
+  abbrev pub tells : (v : Pair) → (wanted v ≡ true) ↔ IsInsertable nfa x (length old) v
   tells = wants-tells nfa x (length old)
 
   -- what the scan keeps at a position: the match that was found, what it put into the set, and what is left to do
@@ -181,12 +181,12 @@ module _ (nfa : Automaton) (x : Search) (old : List Bool) where
       (tasks-joined from 0 at items) (w.searching target b)
 
   -- what is left is at the position or after it, so the search for an earlier match is complete
-  best-ahead : {at : ℕ} {met : Marks} (items : List (ℕ × Slots)) (waiting : List Item) (so_far : Hit)
+  best-ahead : {at : ℕ} {met : Marks} (items : List (ℕ × Slots)) (waiting : List Task) (so_far : Hit)
       → ((k : Pair) → In (ToExplore k) waiting → at ≤ k.1)
       → ((target : Pair → Bool) → Between wanted at target → SearchingAt nfa x at target (starts nfa x) [] so_far met []
       (tasks at items (ToLoad [] ∷ waiting)) [])
       → Best nfa x old wanted tells at so_far
-  unfolding ExploresBehind
+  unfolding ExploresAfter
   best-ahead {at} {met} items waiting so_far later searching =
       let before = before_target wanted at in
       let s = searching before (Between-before wanted at at (omega arith)) in
@@ -237,14 +237,15 @@ module _ (nfa : Automaton) (x : Search) (old : List Bool) where
   -- the turns after a position of the span
   pub FirstWay-turns : {from : Starts} {at before : ℕ} {met : Marks} {items : List (ℕ × Slots)} {new : List Bool}
       → x.start ≤ x.end → at ≤ x.end + 1 → FirstWay from at before met items new
-      → met.turns ≤ before + scan_turns nfa x
+      → met.turns ≤ before + max_scan_turns nfa x
   FirstWay-turns {at = at} {before} {met} {items} span within w =
       IsPaidAt-end nfa x at before met.turns (length items) within span w.paid
 
   module _ {from : Starts} {at before : ℕ} {met : Marks} {items : List (ℕ × Slots)} {mid : List Bool} {hit : Bool}
       {after : Marks} {kept : List (ℕ × Slots)} {new : List Bool}
       (good : IsAutomaton nfa) (low : x.start ≤ at) (w : FirstWay from at before met items mid)
-      (c : CrossesInSet nfa x at false (length old) met (with_start from 0 at items) mid hit after kept new) where
+      (c : NextsOverlappingGive nfa x at false (length old) met (with_start from 0 at items) mid hit after
+      kept new) where
     crossed : Crossed nfa x at 0 from.state from.limit met (with_start from 0 at items) (GoesPast false hit) after kept
         c.front
     crossed = set-crossed from.state from.limit c
@@ -310,7 +311,7 @@ module _ (nfa : Automaton) (x : Search) (old : List Bool) where
     -- the set has room for the pattern of a match that is wanted
     has_room : (a : Pair × Slots) (k : ℕ) → wanted a.0 ≡ true → pattern_at nfa a.0 ≡ Some k → k < length mid
     has_room a k wants_it is =
-        let held : IsHeld nfa x (length old) a.0 = (tells a.0).0 wants_it in
+        let held : IsInsertable nfa x (length old) a.0 = (tells a.0).0 wants_it in
         let same : held.pattern ≡ k = same_number held.pattern k (sym held.pattern_is ∙ is) in
         let below : held.pattern < length old = held.below in
         let size : length mid ≡ length old = FirstWay-capacity w in
@@ -319,9 +320,9 @@ module _ (nfa : Automaton) (x : Search) (old : List Bool) where
     -- no match: the set stays
     pub set-stays : hit ≡ false → new ≡ mid
     set-stays off =
-        of (first_match wanted c.front) (subst (λ h. Gathers nfa false wanted c.front mid h new) off c.gathers)
+        of (first_match wanted c.front) (subst (λ h. AddsPatterns nfa false wanted c.front mid h new) off c.gathers)
       where
-        of : (g : Hit) → GathersFirst nfa g mid false new → new ≡ mid
+        of : (g : Hit) → AddsFirstPattern nfa g mid false new → new ≡ mid
         of None still = still.1
         of (Some a) put = let never : false ≡ true = put.0 in cc
 
@@ -332,8 +333,8 @@ module _ (nfa : Automaton) (x : Search) (old : List Bool) where
         crossed.leads.whole (inr off) in
         elim (first_match-is wanted c.front) [
           | inl lacks ↦
-              let still : GathersFirst nfa None mid false new =
-              rw lacks.0 at (subst (λ h. Gathers nfa false wanted c.front mid h new)
+              let still : AddsFirstPattern nfa None mid false new =
+              rw lacks.0 at (subst (λ h. AddsPatterns nfa false wanted c.front mid h new)
               off c.gathers) in
               let searched = subst (λ z. Searched nfa x old wanted tells
               at (pairs_at at items (pairs_from from.state at (from.limit - at))) c.front z crossed.leads.written) whole
@@ -358,8 +359,8 @@ module _ (nfa : Automaton) (x : Search) (old : List Bool) where
                     (next-searching off lacks.0)) w.exact);
               }
           | inr has ↦
-              let put : GathersFirst nfa (Some has.0) mid false new =
-              rw has.1 at (subst (λ h. Gathers nfa false wanted c.front mid h new)
+              let put : AddsFirstPattern nfa (Some has.0) mid false new =
+              rw has.1 at (subst (λ h. AddsPatterns nfa false wanted c.front mid h new)
               off c.gathers) in
               let never : false ≡ true = put.0 in cc
         ]
@@ -371,12 +372,12 @@ module _ (nfa : Automaton) (x : Search) (old : List Bool) where
     FirstWay-cut empty on =
         elim (first_match-is wanted c.front) [
           | inl lacks ↦
-              let still : GathersFirst nfa None mid true new =
-              rw lacks.0 at (subst (λ h. Gathers nfa false wanted c.front mid h new) on c.gathers) in
+              let still : AddsFirstPattern nfa None mid true new =
+              rw lacks.0 at (subst (λ h. AddsPatterns nfa false wanted c.front mid h new) on c.gathers) in
               let never : true ≡ false = still.0 in cc
           | inr has ↦
-              let put : GathersFirst nfa (Some has.0) mid true new =
-              rw has.1 at (subst (λ h. Gathers nfa false wanted c.front mid h new) on c.gathers)
+              let put : AddsFirstPattern nfa (Some has.0) mid true new =
+              rw has.1 at (subst (λ h. AddsPatterns nfa false wanted c.front mid h new) on c.gathers)
               in
               let moved : kept ≡ moves (edges nfa x) (before_match wanted c.front) = c.added
               ∙ sym (c.cut refl) in

@@ -10,21 +10,21 @@ use Rattle.thompson_nfa.specs.Automaton.{Automaton, IsAutomaton}
 use Rattle.nfa_paths.specs.Graphs.{Pair}
 use Rattle.nfa_paths.specs.Paths.{space}
 use Rattle.nfa_paths.specs.Exploring.{Slots}
-use Rattle.nfa_paths.specs.Kinds.{is_resting, NoneBefore, EndsBefore, IsFront}
-use Rattle.nfa_paths.specs.Overlaps.{HoldsPattern, IsHeld, IsOverlapResult}
+use Rattle.nfa_paths.specs.Kinds.{is_resting, NoneBefore, EndsBefore, IsFrontier}
+use Rattle.nfa_paths.specs.Overlaps.{HoldsPattern, IsInsertable, IsOverlapResult}
 use Rattle.nfa_paths.proofs.ScanAnswerLemmas.{EndsBefore-span, starts-from}
-use Rattle.nfa_paths.proofs.FrontMatchLemmas.{first_match-is}
+use Rattle.nfa_paths.proofs.FrontierMatchLemmas.{first_match-is}
 use Rattle.nfa_paths.proofs.ScanLemmas.{NoneBefore-start, NoneBefore-step, NoneBefore-end}
 use Rattle.nfa_paths.proofs.SetLemmas.{full-gains, first-gains}
 use Rattle.nfa_paths.proofs.GainLemmas.{wanted-shape, GainsBefore, GainsBefore-start, GainsBefore-step, GainsBefore-end, GainsBefore-full, NoneHeld, NoneHeld-start, NoneHeld-step, NoneHeld-found, NoneHeld-end}
 use Rattle.nfa_paths.proofs.SoundLemmas.{FirstAt-front}
 use Rattle.nfa_paths.proofs.UpToLemmas.{FirstAt-found, First-none}
-use Rattle.nfa_scanning.specs.Marks.{Marks}
-use Rattle.nfa_pikevm_scan.specs.Scans.{with_start, AreStarts, AreAt, IsPaidAt, ScansAll, scan_turns}
-use Rattle.nfa_pikevm_scan.specs.Overlapping.{wants, Gathers, GathersAll, GathersFirst, GoesPast, CrossesInSet}
+use Rattle.nfa_scan_core.specs.Marks.{Marks}
+use Rattle.nfa_pikevm_scan.specs.Scans.{with_start, AreStarts, AreAt, IsPaidAt, ScansAll, max_scan_turns}
+use Rattle.nfa_pikevm_scan.specs.Overlapping.{wants, AddsPatterns, AddsAllPatterns, AddsFirstPattern, GoesPast, NextsOverlappingGive}
 use Rattle.nfa_pikevm_scan.specs.declared.scan.Starts.{Starts}
 use Rattle.nfa_pikevm_scan.proofs.RoomLemmas.{AreAt-none, few-joined}
-use Rattle.nfa_pikevm_scan.proofs.FrontLemmas.{Formed-resting, IsPaidAt-end}
+use Rattle.nfa_pikevm_scan.proofs.FrontierLemmas.{Formed-resting, IsPaidAt-end}
 use Rattle.nfa_pikevm_scan.proofs.ScanLemmas.{set-crossed, AreAt-cross, IsPaidAt-crossed}
 use Rattle.nfa_pikevm_scan.proofs.AllLemmas.{all-left, all-front, ScansAll-next}
 use Rattle.nfa_pikevm_scan.proofs.EndLemmas.{ScansAll-begin, ScansAll-joined, ScansAll-over}
@@ -47,7 +47,7 @@ module _ (nfa : Automaton) (x : Search) (old : List Bool) where
   abbrev pub wanted : Pair → Bool
   wanted = wants nfa x (length old)
 
-  abbrev pub tells : (v : Pair) → (wanted v ≡ true) ↔ IsHeld nfa x (length old) v
+  abbrev pub tells : (v : Pair) → (wanted v ≡ true) ↔ IsInsertable nfa x (length old) v
   tells = wants-tells nfa x (length old)
 
   -- the states and the turns at a position
@@ -68,7 +68,7 @@ module _ (nfa : Automaton) (x : Search) (old : List Bool) where
   pub Stands-next : {from : Starts} {at before : ℕ} {past : Bool} {met : Marks} {items : List (ℕ × Slots)}
       {set : List Bool} {hit : Bool} {after : Marks} {kept : List (ℕ × Slots)} {new : List Bool}
       → IsAutomaton nfa → x.start ≤ at → Stands from at before met items
-      → CrossesInSet nfa x at past (length old) met (with_start from 0 at items) set hit after kept new
+      → NextsOverlappingGive nfa x at past (length old) met (with_start from 0 at items) set hit after kept new
       → GoesPast past hit
       → Stands from (at + 1) before after kept
   Stands-next {from} {at} {items = items} good low s c goes =
@@ -83,8 +83,8 @@ module _ (nfa : Automaton) (x : Search) (old : List Bool) where
   pub Stands-turns : {from : Starts} {at before : ℕ} {past : Bool} {met : Marks} {items : List (ℕ × Slots)}
       {set : List Bool} {hit : Bool} {after : Marks} {kept : List (ℕ × Slots)} {new : List Bool}
       → x.start ≤ at → at ≤ x.end → Stands from at before met items
-      → CrossesInSet nfa x at past (length old) met (with_start from 0 at items) set hit after kept new
-      → after.turns ≤ before + scan_turns nfa x
+      → NextsOverlappingGive nfa x at past (length old) met (with_start from 0 at items) set hit after kept new
+      → after.turns ≤ before + max_scan_turns nfa x
   Stands-turns {from} {at} {before} {items = items} {after = after} {kept} low high s c =
       IsPaidAt-end nfa x (at + 1) before after.turns (length kept) (omega arith) (omega arith)
       (IsPaidAt-crossed (set-crossed from.state from.limit c) low s.paid (few-joined from 0 at items))
@@ -92,9 +92,10 @@ module _ (nfa : Automaton) (x : Search) (old : List Bool) where
   -- the front of a position that was followed whole
   stands-front : {from : Starts} {at before : ℕ} {past : Bool} {met : Marks} {items : List (ℕ × Slots)}
       {set : List Bool} {hit : Bool} {after : Marks} {kept : List (ℕ × Slots)} {new : List Bool}
-      → Stands from at before met items → (c : CrossesInSet nfa x at past (length old) met (with_start from 0 at items)
+      → Stands from at before met items → (c : NextsOverlappingGive nfa x at past (length old) met
+      (with_start from 0 at items)
       set hit after kept new) → GoesPast past hit
-      → IsFront (space nfa x) (is_resting nfa) wanted [] after.turns c.front at
+      → IsFrontier (space nfa x) (is_resting nfa) wanted [] after.turns c.front at
   stands-front {from} {at} s c goes =
       all-front wanted (wants-match nfa x (length old)) (set-crossed from.state from.limit c)
       (ScansAll-joined nfa x from at 0 s.scans) goes
@@ -109,7 +110,7 @@ module _ (nfa : Automaton) (x : Search) (old : List Bool) where
   pub All-next : {from : Starts} {at before : ℕ} {met : Marks} {items : List (ℕ × Slots)} {mid : List Bool} {hit : Bool}
       {after : Marks} {kept : List (ℕ × Slots)} {new : List Bool}
       → IsAutomaton nfa → x.start ≤ at → AllAt from at before met items mid
-      → CrossesInSet nfa x at true (length old) met (with_start from 0 at items) mid hit after kept new
+      → NextsOverlappingGive nfa x at true (length old) met (with_start from 0 at items) mid hit after kept new
       → AllAt from (at + 1) before after kept new
   All-next good low a c = record {
     stands = Stands-next good low a.stands c (inl refl);
@@ -161,8 +162,8 @@ module _ (nfa : Automaton) (x : Search) (old : List Bool) where
 
   -- what was not met at a position
   unmet : (past : Bool) {at : ℕ} {front : List (Pair × Slots)} {turns : ℕ} (new : List Bool) → NoneMet past at
-      → IsFront (space nfa x) (is_resting nfa) wanted [] turns front at
-      → Gathers nfa past wanted front old false new
+      → IsFrontier (space nfa x) (is_resting nfa) wanted [] turns front at
+      → AddsPatterns nfa past wanted front old false new
       → (new ≡ old) × NoneMet past (at + 1)
   unmet true new none f g = (
     sets-same old new g.capacity (λ k. (
@@ -177,12 +178,12 @@ module _ (nfa : Automaton) (x : Search) (old : List Bool) where
   unmet false {at} {front} new none f g =
       elim (first_match-is wanted front) [
         | inl lacks ↦
-            let still : GathersFirst nfa None old false new = rw lacks.0 at g in (
+            let still : AddsFirstPattern nfa None old false new = rw lacks.0 at g in (
               still.1,
               NoneBefore-step (space nfa x) (is_resting nfa) wanted []
                   (wanted-shape nfa x old wanted tells) none f lacks.1,
             )
-        | inr has ↦ let met : GathersFirst nfa (Some has.0) old false new = rw has.1 at g in
+        | inr has ↦ let met : AddsFirstPattern nfa (Some has.0) old false new = rw has.1 at g in
             let never : false ≡ true = met.0 in cc
       ]
 
@@ -190,13 +191,14 @@ module _ (nfa : Automaton) (x : Search) (old : List Bool) where
       {mid : List Bool} {hit : Bool} {after : Marks}
       {kept : List (ℕ × Slots)} {new : List Bool}
       → IsAutomaton nfa → x.start ≤ at → EarliestAt past from at before met items mid
-      → CrossesInSet nfa x at past (length old) met (with_start from 0 at items) mid hit after kept new → hit ≡ false
+      → NextsOverlappingGive nfa x at past (length old) met (with_start from 0 at items) mid hit after kept new
+      → hit ≡ false
       → EarliestAt past from (at + 1) before after kept new
   Earliest-next past {at = at} {mid = mid} {hit = hit} {new = new} good low a c off =
       let f = stands-front a.stands c (inr off) in
-      let g : Gathers nfa past wanted c.front old false new =
-      subst (λ s. Gathers nfa past wanted c.front s false new) a.still
-      (subst (λ h. Gathers nfa past wanted c.front mid h new) off c.gathers) in
+      let g : AddsPatterns nfa past wanted c.front old false new =
+      subst (λ s. AddsPatterns nfa past wanted c.front s false new) a.still
+      (subst (λ h. AddsPatterns nfa past wanted c.front mid h new) off c.gathers) in
       let u = unmet past new a.none f g in
       record { stands = Stands-next good low a.stands c (inr off); still = u.0; none = u.1 }
 
@@ -204,24 +206,25 @@ module _ (nfa : Automaton) (x : Search) (old : List Bool) where
       {mid : List Bool} {hit : Bool} {after : Marks}
       {kept : List (ℕ × Slots)} {new : List Bool}
       → IsAutomaton nfa → (past ≡ false → size_of_set old ≡ 0) → EarliestAt past from at before met items mid
-      → CrossesInSet nfa x at past (length old) met (with_start from 0 at items) mid hit after kept new → hit ≡ true
+      → NextsOverlappingGive nfa x at past (length old) met (with_start from 0 at items) mid hit after kept new
+      → hit ≡ true
       → IsOverlapResult nfa x (cond past AllMatches LeftmostFirst) true old new
   Earliest-found true {mid = mid} {new = new} good empty a c on =
       let f = stands-front a.stands c (inl refl) in
-      let g : GathersAll nfa wanted c.front old true new =
-      subst (λ s. GathersAll nfa wanted c.front s true new) a.still
-      (subst (λ h. GathersAll nfa wanted c.front mid h new) on c.gathers) in
+      let g : AddsAllPatterns nfa wanted c.front old true new =
+      subst (λ s. AddsAllPatterns nfa wanted c.front s true new) a.still
+      (subst (λ h. AddsAllPatterns nfa wanted c.front mid h new) on c.gathers) in
       let held = g.some refl in
       NoneHeld-found nfa x old wanted tells f a.none held.0 held.1 held.2 g.capacity g.gained
   Earliest-found false {from} {at} {before} {met} {items} {mid} {hit} {after} {kept} {new} good empty a c on =
-      let g : Gathers nfa false wanted c.front old true new =
-      subst (λ s. Gathers nfa false wanted c.front s true new) a.still
-      (subst (λ h. Gathers nfa false wanted c.front mid h new) on c.gathers) in
+      let g : AddsPatterns nfa false wanted c.front old true new =
+      subst (λ s. AddsPatterns nfa false wanted c.front s true new) a.still
+      (subst (λ h. AddsPatterns nfa false wanted c.front mid h new) on c.gathers) in
       elim (first_match-is wanted c.front) [
-        | inl lacks ↦ let still : GathersFirst nfa None old true new = rw lacks.0 at g in
+        | inl lacks ↦ let still : AddsFirstPattern nfa None old true new = rw lacks.0 at g in
             let never : true ≡ false = still.0 in cc
         | inr has ↦
-            let put : GathersFirst nfa (Some has.0) old true new = rw has.1 at g in
+            let put : AddsFirstPattern nfa (Some has.0) old true new = rw has.1 at g in
             let s = all-left wanted (wants-match nfa x (length old))
             (set-crossed from.state from.limit c) (ScansAll-joined nfa x from at 0 a.stands.scans) in
             let first = FirstAt-front nfa x old wanted tells s
@@ -246,12 +249,12 @@ pub crosses-joined : {nfa : Automaton} {x : Search} {at : ℕ} {past : Bool} {m 
     {items1 : List (ℕ × Slots)} {set : List Bool} {hit : Bool} {after : Marks} {kept : List (ℕ × Slots)}
     {new : List Bool}
     (n : ℕ) (met : Marks) (items : List (ℕ × Slots)) → m ≡ n → met1 ≡ met → items1 ≡ items
-    → CrossesInSet nfa x at past m met1 items1 set hit after kept new
-    → CrossesInSet nfa x at past n met items set hit after kept new
+    → NextsOverlappingGive nfa x at past m met1 items1 set hit after kept new
+    → NextsOverlappingGive nfa x at past n met items set hit after kept new
 crosses-joined {nfa} {x} {at} {past} {m} {met1} {items1} {set} {hit} {after} {kept} {new} n met items size same i c =
-    subst (λ j. CrossesInSet nfa x at past n met j set hit after kept new) i
-    (subst (λ o. CrossesInSet nfa x at past n o items1 set hit after kept new) same
-    (subst (λ k. CrossesInSet nfa x at past k met1 items1 set hit after kept new) size c))
+    subst (λ j. NextsOverlappingGive nfa x at past n met j set hit after kept new) i
+    (subst (λ o. NextsOverlappingGive nfa x at past n o items1 set hit after kept new) same
+    (subst (λ k. NextsOverlappingGive nfa x at past k met1 items1 set hit after kept new) size c))
 
 pub All-start : (nfa : Automaton) (x : Search) (from : Starts) → AreStarts nfa x from
     → (met : Marks) (items : List (ℕ × Slots)) (set : List Bool) → items ≡ []

@@ -11,11 +11,11 @@ use Rattle.nfa_paths.specs.Graphs.{Pair}
 use Rattle.nfa_paths.specs.Paths.{node_at, pattern_of, is_match, is_utf8_empty}
 use Rattle.nfa_paths.specs.Exploring.{Slots, Hit}
 use Rattle.nfa_paths.specs.Kinds.{HoldsMatch, NoMatch, first_match}
-use Rattle.nfa_paths.specs.Overlaps.{pattern_at, IsPermittedEnd, IsHeld}
+use Rattle.nfa_paths.specs.Overlaps.{pattern_at, IsPermittedEnd, IsInsertable}
 use Rattle.nfa_paths.proofs.MemberLemmas.{In-append_left, In-append_right, In-append}
 use Rattle.nfa_paths.proofs.SetLemmas.{holds-with, length-with}
-use Rattle.nfa_pikevm_scan.specs.States.{Front}
-use Rattle.nfa_pikevm_scan.specs.Overlapping.{is_boundary, permits, is_below, wants, GathersFirst, Gathers}
+use Rattle.nfa_pikevm_scan.specs.States.{Frontier}
+use Rattle.nfa_pikevm_scan.specs.Overlapping.{is_boundary, permits, is_below, wants, AddsFirstPattern, AddsPatterns}
 
 -- whether a position is a boundary
 boundary-to : (haystack : List ℕ) (i : ℕ) → is_boundary haystack i ≡ true → IsBoundary haystack i
@@ -50,7 +50,7 @@ module _ (nfa : Automaton) (x : Search) where
 
   module _ (n : ℕ) where
     -- the test of a pair
-    pub wants-tells : (v : Pair) → (wants nfa x n v ≡ true) ↔ IsHeld nfa x n v
+    pub wants-tells : (v : Pair) → (wants nfa x n v ≡ true) ↔ IsInsertable nfa x n v
     unfolding wants
     wants-tells v = (
       λ t. let both = parts (permits nfa x v.1) (is_below n (pattern_at nfa v)) t in
@@ -66,7 +66,8 @@ module _ (nfa : Automaton) (x : Search) where
         parts true c t = (refl, t)
         parts false c t = cc
 
-        of : (o : Option ℕ) → pattern_at nfa v ≡ o → IsPermittedEnd nfa x v.1 → is_below n o ≡ true → IsHeld nfa x n v
+        of : (o : Option ℕ) → pattern_at nfa v ≡ o → IsPermittedEnd nfa x v.1 → is_below n o ≡ true
+            → IsInsertable nfa x n v
         of None e ends t = cc
         of (Some k) e ends t = record {
           permitted = record { matches = rw e refl; ends = ends };
@@ -91,17 +92,17 @@ module _ (nfa : Automaton) (x : Search) where
 
 module _ (nfa : Automaton) (wanted : Pair → Bool) where
   -- no wanted pair: the set stays
-  pub Gathers-none : (past : Bool) (front : Front) (set : List Bool) → NoMatch wanted front
-      → Gathers nfa past wanted front set false set
-  Gathers-none true front set plain = record {
+  pub AddsPatterns-none : (past : Bool) (front : Frontier) (set : List Bool) → NoMatch wanted front
+      → AddsPatterns nfa past wanted front set false set
+  AddsPatterns-none true front set plain = record {
     capacity = refl;
     gained = λ k. (λ h. inl h, λ s. elim s [ inl h ↦ h | inr h ↦ absurd (plain h.1.item h.1.among h.1.matches) ]);
     some = λ never. cc;
     none = λ off k below h. plain h.item h.among h.matches;
   }
-  Gathers-none false front set plain = of front plain
+  AddsPatterns-none false front set plain = of front plain
     where
-      of : (front : Front) → NoMatch wanted front → Gathers nfa false wanted front set false set
+      of : (front : Frontier) → NoMatch wanted front → AddsPatterns nfa false wanted front set false set
       of [] plain = (refl, refl)
       of (a ∷ front) plain =
           elim (cases_Bool (wanted a.0)) [
@@ -110,10 +111,10 @@ module _ (nfa : Automaton) (wanted : Pair → Bool) where
           ]
 
   -- one wanted pair, of a pattern that the set has room for
-  pub Gathers-one : (past : Bool) (a : Pair × Slots) (k : ℕ) (set : List Bool) → wanted a.0 ≡ true
+  pub AddsPatterns-one : (past : Bool) (a : Pair × Slots) (k : ℕ) (set : List Bool) → wanted a.0 ≡ true
       → pattern_at nfa a.0 ≡ Some k → k < length set
-      → Gathers nfa past wanted (a ∷ []) set true (with_pattern set k)
-  Gathers-one true a k set t is room = record {
+      → AddsPatterns nfa past wanted (a ∷ []) set true (with_pattern set k)
+  AddsPatterns-one true a k set t is room = record {
     capacity = length-with set k;
     gained = λ j. (
       λ h. elim ((holds-with set k j).0 h) [ inl o ↦ inl o | inr b ↦ inr (b.0, rw (← b.1) here) ],
@@ -133,10 +134,10 @@ module _ (nfa : Automaton) (wanted : Pair → Bool) where
                 sym is ∙ at in cc
             | inr never ↦ absurd never
           ]
-  Gathers-one false a k set t is room = rw t (refl, (k, is, refl))
+  AddsPatterns-one false a k set t is room = rw t (refl, (k, is, refl))
 
   -- if none is wanted in the first front, the first of both is that of the second
-  first-append : (f g : Front) → first_match wanted f ≡ None → first_match wanted (f ++ g) ≡ first_match wanted g
+  first-append : (f g : Frontier) → first_match wanted f ≡ None → first_match wanted (f ++ g) ≡ first_match wanted g
   first-append [] g none = refl
   first-append (a ∷ f) g none =
       elim (cases_Bool (wanted a.0)) [
@@ -145,19 +146,20 @@ module _ (nfa : Automaton) (wanted : Pair → Bool) where
       ]
 
   -- what was met in no front
-  first-none : (front : Front) (set new : List Bool) → Gathers nfa false wanted front set false new
+  first-none : (front : Frontier) (set new : List Bool) → AddsPatterns nfa false wanted front set false new
       → first_match wanted front ≡ None
   first-none front set new = of (first_match wanted front)
     where
-      of : (o : Hit) → GathersFirst nfa o set false new → o ≡ None
+      of : (o : Hit) → AddsFirstPattern nfa o set false new → o ≡ None
       of None h = refl
       of (Some a) h = let never : false ≡ true = h.0 in cc
 
   -- one front after another
-  pub Gathers-then : (past : Bool) (f g : Front) (old mid new : List Bool) (h k : Bool) → (past ≡ false → h ≡ false)
-      → Gathers nfa past wanted f old h mid → Gathers nfa past wanted g mid k new
-      → Gathers nfa past wanted (f ++ g) old (k || h) new
-  Gathers-then true f g old mid new h k on a b = record {
+  pub AddsPatterns-then : (past : Bool) (f g : Frontier) (old mid new : List Bool) (h k : Bool)
+      → (past ≡ false → h ≡ false)
+      → AddsPatterns nfa past wanted f old h mid → AddsPatterns nfa past wanted g mid k new
+      → AddsPatterns nfa past wanted (f ++ g) old (k || h) new
+  AddsPatterns-then true f g old mid new h k on a b = record {
     capacity = b.capacity ∙ a.capacity;
     gained = λ j. (
       λ held.
@@ -212,14 +214,14 @@ module _ (nfa : Automaton) (wanted : Pair → Bool) where
             | inl i ↦ inl (record { item = w.item; among = i; matches = w.matches; pattern_is = w.pattern_is })
             | inr i ↦ inr (record { item = w.item; among = i; matches = w.matches; pattern_is = w.pattern_is })
           ]
-  Gathers-then false f g old mid new h k on a b =
+  AddsPatterns-then false f g old mid new h k on a b =
       let off : h ≡ false = on refl in
-      let first : Gathers nfa false wanted f old false mid = rw off at a in
+      let first : AddsPatterns nfa false wanted f old false mid = rw off at a in
       let none = first-none f old mid first in
-      let still : mid ≡ old = (let at : GathersFirst nfa None old false mid = rw none at first in at.1) in
+      let still : mid ≡ old = (let at : AddsFirstPattern nfa None old false mid = rw none at first in at.1) in
       rw (first-append f g none) (of (first_match wanted g) k off (rw still at b))
     where
-      of : (o : Hit) (k : Bool) → h ≡ false → GathersFirst nfa o old k new → GathersFirst nfa o old (k || h) new
+      of : (o : Hit) (k : Bool) → h ≡ false → AddsFirstPattern nfa o old k new → AddsFirstPattern nfa o old (k || h) new
       of None true off w = let never : true ≡ false = w.0 in cc
       of None false off w = (off, w.1)
       of (Some c) true off w = w

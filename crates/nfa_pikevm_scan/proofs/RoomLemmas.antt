@@ -6,7 +6,7 @@ use Rattle.std.proofs.lemmas.List.Elements.{All-push, All-nil}
 use Rattle.regex_search_core.specs.Search.{Search}
 use Rattle.thompson_nfa.specs.Automaton.{Automaton}
 use Rattle.nfa_paths.specs.Exploring.{Slots}
-use Rattle.nfa_pikevm_scan.specs.Scans.{blank, with_start, Joins, AreAt}
+use Rattle.nfa_pikevm_scan.specs.Scans.{blank, with_start, AddsStart, AreAt}
 use Rattle.nfa_pikevm_scan.specs.declared.scan.Starts.{Starts}
 
 -- no state is there
@@ -59,7 +59,7 @@ module _ (begins : Starts) (width at : ℕ) (items : List (ℕ × Slots)) where
 
 -- the same if starts are skipped
 module _ {table : List Bool} {x : Search} {begins : Starts} {limit width at : ℕ} {items : List (ℕ × Slots)} {to : ℕ}
-    {kept : List (ℕ × Slots)} (j : Joins table x begins limit width at items to kept) where
+    {kept : List (ℕ × Slots)} (j : AddsStart table x begins limit width at items to kept) where
   pub below-joins : {states : ℕ} → begins.state < states → All (λ i. i.0 < states) items
       → All (λ i. i.0 < states) kept
   below-joins below all =

@@ -7,7 +7,7 @@ use Rattle.std.proofs.lemmas.List.{take-take, take-append-le, drop-append-le, dr
 use Rattle.std.proofs.lemmas.List.Elements.{All-head, All-tail}
 use Rattle.nfa_paths.specs.Exploring.{Slots}
 use Rattle.std.proofs.Math.Nat.{mul-le-mul_right}
-use Rattle.nfa_scanning.specs.Marks.{Marks}
+use Rattle.nfa_scan_core.specs.Marks.{Marks}
 use Rattle.nfa_pikevm_scan.specs.Rows.{Active, items_of, marks_of}
 
 -- one more times the width
@@ -109,7 +109,7 @@ abbrev pub active_of : ℕ → List ℕ → Slots → ℕ → Active
 active_of width kept cells len = record {
   items = items_of width (take len kept) cells;
   width = width;
-  places =
+  capacity =
       length kept;
   cells = length cells;
 }

@@ -8,25 +8,25 @@ use Rattle.regex_search_core.specs.declared.primitives.PatternID.{PatternID}
 use Rattle.regex_search_core.specs.declared.search.HalfMatch.{HalfMatch}
 use Rattle.thompson_nfa.specs.Automaton.{Automaton, LeadsBelow}
 use Rattle.nfa_paths.specs.Graphs.{Pair, In}
-use Rattle.nfa_paths.specs.Exploring.{Item, Slots, Hit, round}
-use Rattle.nfa_paths.specs.Exploring.Item.{Explore, Load}
+use Rattle.nfa_paths.specs.Exploring.{Task, Slots, Hit, next_tasks}
+use Rattle.nfa_paths.specs.Exploring.Task.{Explore, Load}
 use Rattle.nfa_paths.specs.Kinds.{first_match, before_match}
 use Rattle.nfa_paths.specs.Paths.{edges, is_match, starts, space}
-use Rattle.nfa_paths.proofs.FrontMatchLemmas.{before_match-among, before_match-all, first_match-cut}
+use Rattle.nfa_paths.proofs.FrontierMatchLemmas.{before_match-among, before_match-all, first_match-cut}
 use Rattle.nfa_paths.proofs.StartLemmas.{IsMatch-capture}
 use Rattle.nfa_paths.proofs.ScanAnswerLemmas.{edges-onward, seeds-later}
 use Rattle.nfa_paths.proofs.ScanningLemmas.{Searching-cut, Searching-wait, Searching-before_round}
-use Rattle.nfa_scanning.specs.Marks.{Marks}
-use Rattle.nfa_pikevm_scan.specs.States.{Front, moves, tasks, unmarked, AreMatchPairs, GoesOn, Formed, Paid, SeenAt, SearchingAt, Leads, Crosses}
-use Rattle.nfa_pikevm_scan.specs.Overlapping.{GoesPast, CrossesInSet}
+use Rattle.nfa_scan_core.specs.Marks.{Marks}
+use Rattle.nfa_pikevm_scan.specs.States.{Frontier, moves, tasks, unmarked, AreMatchPairs, GoesOn, Formed, Paid, SeenAt, SearchingAt, Leads, NextsGive}
+use Rattle.nfa_pikevm_scan.specs.Overlapping.{GoesPast, NextsOverlappingGive}
 use Rattle.nfa_pikevm_scan.specs.Scans.{blank, starts_from, half_found, AreAt, IsSoFar, IsPaidAt, SearchesFirst}
 use Rattle.nfa_pikevm_scan.proofs.TaskLemmas.{starts_from-end, AnswersFor, AnswersFor-round, Searching-for}
-use Rattle.nfa_pikevm_scan.proofs.FrontLemmas.{Formed-rests, Formed-next, Formed-below, Formed-over, SeenAt-none, Paid-few, Paid-next, IsPaidAt-cross}
+use Rattle.nfa_pikevm_scan.proofs.FrontierLemmas.{Formed-rests, Formed-next, Formed-below, Formed-over, SeenAt-none, Paid-few, Paid-next, IsPaidAt-cross}
 
 -- The result of the states at a position, with the start that joined, for a search or for a scan for a set: a front,
 -- whose moves are in memory. All that is left is followed if it `goes` on.
 pub record Crossed (nfa : Automaton) (x : Search) (at width state limit : ℕ) (met : Marks) (items : List (ℕ × Slots))
-    (goes : Type 0) (after : Marks) (kept : List (ℕ × Slots)) (front : Front) : Type 0 where
+    (goes : Type 0) (after : Marks) (kept : List (ℕ × Slots)) (front : Frontier) : Type 0 where
   pub added : kept ≡ moves (edges nfa x) front
   pub formed : Formed nfa at after.bits front
   pub paid : Paid nfa (unmarked met) 0 [] (length items) after (length kept) [] 0
@@ -36,7 +36,7 @@ pub record Crossed (nfa : Automaton) (x : Search) (at width state limit : ℕ) (
 
 pub search-crossed : {nfa : Automaton} {x : Search} {at : ℕ} (width state limit : ℕ) {past : Bool} {met : Marks}
     {items : List (ℕ × Slots)} {slots : Slots} {hit : Option PatternID} {after : Marks} {kept : List (ℕ × Slots)}
-    {written : Slots} (c : Crosses nfa x at past met items slots hit after kept written)
+    {written : Slots} (c : NextsGive nfa x at past met items slots hit after kept written)
     → Crossed nfa x at width state limit met items (GoesOn past hit) after kept c.front
 search-crossed {at = at} width state limit c = record {
   added = c.added;
@@ -48,7 +48,7 @@ search-crossed {at = at} width state limit c = record {
 pub set-crossed : {nfa : Automaton} {x : Search} {at n : ℕ} (state limit : ℕ) {past : Bool} {met : Marks}
     {items : List (ℕ × Slots)} {set : List Bool} {hit : Bool} {after : Marks} {kept : List (ℕ × Slots)}
     {new : List Bool}
-    (c : CrossesInSet nfa x at past n met items set hit after kept new)
+    (c : NextsOverlappingGive nfa x at past n met items set hit after kept new)
     → Crossed nfa x at 0 state limit met items (GoesPast past hit) after kept c.front
 set-crossed {at = at} state limit c = record {
   added = c.added;
@@ -58,7 +58,7 @@ set-crossed {at = at} state limit c = record {
 }
 
 module _ {nfa : Automaton} {x : Search} {at width state limit : ℕ} {met after : Marks} {items kept : List (ℕ × Slots)}
-    {front : Front} {goes : Type 0} (c : Crossed nfa x at width state limit met items goes after kept front) where
+    {front : Frontier} {goes : Type 0} (c : Crossed nfa x at width state limit met items goes after kept front) where
   -- what is kept for the next position
   pub AreAt-cross : All (LeadsBelow (length nfa.states)) nfa.states → AreAt nfa kept
   AreAt-cross leads = record {
@@ -80,18 +80,18 @@ module _ {nfa : Automaton} {x : Search} {at width state limit : ℕ} {met after 
 -- the first path
 
 module _ (wanted : Pair → Bool) {nfa : Automaton} (sub : AreMatchPairs nfa wanted) {x : Search}
-    {at width state limit : ℕ} {met after : Marks} {items kept : List (ℕ × Slots)} {front : Front} {goes : Type 0}
+    {at width state limit : ℕ} {met after : Marks} {items kept : List (ℕ × Slots)} {front : Frontier} {goes : Type 0}
     {so_far : Hit} (c : Crossed nfa x at width state limit met items goes after kept front)
     (ends : moves (edges nfa x) (before_match wanted front) ≡ moves (edges nfa x) front)
     (s : SearchingAt nfa x at wanted (starts nfa x) (blank width) so_far (unmarked met) []
     (tasks at items (Load (blank width) ∷ starts_from width state (at + 1) limit)) (blank width)) where
   -- the next position's work is that of what is kept
-  kept-work : (waiting : List Item) → AnswersFor (space nfa x) wanted
-      (round (edges nfa x) (before_match wanted front) (Load (blank width) ∷ waiting))
+  kept-work : (waiting : List Task) → AnswersFor (space nfa x) wanted
+      (next_tasks (edges nfa x) (before_match wanted front) (Load (blank width) ∷ waiting))
       (tasks (at + 1) kept (Load (blank width) ∷ waiting))
   kept-work waiting =
       subst (λ (ks : List (ℕ × Slots)). AnswersFor (space nfa x) wanted
-      (round (edges nfa x) (before_match wanted front) (Load (blank width) ∷ waiting))
+      (next_tasks (edges nfa x) (before_match wanted front) (Load (blank width) ∷ waiting))
       (tasks (at + 1) ks (Load (blank width) ∷ waiting))) (ends ∙ sym c.added)
       (AnswersFor-round (space nfa x) wanted at (before_match wanted front) (blank width) waiting
       (λ a i. Formed-next nfa x at after.bits front c.formed a (before_match-among wanted front a i)))
@@ -102,7 +102,7 @@ module _ (wanted : Pair → Bool) {nfa : Automaton} (sub : AreMatchPairs nfa wan
   front-search = c.leads.follows.leads wanted sub (starts nfa x) (blank width) so_far s
 
   -- the states before the first wanted pair go on
-  goes-on : {other : Hit} {slots : Slots} (waiting : List Item)
+  goes-on : {other : Hit} {slots : Slots} (waiting : List Task)
       → SearchingAt nfa x at wanted (starts nfa x) (blank width) other after (before_match wanted front)
       (Load (blank width) ∷ waiting) slots
       → ((k : Pair) → In (Explore k) waiting → at < k.1)
@@ -130,7 +130,7 @@ module _ (wanted : Pair → Bool) {nfa : Automaton} (sub : AreMatchPairs nfa wan
       (tasks (at + 1) kept (Load (blank width) ∷ [])) (blank width)
   first-hit a some =
       let h = first_match-cut wanted front a some in
-      let split = subst (λ (f : Front). SearchingAt nfa x at wanted (starts nfa x) (blank width) so_far after
+      let split = subst (λ (f : Frontier). SearchingAt nfa x at wanted (starts nfa x) (blank width) so_far after
       f c.leads.left c.leads.written) h.split front-search in
       let cut = Searching-cut (space nfa x) wanted (before_match wanted front) a
       h.after split h.matches (IsMatch-capture nfa a.0 (sub a.0 h.matches)) in
@@ -140,7 +140,7 @@ module _ (nfa : Automaton) (x : Search) (at width state limit : ℕ) where
   -- a position with no match
   pub SearchesFirst-miss : {met : Marks} {items : List (ℕ × Slots)} {slots : Slots} {hit : Option PatternID}
       {after : Marks} {kept : List (ℕ × Slots)} {written : Slots} {so_far : Hit} {found : Option HalfMatch}
-      → (c : Crosses nfa x at false met items slots hit after kept written)
+      → (c : NextsGive nfa x at false met items slots hit after kept written)
       → SearchingAt nfa x at (is_match nfa) (starts nfa x) (blank width) so_far (unmarked met) []
       (tasks at items (Load (blank width) ∷ starts_from width state (at + 1) limit)) (blank width)
       → IsSoFar nfa x found slots so_far → hit ≡ None
@@ -157,7 +157,7 @@ module _ (nfa : Automaton) (x : Search) (at width state limit : ℕ) where
   -- a position with a match: no start is left
   pub SearchesFirst-hit : {met : Marks} {items : List (ℕ × Slots)} {slots : Slots} {hit : Option PatternID}
       {after : Marks} {kept : List (ℕ × Slots)} {written : Slots} {so_far : Hit}
-      → (c : Crosses nfa x at false met items slots hit after kept written)
+      → (c : NextsGive nfa x at false met items slots hit after kept written)
       → SearchingAt nfa x at (is_match nfa) (starts nfa x) (blank width) so_far (unmarked met) []
       (tasks at items (Load (blank width) ∷ starts_from width state (at + 1) limit)) (blank width)
       → (pattern : PatternID) → hit ≡ Some pattern → (half : HalfMatch)

@@ -4,18 +4,18 @@ use Rattle.std.specs.Prelude.{None}
 use Rattle.std.proofs.lemmas.Bool.{cases_lt, lt-ltb, le-ltb}
 use Rattle.nfa_paths.specs.Graphs.{Pair, In, Space}
 use Rattle.nfa_paths.specs.FirstPaths.{IsFirst}
-use Rattle.nfa_paths.specs.Exploring.{Item, Slots, Hit, ExploresTo, ExploresBehind, Searching, round, seeds}
-use Rattle.nfa_paths.specs.Exploring.Item.{Explore, Load}
+use Rattle.nfa_paths.specs.Exploring.{Task, Slots, Hit, ExploresTo, ExploresAfter, Searching, next_tasks, seeds}
+use Rattle.nfa_paths.specs.Exploring.Task.{Explore, Load}
 use Rattle.nfa_paths.proofs.SearchLemmas.{Answer-more, Answer-seeds, AnswerBehind-along}
 use Rattle.nfa_paths.proofs.StartLemmas.{pairs_from-step, pairs_from-end}
-use Rattle.nfa_pikevm_scan.specs.States.{Front, moves, tasks}
+use Rattle.nfa_pikevm_scan.specs.States.{Frontier, moves, tasks}
 use Rattle.nfa_pikevm_scan.specs.Scans.{blank, starts_from, with_start}
 use Rattle.nfa_pikevm_scan.specs.declared.scan.Starts.{Starts}
 
 -- how the start joins
 
 -- a state after the others
-pub tasks-join : (at : ℕ) (items : List (ℕ × Slots)) (state : ℕ) (row : Slots) (work : List Item)
+pub tasks-join : (at : ℕ) (items : List (ℕ × Slots)) (state : ℕ) (row : Slots) (work : List Task)
     → tasks at (items ++ (state, row) ∷ []) work ≡ tasks at items (Load row ∷ Explore (state, at) ∷ work)
 tasks-join at [] state row work = refl
 tasks-join at (i ∷ items) state row work = ap (λ w. Load i.1 ∷ Explore (i.0, at) ∷ w)
@@ -64,19 +64,19 @@ tasks-joined starts width at items =
 -- work that answers for other work
 
 -- Whatever the work `less` answers, `more` answers too; and what is loaded before does not matter to either.
-pub record AnswersFor (space : Space) (target : Pair → Bool) (more less : List Item) : Type 0 where
+pub record AnswersFor (space : Space) (target : Pair → Bool) (more less : List Task) : Type 0 where
   pub back : (left : ℕ) (otherwise : Hit) (marks : List Pair) (slots after : Slots) (g : Hit)
       → ExploresTo space target left otherwise marks less after g
       → ExploresTo space target left otherwise marks more slots g
 
 module _ (space : Space) (target : Pair → Bool) where
   -- work that loads slots first answers for itself
-  pub AnswersFor-same : (old : Slots) (work : List Item) → AnswersFor space target (Load old ∷ work) (Load old ∷ work)
+  pub AnswersFor-same : (old : Slots) (work : List Task) → AnswersFor space target (Load old ∷ work) (Load old ∷ work)
   unfolding ExploresTo
   AnswersFor-same old work = record { back = λ left otherwise marks slots after g h. h }
 
   -- one after the other
-  pub AnswersFor-then : {a b c : List Item} → AnswersFor space target a b → AnswersFor space target b c
+  pub AnswersFor-then : {a b c : List Task} → AnswersFor space target a b → AnswersFor space target b c
       → AnswersFor space target a c
   AnswersFor-then f k = record {
     back = λ left otherwise marks slots after g h. f.back left otherwise marks slots after
@@ -84,7 +84,7 @@ module _ (space : Space) (target : Pair → Bool) where
   }
 
   -- slots that are loaded in vain
-  pub AnswersFor-load : {a b : List Item} (old : Slots) → AnswersFor space target a b
+  pub AnswersFor-load : {a b : List Task} (old : Slots) → AnswersFor space target a b
       → AnswersFor space target (Load old ∷ a) b
   unfolding ExploresTo
   AnswersFor-load old f = record {
@@ -93,7 +93,7 @@ module _ (space : Space) (target : Pair → Bool) where
   }
 
   -- below one more state
-  pub AnswersFor-item : {a b : List Item} (old : Slots) (v : Pair) → AnswersFor space target a b
+  pub AnswersFor-item : {a b : List Task} (old : Slots) (v : Pair) → AnswersFor space target a b
       → AnswersFor space target (Load old ∷ Explore v ∷ a) (Load old ∷ Explore v ∷ b)
   unfolding ExploresTo
   AnswersFor-item old v f = record {
@@ -102,24 +102,24 @@ module _ (space : Space) (target : Pair → Bool) where
   }
 
   -- below the states of a position
-  pub AnswersFor-tasks : {a b : List Item} (at : ℕ) (items : List (ℕ × Slots)) → AnswersFor space target a b
+  pub AnswersFor-tasks : {a b : List Task} (at : ℕ) (items : List (ℕ × Slots)) → AnswersFor space target a b
       → AnswersFor space target (tasks at items a) (tasks at items b)
   AnswersFor-tasks at [] f = f
   AnswersFor-tasks at (i ∷ items) f = AnswersFor-item i.1 (i.0, at) (AnswersFor-tasks at items f)
 
   -- a start from which no target is reached
-  pub AnswersFor-dead : (slots : Slots) (v : Pair) (work : List Item)
+  pub AnswersFor-dead : (slots : Slots) (v : Pair) (work : List Task)
       → ((marks : List Pair) → IsFirst space.edges target marks v None)
       → AnswersFor space target (Load slots ∷ Explore v ∷ Load slots ∷ work) (Load slots ∷ work)
   unfolding ExploresTo
   AnswersFor-dead slots v work dead = record { back = λ left otherwise marks s after g h. inr (dead marks, h) }
 
   -- what was put aside, as the states of the next position
-  pub AnswersFor-round : (at : ℕ) (front : Front) (old : Slots) (waiting : List Item)
+  pub AnswersFor-round : (at : ℕ) (front : Frontier) (old : Slots) (waiting : List Task)
       → ((a : Pair × Slots) → In a front → (space.edges a.0 ≡ []) ⊎ ((t : ℕ) × (space.edges a.0 ≡ (t, at + 1) ∷ [])))
-      → AnswersFor space target (round space.edges front (Load old ∷ waiting))
+      → AnswersFor space target (next_tasks space.edges front (Load old ∷ waiting))
       (tasks (at + 1) (moves space.edges front) (Load old ∷ waiting))
-  unfolding round
+  unfolding next_tasks
   AnswersFor-round at [] old waiting one = AnswersFor-same old waiting
   AnswersFor-round at (a ∷ front) old waiting one =
       let rest = AnswersFor-round at front old waiting (λ b i. one b (inr i)) in
@@ -130,7 +130,7 @@ module _ (space : Space) (target : Pair → Bool) where
 
   -- the search goes on with the work that answers for what was left
   pub Searching-for : {goal : Hit → ℕ → Type 0} {Seen : Pair → Type 0} {spent : ℕ} {front : List (Pair × Slots)}
-      {otherwise : Hit} {more less : List Item} {slots : Slots}
+      {otherwise : Hit} {more less : List Task} {slots : Slots}
       → Searching space target goal Seen spent front otherwise more slots
       → AnswersFor space target more less → (after : Slots)
       → Searching space target goal Seen spent front otherwise less after
@@ -146,7 +146,7 @@ module _ (space : Space) (target : Pair → Bool) where
 
   -- other words for what is seen
   pub Searching-seen : {goal : Hit → ℕ → Type 0} {Seen : Pair → Type 0} {spent : ℕ} {front : List (Pair × Slots)}
-      {otherwise : Hit} {work : List Item} {slots : Slots}
+      {otherwise : Hit} {work : List Task} {slots : Slots}
       → Searching space target goal Seen spent front otherwise work slots → (After : Pair → Type 0)
       → ((v : Pair) → Seen v ↔ After v) → Searching space target goal After spent front otherwise work slots
   Searching-seen s After agree = record {
@@ -160,7 +160,7 @@ module _ (space : Space) (target : Pair → Bool) where
       (slots current : Slots) → ((v : Pair) → Seen v → ⊥)
       → Searching space target (λ g total. ExploresTo space target total otherwise [] (map Explore starts)
       slots g) Seen spent [] otherwise (Load slots ∷ seeds slots starts) current
-  unfolding ExploresTo ExploresBehind
+  unfolding ExploresTo ExploresAfter
   Searching-begin Seen spent otherwise starts slots current fresh = record {
     marks = [];
     agrees = λ v. (λ i. absurd i, λ s. absurd (fresh v s));
@@ -179,12 +179,12 @@ module _ (space : Space) (target : Pair → Bool) (width state limit : ℕ) wher
   AnswersFor-pass at dead =
       elim (cases_lt at limit) [
         | inl less ↦
-            subst (λ (w : List Item). AnswersFor space target (Load (blank width) ∷ w)
+            subst (λ (w : List Task). AnswersFor space target (Load (blank width) ∷ w)
             (Load (blank width) ∷ starts_from width state (at + 1) limit)) (sym (starts_from-step width state less))
             (AnswersFor-dead space target (blank width) (state, at) (starts_from width state (at + 1) limit) dead)
         | inr past ↦
             let later : limit ≤ at + 1 = omega arith in
-            subst (λ (w : List Item). AnswersFor space target (Load (blank width) ∷ w)
+            subst (λ (w : List Task). AnswersFor space target (Load (blank width) ∷ w)
             (Load (blank width) ∷ starts_from width state (at + 1) limit))
             (starts_from-end width state later ∙ sym (starts_from-end width state past))
             (AnswersFor-same space target (blank width) (starts_from width state (at + 1) limit))

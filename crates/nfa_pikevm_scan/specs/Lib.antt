@@ -1,7 +1,7 @@
 pub mod Needs
 pub mod Rows
 pub mod States
-pub mod Taking
+pub mod Sinks
 pub mod Scans
 pub mod Sizes
 pub mod Overlapping

@@ -20,8 +20,8 @@ room_of Fail = 0
 room_of (Match pattern) = 0
 
 -- the frames that the stack of a search needs: those of all states together, and at least one
-abbrev pub stack_places : Automaton → ℕ
-stack_places nfa = max (sum_by room_of nfa.states) 1
+abbrev pub stack_frames : Automaton → ℕ
+stack_frames nfa = max (sum_by room_of nfa.states) 1
 
 -- The scans of a search for the patterns of all matches: one, or none under leftmost first if the set holds a pattern.
 abbrev pub overlap_scans : MatchKind → List Bool → ℕ

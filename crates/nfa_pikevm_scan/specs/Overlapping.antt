@@ -5,12 +5,12 @@ use Rattle.regex_search_core.specs.Search.{Search}
 use Rattle.thompson_nfa.specs.Automaton.{Automaton}
 use Rattle.nfa_paths.specs.Graphs.{Pair}
 use Rattle.nfa_paths.specs.Paths.{edges, is_utf8_empty}
-use Rattle.nfa_paths.specs.Exploring.{Slots, Hit, Item}
-use Rattle.nfa_paths.specs.Exploring.Item.{Load as ToLoad}
+use Rattle.nfa_paths.specs.Exploring.{Slots, Hit, Task}
+use Rattle.nfa_paths.specs.Exploring.Task.{Load as ToLoad}
 use Rattle.nfa_paths.specs.Kinds.{HoldsMatch, first_match, before_match}
 use Rattle.nfa_paths.specs.Overlaps.{HoldsPattern, pattern_at}
-use Rattle.nfa_scanning.specs.Marks.{Marks}
-use Rattle.nfa_pikevm_scan.specs.States.{Front, moves, tasks, unmarked, Formed, Paid, Leads}
+use Rattle.nfa_scan_core.specs.Marks.{Marks}
+use Rattle.nfa_pikevm_scan.specs.States.{Frontier, moves, tasks, unmarked, Formed, Paid, Leads}
 
 -- whether the position does not split a codepoint
 abbrev pub is_boundary : List ℕ → ℕ → Bool
@@ -32,7 +32,7 @@ unfoldable pub wants : Automaton → Search → ℕ → Pair → Bool
 wants nfa x capacity v = permits nfa x v.1 && is_below capacity (pattern_at nfa v)
 
 -- The set gains each pattern below the capacity for which the front has a wanted pair. `met` says whether there is one.
-pub record GathersAll (nfa : Automaton) (wanted : Pair → Bool) (front : Front) (old : List Bool) (met : Bool)
+pub record AddsAllPatterns (nfa : Automaton) (wanted : Pair → Bool) (front : Frontier) (old : List Bool) (met : Bool)
     (new : List Bool) : Type 0 where
   pub capacity : length new ≡ length old
   pub gained : (k : ℕ) → HoldsPattern new k ↔ (HoldsPattern old k
@@ -41,15 +41,15 @@ pub record GathersAll (nfa : Automaton) (wanted : Pair → Bool) (front : Front)
   pub none : met ≡ false → (k : ℕ) → k < length old → HoldsMatch wanted (pattern_at nfa) k front → ⊥
 
 -- the set gains the pattern of the first wanted pair, if there is one
-abbrev pub GathersFirst : Automaton → Hit → List Bool → Bool → List Bool → Type 0
-GathersFirst nfa None old met new = (met ≡ false) × (new ≡ old)
-GathersFirst nfa (Some a) old met new = (met ≡ true)
+abbrev pub AddsFirstPattern : Automaton → Hit → List Bool → Bool → List Bool → Type 0
+AddsFirstPattern nfa None old met new = (met ≡ false) × (new ≡ old)
+AddsFirstPattern nfa (Some a) old met new = (met ≡ true)
     × ((k : ℕ) × (pattern_at nfa a.0 ≡ Some k) × (new ≡ with_pattern old k))
 
 -- what the set gains at a position: the patterns of all wanted pairs with `past`, otherwise that of the first one
-abbrev pub Gathers : Automaton → Bool → (Pair → Bool) → Front → List Bool → Bool → List Bool → Type 0
-Gathers nfa true wanted front old met new = GathersAll nfa wanted front old met new
-Gathers nfa false wanted front old met new = GathersFirst nfa (first_match wanted front) old met new
+abbrev pub AddsPatterns : Automaton → Bool → (Pair → Bool) → Frontier → List Bool → Bool → List Bool → Type 0
+AddsPatterns nfa true wanted front old met new = AddsAllPatterns nfa wanted front old met new
+AddsPatterns nfa false wanted front old met new = AddsFirstPattern nfa (first_match wanted front) old met new
 
 -- all that is left is followed: always with `past`, otherwise if there is no match
 abbrev pub GoesPast : Bool → Bool → Type 0
@@ -58,15 +58,16 @@ GoesPast past met = (past ≡ true) ⊎ (met ≡ false)
 module _ (nfa : Automaton) (x : Search) where
   -- For a set of capacity n: the result of following all states at a position, with no marks before and rows of no
   -- slots. It is a front whose moves are in memory, and what the set gains from it.
-  pub record CrossesInSet (at : ℕ) (past : Bool) (n : ℕ) (met : Marks) (items : List (ℕ × Slots)) (set : List Bool)
+  pub record NextsOverlappingGive (at : ℕ) (past : Bool) (n : ℕ) (met : Marks) (items : List (ℕ × Slots))
+      (set : List Bool)
       (hit : Bool) (after : Marks) (kept : List (ℕ × Slots)) (gathered : List Bool) : Type 0 where
-    pub front : Front
+    pub front : Frontier
     pub rows : All (λ i. i.1 ≡ []) items
     pub added : kept ≡ moves (edges nfa x) front
-    pub gathers : Gathers nfa past (wants nfa x n) front set hit gathered
+    pub gathers : AddsPatterns nfa past (wants nfa x n) front set hit gathered
     pub cut : past ≡ false → moves (edges nfa x) (before_match (wants nfa x n) front) ≡ moves (edges nfa x) front
     pub formed : Formed nfa at after.bits front
     pub paid : Paid nfa (unmarked met) 0 [] (length items) after (length kept) [] 0
-    pub leads : (old : Slots) (waiting : List Item)
+    pub leads : (old : Slots) (waiting : List Task)
         → Leads nfa x at (unmarked met) [] (tasks at items (ToLoad old ∷ waiting)) [] (GoesPast past hit) after front
         (ToLoad old ∷ waiting)

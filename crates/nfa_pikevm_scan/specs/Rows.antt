@@ -16,7 +16,7 @@ raw_of (Some offset) = offset
 pub record Active : Type 0 where
   pub items : List (ℕ × Slots)
   pub width : ℕ
-  pub places : ℕ
+  pub capacity : ℕ
   pub cells : ℕ
 
 -- the states, each with its row of `width` cells

@@ -5,16 +5,16 @@ use Rattle.regex_search_core.specs.Search.{Search}
 use Rattle.regex_search_core.specs.declared.search.HalfMatch.{HalfMatch}
 use Rattle.thompson_nfa.specs.Automaton.{Automaton, LeadsBelow}
 use Rattle.nfa_paths.specs.Graphs.{Pair}
-use Rattle.nfa_paths.specs.Paths.{node_at, pattern_of, is_match, starts, pairs_from, turn_weight, space}
-use Rattle.nfa_paths.specs.Exploring.{Slots, Hit, Item, seeds}
-use Rattle.nfa_paths.specs.Exploring.Item.{Load}
+use Rattle.nfa_paths.specs.Paths.{node_at, pattern_of, is_match, starts, pairs_from, total_degree, space}
+use Rattle.nfa_paths.specs.Exploring.{Slots, Hit, Task, seeds}
+use Rattle.nfa_paths.specs.Exploring.Task.{Load}
 use Rattle.nfa_paths.specs.Kinds.{Scanning}
-pub use Rattle.nfa_paths.specs.Restarts.{scan_turns}
-use Rattle.nfa_scanning.specs.FirstBytes.{IsRefused}
-use Rattle.nfa_scanning.specs.Marks.{Marks}
-use Rattle.nfa_pikevm_scan.specs.Needs.{stack_places}
+pub use Rattle.nfa_paths.specs.Restarts.{max_scan_turns}
+use Rattle.nfa_scan_core.specs.FirstBytes.{IsRefused}
+use Rattle.nfa_scan_core.specs.Marks.{Marks}
+use Rattle.nfa_pikevm_scan.specs.Needs.{stack_frames}
 use Rattle.nfa_pikevm_scan.specs.declared.scan.Starts.{Starts}
-use Rattle.nfa_pikevm_scan.specs.declared.scratch.Threads.{Threads}
+use Rattle.nfa_pikevm_scan.specs.declared.threads.Threads.{Threads}
 use Rattle.nfa_pikevm_scan.specs.States.{tasks, unmarked, SeenAt, SearchingAt}
 
 -- a row with no slot set
@@ -22,13 +22,13 @@ abbrev pub blank : ℕ → Slots
 blank width = replicate width None
 
 -- the starts from a position on, below the limit, each with the slots to load after it
-abbrev pub starts_from : ℕ → ℕ → ℕ → ℕ → List Item
+abbrev pub starts_from : ℕ → ℕ → ℕ → ℕ → List Task
 starts_from width start at limit = seeds (blank width) (pairs_from start at (limit - at))
 
 -- the number of states with a mark; the room of each of the two sets, in states and in cells of rows; and the frames
 pub record Sizes : Type 0 where
   pub states : ℕ
-  pub places : ℕ
+  pub capacity : ℕ
   pub cells : ℕ
   pub frames : ℕ
 
@@ -36,21 +36,21 @@ pub record Sizes : Type 0 where
 abbrev pub sizes_of : Threads → Sizes
 sizes_of t = record {
   states = length t.reached.seen.bits;
-  places = t.curr.places;
+  capacity = t.curr.capacity;
   cells = t.curr.cells;
   frames = length t.frames.items;
 }
 
 -- There is room for all states of the NFA, and for one more start, with rows of this width.
-pub record Serves (nfa : Automaton) (width : ℕ) (size : Sizes) : Type 0 where
+pub record IsLargeEnough (nfa : Automaton) (width : ℕ) (size : Sizes) : Type 0 where
   pub marks : length nfa.states ≤ size.states
-  pub places : length nfa.states < size.places
-  pub cells : size.places * width ≤ size.cells
-  pub stack : stack_places nfa ≤ size.frames
+  pub capacity : length nfa.states < size.capacity
+  pub cells : size.capacity * width ≤ size.cells
+  pub stack : stack_frames nfa ≤ size.frames
 
 -- the threads have room for a search of the NFA, with rows of this width
 abbrev pub HaveRoom : Automaton → ℕ → Threads → Type 0
-HaveRoom nfa width t = Serves nfa width (sizes_of t)
+HaveRoom nfa width t = IsLargeEnough nfa width (sizes_of t)
 
 -- and their rows have this width
 pub record HaveRows (nfa : Automaton) (width : ℕ) (t : Threads) : Type 0 where
@@ -96,7 +96,8 @@ IsPassed table x starts_at k = (k < starts_at.stop) × IsRefused table x k
 
 -- The position that a scan goes on at: the start has joined the states there, or no match begins there. While starts
 -- are left, some state is there. A start that may be skipped does not join.
-pub record Joins (table : List Bool) (x : Search) (starts_at : Starts) (limit width at : ℕ) (items : List (ℕ × Slots))
+pub record AddsStart (table : List Bool) (x : Search) (starts_at : Starts) (limit width at : ℕ)
+    (items : List (ℕ × Slots))
     (to : ℕ) (now : List (ℕ × Slots)) : Type 0 where
   pub ahead : at ≤ to
   pub within : at ≤ x.end → to ≤ x.end
@@ -122,11 +123,11 @@ module _ (nfa : Automaton) (x : Search) where
 
   -- no more turns were taken than a scan takes
   abbrev pub IsWithinTurns : Threads → Threads → Type 0
-  IsWithinTurns old new = new.reached.seen.turns ≤ old.reached.seen.turns + scan_turns nfa x
+  IsWithinTurns old new = new.reached.seen.turns ≤ old.reached.seen.turns + max_scan_turns nfa x
 
   -- The starts and the positions before it pay for the turns so far and the states at the position.
   pub record IsPaidAt (at before : ℕ) (turns items : ℕ) : Type 0 where
-    pub bound : turns + items ≤ before + (at - x.start) * (1 + turn_weight nfa)
+    pub bound : turns + items ≤ before + (at - x.start) * (1 + total_degree nfa)
 
   -- The search for the first path, at a position where it has followed no state yet.
   pub record SearchesFirst (at width start limit : ℕ) (found : Option HalfMatch) (slots : Slots) (met : Marks)

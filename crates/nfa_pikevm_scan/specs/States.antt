@@ -8,31 +8,31 @@ use Rattle.regex_search_core.specs.declared.primitives.PatternID.{PatternID}
 use Rattle.thompson_nfa.specs.Automaton.{Automaton, Node}
 use Rattle.nfa_paths.specs.Graphs.{Pair, NoRepeats}
 use Rattle.nfa_paths.specs.Paths.{degree, node_at, pattern_of, edges, is_match, byte_at, space}
-use Rattle.nfa_paths.specs.Exploring.{Slots, Hit, Item, ExploresTo, Searching}
-use Rattle.nfa_paths.specs.Exploring.Item.{Explore as ToExplore, Restore as ToRestore, Load as ToLoad}
+use Rattle.nfa_paths.specs.Exploring.{Slots, Hit, Task, ExploresTo, Searching}
+use Rattle.nfa_paths.specs.Exploring.Task.{Explore as ToExplore, Restore as ToRestore, Load as ToLoad}
 use Rattle.nfa_paths.specs.Kinds.{rests, first_match, before_match, last_match, NoMatch}
 use Rattle.nfa_paths.specs.Turns.{marked_sum}
-use Rattle.nfa_scanning.specs.Marks.{Marks}
-use Rattle.nfa_pikevm_scan.specs.Needs.{room_of, stack_places}
-use Rattle.nfa_pikevm_scan.specs.declared.closure.Here.{Here}
+use Rattle.nfa_scan_core.specs.Marks.{Marks}
+use Rattle.nfa_pikevm_scan.specs.Needs.{room_of, stack_frames}
+use Rattle.nfa_pikevm_scan.specs.declared.closure.ClosureContext.{ClosureContext}
 use Rattle.nfa_pikevm_scan.specs.declared.closure.Move.{Move}
-use Rattle.nfa_pikevm_scan.specs.declared.closure.Move.TheVariants.{On, Matched, Over}
-use Rattle.nfa_pikevm_scan.specs.declared.closure.Reached.{Reached}
+use Rattle.nfa_pikevm_scan.specs.declared.closure.Move.TheVariants.{On, Matched, DeadEnd}
+use Rattle.nfa_pikevm_scan.specs.declared.closure.ClosureOutput.{ClosureOutput}
 use Rattle.nfa_pikevm_scan.specs.declared.frame.FollowEpsilon.{FollowEpsilon}
 use Rattle.nfa_pikevm_scan.specs.declared.frame.FollowEpsilon.TheVariants.{Explore, Restore}
 
 -- The resting pairs that were reached at a position, in order, each with its slots. If a byte leads on from a pair,
 -- only the state that it leads to is kept in memory. Matches and pairs that lead nowhere are not kept.
-abbrev pub Front : Type 0
-Front = List (Pair × Slots)
+abbrev pub Frontier : Type 0
+Frontier = List (Pair × Slots)
 
 -- the states that a front leads on to, each with its slots
-abbrev pub moves : (Pair → List Pair) → Front → List (ℕ × Slots)
+abbrev pub moves : (Pair → List Pair) → Frontier → List (ℕ × Slots)
 moves edges [] = []
 moves edges (a ∷ front) = map (λ v. (v.0, a.1)) (edges a.0) ++ moves edges front
 
 -- the states to follow at the position, each with its slots, on top of what is left
-abbrev pub tasks : ℕ → List (ℕ × Slots) → List Item → List Item
+abbrev pub tasks : ℕ → List (ℕ × Slots) → List Task → List Task
 tasks at [] waiting = waiting
 tasks at (i ∷ items) waiting = ToLoad i.1 ∷ ToExplore (i.0, at) ∷ tasks at items waiting
 
@@ -46,17 +46,17 @@ abbrev pub unmarked : Marks → Marks
 unmarked met = record met { bits = replicate (length met.bits) false }
 
 -- the work that a frame leaves at the position
-abbrev pub work_item_of : ℕ → FollowEpsilon → Item
+abbrev pub work_item_of : ℕ → FollowEpsilon → Task
 work_item_of at (Explore sid) = ToExplore (sid, at)
 work_item_of at (Restore slot old) = ToRestore slot old
 
 -- the frames of a stack, the top first, above some work
-abbrev pub work_onto : ℕ → List FollowEpsilon → List Item → List Item
+abbrev pub work_onto : ℕ → List FollowEpsilon → List Task → List Task
 work_onto at [] work = work
 work_onto at (f ∷ fs) work = work_onto at fs (work_item_of at f ∷ work)
 
 -- the work with a state to follow at the position, if there is one
-abbrev pub with_state : ℕ → Option ℕ → List Item → List Item
+abbrev pub with_state : ℕ → Option ℕ → List Task → List Task
 with_state at None work = work
 with_state at (Some s) work = ToExplore (s, at) ∷ work
 
@@ -64,7 +64,7 @@ with_state at (Some s) work = ToExplore (s, at) ∷ work
 abbrev pub state_on : Move → Option ℕ
 state_on (On sid) = Some sid
 state_on (Matched pattern) = None
-state_on Over = None
+state_on DeadEnd = None
 
 -- the turns that a frame still has to take
 abbrev pub tries : FollowEpsilon → ℕ
@@ -110,7 +110,7 @@ abbrev pub one_of : Node → ℕ
 one_of node = 1
 
 -- the match of a front that is meant: the first one, or the last with `past`
-abbrev pub meant : Bool → (Pair → Bool) → Front → Hit
+abbrev pub meant : Bool → (Pair → Bool) → Frontier → Hit
 meant past is_match front = cond past (last_match is_match None front) (first_match is_match front)
 
 -- the result of a position: no match, and the slots as before; or a match of the pattern, and its slots
@@ -120,9 +120,9 @@ IsHit nfa g before (Some pattern) after = (v : Pair) × (g ≡ Some (v, after))
     × (pattern_of (node_at nfa v.0) ≡ Some (number_of pattern))
 
 -- the front ends with this match and has no other; or it has none
-abbrev pub EndsInMatch : Automaton → ℕ → Slots → Option PatternID → Front → Type 0
+abbrev pub EndsInMatch : Automaton → ℕ → Slots → Option PatternID → Frontier → Type 0
 EndsInMatch nfa at slots None front = NoMatch (is_match nfa) front
-EndsInMatch nfa at slots (Some pattern) front = (before : Front) × (s : ℕ) × NoMatch (is_match nfa) before
+EndsInMatch nfa at slots (Some pattern) front = (before : Frontier) × (s : ℕ) × NoMatch (is_match nfa) before
     × (front ≡ before ++ ((s, at), slots) ∷ []) × (pattern_of (node_at nfa s) ≡ Some (number_of pattern))
 
 -- all that is left is followed: always with `past`, otherwise if there is no match
@@ -130,7 +130,7 @@ abbrev pub GoesOn : Bool → Option PatternID → Type 0
 GoesOn past hit = (past ≡ true) ⊎ (hit ≡ None)
 
 -- Each pair of the front has a state of the NFA and this position, rests, is marked, and occurs once.
-pub record Formed (nfa : Automaton) (at : ℕ) (bits : List Bool) (front : Front) : Type 0 where
+pub record Formed (nfa : Automaton) (at : ℕ) (bits : List Bool) (front : Frontier) : Type 0 where
   pub here : All (λ a. a.0.1 ≡ at) front
   pub states : All (λ a. a.0.0 < length nfa.states) front
   pub resting : All (λ a. rests (node_at nfa a.0.0) ≡ true) front
@@ -138,10 +138,10 @@ pub record Formed (nfa : Automaton) (at : ℕ) (bits : List Bool) (front : Front
   pub once : NoRepeats (map (λ a. a.0) front)
 
 -- There is a mark for each state, and room for the frames and the states that may still come.
-pub record HasRoom (nfa : Automaton) (bits : List Bool) (top frames kept places : ℕ) : Type 0 where
+pub record HasRoom (nfa : Automaton) (bits : List Bool) (top frames kept capacity : ℕ) : Type 0 where
   pub marks : length nfa.states ≤ length bits
   pub frames_fit : top + sum_by room_of nfa.states ≤ frames + marked_sum (map room_of nfa.states) bits
-  pub states_fit : kept + length nfa.states ≤ places + marked_sum (map one_of nfa.states) bits
+  pub states_fit : kept + length nfa.states ≤ capacity + marked_sum (map one_of nfa.states) bits
 
 -- From one moment to a later one: the marks pay for the turns and for what is left to take, for the frames, and for the
 -- kept states.
@@ -155,49 +155,50 @@ pub record Paid (nfa : Automaton) (met : Marks) (kept : ℕ) (stack : List Follo
       + marked_sum (map one_of nfa.states) after.bits
 
 -- The position is in the span or at its end, and the byte is the one at the position.
-pub record IsHere (here : Here) : Type 0 where
+pub record IsClosureContext (here : ClosureContext) : Type 0 where
   pub place : here.at ≤ (search_of here.input.now).end
   pub byte : here.byte ≡ byte_at (search_of here.input.now) here.at
 
 -- The number of marks is the same, and only the states of what is kept for the next position change.
-pub record KeepsRoom (old new : Reached) : Type 0 where
+pub record KeepsRoom (old new : ClosureOutput) : Type 0 where
   pub size : length new.seen.bits ≡ length old.seen.bits
   pub same : new.next ≡ record old.next { items = new.next.items }
 
 module _ (nfa : Automaton) (x : Search) where
   -- the search for a set of match pairs, from these starts and with these slots, with these states met and this front
   -- at position `at`
-  abbrev pub SearchingAt : ℕ → (Pair → Bool) → List Pair → Slots → Hit → Marks → Front → List Item → Slots → Type 0
+  abbrev pub SearchingAt : ℕ → (Pair → Bool) → List Pair → Slots → Hit → Marks → Frontier → List Task → Slots → Type 0
   SearchingAt at target starts entry otherwise met front work slots =
       Searching (space nfa x) target
       (λ g total. ExploresTo (space nfa x) target total None [] (map ToExplore starts) entry g)
       (SeenAt at met.bits) met.turns front otherwise work slots
 
   -- The search for any set of match pairs goes on from the state after as from the state before.
-  pub record Follows (at : ℕ) (met : Marks) (front : Front) (work : List Item) (slots : Slots)
-      (after : Marks) (more : Front) (rest : List Item) (written : Slots) : Type 0 where
+  pub record Follows (at : ℕ) (met : Marks) (front : Frontier) (work : List Task) (slots : Slots)
+      (after : Marks) (more : Frontier) (rest : List Task) (written : Slots) : Type 0 where
     pub leads : (target : Pair → Bool) → AreMatchPairs nfa target
         → (starts : List Pair) (entry : Slots) (otherwise : Hit)
         → SearchingAt at target starts entry otherwise met front work slots
         → SearchingAt at target starts entry otherwise after more rest written
 
   -- what a turn adds to the front: a match that it led to, and no other match
-  abbrev pub IsMet : Pair → Slots → Move → Front → Type 0
+  abbrev pub IsMet : Pair → Slots → Move → Frontier → Type 0
   IsMet v slots (On sid) front = NoMatch (is_match nfa) front
   IsMet v slots (Matched pattern) front = (front ≡ (v, slots) ∷ [])
       × (pattern_of (node_at nfa v.0) ≡ Some (number_of pattern))
-  IsMet v slots Over front = NoMatch (is_match nfa) front
+  IsMet v slots DeadEnd front = NoMatch (is_match nfa) front
 
   -- The result of a turn that tries to enter the state: it adds a front, whose moves are in memory, and leaves its
   -- work. What is left below the stack begins by loading slots.
-  pub record Enters (at s : ℕ) (met : Marks) (items : List (ℕ × Slots)) (stack : List FollowEpsilon) (slots : Slots)
+  pub record VisitsState (at s : ℕ) (met : Marks) (items : List (ℕ × Slots)) (stack : List FollowEpsilon)
+      (slots : Slots)
       (turn : Move) (after : Marks) (kept : List (ℕ × Slots)) (above : List FollowEpsilon)
       (written : Slots) : Type 0 where
-    pub front : Front
+    pub front : Frontier
     pub added : kept ≡ items ++ moves (edges nfa x) front
     pub is_met : IsMet (s, at) written turn front
-    pub formed : (before : Front) → Formed nfa at met.bits before → Formed nfa at after.bits (before ++ front)
-    pub follows : (before : Front) (old : Slots) (work : List Item)
+    pub formed : (before : Frontier) → Formed nfa at met.bits before → Formed nfa at after.bits (before ++ front)
+    pub follows : (before : Frontier) (old : Slots) (work : List Task)
         → Follows at met before (ToExplore (s, at) ∷ work_onto at stack (ToLoad old ∷ work)) slots
         after (before ++ front) (with_state at (state_on turn) (work_onto at above (ToLoad old ∷ work))) written
 
@@ -206,58 +207,62 @@ module _ (nfa : Automaton) (x : Search) where
   pub record FindsMatch (at s : ℕ) (met : Marks) (items : List (ℕ × Slots)) (stack : List FollowEpsilon) (slots : Slots)
       (hit : Option PatternID) (after : Marks) (kept : List (ℕ × Slots)) (above : List FollowEpsilon)
       (written : Slots) : Type 0 where
-    pub front : Front
+    pub front : Frontier
     pub added : kept ≡ items ++ moves (edges nfa x) front
     pub ends : EndsInMatch nfa at written hit front
-    pub formed : (before : Front) → Formed nfa at met.bits before → Formed nfa at after.bits (before ++ front)
-    pub follows : (before : Front) (old : Slots) (work : List Item)
+    pub formed : (before : Frontier) → Formed nfa at met.bits before → Formed nfa at after.bits (before ++ front)
+    pub follows : (before : Frontier) (old : Slots) (work : List Task)
         → Follows at met before (ToExplore (s, at) ∷ work_onto at stack (ToLoad old ∷ work)) slots
         after (before ++ front) (work_onto at above (ToLoad old ∷ work)) written
 
   -- The search goes on to a front and some work. The work is `rest` if the search `goes_on` to the end of its work.
-  pub record Leads (at : ℕ) (met : Marks) (before : Front) (work : List Item) (slots : Slots) (goes_on : Type 0)
-      (after : Marks) (front : Front) (rest : List Item) : Type 0 where
-    pub left : List Item
+  pub record Leads (at : ℕ) (met : Marks) (before : Frontier) (work : List Task) (slots : Slots) (goes_on : Type 0)
+      (after : Marks) (front : Frontier) (rest : List Task) : Type 0 where
+    pub left : List Task
     pub written : Slots
     pub follows : Follows at met before work slots after front left written
     pub whole : goes_on → left ≡ rest
 
   -- The result of all states at a position, with no marks before: a front, whose moves are in memory, and the match of
   -- it that is meant. Without `past` nothing after the first match is kept.
-  pub record Crosses (at : ℕ) (past : Bool) (met : Marks) (items : List (ℕ × Slots)) (slots : Slots)
+  pub record NextsGive (at : ℕ) (past : Bool) (met : Marks) (items : List (ℕ × Slots)) (slots : Slots)
       (hit : Option PatternID) (after : Marks) (kept : List (ℕ × Slots)) (written : Slots) : Type 0 where
-    pub front : Front
+    pub front : Frontier
     pub added : kept ≡ moves (edges nfa x) front
     pub is_hit : IsHit nfa (meant past (is_match nfa) front) slots hit written
     pub cut : past ≡ false → moves (edges nfa x) (before_match (is_match nfa) front) ≡ moves (edges nfa x) front
     pub formed : Formed nfa at after.bits front
     pub paid : Paid nfa (unmarked met) 0 [] (length items) after (length kept) [] 0
-    pub leads : (current old : Slots) (waiting : List Item)
+    pub leads : (current old : Slots) (waiting : List Task)
         → Leads at (unmarked met) [] (tasks at items (ToLoad old ∷ waiting)) current (GoesOn past hit) after front
         (ToLoad old ∷ waiting)
 
 -- The same, for what is reached from the place of a scan.
 
 -- There is room, and no more of the stack is used than the NFA needs.
-pub record HasRoomHere (here : Here) (old : Reached) (top frames : ℕ) : Type 0 where
-  pub room : HasRoom here.nfa.now old.seen.bits top (stack_places here.nfa.now) (length old.next.items) old.next.places
-  pub stack : stack_places here.nfa.now ≤ frames
+pub record ClosureHasRoom (here : ClosureContext) (old : ClosureOutput) (top frames : ℕ) : Type 0 where
+  pub room : HasRoom here.nfa.now old.seen.bits top (stack_frames here.nfa.now) (length old.next.items)
+      old.next.capacity
+  pub stack : stack_frames here.nfa.now ≤ frames
 
-abbrev pub AreWithinHere : Here → ℕ → List FollowEpsilon → Type 0
-AreWithinHere here count stack = All (IsWithin (length here.nfa.now.states) count) stack
+abbrev pub ClosureFramesWithin : ClosureContext → ℕ → List FollowEpsilon → Type 0
+ClosureFramesWithin here count stack = All (IsWithin (length here.nfa.now.states) count) stack
 
-abbrev pub PaidHere : Here → Reached → List FollowEpsilon → Reached → List FollowEpsilon → ℕ → Type 0
-PaidHere here old stack new above left =
+abbrev pub ClosurePaid : ClosureContext → ClosureOutput → List FollowEpsilon → ClosureOutput → List FollowEpsilon
+    → ℕ → Type 0
+ClosurePaid here old stack new above left =
     Paid here.nfa.now old.seen (length old.next.items) stack 1 new.seen (length new.next.items) above left
 
-abbrev pub EntersHere : Here → ℕ → Reached → List FollowEpsilon → Slots → Move → Reached → List FollowEpsilon → Slots
+abbrev pub ClosureVisits : ClosureContext → ℕ → ClosureOutput → List FollowEpsilon → Slots → Move → ClosureOutput
+    → List FollowEpsilon → Slots
     → Type 0
-EntersHere here s old stack slots turn new above written =
-    Enters here.nfa.now (search_of here.input.now) here.at s old.seen old.next.items stack slots turn new.seen
+ClosureVisits here s old stack slots turn new above written =
+    VisitsState here.nfa.now (search_of here.input.now) here.at s old.seen old.next.items stack slots turn new.seen
     new.next.items above written
 
-abbrev pub FindsHere : Here → ℕ → Reached → List FollowEpsilon → Slots → Option PatternID → Reached
+abbrev pub ClosureFindsMatch : ClosureContext → ℕ → ClosureOutput → List FollowEpsilon → Slots → Option PatternID
+    → ClosureOutput
     → List FollowEpsilon → Slots → Type 0
-FindsHere here s old stack slots hit new above written =
+ClosureFindsMatch here s old stack slots hit new above written =
     FindsMatch here.nfa.now (search_of here.input.now) here.at s old.seen old.next.items stack slots hit new.seen
     new.next.items above written

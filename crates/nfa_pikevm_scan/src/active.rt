@@ -1,5 +1,6 @@
 //! The states that are followed at a position, in order, each with its slot row.
-ghost use Rattle.std.specs.Prelude.{◌≡◌, ◌+◌, ◌*◌, ◌<◌, ◌≤◌, [], ◌∷◌, ◌++◌, None, length, take, replicate, IfOk, IsTrue, ◌↔◌};
+ghost use Rattle.std.specs.Prelude.{◌≡◌, ◌+◌, ◌*◌, ◌<◌, ◌≤◌, [], ◌∷◌, ◌++◌, None, length, take, replicate, IfOk};
+ghost use Rattle.std.specs.Prelude.{IsTrue, ◌↔◌};
 
 use crate::slot::{Slot, copy_row, unset_row};
 use regex_search_core::{Refused, StateID};
@@ -37,7 +38,7 @@ impl Model for ActiveStates {
       items = items_of p.width (take p.len p.kept.items) p.rows.items;
       width =
           p.width;
-      places = length p.kept.items;
+      capacity = length p.kept.items;
       cells = length p.rows.items;
     } };
 
@@ -69,7 +70,7 @@ fn blank_row(rows: &mut [Slot], before: usize, width: usize)
 impl ActiveStates {
     /// Makes a set with room for no state.
     pub fn new(alloc: Global) -> Result<ActiveStates, Refused>
-        ensures { IfOk result (λ made. made ≡ record { items = []; width = 0; places = 0; cells = 0 }) }
+        ensures { IfOk result (λ made. made ≡ record { items = []; width = 0; capacity = 0; cells = 0 }) }
     {
         let parts = Parts {
             kept: Vec::new(alloc),
@@ -100,7 +101,7 @@ impl ActiveStates {
 
     /// Removes all states, and sets the width of rows to `width` slots.
     pub fn set_up(&mut self, width: usize)
-        requires { self.old.places * width ≤ self.old.cells }
+        requires { self.old.capacity * width ≤ self.old.cells }
         ensures { self.new ≡ record self.old { items = []; width = width } }
     {
         self.parts.len = 0;
@@ -126,7 +127,7 @@ impl ActiveStates {
     /// Adds a state with its row.
     #[inline(always)]
     pub fn push(&mut self, sid: StateID, row: &[Slot])
-        requires room { length self.old.items < self.old.places }
+        requires room { length self.old.items < self.old.capacity }
         requires width { length row.now ≡ self.old.width }
         ensures { self.new ≡ record self.old { items = self.old.items ++ (sid, row.now) ∷ [] } }
     {
@@ -139,7 +140,7 @@ impl ActiveStates {
     /// Adds a state with no slot set.
     #[inline(always)]
     pub fn push_blank(&mut self, sid: StateID)
-        requires { length self.old.items < self.old.places }
+        requires { length self.old.items < self.old.capacity }
         ensures { self.new ≡ record self.old { items = self.old.items ++ (sid, replicate self.old.width None) ∷ [] } }
     {
         let parts = &mut *self.parts;

@@ -1,27 +1,31 @@
 //! The states that a state leads to without reading a byte.
-ghost use Rattle.std.specs.Prelude.{◌≡◌, ℕ, ◌+◌, ◌<◌, ◌≤◌, [], ◌∷◌, ◌++◌, None, Some, List, length, map, reverse, drop, take, slice_index_or, All};
+ghost use Rattle.std.specs.Prelude.{◌≡◌, ℕ, ◌+◌, ◌<◌, ◌≤◌, [], ◌∷◌, ◌++◌, None, Some, List, length, map, reverse, drop};
+ghost use Rattle.std.specs.Prelude.{take, slice_index_or, All};
 ghost use Rattle.std.specs.List.{sum_by};
 ghost use Rattle.regex_search_core.specs.Search.{Search, search_of};
 ghost use Rattle.thompson_nfa.specs.Automaton.{Automaton};
-ghost use Rattle.nfa_paths.specs.Exploring.{Item};
-ghost use Rattle.nfa_scanning.specs.Marks.{Marks};
-ghost use Rattle.nfa_pikevm_scan.specs.Needs.{stack_places};
-ghost use Rattle.nfa_pikevm_scan.specs.States.{Front, work_onto, with_state, tries, tries_of, state_on, undone, state_of, HasSlot, IsBelow, IsWithin, Follows, IsHere, KeepsRoom, HasRoomHere, AreWithinHere, PaidHere, EntersHere, FindsHere};
-ghost use Rattle.nfa_pikevm_scan.specs.Taking.{Arrives};
+ghost use Rattle.nfa_paths.specs.Exploring.{Task};
+ghost use Rattle.nfa_scan_core.specs.Marks.{Marks};
+ghost use Rattle.nfa_pikevm_scan.specs.Needs.{stack_frames};
+ghost use Rattle.nfa_pikevm_scan.specs.States.{Frontier, work_onto, with_state, tries, tries_of, state_on, undone};
+ghost use Rattle.nfa_pikevm_scan.specs.States.{state_of, HasSlot, IsBelow, IsWithin, Follows, IsClosureContext};
+ghost use Rattle.nfa_pikevm_scan.specs.States.{KeepsRoom, ClosureHasRoom, ClosureFramesWithin, ClosurePaid};
+ghost use Rattle.nfa_pikevm_scan.specs.States.{ClosureVisits, ClosureFindsMatch};
+ghost use Rattle.nfa_pikevm_scan.specs.Sinks.{ClosureGives};
 ghost use Rattle.nfa_pikevm_scan.specs.declared.frame.FollowEpsilon.TheVariants.{Explore, Restore};
 
 use crate::active::ActiveStates;
 use crate::frame::FollowEpsilon;
 use crate::seen::Seen;
+use crate::sink::MatchSink;
 use crate::slot::Slot;
-use crate::taker::Taker;
-use nfa_scanning::transitions::{dense_target, range_target, sparse_target};
+use nfa_scan_core::transitions::{dense_target, range_target, sparse_target};
 use regex_search_core::{Input, PatternID, StateID};
 use thompson_nfa::{NFA, State, look_matches};
 
 /// The place of a scan: all that does not change while the states of a position are followed.
 #[derive(Clone, Copy)]
-pub struct Here<'n, 'h> {
+pub struct ClosureContext<'n, 'h> {
     pub nfa: &'n NFA,
     pub input: &'n Input<'h>,
     pub at: usize,
@@ -31,7 +35,7 @@ pub struct Here<'n, 'h> {
 
 /// What is reached from a position: the states that were entered there, and those that its byte leads to.
 #[derive(Debug, Drop)]
-pub struct Reached {
+pub struct ClosureOutput {
     pub seen: Seen,
     pub next: ActiveStates,
 }
@@ -44,7 +48,7 @@ pub enum Move {
     /// The turn leads to a match of the pattern.
     Matched(PatternID),
     /// The turn leads nowhere at this position.
-    Over,
+    DeadEnd,
 }
 
 /// Puts a frame on top of the stack, which has `top` frames.
@@ -60,7 +64,7 @@ fn push(frames: &mut [FollowEpsilon], top: &mut usize, frame: FollowEpsilon)
 
 /// Pushes all alternatives but the first, with the earliest on top.
 #[inline(always)]
-fn put_off(frames: &mut [FollowEpsilon], top: &mut usize, alternates: &[StateID])
+fn push_alternates(frames: &mut [FollowEpsilon], top: &mut usize, alternates: &[StateID])
     requires { top.old + length (drop 1 alternates.now) ≤ length frames.old }
     ensures top { top.new ≡ top.old + length (drop 1 alternates.now) }
     ensures stack { take top.new frames.new
@@ -81,7 +85,7 @@ fn put_off(frames: &mut [FollowEpsilon], top: &mut usize, alternates: &[StateID]
 
 /// Pushes a frame that restores what the slot holds, for the frames below it. If the stack is empty, it pushes nothing.
 #[inline(always)]
-fn keep_old(frames: &mut [FollowEpsilon], top: &mut usize, slots: &[Slot], slot: usize)
+fn push_restore(frames: &mut [FollowEpsilon], top: &mut usize, slots: &[Slot], slot: usize)
     requires room { top.old < length frames.old }
     requires slot { slot < length slots.now }
     ensures empty { top.old ≡ 0 → top.new ≡ 0 }
@@ -97,8 +101,8 @@ fn keep_old(frames: &mut [FollowEpsilon], top: &mut usize, slots: &[Slot], slot:
 
 /// Keeps the state that a byte leads to, if there is one.
 #[inline(always)]
-fn keep(target: Option<StateID>, next: &mut ActiveStates, slots: &[Slot])
-    requires room { length next.old.items < next.old.places }
+fn push_target(target: Option<StateID>, next: &mut ActiveStates, slots: &[Slot])
+    requires room { length next.old.items < next.old.capacity }
     requires width { length slots.now ≡ next.old.width }
     ensures none { target ≡ None → next.new ≡ next.old }
     ensures some { (sid : ℕ) → target ≡ Some sid
@@ -112,62 +116,62 @@ fn keep(target: Option<StateID>, next: &mut ActiveStates, slots: &[Slot])
 /// Takes one turn: tries to enter the state, and returns where it leads. If the state matches the byte, the state that
 /// the byte leads to is kept. The turn uses no more of the stack than the NFA needs, however long the stack is.
 #[inline(always)]
-pub fn enter(
-    here: &Here<'_, '_>,
+pub fn visit_state(
+    here: &ClosureContext<'_, '_>,
     sid: StateID,
     frames: &mut [FollowEpsilon],
     top: &mut usize,
-    reached: &mut Reached,
+    reached: &mut ClosureOutput,
     row: &mut [Slot],
 ) -> Move
-    requires here { IsHere here.now }
+    requires here { IsClosureContext here.now }
     requires state { sid < length here.now.nfa.now.states }
-    requires top { top.old ≤ stack_places here.now.nfa.now }
-    requires room { HasRoomHere here.now reached.old top.old (length frames.old) }
+    requires top { top.old ≤ stack_frames here.now.nfa.now }
+    requires room { ClosureHasRoom here.now reached.old top.old (length frames.old) }
     requires width { length row.old ≡ reached.old.next.width }
-    requires within { AreWithinHere here.now (length row.old) (take top.old frames.old) }
+    requires within { ClosureFramesWithin here.now (length row.old) (take top.old frames.old) }
     ensures turns { reached.new.seen.turns ≡ reached.old.seen.turns + 1 }
     ensures keeps { KeepsRoom reached.old reached.new }
-    ensures top { top.new ≤ stack_places here.now.nfa.now }
+    ensures top { top.new ≤ stack_frames here.now.nfa.now }
     ensures state { IsBelow (length here.now.nfa.now.states) (state_on result) }
-    ensures within { AreWithinHere here.now (length row.old) (take top.new frames.new) }
-    ensures paid { PaidHere here.now reached.old (take top.old frames.old) reached.new (take top.new frames.new)
+    ensures within { ClosureFramesWithin here.now (length row.old) (take top.new frames.new) }
+    ensures paid { ClosurePaid here.now reached.old (take top.old frames.old) reached.new (take top.new frames.new)
         (tries_of (state_on result)) }
-    ensures enters { EntersHere here.now sid reached.old (take top.old frames.old) row.old result reached.new
+    ensures enters { ClosureVisits here.now sid reached.old (take top.old frames.old) row.old result reached.new
         (take top.new frames.new) row.new }
 {
     if !reached.seen.insert(sid.as_usize()) {
-        return Move::Over;
+        return Move::DeadEnd;
     }
     match here.nfa.state(sid) {
         State::ByteRange { trans } => {
-            keep(range_target(trans, here.byte), &mut reached.next, row);
-            Move::Over
+            push_target(range_target(trans, here.byte), &mut reached.next, row);
+            Move::DeadEnd
         }
         State::Sparse(transitions) => {
-            keep(
+            push_target(
                 sparse_target(transitions, here.byte),
                 &mut reached.next,
                 row,
             );
-            Move::Over
+            Move::DeadEnd
         }
         State::Dense(targets) => {
-            keep(dense_target(targets, here.byte), &mut reached.next, row);
-            Move::Over
+            push_target(dense_target(targets, here.byte), &mut reached.next, row);
+            Move::DeadEnd
         }
         State::Look { look, next } => {
             if look_matches(*look, here.input.haystack(), here.at) {
                 Move::On(*next)
             } else {
-                Move::Over
+                Move::DeadEnd
             }
         }
         State::Union { alternates } => {
             let Some(first) = alternates.first() else {
-                return Move::Over;
+                return Move::DeadEnd;
             };
-            put_off(frames, top, alternates);
+            push_alternates(frames, top, alternates);
             Move::On(*first)
         }
         State::BinaryUnion { alt1, alt2 } => {
@@ -176,19 +180,19 @@ pub fn enter(
         }
         State::Capture { next, slot } => {
             if *slot < row.len() {
-                keep_old(frames, top, row, *slot);
+                push_restore(frames, top, row, *slot);
                 row[*slot] = Slot::new(here.at);
             }
             Move::On(*next)
         }
-        State::Fail => Move::Over,
+        State::Fail => Move::DeadEnd,
         State::Match { pattern_id } => Move::Matched(*pattern_id),
     }
 }
 
 /// Applies a frame: returns its state to follow, or restores its slot.
 #[inline(always)]
-fn unwind(frame: FollowEpsilon, row: &mut [Slot]) -> Option<StateID>
+fn apply_frame(frame: FollowEpsilon, row: &mut [Slot]) -> Option<StateID>
     requires { HasSlot (length row.old) frame }
     ensures state { result ≡ state_of frame }
     ensures row { row.new ≡ undone frame row.old }
@@ -212,13 +216,13 @@ pub fn resume(frames: &[FollowEpsilon], top: &mut usize, row: &mut [Slot]) -> Op
     ensures state { (states : ℕ) → All (IsWithin states (length row.old)) (take top.old frames.now)
         → IsBelow states result }
     ensures over { result ≡ None → top.new ≡ 0 }
-    ensures follows { (nfa : Automaton) (x : Search) (at : ℕ) (met : Marks) (front : Front) (work : List Item)
+    ensures follows { (nfa : Automaton) (x : Search) (at : ℕ) (met : Marks) (front : Frontier) (work : List Task)
         → Follows nfa x at met front (work_onto at (take top.old frames.now) work) row.old met front
         (with_state at result (work_onto at (take top.new frames.now) work)) row.new }
 {
     while *top > 0 {
         *top -= 1;
-        if let Some(sid) = unwind(frames[*top], row) {
+        if let Some(sid) = apply_frame(frames[*top], row) {
             return Some(sid);
         }
     }
@@ -229,37 +233,37 @@ pub fn resume(frames: &[FollowEpsilon], top: &mut usize, row: &mut [Slot]) -> Op
 /// match. It keeps the states that the byte leads to. Returns the match, and leaves the remaining frames on the stack.
 #[inline(always)]
 pub fn next_match(
-    here: &Here<'_, '_>,
+    here: &ClosureContext<'_, '_>,
     from: StateID,
     frames: &mut [FollowEpsilon],
     top: &mut usize,
-    reached: &mut Reached,
+    reached: &mut ClosureOutput,
     row: &mut [Slot],
 ) -> Option<PatternID>
-    requires here { IsHere here.now }
+    requires here { IsClosureContext here.now }
     requires state { from < length here.now.nfa.now.states }
-    requires top { top.old ≤ stack_places here.now.nfa.now }
-    requires room { HasRoomHere here.now reached.old top.old (length frames.old) }
+    requires top { top.old ≤ stack_frames here.now.nfa.now }
+    requires room { ClosureHasRoom here.now reached.old top.old (length frames.old) }
     requires width { length row.old ≡ reached.old.next.width }
-    requires within { AreWithinHere here.now (length row.old) (take top.old frames.old) }
+    requires within { ClosureFramesWithin here.now (length row.old) (take top.old frames.old) }
     ensures turns { reached.old.seen.turns < reached.new.seen.turns }
     ensures keeps { KeepsRoom reached.old reached.new }
-    ensures top { top.new ≤ stack_places here.now.nfa.now }
+    ensures top { top.new ≤ stack_frames here.now.nfa.now }
     ensures over { result ≡ None → top.new ≡ 0 }
-    ensures within { AreWithinHere here.now (length row.old) (take top.new frames.new) }
-    ensures paid { PaidHere here.now reached.old (take top.old frames.old) reached.new (take top.new frames.new) 0 }
-    ensures finds { FindsHere here.now from reached.old (take top.old frames.old) row.old result reached.new
+    ensures within { ClosureFramesWithin here.now (length row.old) (take top.new frames.new) }
+    ensures paid { ClosurePaid here.now reached.old (take top.old frames.old) reached.new (take top.new frames.new) 0 }
+    ensures finds { ClosureFindsMatch here.now from reached.old (take top.old frames.old) row.old result reached.new
         (take top.new frames.new) row.new }
 {
     let mut sid = from;
     loop {
-        match enter(here, sid, frames, top, reached, row) {
+        match visit_state(here, sid, frames, top, reached, row) {
             Move::On(on) => {
                 sid = on;
                 continue;
             }
             Move::Matched(pattern) => return Some(pattern),
-            Move::Over => {}
+            Move::DeadEnd => {}
         }
         match resume(frames, top, row) {
             Some(waiting) => sid = waiting,
@@ -271,30 +275,31 @@ pub fn next_match(
 /// Follows all that the root leads to at the position, from match to match ([`next_match`]). It gives each match to the
 /// taker, up to the one that the position ends with. Returns whether it ended.
 #[inline(always)]
-pub fn follow<T: Taker>(
-    here: &Here<'_, '_>,
+pub fn epsilon_closure<T: MatchSink>(
+    here: &ClosureContext<'_, '_>,
     root: StateID,
     frames: &mut [FollowEpsilon],
-    reached: &mut Reached,
+    reached: &mut ClosureOutput,
     row: &mut [Slot],
-    taker: &mut T,
+    sink: &mut T,
 ) -> bool
-    requires here { IsHere here.now }
+    requires here { IsClosureContext here.now }
     requires state { root < length here.now.nfa.now.states }
-    requires room { HasRoomHere here.now reached.old 0 (length frames.old) }
+    requires room { ClosureHasRoom here.now reached.old 0 (length frames.old) }
     requires width { length row.old ≡ reached.old.next.width }
-    requires takes { length row.old ≡ T.row_width taker.old }
+    requires takes { length row.old ≡ T.row_width sink.old }
     ensures keeps { KeepsRoom reached.old reached.new }
     ensures grows { reached.old.seen.turns ≤ reached.new.seen.turns }
-    ensures width { T.row_width taker.new ≡ T.row_width taker.old }
-    ensures same_reference { T.reference taker.new ≡ T.reference taker.old }
-    ensures arrives { Arrives here.now.nfa.now (search_of here.now.input.now) T.takes here.now.at root reached.old.seen
-        reached.old.next.items row.old taker.old result reached.new.seen reached.new.next.items taker.new }
+    ensures width { T.row_width sink.new ≡ T.row_width sink.old }
+    ensures same_reference { T.reference sink.new ≡ T.reference sink.old }
+    ensures arrives { ClosureGives here.now.nfa.now (search_of here.now.input.now) T.takes here.now.at root
+        reached.old.seen
+        reached.old.next.items row.old sink.old result reached.new.seen reached.new.next.items sink.new }
 {
     let mut top = 0;
     let mut sid = root;
     while let Some(pattern) = next_match(here, sid, frames, &mut top, reached, row) {
-        if taker.take(pattern, row) {
+        if sink.take(pattern, row) {
             return true;
         }
         let Some(waiting) = resume(frames, &mut top, row) else {

@@ -8,12 +8,12 @@
 pub mod active;
 pub mod closure;
 pub mod frame;
+pub mod nexts;
 pub mod overlap;
 pub mod room;
 pub mod scan;
-pub mod scratch;
 pub mod seen;
+pub mod sink;
 pub mod sizes;
 pub mod slot;
-pub mod taker;
 pub mod threads;

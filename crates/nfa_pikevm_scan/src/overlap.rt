@@ -5,24 +5,24 @@ ghost use Rattle.regex_search_core.specs.Search.{search_of};
 ghost use Rattle.regex_search_core.specs.declared.search.MatchKind.TheVariants.{All as AllMatches, LeftmostFirst};
 ghost use Rattle.thompson_nfa.specs.Automaton.{IsAutomaton};
 ghost use Rattle.nfa_paths.specs.Overlaps.{IsOverlapResult};
-ghost use Rattle.nfa_pikevm_scan.specs.Scans.{HaveRoom, HaveRows, SameSizes, MayScan, scan_turns, IsWithinTurns};
+ghost use Rattle.nfa_pikevm_scan.specs.Scans.{HaveRoom, HaveRows, SameSizes, MayScan, max_scan_turns, IsWithinTurns};
 ghost use Rattle.nfa_pikevm_scan.specs.Needs.{overlap_scans};
-ghost use Rattle.nfa_pikevm_scan.specs.Overlapping.{CrossesInSet};
-ghost use Rattle.nfa_pikevm_scan.specs.Taking.{TakesPattern};
+ghost use Rattle.nfa_pikevm_scan.specs.Overlapping.{NextsOverlappingGive};
+ghost use Rattle.nfa_pikevm_scan.specs.Sinks.{PatternSinkTakes};
 
-use crate::scan::{Starts, join};
-use crate::scratch::Threads;
+use crate::nexts::{nexts_with, set_up, swap_state_sets};
+use crate::scan::{Starts, add_start};
+use crate::sink::MatchSink;
 use crate::slot::Slot;
-use crate::taker::Taker;
-use crate::threads::{cross_with, move_on, set_up};
-use nfa_scanning::starts::{may_end_at, start_limit, start_state};
+use crate::threads::Threads;
+use nfa_scan_core::starts::{may_end_at, start_limit, start_state};
 use regex_search_core::{Input, MatchKind, PatternID, PatternSet};
 use thompson_nfa::NFA;
 
 /// A taker that adds patterns to a set. A match counts if it may end at its position and the set has room for its
 /// pattern. Without `past_match` the position ends with the first match that counts.
 #[derive(Drop)]
-pub struct Gatherer<'p> {
+pub struct PatternSink<'p> {
     pub patterns: &'p mut PatternSet,
     /// Whether a match may end at the position.
     pub permitted: bool,
@@ -31,10 +31,10 @@ pub struct Gatherer<'p> {
     pub met: bool,
 }
 
-impl Taker for Gatherer<'_> {
+impl MatchSink for PatternSink<'_> {
     ghost row_width = { λ s. 0 };
 
-    ghost takes = { TakesPattern };
+    ghost takes = { PatternSinkTakes };
 
     ghost reference = { λ s. s.patterns.ghost_name };
 
@@ -58,7 +58,7 @@ impl Taker for Gatherer<'_> {
 
 /// Follows the states at the position, and keeps the states that its byte leads to for the next one. Returns whether
 /// there was a match that counts. Requires a set that is not full, since a full one gains nothing.
-fn cross_to_set(
+fn nexts_overlapping(
     nfa: &NFA,
     input: &Input<'_>,
     at: usize,
@@ -75,17 +75,17 @@ fn cross_to_set(
     ensures width { threads.new.curr.width ≡ threads.old.curr.width }
     ensures sizes { SameSizes threads.old threads.new }
     ensures scans { threads.new.scans ≡ threads.old.scans }
-    ensures crosses { CrossesInSet nfa.now (search_of input.now) at past_match (length patterns.old)
+    ensures crosses { NextsOverlappingGive nfa.now (search_of input.now) at past_match (length patterns.old)
         threads.old.reached.seen threads.old.curr.items patterns.old result threads.new.reached.seen
         threads.new.reached.next.items patterns.new }
 {
-    let mut gatherer = Gatherer {
+    let mut gatherer = PatternSink {
         patterns,
         permitted: may_end_at(nfa, input, at),
         past_match,
         met: false,
     };
-    cross_with(nfa, input, at, threads, &mut gatherer);
+    nexts_with(nfa, input, at, threads, &mut gatherer);
     gatherer.met
 }
 
@@ -109,12 +109,12 @@ fn overlap_all(
         if patterns.is_full() {
             return;
         }
-        join(starts, at, threads);
+        add_start(starts, at, threads);
         if threads.curr.is_empty() {
             return;
         }
-        cross_to_set(nfa, input, at, true, threads, patterns);
-        move_on(threads);
+        nexts_overlapping(nfa, input, at, true, threads, patterns);
+        swap_state_sets(threads);
     }
 }
 
@@ -139,12 +139,12 @@ fn overlap_earliest(
         patterns.old patterns.new }
 {
     for at in input.start()..input.end() + 1 {
-        join(starts, at, threads);
+        add_start(starts, at, threads);
         if threads.curr.is_empty() {
             return;
         }
-        let met = cross_to_set(nfa, input, at, past_match, threads, patterns);
-        move_on(threads);
+        let met = nexts_overlapping(nfa, input, at, past_match, threads, patterns);
+        swap_state_sets(threads);
         if met {
             return;
         }
@@ -181,12 +181,12 @@ fn overlap_first(
 {
     let mut joining = *starts;
     for at in input.start()..input.end() + 1 {
-        join(&joining, at, threads);
+        add_start(&joining, at, threads);
         if threads.curr.is_empty() {
             return;
         }
-        let met = cross_to_set(nfa, input, at, false, threads, patterns);
-        move_on(threads);
+        let met = nexts_overlapping(nfa, input, at, false, threads, patterns);
+        swap_state_sets(threads);
         if is_over(met, patterns) {
             return;
         }
@@ -242,7 +242,8 @@ pub fn overlap(
     ensures scans { threads.new.scans ≡ threads.old.scans + overlap_scans kind patterns.old }
     ensures sizes { SameSizes threads.old threads.new }
     ensures turns { threads.new.reached.seen.turns
-        ≤ threads.old.reached.seen.turns + overlap_scans kind patterns.old * scan_turns nfa.now (search_of input.now) }
+        ≤ threads.old.reached.seen.turns + overlap_scans kind patterns.old * max_scan_turns nfa.now
+        (search_of input.now) }
 {
     if !kind.continue_past_first_match() && !patterns.is_empty() {
         return;

@@ -5,15 +5,15 @@ ghost use Rattle.regex_search_core.specs.Found.{half_found_of};
 ghost use Rattle.regex_search_core.specs.Patterns.{number_of};
 ghost use Rattle.regex_search_core.specs.declared.search.MatchKind.TheVariants.{All, LeftmostFirst};
 ghost use Rattle.nfa_paths.specs.Restarts.{ScanGives};
-ghost use Rattle.nfa_scanning.specs.FirstBytes.{IsFirstBytes, IsRefused};
-ghost use Rattle.nfa_pikevm_scan.specs.Scans.{blank, HaveRoom, SameSizes, MayScan, Joins, with_start};
+ghost use Rattle.nfa_scan_core.specs.FirstBytes.{IsFirstBytes, IsRefused};
+ghost use Rattle.nfa_pikevm_scan.specs.Scans.{blank, HaveRoom, SameSizes, MayScan, AddsStart, with_start};
 ghost use Rattle.nfa_pikevm_scan.specs.Scans.{half_found, IsWithinTurns};
 
-use crate::scratch::Threads;
+use crate::nexts::{nexts, set_up, swap_state_sets};
 use crate::slot::{Slot, unset_row};
-use crate::threads::{cross, move_on, set_up};
-use nfa_scanning::first_bytes::FirstBytes;
-use nfa_scanning::starts::{next_start, skip_limit, start_limit, start_state};
+use crate::threads::Threads;
+use nfa_scan_core::first_bytes::FirstBytes;
+use nfa_scan_core::starts::{next_start, skip_limit, start_limit, start_state};
 use regex_search_core::{HalfMatch, Input, MatchKind, PatternID, StateID};
 use thompson_nfa::NFA;
 
@@ -41,8 +41,8 @@ impl Starts {
 
 /// Adds the start state after the states at the position. Requires a position that may not be skipped.
 #[inline(always)]
-pub fn join(starts: &Starts, at: usize, threads: &mut Threads)
-    requires room { length threads.old.curr.items < threads.old.curr.places }
+pub fn add_start(starts: &Starts, at: usize, threads: &mut Threads)
+    requires room { length threads.old.curr.items < threads.old.curr.capacity }
     requires due { starts.now.stop ≤ at }
     ensures curr { threads.new.curr.items ≡ with_start starts.now threads.old.curr.width at threads.old.curr.items }
     ensures next { threads.new.reached.next.items ≡ threads.old.reached.next.items }
@@ -76,7 +76,7 @@ fn pass_over(first: &FirstBytes, input: &Input<'_>, from: usize, stop: usize) ->
 
 /// Adds the start state to the states at the position or, if there is none, at the next position where a match may
 /// begin. If no match may begin here, or at the limit, it adds nothing. Returns the position.
-fn join_or_skip(
+fn add_start_or_skip(
     first: &FirstBytes,
     input: &Input<'_>,
     starts: &Starts,
@@ -84,7 +84,7 @@ fn join_or_skip(
     at: usize,
     threads: &mut Threads,
 ) -> usize
-    requires room { length threads.old.curr.items < threads.old.curr.places }
+    requires room { length threads.old.curr.items < threads.old.curr.capacity }
     requires place { at ≤ (search_of input.now).end }
     requires stop { starts.now.stop ≤ (search_of input.now).end }
     requires order { at < limit → starts.now.stop < limit }
@@ -93,7 +93,7 @@ fn join_or_skip(
     ensures sizes { SameSizes threads.old threads.new }
     ensures seen { threads.new.reached.seen ≡ threads.old.reached.seen }
     ensures scans { threads.new.scans ≡ threads.old.scans }
-    ensures joins { Joins first.now.may_begin (search_of input.now) starts.now limit threads.old.curr.width at
+    ensures joins { AddsStart first.now.may_begin (search_of input.now) starts.now limit threads.old.curr.width at
         threads.old.curr.items result threads.new.curr.items }
 {
     if at >= limit {
@@ -140,12 +140,12 @@ fn scan_first(
     let mut found = None;
     let mut at = input.start();
     while at <= input.end() {
-        at = join_or_skip(first, input, starts, limit, at, threads);
+        at = add_start_or_skip(first, input, starts, limit, at, threads);
         if threads.curr.is_empty() {
             return found;
         }
-        let hit = half_at(cross(nfa, input, at, false, threads, slots), at);
-        move_on(threads);
+        let hit = half_at(nexts(nfa, input, at, false, threads, slots), at);
+        swap_state_sets(threads);
         if hit.is_some() {
             // A later start comes after this match.
             found = hit;
@@ -157,7 +157,7 @@ fn scan_first(
 }
 
 /// Finds the paths with the greatest end, and returns the last of them.
-fn scan_last(
+fn scan_all(
     nfa: &NFA,
     input: &Input<'_>,
     starts: &Starts,
@@ -175,12 +175,12 @@ fn scan_last(
 {
     let mut found = None;
     for at in input.start()..input.end() + 1 {
-        join(starts, at, threads);
+        add_start(starts, at, threads);
         if threads.curr.is_empty() {
             return found;
         }
-        let hit = half_at(cross(nfa, input, at, true, threads, slots), at);
-        move_on(threads);
+        let hit = half_at(nexts(nfa, input, at, true, threads, slots), at);
+        swap_state_sets(threads);
         found = hit.or(found);
     }
     found
@@ -205,12 +205,12 @@ fn scan_earliest(
         threads.new.reached.seen.turns }
 {
     for at in input.start()..input.end() + 1 {
-        join(starts, at, threads);
+        add_start(starts, at, threads);
         if threads.curr.is_empty() {
             return None;
         }
-        let hit = half_at(cross(nfa, input, at, past_match, threads, slots), at);
-        move_on(threads);
+        let hit = half_at(nexts(nfa, input, at, past_match, threads, slots), at);
+        swap_state_sets(threads);
         if hit.is_some() {
             return hit;
         }
@@ -260,7 +260,7 @@ pub fn scan(
             slots,
         )
     } else if past_match {
-        scan_last(nfa, input, &starts.passing_over_none(input), threads, slots)
+        scan_all(nfa, input, &starts.passing_over_none(input), threads, slots)
     } else {
         scan_first(nfa, first, input, &starts, threads, slots)
     }

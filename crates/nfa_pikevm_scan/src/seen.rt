@@ -1,7 +1,7 @@
 //! The states that were entered at a position, and the count of the turns.
 ghost use Rattle.std.specs.Prelude.{◌≡◌, ◌+◌, ◌<◌, [], true, false, length, replicate, slice_index_or, slice_set, IfOk};
 
-use nfa_scanning::counter::Counter;
+use nfa_scan_core::counter::Counter;
 use regex_search_core::Refused;
 use std::alloc::Global;
 use std::marker::Model;
@@ -19,7 +19,7 @@ pub struct Seen {
 
 impl Model for Seen {
     ghost use Rattle.std.specs.Prelude.{All, ◌≤◌, ◌<◌};
-    ghost use Rattle.nfa_scanning.specs.Marks.{Marks};
+    ghost use Rattle.nfa_scan_core.specs.Marks.{Marks};
     ghost use Rattle.nfa_pikevm_scan.specs.Rows.{marks_of};
 
     ghost Value = { Marks };
@@ -64,7 +64,7 @@ impl Seen {
         ensures restarted { self.new ≡ record self.old { turns = 0 } }
         ensures total { total.new ≡ total.old + self.old.turns }
     {
-        total.take(&mut self.turns);
+        total.absorb(&mut self.turns);
     }
 
     /// Clears all marks.

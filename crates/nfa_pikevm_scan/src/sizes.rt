@@ -2,14 +2,14 @@
 ghost use Rattle.std.specs.Prelude.{◌≡◌, ◌^◌, ◌≤◌, IfSome, IfNone, IsOk, OnOk, OnErr, length, max};
 ghost use Rattle.std.specs.List.{sum_by};
 ghost use Rattle.thompson_nfa.specs.Automaton.{node_of};
-ghost use Rattle.nfa_pikevm_scan.specs.Needs.{room_of, stack_places};
+ghost use Rattle.nfa_pikevm_scan.specs.Needs.{room_of, stack_frames};
 ghost use Rattle.nfa_pikevm_scan.specs.Scans.{sizes_of};
 ghost use Rattle.nfa_pikevm_scan.specs.Sizes.{sizes_for, Holds, IsSize, IsSizeOf, IsTooLarge};
 
 use crate::frame::FollowEpsilon;
 use crate::room::{refill, reserve};
-use crate::scratch::Threads;
 use crate::slot::Slot;
+use crate::threads::Threads;
 use regex_search_core::{Refused, StateID};
 use thompson_nfa::{NFA, State};
 
@@ -19,7 +19,7 @@ use thompson_nfa::{NFA, State};
 pub struct Size {
     pub states: usize,
     pub slots: usize,
-    pub places: usize,
+    pub capacity: usize,
     pub cells: usize,
     pub frames: usize,
 }
@@ -48,9 +48,9 @@ fn rooms(states: &[State]) -> Option<usize>
 }
 
 /// Returns the number of frames that the stack of a search needs, if it fits a `usize`.
-pub fn stack_places(nfa: &NFA) -> Option<usize>
-    ensures value { IfSome result (λ n. n ≡ stack_places nfa.now) }
-    ensures past { IfNone result (2 ^ 64 ≤ stack_places nfa.now) }
+pub fn stack_frames(nfa: &NFA) -> Option<usize>
+    ensures value { IfSome result (λ n. n ≡ stack_frames nfa.now) }
+    ensures past { IfNone result (2 ^ 64 ≤ stack_frames nfa.now) }
 {
     Some(rooms(nfa.states())?.max(1))
 }
@@ -62,13 +62,13 @@ pub fn size_for(nfa: &NFA) -> Option<Size>
 {
     let states = nfa.states().len();
     let slots = nfa.group_info().slot_len();
-    let places = states.checked_add(1)?;
-    let cells = places.checked_mul(slots)?;
-    let frames = stack_places(nfa)?;
+    let capacity = states.checked_add(1)?;
+    let cells = capacity.checked_mul(slots)?;
+    let frames = stack_frames(nfa)?;
     Some(Size {
         states,
         slots,
-        places,
+        capacity,
         cells,
         frames,
     })
@@ -97,9 +97,9 @@ pub fn make_room(
 {
     reserve(&mut threads.frames, size.frames)?;
     reserve(&mut threads.reached.seen.stamps, size.states)?;
-    reserve(&mut threads.curr.parts.kept, size.places)?;
+    reserve(&mut threads.curr.parts.kept, size.capacity)?;
     reserve(&mut threads.curr.parts.rows, size.cells)?;
-    reserve(&mut threads.reached.next.parts.kept, size.places)?;
+    reserve(&mut threads.reached.next.parts.kept, size.capacity)?;
     reserve(&mut threads.reached.next.parts.rows, size.cells)?;
     reserve(found, size.slots)?;
     let unused = FollowEpsilon::Explore { sid: filler };
@@ -108,11 +108,11 @@ pub fn make_room(
     threads.reached.seen.newest = 1;
     threads.curr.parts.len = 0;
     threads.curr.parts.width = 0;
-    refill(&mut threads.curr.parts.kept, size.places, filler);
+    refill(&mut threads.curr.parts.kept, size.capacity, filler);
     refill(&mut threads.curr.parts.rows, size.cells, Slot::unset());
     threads.reached.next.parts.len = 0;
     threads.reached.next.parts.width = 0;
-    refill(&mut threads.reached.next.parts.kept, size.places, filler);
+    refill(&mut threads.reached.next.parts.kept, size.capacity, filler);
     refill(
         &mut threads.reached.next.parts.rows,
         size.cells,

@@ -117,7 +117,7 @@ fn clear(slots: &mut [Option<NonMaxUsize>])
 }
 
 /// Copies the row to the first slots, and unsets those after it.
-pub fn hand_out(row: &[Slot], slots: &mut [Option<NonMaxUsize>])
+pub fn copy_out(row: &[Slot], slots: &mut [Option<NonMaxUsize>])
     requires { length row.now ≤ length slots.old }
     ensures { slots.new ≡ row.now ++ replicate (length slots.old - length row.now) None }
 {

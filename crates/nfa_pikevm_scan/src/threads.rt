@@ -1,178 +1,65 @@
-//! All states side by side, from one position to the next.
-ghost use Rattle.std.specs.Prelude.{◌≡◌, ◌*◌, ◌<◌, ◌≤◌, [], false, length, replicate, All};
-ghost use Rattle.regex_search_core.specs.Search.{search_of};
-ghost use Rattle.nfa_pikevm_scan.specs.Needs.{stack_places};
-ghost use Rattle.nfa_pikevm_scan.specs.Rows.{items_of};
-ghost use Rattle.nfa_pikevm_scan.specs.States.{HasRoom, IsHere, KeepsRoom, Crosses};
-ghost use Rattle.nfa_pikevm_scan.specs.Taking.{ArriveAll};
-ghost use Rattle.nfa_pikevm_scan.specs.Scans.{HaveRows, SameSizes};
+//! All that a scan writes besides its slots.
+ghost use Rattle.std.specs.Prelude.{◌≡◌, [], length, IfOk};
 
-use crate::active::Parts;
-use crate::closure::{Here, Reached, follow};
+use crate::active::ActiveStates;
+use crate::closure::ClosureOutput;
 use crate::frame::FollowEpsilon;
-use crate::scratch::Threads;
-use crate::slot::Slot;
-use crate::taker::{LastRow, Taker};
-use nfa_scanning::transitions::byte_at;
-use regex_search_core::{Input, PatternID, StateID};
-use std::mem;
-use thompson_nfa::NFA;
+use crate::seen::Seen;
+use nfa_scan_core::counter::Counter;
+use regex_search_core::Refused;
+use std::alloc::Global;
 
-/// Removes all states, and sets the width of rows to `width` slots.
-pub fn set_up(threads: &mut Threads, width: usize)
-    requires { threads.old.curr.places * width ≤ threads.old.curr.cells }
-    ensures curr { threads.new.curr.items ≡ [] }
-    ensures next { threads.new.reached.next.items ≡ [] }
-    ensures width { threads.new.curr.width ≡ width }
-    ensures sizes { SameSizes threads.old threads.new }
-    ensures seen { threads.new.reached.seen ≡ threads.old.reached.seen }
-    ensures scans { threads.new.scans ≡ threads.old.scans }
-{
-    threads.curr.set_up(width);
-    threads.reached.next.set_up(width);
+/// All that a scan writes besides its slots: the frames of a closure, the states at its position, what is reached from
+/// there, and the count of scans. The two sets of states have equal room, and rows of one width.
+#[derive(Debug, Drop)]
+pub struct Threads {
+    pub frames: Vec<FollowEpsilon>,
+    pub curr: ActiveStates,
+    pub reached: ClosureOutput,
+    /// The number of scans.
+    pub scans: Counter,
+    ghost same_capacity: { reached.next.capacity ≡ curr.capacity },
+    ghost same_cells: { reached.next.cells ≡ curr.cells },
+    ghost same_width: { reached.next.width ≡ curr.width },
 }
 
-/// Makes the states at the next position those at this one.
-#[inline(always)]
-pub fn move_on(threads: &mut Threads)
-    ensures curr { threads.new.curr.items ≡ threads.old.reached.next.items }
-    ensures next { threads.new.reached.next.items ≡ [] }
-    ensures width { threads.new.curr.width ≡ threads.old.curr.width }
-    ensures sizes { SameSizes threads.old threads.new }
-    ensures seen { threads.new.reached.seen ≡ threads.old.reached.seen }
-    ensures scans { threads.new.scans ≡ threads.old.scans }
-{
-    let Threads { curr, reached, .. } = threads;
-    mem::swap(curr, &mut reached.next);
-    reached.next.clear();
-}
-
-/// Follows the states at the position ([`follow`]), in order, each with its row, up to the match that the position ends
-/// with, and keeps the states that the byte leads to.
-#[inline(always)]
-fn cross_states<T: Taker>(
-    here: &Here<'_, '_>,
-    kept: &[StateID],
-    rows: &mut [Slot],
-    frames: &mut [FollowEpsilon],
-    reached: &mut Reached,
-    taker: &mut T,
-)
-    requires here { IsHere here.now }
-    requires states { All (λ s. s < length here.now.nfa.now.states) kept.now }
-    requires room { HasRoom here.now.nfa.now reached.old.seen.bits 0 (stack_places here.now.nfa.now) 0
-        reached.old.next.places }
-    requires stack { stack_places here.now.nfa.now ≤ length frames.old }
-    requires clear { reached.old.seen.bits ≡ replicate (length reached.old.seen.bits) false }
-    requires empty { reached.old.next.items ≡ [] }
-    requires width { T.row_width taker.old ≡ reached.old.next.width }
-    requires rows { length kept.now * T.row_width taker.old ≤ length rows.old }
-    ensures keeps { KeepsRoom reached.old reached.new }
-    ensures grows { reached.old.seen.turns ≤ reached.new.seen.turns }
-    ensures width { T.row_width taker.new ≡ T.row_width taker.old }
-    ensures same_reference { T.reference taker.new ≡ T.reference taker.old }
-    ensures arrive { ArriveAll here.now.nfa.now (search_of here.now.input.now) T.takes here.now.at reached.old.seen
-        (items_of (T.row_width taker.old) kept.now rows.old) taker.old reached.new.seen reached.new.next.items
-        taker.new }
-{
-    let width = taker.width();
-    let mut start = 0;
-    for sid in kept {
-        let row = &mut rows[start..start + width];
-        if follow(here, *sid, frames, reached, row, taker) {
-            return;
-        }
-        start += width;
+impl Threads {
+    /// Makes threads with room for no state.
+    pub fn new(alloc: Global) -> Result<Threads, Refused>
+        ensures seen { IfOk result (λ made. made.reached.seen ≡ record { bits = []; turns = 0 }) }
+        ensures curr { IfOk result (λ made. made.curr ≡ record { items = []; width = 0; capacity = 0; cells = 0 }) }
+        ensures next { IfOk result (λ made.
+            made.reached.next ≡ record { items = []; width = 0; capacity = 0; cells = 0 }) }
+        ensures frames { IfOk result (λ made. made.frames.items ≡ []) }
+        ensures scans { IfOk result (λ made. made.scans ≡ 0) }
+    {
+        Ok(Threads {
+            frames: Vec::new(alloc),
+            curr: ActiveStates::new(alloc)?,
+            reached: ClosureOutput {
+                seen: Seen::new(alloc),
+                next: ActiveStates::new(alloc)?,
+            },
+            scans: Counter::new(),
+        })
     }
-}
 
-/// Follows the states at the position, gives their matches to the taker, and keeps the states that the position's byte
-/// leads to for the next one.
-#[inline(always)]
-pub fn cross_with<T: Taker>(
-    nfa: &NFA,
-    input: &Input<'_>,
-    at: usize,
-    threads: &mut Threads,
-    taker: &mut T,
-)
-    requires place { at ≤ (search_of input.now).end }
-    requires states { All (λ i. i.0 < length nfa.now.states) threads.old.curr.items }
-    requires room { HaveRows nfa.now (T.row_width taker.old) threads.old }
-    requires some { 0 < length threads.old.curr.items }
-    requires empty { threads.old.reached.next.items ≡ [] }
-    ensures width { threads.new.curr.width ≡ threads.old.curr.width }
-    ensures sizes { SameSizes threads.old threads.new }
-    ensures grows { threads.old.reached.seen.turns ≤ threads.new.reached.seen.turns }
-    ensures scans { threads.new.scans ≡ threads.old.scans }
-    ensures same_reference { T.reference taker.new ≡ T.reference taker.old }
-    ensures rows { All (λ i. length i.1 ≤ T.row_width taker.old) threads.old.curr.items }
-    ensures arrive { ArriveAll nfa.now (search_of input.now) T.takes at threads.old.reached.seen
-        threads.old.curr.items taker.old threads.new.reached.seen threads.new.reached.next.items taker.new }
-{
-    let Threads {
-        frames,
-        curr,
-        reached,
-        ..
-    } = threads;
-    reached.seen.clear();
-    let Parts {
-        kept,
-        rows,
-        len,
-        ..
-    } = &mut *curr.parts;
-    let kept = &kept.as_slice()[..*len];
-    let rows = rows.as_mut_slice();
-    let frames = frames.as_mut_slice();
-    let end = Here {
-        nfa,
-        input,
-        at,
-        byte: None,
-    };
-    // One call for each case, so that the loop over the states does not test at each one whether there is a byte.
-    match byte_at(input, at) {
-        Some(byte) => {
-            let here = Here {
-                byte: Some(byte),
-                ..end
-            };
-            cross_states(&here, kept, rows, frames, reached, taker);
-        }
-        None => cross_states(&end, kept, rows, frames, reached, taker),
+    /// Returns the same states, marks and frames.
+    pub fn copied(&self) -> Result<Threads, Refused>
+        ensures seen { IfOk result (λ copy. copy.reached.seen ≡ self.now.reached.seen) }
+        ensures curr { IfOk result (λ copy. copy.curr ≡ self.now.curr) }
+        ensures next { IfOk result (λ copy. copy.reached.next ≡ self.now.reached.next) }
+        ensures frames { IfOk result (λ copy. length copy.frames.items ≡ length self.now.frames.items) }
+        ensures scans { IfOk result (λ copy. copy.scans ≡ self.now.scans) }
+    {
+        Ok(Threads {
+            frames: self.frames.clone()?,
+            curr: self.curr.copied()?,
+            reached: ClosureOutput {
+                seen: self.reached.seen.copied()?,
+                next: self.reached.next.copied()?,
+            },
+            scans: self.scans.copy(),
+        })
     }
-}
-
-/// Follows the states at the position, and keeps the states that its byte leads to for the next one. Returns the last
-/// match, and writes its slots. Without `past_match` it stops at the first match.
-#[inline(always)]
-pub fn cross(
-    nfa: &NFA,
-    input: &Input<'_>,
-    at: usize,
-    past_match: bool,
-    threads: &mut Threads,
-    slots: &mut [Slot],
-) -> Option<PatternID>
-    requires place { at ≤ (search_of input.now).end }
-    requires states { All (λ i. i.0 < length nfa.now.states) threads.old.curr.items }
-    requires room { HaveRows nfa.now (length slots.old) threads.old }
-    requires some { 0 < length threads.old.curr.items }
-    requires empty { threads.old.reached.next.items ≡ [] }
-    ensures width { threads.new.curr.width ≡ threads.old.curr.width }
-    ensures sizes { SameSizes threads.old threads.new }
-    ensures grows { threads.old.reached.seen.turns ≤ threads.new.reached.seen.turns }
-    ensures scans { threads.new.scans ≡ threads.old.scans }
-    ensures crosses { Crosses nfa.now (search_of input.now) at past_match threads.old.reached.seen
-        threads.old.curr.items slots.old result threads.new.reached.seen threads.new.reached.next.items slots.new }
-{
-    let mut last = LastRow {
-        slots,
-        hit: None,
-        past_match,
-    };
-    cross_with(nfa, input, at, threads, &mut last);
-    last.hit
 }

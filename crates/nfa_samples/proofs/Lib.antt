@@ -1,2 +1,2 @@
-pub mod DraftLemmas
+pub mod StateTableLemmas
 pub mod NameLemmas

@@ -2,9 +2,9 @@
 ghost use Rattle.std.specs.Prelude.{◌↔◌, IfErr, IfOk, IsNone, IsOkUnless};
 ghost use Rattle.nfa_samples.specs.Names.{IsNoneOf, empty_names};
 
-use crate::draft::Draft;
-use crate::draft::Row::{Assert, Byte, Capture, Either, Match};
 use crate::some;
+use crate::state_table::StateRow::{Assert, Byte, Capture, Either, Match};
+use crate::state_table::StateTable;
 use std::alloc::Global;
 use thompson_nfa::{BuildError, Look, NFA};
 
@@ -32,7 +32,7 @@ pub fn named(alloc: Global, name: &str) -> Result<Option<NFA>, BuildError>
 fn a_or_empty(alloc: Global) -> Result<NFA, BuildError>
     ensures { IsOkUnless result BuildError.Memory }
 {
-    Draft {
+    StateTable {
         rows: &[
             Capture(0, 1),
             Either(2, 3),
@@ -52,7 +52,7 @@ fn a_or_empty(alloc: Global) -> Result<NFA, BuildError>
 fn empty_or_a(alloc: Global) -> Result<NFA, BuildError>
     ensures { IsOkUnless result BuildError.Memory }
 {
-    Draft {
+    StateTable {
         rows: &[
             Capture(0, 1),
             Either(3, 2),
@@ -72,7 +72,7 @@ fn empty_or_a(alloc: Global) -> Result<NFA, BuildError>
 fn empty(alloc: Global) -> Result<NFA, BuildError>
     ensures { IsOkUnless result BuildError.Memory }
 {
-    Draft {
+    StateTable {
         rows: &[Capture(0, 1), Capture(1, 2), Match(0)],
         starts: &[0],
         groups: &[&[]],
@@ -86,7 +86,7 @@ fn empty(alloc: Global) -> Result<NFA, BuildError>
 fn empty_bytes(alloc: Global) -> Result<NFA, BuildError>
     ensures { IsOkUnless result BuildError.Memory }
 {
-    Draft {
+    StateTable {
         rows: &[Capture(0, 1), Capture(1, 2), Match(0)],
         starts: &[0],
         groups: &[&[]],
@@ -100,7 +100,7 @@ fn empty_bytes(alloc: Global) -> Result<NFA, BuildError>
 fn empty_anchored(alloc: Global) -> Result<NFA, BuildError>
     ensures { IsOkUnless result BuildError.Memory }
 {
-    Draft {
+    StateTable {
         rows: &[Capture(0, 1), Capture(1, 2), Match(0)],
         starts: &[0],
         groups: &[&[]],
@@ -114,7 +114,7 @@ fn empty_anchored(alloc: Global) -> Result<NFA, BuildError>
 fn a_star(alloc: Global) -> Result<NFA, BuildError>
     ensures { IsOkUnless result BuildError.Memory }
 {
-    Draft {
+    StateTable {
         rows: &[
             Capture(0, 1),
             Either(2, 3),
@@ -134,7 +134,7 @@ fn a_star(alloc: Global) -> Result<NFA, BuildError>
 fn a_star_bytes(alloc: Global) -> Result<NFA, BuildError>
     ensures { IsOkUnless result BuildError.Memory }
 {
-    Draft {
+    StateTable {
         rows: &[
             Capture(0, 1),
             Either(2, 3),
@@ -154,7 +154,7 @@ fn a_star_bytes(alloc: Global) -> Result<NFA, BuildError>
 fn empty_loop(alloc: Global) -> Result<NFA, BuildError>
     ensures { IsOkUnless result BuildError.Memory }
 {
-    Draft {
+    StateTable {
         rows: &[
             Capture(0, 1),
             Either(2, 3),
@@ -174,7 +174,7 @@ fn empty_loop(alloc: Global) -> Result<NFA, BuildError>
 fn snowman(alloc: Global) -> Result<NFA, BuildError>
     ensures { IsOkUnless result BuildError.Memory }
 {
-    Draft {
+    StateTable {
         rows: &[
             Capture(0, 1),
             Either(2, 5),

@@ -13,8 +13,8 @@ ghost use Rattle.std.specs.Prelude.{◌≡◌, ◌↔◌, Err, IfErr, IfOk, IsNo
 ghost use Rattle.nfa_samples.specs.Names.{IsNoneOf, sample_names};
 
 pub mod answers;
-mod draft;
 mod empties;
+mod state_table;
 mod tables;
 mod words;
 

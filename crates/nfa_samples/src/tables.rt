@@ -2,11 +2,11 @@
 ghost use Rattle.std.specs.Prelude.{◌↔◌, ◌≡◌, length, true, IfErr, IfOk, IsNone, IsOkUnless};
 ghost use Rattle.std.specs.List.{list_all};
 ghost use Rattle.nfa_samples.specs.Names.{IsNoneOf, table_names};
-ghost use Rattle.nfa_samples.specs.Drafts.{is_row};
+ghost use Rattle.nfa_samples.specs.StateTables.{is_row};
 
-use crate::draft::Draft;
-use crate::draft::Row::{self, Assert, Byte, Capture, Either, Match, Range, Ranges};
 use crate::some;
+use crate::state_table::StateRow::{self, Assert, Byte, Capture, Either, Match, Range, Ranges};
+use crate::state_table::StateTable;
 use std::alloc::{AllocError, Global};
 use thompson_nfa::{BuildError, Look, NFA};
 
@@ -35,7 +35,7 @@ pub fn named(alloc: Global, name: &str) -> Result<Option<NFA>, BuildError>
 fn groups(alloc: Global) -> Result<NFA, BuildError>
     ensures { IsOkUnless result BuildError.Memory }
 {
-    Draft {
+    StateTable {
         rows: &[
             Capture(0, 1),
             Either(2, 6),
@@ -62,7 +62,7 @@ fn groups(alloc: Global) -> Result<NFA, BuildError>
 fn a_bare(alloc: Global) -> Result<NFA, BuildError>
     ensures { IsOkUnless result BuildError.Memory }
 {
-    Draft {
+    StateTable {
         rows: &[Byte(b'a', 1), Match(0)],
         starts: &[0],
         groups: &[],
@@ -76,7 +76,7 @@ fn a_bare(alloc: Global) -> Result<NFA, BuildError>
 fn a_pair(alloc: Global) -> Result<NFA, BuildError>
     ensures { IsOkUnless result BuildError.Memory }
 {
-    Draft {
+    StateTable {
         rows: &[Byte(b'a', 1), Match(0)],
         starts: &[0],
         groups: &[],
@@ -90,7 +90,7 @@ fn a_pair(alloc: Global) -> Result<NFA, BuildError>
 fn backwards(alloc: Global) -> Result<NFA, BuildError>
     ensures { IsOkUnless result BuildError.Memory }
 {
-    Draft {
+    StateTable {
         rows: &[Capture(1, 1), Byte(b'a', 2), Capture(0, 3), Match(0)],
         starts: &[0],
         groups: &[&[]],
@@ -104,7 +104,7 @@ fn backwards(alloc: Global) -> Result<NFA, BuildError>
 fn three_digits(alloc: Global) -> Result<NFA, BuildError>
     ensures { IsOkUnless result BuildError.Memory }
 {
-    Draft {
+    StateTable {
         rows: &[
             Capture(0, 1),
             Assert(Look::WordUnicode, 2),
@@ -128,7 +128,7 @@ fn alnum100(alloc: Global) -> Result<NFA, BuildError>
     ensures { IsOkUnless result BuildError.Memory }
 {
     let rows = alnum100_rows(alloc)?;
-    Draft {
+    StateTable {
         rows: &rows,
         starts: &[0],
         groups: &[&[]],
@@ -139,7 +139,7 @@ fn alnum100(alloc: Global) -> Result<NFA, BuildError>
 }
 
 /// The states of `alnum100`, which form a chain.
-fn alnum100_rows(alloc: Global) -> Result<Vec<Row<'static>>, AllocError>
+fn alnum100_rows(alloc: Global) -> Result<Vec<StateRow<'static>>, AllocError>
     ensures { IfOk result (λ rows. (length rows.items ≡ 103) × (list_all (is_row 105 2 1) rows.items ≡ true)) }
 {
     let mut rows = Vec::with_capacity(alloc, 103)?;
@@ -158,7 +158,7 @@ const ALNUM: [(u8, u8); 3] = [(b'0', b'9'), (b'A', b'Z'), (b'a', b'z')];
 fn words_numbers(alloc: Global) -> Result<NFA, BuildError>
     ensures { IsOkUnless result BuildError.Memory }
 {
-    Draft {
+    StateTable {
         rows: &[
             Either(1, 6),
             Capture(0, 2),
@@ -184,7 +184,7 @@ fn words_numbers(alloc: Global) -> Result<NFA, BuildError>
 fn foo_num(alloc: Global) -> Result<NFA, BuildError>
     ensures { IsOkUnless result BuildError.Memory }
 {
-    Draft {
+    StateTable {
         rows: &[
             Capture(0, 1),
             Byte(b'f', 2),
@@ -209,7 +209,7 @@ fn foo_num(alloc: Global) -> Result<NFA, BuildError>
 fn date(alloc: Global) -> Result<NFA, BuildError>
     ensures { IsOkUnless result BuildError.Memory }
 {
-    Draft {
+    StateTable {
         rows: &[
             Capture(0, 1),
             Assert(Look::Start, 2),
@@ -247,7 +247,7 @@ const LOWER_OR_DIGIT: [(u8, u8); 2] = [(b'0', b'9'), (b'a', b'z')];
 fn six(alloc: Global) -> Result<NFA, BuildError>
     ensures { IsOkUnless result BuildError.Memory }
 {
-    Draft {
+    StateTable {
         rows: &[
             Either(1, 10),
             Capture(0, 2),

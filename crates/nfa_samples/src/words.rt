@@ -2,9 +2,9 @@
 ghost use Rattle.std.specs.Prelude.{◌↔◌, IfErr, IfOk, IsNone, IsOkUnless};
 ghost use Rattle.nfa_samples.specs.Names.{IsNoneOf, word_names};
 
-use crate::draft::Draft;
-use crate::draft::Row::{Byte, Capture, Either, Match, Union};
 use crate::some;
+use crate::state_table::StateRow::{Byte, Capture, Either, Match, Union};
+use crate::state_table::StateTable;
 use std::alloc::Global;
 use thompson_nfa::{BuildError, NFA};
 
@@ -32,7 +32,7 @@ pub fn named(alloc: Global, name: &str) -> Result<Option<NFA>, BuildError>
 fn abc(alloc: Global) -> Result<NFA, BuildError>
     ensures { IsOkUnless result BuildError.Memory }
 {
-    Draft {
+    StateTable {
         rows: &[
             Capture(0, 1),
             Byte(b'a', 2),
@@ -53,7 +53,7 @@ fn abc(alloc: Global) -> Result<NFA, BuildError>
 fn ab_b(alloc: Global) -> Result<NFA, BuildError>
     ensures { IsOkUnless result BuildError.Memory }
 {
-    Draft {
+    StateTable {
         rows: &[
             Either(1, 6),
             Capture(0, 2),
@@ -78,7 +78,7 @@ fn ab_b(alloc: Global) -> Result<NFA, BuildError>
 fn ab_abc(alloc: Global) -> Result<NFA, BuildError>
     ensures { IsOkUnless result BuildError.Memory }
 {
-    Draft {
+    StateTable {
         rows: &[
             Either(1, 6),
             Capture(0, 2),
@@ -105,7 +105,7 @@ fn ab_abc(alloc: Global) -> Result<NFA, BuildError>
 fn abc_ab(alloc: Global) -> Result<NFA, BuildError>
     ensures { IsOkUnless result BuildError.Memory }
 {
-    Draft {
+    StateTable {
         rows: &[
             Either(1, 7),
             Capture(0, 2),
@@ -132,7 +132,7 @@ fn abc_ab(alloc: Global) -> Result<NFA, BuildError>
 fn abc_b(alloc: Global) -> Result<NFA, BuildError>
     ensures { IsOkUnless result BuildError.Memory }
 {
-    Draft {
+    StateTable {
         rows: &[
             Either(1, 7),
             Capture(0, 2),
@@ -158,7 +158,7 @@ fn abc_b(alloc: Global) -> Result<NFA, BuildError>
 fn foo_bar(alloc: Global) -> Result<NFA, BuildError>
     ensures { IsOkUnless result BuildError.Memory }
 {
-    Draft {
+    StateTable {
         rows: &[
             Union(&[1, 7, 13, 22]),
             Capture(0, 2),
@@ -204,7 +204,7 @@ fn foo_bar(alloc: Global) -> Result<NFA, BuildError>
 fn b_a(alloc: Global) -> Result<NFA, BuildError>
     ensures { IsOkUnless result BuildError.Memory }
 {
-    Draft {
+    StateTable {
         rows: &[
             Either(5, 1),
             Capture(0, 2),
@@ -229,7 +229,7 @@ fn b_a(alloc: Global) -> Result<NFA, BuildError>
 fn abc_a(alloc: Global) -> Result<NFA, BuildError>
     ensures { IsOkUnless result BuildError.Memory }
 {
-    Draft {
+    StateTable {
         rows: &[
             Capture(0, 3),
             Capture(1, 2),
@@ -252,7 +252,7 @@ fn abc_a(alloc: Global) -> Result<NFA, BuildError>
 fn abcd_b(alloc: Global) -> Result<NFA, BuildError>
     ensures { IsOkUnless result BuildError.Memory }
 {
-    Draft {
+    StateTable {
         rows: &[
             Capture(0, 1),
             Either(2, 6),

@@ -12,21 +12,21 @@ use Rattle.regex_search_core.specs.Slots.{Captured}
 use Rattle.regex_search_core.specs.declared.search.MatchKind.{MatchKind}
 use Rattle.thompson_nfa.specs.Automaton.{Automaton}
 use Rattle.nfa_search_base.specs.Asking.{SameButStart}
-use Rattle.nfa_search_base.specs.Catching.{Catching, GivesCaptures, Row, row_of, row_span}
-use Rattle.nfa_search_base.specs.CaughtLists.{AreRows, HasGroups, TellsRow}
-use Rattle.nfa_search_base.specs.CaughtRuns.{CapturesInside, match_in}
+use Rattle.nfa_search_base.specs.WithCaptures.{WithCaptures, GivesCaptures, Row, row_of, row_span}
+use Rattle.nfa_search_base.specs.CapturesLists.{AreRows, HasGroups, AnswersRow}
+use Rattle.nfa_search_base.specs.CapturesRuns.{CapturesInside, match_in}
 use Rattle.nfa_search_base.specs.Drained.{CallsLead, DrainsAll, DrainsToError}
-use Rattle.nfa_search_base.specs.EngineSearches.{AsksEngineRow, MayCatch}
-use Rattle.nfa_search_base.specs.Lending.{With}
-use Rattle.nfa_search_base.specs.Lists.{AreApart, AreMatches}
+use Rattle.nfa_search_base.specs.EngineSearches.{AsksEngineRow, MayFill}
+use Rattle.nfa_search_base.specs.WithCache.{WithCache}
+use Rattle.nfa_search_base.specs.Lists.{AreDisjoint, AreMatches}
 use Rattle.nfa_search_base.specs.Steps.{TakesStep}
-use Rattle.nfa_search_base.specs.Stored.{steps_walk, takes_steps}
-use Rattle.nfa_search_base.specs.Walks.{Answer, fresh}
+use Rattle.nfa_search_base.specs.Stored.{steps_iter_state, takes_steps}
+use Rattle.nfa_search_base.specs.IterStates.{Answer, fresh}
 use Rattle.nfa_search_base.specs.declared.error.SearchError.{SearchError}
 use Rattle.nfa_search_base.specs.declared.error.SearchError.TheVariants.{Memory}
 use Rattle.nfa_search_base.specs.declared.iter.steps.Steps.{Steps}
-use Rattle.nfa_search_base.proofs.CaughtRunLemmas.{captures-memory, captures-within, copy-of, matches_in-all}
-use Rattle.nfa_search_base.proofs.CaughtRunLemmas.{matches_in-first, rows-all, runs-hold}
+use Rattle.nfa_search_base.proofs.CapturesRunLemmas.{captures-memory, captures-within, copy-of, matches_in-all}
+use Rattle.nfa_search_base.proofs.CapturesRunLemmas.{matches_in-first, rows-all, runs-hold}
 use Rattle.nfa_search_base.proofs.EngineLemmas.{catcher-acts, catcher-goes}
 use Rattle.nfa_search_base.proofs.ListLemmas.{matches-apart}
 use Rattle.nfa_search_base.proofs.RunLemmas.{calls-keep, step-keeps}
@@ -52,73 +52,77 @@ all-last P (y ∷ ys) x h = all-last P ys x (All-tail P y (ys ++ x ∷ []) h)
 module _ {E C : Type 0} (nfa : E → Automaton) (Fits : C → E → Type 0) (Tells : E → Search → Answer Row → Type 0)
     (Work : E → Search → Answer Row → C → C → Type 0)
     (stays : (e : E) (x : Search) (a : Answer Row) (old new : C) → Work e x a old new → Fits old e → Fits new e) where
-  abbrev AsksRow : With (Catching E) C → Search → Answer Row → With (Catching E) C → Type 0
+  abbrev AsksRow : WithCache (WithCaptures E) C → Search → Answer Row → WithCache (WithCaptures E) C → Type 0
   AsksRow = AsksEngineRow nfa Tells Work
 
-  abbrev Calls : Steps (With (Catching E) C) → Option (Result Captured SearchError) → Steps (With (Catching E) C)
+  abbrev Calls : Steps (WithCache (WithCaptures E) C) → Option (Result Captured SearchError)
+      → Steps (WithCache (WithCaptures E) C)
       → Type 0
-  Calls = takes_steps row_span AsksRow (λ q. GivesCaptures q.asker)
+  Calls = takes_steps row_span AsksRow (λ q. GivesCaptures q.backend)
 
   -- what each search keeps of the cache, the calls keep
   pub calls-cache : (Keeps : C → C → Type 0) → ((c : C) → Keeps c c)
       → ((a b c : C) → Keeps a b → Keeps b c → Keeps a c)
       → ((e : E) (x : Search) (a : Answer Row) (old new : C) → Work e x a old new → Keeps old new)
-      → (s t : Steps (With (Catching E) C)) → CallsLead Calls s t → Keeps s.asker.cache t.asker.cache
+      → (s t : Steps (WithCache (WithCaptures E) C)) → CallsLead Calls s t → Keeps s.backend.cache t.backend.cache
   calls-cache Keeps self then kept s t lead =
-      calls-keep Calls (λ p q. Keeps p.asker.cache q.asker.cache) (λ p. self p.asker.cache)
-      (λ p q u f g. then p.asker.cache q.asker.cache u.asker.cache f g)
-      (λ p r q st. step-keeps row_span AsksRow (λ q. GivesCaptures q.asker)
-      (λ (p q : With (Catching E) C). Keeps p.cache q.cache) (λ p. self p.cache)
+      calls-keep Calls (λ p q. Keeps p.backend.cache q.backend.cache) (λ p. self p.backend.cache)
+      (λ p q u f g. then p.backend.cache q.backend.cache u.backend.cache f g)
+      (λ p r q st. step-keeps row_span AsksRow (λ q. GivesCaptures q.backend)
+      (λ (p q : WithCache (WithCaptures E) C). Keeps p.cache q.cache) (λ p. self p.cache)
       (λ p q u f g. then p.cache q.cache u.cache f g)
-      (λ p x a q asked. kept p.asker.finder x a p.cache q.cache asked.work) p r q st)
+      (λ p x a q asked. kept p.backend.finder x a p.cache q.cache asked.work) p r q st)
       s lead.items lead.last lead.item t lead.ran lead.over
 
   -- The engine gives answers as in `Told` on searches like x. Without an error, that is the row of its NFA.
   module _ (e : E) (kind : MatchKind) (earliest : Bool) (Told : Search → Answer Row → Type 0)
-      (row : (t : Search) (o : Option Row) → Told t (Ok o) → TellsRow (nfa e) kind earliest t (Ok o)) (x : Search)
+      (row : (t : Search) (o : Option Row) → Told t (Ok o) → AnswersRow (nfa e) kind earliest t (Ok o)) (x : Search)
       (tells : (t : Search) (a : Answer Row) → SameButStart x t → Tells e t a → Told t a)
-      (s : Steps (With (Catching E) C)) (may : MayCatch nfa Fits s.asker) (engine : s.asker.asker.finder ≡ e)
-      (walk : steps_walk s ≡ fresh x) (going : s.done ≡ false) where
-    abbrev Good : With (Catching E) C → Type 0
-    Good q = q.asker.finder ≡ e
+      (s : Steps (WithCache (WithCaptures E) C)) (may : MayFill nfa Fits s.backend)
+      (engine : s.backend.backend.finder ≡ e)
+      (walk : steps_iter_state s ≡ fresh x) (going : s.done ≡ false) where
+    abbrev Good : WithCache (WithCaptures E) C → Type 0
+    Good q = q.backend.finder ≡ e
 
-    acts : (q : With (Catching E) C) (t : Search) (a : Answer Row) (q' : With (Catching E) C) → SameButStart x t
+    acts : (q : WithCache (WithCaptures E) C) (t : Search) (a : Answer Row) (q' : WithCache (WithCaptures E) C)
+        → SameButStart x t
         → Good q → AsksRow q t a q' → Told t a × Good q'
     acts q t a q' same good asked =
         let k = catcher-acts nfa Fits Tells Work stays e q t a q' good asked in (tells t a same k.0, k.1)
 
-    abbrev Holds : Steps (With (Catching E) C) → Type 0
-    Holds q = MayCatch nfa Fits q.asker × Good q.asker
+    abbrev Holds : Steps (WithCache (WithCaptures E) C) → Type 0
+    Holds q = MayFill nfa Fits q.backend × Good q.backend
 
     -- each item has the groups of the NFA
-    call-groups : (p : Steps (With (Catching E) C)) (r : Result Captured SearchError)
-        (q : Steps (With (Catching E) C)) → Holds p → Calls p (Some r) q → IfOk r (HasGroups (nfa e)) × Holds q
+    call-groups : (p : Steps (WithCache (WithCaptures E) C)) (r : Result Captured SearchError)
+        (q : Steps (WithCache (WithCaptures E) C)) → Holds p → Calls p (Some r) q → IfOk r (HasGroups (nfa e)) × Holds q
     call-groups p r q holds st = (of r p.done st, left)
       where
         left : Holds q
         left = (
           catcher-goes nfa Fits Tells Work stays p (Some r) q st holds.0,
-          step-keeps row_span AsksRow (λ q. GivesCaptures q.asker)
-              (λ (a b : With (Catching E) C). b.asker.finder ≡ a.asker.finder) (λ a. refl) (λ a b c f g. g ∙ f)
+          step-keeps row_span AsksRow (λ q. GivesCaptures q.backend)
+              (λ (a b : WithCache (WithCaptures E) C). b.backend.finder ≡ a.backend.finder) (λ a. refl)
+              (λ a b c f g. g ∙ f)
               (λ a x d b asked. asked.engine) p (Some r) q st ∙ holds.1,
         )
 
         of : (r : Result Captured SearchError) (b : Bool)
             → MatchBool b ((Some r ≡ None) × (q ≡ p))
-            (TakesStep row_span AsksRow (λ q. GivesCaptures q.asker) p.asker (steps_walk p) (Some r) q.asker
-            (steps_walk q) q.done)
+            (TakesStep row_span AsksRow (λ q. GivesCaptures q.backend) p.backend (steps_iter_state p) (Some r) q.backend
+            (steps_iter_state q) q.done)
             → IfOk r (HasGroups (nfa e))
         of (Err error) b h = tt
         of (Ok d) true h = let k : (let z : Option (Result Captured SearchError) = Some (Ok d) in z ≡ None) = h.0 in cc
         of (Ok d) false h =
-            let copied = copy-of q.asker.asker h.answer d h.item in
+            let copied = copy-of q.backend.backend h.answer d h.item in
             rw (copied, ← left.1) (left.0.holds)
 
     -- the items of calls that go on to none are the captures of all matches of x, which are in its span, one after the
     -- other
-    drained : (cs : List Captured) (t : Steps (With (Catching E) C)) → DrainsAll Calls s cs t
+    drained : (cs : List Captured) (t : Steps (WithCache (WithCaptures E) C)) → DrainsAll Calls s cs t
         → AreRows (nfa e) kind earliest x (map row_of cs) × AreMatches (nfa e) kind earliest x (map match_in cs)
-        × All (HasGroups (nfa e)) cs × All (CapturesInside x) cs × AreApart x None (map match_in cs)
+        × All (HasGroups (nfa e)) cs × All (CapturesInside x) cs × AreDisjoint x None (map match_in cs)
     drained cs t all =
         let run = run_of_exit Calls s (map Ok cs) all.last all.ran t all.over in
         let items = run.3.0 in
@@ -139,18 +143,18 @@ module _ {E C : Type 0} (nfa : E → Automaton) (Fits : C → E → Type 0) (Tel
 
     -- and so if a result holds them
     pub all-drained : {V : Type 0} (r : Result V SearchError) (items : V → List Captured)
-        (t : Steps (With (Catching E) C)) → IfOk r (λ v. DrainsAll Calls s (items v) t)
+        (t : Steps (WithCache (WithCaptures E) C)) → IfOk r (λ v. DrainsAll Calls s (items v) t)
         → IfOk r (λ v. AreRows (nfa e) kind earliest x (map row_of (items v)))
         × IfOk r (λ v. AreMatches (nfa e) kind earliest x (map match_in (items v)))
         × IfOk r (λ v. All (HasGroups (nfa e)) (items v)) × IfOk r (λ v. All (CapturesInside x) (items v))
-        × IfOk r (λ v. AreApart x None (map match_in (items v)))
+        × IfOk r (λ v. AreDisjoint x None (map match_in (items v)))
     all-drained (Ok v) items t all = drained (items v) t all
     all-drained (Err error) items t all = (tt, tt, tt, tt, tt)
 
     -- and an error is that of memory, if no search has another
     pub error-drained : ((t : Search) (error : SearchError) → x.start ≤ t.start → t.end ≡ x.end → Told t (Err error)
         → error ≡ Memory)
-        → (error : SearchError) (t : Steps (With (Catching E) C))
+        → (error : SearchError) (t : Steps (WithCache (WithCaptures E) C))
         → (error ≡ Memory) ⊎ DrainsToError Calls s error t → error ≡ Memory
     error-drained memory error t (inl is) = is
     error-drained memory error t (inr ends) =

@@ -11,28 +11,28 @@ use Rattle.regex_search_core.specs.declared.search.Match.{Match}
 use Rattle.regex_search_core.specs.declared.search.MatchKind.{MatchKind}
 use Rattle.regex_search_core.specs.declared.search.Span.{Span}
 use Rattle.thompson_nfa.specs.Automaton.{Automaton}
-use Rattle.nfa_paths.specs.Paths.{IsMatchAnswer}
+use Rattle.nfa_paths.specs.Paths.{IsFindAnswer}
 use Rattle.nfa_search_base.specs.Asking.{SameButStart}
 use Rattle.nfa_search_base.specs.CapturesGiven.{CapturesGiven}
-use Rattle.nfa_search_base.specs.Catching.{Catching, GivesCaptures, Row, row_span}
-use Rattle.nfa_search_base.specs.CaughtLists.{HasGroups, TellsRow}
+use Rattle.nfa_search_base.specs.WithCaptures.{WithCaptures, GivesCaptures, Row, row_span}
+use Rattle.nfa_search_base.specs.CapturesLists.{HasGroups, AnswersRow}
 use Rattle.nfa_search_base.specs.EngineSearches.{AnswersBy, AsksEngine, AsksEngineRow, IsKnownFrom, Keeping, Knowing}
-use Rattle.nfa_search_base.specs.EngineSearches.{MayCatch, MayFind, SearchesUnlessKnown, found_in, if_ends_at}
+use Rattle.nfa_search_base.specs.EngineSearches.{MayFill, MayFind, SearchesUnlessKnown, found_in, if_ends_at}
 use Rattle.nfa_search_base.specs.Finders.{answer_by}
-use Rattle.nfa_search_base.specs.Lending.{With}
-use Rattle.nfa_search_base.specs.Lent.{GivesLent, KeepsLent, Lent, TakesLentStep, lent_state}
-use Rattle.nfa_search_base.specs.Lists.{TellsMatch}
+use Rattle.nfa_search_base.specs.WithCache.{WithCache}
+use Rattle.nfa_search_base.specs.StepsWith.{GivesStepsWith, KeepsStepsWith, StepsWith, TakesStepWith, steps_with_state}
+use Rattle.nfa_search_base.specs.Lists.{AnswersMatch}
 use Rattle.nfa_search_base.specs.Serving.{ServesOnAlong}
 use Rattle.nfa_search_base.specs.Steps.{TakesStep}
-use Rattle.nfa_search_base.specs.Stored.{steps_walk, takes_steps}
-use Rattle.nfa_search_base.specs.Walks.{Answer, AnswerIsInside, IsSurelyInside, fresh, span_of}
+use Rattle.nfa_search_base.specs.Stored.{steps_iter_state, takes_steps}
+use Rattle.nfa_search_base.specs.IterStates.{Answer, AnswerIsInside, IsInfalliblyInside, fresh, span_of}
 use Rattle.nfa_search_base.specs.declared.error.SearchError.{SearchError}
 use Rattle.nfa_search_base.specs.declared.iter.steps.Steps.{Steps}
 use Rattle.nfa_search_base.proofs.AskingLemmas.{same_start-self, same_start-then, ServesOnAlong-by}
-use Rattle.nfa_search_base.proofs.CaughtRunLemmas.{captures-apart, captures-first, captures-next, captures-run}
-use Rattle.nfa_search_base.proofs.CaughtRunLemmas.{captures-within, copy-of, matches_in-all, matches_in-first}
-use Rattle.nfa_search_base.proofs.CaughtRunLemmas.{matches_in-next, matches_in-run, rows-all, rows-first, rows-next}
-use Rattle.nfa_search_base.proofs.CaughtRunLemmas.{rows-run, runs-hold}
+use Rattle.nfa_search_base.proofs.CapturesRunLemmas.{captures-apart, captures-first, captures-next, captures-run}
+use Rattle.nfa_search_base.proofs.CapturesRunLemmas.{captures-within, copy-of, matches_in-all, matches_in-first}
+use Rattle.nfa_search_base.proofs.CapturesRunLemmas.{matches_in-next, matches_in-run, rows-all, rows-first, rows-next}
+use Rattle.nfa_search_base.proofs.CapturesRunLemmas.{rows-run, runs-hold}
 use Rattle.nfa_search_base.proofs.ListLemmas.{match-lies}
 use Rattle.nfa_search_base.proofs.RunLemmas.{calls-keep, step-holds, step-keeps}
 
@@ -88,14 +88,14 @@ same_start-back x t same =
 
 -- the match of a search is its answer
 pub find-answered : (nfa : Automaton) (kind : MatchKind) (earliest : Bool) (t : Search) (found : Option Match)
-    → IsMatchAnswer nfa kind earliest t (option_map found_of found)
-    → TellsMatch nfa kind earliest t (answer_by found_of (Ok found))
+    → IsFindAnswer nfa kind earliest t (option_map found_of found)
+    → AnswersMatch nfa kind earliest t (answer_by found_of (Ok found))
 find-answered nfa kind earliest t (Some m) h = h
 find-answered nfa kind earliest t None h = h
 
 -- it is in the span, and is not an error
 pub find-lies : (nfa : Automaton) (kind : MatchKind) (earliest : Bool) (t : Search) (a : Answer Found)
-    → TellsMatch nfa kind earliest t a → IsSurelyInside span_of t a
+    → AnswersMatch nfa kind earliest t a → IsInfalliblyInside span_of t a
 find-lies nfa kind earliest t (Ok found) h = ((match-lies nfa kind earliest t (Ok found) h).0, refl)
 find-lies nfa kind earliest t (Err error) h = absurd h
 
@@ -161,65 +161,72 @@ module _ {E : Type 0} (Sure : E → Search → Found → Type 0) where
       (Work : E → Search → Answer Found → C → C → Type 0)
       (stays : (e : E) (x : Search) (a : Answer Found) (old new : C) → Work e x a old new → Fits old e
       → Fits new e) where
-    abbrev Asks : With A C → Search → Answer Found → With A C → Type 0
+    abbrev Asks : WithCache A C → Search → Answer Found → WithCache A C → Type 0
     Asks = AsksEngine Sure shown Tells Work
 
-    abbrev May : With A C → Search → Type 0
+    abbrev May : WithCache A C → Search → Type 0
     May = MayFind Sure shown Fits
 
     -- a search leaves what the next one needs
-    may-after : (x : Search) (s : With A C) (t : Search) (a : Answer Found) (s' : With A C)
+    may-after : (x : Search) (s : WithCache A C) (t : Search) (a : Answer Found) (s' : WithCache A C)
         → SameButStart x t → May s x → Asks s t a s' → May s' x
     may-after x s t a s' same may asked = record {
       fits = subst (λ (e : E). Fits s'.cache e) (sym asked.engine) fits;
-      knows = known-like (shown s'.asker).engine t x (shown s'.asker).known (same_start-back x t same) asked.knows;
+      knows = known-like (shown s'.backend).engine t x (shown s'.backend).known (same_start-back x t same) asked.knows;
     }
       where
-        fits : Fits s'.cache (shown s.asker).engine
-        fits = elim (same-or-made (Work (shown s.asker).engine) t a _ _ asked.work) [
-          | inl same ↦ subst (λ (c : C). Fits c (shown s.asker).engine) (sym same) may.fits
-          | inr work ↦ stays (shown s.asker).engine t a s.cache s'.cache work may.fits
+        fits : Fits s'.cache (shown s.backend).engine
+        fits = elim (same-or-made (Work (shown s.backend).engine) t a _ _ asked.work) [
+          | inl same ↦ subst (λ (c : C). Fits c (shown s.backend).engine) (sym same) may.fits
+          | inr work ↦ stays (shown s.backend).engine t a s.cache s'.cache work may.fits
         ]
 
     -- the iterator may search wherever searches like x lead
     pub finder-serves : (P : Search → Answer Found → Type 0)
         → ((e : E) (t : Search) (a : Answer Found) → Tells e t a → P t a)
-        → (s : With A C) (x : Search) → May s x → ServesOnAlong May Asks SameButStart P s x
+        → (s : WithCache A C) (x : Search) → May s x → ServesOnAlong May Asks SameButStart P s x
     finder-serves P lies s x may =
-        ServesOnAlong-by May Asks SameButStart same_start-self same_start-then P (λ (q : With A C). May q x)
+        ServesOnAlong-by May Asks SameButStart same_start-self same_start-then P (λ (q : WithCache A C). May q x)
         s x may
         (λ q t same may. record {
           fits = may.fits;
-          knows = known-like (shown q.asker).engine x t (shown q.asker).known same may.knows;
+          knows = known-like (shown q.backend).engine x t (shown q.backend).known same may.knows;
         })
-        (λ q t a q' same may asked. (lies (shown q.asker).engine t a asked.finds, may-after x q t a q' same may asked))
+        (λ q t a q' same may asked. (
+          lies (shown q.backend).engine t a asked.finds,
+          may-after x q t a q' same
+              may asked,
+        ))
 
     -- and after a step
     pub finder-goes : {Y : Type 0} (gives : A → Answer Found → Option (Result Y SearchError) → Type 0)
-        → (s : Steps (With A C)) (r : Option (Result Y SearchError)) (t : Steps (With A C))
-        → takes_steps span_of Asks (λ q. gives q.asker) s r t → May s.asker (steps_walk s).at
-        → May t.asker (steps_walk t).at
+        → (s : Steps (WithCache A C)) (r : Option (Result Y SearchError)) (t : Steps (WithCache A C))
+        → takes_steps span_of Asks (λ q. gives q.backend) s r t → May s.backend (steps_iter_state s).at
+        → May t.backend (steps_iter_state t).at
     finder-goes {Y} gives s r t st may = of s.done st
       where
         x : Search
-        x = (steps_walk s).at
+        x = (steps_iter_state s).at
 
         of : (b : Bool) → MatchBool b ((r ≡ None) × (t ≡ s))
-            (TakesStep span_of Asks (λ q. gives q.asker) s.asker (steps_walk s) r t.asker (steps_walk t) t.done)
-            → May t.asker (steps_walk t).at
-        of true h = subst (λ (q : Steps (With A C)). May q.asker (steps_walk q).at) (sym h.1) may
+            (TakesStep span_of Asks (λ q. gives q.backend) s.backend (steps_iter_state s) r t.backend
+            (steps_iter_state t) t.done)
+            → May t.backend (steps_iter_state t).at
+        of true h = subst (λ (q : Steps (WithCache A C)). May q.backend (steps_iter_state q).at) (sym h.1) may
         of false h =
-            let on : May t.asker x = step-holds span_of Asks (λ (q : With A C). May q x) s.asker (steps_walk s)
-            h.answer t.asker (steps_walk t) (may-after x) may h.step in
+            let on : May t.backend x = step-holds span_of Asks (λ (q : WithCache A C). May q x) s.backend
+            (steps_iter_state s)
+            h.answer t.backend (steps_iter_state t) (may-after x) may h.step in
             record {
               fits = on.fits;
-              knows = known-like (shown t.asker.asker).engine x (steps_walk t).at (shown t.asker.asker).known h.same
+              knows = known-like (shown t.backend.backend).engine x (steps_iter_state t).at
+                  (shown t.backend.backend).known h.same
                   on.knows;
             }
 
     -- the engine gives the answers of its searches, and stays the same
-    pub finder-acts : (e : E) (s : With A C) (t : Search) (a : Answer Found) (s' : With A C)
-        → (shown s.asker).engine ≡ e → Asks s t a s' → Tells e t a × ((shown s'.asker).engine ≡ e)
+    pub finder-acts : (e : E) (s : WithCache A C) (t : Search) (a : Answer Found) (s' : WithCache A C)
+        → (shown s.backend).engine ≡ e → Asks s t a s' → Tells e t a × ((shown s'.backend).engine ≡ e)
     finder-acts e s t a s' is asked = (subst (λ (b : E). Tells b t a) is asked.finds, asked.engine ∙ is)
 
 -- ---- captures
@@ -227,95 +234,102 @@ module _ {E : Type 0} (Sure : E → Search → Found → Type 0) where
 module _ {E C : Type 0} (nfa : E → Automaton) (Fits : C → E → Type 0) (Tells : E → Search → Answer Row → Type 0)
     (Work : E → Search → Answer Row → C → C → Type 0)
     (stays : (e : E) (x : Search) (a : Answer Row) (old new : C) → Work e x a old new → Fits old e → Fits new e) where
-  abbrev AsksRow : With (Catching E) C → Search → Answer Row → With (Catching E) C → Type 0
+  abbrev AsksRow : WithCache (WithCaptures E) C → Search → Answer Row → WithCache (WithCaptures E) C → Type 0
   AsksRow = AsksEngineRow nfa Tells Work
 
-  abbrev MayRow : With (Catching E) C → Type 0
-  MayRow = MayCatch nfa Fits
+  abbrev MayRow : WithCache (WithCaptures E) C → Type 0
+  MayRow = MayFill nfa Fits
 
-  abbrev Calls : Steps (With (Catching E) C) → Option (Result Captured SearchError) → Steps (With (Catching E) C)
+  abbrev Calls : Steps (WithCache (WithCaptures E) C) → Option (Result Captured SearchError)
+      → Steps (WithCache (WithCaptures E) C)
       → Type 0
-  Calls = takes_steps row_span AsksRow (λ q. GivesCaptures q.asker)
+  Calls = takes_steps row_span AsksRow (λ q. GivesCaptures q.backend)
 
   -- a search leaves what the next one needs
-  may_row-after : (s : With (Catching E) C) (x : Search) (a : Answer Row) (t : With (Catching E) C) → MayRow s
+  may_row-after : (s : WithCache (WithCaptures E) C) (x : Search) (a : Answer Row)
+      (t : WithCache (WithCaptures E) C) → MayRow s
       → AsksRow s x a t → MayRow t
   may_row-after s x a t may asked = record {
     fits = subst (λ (e : E). Fits t.cache e) (sym asked.engine)
-        (stays s.asker.finder x a s.cache t.cache asked.work may.fits);
-    holds = subst (λ (e : E). HasGroups (nfa e) t.asker.captures) (sym asked.engine) asked.holds;
+        (stays s.backend.finder x a s.cache t.cache asked.work may.fits);
+    holds = subst (λ (e : E). HasGroups (nfa e) t.backend.captures) (sym asked.engine) asked.holds;
   }
 
   -- the iterator may search wherever searches lead
   pub catcher-serves : ((e : E) (t : Search) (a : Answer Row) → Tells e t a → AnswerIsInside row_span t a)
-      → (s : With (Catching E) C) (x : Search) → MayRow s
+      → (s : WithCache (WithCaptures E) C) (x : Search) → MayRow s
       → ServesOnAlong (λ q t. MayRow q) AsksRow SameButStart (AnswerIsInside row_span) s x
   catcher-serves lies s x may =
       ServesOnAlong-by (λ q t. MayRow q) AsksRow SameButStart same_start-self same_start-then (AnswerIsInside row_span)
-      (λ (q : With (Catching E) C). MayRow q) s x may (λ q t same may. may)
-      (λ q t a q' same may asked. (lies q.asker.finder t a asked.tells, may_row-after q t a q' may asked))
+      (λ (q : WithCache (WithCaptures E) C). MayRow q) s x may (λ q t same may. may)
+      (λ q t a q' same may asked. (lies q.backend.finder t a asked.tells, may_row-after q t a q' may asked))
 
   -- and after a step
-  pub catcher-goes : (s : Steps (With (Catching E) C)) (r : Option (Result Captured SearchError))
-      (t : Steps (With (Catching E) C)) → Calls s r t → MayRow s.asker → MayRow t.asker
+  pub catcher-goes : (s : Steps (WithCache (WithCaptures E) C)) (r : Option (Result Captured SearchError))
+      (t : Steps (WithCache (WithCaptures E) C)) → Calls s r t → MayRow s.backend → MayRow t.backend
   catcher-goes s r t st =
-      step-keeps row_span AsksRow (λ q. GivesCaptures q.asker) (λ (p q : With (Catching E) C). MayRow p → MayRow q)
+      step-keeps row_span AsksRow (λ q. GivesCaptures q.backend)
+      (λ (p q : WithCache (WithCaptures E) C). MayRow p → MayRow q)
       (λ q may. may) (λ p q u f g may. g (f may)) (λ p x a q asked may. may_row-after p x a q may asked) s r t st
 
   -- the engine gives the answers of its searches, and stays the same
-  pub catcher-acts : (e : E) (s : With (Catching E) C) (t : Search) (a : Answer Row) (s' : With (Catching E) C)
-      → s.asker.finder ≡ e → AsksRow s t a s' → Tells e t a × (s'.asker.finder ≡ e)
+  pub catcher-acts : (e : E) (s : WithCache (WithCaptures E) C) (t : Search) (a : Answer Row)
+      (s' : WithCache (WithCaptures E) C)
+      → s.backend.finder ≡ e → AsksRow s t a s' → Tells e t a × (s'.backend.finder ≡ e)
   catcher-acts e s t a s' is asked = (subst (λ (b : E). Tells b t a) is asked.tells, asked.engine ∙ is)
 
   -- a call keeps the engine, and its copy is of the captures that are left
-  call-engine : (s : Steps (With (Catching E) C)) (r : Option (Result Captured SearchError))
-      (t : Steps (With (Catching E) C)) → Calls s r t → t.asker.asker.finder ≡ s.asker.asker.finder
+  call-engine : (s : Steps (WithCache (WithCaptures E) C)) (r : Option (Result Captured SearchError))
+      (t : Steps (WithCache (WithCaptures E) C)) → Calls s r t → t.backend.backend.finder ≡ s.backend.backend.finder
   call-engine =
-      step-keeps row_span AsksRow (λ q. GivesCaptures q.asker)
-      (λ (p q : With (Catching E) C). q.asker.finder ≡ p.asker.finder)
+      step-keeps row_span AsksRow (λ q. GivesCaptures q.backend)
+      (λ (p q : WithCache (WithCaptures E) C). q.backend.finder ≡ p.backend.finder)
       (λ q. refl) (λ p q u f g. g ∙ f) (λ p x a q asked. asked.engine)
 
-  copied : (s : Steps (With (Catching E) C)) (d : Captured) (t : Steps (With (Catching E) C)) (b : Bool)
+  copied : (s : Steps (WithCache (WithCaptures E) C)) (d : Captured)
+      (t : Steps (WithCache (WithCaptures E) C)) (b : Bool)
       → (let r : Option (Result Captured SearchError) = Some (Ok d) in
       MatchBool b ((r ≡ None) × (t ≡ s))
-      (TakesStep row_span AsksRow (λ q. GivesCaptures q.asker) s.asker (steps_walk s) r t.asker (steps_walk t) t.done))
-      → d ≡ t.asker.asker.captures
+      (TakesStep row_span AsksRow (λ q. GivesCaptures q.backend) s.backend (steps_iter_state s) r t.backend
+      (steps_iter_state t) t.done))
+      → d ≡ t.backend.backend.captures
   copied s d t true h = let k : (let r : Option (Result Captured SearchError) = Some (Ok d) in r ≡ None) = h.0 in cc
-  copied s d t false h = copy-of t.asker.asker h.answer d h.item
+  copied s d t false h = copy-of t.backend.backend h.answer d h.item
 
   -- An iterator around such steps, which knows that its captures have the groups of the NFA.
   module _ {T : Type 0} (calls : T → Option (Result Captured SearchError) → T → Type 0)
-      (inner : T → Steps (With (Catching E) C))
+      (inner : T → Steps (WithCache (WithCaptures E) C))
       (is : (s : T) (r : Option (Result Captured SearchError)) (t : T) → calls s r t → Calls (inner s) r (inner t))
-      (holds : (s : T) → HasGroups (nfa (inner s).asker.asker.finder) (inner s).asker.asker.captures) where
-    call-groups : (e : E) (s : T) (r : Result Captured SearchError) (t : T) → (inner s).asker.asker.finder ≡ e
+      (holds : (s : T) → HasGroups (nfa (inner s).backend.backend.finder) (inner s).backend.backend.captures) where
+    call-groups : (e : E) (s : T) (r : Result Captured SearchError) (t : T) → (inner s).backend.backend.finder ≡ e
         → calls s (Some r) t
-        → IfOk r (HasGroups (nfa e)) × ((inner t).asker.asker.finder ≡ e)
+        → IfOk r (HasGroups (nfa e)) × ((inner t).backend.backend.finder ≡ e)
     call-groups e s r t same st = (of r (is s (Some r) t st), there)
       where
-        there : (inner t).asker.asker.finder ≡ e
+        there : (inner t).backend.backend.finder ≡ e
         there = call-engine (inner s) (Some r) (inner t) (is s (Some r) t st) ∙ same
 
         of : (r : Result Captured SearchError) → Calls (inner s) (Some r) (inner t) → IfOk r (HasGroups (nfa e))
         of (Ok d) step =
             subst (λ (c : Captured). HasGroups (nfa e) c) (sym (copied (inner s) d (inner t) (inner s).done step))
-            (subst (λ (b : E). HasGroups (nfa b) (inner t).asker.asker.captures) there (holds t))
+            (subst (λ (b : E). HasGroups (nfa b) (inner t).backend.backend.captures) there (holds t))
         of (Err q) step = tt
 
     -- The engine gives answers as in `Told` on searches like x. Without an error, that is the row of its NFA.
     module _ (e : E) (kind : MatchKind) (earliest : Bool) (Told : Search → Answer Row → Type 0)
-        (row : (t : Search) (o : Option Row) → Told t (Ok o) → TellsRow (nfa e) kind earliest t (Ok o)) (x : Search)
+        (row : (t : Search) (o : Option Row) → Told t (Ok o) → AnswersRow (nfa e) kind earliest t (Ok o)) (x : Search)
         (tells : (t : Search) (a : Answer Row) → SameButStart x t → Tells e t a → Told t a) where
-      abbrev Good : With (Catching E) C → Type 0
-      Good q = q.asker.finder ≡ e
+      abbrev Good : WithCache (WithCaptures E) C → Type 0
+      Good q = q.backend.finder ≡ e
 
-      pub told-acts : (q : With (Catching E) C) (t : Search) (a : Answer Row) (q' : With (Catching E) C)
+      pub told-acts : (q : WithCache (WithCaptures E) C) (t : Search) (a : Answer Row)
+          (q' : WithCache (WithCaptures E) C)
           → SameButStart x t → Good q → AsksRow q t a q' → Told t a × Good q'
       told-acts q t a q' same good asked =
           let k = catcher-acts e q t a q' good asked in (tells t a same k.0, k.1)
 
       -- all that its calls give
-      pub captures-given : (s : T) → (inner s).asker.asker.finder ≡ e → steps_walk (inner s) ≡ fresh x
+      pub captures-given : (s : T) → (inner s).backend.backend.finder ≡ e → steps_iter_state (inner s) ≡ fresh x
           → (inner s).done ≡ false → CapturesGiven calls (nfa e) kind earliest Told x s
       captures-given s good walk going = record {
         runs = captures-run (nfa e) kind earliest Told row x AsksRow Good told-acts calls inner is s walk going good;
@@ -334,7 +348,7 @@ module _ {E C : Type 0} (nfa : E → Automaton) (Fits : C → E → Type 0) (Tel
             good;
         all_matches = matches_in-all (nfa e) kind earliest Told row x AsksRow Good told-acts calls inner is s walk going
             good;
-        groups = runs-hold calls (λ q. (inner q).asker.asker.finder ≡ e) (λ item. IfOk item (HasGroups (nfa e)))
+        groups = runs-hold calls (λ q. (inner q).backend.backend.finder ≡ e) (λ item. IfOk item (HasGroups (nfa e)))
             (λ p r q. call-groups e p r q) s good;
         inside = captures-within (nfa e) kind earliest Told row x AsksRow Good told-acts calls inner is s walk going
             good;
@@ -344,23 +358,26 @@ module _ {E C : Type 0} (nfa : E → Automaton) (Fits : C → E → Type 0) (Tel
 -- ---- the cache
 
 -- What each search keeps of the cache, all calls of an engine's iterator keep.
-module _ {A C X Y : Type 0} (span : X → Span) (asks : With A C → Search → Answer X → With A C → Type 0)
+module _ {A C X Y : Type 0} (span : X → Span) (asks : WithCache A C → Search → Answer X → WithCache A C → Type 0)
     (gives : A → Answer X → Option (Result Y SearchError) → Type 0) (Keeps : C → C → Type 0)
     (self : (c : C) → Keeps c c) (then : (a b c : C) → Keeps a b → Keeps b c → Keeps a c)
-    (asked : (s : With A C) (x : Search) (a : Answer X) (t : With A C) → asks s x a t → Keeps s.cache t.cache) where
-  lent-keeps : (s : Lent A C) (r : Option (Result Y SearchError)) (t : Lent A C) → TakesLentStep span asks gives s r t
-      → KeepsLent Keeps s t
+    (asked : (s : WithCache A C) (x : Search) (a : Answer X) (t : WithCache A C) → asks s x a t
+    → Keeps s.cache t.cache) where
+  lent-keeps : (s : StepsWith A C) (r : Option (Result Y SearchError)) (t : StepsWith A C)
+      → TakesStepWith span asks gives s r t
+      → KeepsStepsWith Keeps s t
   lent-keeps s r t st = record {
     cache = st.cache;
-    keeps = step-keeps span asks (λ q. gives q.asker) (λ (p q : With A C). Keeps p.cache q.cache) (λ q. self q.cache)
-        (λ p q u f g. then p.cache q.cache u.cache f g) asked (lent_state s) r (lent_state t) st.step;
+    keeps = step-keeps span asks (λ q. gives q.backend) (λ (p q : WithCache A C). Keeps p.cache q.cache)
+        (λ q. self q.cache)
+        (λ p q u f g. then p.cache q.cache u.cache f g) asked (steps_with_state s) r (steps_with_state t) st.step;
   }
 
-  pub gives-kept : {T R : Type 0} (calls : T → Option R → T → Type 0) (inner : T → Lent A C)
-      → ((s : T) (r : Option R) (t : T) → calls s r t → KeepsLent Keeps (inner s) (inner t))
-      → (s : T) → GivesLent calls inner Keeps s
+  pub gives-kept : {T R : Type 0} (calls : T → Option R → T → Type 0) (inner : T → StepsWith A C)
+      → ((s : T) (r : Option R) (t : T) → calls s r t → KeepsStepsWith Keeps (inner s) (inner t))
+      → (s : T) → GivesStepsWith calls inner Keeps s
   gives-kept calls inner kept s = λ xs t r u ran st.
-      calls-keep calls (λ p q. KeepsLent Keeps (inner p) (inner q))
+      calls-keep calls (λ p q. KeepsStepsWith Keeps (inner p) (inner q))
       (λ p. record { cache = refl; keeps = self (inner p).cache.now })
       (λ a b c f g. record {
         cache = g.cache ∙ f.cache;
@@ -369,9 +386,9 @@ module _ {A C X Y : Type 0} (span : X → Span) (asks : With A C → Search → 
       kept s xs t r u ran st
 
   -- the same of an iterator whose items are those of the steps, or the matches among them
-  pub calls-kept : {T R : Type 0} (calls : T → Option R → T → Type 0) (inner : T → Lent A C)
+  pub calls-kept : {T R : Type 0} (calls : T → Option R → T → Type 0) (inner : T → StepsWith A C)
       (item : Option R → Option (Result Y SearchError))
-      → ((s : T) (r : Option R) (t : T) → calls s r t → TakesLentStep span asks gives (inner s) (item r) (inner t))
-      → (s : T) → GivesLent calls inner Keeps s
+      → ((s : T) (r : Option R) (t : T) → calls s r t → TakesStepWith span asks gives (inner s) (item r) (inner t))
+      → (s : T) → GivesStepsWith calls inner Keeps s
   calls-kept calls inner item is = gives-kept calls inner
       (λ s r t st. lent-keeps (inner s) (item r) (inner t) (is s r t st))

@@ -4,21 +4,21 @@ use Rattle.std.specs.Prelude.{is_some}
 use Rattle.regex_search_core.specs.Search.{Search}
 use Rattle.regex_search_core.specs.declared.search.MatchKind.{MatchKind}
 use Rattle.thompson_nfa.specs.Automaton.{Automaton}
-use Rattle.nfa_paths.specs.Paths.{IsFoundAnswer}
+use Rattle.nfa_paths.specs.Paths.{IsBoolAnswer}
 use Rattle.nfa_paths.proofs.AnswerLemmas.{search_answer-unique}
 use Rattle.nfa_paths.proofs.ExistenceLemmas.{search_answer-exists}
 use Rattle.nfa_search_base.specs.Finds.{finds}
 
 module _ (nfa : Automaton) (kind : MatchKind) (earliest : Bool) (x : Search) where
   -- it is an answer
-  pub finds-answer : IsFoundAnswer nfa kind earliest x (finds nfa kind earliest x)
+  pub finds-answer : IsBoolAnswer nfa kind earliest x (finds nfa kind earliest x)
   unfolding finds
   finds-answer =
       let k = search_answer-exists nfa kind earliest x in
       record { restarts = k.0; path = k.1; answers = k.2; found_is = refl }
 
   -- and the one answer
-  pub found-finds : (found : Bool) → IsFoundAnswer nfa kind earliest x found → found ≡ finds nfa kind earliest x
+  pub found-finds : (found : Bool) → IsBoolAnswer nfa kind earliest x found → found ≡ finds nfa kind earliest x
   found-finds found h =
       let k = finds-answer in
       let one = search_answer-unique nfa kind earliest x h.restarts k.restarts h.path k.path h.answers k.answers in

@@ -5,8 +5,8 @@ use Rattle.std.specs.Iterator.{AlwaysYields}
 use Rattle.regex_search_core.specs.Search.{Search}
 use Rattle.regex_search_core.specs.declared.search.Span.{Span}
 use Rattle.nfa_search_base.specs.Asking.{SameButStart}
-use Rattle.nfa_search_base.specs.Walks.{Walk, Answer, place_of, Advances, repeats, shifted, after, ends_left}
-use Rattle.nfa_search_base.specs.Items.{Item, item_of, ends_with, items_left, TakesTurn, step_answer, step_walk, items_from, items_within, greedy, greedy_unless}
+use Rattle.nfa_search_base.specs.IterStates.{IterState, Answer, answer_span, Advances, repeats, shifted, after, ends_left}
+use Rattle.nfa_search_base.specs.Items.{Item, item_of, ends_with, items_left, TakesAdvance, step_answer, step_iter_state, items_from, items_within, greedy, greedy_unless}
 use Rattle.nfa_search_base.proofs.StepLemmas.{chosen, same_start-shifted}
 
 if-true : {A : Type 0} (b : Bool) (x y : A) → b ≡ true → (if b then x else y) ≡ x
@@ -17,10 +17,10 @@ if-false b x y h = rw h
 
 module _ {X : Type 0} (span : X → Span) where
   -- one turn over a search that is the function h
-  pub record IsTurnOf (h : Search → Answer X) (w : Walk) (item : Option (Item X)) (w' : Walk)
+  pub record IsTurnOf (h : Search → Answer X) (w : IterState) (item : Option (Item X)) (w' : IterState)
       (done' : Bool) : Type 0 where
     pub gives : item ≡ item_of (step_answer span h w)
-    pub walk : w' ≡ step_walk span h w
+    pub walk : w' ≡ step_iter_state span h w
     pub ends : done' ≡ ends_with (step_answer span h w)
     pub fewer : (x : Item X) → item ≡ Some x → items_left done' w' < items_left false w
 
@@ -29,43 +29,44 @@ module _ {X : Type 0} (span : X → Span) where
       (acts : (s : S) (t : Search) (a : Answer X) (s' : S) → Good s t → asks s t a s' → (a ≡ h t) × Good s' t)
       (moves : (s : S) (t u : Search) → SameButStart t u → Good s t → Good s u) where
     -- the search one on is like the first
-    back : (w : Walk) → SameButStart (shifted w).at w.at
+    back : (w : IterState) → SameButStart (shifted w).at w.at
     back w = record { haystack = refl; end = refl; anchored = refl; earliest = refl }
 
     -- a step is the step of the function
-    pub step-computes : (s : S) (w : Walk) (r : Answer X) (s' : S) (w' : Walk) → Good s w.at
+    pub step-computes : (s : S) (w : IterState) (r : Answer X) (s' : S) (w' : IterState) → Good s w.at
         → Advances span asks s w r s' w'
-        → (r ≡ step_answer span h w) × (w' ≡ step_walk span h w) × Good s' w.at
+        → (r ≡ step_answer span h w) × (w' ≡ step_iter_state span h w) × Good s' w.at
     step-computes s w r s' w' good step =
         let one = acts s w.at step.answer step.between good step.first in
         let e : step.answer ≡ h w.at = one.0 in
-        elim (chosen (repeats w (place_of span step.answer)) step.rest) [
+        elim (chosen (repeats w (answer_span span step.answer)) step.rest) [
           | inl p ↦
-              let b : repeats w (place_of span (h w.at)) ≡ true =
-              subst (λ (a : Answer X). repeats w (place_of span a) ≡ true) e p.0 in
+              let b : repeats w (answer_span span (h w.at)) ≡ true =
+              subst (λ (a : Answer X). repeats w (answer_span span a) ≡ true) e p.0 in
               let two = acts step.between (shifted w).at r s'
               (moves step.between w.at (shifted w).at (same_start-shifted w) one.1) p.1.0 in
               let f : r ≡ h (shifted w).at = two.0 in (
-                f ∙ sym (if-true (repeats w (place_of span (h w.at))) (h (shifted w).at) (h w.at) b),
-                p.1.1 ∙ ap (λ (a : Answer X). after (shifted w) (place_of span a)) f
-                    ∙ sym (if-true (repeats w (place_of span (h w.at)))
-                    (after (shifted w) (place_of span (h (shifted w).at))) (after w (place_of span (h w.at))) b),
+                f ∙ sym (if-true (repeats w (answer_span span (h w.at))) (h (shifted w).at) (h w.at) b),
+                p.1.1 ∙ ap (λ (a : Answer X). after (shifted w) (answer_span span a)) f
+                    ∙ sym (if-true (repeats w (answer_span span (h w.at)))
+                    (after (shifted w) (answer_span span (h (shifted w).at))) (after w (answer_span span (h w.at))) b),
                 moves s' (shifted w).at w.at (back w) two.1,
               )
           | inr p ↦
-              let b : repeats w (place_of span (h w.at)) ≡ false =
-              subst (λ (a : Answer X). repeats w (place_of span a) ≡ false) e p.0 in (
-                p.1.0 ∙ e ∙ sym (if-false (repeats w (place_of span (h w.at))) (h (shifted w).at) (h w.at) b),
-                p.1.2 ∙ ap (λ (a : Answer X). after w (place_of span a)) (p.1.0 ∙ e)
-                    ∙ sym (if-false (repeats w (place_of span (h w.at)))
-                    (after (shifted w) (place_of span (h (shifted w).at))) (after w (place_of span (h w.at))) b),
+              let b : repeats w (answer_span span (h w.at)) ≡ false =
+              subst (λ (a : Answer X). repeats w (answer_span span a) ≡ false) e p.0 in (
+                p.1.0 ∙ e ∙ sym (if-false (repeats w (answer_span span (h w.at))) (h (shifted w).at) (h w.at) b),
+                p.1.2 ∙ ap (λ (a : Answer X). after w (answer_span span a)) (p.1.0 ∙ e)
+                    ∙ sym (if-false (repeats w (answer_span span (h w.at)))
+                    (after (shifted w) (answer_span span (h (shifted w).at))) (after w (answer_span span (h w.at))) b),
                 subst (λ (q : S). Good q w.at) (sym p.1.1) one.1,
               )
         ]
 
     -- and a turn is one of the function
-    pub turn-computes : (s : S) (w : Walk) (item : Option (Item X)) (s' : S) (w' : Walk) (d : Bool) → Good s w.at
-        → TakesTurn span asks s w item s' w' d
+    pub turn-computes : (s : S) (w : IterState) (item : Option (Item X)) (s' : S) (w' : IterState) (d : Bool)
+        → Good s w.at
+        → TakesAdvance span asks s w item s' w' d
         → IsTurnOf h w item w' d × Good s' w'.at
     turn-computes s w item s' w' d good turn =
         let e = step-computes s w turn.answer s' w' good turn.step in (
@@ -79,7 +80,8 @@ module _ {X : Type 0} (span : X → Span) where
         )
 
   -- an iterator in a `Good` state takes the steps of h
-  module _ {T R : Type 0} (steps : T → Option R → T → Type 0) (value : R → Item X) (walk : T → Walk) (done : T → Bool)
+  module _ {T R : Type 0} (steps : T → Option R → T → Type 0) (value : R → Item X) (walk : T → IterState)
+      (done : T → Bool)
       (h : Search → Answer X) (Good : T → Type 0)
       (turns : (s : T) (r : Option R) (t : T) → Good s → steps s r t
       → MatchBool (done s) (r ≡ None) (IsTurnOf h (walk s) (option_map value r) (walk t) (done t) × Good t)) where
@@ -119,14 +121,14 @@ module _ {X : Type 0} (span : X → Span) where
         → AlwaysYields steps value s (items_within span h n (walk s))
     within zero s good d lt = absurd (omega arith)
     within (suc n) s good d lt = by_answer (step_answer span h (walk s)) s
-        (items_within span h n (step_walk span h (walk s)))
+        (items_within span h n (step_iter_state span h (walk s)))
         (λ r t st. let k = turn-at s r t good d st in (k.0.gives, k.0.ends, k.1))
         (λ y x t e st.
         let k = turn-at s (Some x) t good d st in
         let going : done t ≡ false = k.0.ends ∙ ap ends_with e in
         let less : items_left (done t) (walk t) < items_left false (walk s) = k.0.fewer (value x) refl in
         let fewer : ends_left (walk t) + 1 < ends_left (walk s) + 1 = rw going at less in
-        subst (λ (w : Walk). AlwaysYields steps value t (items_within span h n w)) k.0.walk
+        subst (λ (w : IterState). AlwaysYields steps value t (items_within span h n w)) k.0.walk
         (within n t k.1 going (omega arith)))
 
     -- every run from s gives the list, and then `None`

@@ -10,21 +10,21 @@ use Rattle.regex_search_core.specs.Slots.{Captured}
 use Rattle.regex_search_core.specs.declared.search.Match.{Match}
 use Rattle.regex_search_core.specs.declared.search.Span.{Span}
 use Rattle.thompson_nfa.specs.Automaton.{Automaton}
-use Rattle.nfa_search_base.specs.Catching.{Catching, GivesCaptures, Row, row_of, row_span}
+use Rattle.nfa_search_base.specs.WithCaptures.{WithCaptures, GivesCaptures, Row, row_of, row_span}
 use Rattle.nfa_search_base.specs.Drained.{CallsLead, DrainsAll}
 use Rattle.nfa_search_base.specs.EngineSearches.{AsksEngine, AsksEngineRow, Keeping, Knowing, SearchesUnlessKnown}
 use Rattle.nfa_search_base.specs.EngineSearches.{keeping}
 use Rattle.nfa_search_base.specs.Leaving.{DoesSearch, FindsLeave, FindsLeaveAtEnd, Leaves, LeavesAtEnd, StepsLead}
 use Rattle.nfa_search_base.specs.Leaving.{answers_to_end, asks_keeping}
-use Rattle.nfa_search_base.specs.Lending.{With}
-use Rattle.nfa_search_base.specs.Lent.{Lent, TakesLentStep, lent_state, lent_walk}
+use Rattle.nfa_search_base.specs.WithCache.{WithCache}
+use Rattle.nfa_search_base.specs.StepsWith.{StepsWith, TakesStepWith, steps_with_state, steps_with_iter_state}
 use Rattle.nfa_search_base.specs.Steps.{GivesItem, TakesStep}
-use Rattle.nfa_search_base.specs.Stored.{steps_walk, takes_steps}
-use Rattle.nfa_search_base.specs.Walks.{Advances, Answer, Walk, fresh, place_of, repeats, shifted, span_of}
+use Rattle.nfa_search_base.specs.Stored.{steps_iter_state, takes_steps}
+use Rattle.nfa_search_base.specs.IterStates.{Advances, Answer, IterState, fresh, answer_span, repeats, shifted, span_of}
 use Rattle.nfa_search_base.specs.declared.error.SearchError.{SearchError}
 use Rattle.nfa_search_base.specs.declared.error.SearchError.TheVariants.{Memory}
 use Rattle.nfa_search_base.specs.declared.iter.steps.Steps.{Steps}
-use Rattle.nfa_search_base.proofs.CaughtRunLemmas.{copy-says}
+use Rattle.nfa_search_base.proofs.CapturesRunLemmas.{copy-says}
 use Rattle.nfa_search_base.proofs.MatchRunLemmas.{yields-inner}
 use Rattle.nfa_search_base.proofs.RunLemmas.{Says, item-says}
 use Rattle.nfa_search_base.proofs.StepLemmas.{chosen}
@@ -39,14 +39,15 @@ module _ {S X Y K : Type 0} (span : X → Span) (asks : S → Search → Answer 
   abbrev steps : Steps S → Option (Result Y SearchError) → Steps S → Type 0
   steps = takes_steps span asks gives
 
-  abbrev Leads : Walk → K → List (Answer X) → K → Type 0
+  abbrev Leads : IterState → K → List (Answer X) → K → Type 0
   Leads = StepsLead span looks
 
-  advance-seen : (s : S) (w : Walk) (a : Answer X) (s' : S) (w' : Walk) → Good s → Advances span asks s w a s' w'
+  advance-seen : (s : S) (w : IterState) (a : Answer X) (s' : S) (w' : IterState) → Good s
+      → Advances span asks s w a s' w'
       → Advances span looks (seen s) w a (seen s') w' × Good s'
   advance-seen s w a s' w' good step =
       let one = acts s w.at step.answer step.between good step.first in
-      elim (chosen (repeats w (place_of span step.answer)) step.rest) [
+      elim (chosen (repeats w (answer_span span step.answer)) step.rest) [
         | inl p ↦
             let two = acts step.between (shifted w).at a s' one.1 p.1.0 in (
               record {
@@ -73,8 +74,8 @@ module _ {S X Y K : Type 0} (span : X → Span) (asks : S → Search → Answer 
   still s u r d st = of s.done d st
     where
       of : (b : Bool) → b ≡ true
-          → MatchBool b ((r ≡ None) × (u ≡ s)) (TakesStep span asks gives s.asker (steps_walk s) r u.asker
-          (steps_walk u) u.done)
+          → MatchBool b ((r ≡ None) × (u ≡ s)) (TakesStep span asks gives s.backend (steps_iter_state s) r u.backend
+          (steps_iter_state u) u.done)
           → u ≡ s
       of true e h = h.1
       of false e h = cc
@@ -88,42 +89,43 @@ module _ {S X Y K : Type 0} (span : X → Span) (asks : S → Search → Answer 
 
   -- any other call is a step
   turn : (s : Steps S) (r : Option (Result Y SearchError)) (u : Steps S) → s.done ≡ false → steps s r u
-      → TakesStep span asks gives s.asker (steps_walk s) r u.asker (steps_walk u) u.done
+      → TakesStep span asks gives s.backend (steps_iter_state s) r u.backend (steps_iter_state u) u.done
   turn s r u going st = of s.done going st
     where
       of : (b : Bool) → b ≡ false
-          → MatchBool b ((r ≡ None) × (u ≡ s)) (TakesStep span asks gives s.asker (steps_walk s) r u.asker
-          (steps_walk u) u.done)
-          → TakesStep span asks gives s.asker (steps_walk s) r u.asker (steps_walk u) u.done
+          → MatchBool b ((r ≡ None) × (u ≡ s)) (TakesStep span asks gives s.backend (steps_iter_state s) r u.backend
+          (steps_iter_state u) u.done)
+          → TakesStep span asks gives s.backend (steps_iter_state s) r u.backend (steps_iter_state u) u.done
       of true e h = cc
       of false e h = h
 
-  only : (w : Walk) (a : Answer X) (p q : K) (v : Walk) → Advances span looks p w a q v → Leads w p (a ∷ []) q
+  only : (w : IterState) (a : Answer X) (p q : K) (v : IterState) → Advances span looks p w a q v → Leads w p (a ∷ []) q
   only w (Ok (Some x)) p q v step = (q, v, step, refl)
   only w (Ok None) p q v step = (v, step, refl)
   only w (Err e) p q v step = (v, step, refl)
 
   -- what calls leave of an iterator that goes on
   pub calls-leave : (xs : List (Result Y SearchError)) (s t u : Steps S) (r : Option (Result Y SearchError))
-      → s.done ≡ false → Good s.asker → Yields steps s xs t → steps t r u
-      → (first : Answer X) × (rest : List (Answer X)) × Leads (steps_walk s) (seen s.asker) (first ∷ rest)
-      (seen u.asker)
+      → s.done ≡ false → Good s.backend → Yields steps s xs t → steps t r u
+      → (first : Answer X) × (rest : List (Answer X)) × Leads (steps_iter_state s) (seen s.backend) (first ∷ rest)
+      (seen u.backend)
   calls-leave [] s t u r going good ran st =
       let one = turn s r u going (subst (λ (q : Steps S). steps q r u) (sym ran) st) in
-      let k = advance-seen s.asker (steps_walk s) one.answer u.asker (steps_walk u) good one.step in
-      (one.answer, [], only (steps_walk s) one.answer (seen s.asker) (seen u.asker) (steps_walk u) k.0)
+      let k = advance-seen s.backend (steps_iter_state s) one.answer u.backend (steps_iter_state u) good one.step in
+      (one.answer, [], only (steps_iter_state s) one.answer (seen s.backend) (seen u.backend) (steps_iter_state u) k.0)
   calls-leave (Ok y ∷ xs) s t u r going good ran st =
       let q = ran.0 in
       let one = turn s (Some (Ok y)) q going ran.1 in
-      let k = advance-seen s.asker (steps_walk s) one.answer q.asker (steps_walk q) good one.step in
+      let k = advance-seen s.backend (steps_iter_state s) one.answer q.backend (steps_iter_state q) good one.step in
       let rest = calls-leave xs q t u r one.ends k.1 ran.2 st in
-      let is : one.answer ≡ Ok (Some (view y)) = says q.asker one.answer (Some (Ok y)) one.item in (
+      let is : one.answer ≡ Ok (Some (view y)) = says q.backend one.answer (Some (Ok y)) one.item in (
         Ok (Some (view y)),
         rest.0 ∷ rest.1,
         (
-          seen q.asker,
-          steps_walk q,
-          subst (λ (a : Answer X). Advances span looks (seen s.asker) (steps_walk s) a (seen q.asker) (steps_walk q))
+          seen q.backend,
+          steps_iter_state q,
+          subst (λ (a : Answer X). Advances span looks (seen s.backend) (steps_iter_state s) a (seen q.backend)
+              (steps_iter_state q))
               is k.0,
           rest.2,
         ),
@@ -131,35 +133,38 @@ module _ {S X Y K : Type 0} (span : X → Span) (asks : S → Search → Answer 
   calls-leave (Err e ∷ xs) s t u r going good ran st =
       let q = ran.0 in
       let one = turn s (Some (Err e)) q going ran.1 in
-      let k = advance-seen s.asker (steps_walk s) one.answer q.asker (steps_walk q) good one.step in
+      let k = advance-seen s.backend (steps_iter_state s) one.answer q.backend (steps_iter_state q) good one.step in
       let same : u ≡ q = all-still xs q t u r one.ends ran.2 st in (
         one.answer,
         [],
-        subst (λ (v : Steps S). Leads (steps_walk s) (seen s.asker) (one.answer ∷ []) (seen v.asker)) (sym same)
-            (only (steps_walk s) one.answer (seen s.asker) (seen q.asker) (steps_walk q) k.0),
+        subst (λ (v : Steps S). Leads (steps_iter_state s) (seen s.backend) (one.answer ∷ [])
+            (seen v.backend)) (sym same)
+            (only (steps_iter_state s) one.answer (seen s.backend) (seen q.backend) (steps_iter_state q) k.0),
       )
 
   -- and what they leave if they go on to none
-  pub all-leave : (ys : List Y) (s t u : Steps S) → s.done ≡ false → Good s.asker
+  pub all-leave : (ys : List Y) (s t u : Steps S) → s.done ≡ false → Good s.backend
       → Yields steps s (map (λ y. Ok y) ys) t → steps t None u
-      → Leads (steps_walk s) (seen s.asker) (answers_to_end (map view ys)) (seen u.asker)
+      → Leads (steps_iter_state s) (seen s.backend) (answers_to_end (map view ys)) (seen u.backend)
   all-leave [] s t u going good ran st =
       let one = turn s None u going (subst (λ (q : Steps S). steps q None u) (sym ran) st) in
-      let k = advance-seen s.asker (steps_walk s) one.answer u.asker (steps_walk u) good one.step in
-      let is : one.answer ≡ Ok None = says u.asker one.answer None one.item in (
-        steps_walk u,
-        subst (λ (a : Answer X). Advances span looks (seen s.asker) (steps_walk s) a (seen u.asker) (steps_walk u)) is
+      let k = advance-seen s.backend (steps_iter_state s) one.answer u.backend (steps_iter_state u) good one.step in
+      let is : one.answer ≡ Ok None = says u.backend one.answer None one.item in (
+        steps_iter_state u,
+        subst (λ (a : Answer X). Advances span looks (seen s.backend) (steps_iter_state s) a (seen u.backend)
+            (steps_iter_state u)) is
             k.0,
         refl,
       )
   all-leave (y ∷ ys) s t u going good ran st =
       let q = ran.0 in
       let one = turn s (Some (Ok y)) q going ran.1 in
-      let k = advance-seen s.asker (steps_walk s) one.answer q.asker (steps_walk q) good one.step in
-      let is : one.answer ≡ Ok (Some (view y)) = says q.asker one.answer (Some (Ok y)) one.item in (
-        seen q.asker,
-        steps_walk q,
-        subst (λ (a : Answer X). Advances span looks (seen s.asker) (steps_walk s) a (seen q.asker) (steps_walk q)) is
+      let k = advance-seen s.backend (steps_iter_state s) one.answer q.backend (steps_iter_state q) good one.step in
+      let is : one.answer ≡ Ok (Some (view y)) = says q.backend one.answer (Some (Ok y)) one.item in (
+        seen q.backend,
+        steps_iter_state q,
+        subst (λ (a : Answer X). Advances span looks (seen s.backend) (steps_iter_state s) a (seen q.backend)
+            (steps_iter_state q)) is
             k.0,
         all-leave ys q t u one.ends k.1 ran.2 st,
       )
@@ -201,16 +206,16 @@ calls-lead outer steps inner is xs s t r u ran st = record {
 -- The iterator of an engine e over matches, around steps and a cache.
 module _ {E A C : Type 0} (Sure : E → Search → Found → Type 0) (shown : A → Knowing E)
     (Tells : E → Search → Answer Found → Type 0) (Work : E → Search → Answer Found → C → C → Type 0) (e : E) where
-  abbrev Asks : With A C → Search → Answer Found → With A C → Type 0
+  abbrev Asks : WithCache A C → Search → Answer Found → WithCache A C → Type 0
   Asks = AsksEngine Sure shown Tells Work
 
-  abbrev Is : With A C → Type 0
-  Is q = (shown q.asker).engine ≡ e
+  abbrev Is : WithCache A C → Type 0
+  Is q = (shown q.backend).engine ≡ e
 
   abbrev Looks : Keeping C → Search → Answer Found → Keeping C → Type 0
   Looks = asks_keeping (Tells e) (Work e)
 
-  looks : (s : With A C) (t : Search) (a : Answer Found) (s' : With A C) → Is s → Asks s t a s'
+  looks : (s : WithCache A C) (t : Search) (a : Answer Found) (s' : WithCache A C) → Is s → Asks s t a s'
       → Looks (keeping shown s) t a (keeping shown s') × Is s'
   looks s t a s' is asked = (
     record {
@@ -220,32 +225,33 @@ module _ {E A C : Type 0} (Sure : E → Search → Found → Type 0) (shown : A 
     asked.engine ∙ is,
   )
 
-  says : (s : With A C) (a : Answer Found) (r : Option (Result Match SearchError)) → GivesItem found_of a r
+  says : (s : WithCache A C) (a : Answer Found) (r : Option (Result Match SearchError)) → GivesItem found_of a r
       → Says found_of a (λ q. Unit {0}) r
   says s a r gives = item-says found_of (λ b. Unit {0}) a r gives tt
 
-  module _ {T R : Type 0} (calls : T → Option R → T → Type 0) (inner : T → Lent A C)
+  module _ {T R : Type 0} (calls : T → Option R → T → Type 0) (inner : T → StepsWith A C)
       (item : R → Result Match SearchError)
       (is : (s : T) (r : Option R) (t : T) → calls s r t
-      → TakesLentStep span_of Asks (λ _. GivesItem found_of) (inner s) (option_map item r) (inner t))
-      (x : Search) (s : T) (engine : (shown (inner s).steps.asker).engine ≡ e)
-      (known : (shown (inner s).steps.asker).known ≡ None) (walk : lent_walk (inner s) ≡ fresh x)
+      → TakesStepWith span_of Asks (λ _. GivesItem found_of) (inner s) (option_map item r) (inner t))
+      (x : Search) (s : T) (engine : (shown (inner s).steps.backend).engine ≡ e)
+      (known : (shown (inner s).steps.backend).known ≡ None) (walk : steps_with_iter_state (inner s) ≡ fresh x)
       (going : (inner s).steps.done ≡ false) where
     in-steps : (xs : List R) (t : T) → Yields calls s xs t
-        → Yields (takes_steps span_of Asks (λ q. GivesItem found_of)) (lent_state (inner s)) (map item xs)
-        (lent_state (inner t))
+        → Yields (takes_steps span_of Asks (λ q. GivesItem found_of)) (steps_with_state (inner s)) (map item xs)
+        (steps_with_state (inner t))
     in-steps xs t ran =
         calls-in span_of Asks (λ q. GivesItem found_of) found_of says (λ q. keeping shown q) Looks Is looks calls
-        (λ q. lent_state (inner q)) item (λ p r q st. (is p r q st).step) xs s t ran
+        (λ q. steps_with_state (inner q)) item (λ p r q st. (is p r q st).step) xs s t ran
 
     -- its calls lead from cache to cache by the searches of their steps, and make one at least
     pub first-leaves : (xs : List R) (t : T) (r : Option R) (u : T) → Yields calls s xs t → calls t r u
         → (first : Answer Found) × (rest : List (Answer Found))
         × StepsLead span_of Looks (fresh x) (record { cache = (inner s).cache.now; known = None }) (first ∷ rest)
-        (keeping shown (lent_state (inner u)).asker)
+        (keeping shown (steps_with_state (inner u)).backend)
     first-leaves xs t r u ran st =
         let k = calls-leave span_of Asks (λ q. GivesItem found_of) found_of says (λ q. keeping shown q) Looks Is looks
-        (map item xs) (lent_state (inner s)) (lent_state (inner t)) (lent_state (inner u)) (option_map item r) going
+        (map item xs) (steps_with_state (inner s)) (steps_with_state (inner t)) (steps_with_state (inner u))
+        (option_map item r) going
         engine (in-steps xs t ran) (is t r u st).step in
         rw (known, walk) at k
 
@@ -254,7 +260,7 @@ module _ {E A C : Type 0} (Sure : E → Search → Found → Type 0) (shown : A 
     finds-leave xs t r u ran st =
         let k = first-leaves xs t r u ran st in
         record {
-          known = option_map found_of (shown (inner u).steps.asker).known;
+          known = option_map found_of (shown (inner u).steps.backend).known;
           left = record { answers = k.0 ∷ k.1; steps = k.2 };
         }
 
@@ -264,11 +270,11 @@ module _ {E A C : Type 0} (Sure : E → Search → Found → Type 0) (shown : A 
         → FindsLeaveAtEnd (Tells e) (Work e) x (map found_of ms) (inner s).cache.now (inner u).cache.now
     finds-to_end xs ms t u same ran st =
         let k = all-leave span_of Asks (λ q. GivesItem found_of) found_of says (λ q. keeping shown q) Looks Is looks ms
-        (lent_state (inner s)) (lent_state (inner t)) (lent_state (inner u)) going engine
+        (steps_with_state (inner s)) (steps_with_state (inner t)) (steps_with_state (inner u)) going engine
         (subst (λ (l : List (Result Match SearchError)). Yields (takes_steps span_of Asks (λ q. GivesItem found_of))
-        (lent_state (inner s)) l (lent_state (inner t))) same (in-steps xs t ran)) (is t None u st).step in
+        (steps_with_state (inner s)) l (steps_with_state (inner t))) same (in-steps xs t ran)) (is t None u st).step in
         record {
-          known = option_map found_of (shown (inner u).steps.asker).known;
+          known = option_map found_of (shown (inner u).steps.backend).known;
           left = record { steps = rw (known, walk) at k };
         }
 
@@ -277,18 +283,19 @@ module _ {E A C : Type 0} (Sure : E → Search → Found → Type 0) (shown : A 
 -- Steps of an engine e over captures, with a cache.
 module _ {E C : Type 0} (nfa : E → Automaton) (Tells : E → Search → Answer Row → Type 0)
     (Work : E → Search → Answer Row → C → C → Type 0) (e : E) where
-  abbrev AsksRow : With (Catching E) C → Search → Answer Row → With (Catching E) C → Type 0
+  abbrev AsksRow : WithCache (WithCaptures E) C → Search → Answer Row → WithCache (WithCaptures E) C → Type 0
   AsksRow = AsksEngineRow nfa Tells Work
 
-  abbrev Calls : Steps (With (Catching E) C) → Option (Result Captured SearchError) → Steps (With (Catching E) C)
+  abbrev Calls : Steps (WithCache (WithCaptures E) C) → Option (Result Captured SearchError)
+      → Steps (WithCache (WithCaptures E) C)
       → Type 0
-  Calls = takes_steps row_span AsksRow (λ q. GivesCaptures q.asker)
+  Calls = takes_steps row_span AsksRow (λ q. GivesCaptures q.backend)
 
   abbrev LooksRow : C → Search → Answer Row → C → Type 0
   LooksRow = DoesSearch (Tells e) (Work e)
 
-  looks-row : (s : With (Catching E) C) (t : Search) (a : Answer Row) (s' : With (Catching E) C)
-      → s.asker.finder ≡ e → AsksRow s t a s' → LooksRow s.cache t a s'.cache × (s'.asker.finder ≡ e)
+  looks-row : (s : WithCache (WithCaptures E) C) (t : Search) (a : Answer Row) (s' : WithCache (WithCaptures E) C)
+      → s.backend.finder ≡ e → AsksRow s t a s' → LooksRow s.cache t a s'.cache × (s'.backend.finder ≡ e)
   looks-row s t a s' is asked = (
     record {
       tells = subst (λ (b : E). Tells b t a) is asked.tells;
@@ -297,9 +304,9 @@ module _ {E C : Type 0} (nfa : E → Automaton) (Tells : E → Search → Answer
     asked.engine ∙ is,
   )
 
-  says-row : (s : With (Catching E) C) (a : Answer Row) (r : Option (Result Captured SearchError))
-      → GivesCaptures s.asker a r → Says row_of a (λ q. Unit {0}) r
-  says-row s a r gives = said r (copy-says (λ b. Unit {0}) s.asker a r gives tt)
+  says-row : (s : WithCache (WithCaptures E) C) (a : Answer Row) (r : Option (Result Captured SearchError))
+      → GivesCaptures s.backend a r → Says row_of a (λ q. Unit {0}) r
+  says-row s a r gives = said r (copy-says (λ b. Unit {0}) s.backend a r gives tt)
     where
       said : (r : Option (Result Captured SearchError))
           → Says row_of a (λ q. Unit {0} ⊎ ((q ≡ Memory) × (row : Row) × Unit {0})) r
@@ -308,27 +315,27 @@ module _ {E C : Type 0} (nfa : E → Automaton) (Tells : E → Search → Answer
       said (Some (Ok c)) h = h
       said (Some (Err q)) h = tt
 
-  module _ (x : Search) (s : Steps (With (Catching E) C)) (engine : s.asker.asker.finder ≡ e)
-      (walk : steps_walk s ≡ fresh x) (going : s.done ≡ false) where
+  module _ (x : Search) (s : Steps (WithCache (WithCaptures E) C)) (engine : s.backend.backend.finder ≡ e)
+      (walk : steps_iter_state s ≡ fresh x) (going : s.done ≡ false) where
     -- their calls lead from cache to cache by the searches of the steps
-    pub catches-leave : (t : Steps (With (Catching E) C)) → CallsLead Calls s t
-        → Leaves row_span LooksRow x s.asker.cache t.asker.cache
+    pub catches-leave : (t : Steps (WithCache (WithCaptures E) C)) → CallsLead Calls s t
+        → Leaves row_span LooksRow x s.backend.cache t.backend.cache
     catches-leave t lead =
-        let k = calls-leave row_span AsksRow (λ q. GivesCaptures q.asker) row_of says-row (λ q. q.cache) LooksRow
-        (λ q. q.asker.finder ≡ e) looks-row lead.items s lead.last t lead.item going engine lead.ran lead.over in
+        let k = calls-leave row_span AsksRow (λ q. GivesCaptures q.backend) row_of says-row (λ q. q.cache) LooksRow
+        (λ q. q.backend.finder ≡ e) looks-row lead.items s lead.last t lead.item going engine lead.ran lead.over in
         record { answers = k.0 ∷ k.1; steps = rw walk at k.2 }
 
     -- and past all matches if they go on to none
-    pub catches-to_end : (cs : List Captured) (t : Steps (With (Catching E) C)) → DrainsAll Calls s cs t
-        → LeavesAtEnd row_span LooksRow x (map row_of cs) s.asker.cache t.asker.cache
+    pub catches-to_end : (cs : List Captured) (t : Steps (WithCache (WithCaptures E) C)) → DrainsAll Calls s cs t
+        → LeavesAtEnd row_span LooksRow x (map row_of cs) s.backend.cache t.backend.cache
     catches-to_end cs t all =
-        let k = all-leave row_span AsksRow (λ q. GivesCaptures q.asker) row_of says-row (λ q. q.cache) LooksRow
-        (λ q. q.asker.finder ≡ e) looks-row cs s all.last t going engine all.ran all.over in
+        let k = all-leave row_span AsksRow (λ q. GivesCaptures q.backend) row_of says-row (λ q. q.cache) LooksRow
+        (λ q. q.backend.finder ≡ e) looks-row cs s all.last t going engine all.ran all.over in
         record { steps = rw walk at k }
 
     -- and so if a result holds them
     pub all-to_end : {V : Type 0} (r : Result V SearchError) (items : V → List Captured)
-        (t : Steps (With (Catching E) C)) → IfOk r (λ v. DrainsAll Calls s (items v) t)
-        → IfOk r (λ v. LeavesAtEnd row_span LooksRow x (map row_of (items v)) s.asker.cache t.asker.cache)
+        (t : Steps (WithCache (WithCaptures E) C)) → IfOk r (λ v. DrainsAll Calls s (items v) t)
+        → IfOk r (λ v. LeavesAtEnd row_span LooksRow x (map row_of (items v)) s.backend.cache t.backend.cache)
     all-to_end (Ok v) items t all = catches-to_end (items v) t all
     all-to_end (Err error) items t all = tt

@@ -1,7 +1,7 @@
 pub mod AgreementLemmas
 pub mod AskingLemmas
 pub mod BeginningLemmas
-pub mod CatchingLemmas
+pub mod WithCapturesLemmas
 pub mod DrainedLemmas
 pub mod EngineLemmas
 pub mod FindsLemmas
@@ -11,11 +11,11 @@ pub mod SkipLemmas
 pub mod SpanLemmas
 pub mod StepLemmas
 pub mod StoredLemmas
-pub mod WalkLemmas
+pub mod IterStateLemmas
 pub mod ListLemmas
 pub mod RunLemmas
 pub mod MatchRunLemmas
-pub mod CaughtLemmas
-pub mod CaughtRunLemmas
-pub mod ToldLemmas
-pub mod ToldCapturesLemmas
+pub mod CapturesLemmas
+pub mod CapturesRunLemmas
+pub mod MayAnswerLemmas
+pub mod MayAnswerRowLemmas

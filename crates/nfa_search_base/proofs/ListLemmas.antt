@@ -19,17 +19,17 @@ use Rattle.regex_search_core.specs.Groups.{slot_count}
 use Rattle.regex_search_core.specs.Slots.{match_of}
 use Rattle.std.specs.Option.{option_and_then}
 use Rattle.nfa_search_base.specs.Asking.{SameButStart}
-use Rattle.nfa_search_base.specs.Behind.{IsBehind}
+use Rattle.nfa_search_base.specs.LastEnd.{EndsBy}
 use Rattle.nfa_search_base.specs.Items.{Item, matches_in, items_from, items_within, greedy}
-use Rattle.nfa_search_base.specs.Lists.{IsStep, Fails, ItemsNext, ItemsLast, AreApart, AreSpansApart}
-use Rattle.nfa_search_base.specs.Lists.{TellsMatch, ComeLast, AreFirstMatches, AreMatches}
-use Rattle.nfa_search_base.specs.Walks.{Walk, Answer, Advances, AnswerIsInside}
-use Rattle.nfa_search_base.specs.Walks.{fresh, repeats, shifted, after, place_of, span_of, ends_left}
+use Rattle.nfa_search_base.specs.Lists.{IsStep, Fails, ItemsNext, ItemsLast, AreDisjoint, AreSpansDisjoint}
+use Rattle.nfa_search_base.specs.Lists.{AnswersMatch, ComeLast, AreFirstMatches, AreMatches}
+use Rattle.nfa_search_base.specs.IterStates.{IterState, Answer, Advances, AnswerIsInside}
+use Rattle.nfa_search_base.specs.IterStates.{fresh, repeats, shifted, after, answer_span, span_of, ends_left}
 use Rattle.nfa_search_base.specs.declared.error.SearchError.{SearchError}
 use Rattle.nfa_search_base.proofs.AskingLemmas.{same_start-self, same_start-then}
 use Rattle.nfa_search_base.proofs.StepLemmas.{chosen, same_start-after, same_start-shifted, Advances-rises}
 use Rattle.nfa_search_base.proofs.StepLemmas.{Advances-fewer}
-use Rattle.nfa_search_base.proofs.WalkLemmas.{IsOrdered}
+use Rattle.nfa_search_base.proofs.IterStateLemmas.{IsOrdered}
 
 some-injective : {A : Type 0} (a b : A) → Some a ≡ Some b → a ≡ b
 some-injective a b e = cc
@@ -42,35 +42,35 @@ error-same : {X : Type 0} (e q : SearchError) → (let a : Answer X = Err e in l
 error-same e q is = cc
 
 -- the last end is not after the start: before the first match, and after a match
-behind-none : (n : ℕ) → IsBehind None n
+behind-none : (n : ℕ) → EndsBy None n
 behind-none n = λ e is. let never : None ≡ Some e = is in cc
 
-behind-after : (end : ℕ) → IsBehind (Some end) end
+behind-after : (end : ℕ) → EndsBy (Some end) end
 behind-after end = λ e is. let same : end ≡ e = some-injective end e is in omega (arith, same)
 
 module _ {X : Type 0} (span : X → Span) (tells : Search → Answer X → Type 0) where
   -- the iteration after a match
-  abbrev past : Walk → X → Walk
+  abbrev past : IterState → X → IterState
   past w x = after w (Some (span x))
 
-  abbrev Step : Walk → Answer X → Type 0
+  abbrev Step : IterState → Answer X → Type 0
   Step = IsStep span tells
 
   -- the items, by steps only
-  abbrev Next : Walk → List (Item X) → Type 0
+  abbrev Next : IterState → List (Item X) → Type 0
   Next = ItemsNext span tells (Fails span tells)
 
-  abbrev Last : Walk → List (Item X) → Type 0
+  abbrev Last : IterState → List (Item X) → Type 0
   Last = ItemsLast span tells (Fails span tells)
 
   -- if a search gives at most one answer
   module _ (one : (t : Search) (a b : Answer X) → tells t a → tells t b → a ≡ b) where
     -- a step has one answer at most
-    pub step-unique : (w : Walk) (a b : Answer X) → Step w a → Step w b → a ≡ b
+    pub step-unique : (w : IterState) (a b : Answer X) → Step w a → Step w b → a ≡ b
     step-unique w a b h k =
         let first : h.first ≡ k.first = one w.at h.first k.first h.is_first k.is_first in
-        of (repeats w (place_of span h.first)) h.rest
-        (subst (λ (o : Answer X). MatchBool (repeats w (place_of span o)) (tells (shifted w).at b) (b ≡ o))
+        of (repeats w (answer_span span h.first)) h.rest
+        (subst (λ (o : Answer X). MatchBool (repeats w (answer_span span o)) (tells (shifted w).at b) (b ≡ o))
         (sym first) k.rest)
       where
         of : (again : Bool) → MatchBool again (tells (shifted w).at a) (a ≡ h.first)
@@ -79,7 +79,7 @@ module _ {X : Type 0} (span : X → Span) (tells : Search → Answer X → Type 
         of false x y = x ∙ sym y
 
     -- the first items are followed by the rest of the list
-    pub next-rest : (w : Walk) (xs ys : List (Item X)) → Next w xs → Last w ys
+    pub next-rest : (w : IterState) (xs ys : List (Item X)) → Next w xs → Last w ys
         → (more : List (Item X)) × (ys ≡ xs ++ more)
     next-rest w [] ys h k = (ys, refl)
     next-rest w (Ok x ∷ xs) [] h k = let e : Ok (Some x) ≡ Ok None = step-unique w (Ok (Some x)) (Ok None) h.0 k in cc
@@ -98,7 +98,7 @@ module _ {X : Type 0} (span : X → Span) (tells : Search → Answer X → Type 
         ([], rw (h.1, k.1, same) refl)
 
     -- there is one list
-    pub last-unique : (w : Walk) (xs ys : List (Item X)) → Last w xs → Last w ys → xs ≡ ys
+    pub last-unique : (w : IterState) (xs ys : List (Item X)) → Last w xs → Last w ys → xs ≡ ys
     last-unique w [] [] h k = refl
     last-unique w [] (Ok y ∷ ys) h k = let e : Ok None ≡ Ok (Some y) = step-unique w (Ok None) (Ok (Some y)) h k.0 in cc
     last-unique w [] (Err q ∷ ys) h k = let e : Ok None ≡ Err q = step-unique w (Ok None) (Err q) h k.0 in cc
@@ -117,7 +117,7 @@ module _ {X : Type 0} (span : X → Span) (tells : Search → Answer X → Type 
         rw (h.1, k.1, same) refl
 
   -- all items are first items
-  pub last-next : (ends : Walk → SearchError → Type 0) (w : Walk) (items : List (Item X))
+  pub last-next : (ends : IterState → SearchError → Type 0) (w : IterState) (items : List (Item X))
       → ItemsLast span tells ends w items → ItemsNext span tells ends w items
   last-next ends w [] h = tt
   last-next ends w (Ok x ∷ items) h = (h.0, last-next ends (past w x) items h.1)
@@ -125,18 +125,18 @@ module _ {X : Type 0} (span : X → Span) (tells : Search → Answer X → Type 
 
   -- if the answer of a search is in its span
   module _ (lies : (t : Search) (a : Answer X) → tells t a
-      → AnswerIsInside span t a × IsOrdered (place_of span a)) where
+      → AnswerIsInside span t a × IsOrdered (answer_span span a)) where
     abbrev asks : Unit {0} → Search → Answer X → Unit {0} → Type 0
     asks s t a s' = tells t a
 
     -- a step as one of a searcher
-    advances : (w : Walk) (x : X) → Step w (Ok (Some x)) → Advances span asks tt w (Ok (Some x)) tt (past w x)
+    advances : (w : IterState) (x : X) → Step w (Ok (Some x)) → Advances span asks tt w (Ok (Some x)) tt (past w x)
     advances w x h = record {
       answer = h.first;
       between = tt;
       first = h.is_first;
       rest =
-          of tt (repeats w (place_of span h.first)) h.rest;
+          of tt (repeats w (answer_span span h.first)) h.rest;
     }
       where
         of : (u : Unit {0}) (again : Bool)
@@ -147,9 +147,9 @@ module _ {X : Type 0} (span : X → Span) (tells : Search → Answer X → Type 
         of u false k = (k, refl, refl)
 
     -- the match of a step is in the span of its search
-    pub step-lies : (w : Walk) (x : X) → Step w (Ok (Some x))
+    pub step-lies : (w : IterState) (x : X) → Step w (Ok (Some x))
         → (w.at.start ≤ (span x).start) × ((span x).start ≤ (span x).end) × ((span x).end ≤ w.at.end)
-    step-lies w x h = elim (chosen (repeats w (place_of span h.first)) h.rest) [
+    step-lies w x h = elim (chosen (repeats w (answer_span span h.first)) h.rest) [
       | inl p ↦
           let k = lies (shifted w).at (Ok (Some x)) p.1 in
           (omega (arith, k.0.0), k.1 (span x) refl, k.0.1)
@@ -159,21 +159,21 @@ module _ {X : Type 0} (span : X → Span) (tells : Search → Answer X → Type 
     ]
 
     -- it comes after the last end
-    pub step-behind : (w : Walk) (x : X) → IsBehind w.last w.at.start → Step w (Ok (Some x))
+    pub step-behind : (w : IterState) (x : X) → EndsBy w.last w.at.start → Step w (Ok (Some x))
         → ForSome w.last (λ e. (e ≤ (span x).start) × (e < (span x).end))
     step-behind w x behind h =
         Advances-rises span asks (λ s t a s' k. lies t a k) tt w (Ok (Some x)) tt (past w x) behind (advances w x h)
 
     -- and leaves fewer ends
-    pub step-fewer : (w : Walk) (x : X) → IsBehind w.last w.at.start → Step w (Ok (Some x))
+    pub step-fewer : (w : IterState) (x : X) → EndsBy w.last w.at.start → Step w (Ok (Some x))
         → ends_left (past w x) < ends_left w
     step-fewer w x behind h =
         Advances-fewer span asks (λ s t a s' k. lies t a k) tt w (Ok (Some x)) tt (past w x) behind (advances w x h)
 
     -- so the matches are in the span of any search that began before, in order and without overlap
-    pub spans-apart : (ends : Walk → SearchError → Type 0) (x : Search) (w : Walk) (items : List (Item X))
-        → x.start ≤ w.at.start → w.at.end ≡ x.end → IsBehind w.last w.at.start → ItemsNext span tells ends w items
-        → AreSpansApart x w.last (map span (matches_in items))
+    pub spans-apart : (ends : IterState → SearchError → Type 0) (x : Search) (w : IterState) (items : List (Item X))
+        → x.start ≤ w.at.start → w.at.end ≡ x.end → EndsBy w.last w.at.start → ItemsNext span tells ends w items
+        → AreSpansDisjoint x w.last (map span (matches_in items))
     spans-apart ends x w [] from to behind h = tt
     spans-apart ends x w (Err e ∷ items) from to behind h = rw h.1 tt
     spans-apart ends x w (Ok m ∷ items) from to behind h =
@@ -184,8 +184,8 @@ module _ {X : Type 0} (span : X → Span) (tells : Search → Answer X → Type 
         )
 
     -- so there are at most as many matches as ends are left
-    pub next-few : (ends : Walk → SearchError → Type 0) (w : Walk) (items : List (Item X))
-        → IsBehind w.last w.at.start → ItemsNext span tells ends w items
+    pub next-few : (ends : IterState → SearchError → Type 0) (w : IterState) (items : List (Item X))
+        → EndsBy w.last w.at.start → ItemsNext span tells ends w items
         → length (matches_in items) ≤ ends_left w
     next-few ends w [] behind h = omega arith
     next-few ends w (Ok x ∷ items) behind h =
@@ -199,23 +199,23 @@ module _ {X : Type 0} (span : X → Span) (tells : Search → Answer X → Type 
       abbrev Gives : Search → Type 0
       Gives x = (t : Search) → SameButStart x t → tells t (h t)
 
-      built : (n : ℕ) (w : Walk) (a : Answer X) (w' : Walk) → Step w a
+      built : (n : ℕ) (w : IterState) (a : Answer X) (w' : IterState) → Step w a
           → ((x : X) → a ≡ Ok (Some x) → (w' ≡ past w x) × Last (past w x) (items_within span h n (past w x)))
           → Last w (items_from span a (items_within span h n w'))
       built n w (Ok None) w' step rest = step
       built n w (Err e) w' step rest = (step, refl)
       built n w (Ok (Some x)) w' step rest =
           let k = rest x refl in
-          (step, subst (λ (v : Walk). Last (past w x) (items_within span h n v)) (sym k.0) k.1)
+          (step, subst (λ (v : IterState). Last (past w x) (items_within span h n v)) (sym k.0) k.1)
 
-      come-greedy : (n : ℕ) (w : Walk) → ends_left w < n → IsBehind w.last w.at.start → Gives w.at
+      come-greedy : (n : ℕ) (w : IterState) → ends_left w < n → EndsBy w.last w.at.start → Gives w.at
           → Last w (items_within span h n w)
       come-greedy zero w lt behind gives = absurd (omega arith)
       come-greedy (suc n) w lt behind gives = of (λ v less after_it same. come-greedy n v less after_it same)
-          (repeats w (place_of span (h w.at))) refl
+          (repeats w (answer_span span (h w.at))) refl
         where
           Rest : Type 0
-          Rest = (v : Walk) → ends_left v < n → IsBehind v.last v.at.start → Gives v.at
+          Rest = (v : IterState) → ends_left v < n → EndsBy v.last v.at.start → Gives v.at
               → Last v (items_within span h n v)
 
           onward : Rest → (a : Answer X) → Step w a → (x : X) → a ≡ Ok (Some x)
@@ -225,10 +225,10 @@ module _ {X : Type 0} (span : X → Span) (tells : Search → Answer X → Type 
               rec (past w x) (omega (arith, fewer)) (behind-after (span x).end)
               (λ t alike. gives t (same_start-then w.at (past w x).at t (same_start-after w (Some (span x))) alike))
 
-          of : Rest → (again : Bool) → repeats w (place_of span (h w.at)) ≡ again
+          of : Rest → (again : Bool) → repeats w (answer_span span (h w.at)) ≡ again
               → Last w (items_from span (if again then h (shifted w).at else h w.at)
-              (items_within span h n (if again then after (shifted w) (place_of span (h (shifted w).at)) else after w
-              (place_of span (h w.at)))))
+              (items_within span h n (if again then after (shifted w) (answer_span span (h (shifted w).at)) else after w
+              (answer_span span (h w.at)))))
           of rec true e =
               let step : Step w (h (shifted w).at) =
               record {
@@ -239,7 +239,7 @@ module _ {X : Type 0} (span : X → Span) (tells : Search → Answer X → Type 
               } in
               built n w (h (shifted w).at) _ step
               (λ x is. (
-                ap (λ (a : Answer X). after (shifted w) (place_of span a)) is,
+                ap (λ (a : Answer X). after (shifted w) (answer_span span a)) is,
                 onward rec (h (shifted w).at) step x is,
               ))
           of rec false e =
@@ -249,7 +249,7 @@ module _ {X : Type 0} (span : X → Span) (tells : Search → Answer X → Type 
                 rest = rw e refl;
               } in
               built n w (h w.at) _ step
-              (λ x is. (ap (λ (a : Answer X). after w (place_of span a)) is, onward rec (h w.at) step x is))
+              (λ x is. (ap (λ (a : Answer X). after w (answer_span span a)) is, onward rec (h w.at) step x is))
 
       -- so there is a list if each search has an answer
       pub items-greedy : (x : Search) → Gives x → Last (fresh x) (greedy span h (fresh x))
@@ -278,10 +278,11 @@ as_items-rest {X} (x ∷ xs) (y ∷ ys) more e =
 
 -- The matches of a search are in its span, so the matches of an iteration do not overlap.
 module _ (tells : Search → Answer Found → Type 0)
-    (lies : (t : Search) (a : Answer Found) → tells t a → AnswerIsInside span_of t a × IsOrdered (place_of span_of a))
-    (ends : Walk → SearchError → Type 0) where
-  come-apart : (x : Search) (w : Walk) (items : List (Item Found)) → x.start ≤ w.at.start → w.at.end ≡ x.end
-      → IsBehind w.last w.at.start → ItemsNext span_of tells ends w items → AreApart x w.last (matches_in items)
+    (lies : (t : Search) (a : Answer Found) → tells t a → AnswerIsInside span_of t a
+    × IsOrdered (answer_span span_of a))
+    (ends : IterState → SearchError → Type 0) where
+  come-apart : (x : Search) (w : IterState) (items : List (Item Found)) → x.start ≤ w.at.start → w.at.end ≡ x.end
+      → EndsBy w.last w.at.start → ItemsNext span_of tells ends w items → AreDisjoint x w.last (matches_in items)
   come-apart x w [] from to behind h = tt
   come-apart x w (Err e ∷ items) from to behind h = rw h.1 tt
   come-apart x w (Ok m ∷ items) from to behind h =
@@ -293,12 +294,12 @@ module _ (tells : Search → Answer Found → Type 0)
 
   -- the matches among the first items of a search are in its span, in order and without overlap
   pub items-apart : (x : Search) (items : List (Item Found)) → ItemsNext span_of tells ends (fresh x) items
-      → AreApart x None (matches_in items)
+      → AreDisjoint x None (matches_in items)
   items-apart x items h = come-apart x (fresh x) items (omega arith) refl (behind-none x.start) h
 
 module _ (nfa : Automaton) (kind : MatchKind) (earliest : Bool) where
   abbrev tells : Search → Answer Found → Type 0
-  tells = TellsMatch nfa kind earliest
+  tells = AnswersMatch nfa kind earliest
 
   -- a search gives one match
   one-answer : (t : Search) (a b : Answer Found) → tells t a → tells t b → a ≡ b
@@ -309,7 +310,7 @@ module _ (nfa : Automaton) (kind : MatchKind) (earliest : Bool) where
 
   -- which is in its span
   pub match-lies : (t : Search) (a : Answer Found) → tells t a
-      → AnswerIsInside span_of t a × IsOrdered (place_of span_of a)
+      → AnswerIsInside span_of t a × IsOrdered (answer_span span_of a)
   match-lies t (Ok (Some m)) h =
       let k = match-within nfa kind earliest t m h in
       ((k.0, k.2), λ p is. subst (λ (q : Span). q.start ≤ q.end) (some-injective (span_of m) p is) k.1)
@@ -317,8 +318,8 @@ module _ (nfa : Automaton) (kind : MatchKind) (earliest : Bool) where
   match-lies t (Err e) h = absurd h
 
   -- and no step errs
-  never-fails : (w : Walk) (e : SearchError) → IsStep span_of tells w (Err e) → ⊥
-  never-fails w e h = elim (chosen (repeats w (place_of span_of h.first)) h.rest) [
+  never-fails : (w : IterState) (e : SearchError) → IsStep span_of tells w (Err e) → ⊥
+  never-fails w e h = elim (chosen (repeats w (answer_span span_of h.first)) h.rest) [
     | inl p ↦ p.1
     | inr p ↦ subst (λ (a : Answer Found). tells w.at a) (sym p.1) h.is_first
   ]
@@ -342,7 +343,7 @@ module _ (nfa : Automaton) (kind : MatchKind) (earliest : Bool) where
       let ms = matches_of (greedy span_of h (fresh x)) (fresh x) all in
       (ms.0, record { come = ms.1 })
     where
-      matches_of : (items : List (Item Found)) (w : Walk) → ItemsLast span_of tells (Fails span_of tells) w items
+      matches_of : (items : List (Item Found)) (w : IterState) → ItemsLast span_of tells (Fails span_of tells) w items
           → (ms : List Found) × ComeLast nfa kind earliest w ms
       matches_of [] w come = ([], come)
       matches_of (Ok m ∷ items) w come =
@@ -372,9 +373,9 @@ module _ (nfa : Automaton) (kind : MatchKind) (earliest : Bool) where
   matches-first x xs h = record { come = last-next span_of tells (Fails span_of tells) (fresh x) (as_items xs) h.come }
 
   -- the first matches of a search are in its span, in order and without overlap
-  pub matches-apart : (x : Search) (ms : List Found) → AreFirstMatches nfa kind earliest x ms → AreApart x None ms
+  pub matches-apart : (x : Search) (ms : List Found) → AreFirstMatches nfa kind earliest x ms → AreDisjoint x None ms
   matches-apart x ms h =
-      subst (λ (l : List Found). AreApart x None l) (matches_in-as_items ms)
+      subst (λ (l : List Found). AreDisjoint x None l) (matches_in-as_items ms)
       (items-apart tells match-lies (Fails span_of tells) x (as_items ms) h.come)
 
   -- there are at most as many as the span has bytes, and one more

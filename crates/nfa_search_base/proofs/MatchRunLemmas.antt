@@ -11,12 +11,12 @@ use Rattle.regex_search_core.specs.declared.search.Match.{Match}
 use Rattle.regex_search_core.specs.declared.search.MatchKind.{MatchKind}
 use Rattle.thompson_nfa.specs.Automaton.{Automaton}
 use Rattle.nfa_search_base.specs.Asking.{SameButStart}
-use Rattle.nfa_search_base.specs.Lists.{IsStep, Fails, TellsMatch, AreApart, IsInside}
+use Rattle.nfa_search_base.specs.Lists.{IsStep, Fails, AnswersMatch, AreDisjoint, IsInside}
 use Rattle.nfa_search_base.specs.MatchRuns.{AreFirst, AreAll, MatchesRun, MatchesFirst, MatchesNext, MatchesAre}
-use Rattle.nfa_search_base.specs.MatchRuns.{MatchesApart}
+use Rattle.nfa_search_base.specs.MatchRuns.{MatchesDisjoint}
 use Rattle.nfa_search_base.specs.Steps.{GivesItem}
-use Rattle.nfa_search_base.specs.Stored.{steps_walk, takes_sure_steps}
-use Rattle.nfa_search_base.specs.Walks.{Walk, Answer, fresh, span_of}
+use Rattle.nfa_search_base.specs.Stored.{steps_iter_state, takes_infallible_steps}
+use Rattle.nfa_search_base.specs.IterStates.{IterState, Answer, fresh, span_of}
 use Rattle.nfa_search_base.specs.declared.error.SearchError.{SearchError}
 use Rattle.nfa_search_base.specs.declared.iter.steps.Steps.{Steps}
 use Rattle.nfa_search_base.proofs.ListLemmas.{matches-apart, matches-rest, matches-unique}
@@ -36,7 +36,7 @@ no-more : (xs more : List Found) → xs ≡ xs ++ more → length more ≡ 0
 no-more xs more e = omega (arith, ap length e, length-append xs more)
 
 -- matches that are apart are in the span
-pub all-inside : (x : Search) (last : Option ℕ) (ms : List Match) → AreApart x last (map found_of ms)
+pub all-inside : (x : Search) (last : Option ℕ) (ms : List Match) → AreDisjoint x last (map found_of ms)
     → All (λ m. IsInside x (found_of m)) ms
 all-inside x last [] h = All-nil (λ m. IsInside x (found_of m))
 all-inside x last (m ∷ ms) h = All-cons (λ m. IsInside x (found_of m)) m ms h.0
@@ -44,9 +44,9 @@ all-inside x last (m ∷ ms) h = All-cons (λ m. IsInside x (found_of m)) m ms h
 
 module _ (nfa : Automaton) (kind : MatchKind) (x : Search) where
   abbrev tells : Search → Answer Found → Type 0
-  tells = TellsMatch nfa kind x.earliest
+  tells = AnswersMatch nfa kind x.earliest
 
-  says : {S : Type 0} (w : Walk) (s : S) (a : Answer Found) (r : Option (Result Match SearchError))
+  says : {S : Type 0} (w : IterState) (s : S) (a : Answer Found) (r : Option (Result Match SearchError))
       → GivesItem found_of a r
       → IsStep span_of tells w a → Says found_of a (Fails span_of tells w) r
   says w s a r gives step = item-says found_of (λ b. IsStep span_of tells w b) a r gives step
@@ -58,11 +58,11 @@ module _ (nfa : Automaton) (kind : MatchKind) (x : Search) where
       → tells t a × Good s')
       (steps : T → Option Match → T → Type 0) (inner : T → Steps S)
       (is : (s : T) (r : Option Match) (t : T) → steps s r t
-      → takes_sure_steps span_of asks (λ q. GivesItem found_of) (inner s) r (inner t))
-      (s : T) (walk : steps_walk (inner s) ≡ fresh x) (going : (inner s).done ≡ false)
-      (good : Good (inner s).asker) where
+      → takes_infallible_steps span_of asks (λ q. GivesItem found_of) (inner s) r (inner t))
+      (s : T) (walk : steps_iter_state (inner s) ≡ fresh x) (going : (inner s).done ≡ false)
+      (good : Good (inner s).backend) where
     abbrev core : Steps S → Option Match → Steps S → Type 0
-    core = takes_sure_steps span_of asks (λ q. GivesItem found_of)
+    core = takes_infallible_steps span_of asks (λ q. GivesItem found_of)
 
     pub matches-first_given : MatchesFirst nfa kind x steps s
     matches-first_given = λ xs t ran. record {
@@ -84,7 +84,7 @@ module _ (nfa : Automaton) (kind : MatchKind) (x : Search) where
     pub matches-next : MatchesNext nfa kind x steps s
     matches-next = gives-next steps (AreFirst nfa kind x) (AreAll nfa kind x) s matches-first_given matches-all_given
 
-    pub matches-apart_run : MatchesApart nfa kind x steps s
+    pub matches-apart_run : MatchesDisjoint nfa kind x steps s
     matches-apart_run = λ p seen from.
         let k = matches-apart nfa kind x.earliest x (map found_of p.items) (matches-run p seen from).0 in
         (k, all-inside x None p.items k)

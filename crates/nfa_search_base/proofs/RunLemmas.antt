@@ -10,8 +10,8 @@ use Rattle.nfa_search_base.specs.Items.{Item, item_by}
 use Rattle.nfa_search_base.specs.Lists.{IsStep, ItemsNext, ItemsLast}
 use Rattle.nfa_search_base.specs.Runs.{RunsGive, GivesFirst, GivesNext}
 use Rattle.nfa_search_base.specs.Steps.{TakesStep, GivesItem, ends_at}
-use Rattle.nfa_search_base.specs.Stored.{steps_walk, takes_steps, takes_sure_steps}
-use Rattle.nfa_search_base.specs.Walks.{Walk, Answer, Advances, fresh, repeats, shifted, after, place_of}
+use Rattle.nfa_search_base.specs.Stored.{steps_iter_state, takes_steps, takes_infallible_steps}
+use Rattle.nfa_search_base.specs.IterStates.{IterState, Answer, Advances, fresh, repeats, shifted, after, answer_span}
 use Rattle.nfa_search_base.specs.declared.error.SearchError.{SearchError}
 use Rattle.nfa_search_base.specs.declared.iter.steps.Steps.{Steps}
 use Rattle.nfa_search_base.proofs.ListLemmas.{as_items}
@@ -78,29 +78,30 @@ item-says {X} view step (Err q) (Some (Err e)) gives is =
 -- answer is.
 module _ {S X Y : Type 0} (span : X → Span) (asks : S → Search → Answer X → S → Type 0)
     (gives : S → Answer X → Option (Result Y SearchError) → Type 0) (view : Y → X) (tells : Search → Answer X → Type 0)
-    (ends : Walk → SearchError → Type 0) (x : Search) (Good : S → Type 0)
+    (ends : IterState → SearchError → Type 0) (x : Search) (Good : S → Type 0)
     (acts : (s : S) (t : Search) (a : Answer X) (s' : S) → SameButStart x t → Good s → asks s t a s'
     → tells t a × Good s')
-    (says : (w : Walk) (s : S) (a : Answer X) (r : Option (Result Y SearchError)) → gives s a r → IsStep span tells w a
+    (says : (w : IterState) (s : S) (a : Answer X) (r : Option (Result Y SearchError)) → gives s a r
+    → IsStep span tells w a
     → Says view a (ends w) r) where
   abbrev steps : Steps S → Option (Result Y SearchError) → Steps S → Type 0
   steps = takes_steps span asks gives
 
   -- the iterator goes on at w
-  record IsAt (w : Walk) (s : Steps S) : Type 0 where
-    walk : steps_walk s ≡ w
+  record IsAt (w : IterState) (s : Steps S) : Type 0 where
+    walk : steps_iter_state s ≡ w
     going : s.done ≡ false
     like : SameButStart x w.at
-    good : Good s.asker
+    good : Good s.backend
 
   -- a step of the iteration gives its answer, and the state after a match
-  advance : (w : Walk) (s : S) (a : Answer X) (s' : S) (w' : Walk) → SameButStart x w.at → Good s
+  advance : (w : IterState) (s : S) (a : Answer X) (s' : S) (w' : IterState) → SameButStart x w.at → Good s
       → Advances span asks s w a s' w'
-      → IsStep span tells w a × Good s' × ((w' ≡ after w (place_of span a))
-      ⊎ (w' ≡ after (shifted w) (place_of span a)))
+      → IsStep span tells w a × Good s' × ((w' ≡ after w (answer_span span a))
+      ⊎ (w' ≡ after (shifted w) (answer_span span a)))
   advance w s a s' w' like good step =
       let one = acts s w.at step.answer step.between like good step.first in
-      elim (chosen (repeats w (place_of span step.answer)) step.rest) [
+      elim (chosen (repeats w (answer_span span step.answer)) step.rest) [
         | inl p ↦
             let on = same_start-then x w.at (shifted w).at like (same_start-shifted w) in
             let two = acts step.between (shifted w).at a s' on one.1 p.1.0 in
@@ -113,40 +114,41 @@ module _ {S X Y : Type 0} (span : X → Span) (asks : S → Search → Answer X 
       ]
 
   -- the result of a call
-  abbrev Leads : Walk → Option (Result Y SearchError) → Steps S → Type 0
+  abbrev Leads : IterState → Option (Result Y SearchError) → Steps S → Type 0
   Leads w None t = IsStep span tells w (Ok None)
   Leads w (Some (Ok y)) t = IsStep span tells w (Ok (Some (view y))) × IsAt (after w (Some (span (view y)))) t
   Leads w (Some (Err e)) t = ends w e × (t.done ≡ true)
 
-  turn-at : (w : Walk) (s : Steps S) (r : Option (Result Y SearchError)) (t : Steps S) → IsAt w s → steps s r t
-      → TakesStep span asks gives s.asker w r t.asker (steps_walk t) t.done
+  turn-at : (w : IterState) (s : Steps S) (r : Option (Result Y SearchError)) (t : Steps S) → IsAt w s → steps s r t
+      → TakesStep span asks gives s.backend w r t.backend (steps_iter_state t) t.done
   turn-at w s r t at st = of s.done at.going st
     where
       of : (b : Bool) → b ≡ false
-          → MatchBool b ((r ≡ None) × (t ≡ s)) (TakesStep span asks gives s.asker (steps_walk s) r t.asker
-          (steps_walk t) t.done)
-          → TakesStep span asks gives s.asker w r t.asker (steps_walk t) t.done
+          → MatchBool b ((r ≡ None) × (t ≡ s)) (TakesStep span asks gives s.backend (steps_iter_state s) r t.backend
+          (steps_iter_state t) t.done)
+          → TakesStep span asks gives s.backend w r t.backend (steps_iter_state t) t.done
       of true e h = cc
       of false e h = rw at.walk at h
 
   -- a call leads to the state that its item says
-  leads : (w : Walk) (s : Steps S) (r : Option (Result Y SearchError)) (t : Steps S) → IsAt w s → steps s r t
+  leads : (w : IterState) (s : Steps S) (r : Option (Result Y SearchError)) (t : Steps S) → IsAt w s → steps s r t
       → Leads w r t
   leads w s r t at st =
       let turn = turn-at w s r t at st in
-      let k = advance w s.asker turn.answer t.asker (steps_walk t) at.like at.good turn.step in
-      of r turn.answer k.0 k.1 k.2 turn.ends (says w t.asker turn.answer r turn.item k.0)
+      let k = advance w s.backend turn.answer t.backend (steps_iter_state t) at.like at.good turn.step in
+      of r turn.answer k.0 k.1 k.2 turn.ends (says w t.backend turn.answer r turn.item k.0)
     where
-      of : (r : Option (Result Y SearchError)) (a : Answer X) → IsStep span tells w a → Good t.asker
-          → ((steps_walk t ≡ after w (place_of span a)) ⊎ (steps_walk t ≡ after (shifted w) (place_of span a)))
+      of : (r : Option (Result Y SearchError)) (a : Answer X) → IsStep span tells w a → Good t.backend
+          → ((steps_iter_state t ≡ after w (answer_span span a))
+          ⊎ (steps_iter_state t ≡ after (shifted w) (answer_span span a)))
           → t.done ≡ ends_at r → Says view a (ends w) r → Leads w r t
       of None a step good moved done is = subst (λ (b : Answer X). IsStep span tells w b) is step
       of (Some (Ok y)) a step good moved done is = (
         subst (λ (b : Answer X). IsStep span tells w b) is step,
         record {
           walk = elim moved [
-            | inl one ↦ one ∙ ap (λ (b : Answer X). after w (place_of span b)) is
-            | inr two ↦ two ∙ ap (λ (b : Answer X). after (shifted w) (place_of span b)) is
+            | inl one ↦ one ∙ ap (λ (b : Answer X). after w (answer_span span b)) is
+            | inr two ↦ two ∙ ap (λ (b : Answer X). after (shifted w) (answer_span span b)) is
           ];
           going = done;
           like = same_start-then x w.at (after w (Some (span (view y)))).at at.like
@@ -163,7 +165,8 @@ module _ {S X Y : Type 0} (span : X → Span) (asks : S → Search → Answer X 
     where
       of : (b : Bool) → b ≡ true
           → MatchBool b ((Some y ≡ None) × (h.0 ≡ s))
-          (TakesStep span asks gives s.asker (steps_walk s) (Some y) (h.0).asker (steps_walk h.0) (h.0).done)
+          (TakesStep span asks gives s.backend (steps_iter_state s) (Some y) (h.0).backend (steps_iter_state h.0)
+          (h.0).done)
           → y ∷ ys ≡ []
       of true e k = let never : Some y ≡ None = k.0 in cc
       of false e k = cc
@@ -171,7 +174,7 @@ module _ {S X Y : Type 0} (span : X → Span) (asks : S → Search → Answer X 
   abbrev items : List (Result Y SearchError) → List (Item X)
   items = map (item_by view)
 
-  so-far : (xs : List (Result Y SearchError)) (w : Walk) (s t : Steps S) → IsAt w s → Yields steps s xs t
+  so-far : (xs : List (Result Y SearchError)) (w : IterState) (s t : Steps S) → IsAt w s → Yields steps s xs t
       → ItemsNext span tells ends w (items xs)
   so-far [] w s t at ran = tt
   so-far (Ok y ∷ xs) w s t at ran =
@@ -181,7 +184,7 @@ module _ {S X Y : Type 0} (span : X → Span) (asks : S → Search → Answer X 
       let k = leads w s (Some (Err e)) ran.0 at ran.1 in
       (k.0, ap items (ended ran.0 t xs k.1 ran.2))
 
-  and-last : (xs : List (Result Y SearchError)) (w : Walk) (s t u : Steps S) → IsAt w s → Yields steps s xs t
+  and-last : (xs : List (Result Y SearchError)) (w : IterState) (s t u : Steps S) → IsAt w s → Yields steps s xs t
       → steps t None u
       → ItemsLast span tells ends w (items xs)
   and-last [] w s t u at ran st = leads w s None u at (subst (λ (q : Steps S). steps q None u) (sym ran) st)
@@ -193,8 +196,9 @@ module _ {S X Y : Type 0} (span : X → Span) (asks : S → Search → Answer X 
       (k.0, ap items (ended ran.0 t xs k.1 ran.2))
 
   -- of an iterator that goes on at w
-  module _ (w : Walk) (s : Steps S) (walk : steps_walk s ≡ w) (going : s.done ≡ false) (like : SameButStart x w.at)
-      (good : Good s.asker) where
+  module _ (w : IterState) (s : Steps S) (walk : steps_iter_state s ≡ w) (going : s.done ≡ false)
+      (like : SameButStart x w.at)
+      (good : Good s.backend) where
     here : IsAt w s
     here = record { walk = walk; going = going; like = like; good = good }
 
@@ -208,7 +212,7 @@ module _ {S X Y : Type 0} (span : X → Span) (asks : S → Search → Answer X 
     all-from = λ xs t u ran st. and-last xs w s t u here ran st
 
   -- of an iterator that begins
-  module _ (s : Steps S) (walk : steps_walk s ≡ fresh x) (going : s.done ≡ false) (good : Good s.asker) where
+  module _ (s : Steps S) (walk : steps_iter_state s ≡ fresh x) (going : s.done ≡ false) (good : Good s.backend) where
     pub gives-first : GivesFirst steps (λ xs. ItemsNext span tells ends (fresh x) (items xs)) s
     gives-first = first-from (fresh x) s walk going (same_start-self x) good
 
@@ -218,7 +222,7 @@ module _ {S X Y : Type 0} (span : X → Span) (asks : S → Search → Answer X 
 
     -- the same for an iterator that gives only matches
     abbrev sure_steps : Steps S → Option Y → Steps S → Type 0
-    sure_steps = takes_sure_steps span asks gives
+    sure_steps = takes_infallible_steps span asks gives
 
     oked : (xs : List Y) (q t : Steps S) → Yields sure_steps q xs t → Yields steps q (map (λ y. Ok y) xs) t
     oked [] q t ran = ran
@@ -247,31 +251,31 @@ module _ {S X Y : Type 0} (span : X → Span) (asks : S → Search → Answer X 
     (then : (s t u : S) → Keeps s t → Keeps t u → Keeps s u) (asked : (s : S) (t : Search) (a : Answer X) (s' : S)
     → asks s t a s' → Keeps s s') where
   pub step-keeps : (s : Steps S) (r : Option (Result Y SearchError)) (t : Steps S) → takes_steps span asks gives s r t
-      → Keeps s.asker t.asker
+      → Keeps s.backend t.backend
   step-keeps s r t st = of s.done st
     where
       of : (b : Bool)
-          → MatchBool b ((r ≡ None) × (t ≡ s)) (TakesStep span asks gives s.asker (steps_walk s) r t.asker
-          (steps_walk t) t.done)
-          → Keeps s.asker t.asker
-      of true h = subst (λ (q : Steps S). Keeps s.asker q.asker) (sym h.1) (self s.asker)
+          → MatchBool b ((r ≡ None) × (t ≡ s)) (TakesStep span asks gives s.backend (steps_iter_state s) r t.backend
+          (steps_iter_state t) t.done)
+          → Keeps s.backend t.backend
+      of true h = subst (λ (q : Steps S). Keeps s.backend q.backend) (sym h.1) (self s.backend)
       of false h =
           let step = h.step in
-          let one = asked s.asker (steps_walk s).at step.answer step.between step.first in
-          elim (chosen (repeats (steps_walk s) (place_of span step.answer)) step.rest) [
-            | inl p ↦ then s.asker step.between t.asker one
-                (asked step.between (shifted (steps_walk s)).at h.answer t.asker p.1.0)
-            | inr p ↦ subst (λ (q : S). Keeps s.asker q) (sym p.1.1) one
+          let one = asked s.backend (steps_iter_state s).at step.answer step.between step.first in
+          elim (chosen (repeats (steps_iter_state s) (answer_span span step.answer)) step.rest) [
+            | inl p ↦ then s.backend step.between t.backend one
+                (asked step.between (shifted (steps_iter_state s)).at h.answer t.backend p.1.0)
+            | inr p ↦ subst (λ (q : S). Keeps s.backend q) (sym p.1.1) one
           ]
 
 -- What each search like that of the iteration leaves, a step leaves.
 module _ {S X : Type 0} (span : X → Span) (asks : S → Search → Answer X → S → Type 0) (Holds : S → Type 0) where
-  pub step-holds : (s : S) (w : Walk) (a : Answer X) (s' : S) (w' : Walk)
+  pub step-holds : (s : S) (w : IterState) (a : Answer X) (s' : S) (w' : IterState)
       → ((q : S) (t : Search) (b : Answer X) (q' : S) → SameButStart w.at t → Holds q → asks q t b q' → Holds q')
       → Holds s → Advances span asks s w a s' w' → Holds s'
   step-holds s w a s' w' leaves holds step =
       let one = leaves s w.at step.answer step.between (same_start-self w.at) holds step.first in
-      elim (chosen (repeats w (place_of span step.answer)) step.rest) [
+      elim (chosen (repeats w (answer_span span step.answer)) step.rest) [
         | inl p ↦ leaves step.between (shifted w).at a s' (same_start-shifted w) one p.1.0
         | inr p ↦ subst (λ (q : S). Holds q) (sym p.1.1) one
       ]

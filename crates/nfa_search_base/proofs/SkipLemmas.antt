@@ -10,22 +10,22 @@ use Rattle.regex_search_core.specs.declared.search.Input.{Input}
 use Rattle.nfa_search_base.specs.Asking.{Asks, IsCallableOn, SameButStart, SameButEnd, ServesAlong}
 use Rattle.nfa_search_base.specs.Serving.{LeadsOn}
 use Rattle.nfa_search_base.specs.declared.error.SearchError.{SearchError}
-use Rattle.nfa_search_base.specs.Skipping.{Placed, value_of, IsPlacedIn, IsInCharacter, IsWholeReply}
+use Rattle.nfa_search_base.specs.Skipping.{WithOffset, value_of, HasOffsetIn, IsInCharacter, IsWholeReply}
 use Rattle.nfa_search_base.specs.Skipping.{start_raised, lowered, Answers}
 use Rattle.nfa_search_base.specs.Skipping.{LeadsTo, Reaches, ServesSkips, SkipsTo}
 
-module _ {T F : Type 0} (g : Mut F (Bor Input × Unit {0}) (Placed T))
+module _ {T F : Type 0} (g : Mut F (Bor Input × Unit {0}) (WithOffset T))
     (haystack : List ℕ) (moved : ℕ → Option Search) where
   -- one more call, after an answer that splits a codepoint
-  Reaches-more : (n : ℕ) (r : Placed T) (f : F) (answers : List (Placed T)) (last : Placed T) (left : F)
-      (a : Placed T) (f' : F)
+  Reaches-more : (n : ℕ) (r : WithOffset T) (f : F) (answers : List (WithOffset T)) (last : WithOffset T) (left : F)
+      (a : WithOffset T) (f' : F)
       → IsInCharacter haystack last → Answers g left (moved (n + length answers + 1)) a f'
       → Reaches g haystack moved n r f answers last left → Reaches g haystack moved n r f (answers ++ a ∷ []) a f'
   Reaches-more n r f [] last left a f' split answered reaches =
       let e : n + 0 + 1 ≡ n + 1 = omega arith in
       let here = subst (λ (k : ℕ). Answers g left (moved k) a f') e answered in
       let from = subst (λ (q : F). Answers g q (moved (n + 1)) a f') reaches.1 here in
-      (subst (λ (p : Placed T). IsInCharacter haystack p) reaches.0 split, (f', from, (refl, refl)))
+      (subst (λ (p : WithOffset T). IsInCharacter haystack p) reaches.0 split, (f', from, (refl, refl)))
   Reaches-more n r f (b ∷ answers) last left a f' split answered reaches =
       let e : n + suc (length answers) + 1 ≡ n + 1 + length answers + 1 = omega arith in
       let here = subst (λ (k : ℕ). Answers g left (moved k) a f') e answered in
@@ -33,34 +33,34 @@ module _ {T F : Type 0} (g : Mut F (Bor Input × Unit {0}) (Placed T))
       (reaches.0, (reaches.1.0, reaches.1.1, rest))
 
   -- an answer that splits no codepoint ends it
-  Reaches-whole : (n : ℕ) (r : Placed T) (f : F) (answers : List (Placed T)) (last : Placed T) (left : F)
+  Reaches-whole : (n : ℕ) (r : WithOffset T) (f : F) (answers : List (WithOffset T)) (last : WithOffset T) (left : F)
       → IsWholeReply haystack last
       → Reaches g haystack moved n r f answers last left → LeadsTo g haystack moved n r f answers last left
   Reaches-whole n r f [] last left whole reaches =
-      (subst (λ (p : Placed T). IsWholeReply haystack p) reaches.0 whole, reaches.0, reaches.1)
+      (subst (λ (p : WithOffset T). IsWholeReply haystack p) reaches.0 whole, reaches.0, reaches.1)
   Reaches-whole n r f (b ∷ answers) last left whole reaches =
       let rest = Reaches-whole (n + 1) b reaches.1.0 answers last left whole reaches.1.2 in
       (reaches.0, (reaches.1.0, reaches.1.1, rest))
 
   module _ (Same : Search → Search → Type 0) (same-self : (s : Search) → Same s s) where
     -- the skipping that began at the search s is now at the search t, its answer r and the finder f
-    pub record HasCome (s : Search) (r0 : Placed T) (f0 : F) (t : Search) (r : Placed T) (f : F) : Type 0 where
+    pub record HasCome (s : Search) (r0 : WithOffset T) (f0 : F) (t : Search) (r : WithOffset T) (f : F) : Type 0 where
       pub same : Same s t
       pub serves : ServesSkips g haystack moved r0 f0
-      pub answers : List (Placed T)
+      pub answers : List (WithOffset T)
       pub at : moved (length answers) ≡ Some t
       pub reached : Reaches g haystack moved 0 r0 f0 answers r f
 
     -- before the first call
-    pub HasCome-start : (s : Search) (r : Placed T) (f : F) → moved 0 ≡ Some s → ServesSkips g haystack moved r f
+    pub HasCome-start : (s : Search) (r : WithOffset T) (f : F) → moved 0 ≡ Some s → ServesSkips g haystack moved r f
         → HasCome s r f s r f
     HasCome-start s r f at serves =
         record { same = same-self s; serves = serves; answers = []; at = at; reached = (refl, refl) }
 
-    module _ (s : Search) (r0 : Placed T) (f0 : F) (t : Search) (r : Placed T) (f : F)
+    module _ (s : Search) (r0 : WithOffset T) (f0 : F) (t : Search) (r : WithOffset T) (f : F)
         (come : HasCome s r0 f0 t r f) where
       -- one answer more
-      more : (o : Option Search) (a : Placed T) (f' : F) → ((n : ℕ) → moved n ≡ Some t → moved (n + 1) ≡ o)
+      more : (o : Option Search) (a : WithOffset T) (f' : F) → ((n : ℕ) → moved n ≡ Some t → moved (n + 1) ≡ o)
           → IsInCharacter haystack r → Answers g f o a f'
           → Reaches g haystack moved 0 r0 f0 (come.answers ++ a ∷ []) a f'
       more o a f' up split answered =
@@ -71,7 +71,7 @@ module _ {T F : Type 0} (g : Mut F (Bor Input × Unit {0}) (Placed T))
           Reaches-more 0 r0 f0 come.answers r f a f' split here come.reached
 
       -- how far the search is moved then
-      moved-more : (u : Search) (a : Placed T) → ((n : ℕ) → moved n ≡ Some t → moved (n + 1) ≡ Some u)
+      moved-more : (u : Search) (a : WithOffset T) → ((n : ℕ) → moved n ≡ Some t → moved (n + 1) ≡ Some u)
           → moved (length (come.answers ++ a ∷ [])) ≡ Some u
       moved-more u a up =
           let e : length come.answers + 1 ≡ length (come.answers ++ a ∷ []) =
@@ -85,9 +85,9 @@ module _ {T F : Type 0} (g : Mut F (Bor Input × Unit {0}) (Placed T))
         HasCome-callable =
             (come.serves.at come.answers r f u come.reached split (up (length come.answers) come.at)).callable
 
-        module _ (a : Placed T) (f' : F) (asked : Asks g f u a f') where
+        module _ (a : WithOffset T) (f' : F) (asked : Asks g f u a f') where
           -- its answer is in the span
-          pub HasCome-placed : IsPlacedIn u a
+          pub HasCome-placed : HasOffsetIn u a
           HasCome-placed =
               let next = come.serves.at come.answers r f u come.reached split (up (length come.answers) come.at) in
               next.replies a f' asked
@@ -133,36 +133,37 @@ module _ {T F : Type 0} (g : Mut F (Bor Input × Unit {0}) (Placed T))
         gives = gives;
       }
 
-module _ {T F : Type 0} (g : Mut F (Bor Input × Unit {0}) (Placed T))
+module _ {T F : Type 0} (g : Mut F (Bor Input × Unit {0}) (WithOffset T))
     (haystack : List ℕ) (moved : ℕ → Option Search) (Same : Search → Search → Type 0) (s : Search)
     (like : (n : ℕ) (u : Search) → moved n ≡ Some u → Same s u) where
   -- after none, which splits no codepoint, there is no call
-  none-ends : (n : ℕ) (r : Placed T) (f : F) (answers : List (Placed T)) (last : Placed T) (left : F) → r ≡ Ok None
+  none-ends : (n : ℕ) (r : WithOffset T) (f : F) (answers : List (WithOffset T)) (last : WithOffset T) (left : F)
+      → r ≡ Ok None
       → Reaches g haystack moved n r f answers last left → IsInCharacter haystack last → ⊥
   none-ends n r f [] last left is reaches split =
-      subst (λ (p : Placed T). IsInCharacter haystack p) is
-      (subst (λ (p : Placed T). IsInCharacter haystack p) reaches.0 split)
+      subst (λ (p : WithOffset T). IsInCharacter haystack p) is
+      (subst (λ (p : WithOffset T). IsInCharacter haystack p) reaches.0 split)
   none-ends n r f (a ∷ answers) last left is reaches split =
-      subst (λ (p : Placed T). IsInCharacter haystack p) is reaches.0
+      subst (λ (p : WithOffset T). IsInCharacter haystack p) is reaches.0
 
   -- the calls that are made are calls on searches like s
-  calls-like : (n : ℕ) (r : Placed T) (f : F) (answers : List (Placed T)) (last : Placed T) (left : F)
+  calls-like : (n : ℕ) (r : WithOffset T) (f : F) (answers : List (WithOffset T)) (last : WithOffset T) (left : F)
       → Reaches g haystack moved n r f answers last left → IsInCharacter haystack last
-      → (calls : List (Search × Placed T)) × LeadsOn (IsCallableOn g) (Asks g) Same s f calls left
+      → (calls : List (Search × WithOffset T)) × LeadsOn (IsCallableOn g) (Asks g) Same s f calls left
   calls-like n r f [] last left reaches split = ([], sym reaches.1)
   calls-like n r f (a ∷ answers) last left reaches split =
       of (moved (n + 1)) (λ u at. like (n + 1) u at) reaches.1.1
       (calls-like (n + 1) a reaches.1.0 answers last left reaches.1.2 split)
     where
       of : (o : Option Search) → ((u : Search) → o ≡ Some u → Same s u) → Answers g f o a reaches.1.0
-          → (calls : List (Search × Placed T)) × LeadsOn (IsCallableOn g) (Asks g) Same s reaches.1.0 calls left
-          → (calls : List (Search × Placed T)) × LeadsOn (IsCallableOn g) (Asks g) Same s f calls left
+          → (calls : List (Search × WithOffset T)) × LeadsOn (IsCallableOn g) (Asks g) Same s reaches.1.0 calls left
+          → (calls : List (Search × WithOffset T)) × LeadsOn (IsCallableOn g) (Asks g) Same s f calls left
       of None same answered rest =
           absurd (none-ends (n + 1) a reaches.1.0 answers last left answered.0 reaches.1.2 split)
       of (Some u) same answered rest = ((u, a) ∷ rest.0, (reaches.1.0, (same u refl, answered), rest.1))
 
   -- a finder that may be called on each search like s may be called for each call that is made
-  pub ServesSkips-along : (r : Placed T) (f : F) → ServesAlong g Same IsPlacedIn f s
+  pub ServesSkips-along : (r : WithOffset T) (f : F) → ServesAlong g Same HasOffsetIn f s
       → ServesSkips g haystack moved r f
   ServesSkips-along r f serves = record {
     at = λ answers last left u reaches split at.

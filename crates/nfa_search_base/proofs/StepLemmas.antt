@@ -6,14 +6,14 @@ use Rattle.regex_search_core.specs.Search.{Search, search_of}
 use Rattle.regex_search_core.specs.declared.search.Input.{Input}
 use Rattle.regex_search_core.specs.declared.search.Span.{Span}
 use Rattle.nfa_search_base.specs.Asking.{IsCallableOn, SameButStart}
-use Rattle.nfa_search_base.specs.Behind.{IsBehind}
-use Rattle.nfa_search_base.specs.Walks.{Walk, Answer, place_of, AnswerIsInside, IsSurelyInside, LiesIn, repeats, after, shifted, Advances, ComesAfter, LeavesFewer}
+use Rattle.nfa_search_base.specs.LastEnd.{EndsBy}
+use Rattle.nfa_search_base.specs.IterStates.{IterState, Answer, answer_span, AnswerIsInside, IsInfalliblyInside, LiesIn, repeats, after, shifted, Advances, ComesAfter, LeavesFewer}
 use Rattle.nfa_search_base.specs.Finders.{answer_by, Finds, AnswersAlong}
-use Rattle.nfa_search_base.specs.Lending.{With, accepts_lent, asks_lent}
-use Rattle.nfa_search_base.specs.Serving.{ServesOnAlong, ServesTurn, StepDone}
+use Rattle.nfa_search_base.specs.WithCache.{WithCache, accepts_by_ref, asks_by_ref}
+use Rattle.nfa_search_base.specs.Serving.{ServesOnAlong, ServesAdvance, StepDone}
 use Rattle.nfa_search_base.specs.declared.error.SearchError.{SearchError}
 use Rattle.nfa_search_base.proofs.AskingLemmas.{same_start-self, same_start-then, ServesOn-now, ServesOnAlong-same, ServesOnAlong-call, ServesOnAlong-weaker, ServesOnAlong-by}
-use Rattle.nfa_search_base.proofs.WalkLemmas.{IsOrdered, ComesAfter-first, LeavesFewer-first, ComesAfter-second, LeavesFewer-second}
+use Rattle.nfa_search_base.proofs.IterStateLemmas.{IsOrdered, ComesAfter-first, LeavesFewer-first, ComesAfter-second, LeavesFewer-second}
 
 -- which of the two facts a test chose
 pub chosen : {A B : Type 0} (b : Bool) → MatchBool b A B → ((b ≡ true) × A) ⊎ ((b ≡ false) × B)
@@ -21,16 +21,16 @@ chosen true h = inl (refl, h)
 chosen false h = inr (refl, h)
 
 -- after a match or none, the search is the same but for its start
-pub same_start-after : (w : Walk) (place : Option Span) → SameButStart w.at (after w place).at
+pub same_start-after : (w : IterState) (place : Option Span) → SameButStart w.at (after w place).at
 same_start-after w None = record { haystack = refl; end = refl; anchored = refl; earliest = refl }
 same_start-after w (Some p) = record { haystack = refl; end = refl; anchored = refl; earliest = refl }
 
 -- and one on
-pub same_start-shifted : (w : Walk) → SameButStart w.at (shifted w).at
+pub same_start-shifted : (w : IterState) → SameButStart w.at (shifted w).at
 same_start-shifted w = record { haystack = refl; end = refl; anchored = refl; earliest = refl }
 
 -- and after a match one on
-pub same_start-after_shifted : (w : Walk) (place : Option Span) → SameButStart w.at (after (shifted w) place).at
+pub same_start-after_shifted : (w : IterState) (place : Option Span) → SameButStart w.at (after (shifted w) place).at
 same_start-after_shifted w None = record { haystack = refl; end = refl; anchored = refl; earliest = refl }
 same_start-after_shifted w (Some p) = record { haystack = refl; end = refl; anchored = refl; earliest = refl }
 
@@ -60,8 +60,8 @@ module _ {S X : Type 0} (accepts : S → Search → Type 0) (asks : S → Search
         same h).replies a f' asked
 
     -- a step may be made
-    pub ServesTurn-now : (f : S) (w : Walk) → Along f w.at → ServesTurn accepts asks span P f w
-    ServesTurn-now f w h = record {
+    pub ServesAdvance-now : (f : S) (w : IterState) → Along f w.at → ServesAdvance accepts asks span P f w
+    ServesAdvance-now f w h = record {
       first = ServesOn-now accepts asks SameButStart same_start-self same_start-then P f w.at w.at
           (same_start-self w.at) h;
       second = λ a f' asked again. ServesOn-now accepts asks SameButStart same_start-self same_start-then P f' w.at
@@ -70,28 +70,28 @@ module _ {S X : Type 0} (accepts : S → Search → Type 0) (asks : S → Search
     }
 
     -- after a step
-    pub Along-step : (f : S) (w : Walk) (r : Answer X) (f' : S) (w' : Walk) → Advances span asks f w r f' w'
+    pub Along-step : (f : S) (w : IterState) (r : Answer X) (f' : S) (w' : IterState) → Advances span asks f w r f' w'
         → Along f w.at → Along f' w.at
     Along-step f w r f' w' step h =
         let once : Along step.between w.at = Along-call f w.at w.at step.answer step.between (same_start-self w.at)
         step.first h in
-        elim (chosen (repeats w (place_of span step.answer)) step.rest) [
+        elim (chosen (repeats w (answer_span span step.answer)) step.rest) [
           | inl p ↦ Along-call step.between w.at (shifted w).at r f' (same_start-shifted w) p.1.0 once
           | inr p ↦ subst (λ (q : S). Along q w.at) (sym p.1.1) once
         ]
 
     -- and from the state of the iteration then
-    pub Along-turn : (f : S) (w : Walk) (r : Answer X) (f' : S) (w' : Walk) → Advances span asks f w r f' w'
+    pub Along-turn : (f : S) (w : IterState) (r : Answer X) (f' : S) (w' : IterState) → Advances span asks f w r f' w'
         → SameButStart w.at w'.at → Along f w.at → Along f' w'.at
     Along-turn f w r f' w' step same h = Along-same f' w.at w'.at same (Along-step f w r f' w' step h)
 
     -- the answer of a step is one of a call
-    pub Along-answer : (f : S) (w : Walk) (r : Answer X) (f' : S) (w' : Walk) → Advances span asks f w r f' w'
+    pub Along-answer : (f : S) (w : IterState) (r : Answer X) (f' : S) (w' : IterState) → Advances span asks f w r f' w'
         → Along f w.at → (s : Search) × P s r
     Along-answer f w r f' w' step h =
         let once : Along step.between w.at = Along-call f w.at w.at step.answer step.between (same_start-self w.at)
         step.first h in
-        elim (chosen (repeats w (place_of span step.answer)) step.rest) [
+        elim (chosen (repeats w (answer_span span step.answer)) step.rest) [
           | inl p ↦ ((shifted w).at, Along-now step.between w.at (shifted w).at r f' (same_start-shifted w) p.1.0 once)
           | inr p ↦ (
             w.at,
@@ -107,9 +107,9 @@ module _ {S X : Type 0} (accepts : S → Search → Type 0) (asks : S → Search
       P Q f s weaker h
 
   -- and so for the calls of a step
-  pub ServesTurn-surely : (f : S) (w : Walk) → ServesTurn accepts asks span (IsSurelyInside span) f w
-      → ServesTurn accepts asks span (AnswerIsInside span) f w
-  ServesTurn-surely f w h = record {
+  pub ServesAdvance-surely : (f : S) (w : IterState) → ServesAdvance accepts asks span (IsInfalliblyInside span) f w
+      → ServesAdvance accepts asks span (AnswerIsInside span) f w
+  ServesAdvance-surely f w h = record {
     first = record { callable = h.first.callable; replies = λ a f' asked. (h.first.replies a f' asked).0 };
     second = λ a f' asked again.
         let now = h.second a f' asked again in
@@ -117,56 +117,60 @@ module _ {S X : Type 0} (accepts : S → Search → Type 0) (asks : S → Search
   }
 
   -- if no call fails, a step does not fail
-  pub step-surely : (f : S) (w : Walk) (r : Answer X) (f' : S) (w' : Walk)
-      → ServesTurn accepts asks span (IsSurelyInside span) f w → Advances span asks f w r f' w' → IsOk r
-  step-surely f w r f' w' h step = elim (chosen (repeats w (place_of span step.answer)) step.rest) [
+  pub step-surely : (f : S) (w : IterState) (r : Answer X) (f' : S) (w' : IterState)
+      → ServesAdvance accepts asks span (IsInfalliblyInside span) f w → Advances span asks f w r f' w' → IsOk r
+  step-surely f w r f' w' h step = elim (chosen (repeats w (answer_span span step.answer)) step.rest) [
     | inl p ↦ ((h.second step.answer step.between step.first p.0).replies r f' p.1.0).1
     | inr p ↦ subst (λ (b : Answer X). IsOk b) (sym p.1.0) (h.first.replies step.answer step.between step.first).1
   ]
 
 -- what is in a span that starts one byte further on is in this one
-lies-before : (w : Walk) (place : Option Span) → LiesIn (shifted w).at place → LiesIn w.at place
+lies-before : (w : IterState) (place : Option Span) → LiesIn (shifted w).at place → LiesIn w.at place
 lies-before w (Some p) inside = (omega (arith, inside.0), inside.1)
 lies-before w None inside = tt
 
 -- The calls of a step of the iteration w, from the state s.
 module _ {S X : Type 0} (accepts : S → Search → Type 0) (asks : S → Search → Answer X → S → Type 0) (span : X → Span)
-    (s : S) (w : Walk)
-    (serves : ServesTurn accepts asks span (AnswerIsInside span) s w) (behind : IsBehind w.last w.at.start) where
+    (s : S) (w : IterState)
+    (serves : ServesAdvance accepts asks span (AnswerIsInside span) s w) (behind : EndsBy w.last w.at.start) where
   -- a first answer that does not repeat the last match is the step's
-  pub step-once : (a : Answer X) (s' : S) (place : Option Span) (w' : Walk) → asks s w.at a s' → place ≡ place_of span a
+  pub step-once : (a : Answer X) (s' : S) (place : Option Span) (w' : IterState) → asks s w.at a s'
+      → place ≡ answer_span span a
       → IsOrdered place
       → repeats w place ≡ false → w' ≡ after w place → StepDone accepts asks span s w a s' w'
   step-once a s' place w' asked is ordered new moved =
       let lies : LiesIn w.at place = subst (λ (p : Option Span). LiesIn w.at p) (sym is)
       ((serves.first).replies a s' asked) in
       let rises : ComesAfter w place = ComesAfter-first w place behind lies ordered new in
-      let here : w' ≡ after w (place_of span a) = moved ∙ ap (λ (p : Option Span). after w p) is in
-      let not_again : repeats w (place_of span a) ≡ false = subst (λ (p : Option Span). repeats w p ≡ false) is new in
-      let fewer : LeavesFewer w place w' = subst (λ (v : Walk). LeavesFewer w place v) (sym moved)
+      let here : w' ≡ after w (answer_span span a) = moved ∙ ap (λ (p : Option Span). after w p) is in
+      let not_again : repeats w (answer_span span a) ≡ false = subst
+      (λ (p : Option Span). repeats w p ≡ false) is new in
+      let fewer : LeavesFewer w place w' = subst (λ (v : IterState). LeavesFewer w place v) (sym moved)
       (LeavesFewer-first w place lies ordered rises) in
       record {
         step = record { answer = a; between = s'; first = asked; rest = rw not_again (refl, refl, here) };
         inside = (serves.first).replies a s' asked;
         rises = subst (λ (p : Option Span). ComesAfter w p) is rises;
         fewer = subst (λ (p : Option Span). LeavesFewer w p w') is fewer;
-        same = subst (λ (v : Walk). SameButStart w.at v.at) (sym moved) (same_start-after w place);
+        same = subst (λ (v : IterState). SameButStart w.at v.at) (sym moved) (same_start-after w place);
       }
 
   -- after one that repeats it, the second answer is
-  pub step-twice : (b : Answer X) (between : S) (first : Option Span) (w1 : Walk) (a : Answer X) (s' : S)
-      (place : Option Span) (w' : Walk)
-      → asks s w.at b between → first ≡ place_of span b → repeats w first ≡ true → w1 ≡ shifted w
+  pub step-twice : (b : Answer X) (between : S) (first : Option Span) (w1 : IterState) (a : Answer X) (s' : S)
+      (place : Option Span) (w' : IterState)
+      → asks s w.at b between → first ≡ answer_span span b → repeats w first ≡ true → w1 ≡ shifted w
       → asks between w1.at a s'
-      → place ≡ place_of span a → IsOrdered place → w' ≡ after w1 place → StepDone accepts asks span s w a s' w'
+      → place ≡ answer_span span a → IsOrdered place → w' ≡ after w1 place → StepDone accepts asks span s w a s' w'
   step-twice b between first w1 a s' place w' asked was again one asked_again is ordered moved =
-      let repeated : repeats w (place_of span b) ≡ true = subst (λ (p : Option Span). repeats w p ≡ true) was again in
-      let there : asks between (shifted w).at a s' = subst (λ (v : Walk). asks between v.at a s') one asked_again in
+      let repeated : repeats w (answer_span span b) ≡ true = subst (λ (p : Option Span). repeats w p ≡ true)
+      was again in
+      let there : asks between (shifted w).at a s' = subst (λ (v : IterState). asks between v.at a s') one
+      asked_again in
       let inside : AnswerIsInside span (shifted w).at a = (serves.second b between asked repeated).replies a s' there in
       let lies : LiesIn (shifted w).at place = subst (λ (p : Option Span). LiesIn (shifted w).at p) (sym is) inside in
       let rises : ComesAfter w place = ComesAfter-second w place behind lies ordered in
-      let here : w' ≡ after (shifted w) place = moved ∙ ap (λ (v : Walk). after v place) one in
-      let fewer : LeavesFewer w place w' = subst (λ (v : Walk). LeavesFewer w place v) (sym here)
+      let here : w' ≡ after (shifted w) place = moved ∙ ap (λ (v : IterState). after v place) one in
+      let fewer : LeavesFewer w place w' = subst (λ (v : IterState). LeavesFewer w place v) (sym here)
       (LeavesFewer-second w place lies ordered rises) in
       record {
         step = record {
@@ -175,10 +179,10 @@ module _ {S X : Type 0} (accepts : S → Search → Type 0) (asks : S → Search
           first = asked;
           rest = rw repeated (there, here ∙ ap (λ (p : Option Span). after (shifted w) p) is);
         };
-        inside = lies-before w (place_of span a) inside;
+        inside = lies-before w (answer_span span a) inside;
         rises = subst (λ (p : Option Span). ComesAfter w p) is rises;
         fewer = subst (λ (p : Option Span). LeavesFewer w p w') is fewer;
-        same = subst (λ (v : Walk). SameButStart w.at v.at) (sym here) (same_start-after_shifted w place);
+        same = subst (λ (v : IterState). SameButStart w.at v.at) (sym here) (same_start-after_shifted w place);
       }
 
 -- a finder's answers along its calls are its replies' values
@@ -211,50 +215,52 @@ module _ {A X F : Type 0} (view : A → X) (g : Mut F (Bor Input × Unit {0}) (R
 -- A step of any searcher whose answers are in the span, by an engine with a cache.
 module _ {X S : Type 0} (span : X → Span) (asks : S → Search → Answer X → S → Type 0)
     (good : (s : S) (t : Search) (a : Answer X) (s' : S) → asks s t a s' → AnswerIsInside span t a
-    × IsOrdered (place_of span a))
-    (s : S) (w : Walk) (r : Answer X) (s' : S) (w' : Walk) (behind : IsBehind w.last w.at.start)
+    × IsOrdered (answer_span span a))
+    (s : S) (w : IterState) (r : Answer X) (s' : S) (w' : IterState) (behind : EndsBy w.last w.at.start)
     (step : Advances span asks s w r s' w') where
   -- its match comes after the last one
-  pub Advances-rises : ComesAfter w (place_of span r)
-  Advances-rises = elim (chosen (repeats w (place_of span step.answer)) step.rest) [
+  pub Advances-rises : ComesAfter w (answer_span span r)
+  Advances-rises = elim (chosen (repeats w (answer_span span step.answer)) step.rest) [
     | inl p ↦ let second = good step.between (shifted w).at r s' p.1.0 in
-        ComesAfter-second w (place_of span r) behind second.0 second.1
+        ComesAfter-second w (answer_span span r) behind second.0 second.1
     | inr p ↦
         let first = good s w.at step.answer step.between step.first in
-        subst (λ (a : Answer X). ComesAfter w (place_of span a)) (sym p.1.0)
-        (ComesAfter-first w (place_of span step.answer) behind first.0 first.1 p.0)
+        subst (λ (a : Answer X). ComesAfter w (answer_span span a)) (sym p.1.0)
+        (ComesAfter-first w (answer_span span step.answer) behind first.0 first.1 p.0)
   ]
 
   -- it leaves fewer ends
-  pub Advances-fewer : LeavesFewer w (place_of span r) w'
-  Advances-fewer = elim (chosen (repeats w (place_of span step.answer)) step.rest) [
+  pub Advances-fewer : LeavesFewer w (answer_span span r) w'
+  Advances-fewer = elim (chosen (repeats w (answer_span span step.answer)) step.rest) [
     | inl p ↦
         let second = good step.between (shifted w).at r s' p.1.0 in
-        subst (λ (v : Walk). LeavesFewer w (place_of span r) v) (sym p.1.1)
-        (LeavesFewer-second w (place_of span r) second.0 second.1
-        (ComesAfter-second w (place_of span r) behind second.0 second.1))
+        subst (λ (v : IterState). LeavesFewer w (answer_span span r) v) (sym p.1.1)
+        (LeavesFewer-second w (answer_span span r) second.0 second.1
+        (ComesAfter-second w (answer_span span r) behind second.0 second.1))
     | inr p ↦
         let first = good s w.at step.answer step.between step.first in
-        let here : LeavesFewer w (place_of span step.answer) (after w (place_of span step.answer)) =
-        LeavesFewer-first w (place_of span step.answer) first.0 first.1
-        (ComesAfter-first w (place_of span step.answer) behind first.0 first.1 p.0) in
-        let there : LeavesFewer w (place_of span r) (after w (place_of span r)) =
-        subst (λ (a : Answer X). LeavesFewer w (place_of span a) (after w (place_of span a))) (sym p.1.0) here in
-        subst (λ (v : Walk). LeavesFewer w (place_of span r) v) (sym p.1.2) there
+        let here : LeavesFewer w (answer_span span step.answer) (after w (answer_span span step.answer)) =
+        LeavesFewer-first w (answer_span span step.answer) first.0 first.1
+        (ComesAfter-first w (answer_span span step.answer) behind first.0 first.1 p.0) in
+        let there : LeavesFewer w (answer_span span r) (after w (answer_span span r)) =
+        subst (λ (a : Answer X). LeavesFewer w (answer_span span a) (after w (answer_span span a))) (sym p.1.0) here in
+        subst (λ (v : IterState). LeavesFewer w (answer_span span r) v) (sym p.1.2) there
   ]
 
   -- and moves only the search's start
   pub Advances-same : SameButStart w.at w'.at
-  Advances-same = elim (chosen (repeats w (place_of span step.answer)) step.rest) [
-    | inl p ↦ subst (λ (v : Walk). SameButStart w.at v.at) (sym p.1.1) (same_start-after_shifted w (place_of span r))
-    | inr p ↦ subst (λ (v : Walk). SameButStart w.at v.at) (sym p.1.2) (same_start-after w (place_of span r))
+  Advances-same = elim (chosen (repeats w (answer_span span step.answer)) step.rest) [
+    | inl p ↦ subst (λ (v : IterState). SameButStart w.at v.at) (sym p.1.1)
+        (same_start-after_shifted w (answer_span span r))
+    | inr p ↦ subst (λ (v : IterState). SameButStart w.at v.at) (sym p.1.2) (same_start-after w (answer_span span r))
   ]
 
 -- If the whole state is borrowed, a step is one of what is borrowed.
 module _ {S C X : Type 0} (accepts : C → Search → Type 0) (asks : C → Search → Answer X → C → Type 0)
     (span : X → Span) where
-  pub serves-lent : (P : Search → Answer X → Type 0) (s : With S C) (w : Walk)
-      → ServesTurn accepts asks span P s.cache w → ServesTurn (accepts_lent accepts) (asks_lent asks) span P s w
+  pub serves-lent : (P : Search → Answer X → Type 0) (s : WithCache S C) (w : IterState)
+      → ServesAdvance accepts asks span P s.cache w
+      → ServesAdvance (accepts_by_ref accepts) (asks_by_ref asks) span P s w
   serves-lent P s w h = record {
     first = record { callable = h.first.callable; replies = λ a t asked. h.first.replies a t.cache asked };
     second = λ a t asked again.
@@ -262,19 +268,21 @@ module _ {S C X : Type 0} (accepts : C → Search → Type 0) (asks : C → Sear
         record { callable = now.callable; replies = λ b u asked'. now.replies b u.cache asked' };
   }
 
-  pub step-lent : (s : With S C) (w : Walk) (r : Answer X) (t : With S C) (v : Walk)
-      → Advances span (asks_lent asks) s w r t v → Advances span asks s.cache w r t.cache v
+  pub step-lent : (s : WithCache S C) (w : IterState) (r : Answer X) (t : WithCache S C) (v : IterState)
+      → Advances span (asks_by_ref asks) s w r t v → Advances span asks s.cache w r t.cache v
   step-lent s w r t v h = record {
     answer = h.answer;
     between = h.between.cache;
     first = h.first;
-    rest = of (repeats w (place_of span h.answer)) h.rest;
+    rest = of (repeats w (answer_span span h.answer)) h.rest;
   }
     where
       of : (again : Bool)
-          → MatchBool again (asks h.between.cache (shifted w).at r t.cache × (v ≡ after (shifted w) (place_of span r)))
-          ((r ≡ h.answer) × (t ≡ h.between) × (v ≡ after w (place_of span r)))
-          → MatchBool again (asks h.between.cache (shifted w).at r t.cache × (v ≡ after (shifted w) (place_of span r)))
-          ((r ≡ h.answer) × (t.cache ≡ h.between.cache) × (v ≡ after w (place_of span r)))
+          → MatchBool again (asks h.between.cache (shifted w).at r t.cache
+          × (v ≡ after (shifted w) (answer_span span r)))
+          ((r ≡ h.answer) × (t ≡ h.between) × (v ≡ after w (answer_span span r)))
+          → MatchBool again (asks h.between.cache (shifted w).at r t.cache
+          × (v ≡ after (shifted w) (answer_span span r)))
+          ((r ≡ h.answer) × (t.cache ≡ h.between.cache) × (v ≡ after w (answer_span span r)))
       of true k = k
-      of false k = (k.0, ap (λ (u : With S C). u.cache) k.1, k.2)
+      of false k = (k.0, ap (λ (u : WithCache S C). u.cache) k.1, k.2)

@@ -6,11 +6,11 @@ use Rattle.std.proofs.lemmas.Iterator.{YieldsList}
 use Rattle.regex_search_core.specs.Search.{Search}
 use Rattle.regex_search_core.specs.declared.search.Span.{Span}
 use Rattle.nfa_search_base.specs.Asking.{SameButStart}
-use Rattle.nfa_search_base.specs.Walks.{Walk, Answer, place_of, AnswerIsInside, IsSurelyInside, LeavesFewer, ends_left}
+use Rattle.nfa_search_base.specs.IterStates.{IterState, Answer, answer_span, AnswerIsInside, IsInfalliblyInside, LeavesFewer, ends_left}
 use Rattle.nfa_search_base.specs.Items.{Item, item_by, item_of, ends_with, items_left, matches_left, matches_in, greedy_unless}
 use Rattle.nfa_search_base.specs.Serving.{ServesOnAlong, StepDone}
 use Rattle.nfa_search_base.specs.Steps.{TakesStep, GivesItem, ends_at, ComesOfMatch}
-use Rattle.nfa_search_base.specs.Stored.{steps_walk, can_step, can_step_surely, takes_steps, takes_sure_steps, steps_left, sure_left}
+use Rattle.nfa_search_base.specs.Stored.{steps_iter_state, can_step, can_step_infallibly, takes_steps, takes_infallible_steps, steps_left, infallible_left}
 use Rattle.nfa_search_base.specs.declared.error.SearchError.{SearchError}
 use Rattle.nfa_search_base.specs.declared.iter.steps.Steps.{Steps}
 use Rattle.nfa_search_base.proofs.AskingLemmas.{same_start-self}
@@ -18,8 +18,8 @@ use Rattle.nfa_search_base.proofs.StepLemmas.{Along-same, Along-call, Along-now,
 use Rattle.nfa_search_base.proofs.GreedyLemmas.{IsTurnOf, step-computes, yields-greedy}
 
 -- after a match fewer ends are left, and after an error nothing is
-step-fewer : {X Y : Type 0} (span : X → Span) (w w' : Walk) (a : Answer X) (r : Option (Result Y SearchError))
-    → ComesOfMatch a r → LeavesFewer w (place_of span a) w'
+step-fewer : {X Y : Type 0} (span : X → Span) (w w' : IterState) (a : Answer X) (r : Option (Result Y SearchError))
+    → ComesOfMatch a r → LeavesFewer w (answer_span span a) w'
     → OnSome r (items_left (ends_at r) w' < items_left false w)
 step-fewer span w w' a None comes less = tt
 step-fewer span w w' (Ok (Some x)) (Some (Ok y)) comes less = omega (arith, less)
@@ -30,7 +30,7 @@ step-fewer span w w' a (Some (Err e)) comes less = omega arith
 -- a step of the iteration is one of the iterator
 pub takes-step : {S X Y : Type 0} (accepts : S → Search → Type 0) (asks : S → Search → Answer X → S → Type 0)
     (span : X → Span) (gives : S → Answer X → Option (Result Y SearchError) → Type 0)
-    (s : S) (w : Walk) (a : Answer X) (s' : S) (w' : Walk) (r : Option (Result Y SearchError)) (d : Bool)
+    (s : S) (w : IterState) (a : Answer X) (s' : S) (w' : IterState) (r : Option (Result Y SearchError)) (d : Bool)
     → StepDone accepts asks span s w a s' w' → gives s' a r → ComesOfMatch a r → d ≡ ends_at r
     → TakesStep span asks gives s w r s' w' d
 takes-step accepts asks span gives s w a s' w' r d done item comes ends = record {
@@ -65,18 +65,19 @@ module _ {S X Y : Type 0} (accepts : S → Search → Type 0) (asks : S → Sear
     (gives : S → Answer X → Option (Result Y SearchError) → Type 0)
     (P : Search → Answer X → Type 0) (s t : Steps S) (r : Option (Result Y SearchError)) where
   abbrev can : Steps S → Type 0
-  can q = ServesOnAlong accepts asks SameButStart P q.asker (steps_walk q).at
+  can q = ServesOnAlong accepts asks SameButStart P q.backend (steps_iter_state q).at
 
   pub steps-progress : can s → s.done ≡ false
-      → TakesStep span asks gives s.asker (steps_walk s) r t.asker (steps_walk t) t.done
+      → TakesStep span asks gives s.backend (steps_iter_state s) r t.backend (steps_iter_state t) t.done
       → MakesProgress can steps_left s r t
   steps-progress may going x =
-      let after : can t = Along-turn accepts asks span P s.asker (steps_walk s) x.answer t.asker (steps_walk t)
+      let after : can t = Along-turn accepts asks span P s.backend (steps_iter_state s) x.answer t.backend
+      (steps_iter_state t)
       x.step x.same may in
       record { on = λ f. on_some r x.fewer after; keeps = keeps_on r after; rests = λ f. rests_on r }
     where
       on_some : (q : Option (Result Y SearchError))
-          → OnSome q (items_left t.done (steps_walk t) < items_left false (steps_walk s)) → can t
+          → OnSome q (items_left t.done (steps_iter_state t) < items_left false (steps_iter_state s)) → can t
           → OnSome q (can t × IsFinite (steps_left t) × (size (steps_left t) < size (steps_left s)))
       on_some None less after = tt
       on_some (Some y) less after = (after, tt, rw going less)
@@ -94,7 +95,7 @@ module _ {S X Y : Type 0} (accepts : S → Search → Type 0) (asks : S → Sear
   takes-progress may st = at_done s.done refl st
     where
       at_done : (b : Bool) → s.done ≡ b → MatchBool b ((r ≡ None) × (t ≡ s))
-          (TakesStep span asks gives s.asker (steps_walk s) r t.asker (steps_walk t) t.done)
+          (TakesStep span asks gives s.backend (steps_iter_state s) r t.backend (steps_iter_state t) t.done)
           → MakesProgress can steps_left s r t
       at_done true d x = subst (λ (q : Option (Result Y SearchError)). MakesProgress can steps_left s q t) (sym x.0)
           (record { on = λ f. tt; keeps = tt; rests = λ f. tt })
@@ -106,10 +107,11 @@ module _ {S X Y : Type 0} (accepts : S → Search → Type 0) (asks : S → Sear
   steps s r t = takes_steps span asks (λ q. GivesItem view) s r t
 
   abbrev sure_steps : Steps S → Option Y → Steps S → Type 0
-  sure_steps s r t = takes_sure_steps span asks (λ q. GivesItem view) s r t
+  sure_steps s r t = takes_infallible_steps span asks (λ q. GivesItem view) s r t
 
   abbrev turn : Steps S → Option (Result Y SearchError) → Steps S → Type 0
-  turn s r t = TakesStep span asks (λ q. GivesItem view) s.asker (steps_walk s) r t.asker (steps_walk t) t.done
+  turn s r t = TakesStep span asks (λ q. GivesItem view) s.backend (steps_iter_state s) r t.backend
+      (steps_iter_state t) t.done
 
   module _ (h : Search → Answer X) where
     abbrev Good : S → Search → Type 0
@@ -128,24 +130,27 @@ module _ {S X Y : Type 0} (accepts : S → Search → Type 0) (asks : S → Sear
         t same computes
 
     turns : (s : Steps S) (r : Option (Result Y SearchError)) (t : Steps S)
-        → Good s.asker (steps_walk s).at → steps s r t
-        → MatchBool s.done (r ≡ None) (IsTurnOf span h (steps_walk s) (option_map (item_by view) r) (steps_walk t)
-        t.done × Good t.asker (steps_walk t).at)
+        → Good s.backend (steps_iter_state s).at → steps s r t
+        → MatchBool s.done (r ≡ None) (IsTurnOf span h (steps_iter_state s) (option_map (item_by view) r)
+        (steps_iter_state t)
+        t.done × Good t.backend (steps_iter_state t).at)
     turns s r t computes st = at_done s.done st
       where
         some_fewer : (r : Option (Result Y SearchError))
-            → OnSome r (items_left t.done (steps_walk t) < items_left false (steps_walk s))
+            → OnSome r (items_left t.done (steps_iter_state t) < items_left false (steps_iter_state s))
             → (x : Item X) → option_map (item_by view) r ≡ Some x
-            → items_left t.done (steps_walk t) < items_left false (steps_walk s)
+            → items_left t.done (steps_iter_state t) < items_left false (steps_iter_state s)
         some_fewer None less x is = let k : None ≡ Some x = is in cc
         some_fewer (Some y) less x is = less
 
         at_done : (b : Bool) → MatchBool b ((r ≡ None) × (t ≡ s)) (turn s r t)
-            → MatchBool b (r ≡ None) (IsTurnOf span h (steps_walk s) (option_map (item_by view) r) (steps_walk t) t.done
-            × Good t.asker (steps_walk t).at)
+            → MatchBool b (r ≡ None) (IsTurnOf span h (steps_iter_state s) (option_map (item_by view) r)
+            (steps_iter_state t) t.done
+            × Good t.backend (steps_iter_state t).at)
         at_done true x = x.0
         at_done false x =
-            let e = step-computes span asks h Good acts moves s.asker (steps_walk s) x.answer t.asker (steps_walk t)
+            let e = step-computes span asks h Good acts moves s.backend (steps_iter_state s) x.answer t.backend
+            (steps_iter_state t)
             computes x.step in (
               record {
                 gives = x.item ∙ ap item_of e.0;
@@ -153,24 +158,24 @@ module _ {S X Y : Type 0} (accepts : S → Search → Type 0) (asks : S → Sear
                 ends = x.ends ∙ ends-as view x.answer r x.item ∙ ap ends_with e.0;
                 fewer = some_fewer r x.fewer;
               },
-              moves t.asker (steps_walk s).at (steps_walk t).at x.same e.2,
+              moves t.backend (steps_iter_state s).at (steps_iter_state t).at x.same e.2,
             )
 
     -- the items are the greedy list
-    pub try-yields : (s : Steps S) → Good s.asker (steps_walk s).at
-        → YieldsList steps (item_by view) s (greedy_unless span s.done h (steps_walk s))
+    pub try-yields : (s : Steps S) → Good s.backend (steps_iter_state s).at
+        → YieldsList steps (item_by view) s (greedy_unless span s.done h (steps_iter_state s))
     try-yields s computes = record {
-      runs = yields-greedy span steps (item_by view) (λ (q : Steps S). steps_walk q) (λ (q : Steps S). q.done) h
-          (λ (q : Steps S). Good q.asker (steps_walk q).at) turns s computes;
+      runs = yields-greedy span steps (item_by view) (λ (q : Steps S). steps_iter_state q) (λ (q : Steps S). q.done) h
+          (λ (q : Steps S). Good q.backend (steps_iter_state q).at) turns s computes;
     }
 
   -- if no call fails, the matches stay in the span
-  pub surely-inside : (s : Steps S) → can_step_surely accepts asks span s → can_step accepts asks span s
+  pub surely-inside : (s : Steps S) → can_step_infallibly accepts asks span s → can_step accepts asks span s
   surely-inside s h =
-      Along-weaker accepts asks span (IsSurelyInside span) (AnswerIsInside span) s.asker (steps_walk s).at
+      Along-weaker accepts asks span (IsInfalliblyInside span) (AnswerIsInside span) s.backend (steps_iter_state s).at
       (λ t a p. p.0) h
 
-  module _ (s t : Steps S) (r : Option (Result Y SearchError)) (h : can_step_surely accepts asks span s)
+  module _ (s t : Steps S) (r : Option (Result Y SearchError)) (h : can_step_infallibly accepts asks span s)
       (st : steps s r t) where
     -- and no error comes
     pub never-err : (e : SearchError) → r ≡ Some (Err e) → ⊥
@@ -180,46 +185,49 @@ module _ {S X Y : Type 0} (accepts : S → Search → Type 0) (asks : S → Sear
         at_done true x = let k : None ≡ Some (Err e) = sym x.0 ∙ is in cc
         at_done false x =
             let gives = x.item in
-            no_err x.answer e (Along-answer accepts asks span (IsSurelyInside span) s.asker (steps_walk s) x.answer
-            t.asker (steps_walk t) x.step h).1.1 (rw is at gives)
+            no_err x.answer e (Along-answer accepts asks span (IsInfalliblyInside span) s.backend
+            (steps_iter_state s) x.answer
+            t.backend (steps_iter_state t) x.step h).1.1 (rw is at gives)
 
     -- after a match the iterator may go on, and fewer ends are left
     pub after-match : (m : Y) → r ≡ Some (Ok m)
-        → (s.done ≡ false) × (t.done ≡ false) × (ends_left (steps_walk t) < ends_left (steps_walk s))
-        × can_step_surely accepts asks span t
+        → (s.done ≡ false) × (t.done ≡ false) × (ends_left (steps_iter_state t) < ends_left (steps_iter_state s))
+        × can_step_infallibly accepts asks span t
     after-match m is = at_done s.done refl st
       where
         at_done : (b : Bool) → s.done ≡ b → MatchBool b ((r ≡ None) × (t ≡ s)) (turn s r t)
-            → (s.done ≡ false) × (t.done ≡ false) × (ends_left (steps_walk t) < ends_left (steps_walk s))
-            × can_step_surely accepts asks span t
+            → (s.done ≡ false) × (t.done ≡ false) × (ends_left (steps_iter_state t) < ends_left (steps_iter_state s))
+            × can_step_infallibly accepts asks span t
         at_done true d x = let k : None ≡ Some (Ok m) = sym x.0 ∙ is in cc
         at_done false d x =
             let some = x.fewer in
             let going : t.done ≡ false = x.ends ∙ ap ends_at is in
-            let less : items_left t.done (steps_walk t) < items_left false (steps_walk s) = rw is at some in
-            let fewer : ends_left (steps_walk t) + 1 < ends_left (steps_walk s) + 1 = rw going at less in (
+            let less : items_left t.done (steps_iter_state t) < items_left false (steps_iter_state s) = rw is at some in
+            let fewer : ends_left (steps_iter_state t) + 1 < ends_left (steps_iter_state s) + 1 = rw going at less in (
               d,
               going,
               omega arith,
-              Along-turn accepts asks span (IsSurelyInside span) s.asker (steps_walk s) x.answer
-                  t.asker (steps_walk t) x.step x.same h,
+              Along-turn accepts asks span (IsInfalliblyInside span) s.backend (steps_iter_state s) x.answer
+                  t.backend (steps_iter_state t) x.step x.same h,
             )
 
     -- so a match is progress
     pub sure-some : (m : Y) (r' : Option Y) → r ≡ Some (Ok m) → r' ≡ Some m
-        → MakesProgress (can_step_surely accepts asks span) sure_left s r' t
+        → MakesProgress (can_step_infallibly accepts asks span) infallible_left s r' t
     sure-some m r' is is' =
         let k = after-match m is in
         let start = k.0 in
         let going = k.1 in
-        let less : matches_left t.done (steps_walk t) < matches_left s.done (steps_walk s) = rw (start, going) k.2 in
-        subst (λ (q : Option Y). MakesProgress (can_step_surely accepts asks span) sure_left s q t) (sym is')
+        let less : matches_left t.done (steps_iter_state t) < matches_left s.done (steps_iter_state s)
+        = rw (start, going) k.2 in
+        subst (λ (q : Option Y). MakesProgress (can_step_infallibly accepts asks span) infallible_left s q t) (sym is')
         (record { on = λ f. (k.3, tt, less); keeps = k.3; rests = λ f. tt })
 
   -- and so is none
   pub sure-none : (s t : Steps S) (r : Option Y) → r ≡ None
-      → MakesProgress (can_step_surely accepts asks span) sure_left s r t
-  sure-none s t r is = subst (λ (q : Option Y). MakesProgress (can_step_surely accepts asks span) sure_left s q t)
+      → MakesProgress (can_step_infallibly accepts asks span) infallible_left s r t
+  sure-none s t r is = subst (λ (q : Option Y). MakesProgress (can_step_infallibly accepts asks span)
+      infallible_left s q t)
       (sym is) (record { on = λ f. tt; keeps = tt; rests = λ f. tt })
 
   -- if there is no step, any list is given
@@ -241,9 +249,9 @@ module _ {S X Y : Type 0} (accepts : S → Search → Type 0) (asks : S → Sear
       (λ x j st. let k : Ok (view x) ≡ Err e = (h.1 (Ok x) j st).0 in cc)
 
   -- so they are the matches of the greedy list
-  pub sure-yields : (h : Search → Answer X) (s : Steps S) → Good h s.asker (steps_walk s).at
-      → YieldsList sure_steps view s (matches_in (greedy_unless span s.done h (steps_walk s)))
+  pub sure-yields : (h : Search → Answer X) (s : Steps S) → Good h s.backend (steps_iter_state s).at
+      → YieldsList sure_steps view s (matches_in (greedy_unless span s.done h (steps_iter_state s)))
   sure-yields h s computes = record {
     runs =
-        yields (greedy_unless span s.done h (steps_walk s)) s (try-yields h s computes).runs;
+        yields (greedy_unless span s.done h (steps_iter_state s)) s (try-yields h s computes).runs;
   }

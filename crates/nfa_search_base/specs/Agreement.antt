@@ -3,9 +3,9 @@ use Rattle.std.specs.Prelude.{◌≡◌, ◌+◌, ◌≤◌, map, None, Some, Ok
 use Rattle.regex_search_core.specs.Found.{Found, HalfFound}
 use Rattle.regex_search_core.specs.Search.{Search}
 use Rattle.nfa_search_base.specs.Asking.{SameButStart}
-use Rattle.nfa_search_base.specs.Behind.{IsBehind}
+use Rattle.nfa_search_base.specs.LastEnd.{EndsBy}
 use Rattle.nfa_search_base.specs.Items.{Item, greedy}
-use Rattle.nfa_search_base.specs.Walks.{Answer, Walk, span_of, half_span_of}
+use Rattle.nfa_search_base.specs.IterStates.{Answer, IterState, span_of, half_span_of}
 
 -- the end of a match
 abbrev pub end_of : Found → HalfFound
@@ -29,8 +29,8 @@ IsFoundIn s (Ok None) = Unit {0}
 IsFoundIn s (Err e) = Unit {0}
 
 -- a searcher may have this iteration
-pub record IsWalk (w : Walk) : Type 0 where
-  pub behind : IsBehind w.last w.at.start
+pub record IsIterState (w : IterState) : Type 0 where
+  pub behind : EndsBy w.last w.at.start
   pub ordered : w.at.start ≤ w.at.end + 1
 
 -- on each search like s, h finds a match in the span, and k finds the end of that match
@@ -40,6 +40,6 @@ pub record FindsEnds (h : Search → Answer Found) (k : Search → Answer HalfFo
 
 -- an iteration over half matches gives the ends of the iteration over full matches
 abbrev pub HalfAndFullAgree : Type 0
-HalfAndFullAgree = (h : Search → Answer Found) (k : Search → Answer HalfFound) (w : Walk) → IsWalk w
+HalfAndFullAgree = (h : Search → Answer Found) (k : Search → Answer HalfFound) (w : IterState) → IsIterState w
     → FindsEnds h k w.at
     → greedy half_span_of k w ≡ map end_item (greedy span_of h w)

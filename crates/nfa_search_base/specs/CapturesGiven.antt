@@ -4,11 +4,11 @@ use Rattle.regex_search_core.specs.Search.{Search}
 use Rattle.regex_search_core.specs.Slots.{Captured}
 use Rattle.regex_search_core.specs.declared.search.MatchKind.{MatchKind}
 use Rattle.thompson_nfa.specs.Automaton.{Automaton}
-use Rattle.nfa_search_base.specs.Catching.{Row}
-use Rattle.nfa_search_base.specs.CaughtRuns.{CapturesRun, CapturesFirst, CapturesNext, CapturesGroups, CapturesWithin}
-use Rattle.nfa_search_base.specs.CaughtRuns.{CapturesApart, RowsRun, RowsFirst, RowsNext, RowsAll}
-use Rattle.nfa_search_base.specs.CaughtRuns.{MatchesInRun, MatchesInFirst, MatchesInNext, MatchesInAll}
-use Rattle.nfa_search_base.specs.Walks.{Answer}
+use Rattle.nfa_search_base.specs.WithCaptures.{Row}
+use Rattle.nfa_search_base.specs.CapturesRuns.{CapturesRun, CapturesFirst, CapturesNext, CapturesGroups, CapturesWithin}
+use Rattle.nfa_search_base.specs.CapturesRuns.{CapturesDisjoint, RowsRun, RowsFirst, RowsNext, RowsAll}
+use Rattle.nfa_search_base.specs.CapturesRuns.{MatchesInRun, MatchesInFirst, MatchesInNext, MatchesInAll}
+use Rattle.nfa_search_base.specs.IterStates.{Answer}
 use Rattle.nfa_search_base.specs.declared.error.SearchError.{SearchError}
 
 -- `steps` is a call of the iterator, which is at s. `Tells` gives the answers of its searches of x: rows of the NFA, or
@@ -29,4 +29,4 @@ pub record CapturesGiven {T : Type 0} (steps : T → Option (Result Captured Sea
   pub all_matches : MatchesInAll steps nfa kind earliest x s
   pub groups : CapturesGroups steps nfa s
   pub inside : CapturesWithin steps x s
-  pub apart : CapturesApart steps x s
+  pub apart : CapturesDisjoint steps x s

@@ -5,10 +5,10 @@ use Rattle.regex_search_core.specs.Found.{Found, found_of}
 use Rattle.regex_search_core.specs.Search.{Search}
 use Rattle.regex_search_core.specs.declared.search.Match.{Match}
 use Rattle.thompson_nfa.specs.Automaton.{Automaton}
-use Rattle.nfa_search_base.specs.Catching.{Catching, Row}
-use Rattle.nfa_search_base.specs.CaughtLists.{HasGroups}
-use Rattle.nfa_search_base.specs.Lending.{With}
-use Rattle.nfa_search_base.specs.Walks.{Answer}
+use Rattle.nfa_search_base.specs.WithCaptures.{WithCaptures, Row}
+use Rattle.nfa_search_base.specs.CapturesLists.{HasGroups}
+use Rattle.nfa_search_base.specs.WithCache.{WithCache}
+use Rattle.nfa_search_base.specs.IterStates.{Answer}
 
 -- an engine of an iteration, and the match of the next search if it is already known
 pub record Knowing (E : Type 0) : Type 0 where
@@ -43,8 +43,8 @@ module _ {C : Type 0} (Work : Search → Answer Found → C → C → Type 0) (x
     pub by_known : AnswersBy (if_ends_at x.start s.known) s t
 
 -- the cache, and the match that is known to the engine that searches with it
-abbrev pub keeping : {E A C : Type 0} → (A → Knowing E) → With A C → Keeping C
-keeping shown s = record { cache = s.cache; known = option_map found_of (shown s.asker).known }
+abbrev pub keeping : {E A C : Type 0} → (A → Knowing E) → WithCache A C → Keeping C
+keeping shown s = record { cache = s.cache; known = option_map found_of (shown s.backend).known }
 
 -- A `Sure` match is the only one that a search can find.
 module _ {E : Type 0} (Sure : E → Search → Found → Type 0) where
@@ -55,33 +55,33 @@ module _ {E : Type 0} (Sure : E → Search → Found → Type 0) where
   -- `shown` is the engine, and what is known.
   module _ {A C : Type 0} (shown : A → Knowing E) where
     -- the cache fits, and what is known holds of searches like this one
-    pub record MayFind (Fits : C → E → Type 0) (s : With A C) (x : Search) : Type 0 where
-      pub fits : Fits s.cache (shown s.asker).engine
-      pub knows : IsKnownFrom (shown s.asker).engine x (shown s.asker).known
+    pub record MayFind (Fits : C → E → Type 0) (s : WithCache A C) (x : Search) : Type 0 where
+      pub fits : Fits s.cache (shown s.backend).engine
+      pub knows : IsKnownFrom (shown s.backend).engine x (shown s.backend).known
 
     -- A search by the engine may give an answer that it `Tells`. Exactly if that answer was known, no search is made.
     -- Otherwise the search does `Work` with the cache, once.
     pub record AsksEngine (Tells : E → Search → Answer Found → Type 0)
-        (Work : E → Search → Answer Found → C → C → Type 0) (s : With A C) (x : Search) (a : Answer Found)
-        (t : With A C) : Type 0 where
-      pub finds : Tells (shown s.asker).engine x a
-      pub engine : (shown t.asker).engine ≡ (shown s.asker).engine
-      pub knows : IsKnownFrom (shown t.asker).engine x (shown t.asker).known
-      pub work : SearchesUnlessKnown (Work (shown s.asker).engine) x a (keeping shown s) (keeping shown t)
+        (Work : E → Search → Answer Found → C → C → Type 0) (s : WithCache A C) (x : Search) (a : Answer Found)
+        (t : WithCache A C) : Type 0 where
+      pub finds : Tells (shown s.backend).engine x a
+      pub engine : (shown t.backend).engine ≡ (shown s.backend).engine
+      pub knows : IsKnownFrom (shown t.backend).engine x (shown t.backend).known
+      pub work : SearchesUnlessKnown (Work (shown s.backend).engine) x a (keeping shown s) (keeping shown t)
 
 -- An engine that fills captures, with its NFA.
 module _ {E C : Type 0} (nfa : E → Automaton) where
   -- the cache fits, and the captures have the groups of the NFA
-  pub record MayCatch (Fits : C → E → Type 0) (s : With (Catching E) C) : Type 0 where
-    pub fits : Fits s.cache s.asker.finder
-    pub holds : HasGroups (nfa s.asker.finder) s.asker.captures
+  pub record MayFill (Fits : C → E → Type 0) (s : WithCache (WithCaptures E) C) : Type 0 where
+    pub fits : Fits s.cache s.backend.finder
+    pub holds : HasGroups (nfa s.backend.finder) s.backend.captures
 
   -- A search by the engine may give an answer that it `Tells`. It does `Work` with the cache once, and keeps the groups
   -- of the captures.
   pub record AsksEngineRow (Tells : E → Search → Answer Row → Type 0)
-      (Work : E → Search → Answer Row → C → C → Type 0) (s : With (Catching E) C) (x : Search) (a : Answer Row)
-      (t : With (Catching E) C) : Type 0 where
-    pub tells : Tells s.asker.finder x a
-    pub engine : t.asker.finder ≡ s.asker.finder
-    pub holds : HasGroups (nfa s.asker.finder) t.asker.captures
-    pub work : Work s.asker.finder x a s.cache t.cache
+      (Work : E → Search → Answer Row → C → C → Type 0) (s : WithCache (WithCaptures E) C) (x : Search) (a : Answer Row)
+      (t : WithCache (WithCaptures E) C) : Type 0 where
+    pub tells : Tells s.backend.finder x a
+    pub engine : t.backend.finder ≡ s.backend.finder
+    pub holds : HasGroups (nfa s.backend.finder) t.backend.captures
+    pub work : Work s.backend.finder x a s.cache t.cache

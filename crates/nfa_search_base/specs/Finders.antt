@@ -9,8 +9,8 @@ use Rattle.regex_search_core.specs.declared.search.Input.{Input}
 use Rattle.regex_search_core.specs.declared.search.Match.{Match}
 use Rattle.regex_search_core.specs.declared.search.Span.{Span}
 use Rattle.nfa_search_base.specs.Asking.{Asks, IsCallableOn, SameButStart}
-use Rattle.nfa_search_base.specs.Serving.{ServesOnAlong, ServesTurn}
-use Rattle.nfa_search_base.specs.Walks.{Answer, Walk, place_of, AnswerIsInside, IsSurelyInside, span_of, half_span_of, Advances}
+use Rattle.nfa_search_base.specs.Serving.{ServesOnAlong, ServesAdvance}
+use Rattle.nfa_search_base.specs.IterStates.{Answer, IterState, answer_span, AnswerIsInside, IsInfalliblyInside, span_of, half_span_of, Advances}
 use Rattle.nfa_search_base.specs.declared.error.SearchError.{SearchError}
 
 -- the reply as values
@@ -29,8 +29,8 @@ module _ {A X F : Type 0} (view : A → X) (g : Mut F (Bor Input × Unit {0}) (R
 
   -- P holds of the answers of f for a step of the iteration w. The step may call f once, and again one byte on if the
   -- first answer is an empty match at the last end.
-  abbrev pub ServesStep : (X → Span) → (Search → Answer X → Type 0) → F → Walk → Type 0
-  ServesStep span P f w = ServesTurn (IsCallableOn g) Finds span P f w
+  abbrev pub ServesStep : (X → Span) → (Search → Answer X → Type 0) → F → IterState → Type 0
+  ServesStep span P f w = ServesAdvance (IsCallableOn g) Finds span P f w
 
   -- after any calls of f on searches that differ from s only in their start, the next call may be made, and P holds of
   -- its answer
@@ -42,37 +42,37 @@ module _ {A X F : Type 0} (view : A → X) (g : Mut F (Bor Input × Unit {0}) (R
   Computes h f s = AnswersAlong (λ t a. a ≡ h t) f s
 
 -- the span of the match in the reply
-abbrev pub match_place : Result (Option Match) SearchError → Option Span
-match_place reply = place_of span_of (answer_by found_of reply)
+abbrev pub match_span : Result (Option Match) SearchError → Option Span
+match_span reply = answer_span span_of (answer_by found_of reply)
 
 -- the span of the half match in the reply: its offset, without bytes
-abbrev pub half_place : Result (Option HalfMatch) SearchError → Option Span
-half_place reply = place_of half_span_of (answer_by half_found_of reply)
+abbrev pub half_match_span : Result (Option HalfMatch) SearchError → Option Span
+half_match_span reply = answer_span half_span_of (answer_by half_found_of reply)
 
 -- Finders of matches.
 module _ {F : Type 0} (g : Mut F (Bor Input × Unit {0}) (Result (Option Match) SearchError)) where
   -- the finder may be called for a step, and answers matches in the span
-  abbrev pub FindsStep : F → Walk → Type 0
+  abbrev pub FindsStep : F → IterState → Type 0
   FindsStep f w = ServesStep found_of g span_of (AnswerIsInside span_of) f w
 
   -- and it never fails
-  abbrev pub FindsStepSurely : F → Walk → Type 0
-  FindsStepSurely f w = ServesStep found_of g span_of (IsSurelyInside span_of) f w
+  abbrev pub FindsStepInfallibly : F → IterState → Type 0
+  FindsStepInfallibly f w = ServesStep found_of g span_of (IsInfalliblyInside span_of) f w
 
   -- a step by the finder
-  abbrev pub StepsBy : F → Walk → Result (Option Match) SearchError → F → Walk → Type 0
+  abbrev pub StepsBy : F → IterState → Result (Option Match) SearchError → F → IterState → Type 0
   StepsBy f w r f' w' = Advances span_of (Finds found_of g) f w (answer_by found_of r) f' w'
 
 -- Finders of half matches.
 module _ {F : Type 0} (g : Mut F (Bor Input × Unit {0}) (Result (Option HalfMatch) SearchError)) where
   -- the finder may be called for a step, and answers offsets in the span
-  abbrev pub FindsHalfStep : F → Walk → Type 0
+  abbrev pub FindsHalfStep : F → IterState → Type 0
   FindsHalfStep f w = ServesStep half_found_of g half_span_of (AnswerIsInside half_span_of) f w
 
   -- and it never fails
-  abbrev pub FindsHalfStepSurely : F → Walk → Type 0
-  FindsHalfStepSurely f w = ServesStep half_found_of g half_span_of (IsSurelyInside half_span_of) f w
+  abbrev pub FindsHalfStepInfallibly : F → IterState → Type 0
+  FindsHalfStepInfallibly f w = ServesStep half_found_of g half_span_of (IsInfalliblyInside half_span_of) f w
 
   -- a step by the finder
-  abbrev pub HalfStepsBy : F → Walk → Result (Option HalfMatch) SearchError → F → Walk → Type 0
+  abbrev pub HalfStepsBy : F → IterState → Result (Option HalfMatch) SearchError → F → IterState → Type 0
   HalfStepsBy f w r f' w' = Advances half_span_of (Finds half_found_of g) f w (answer_by half_found_of r) f' w'

@@ -5,7 +5,7 @@ use Rattle.regex_search_core.specs.declared.search.MatchKind.{MatchKind}
 use Rattle.thompson_nfa.specs.Automaton.{Automaton}
 use Rattle.nfa_paths.proofs.ExistenceLemmas.{search_answer-exists}
 
--- Each search has exactly one answer, which is a path or none. So `IsFoundAnswer nfa kind earliest x b` holds for this
+-- Each search has exactly one answer, which is a path or none. So `IsBoolAnswer nfa kind earliest x b` holds for this
 -- `b` and for no other.
 unfoldable pub finds : Automaton → MatchKind → Bool → Search → Bool
 finds nfa kind earliest x = is_some (search_answer-exists nfa kind earliest x).1

@@ -3,7 +3,7 @@ use Rattle.std.specs.Prelude.{◌≡◌, ℕ, zero, suc, ◌+◌, ◌<◌, Bool,
 use Rattle.regex_search_core.specs.Search.{Search}
 use Rattle.regex_search_core.specs.declared.search.Span.{Span}
 use Rattle.nfa_search_base.specs.Asking.{SameButStart}
-use Rattle.nfa_search_base.specs.Walks.{Answer, Walk, place_of, repeats, after, shifted, ends_left, ComesAfter, Advances}
+use Rattle.nfa_search_base.specs.IterStates.{Answer, IterState, answer_span, repeats, after, shifted, ends_left, ComesAfter, Advances}
 use Rattle.nfa_search_base.specs.declared.error.SearchError.{SearchError}
 
 -- a match, or the error that ends the iterator
@@ -35,12 +35,12 @@ matches_in (Err e ∷ items) = matches_in items
 
 -- the maximum number of items still to come, by whether the iterator has ended: one for each end that is left, and an
 -- error
-abbrev pub items_left : Bool → Walk → ℕ
+abbrev pub items_left : Bool → IterState → ℕ
 items_left true w = 0
 items_left false w = ends_left w + 1
 
 -- and the same without an error
-abbrev pub matches_left : Bool → Walk → ℕ
+abbrev pub matches_left : Bool → IterState → ℕ
 matches_left true w = 0
 matches_left false w = ends_left w
 
@@ -48,24 +48,25 @@ matches_left false w = ends_left w
 module _ {X : Type 0} (span : X → Span) where
   -- a step of an iterator that has not ended gives the item of a step of the iteration, and says whether the iterator
   -- ends
-  pub record TakesTurn {S : Type 0} (asks : S → Search → Answer X → S → Type 0) (s : S) (w : Walk)
-      (item : Option (Item X)) (s' : S) (w' : Walk) (done' : Bool) : Type 0 where
+  pub record TakesAdvance {S : Type 0} (asks : S → Search → Answer X → S → Type 0) (s : S) (w : IterState)
+      (item : Option (Item X)) (s' : S) (w' : IterState) (done' : Bool) : Type 0 where
     pub answer : Answer X
     pub step : Advances span asks s w answer s' w'
     pub gives : item ≡ item_of answer
     pub ends : done' ≡ ends_with answer
-    pub rises : ComesAfter w (place_of span answer)
+    pub rises : ComesAfter w (answer_span span answer)
     pub same : SameButStart w.at w'.at
     pub fewer : OnSome item (items_left done' w' < items_left false w)
 
   -- the answer of a step, if the search is the function h
-  abbrev pub step_answer : (Search → Answer X) → Walk → Answer X
-  step_answer h w = if repeats w (place_of span (h w.at)) then h (shifted w).at else h w.at
+  abbrev pub step_answer : (Search → Answer X) → IterState → Answer X
+  step_answer h w = if repeats w (answer_span span (h w.at)) then h (shifted w).at else h w.at
 
   -- the iteration after that step
-  abbrev pub step_walk : (Search → Answer X) → Walk → Walk
-  step_walk h w = if repeats w (place_of span (h w.at)) then after (shifted w) (place_of span (h (shifted w).at)) else
-      after w (place_of span (h w.at))
+  abbrev pub step_iter_state : (Search → Answer X) → IterState → IterState
+  step_iter_state h w = if repeats w (answer_span span (h w.at)) then after (shifted w)
+      (answer_span span (h (shifted w).at)) else
+      after w (answer_span span (h w.at))
 
   -- a match and the items after it; only an error; or nothing
   abbrev pub items_from : Answer X → List (Item X) → List (Item X)
@@ -74,16 +75,16 @@ module _ {X : Type 0} (span : X → Span) where
   items_from (Err e) rest = Err e ∷ []
 
   -- the items of at most n steps
-  abbrev pub items_within : (Search → Answer X) → ℕ → Walk → List (Item X)
+  abbrev pub items_within : (Search → Answer X) → ℕ → IterState → List (Item X)
   items_within h zero w = []
-  items_within h (suc n) w = items_from (step_answer h w) (items_within h n (step_walk h w))
+  items_within h (suc n) w = items_from (step_answer h w) (items_within h n (step_iter_state h w))
 
   -- All items from w on, from left to right, if the search is the function h. Each step leaves fewer ends, so this
   -- number of steps is enough.
-  unfoldable pub greedy : (Search → Answer X) → Walk → List (Item X)
+  unfoldable pub greedy : (Search → Answer X) → IterState → List (Item X)
   greedy h w = items_within h (suc (ends_left w)) w
 
   -- the items of an iterator, by whether it has ended
-  abbrev pub greedy_unless : Bool → (Search → Answer X) → Walk → List (Item X)
+  abbrev pub greedy_unless : Bool → (Search → Answer X) → IterState → List (Item X)
   greedy_unless true h w = []
   greedy_unless false h w = greedy h w

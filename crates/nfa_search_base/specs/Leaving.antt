@@ -5,7 +5,7 @@ use Rattle.regex_search_core.specs.Found.{Found}
 use Rattle.regex_search_core.specs.Search.{Search}
 use Rattle.regex_search_core.specs.declared.search.Span.{Span}
 use Rattle.nfa_search_base.specs.EngineSearches.{Keeping, SearchesUnlessKnown}
-use Rattle.nfa_search_base.specs.Walks.{Advances, Answer, Walk, fresh, span_of}
+use Rattle.nfa_search_base.specs.IterStates.{Advances, Answer, IterState, fresh, span_of}
 
 -- One search of x gives this answer, as `Tells` says, and does its `Work` with the borrowed state.
 pub record DoesSearch {C X : Type 0} (Tells : Search → Answer X → Type 0)
@@ -22,12 +22,12 @@ answers_to_end (m ∷ ms) = Ok (Some m) ∷ answers_to_end ms
 module _ {S X : Type 0} (span : X → Span) (asks : S → Search → Answer X → S → Type 0) where
   -- Steps from w on gave these answers in order, and only their searches led from s to t. An answer without a match is
   -- the last one.
-  abbrev pub StepsLead : Walk → S → List (Answer X) → S → Type 0
+  abbrev pub StepsLead : IterState → S → List (Answer X) → S → Type 0
   StepsLead w s [] t = t ≡ s
   StepsLead w s (Ok (Some x) ∷ rest) t =
-      (u : S) × (v : Walk) × Advances span asks s w (Ok (Some x)) u v × StepsLead v u rest t
-  StepsLead w s (Ok None ∷ rest) t = (v : Walk) × Advances span asks s w (Ok None) t v × (rest ≡ [])
-  StepsLead w s (Err e ∷ rest) t = (v : Walk) × Advances span asks s w (Err e) t v × (rest ≡ [])
+      (u : S) × (v : IterState) × Advances span asks s w (Ok (Some x)) u v × StepsLead v u rest t
+  StepsLead w s (Ok None ∷ rest) t = (v : IterState) × Advances span asks s w (Ok None) t v × (rest ≡ [])
+  StepsLead w s (Err e ∷ rest) t = (v : IterState) × Advances span asks s w (Err e) t v × (rest ≡ [])
 
   -- only the searches of the steps of an iteration over x led from s to t, as far as the iteration went
   pub record Leaves (x : Search) (s t : S) : Type 0 where

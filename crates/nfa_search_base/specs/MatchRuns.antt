@@ -6,7 +6,7 @@ use Rattle.regex_search_core.specs.Search.{Search}
 use Rattle.regex_search_core.specs.declared.search.Match.{Match}
 use Rattle.regex_search_core.specs.declared.search.MatchKind.{MatchKind}
 use Rattle.thompson_nfa.specs.Automaton.{Automaton}
-use Rattle.nfa_search_base.specs.Lists.{AreFirstMatches, AreMatches, AreApart, IsInside}
+use Rattle.nfa_search_base.specs.Lists.{AreFirstMatches, AreMatches, AreDisjoint, IsInside}
 use Rattle.nfa_search_base.specs.Runs.{RunsGive, GivesFirst, GivesNext}
 
 module _ (nfa : Automaton) (kind : MatchKind) (x : Search) where
@@ -38,6 +38,6 @@ module _ (nfa : Automaton) (kind : MatchKind) (x : Search) where
         → ItemsMapTo p found_of all)
 
     -- the items of each run are in the span, in order and without overlap
-    abbrev pub MatchesApart : T → Type 0
-    MatchesApart s = EachRunFrom steps s (λ p. AreApart x None (map found_of p.items)
+    abbrev pub MatchesDisjoint : T → Type 0
+    MatchesDisjoint s = EachRunFrom steps s (λ p. AreDisjoint x None (map found_of p.items)
         × All (λ m. IsInside x (found_of m)) p.items)

@@ -3,8 +3,8 @@ use Rattle.std.specs.Prelude.{◌≡◌, true, List}
 use Rattle.std.specs.List.{FoldsTo}
 use Rattle.regex_search_core.specs.Search.{Search}
 use Rattle.regex_search_core.specs.declared.search.Span.{Span}
-use Rattle.nfa_search_base.specs.Likes.{SameButStart}
-use Rattle.nfa_search_base.specs.Walks.{Answer, Walk, place_of, repeats, shifted, Advances, LiesIn, ComesAfter, LeavesFewer}
+use Rattle.nfa_search_base.specs.SameBut.{SameButStart}
+use Rattle.nfa_search_base.specs.IterStates.{Answer, IterState, answer_span, repeats, shifted, Advances, LiesIn, ComesAfter, LeavesFewer}
 
 -- In the state s it `accepts` a search t. A call on t, as `asks` says, then gives a reply and leaves a state.
 module _ {S R : Type 0} (accepts : S → Search → Type 0) (asks : S → Search → R → S → Type 0) where
@@ -36,16 +36,16 @@ module _ {S X : Type 0} (accepts : S → Search → Type 0) (asks : S → Search
     (span : X → Span) where
   -- P holds of its answers for a step of the iteration w. The step may call it once, and again one byte on if the first
   -- answer is an empty match at the last end.
-  pub record ServesTurn (P : Search → Answer X → Type 0) (s : S) (w : Walk) : Type 0 where
+  pub record ServesAdvance (P : Search → Answer X → Type 0) (s : S) (w : IterState) : Type 0 where
     pub first : ServesOn accepts asks P s w.at
-    pub second : (a : Answer X) (s' : S) → asks s w.at a s' → repeats w (place_of span a) ≡ true
+    pub second : (a : Answer X) (s' : S) → asks s w.at a s' → repeats w (answer_span span a) ≡ true
         → ServesOn accepts asks P s' (shifted w).at
 
   -- The result of a step. It is one of the iteration. Its match is in the search's span, comes after the last one and
   -- leaves fewer ends. Only the search's start moved.
-  pub record StepDone (s : S) (w : Walk) (a : Answer X) (s' : S) (w' : Walk) : Type 0 where
+  pub record StepDone (s : S) (w : IterState) (a : Answer X) (s' : S) (w' : IterState) : Type 0 where
     pub step : Advances span asks s w a s' w'
-    pub inside : LiesIn w.at (place_of span a)
-    pub rises : ComesAfter w (place_of span a)
-    pub fewer : LeavesFewer w (place_of span a) w'
+    pub inside : LiesIn w.at (answer_span span a)
+    pub rises : ComesAfter w (answer_span span a)
+    pub fewer : LeavesFewer w (answer_span span a) w'
     pub same : SameButStart w.at w'.at

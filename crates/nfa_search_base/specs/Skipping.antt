@@ -11,11 +11,11 @@ use Rattle.nfa_search_base.specs.Serving.{ServesOn}
 use Rattle.nfa_search_base.specs.declared.error.SearchError.{SearchError}
 
 -- the answer of the finder: a value with its offset, none, or an error
-abbrev pub Placed : Type 0 → Type 0
-Placed T = Result (Option (T × ℕ)) SearchError
+abbrev pub WithOffset : Type 0 → Type 0
+WithOffset T = Result (Option (T × ℕ)) SearchError
 
 -- the answer without the offset
-abbrev pub value_of : {T : Type 0} → Placed T → Result (Option T) SearchError
+abbrev pub value_of : {T : Type 0} → WithOffset T → Result (Option T) SearchError
 value_of (Ok (Some x)) = Ok (Some x.0)
 value_of (Ok None) = Ok None
 value_of (Err e) = Err e
@@ -25,19 +25,19 @@ abbrev pub IsInSpan : Search → ℕ → Type 0
 IsInSpan s offset = (s.start ≤ offset) × (offset ≤ s.end)
 
 -- the answer's offset, if there is one, is in the span
-abbrev pub IsPlacedIn : {T : Type 0} → Search → Placed T → Type 0
-IsPlacedIn s (Ok (Some x)) = IsInSpan s x.1
-IsPlacedIn s (Ok None) = Unit {0}
-IsPlacedIn s (Err e) = Unit {0}
+abbrev pub HasOffsetIn : {T : Type 0} → Search → WithOffset T → Type 0
+HasOffsetIn s (Ok (Some x)) = IsInSpan s x.1
+HasOffsetIn s (Ok None) = Unit {0}
+HasOffsetIn s (Err e) = Unit {0}
 
 -- the answer is a value whose offset splits a codepoint
-abbrev pub IsInCharacter : {T : Type 0} → List ℕ → Placed T → Type 0
+abbrev pub IsInCharacter : {T : Type 0} → List ℕ → WithOffset T → Type 0
 IsInCharacter haystack (Ok (Some x)) = ¬ (IsBoundary haystack x.1)
 IsInCharacter haystack (Ok None) = ⊥
 IsInCharacter haystack (Err e) = ⊥
 
 -- the answer is an error, is none, or has its offset on a boundary
-abbrev pub IsWholeReply : {T : Type 0} → List ℕ → Placed T → Type 0
+abbrev pub IsWholeReply : {T : Type 0} → List ℕ → WithOffset T → Type 0
 IsWholeReply haystack (Ok (Some x)) = IsBoundary haystack x.1
 IsWholeReply haystack (Ok None) = Unit {0}
 IsWholeReply haystack (Err e) = Unit {0}
@@ -50,37 +50,37 @@ start_raised s n = Some (record s { start = s.start + n })
 abbrev pub lowered : Search → ℕ → Option Search
 lowered s n = if nat_le n s.end then Some (record s { end = s.end - n }) else None
 
-module _ {T F : Type 0} (g : Mut F (Bor Input × Unit {0}) (Placed T)) where
+module _ {T F : Type 0} (g : Mut F (Bor Input × Unit {0}) (WithOffset T)) where
   -- the finder's answer on this search; if there is no search, none without a call
-  abbrev pub Answers : F → Option Search → Placed T → F → Type 0
+  abbrev pub Answers : F → Option Search → WithOffset T → F → Type 0
   Answers f (Some s) a f' = Asks g f s a f'
   Answers f None a f' = (a ≡ Ok None) × (f' ≡ f)
 
   module _ (haystack : List ℕ) (moved : ℕ → Option Search) where
     -- r is the answer of the search moved by n, and `answers` follow it. Each of these but the last splits a codepoint,
     -- and the last does not.
-    abbrev pub LeadsTo : ℕ → Placed T → F → List (Placed T) → Placed T → F → Type 0
+    abbrev pub LeadsTo : ℕ → WithOffset T → F → List (WithOffset T) → WithOffset T → F → Type 0
     LeadsTo n r f [] last left = IsWholeReply haystack r × (last ≡ r) × (left ≡ f)
     LeadsTo n r f (a ∷ answers) last left =
         IsInCharacter haystack r × ((f' : F) × Answers f (moved (n + 1)) a f' × LeadsTo (n + 1) a f' answers last left)
 
     -- From the answer r of the search moved by n, and the finder f on, calls gave `answers`. They left the last answer
     -- and a finder. Each answer before the last splits a codepoint.
-    abbrev pub Reaches : ℕ → Placed T → F → List (Placed T) → Placed T → F → Type 0
+    abbrev pub Reaches : ℕ → WithOffset T → F → List (WithOffset T) → WithOffset T → F → Type 0
     Reaches n r f [] last left = (last ≡ r) × (left ≡ f)
     Reaches n r f (a ∷ answers) last left =
         IsInCharacter haystack r × ((f' : F) × Answers f (moved (n + 1)) a f' × Reaches (n + 1) a f' answers last left)
 
     -- The finder may be called if the last answer splits a codepoint and the search can be moved once more. It then
     -- answers an offset in the span.
-    pub record ServesSkips (r : Placed T) (f : F) : Type 0 where
-      pub at : (answers : List (Placed T)) (last : Placed T) (left : F) (s : Search)
+    pub record ServesSkips (r : WithOffset T) (f : F) : Type 0 where
+      pub at : (answers : List (WithOffset T)) (last : WithOffset T) (left : F) (s : Search)
           → Reaches 0 r f answers last left → IsInCharacter haystack last → moved (length answers + 1) ≡ Some s
-          → ServesOn (IsCallableOn g) (Asks g) IsPlacedIn left s
+          → ServesOn (IsCallableOn g) (Asks g) HasOffsetIn left s
 
     -- from the finder f and the first answer r, the result is the first answer that splits no codepoint
-    pub record SkipsTo (r : Placed T) (f : F) (result : Result (Option T) SearchError) (left : F) : Type 0 where
-      pub answers : List (Placed T)
-      pub last : Placed T
+    pub record SkipsTo (r : WithOffset T) (f : F) (result : Result (Option T) SearchError) (left : F) : Type 0 where
+      pub answers : List (WithOffset T)
+      pub last : WithOffset T
       pub leads : LeadsTo 0 r f answers last left
       pub gives : result ≡ value_of last

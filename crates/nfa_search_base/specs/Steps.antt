@@ -2,8 +2,8 @@
 use Rattle.std.specs.Prelude.{◌≡◌, ◌<◌, Bool, true, false, Option, None, Some, Result, Ok, Err, OnSome, option_map}
 use Rattle.regex_search_core.specs.Search.{Search}
 use Rattle.regex_search_core.specs.declared.search.Span.{Span}
-use Rattle.nfa_search_base.specs.Likes.{SameButStart}
-use Rattle.nfa_search_base.specs.Walks.{Answer, Walk, place_of, ComesAfter, Advances}
+use Rattle.nfa_search_base.specs.SameBut.{SameButStart}
+use Rattle.nfa_search_base.specs.IterStates.{Answer, IterState, answer_span, ComesAfter, Advances}
 use Rattle.nfa_search_base.specs.Items.{item_by, item_of, items_left}
 use Rattle.nfa_search_base.specs.declared.error.SearchError.{SearchError}
 
@@ -34,12 +34,12 @@ GivesItem view a r = option_map (item_by view) r ≡ item_of a
 module _ {S X Y : Type 0} (span : X → Span) (asks : S → Search → Answer X → S → Type 0)
     (gives : S → Answer X → Option (Result Y SearchError) → Type 0) where
   -- a step of an iterator that has not ended
-  pub record TakesStep (s : S) (w : Walk) (r : Option (Result Y SearchError)) (s' : S) (w' : Walk)
+  pub record TakesStep (s : S) (w : IterState) (r : Option (Result Y SearchError)) (s' : S) (w' : IterState)
       (done' : Bool) : Type 0 where
     pub answer : Answer X
     pub step : Advances span asks s w answer s' w'
     pub item : gives s' answer r
     pub ends : done' ≡ ends_at r
-    pub rises : ComesAfter w (place_of span answer)
+    pub rises : ComesAfter w (answer_span span answer)
     pub same : SameButStart w.at w'.at
     pub fewer : OnSome r (items_left done' w' < items_left false w)

@@ -3,36 +3,37 @@ use Rattle.std.specs.Prelude.{◌≡◌, Option, None, Result, Ok, MatchBool, op
 use Rattle.std.specs.Iterator.{Count, at_most}
 use Rattle.regex_search_core.specs.Search.{Search}
 use Rattle.regex_search_core.specs.declared.search.Span.{Span}
-use Rattle.nfa_search_base.specs.Likes.{SameButStart}
-use Rattle.nfa_search_base.specs.Walks.{Answer, Walk, AnswerIsInside, IsSurelyInside}
+use Rattle.nfa_search_base.specs.SameBut.{SameButStart}
+use Rattle.nfa_search_base.specs.IterStates.{Answer, IterState, AnswerIsInside, IsInfalliblyInside}
 use Rattle.nfa_search_base.specs.Items.{items_left, matches_left}
-use Rattle.nfa_search_base.specs.Searchers.{walk_of}
+use Rattle.nfa_search_base.specs.Searchers.{iter_state_of}
 use Rattle.nfa_search_base.specs.Serving.{ServesOnAlong}
 use Rattle.nfa_search_base.specs.Steps.{TakesStep}
 use Rattle.nfa_search_base.specs.declared.error.SearchError.{SearchError}
 use Rattle.nfa_search_base.specs.declared.iter.steps.Steps.{Steps}
 
 -- the iteration of the iterator
-abbrev pub steps_walk : {S : Type 0} → Steps S → Walk
-steps_walk s = walk_of s.searcher
+abbrev pub steps_iter_state : {S : Type 0} → Steps S → IterState
+steps_iter_state s = iter_state_of s.searcher
 
 -- the maximum number of items still to come
 abbrev pub steps_left : {S : Type 0} → Steps S → Count
-steps_left s = at_most (items_left s.done (steps_walk s))
+steps_left s = at_most (items_left s.done (steps_iter_state s))
 
 -- the maximum number of matches still to come
-abbrev pub sure_left : {S : Type 0} → Steps S → Count
-sure_left s = at_most (matches_left s.done (steps_walk s))
+abbrev pub infallible_left : {S : Type 0} → Steps S → Count
+infallible_left s = at_most (matches_left s.done (steps_iter_state s))
 
 module _ {S X : Type 0} (accepts : S → Search → Type 0) (asks : S → Search → Answer X → S → Type 0)
     (span : X → Span) where
   -- after any calls, the next call on a search of the iteration may be made, and its match is in the span
   abbrev pub can_step : Steps S → Type 0
-  can_step s = ServesOnAlong accepts asks SameButStart (AnswerIsInside span) s.asker (steps_walk s).at
+  can_step s = ServesOnAlong accepts asks SameButStart (AnswerIsInside span) s.backend (steps_iter_state s).at
 
   -- and its answer is not an error
-  abbrev pub can_step_surely : Steps S → Type 0
-  can_step_surely s = ServesOnAlong accepts asks SameButStart (IsSurelyInside span) s.asker (steps_walk s).at
+  abbrev pub can_step_infallibly : Steps S → Type 0
+  can_step_infallibly s = ServesOnAlong accepts asks SameButStart (IsInfalliblyInside span) s.backend
+      (steps_iter_state s).at
 
 module _ {S X Y : Type 0} (span : X → Span) (asks : S → Search → Answer X → S → Type 0)
     (gives : S → Answer X → Option (Result Y SearchError) → Type 0) where
@@ -40,8 +41,8 @@ module _ {S X Y : Type 0} (span : X → Span) (asks : S → Search → Answer X 
   abbrev pub takes_steps : Steps S → Option (Result Y SearchError) → Steps S → Type 0
   takes_steps s r t = MatchBool s.done
       ((r ≡ None) × (t ≡ s))
-      (TakesStep span asks gives s.asker (steps_walk s) r t.asker (steps_walk t) t.done)
+      (TakesStep span asks gives s.backend (steps_iter_state s) r t.backend (steps_iter_state t) t.done)
 
   -- a step without an error
-  abbrev pub takes_sure_steps : Steps S → Option Y → Steps S → Type 0
-  takes_sure_steps s r t = takes_steps s (option_map (λ m. Ok m) r) t
+  abbrev pub takes_infallible_steps : Steps S → Option Y → Steps S → Type 0
+  takes_infallible_steps s r t = takes_steps s (option_map (λ m. Ok m) r) t

@@ -1,7 +1,7 @@
 //! A call of a finder that is borrowed.
 ghost use Rattle.regex_search_core.specs.Search.{search_of};
 ghost use Rattle.nfa_search_base.specs.Asking.{Asks, IsCallableOn};
-ghost use Rattle.nfa_search_base.specs.Catching.{AsksWith, IsCallableWith};
+ghost use Rattle.nfa_search_base.specs.WithCaptures.{AsksWith, IsCallableWith};
 
 use crate::error::SearchError;
 use regex_search_core::{Captures, Input};

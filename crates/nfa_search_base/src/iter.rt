@@ -15,13 +15,13 @@
 //! }
 //! ```
 
+mod by_ref;
+pub mod captures_items;
 mod captures_matches;
-pub mod catching;
 mod finder;
-pub mod finding;
 mod half_matches;
 pub mod laws;
-mod lent;
+pub mod match_items;
 mod matches;
 mod place;
 mod searcher;
@@ -32,5 +32,5 @@ pub use captures_matches::{CapturesIter, TryCapturesIter};
 pub use half_matches::{HalfMatchesIter, TryHalfMatchesIter};
 pub use matches::{MatchesIter, TryMatchesIter};
 pub use searcher::{Offered, Searcher};
-pub use searches::Searches;
+pub use searches::FindWith;
 pub use steps::Steps;

@@ -1,7 +1,9 @@
 //! The capture groups of all patterns, and their slots.
-ghost use Rattle.std.specs.Prelude.{◌≡◌, ◌+◌, ◌*◌, ◌<◌, ◌≤◌, length, map, take, sum_by, position, option_map, string_bytes, IfOk, IfSome, IsSome, ◌↔◌};
+ghost use Rattle.std.specs.Prelude.{◌≡◌, ◌+◌, ◌*◌, ◌<◌, ◌≤◌, length, map, take, sum_by, position, option_map};
+ghost use Rattle.std.specs.Prelude.{string_bytes, IfOk, IfSome, IsSome, ◌↔◌};
 ghost use Rattle.std.specs.Option.{SomeIff};
-ghost use Rattle.regex_search_core.specs.Groups.{names_of, explicit_slot, group_count, slot_count, slot_at, groups_at, group_named, is_named};
+ghost use Rattle.regex_search_core.specs.Groups.{names_of, explicit_slot, group_count, slot_count, slot_at, groups_at};
+ghost use Rattle.regex_search_core.specs.Groups.{group_named, is_named};
 ghost use Rattle.regex_search_core.specs.Patterns.{number_of};
 
 use crate::primitives::PatternID;

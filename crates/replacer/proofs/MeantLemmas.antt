@@ -12,11 +12,11 @@ use Rattle.regex_search_core.specs.Search.{Search, whole}
 use Rattle.regex_search_core.specs.Slots.{Captured}
 use Rattle.regex_search_core.specs.declared.search.MatchKind.TheVariants.{LeftmostFirst}
 use Rattle.nfa_engines.specs.Automaton.{Automaton}
-use Rattle.nfa_engines.specs.Catching.{Row, row_of}
-use Rattle.nfa_engines.specs.CaughtLists.{AreRows, HasGroups}
+use Rattle.nfa_engines.specs.WithCaptures.{Row, row_of}
+use Rattle.nfa_engines.specs.CapturesLists.{AreRows, HasGroups}
 use Rattle.nfa_engines.specs.Engines.{Pike, kind_of}
 use Rattle.nfa_engines.specs.Lists.{AreFirstMatches, AreMatches}
-use Rattle.nfa_engines.specs.Paths.{IsAnswer, IsMatchAnswer, is_utf8_empty}
+use Rattle.nfa_engines.specs.Paths.{IsAnswer, IsFindAnswer, is_utf8_empty}
 use Rattle.nfa_search_base.proofs.ListLemmas.{matches-exist, matches-rest}
 use Rattle.nfa_compiler.specs.AllHits.{all_hits, hits_from, row_of_hit}
 use Rattle.nfa_compiler.specs.AllLaws.{MatchesAreAllOfTexts, RowsAreAllOfTexts}
@@ -80,11 +80,12 @@ module _ (pattern : List ℕ) (re : Re) (vm : Pike) (text : List ℕ) (bytes : A
               (λ k. on_boundary text (pick text (re ∷ []) 0 k))
               (λ k. kept-alike text (pick text trees 0 k) (pick text (re ∷ []) 0 k)
               (pick-alike text bytes trees (re ∷ []) 0 k
-              (all-meant pattern_syntax (pattern ∷ []) of.search.compiled.trees (re ∷ []) of.search.compiled.read (of.meant, tt))))
+              (all-meant pattern_syntax (pattern ∷ []) of.search.compiled.trees (re ∷ []) of.search.compiled.read
+              (of.meant, tt))))
               (length text - i + 1) i)
         ])
 
-    has-matches : (i : ℕ) (found : Option Found) → IsMatchAnswer vm.nfa LeftmostFirst false (at_place i) found
+    has-matches : (i : ℕ) (found : Option Found) → IsFindAnswer vm.nfa LeftmostFirst false (at_place i) found
         → found ≡ found_in (next_hit re true text i)
     has-matches i found answer =
         boundary-match trees vm.nfa of.search.compiled.made mode (at_place i) refl found answer
@@ -96,7 +97,8 @@ module _ (pattern : List ℕ) (re : Re) (vm : Pike) (text : List ℕ) (bytes : A
         × (slots ≡ slots_of vm.nfa.groups (length slots) (next_hit re true text i))
     has-answers i found slots answer =
         let a = boundary-answer trees vm.nfa of.search.compiled.made mode (at_place i) refl found slots answer in
-        let known = boundary-known trees vm.nfa of.search.compiled.made mode (at_place i) refl answer.restarts answer.path
+        let known = boundary-known trees vm.nfa of.search.compiled.made mode (at_place i) refl answer.restarts
+        answer.path
         answer.answers in
         let hit = boundary_hit trees vm.nfa (at_place i) in (
           a.0 ∙ pattern-alike hit (next_hit re true text i) (next-alike i),
@@ -171,4 +173,5 @@ module _ (pattern : List ℕ) (re : Re) (vm : Pike) (text : List ℕ) (bytes : A
         → All (HasGroups vm.nfa) cs → (hits : List Hit) → AreAllHits re (is_utf8_empty vm.nfa) text hits
         → cs ≡ map (captured_by vm.nfa.groups) hits
     caught-are cs are groups hits h =
-        captures-are vm.nfa cs hits (recursion_from_All (HasGroups vm.nfa) cs groups) (rows-are (map row_of cs) are hits h)
+        captures-are vm.nfa cs hits (recursion_from_All (HasGroups vm.nfa) cs groups)
+        (rows-are (map row_of cs) are hits h)

@@ -4,11 +4,11 @@ use Rattle.std.specs.Prelude.{slice_range}
 use Rattle.std.specs.List.{AllByRecursion}
 use Rattle.regex_search_core.specs.Search.{whole}
 use Rattle.regex_search_core.specs.Slots.{Captured}
-use Rattle.nfa_engines.specs.Catching.{row_of}
-use Rattle.nfa_engines.specs.CaughtLists.{AreRows, HasGroups}
-use Rattle.nfa_engines.specs.CaughtRuns.{CapturesInside, match_in}
+use Rattle.nfa_engines.specs.WithCaptures.{row_of}
+use Rattle.nfa_engines.specs.CapturesLists.{AreRows, HasGroups}
+use Rattle.nfa_engines.specs.CapturesRuns.{CapturesInside, match_in}
 use Rattle.nfa_engines.specs.Engines.{Pike, kind_of}
-use Rattle.nfa_engines.specs.Lists.{AreApart}
+use Rattle.nfa_engines.specs.Lists.{AreDisjoint}
 use Rattle.nfa_compiler.specs.Patterns.{Hit}
 use Rattle.replacer.specs.Hits.{captured_by}
 use Rattle.replacer.specs.Separated.{last_end}
@@ -35,7 +35,7 @@ pub record AreCaught (vm : Pike) (haystack : List ℕ) (cs : List Captured) : Ty
   pub rows : AreRows vm.nfa (kind_of vm) false (whole haystack) (map row_of cs)
   pub groups : All (HasGroups vm.nfa) cs
   pub inside : All (CapturesInside (whole haystack)) cs
-  pub apart : AreApart (whole haystack) None (map match_in cs)
+  pub apart : AreDisjoint (whole haystack) None (map match_in cs)
 
 -- The matches of the first i of these captures were replaced, up to this offset, which is where the last one ended: the
 -- output and what comes for those that are left are what comes for all.
@@ -45,7 +45,7 @@ pub record HasReplaced (haystack : List ℕ) (parts : List Part) (all left : Lis
   pub first : i ≡ 0 → from ≡ 0
   pub within : from ≤ length haystack
   pub inside : AllByRecursion (CapturesInside (whole haystack)) left
-  pub apart : AreApart (whole haystack) (last_end i from) (map match_in left)
+  pub apart : AreDisjoint (whole haystack) (last_end i from) (map match_in left)
 
 -- the output is the haystack with the template in place of each of its matches
 pub record IsReplaced (vm : Pike) (haystack : List ℕ) (parts : List Part) (output : List ℕ) : Type 0 where

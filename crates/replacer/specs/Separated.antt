@@ -6,7 +6,7 @@ use Rattle.regex_search_core.specs.Found.{Found, found_of}
 use Rattle.regex_search_core.specs.Search.{whole}
 use Rattle.regex_search_core.specs.declared.search.Match.{Match}
 use Rattle.nfa_engines.specs.Engines.{Pike, kind_of}
-use Rattle.nfa_engines.specs.Lists.{AreApart, AreFirstMatches, AreMatches}
+use Rattle.nfa_engines.specs.Lists.{AreDisjoint, AreFirstMatches, AreMatches}
 use Rattle.nfa_compiler.specs.Patterns.{Hit, found_at}
 
 -- where the last one ended of the first i matches: at this offset, if there is one
@@ -60,7 +60,7 @@ module _ (haystack : List ℕ) where
     pub count : length fields ≡ i
     pub first : i ≡ 0 → from ≡ 0
     pub within : from ≤ length haystack
-    pub apart : AreApart (whole haystack) (last_end i from) (map found_of (drop i matches))
+    pub apart : AreDisjoint (whole haystack) (last_end i from) (map found_of (drop i matches))
     pub joined : IsJoined from (map found_of (drop i matches)) → IsJoined 0 (map found_of matches)
 
   module _ (vm : Pike) where

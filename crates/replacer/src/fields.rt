@@ -3,8 +3,8 @@ ghost use Rattle.std.specs.Prelude.{◌≡◌, ◌+◌, ◌<◌, ◌≤◌, IfOk
 ghost use Rattle.regex_hir.specs.Re.{Re};
 ghost use Rattle.regex_search_core.specs.Found.{found_of};
 ghost use Rattle.regex_search_core.specs.Search.{whole};
-ghost use Rattle.nfa_engines.specs.Engines.{Fits, SameNumbers};
-ghost use Rattle.nfa_engines.specs.Lists.{AreApart};
+ghost use Rattle.nfa_engines.specs.Engines.{Fits, SameCapacities};
+ghost use Rattle.nfa_engines.specs.Lists.{AreDisjoint};
 ghost use Rattle.nfa_engines.specs.Paths.{is_utf8_empty};
 ghost use Rattle.nfa_compiler.specs.Patterns.{Hit};
 ghost use Rattle.replacer.specs.Hits.{AreAllHits, SearchesFor};
@@ -31,7 +31,7 @@ pub fn split<'h>(
         → SearchesFor pattern re vm.now → AreAllHits re (is_utf8_empty vm.now.nfa) haystack.now hits
         → texts fields.items ≡ fields_by haystack.now hits) }
     ensures fields { IfOk result (λ fields. IsSplit haystack.now vm.now (texts fields.items)) }
-    ensures numbers { SameNumbers cache.old cache.new }
+    ensures capacities { SameCapacities cache.old cache.new }
 {
     let Ok(matches) = vm.find_all(alloc, cache, Input::new(haystack)) else {
         return Err(AllocError);
@@ -57,7 +57,7 @@ pub fn splitn<'h>(
     ensures none { limit ≡ 0 → IfOk result (λ fields. fields.items ≡ []) }
     ensures fields { 0 < limit → IfOk result (λ fields. IsSplitUpTo haystack.now vm.now limit (texts fields.items)) }
     ensures few { IfOk result (λ fields. length fields.items ≤ limit) }
-    ensures numbers { SameNumbers cache.old cache.new }
+    ensures capacities { SameCapacities cache.old cache.new }
 {
     if limit == 0 {
         return Ok(Vec::new(alloc));
@@ -75,7 +75,7 @@ fn fields_between<'h>(
     haystack: &'h [u8],
     matches: &[Match],
 ) -> Result<Vec<&'h [u8]>, AllocError>
-    requires { AreApart (whole haystack.now) None (map found_of matches.now) }
+    requires { AreDisjoint (whole haystack.now) None (map found_of matches.now) }
     ensures around { IfOk result (λ fields. AreAround haystack.now (map found_of matches.now) (texts fields.items)) }
     ensures count { IfOk result (λ fields. length fields.items ≡ length matches.now + 1) }
 {

@@ -2,8 +2,8 @@
 ghost use Rattle.std.specs.Prelude.{◌≡◌, ◌⊎◌, ◌≤◌, false, IfOk, None, length, map};
 ghost use Rattle.regex_search_core.specs.Found.{found_of};
 ghost use Rattle.regex_search_core.specs.Search.{whole};
-ghost use Rattle.nfa_engines.specs.Engines.{Fits, SameNumbers, kind_of};
-ghost use Rattle.nfa_engines.specs.Lists.{AreApart, AreFirstMatches, AreMatches};
+ghost use Rattle.nfa_engines.specs.Engines.{Fits, SameCapacities, kind_of};
+ghost use Rattle.nfa_engines.specs.Lists.{AreDisjoint, AreFirstMatches, AreMatches};
 
 use nfa_engines::pikevm::{Cache, PikeVM};
 use regex_search_core::{Input, Match};
@@ -23,8 +23,8 @@ pub fn first_matches(
     ensures as_many { IfOk result (λ found. (length found.items ≡ count)
         ⊎ AreMatches vm.now.nfa (kind_of vm.now) false (whole text.now) (map found_of found.items)) }
     ensures few { IfOk result (λ found. length found.items ≤ count) }
-    ensures apart { IfOk result (λ found. AreApart (whole text.now) None (map found_of found.items)) }
-    ensures numbers { SameNumbers cache.old cache.new }
+    ensures apart { IfOk result (λ found. AreDisjoint (whole text.now) None (map found_of found.items)) }
+    ensures capacities { SameCapacities cache.old cache.new }
 {
     let mut first = Vec::new(alloc);
     if count == 0 {

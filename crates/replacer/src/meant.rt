@@ -3,8 +3,8 @@ ghost use Rattle.std.specs.Prelude.{◌≡◌, ◌⊎◌, ◌≤◌, All, List, 
 ghost use Rattle.regex_hir.specs.Re.{Re};
 ghost use Rattle.regex_search_core.specs.Found.{found_of};
 ghost use Rattle.regex_search_core.specs.Search.{whole};
-ghost use Rattle.nfa_engines.specs.Catching.{row_of};
-ghost use Rattle.nfa_engines.specs.CaughtLists.{AreRows, HasGroups};
+ghost use Rattle.nfa_engines.specs.WithCaptures.{row_of};
+ghost use Rattle.nfa_engines.specs.CapturesLists.{AreRows, HasGroups};
 ghost use Rattle.nfa_engines.specs.Engines.{kind_of};
 ghost use Rattle.nfa_engines.specs.Lists.{AreFirstMatches, AreMatches};
 ghost use Rattle.nfa_engines.specs.Paths.{is_utf8_empty};

@@ -2,9 +2,9 @@
 ghost use Rattle.std.specs.Prelude.{◌≡◌, ◌≤◌, ◌++◌, All, IfOk, List, None, OnOk, map, ℕ};
 ghost use Rattle.regex_hir.specs.Re.{Re};
 ghost use Rattle.regex_search_core.specs.Search.{whole};
-ghost use Rattle.nfa_engines.specs.CaughtRuns.{CapturesInside, match_in};
-ghost use Rattle.nfa_engines.specs.Engines.{Fits, SameNumbers};
-ghost use Rattle.nfa_engines.specs.Lists.{AreApart};
+ghost use Rattle.nfa_engines.specs.CapturesRuns.{CapturesInside, match_in};
+ghost use Rattle.nfa_engines.specs.Engines.{Fits, SameCapacities};
+ghost use Rattle.nfa_engines.specs.Lists.{AreDisjoint};
 ghost use Rattle.nfa_engines.specs.Paths.{is_utf8_empty};
 ghost use Rattle.nfa_compiler.specs.Patterns.{Hit};
 ghost use Rattle.replacer.specs.Hits.{AreAllHits, SearchesFor};
@@ -35,7 +35,7 @@ pub fn replace_all(
         → SearchesFor pattern re vm.now → AreAllHits re (is_utf8_empty vm.now.nfa) haystack.now hits
         → output.items ≡ replaced_by vm.now.nfa.groups template.now.parts.items haystack.now hits) }
     ensures replaced { IfOk result (λ output. IsReplaced vm.now haystack.now template.now.parts.items output.items) }
-    ensures numbers { SameNumbers cache.old cache.new }
+    ensures capacities { SameCapacities cache.old cache.new }
 {
     let Ok(caught) = vm.captures_all(alloc, cache, Input::new(haystack)) else {
         return Err(AllocError);
@@ -54,7 +54,7 @@ fn replace_caught(
     template: &Template<'_>,
 ) -> Result<Vec<u8>, AllocError>
     requires inside { All (CapturesInside (whole haystack.now)) caught.items }
-    requires apart { AreApart (whole haystack.now) None (map match_in caught.items) }
+    requires apart { AreDisjoint (whole haystack.now) None (map match_in caught.items) }
     ensures { IfOk result (λ output. output.items ≡ replaced haystack.now template.now.parts.items 0 caught.items) }
 {
     let mut output = Vec::new(alloc);
@@ -66,8 +66,8 @@ fn replace_caught(
     Ok(output)
 }
 
-/// Appends what is before the match of these captures, from an offset on, and the template filled by it. Returns the end
-/// of the match.
+/// Appends what is before the match of these captures, from an offset on, and the template filled by it. Returns the
+/// end of the match.
 fn replace_one(
     haystack: &[u8],
     from: usize,

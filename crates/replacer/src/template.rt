@@ -2,7 +2,7 @@
 ghost use Rattle.std.specs.Prelude.{◌≡◌, ◌++◌, IfErr, IfOk, OnOk, length};
 ghost use Rattle.regex_search_core.specs.Patterns.{number_of};
 ghost use Rattle.regex_search_core.specs.Search.{whole};
-ghost use Rattle.nfa_engines.specs.CaughtRuns.{CapturesInside};
+ghost use Rattle.nfa_engines.specs.CapturesRuns.{CapturesInside};
 ghost use Rattle.replacer.specs.Templates.{filled, part_text};
 ghost use Rattle.replacer.specs.Writing.{AreParts, IsMistake};
 

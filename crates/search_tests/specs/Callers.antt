@@ -2,7 +2,7 @@
 use Rattle.std.specs.Prelude.{◌+◌, ℕ, min, nat_le, if◌then◌else◌, None, Some, Ok}
 use Rattle.regex_search_core.specs.Found.{Found}
 use Rattle.regex_search_core.specs.Search.{Search}
-use Rattle.nfa_search_base.specs.Walks.{Answer}
+use Rattle.nfa_search_base.specs.IterStates.{Answer}
 
 -- the finder of pieces: a match of the first pattern that takes at most so many bytes from the start of the span, if
 -- the span has a start

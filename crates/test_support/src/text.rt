@@ -1,6 +1,6 @@
 //! Answers of both engines as text.
 
-ghost use Rattle.nfa_pikevm.specs.Engines.{Fits, SameNumbers};
+ghost use Rattle.nfa_pikevm.specs.Engines.{Fits, SameCapacities};
 
 use nfa_engines::backtrack::{self, BoundedBacktracker};
 use nfa_engines::error::SearchError;
@@ -77,7 +77,7 @@ pub fn piked_slots(
     slot_len: usize,
 ) -> Result<String, AllocError>
     requires { Fits cache.old vm.now.nfa }
-    ensures { SameNumbers cache.old cache.new }
+    ensures { SameCapacities cache.old cache.new }
 {
     let mut slots = vec![in alloc; NonMaxUsize::new(7); slot_len]?;
     let pattern = vm.search_slots(cache, input, &mut slots);
@@ -105,7 +105,7 @@ pub fn piked_match(
     input: Input<'_>,
 ) -> Result<String, AllocError>
     requires { Fits cache.old vm.now.nfa }
-    ensures { SameNumbers cache.old cache.new }
+    ensures { SameCapacities cache.old cache.new }
 {
     match_text(alloc, vm.find(cache, input))
 }
@@ -131,7 +131,7 @@ pub fn piked_half(
     input: Input<'_>,
 ) -> Result<String, AllocError>
     requires { Fits cache.old vm.now.nfa }
-    ensures { SameNumbers cache.old cache.new }
+    ensures { SameCapacities cache.old cache.new }
 {
     half_text(alloc, vm.find_half(cache, input))
 }
@@ -170,7 +170,7 @@ pub fn piked_list(
     input: Input<'_>,
 ) -> Result<String, AllocError>
     requires { Fits cache.old vm.now.nfa }
-    ensures { SameNumbers cache.old cache.new }
+    ensures { SameCapacities cache.old cache.new }
 {
     let mut text = String::new(alloc);
     for found in vm.find_iter(cache, input) {

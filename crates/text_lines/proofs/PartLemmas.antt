@@ -50,7 +50,8 @@ parts-more : (c : ℕ) (a b : List ℕ) → lines_of (a ++ line_feed ∷ [] ++ b
     → lines_of (c ∷ (a ++ line_feed ∷ [] ++ b)) ≡ lines_of (c ∷ (a ++ line_feed ∷ [])) ++ lines_of b
 parts-more c a b parts =
     ⊎_elim
-    (λ same. subst (λ (d : ℕ). lines_of (d ∷ (a ++ line_feed ∷ [] ++ b)) ≡ lines_of (d ∷ (a ++ line_feed ∷ [])) ++ lines_of b)
+    (λ same. subst (λ (d : ℕ). lines_of (d ∷ (a ++ line_feed ∷ [] ++ b)) ≡ lines_of (d ∷ (a ++ line_feed ∷ []))
+    ++ lines_of b)
     (sym same)
     (feed-first (a ++ line_feed ∷ [] ++ b) ∙ ap (λ (ls : List (List ℕ)). (line_feed ∷ []) ∷ ls) parts
     ∙ ap (λ (ls : List (List ℕ)). ls ++ lines_of b) (sym (feed-first (a ++ line_feed ∷ [])))))

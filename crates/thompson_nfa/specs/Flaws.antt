@@ -5,8 +5,8 @@ use Rattle.regex_search_core.specs.Groups.{slot_count}
 use Rattle.thompson_nfa.specs.Automaton.{Node, Capture, Match, Fail, LeadsBelow, SlotBelow, PatternBelow}
 use Rattle.thompson_nfa.specs.Automaton.{Automaton, IsAutomaton, AreStatesNumbered, IsNumbered}
 use Rattle.thompson_nfa.specs.Automaton.{AreSlotsWithin, ArePatternsWithin, AreGroupsOfPatterns}
-use Rattle.thompson_nfa.specs.declared.flaw.Holder.{Holder}
-use Rattle.thompson_nfa.specs.declared.flaw.Holder.TheVariants as holder
+use Rattle.thompson_nfa.specs.declared.flaw.Referrer.{Referrer}
+use Rattle.thompson_nfa.specs.declared.flaw.Referrer.TheVariants as holder
 use Rattle.thompson_nfa.specs.declared.flaw.Flaw.{Flaw}
 use Rattle.thompson_nfa.specs.declared.flaw.Flaw.TheVariants.{Empty, State, Slot, Pattern, Groups}
 
@@ -38,15 +38,15 @@ NamesFirstPattern n states (Some (i, pattern)) =
     IsFirstFailing (PatternBelow n) Fail states (Some i) × (pattern_of (slice_index_or states i Fail) ≡ Some pattern)
 
 -- the first holder of a number that names no state: the two starts, then those of the patterns, then the states
-abbrev pub NamesFirstHolder : List Node → ℕ → ℕ → List ℕ → Option Holder → Type 0
-NamesFirstHolder states anchored unanchored patterns None = AreStatesNumbered states anchored unanchored patterns
-NamesFirstHolder states anchored unanchored patterns (Some holder.Anchored) = ¬ (anchored < length states)
-NamesFirstHolder states anchored unanchored patterns (Some holder.Unanchored) =
+abbrev pub NamesFirstReferrer : List Node → ℕ → ℕ → List ℕ → Option Referrer → Type 0
+NamesFirstReferrer states anchored unanchored patterns None = AreStatesNumbered states anchored unanchored patterns
+NamesFirstReferrer states anchored unanchored patterns (Some holder.Anchored) = ¬ (anchored < length states)
+NamesFirstReferrer states anchored unanchored patterns (Some holder.Unanchored) =
     (anchored < length states) × (¬ (unanchored < length states))
-NamesFirstHolder states anchored unanchored patterns (Some (holder.Pattern i)) =
+NamesFirstReferrer states anchored unanchored patterns (Some (holder.Pattern i)) =
     (anchored < length states) × (unanchored < length states)
     × IsFirstFailing (λ s. s < length states) 0 patterns (Some i)
-NamesFirstHolder states anchored unanchored patterns (Some (holder.State i)) =
+NamesFirstReferrer states anchored unanchored patterns (Some (holder.State i)) =
     (anchored < length states) × (unanchored < length states) × All (λ s. s < length states) patterns
     × IsFirstFailing (LeadsBelow (length states)) Fail states (Some i)
 
@@ -55,7 +55,7 @@ abbrev pub IsFirstFlaw : Automaton → Option Flaw → Type 0
 IsFirstFlaw a None = IsAutomaton a
 IsFirstFlaw a (Some Empty) = length a.states ≡ 0
 IsFirstFlaw a (Some (State h)) =
-    (0 < length a.states) × NamesFirstHolder a.states a.anchored a.unanchored a.patterns (Some h)
+    (0 < length a.states) × NamesFirstReferrer a.states a.anchored a.unanchored a.patterns (Some h)
 IsFirstFlaw a (Some (Slot state slot)) =
     IsNumbered a × NamesFirstSlot (slot_count a.groups) a.states (Some (state, slot))
 IsFirstFlaw a (Some (Pattern state pattern)) =

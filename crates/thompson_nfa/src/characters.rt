@@ -1,6 +1,7 @@
 //! Characters of UTF-8 next to an offset.
 ghost use Rattle.std.specs.Prelude.{◌≡◌, ◌≤◌, length, chars};
-ghost use Rattle.thompson_nfa.specs.Characters.{char_of, char_of_len_before, char_of_len_after, char_before, char_after, is_word_char, is_some_word, only};
+ghost use Rattle.thompson_nfa.specs.Characters.{char_of, char_of_len_before, char_of_len_after, char_before};
+ghost use Rattle.thompson_nfa.specs.Characters.{char_after, is_word_char, is_some_word, only};
 ghost use Rattle.thompson_nfa.specs.Looks.{is_whole_before, is_whole_after};
 
 use unicode::perl::is_word_code;

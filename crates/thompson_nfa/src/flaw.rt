@@ -3,15 +3,15 @@ ghost use Rattle.std.specs.Prelude.{Bool, map};
 ghost use Rattle.thompson_nfa.specs.Automaton.{node_of};
 ghost use Rattle.thompson_nfa.specs.Flaws.{IsFirstFlaw};
 
-use crate::bounds::{first_pattern_outside, first_slot_outside, first_unnumbered};
 use crate::state::State;
+use crate::validate::{first_pattern_outside, first_slot_outside, first_unnumbered};
 use regex_search_core::{GroupInfo, StateID};
 use std::fmt;
 use thiserror::Error;
 
 /// A place in an NFA that holds the number of a state: a start, or a state that leads to others.
 #[derive(Clone, Copy, Debug, PartialEq, Eq, Hash)]
-pub enum Holder {
+pub enum Referrer {
     /// The start state of anchored searches.
     Anchored,
     /// The start state of unanchored searches.
@@ -22,13 +22,13 @@ pub enum Holder {
     State(usize),
 }
 
-impl fmt::Display for Holder {
+impl fmt::Display for Referrer {
     fn fmt<W: fmt::Write>(&self, f: &mut fmt::Formatter<W>) -> fmt::Result {
         match self {
-            Holder::Anchored => f.write_str("the anchored start"),
-            Holder::Unanchored => f.write_str("the unanchored start"),
-            Holder::Pattern(pattern) => write!(f, "the start of pattern {pattern}"),
-            Holder::State(state) => write!(f, "state {state}"),
+            Referrer::Anchored => f.write_str("the anchored start"),
+            Referrer::Unanchored => f.write_str("the unanchored start"),
+            Referrer::Pattern(pattern) => write!(f, "the start of pattern {pattern}"),
+            Referrer::State(state) => write!(f, "state {state}"),
         }
     }
 }
@@ -41,7 +41,7 @@ pub enum Flaw {
     Empty,
     /// The holder refers to a state that does not exist.
     #[error("{0} refers to a state that does not exist")]
-    State(Holder),
+    State(Referrer),
     /// The state of this number is a `Capture` that writes a slot which belongs to no group.
     #[error("state {state} writes slot {slot}, which belongs to no group")]
     Slot { state: usize, slot: usize },

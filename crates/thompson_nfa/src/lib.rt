@@ -23,14 +23,14 @@
 //! of the match. Names and behaviour follow the public documentation of the crate regex-automata.
 #![tactic(auto)]
 
-mod bounds;
 mod characters;
 mod flaw;
 mod look;
 mod nfa;
 mod state;
+mod validate;
 
-pub use flaw::{Flaw, Holder, first_flaw};
+pub use flaw::{Flaw, Referrer, first_flaw};
 pub use look::{Look, look_matches};
 pub use nfa::{BuildError, NFA};
 pub use state::{State, Transition};

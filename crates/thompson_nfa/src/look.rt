@@ -1,6 +1,7 @@
 //! Assertions, and the positions at which they hold.
 ghost use Rattle.std.specs.Prelude.{◌≡◌, ◌≤◌, length};
-ghost use Rattle.thompson_nfa.specs.Looks.{look_holds, is_byte_before, is_byte_at, is_word_before, is_word_after, is_word_byte};
+ghost use Rattle.thompson_nfa.specs.Looks.{look_holds, is_byte_before, is_byte_at, is_word_before, is_word_after};
+ghost use Rattle.thompson_nfa.specs.Looks.{is_word_byte};
 ghost use Rattle.thompson_nfa.specs.Looks.{is_crlf_start, is_crlf_end, is_not_word_boundary};
 
 use crate::characters::{is_whole_after, is_whole_before, is_word_char_after, is_word_char_before};

@@ -1,7 +1,7 @@
 //! The calls that answer what another call answers: captures as a search for captures does, a list as an iteration
 //! does, and an iteration as single searches do.
 
-ghost use Rattle.nfa_pikevm.specs.Engines.{Fits, SameNumbers};
+ghost use Rattle.nfa_pikevm.specs.Engines.{Fits, SameCapacities};
 
 use super::sums::{SEED, Shared, expect_sum, fold_match, fold_slots};
 use nfa_engines::backtrack::{self, BoundedBacktracker};
@@ -22,7 +22,7 @@ fn sum_of_captures(captures: &Captures) -> u64 {
 // What `find_iter` gives.
 fn piked_list(vm: &PikeVM, threads: &mut pikevm::Cache, input: &Input<'_>) -> u64
     requires { Fits threads.old vm.now.nfa }
-    ensures { SameNumbers threads.old threads.new }
+    ensures { SameCapacities threads.old threads.new }
 {
     let mut sum = SEED;
     for found in vm.find_iter(threads, *input) {
@@ -40,7 +40,7 @@ fn piked_all(
     input: &Input<'_>,
 ) -> u64
     requires { Fits threads.old vm.now.nfa }
-    ensures { SameNumbers threads.old threads.new }
+    ensures { SameCapacities threads.old threads.new }
 {
     let all = vm.find_all(alloc, threads, *input).expect(rt, "memory");
     sum_of_matches(&all)
@@ -107,7 +107,7 @@ fn piked_captures_all(
     input: &Input<'_>,
 ) -> [u64; 2]
     requires { Fits threads.old vm.now.nfa }
-    ensures { SameNumbers threads.old threads.new }
+    ensures { SameCapacities threads.old threads.new }
 {
     let all = vm.captures_all(alloc, threads, *input).expect(rt, "memory");
     sums_of_captures(&all)

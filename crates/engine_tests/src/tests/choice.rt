@@ -349,7 +349,7 @@ fn shown_matches(rt: &impl Abort, alloc: Global, choice: &mut Choice) -> String 
 fn wanted_matches(rt: &impl Abort, alloc: Global, shown: &str) -> String {
     format!(in alloc;
         "ChoiceMatches {{ choice: {shown}, steps: Steps {{ searcher: Searcher {{ input: {:?}, \
-        last_match_end: None }}, asker: ByRule, done: false }} }}",
+        last_match_end: None }}, backend: ByRule, done: false }} }}",
         Input::new(b"a")
     )
     .expect(rt, "memory")

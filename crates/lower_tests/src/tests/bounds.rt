@@ -1,7 +1,7 @@
 //! The sample NFAs, and mistakes by hand.
 use super::fixtures::{id, named, pattern, plain_groups};
 use Row::{Byte, Capture, Either, Match};
-use nfa_bounds::records_bounds;
+use nfa_match_spans::records_match_spans;
 use regex_search_core::StateID;
 use std::alloc::Global;
 use std::process::Abort;
@@ -50,7 +50,7 @@ fn samples_that_write_their_bounds(rt: HostRuntime) {
 }
 
 fn expect_told(rt: &impl Abort, alloc: Global, nfa: &NFA, want: bool, name: &str) {
-    let found = records_bounds(alloc, nfa).expect(rt, "memory");
+    let found = records_match_spans(alloc, nfa).expect(rt, "memory");
     assert_eq!(rt; found, want, "{name}");
 }
 

@@ -3,11 +3,11 @@ ghost use Rattle.std.specs.Prelude.{◌≡◌, IfOk, true, false};
 ghost use Rattle.regex_search_core.specs.Search.{search_of};
 ghost use Rattle.nfa_engines.specs.Engines.{Fits};
 ghost use Rattle.nfa_paths.specs.Paths.{is_utf8_empty};
-ghost use Rattle.nfa_bounds.specs.Matches.{MatchesNothing};
+ghost use Rattle.nfa_match_spans.specs.Matches.{MatchesNothing};
 
-use nfa_bounds::laws::no_match_is_passed_over;
-use nfa_bounds::records_bounds;
 use nfa_engines::pikevm::{Cache, PikeVM};
+use nfa_match_spans::laws::no_match_is_missed;
+use nfa_match_spans::records_match_spans;
 use regex_search_core::Input;
 use std::alloc::{AllocError, Global};
 
@@ -22,8 +22,8 @@ pub fn surely_matches_nothing(
     requires anywhere { is_utf8_empty vm.now.nfa ≡ false }
     ensures { IfOk result (λ sure. sure ≡ true → MatchesNothing vm.now.nfa (search_of input.entry)) }
 {
-    no_match_is_passed_over();
-    if !records_bounds(alloc, vm.get_nfa())? {
+    no_match_is_missed();
+    if !records_match_spans(alloc, vm.get_nfa())? {
         return Ok(false);
     }
     match vm.find(cache, input) {

@@ -2,11 +2,11 @@
 ghost use Rattle.std.specs.Prelude.{IfOk, Ok, map};
 ghost use Rattle.regex_search_core.specs.Found.{found_of, half_found_of};
 ghost use Rattle.regex_search_core.specs.Search.{search_of, whole};
-ghost use Rattle.nfa_engines.specs.Catching.{caught_by, row_span};
-ghost use Rattle.nfa_engines.specs.CaughtLists.{AreAllCaught};
+ghost use Rattle.nfa_engines.specs.WithCaptures.{filled_answer, row_span};
+ghost use Rattle.nfa_engines.specs.CapturesLists.{AreAllStoredCaptures};
 ghost use Rattle.nfa_engines.specs.Finders.{answer_by};
-ghost use Rattle.nfa_engines.specs.Lists.{AreAllFound};
-ghost use Rattle.nfa_engines.specs.Walks.{IsSurelyInside, fresh, half_span_of, span_of};
+ghost use Rattle.nfa_engines.specs.Lists.{AreAllStoredMatches};
+ghost use Rattle.nfa_engines.specs.IterStates.{IsInfalliblyInside, fresh, half_span_of, span_of};
 
 use super::fixtures::{plain_groups, set_slots};
 use nfa_engines::error::SearchError;
@@ -18,7 +18,7 @@ use std::test::Fail;
 
 // An empty match of the first pattern at the start of the span.
 fn empty_at_start(input: &Input<'_>) -> Result<Option<Match>, SearchError>
-    ensures { IsSurelyInside span_of (search_of input.now) (answer_by found_of result) }
+    ensures { IsInfalliblyInside span_of (search_of input.now) (answer_by found_of result) }
 {
     let start = input.start();
     if input.is_done() {
@@ -32,7 +32,7 @@ fn empty_at_start(input: &Input<'_>) -> Result<Option<Match>, SearchError>
 
 // Its end.
 fn half_at_start(input: &Input<'_>) -> Result<Option<HalfMatch>, SearchError>
-    ensures { IsSurelyInside half_span_of (search_of input.now) (answer_by half_found_of result) }
+    ensures { IsInfalliblyInside half_span_of (search_of input.now) (answer_by half_found_of result) }
 {
     let start = input.start();
     if input.is_done() {
@@ -46,7 +46,7 @@ fn half_at_start(input: &Input<'_>) -> Result<Option<HalfMatch>, SearchError>
 
 // The match that the slots tell, where it lies in the span, or none.
 fn kept_match(input: &Input<'_>, captures: &mut Captures) -> Result<(), SearchError>
-    ensures { IsSurelyInside row_span (search_of input.now) (caught_by captures.new result) }
+    ensures { IsInfalliblyInside row_span (search_of input.now) (filled_answer captures.new result) }
 {
     captures.set_pattern(PatternID::new(0));
     let inside = match captures.get_match() {
@@ -61,7 +61,8 @@ fn kept_match(input: &Input<'_>, captures: &mut Captures) -> Result<(), SearchEr
 
 // All items, by `collect`.
 fn collected(alloc: Global, haystack: &[u8]) -> Result<Vec<Result<Match, SearchError>>, AllocError>
-    ensures { IfOk result (λ v. AreAllFound span_of (IsSurelyInside span_of) found_of (fresh (whole haystack.now))
+    ensures { IfOk result (λ v. AreAllStoredMatches span_of (IsInfalliblyInside span_of) found_of
+        (fresh (whole haystack.now))
         v.items) }
 {
     let input = Input::new(haystack);
@@ -72,7 +73,8 @@ fn collected(alloc: Global, haystack: &[u8]) -> Result<Vec<Result<Match, SearchE
 
 // The same of a finder that never errs.
 fn surely_collected(alloc: Global, haystack: &[u8]) -> Result<Vec<Match>, AllocError>
-    ensures { IfOk result (λ v. AreAllFound span_of (IsSurelyInside span_of) found_of (fresh (whole haystack.now))
+    ensures { IfOk result (λ v. AreAllStoredMatches span_of (IsInfalliblyInside span_of) found_of
+        (fresh (whole haystack.now))
         (map (λ m. Ok m) v.items)) }
 {
     let input = Input::new(haystack);
@@ -86,7 +88,7 @@ fn halves_collected(
     alloc: Global,
     haystack: &[u8],
 ) -> Result<Vec<Result<HalfMatch, SearchError>>, AllocError>
-    ensures { IfOk result (λ v. AreAllFound half_span_of (IsSurelyInside half_span_of) half_found_of
+    ensures { IfOk result (λ v. AreAllStoredMatches half_span_of (IsInfalliblyInside half_span_of) half_found_of
         (fresh (whole haystack.now)) v.items) }
 {
     let input = Input::new(haystack);
@@ -96,7 +98,7 @@ fn halves_collected(
 }
 
 fn halves_surely_collected(alloc: Global, haystack: &[u8]) -> Result<Vec<HalfMatch>, AllocError>
-    ensures { IfOk result (λ v. AreAllFound half_span_of (IsSurelyInside half_span_of) half_found_of
+    ensures { IfOk result (λ v. AreAllStoredMatches half_span_of (IsInfalliblyInside half_span_of) half_found_of
         (fresh (whole haystack.now)) (map (λ m. Ok m) v.items)) }
 {
     let input = Input::new(haystack);
@@ -111,7 +113,8 @@ fn captures_collected(
     haystack: &[u8],
     captures: Captures,
 ) -> Result<Vec<Result<Captures, SearchError>>, AllocError>
-    ensures { IfOk result (λ v. AreAllCaught (IsSurelyInside row_span) (fresh (whole haystack.now)) v.items) }
+    ensures { IfOk result (λ v. AreAllStoredCaptures (IsInfalliblyInside row_span)
+        (fresh (whole haystack.now)) v.items) }
 {
     let input = Input::new(haystack);
     let searcher = Searcher::new(input);
@@ -124,7 +127,8 @@ fn captures_surely_collected(
     haystack: &[u8],
     captures: Captures,
 ) -> Result<Vec<Result<Captures, SearchError>>, AllocError>
-    ensures { IfOk result (λ v. AreAllCaught (IsSurelyInside row_span) (fresh (whole haystack.now)) v.items) }
+    ensures { IfOk result (λ v. AreAllStoredCaptures (IsInfalliblyInside row_span)
+        (fresh (whole haystack.now)) v.items) }
 {
     let input = Input::new(haystack);
     let searcher = Searcher::new(input);

@@ -3,7 +3,7 @@ use super::fixtures::{id, pattern, plain_groups};
 use super::shown::expect_told;
 use std::alloc::Global;
 use std::process::Abort;
-use thompson_nfa::{BuildError, Flaw, Holder, NFA, State, Transition, first_flaw};
+use thompson_nfa::{BuildError, Flaw, NFA, Referrer, State, Transition, first_flaw};
 
 /// A state by the one number that matters.
 enum One {
@@ -31,26 +31,26 @@ const REFUSALS: &[(Parts, BuildError, Flaw, &str)] = &[
     (
         (&[One::Fail], [1, 1, 1], 2),
         BuildError::State,
-        Flaw::State(Holder::Anchored),
+        Flaw::State(Referrer::Anchored),
         "the anchored start refers to a state that does not exist",
     ),
     (
         (&[One::Fail], [0, 1, 1], 0),
         BuildError::State,
-        Flaw::State(Holder::Unanchored),
+        Flaw::State(Referrer::Unanchored),
         "the unanchored start refers to a state that does not exist",
     ),
     (
         (&[One::Byte(1)], [0, 0, 1], 0),
         BuildError::State,
-        Flaw::State(Holder::Pattern(0)),
+        Flaw::State(Referrer::Pattern(0)),
         "the start of pattern 0 refers to a state that does not exist",
     ),
     // The slot of the first state is out of range too, but the numbers of all states come first.
     (
         (&[One::Capture(4), One::Byte(2)], [0, 0, 0], 1),
         BuildError::State,
-        Flaw::State(Holder::State(1)),
+        Flaw::State(Referrer::State(1)),
         "state 1 refers to a state that does not exist",
     ),
     (

@@ -6,7 +6,7 @@ ghost use Rattle.nfa_paths.specs.Paths.{IsAnswer};
 ghost use Rattle.nfa_search_base.specs.Lists.{IsSlotInside};
 ghost use Rattle.nfa_search_base.specs.Spans.{SpansInside};
 ghost use Rattle.nfa_backtrack.specs.Backtrack.{HoldsNoMore};
-ghost use Rattle.nfa_choice.specs.Choosing.{kind_in, KeepsEngines, RunsByRule};
+ghost use Rattle.nfa_choice.specs.ChoiceState.{kind_in, KeepsEngines, RunsByRule};
 
 use crate::choose::Choice;
 use nfa_engines::error::SearchError;

@@ -1,10 +1,10 @@
 //! Iteration over the captures of the matches of an input.
-ghost use Rattle.nfa_search_base.specs.CaughtLists.{HasGroups};
+ghost use Rattle.nfa_search_base.specs.CapturesLists.{HasGroups};
 
 use crate::choose::Choice;
 use nfa_engines::error::SearchError;
-use nfa_engines::iter::catching::{caught_item, caught_span};
-use nfa_engines::iter::{Searcher, Searches, Steps};
+use nfa_engines::iter::captures_items::{captures_item, captures_span};
+use nfa_engines::iter::{FindWith, Searcher, Steps};
 use regex_search_core::{Captures, Input, Span};
 use std::alloc::Global;
 use std::marker::Model;
@@ -18,20 +18,20 @@ use std::marker::Model;
 #[derive(Debug, Drop)]
 pub struct ChoiceCaptures<'c, 'h> {
     choice: &'c mut Choice,
-    steps: Steps<'h, Catcher>,
-    ghost holds: { HasGroups choice.now.nfa steps.asker.captures },
+    steps: Steps<'h, CapturesFinder>,
+    ghost holds: { HasGroups choice.now.nfa steps.backend.captures },
 }
 
 // The captures that the searches of one iteration fill. Each search borrows the choice, which picks the engine.
 #[derive(Debug, Drop)]
-struct Catcher {
+struct CapturesFinder {
     captures: Captures,
 }
 
-impl Model for Catcher {
-    ghost use Rattle.nfa_search_base.specs.Catching.{Catching};
+impl Model for CapturesFinder {
+    ghost use Rattle.nfa_search_base.specs.WithCaptures.{WithCaptures};
 
-    ghost Value = { Catching (Unit {0}) };
+    ghost Value = { WithCaptures (Unit {0}) };
 
     ghost view = { λ a. record { finder = tt; captures = a.captures } };
 }
@@ -40,18 +40,19 @@ impl Choice {
     ghost use Rattle.std.specs.Prelude.{◌≡◌, false, All, IfOk, IsOkUnless, None, map};
     ghost use Rattle.regex_search_core.specs.Search.{search_of};
     ghost use Rattle.nfa_search_base.specs.CapturesGiven.{CapturesGiven};
-    ghost use Rattle.nfa_search_base.specs.Catching.{row_of};
-    ghost use Rattle.nfa_search_base.specs.CaughtLists.{AreRows, TellsRow};
-    ghost use Rattle.nfa_search_base.specs.CaughtRuns.{CapturesApart, CapturesFirst, CapturesGroups, CapturesInside};
-    ghost use Rattle.nfa_search_base.specs.CaughtRuns.{CapturesMemory, CapturesNext, CapturesRun, CapturesWithin};
-    ghost use Rattle.nfa_search_base.specs.CaughtRuns.{MatchesInAll, MatchesInFirst, MatchesInNext, MatchesInRun};
-    ghost use Rattle.nfa_search_base.specs.CaughtRuns.{RowsAll, RowsFirst, RowsNext, RowsRun, match_in};
-    ghost use Rattle.nfa_search_base.specs.Lists.{AreApart, AreMatches};
-    ghost use Rattle.nfa_search_base.specs.Walks.{fresh};
+    ghost use Rattle.nfa_search_base.specs.WithCaptures.{row_of};
+    ghost use Rattle.nfa_search_base.specs.CapturesLists.{AreRows, AnswersRow};
+    ghost use Rattle.nfa_search_base.specs.CapturesRuns.{CapturesDisjoint, CapturesFirst, CapturesGroups};
+    ghost use Rattle.nfa_search_base.specs.CapturesRuns.{CapturesInside};
+    ghost use Rattle.nfa_search_base.specs.CapturesRuns.{CapturesMemory, CapturesNext, CapturesRun, CapturesWithin};
+    ghost use Rattle.nfa_search_base.specs.CapturesRuns.{MatchesInAll, MatchesInFirst, MatchesInNext, MatchesInRun};
+    ghost use Rattle.nfa_search_base.specs.CapturesRuns.{RowsAll, RowsFirst, RowsNext, RowsRun, match_in};
+    ghost use Rattle.nfa_search_base.specs.Lists.{AreDisjoint, AreMatches};
+    ghost use Rattle.nfa_search_base.specs.IterStates.{fresh};
     ghost use Rattle.nfa_choice.specs.CapturesMatches.{ChoiceCatchesBySearches, ChoiceCatchesGiveKept};
     ghost use Rattle.nfa_choice.specs.CapturesMatches.{ChoiceCatchesOn, ChoiceCatchesToEnd, choice_catches_choice};
     ghost use Rattle.nfa_choice.specs.CapturesMatches.{choice_catches_done, choice_catches_next, choice_catches_walk};
-    ghost use Rattle.nfa_choice.specs.Choosing.{kind_in, KeepsEngines};
+    ghost use Rattle.nfa_choice.specs.ChoiceState.{kind_in, KeepsEngines};
 
     /// Returns an iterator over the captures of all matches that do not overlap, from left to right, each with all
     /// groups of the NFA. This call runs no search. The only error is [`SearchError::Memory`]: the captures to search
@@ -82,11 +83,11 @@ impl Choice {
         ensures walk { IfOk result (λ made. choice_catches_walk made ≡ fresh (search_of input.entry)) }
         ensures going { IfOk result (λ made. choice_catches_done made ≡ false) }
         // Each run of calls gives the first captures of the input, and all of them if it goes on to `None`.
-        ensures runs { IfOk result (CapturesRun choice_catches_next (TellsRow self.entry.now.nfa
+        ensures runs { IfOk result (CapturesRun choice_catches_next (AnswersRow self.entry.now.nfa
             (kind_in self.entry.now) (search_of input.entry).earliest) (search_of input.entry)) }
-        ensures first { IfOk result (CapturesFirst choice_catches_next (TellsRow self.entry.now.nfa
+        ensures first { IfOk result (CapturesFirst choice_catches_next (AnswersRow self.entry.now.nfa
             (kind_in self.entry.now) (search_of input.entry).earliest) (search_of input.entry)) }
-        ensures next { IfOk result (CapturesNext choice_catches_next (TellsRow self.entry.now.nfa
+        ensures next { IfOk result (CapturesNext choice_catches_next (AnswersRow self.entry.now.nfa
             (kind_in self.entry.now) (search_of input.entry).earliest) (search_of input.entry)) }
         ensures errors { IfOk result (CapturesMemory choice_catches_next) }
         // If no copy fails, their rows and their matches are those of the input.
@@ -108,7 +109,7 @@ impl Choice {
             (kind_in self.entry.now) (search_of input.entry).earliest (search_of input.entry)) }
         ensures groups { IfOk result (CapturesGroups choice_catches_next self.entry.now.nfa) }
         ensures inside { IfOk result (CapturesWithin choice_catches_next (search_of input.entry)) }
-        ensures apart { IfOk result (CapturesApart choice_catches_next (search_of input.entry)) }
+        ensures apart { IfOk result (CapturesDisjoint choice_catches_next (search_of input.entry)) }
         // The choice changes only by the searches of the steps.
         ensures searches { IfOk result (ChoiceCatchesBySearches (search_of input.entry)) }
         ensures keeps { IfOk result ChoiceCatchesGiveKept }
@@ -141,11 +142,11 @@ impl Choice {
         ensures walk { choice_catches_walk result ≡ fresh (search_of input.entry) }
         ensures going { choice_catches_done result ≡ false }
         // Each run of calls gives the first captures of the input, and all of them if it goes on to `None`.
-        ensures runs { CapturesRun choice_catches_next (TellsRow self.entry.now.nfa (kind_in self.entry.now)
+        ensures runs { CapturesRun choice_catches_next (AnswersRow self.entry.now.nfa (kind_in self.entry.now)
             (search_of input.entry).earliest) (search_of input.entry) result }
-        ensures first { CapturesFirst choice_catches_next (TellsRow self.entry.now.nfa (kind_in self.entry.now)
+        ensures first { CapturesFirst choice_catches_next (AnswersRow self.entry.now.nfa (kind_in self.entry.now)
             (search_of input.entry).earliest) (search_of input.entry) result }
-        ensures next { CapturesNext choice_catches_next (TellsRow self.entry.now.nfa (kind_in self.entry.now)
+        ensures next { CapturesNext choice_catches_next (AnswersRow self.entry.now.nfa (kind_in self.entry.now)
             (search_of input.entry).earliest) (search_of input.entry) result }
         ensures errors { CapturesMemory choice_catches_next result }
         // If no copy fails, their rows and their matches are those of the input.
@@ -167,12 +168,12 @@ impl Choice {
             (search_of input.entry).earliest (search_of input.entry) result }
         ensures groups { CapturesGroups choice_catches_next self.entry.now.nfa result }
         ensures inside { CapturesWithin choice_catches_next (search_of input.entry) result }
-        ensures apart { CapturesApart choice_catches_next (search_of input.entry) result }
+        ensures apart { CapturesDisjoint choice_catches_next (search_of input.entry) result }
         // The choice changes only by the searches of the steps.
         ensures searches { ChoiceCatchesBySearches (search_of input.entry) result }
         ensures keeps { ChoiceCatchesGiveKept result }
     {
-        self.catch_from(input, captures)
+        self.fill_from(input, captures)
     }
 
     /// Returns the captures of all matches that do not overlap, from left to right, each with all groups of the NFA, as
@@ -199,7 +200,7 @@ impl Choice {
             (search_of input.entry).earliest (search_of input.entry) (map match_in all.items)) }
         ensures groups { IfOk result (λ all. All (HasGroups self.old.nfa) all.items) }
         ensures inside { IfOk result (λ all. All (CapturesInside (search_of input.entry)) all.items) }
-        ensures apart { IfOk result (λ all. AreApart (search_of input.entry) None (map match_in all.items)) }
+        ensures apart { IfOk result (λ all. AreDisjoint (search_of input.entry) None (map match_in all.items)) }
         ensures keeps { KeepsEngines self.old self.new }
         // The choice changes only by the searches of an iteration. If all captures are returned, these searches go to
         // its end.
@@ -207,7 +208,7 @@ impl Choice {
         ensures to_end { IfOk result (λ all.
             ChoiceCatchesToEnd (search_of input.entry) (map row_of all.items) self.old self.new) }
     {
-        let catcher = Catcher {
+        let catcher = CapturesFinder {
             captures: self.create_captures(alloc)?,
         };
         Steps::new(input, catcher).all_with(alloc, self)
@@ -215,7 +216,7 @@ impl Choice {
 
     // Returns the iterator that searches with these captures.
     #[inline]
-    fn catch_from<'c, 'h>(
+    fn fill_from<'c, 'h>(
         &'c mut self,
         input: Input<'h>,
         captures: Captures,
@@ -226,7 +227,7 @@ impl Choice {
         ensures walk { choice_catches_walk result ≡ fresh (search_of input.entry) }
         ensures going { choice_catches_done result ≡ false }
         ensures given { CapturesGiven choice_catches_next self.entry.now.nfa (kind_in self.entry.now)
-            (search_of input.entry).earliest (TellsRow self.entry.now.nfa (kind_in self.entry.now)
+            (search_of input.entry).earliest (AnswersRow self.entry.now.nfa (kind_in self.entry.now)
             (search_of input.entry).earliest) (search_of input.entry) result }
         ensures errors { CapturesMemory choice_catches_next result }
         ensures searches { ChoiceCatchesBySearches (search_of input.entry) result }
@@ -236,15 +237,15 @@ impl Choice {
             choice: self,
             steps: Steps {
                 searcher: Searcher::new(input),
-                asker: Catcher { captures },
+                backend: CapturesFinder { captures },
                 done: false,
             },
         }
     }
 }
 
-impl Searches for Catcher {
-    ghost use Rattle.nfa_search_base.specs.Catching.{Row, caught_by, row_span, GivesCaptures};
+impl FindWith for CapturesFinder {
+    ghost use Rattle.nfa_search_base.specs.WithCaptures.{Row, filled_answer, row_span, GivesCaptures};
     ghost use Rattle.nfa_choice.specs.CapturesMatches.{AsksRowByRule, MayCatchByRule};
 
     type Cache = Choice;
@@ -253,7 +254,7 @@ impl Searches for Catcher {
 
     ghost Value = { Row };
 
-    ghost shows = { λ c reply. caught_by c.captures reply };
+    ghost shows = { λ c reply. filled_answer c.captures reply };
 
     ghost span = { row_span };
 
@@ -273,24 +274,24 @@ impl Searches for Catcher {
 
     #[inline]
     fn place(&self, reply: Result<(), SearchError>) -> Option<Span> {
-        caught_span(&self.captures, reply)
+        captures_span(&self.captures, reply)
     }
 
     #[inline]
     fn item(&self, reply: Result<(), SearchError>) -> Option<Result<Captures, SearchError>> {
-        caught_item(&self.captures, reply)
+        captures_item(&self.captures, reply)
     }
 }
 
 impl<'c, 'h> Iterator for ChoiceCaptures<'c, 'h> {
-    ghost use Rattle.nfa_search_base.specs.Lent.{lent_left};
+    ghost use Rattle.nfa_search_base.specs.StepsWith.{steps_with_left};
     ghost use Rattle.nfa_choice.specs.CapturesMatches.{choice_catches, choice_catches_next};
 
     type Item = Result<Captures, SearchError>;
 
     ghost next_gives = { choice_catches_next };
 
-    ghost remaining = { λ s. lent_left (choice_catches s) };
+    ghost remaining = { λ s. steps_with_left (choice_catches s) };
 
     fn next(&mut self) -> Option<Result<Captures, SearchError>> {
         self.steps.next_with(self.choice)

@@ -1,8 +1,8 @@
 //! Iteration over the matches of an input.
 use crate::choose::Choice;
 use nfa_engines::error::SearchError;
-use nfa_engines::iter::finding::{found_item, found_span};
-use nfa_engines::iter::{Searcher, Searches, Steps};
+use nfa_engines::iter::match_items::{found_item, found_span};
+use nfa_engines::iter::{FindWith, Searcher, Steps};
 use regex_search_core::{Input, Match, Span};
 use std::alloc::Global;
 
@@ -23,13 +23,14 @@ impl Choice {
     ghost use Rattle.std.specs.Prelude.{◌≡◌, false, All, IfOk, IsOkUnless, None, map};
     ghost use Rattle.regex_search_core.specs.Found.{found_of};
     ghost use Rattle.regex_search_core.specs.Search.{search_of};
-    ghost use Rattle.nfa_search_base.specs.Lists.{AreApart, AreMatches, IsInside};
-    ghost use Rattle.nfa_search_base.specs.MatchRuns.{MatchesRun, MatchesAre, MatchesApart, MatchesFirst, MatchesNext};
-    ghost use Rattle.nfa_search_base.specs.Walks.{fresh};
-    ghost use Rattle.nfa_choice.specs.Choosing.{kind_in, KeepsEngines};
+    ghost use Rattle.nfa_search_base.specs.Lists.{AreDisjoint, AreMatches, IsInside};
+    ghost use Rattle.nfa_search_base.specs.MatchRuns.{MatchesRun, MatchesAre, MatchesDisjoint, MatchesFirst};
+    ghost use Rattle.nfa_search_base.specs.MatchRuns.{MatchesNext};
+    ghost use Rattle.nfa_search_base.specs.IterStates.{fresh};
+    ghost use Rattle.nfa_choice.specs.ChoiceState.{kind_in, KeepsEngines};
     ghost use Rattle.nfa_choice.specs.Matches.{ChoiceFindsBySearches, ChoiceFindsOn, ChoiceFindsToEnd, ChoiceGivesKept};
     ghost use Rattle.nfa_choice.specs.Matches.{choice_finds_cache, choice_finds_done};
-    ghost use Rattle.nfa_choice.specs.Matches.{choice_finds_next, choice_finds_walk};
+    ghost use Rattle.nfa_choice.specs.Matches.{choice_matches_next, choice_finds_walk};
 
     /// Returns an iterator over all matches that do not overlap, from left to right. Does not allocate.
     ///
@@ -51,15 +52,15 @@ impl Choice {
         ensures going { choice_finds_done result ≡ false }
         // Each run of calls gives the first matches of the input, and all of them if it goes on to `None`.
         ensures runs { MatchesRun self.entry.now.nfa (kind_in self.entry.now)
-            (search_of input.entry) choice_finds_next result }
+            (search_of input.entry) choice_matches_next result }
         ensures are { MatchesAre self.entry.now.nfa (kind_in self.entry.now)
-            (search_of input.entry) choice_finds_next result }
-        ensures apart { MatchesApart self.entry.now.nfa (kind_in self.entry.now)
-            (search_of input.entry) choice_finds_next result }
+            (search_of input.entry) choice_matches_next result }
+        ensures apart { MatchesDisjoint self.entry.now.nfa (kind_in self.entry.now)
+            (search_of input.entry) choice_matches_next result }
         ensures first { MatchesFirst self.entry.now.nfa (kind_in self.entry.now)
-            (search_of input.entry) choice_finds_next result }
+            (search_of input.entry) choice_matches_next result }
         ensures next { MatchesNext self.entry.now.nfa (kind_in self.entry.now)
-            (search_of input.entry) choice_finds_next result }
+            (search_of input.entry) choice_matches_next result }
         // The choice changes only by the searches of the steps.
         ensures searches { ChoiceFindsBySearches (search_of input.entry) result }
         ensures keeps { ChoiceGivesKept result }
@@ -68,7 +69,7 @@ impl Choice {
             choice: self,
             steps: Steps {
                 searcher: Searcher::new(input),
-                asker: ByRule,
+                backend: ByRule,
                 done: false,
             },
         }
@@ -88,7 +89,7 @@ impl Choice {
         ensures memory { IsOkUnless result SearchError.Memory }
         ensures all { IfOk result (λ found. AreMatches self.old.nfa (kind_in self.old) (search_of input.entry).earliest
             (search_of input.entry) (map found_of found.items)) }
-        ensures apart { IfOk result (λ found. AreApart (search_of input.entry) None (map found_of found.items)) }
+        ensures apart { IfOk result (λ found. AreDisjoint (search_of input.entry) None (map found_of found.items)) }
         ensures inside { IfOk result (λ found. All (λ m. IsInside (search_of input.entry) (found_of m)) found.items) }
         ensures keeps { KeepsEngines self.old self.new }
         // The choice changes only by the searches of an iteration. If all matches are returned, these searches go to
@@ -105,11 +106,11 @@ impl Choice {
     }
 }
 
-impl Searches for ByRule {
+impl FindWith for ByRule {
     ghost use Rattle.regex_search_core.specs.Found.{Found, found_of};
     ghost use Rattle.nfa_search_base.specs.Finders.{answer_by};
     ghost use Rattle.nfa_search_base.specs.Steps.{GivesItem};
-    ghost use Rattle.nfa_search_base.specs.Walks.{span_of};
+    ghost use Rattle.nfa_search_base.specs.IterStates.{span_of};
     ghost use Rattle.nfa_choice.specs.Matches.{AsksByRule, may_ask};
     ghost use Rattle.std.specs.Prelude.{Ok};
 
@@ -148,14 +149,14 @@ impl Searches for ByRule {
 }
 
 impl<'c, 'h> Iterator for ChoiceMatches<'c, 'h> {
-    ghost use Rattle.nfa_search_base.specs.Lent.{lent_sure_left};
-    ghost use Rattle.nfa_choice.specs.Matches.{choice_finds, choice_finds_next};
+    ghost use Rattle.nfa_search_base.specs.StepsWith.{infallible_left_with};
+    ghost use Rattle.nfa_choice.specs.Matches.{choice_matches, choice_matches_next};
 
     type Item = Match;
 
-    ghost next_gives = { choice_finds_next };
+    ghost next_gives = { choice_matches_next };
 
-    ghost remaining = { λ s. lent_sure_left (choice_finds s) };
+    ghost remaining = { λ s. infallible_left_with (choice_matches s) };
 
     fn next(&mut self) -> Option<Match> {
         match self.steps.next_with(self.choice) {

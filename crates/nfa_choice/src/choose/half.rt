@@ -4,7 +4,7 @@ ghost use Rattle.regex_search_core.specs.Found.{half_found_of};
 ghost use Rattle.regex_search_core.specs.Search.{search_of};
 ghost use Rattle.nfa_paths.specs.Paths.{IsHalfAnswer};
 ghost use Rattle.nfa_backtrack.specs.Backtrack.{HoldsNoMore};
-ghost use Rattle.nfa_choice.specs.Choosing.{kind_in, KeepsEngines, RunsByRule};
+ghost use Rattle.nfa_choice.specs.ChoiceState.{kind_in, KeepsEngines, RunsByRule};
 
 use crate::choose::{Choice, Engine};
 use regex_search_core::{HalfMatch, Input};

@@ -8,10 +8,10 @@ use crate::choose::Choice;
 impl Choice {
     /// Returns whether a match may begin with the byte.
     ///
-    /// If this is false, no match starts at a position with the byte, so a caller may skip such positions. If it is true,
-    /// a match may start there or not. It is true for every byte if the NFA can match the empty string, or if more than 64
-    /// states can be reached before a byte is read. It does not cover `Anchored::Pattern`, whose searches begin with
-    /// another state.
+    /// If this is false, no match starts at a position with the byte, so a caller may skip such positions. If it is
+    /// true, a match may start there or not. It is true for every byte if the NFA can match the empty string, or if
+    /// more than 64 states can be reached before a byte is read. It does not cover `Anchored::Pattern`, whose searches
+    /// begin with another state.
     ///
     /// ```
     /// // choice of "foo(?<n>[0-9]+)"

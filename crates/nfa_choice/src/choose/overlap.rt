@@ -2,10 +2,10 @@
 ghost use Rattle.std.specs.Prelude.{◌≡◌, ◌+◌, ◌*◌, ◌≤◌, Some};
 ghost use Rattle.regex_search_core.specs.Search.{search_of};
 ghost use Rattle.nfa_paths.specs.Overlaps.{IsOverlapResult};
-ghost use Rattle.nfa_paths.specs.Paths.{span_len, turn_weight};
+ghost use Rattle.nfa_paths.specs.Paths.{span_len, total_degree};
 ghost use Rattle.nfa_pikevm.specs.Engines.{AddsPikeWork};
 ghost use Rattle.nfa_pikevm.specs.Needs.{overlap_scans};
-ghost use Rattle.nfa_choice.specs.Choosing.{kind_in, KeepsEngines};
+ghost use Rattle.nfa_choice.specs.ChoiceState.{kind_in, KeepsEngines};
 ghost use Rattle.nfa_choice.specs.declared.choose.Engine.TheVariants as engine;
 
 use crate::choose::{Choice, Engine};
@@ -40,7 +40,7 @@ impl Choice {
 
         // One scan, or none under leftmost first if the set holds a pattern.
         ensures scans { self.new.pike.scans ≡ overlap_scans (kind_in self.old) patterns.old }
-        ensures turns { self.new.pike.turns ≤ self.new.pike.scans * ((1 + turn_weight self.old.nfa)
+        ensures turns { self.new.pike.turns ≤ self.new.pike.scans * ((1 + total_degree self.old.nfa)
             * (span_len (search_of input.now) + 1)) }
     {
         self.ran = Some(Engine::PikeVM);

@@ -19,10 +19,10 @@ pub struct TryCapturesIter<'h, F> {
 }
 
 impl<'h, F> Model for TryCapturesIter<'h, F> {
-    ghost use Rattle.nfa_search_base.specs.Catching.{Catching};
+    ghost use Rattle.nfa_search_base.specs.WithCaptures.{WithCaptures};
     ghost use Rattle.nfa_search_base.specs.declared.iter.steps.Steps.{Steps};
 
-    ghost Value = { Steps (Catching F) };
+    ghost Value = { Steps (WithCaptures F) };
 
     ghost view = { λ i. i.steps };
 }
@@ -30,12 +30,14 @@ impl<'h, F> Model for TryCapturesIter<'h, F> {
 impl<'h> Searcher<'h> {
     ghost use Rattle.std.specs.Prelude.{◌≡◌, false};
     ghost use Rattle.regex_search_core.specs.Search.{Search};
-    ghost use Rattle.nfa_search_base.specs.Catching.{Row, row_of, row_span, CanCatch, Catches, CatchesAlong, CatchesBy, GivesCaptures, YieldsUpToRefusal};
+    ghost use Rattle.nfa_search_base.specs.WithCaptures.{Row, row_of, row_span, CanFill, Fills, FillsAlong, FillsBy};
+    ghost use Rattle.nfa_search_base.specs.WithCaptures.{GivesCaptures, YieldsUpToRefusal};
     ghost use Rattle.nfa_search_base.specs.Items.{item_by, greedy};
-    ghost use Rattle.nfa_search_base.specs.Searchers.{walk_of};
-    ghost use Rattle.nfa_search_base.specs.Stored.{steps_walk, can_step, takes_steps};
-    ghost use Rattle.nfa_search_base.specs.StoredRuns.{CaughtAll, CaughtApart, CaughtFirst, CaughtNext, CaughtRun};
-    ghost use Rattle.nfa_search_base.specs.Walks.{Answer, AnswerIsInside};
+    ghost use Rattle.nfa_search_base.specs.Searchers.{iter_state_of};
+    ghost use Rattle.nfa_search_base.specs.Stored.{steps_iter_state, can_step, takes_steps};
+    ghost use Rattle.nfa_search_base.specs.StoredRuns.{StoredCapturesAll, StoredCapturesDisjoint, StoredCapturesFirst};
+    ghost use Rattle.nfa_search_base.specs.StoredRuns.{StoredCapturesNext, StoredCapturesRun};
+    ghost use Rattle.nfa_search_base.specs.IterStates.{Answer, AnswerIsInside};
 
     /// Returns an iterator over the captures that the finder gives from here on.
     ///
@@ -56,30 +58,34 @@ impl<'h> Searcher<'h> {
     pub fn into_captures_iter<F>(self, captures: Captures, finder: F) -> TryCapturesIter<'h, F>
     where
         F: FnMut(&Input<'_>, &mut Captures) -> Result<(), SearchError>,
-        requires { CatchesAlong F.FnMut (AnswerIsInside row_span) (record { finder = finder; captures = captures })
-            (walk_of self).at }
-        ensures can { can_step (CanCatch F.FnMut) (Catches F.FnMut) row_span result }
-        ensures walk { steps_walk result ≡ walk_of self.entry }
-        ensures finder { result.asker ≡ record { finder = finder; captures = captures } }
+        requires { FillsAlong F.FnMut (AnswerIsInside row_span) (record { finder = finder; captures = captures })
+            (iter_state_of self).at }
+        ensures can { can_step (CanFill F.FnMut) (Fills F.FnMut) row_span result }
+        ensures walk { steps_iter_state result ≡ iter_state_of self.entry }
+        ensures finder { result.backend ≡ record { finder = finder; captures = captures } }
         ensures going { result.done ≡ false }
         // The items of each run of calls are the first captures, and all of them if the run reaches `None`.
-        ensures runs { CaughtRun F.FnMut (record { finder = finder; captures = captures }) (walk_of self.entry) result }
-        ensures first { CaughtFirst F.FnMut (record { finder = finder; captures = captures }) (walk_of self.entry)
+        ensures runs { StoredCapturesRun F.FnMut (record { finder = finder; captures = captures })
+            (iter_state_of self.entry) result }
+        ensures first { StoredCapturesFirst F.FnMut (record { finder = finder; captures = captures })
+            (iter_state_of self.entry)
             result }
-        ensures next { CaughtNext F.FnMut (record { finder = finder; captures = captures }) (walk_of self.entry)
+        ensures next { StoredCapturesNext F.FnMut (record { finder = finder; captures = captures })
+            (iter_state_of self.entry)
             result }
-        ensures all { CaughtAll F.FnMut (record { finder = finder; captures = captures }) (walk_of self.entry) result }
+        ensures all { StoredCapturesAll F.FnMut (record { finder = finder; captures = captures })
+            (iter_state_of self.entry) result }
         // Their matches are in the span, in order and without overlap.
-        ensures apart { CaughtApart F.FnMut (walk_of self.entry) result }
+        ensures apart { StoredCapturesDisjoint F.FnMut (iter_state_of self.entry) result }
         // If the finder computes h, the items hold the rows of the greedy list of h, up to a failed allocation.
-        ensures list { (h : Search → Answer Row) → CatchesBy F.FnMut h (record { finder = finder; captures = captures })
-            (walk_of self.entry).at → YieldsUpToRefusal (takes_steps row_span (Catches F.FnMut) GivesCaptures)
-            (item_by row_of) result (greedy row_span h (walk_of self.entry)) }
+        ensures list { (h : Search → Answer Row) → FillsBy F.FnMut h (record { finder = finder; captures = captures })
+            (iter_state_of self.entry).at → YieldsUpToRefusal (takes_steps row_span (Fills F.FnMut) GivesCaptures)
+            (item_by row_of) result (greedy row_span h (iter_state_of self.entry)) }
     {
         TryCapturesIter {
             steps: Steps {
                 searcher: self,
-                asker: OnCaptures { finder, captures },
+                backend: OnCaptures { finder, captures },
                 done: false,
             },
         }
@@ -89,16 +95,19 @@ impl<'h> Searcher<'h> {
 impl<'h, F> TryCapturesIter<'h, F> {
     ghost use Rattle.std.specs.Prelude.{◌≡◌, false};
     ghost use Rattle.regex_search_core.specs.Search.{Search, search_of};
-    ghost use Rattle.nfa_search_base.specs.Catching.{Row, row_of, row_span, CanCatch, Catches, CatchesAlong, CatchesBy, YieldsUpToRefusal};
-    ghost use Rattle.nfa_search_base.specs.CaughtSteps.{takes_sure_catches};
+    ghost use Rattle.nfa_search_base.specs.WithCaptures.{Row, row_of, row_span, CanFill, Fills, FillsAlong, FillsBy};
+    ghost use Rattle.nfa_search_base.specs.WithCaptures.{YieldsUpToRefusal};
+    ghost use Rattle.nfa_search_base.specs.CapturesSteps.{takes_infallible_captures};
     ghost use Rattle.nfa_search_base.specs.Items.{item_by, greedy_unless};
-    ghost use Rattle.nfa_search_base.specs.Stored.{steps_walk, can_step_surely};
-    ghost use Rattle.nfa_search_base.specs.StoredRuns.{SureCaughtAll, SureCaughtApart, SureCaughtFirst, SureCaughtNext, SureCaughtRun};
-    ghost use Rattle.nfa_search_base.specs.Walks.{Answer, IsSurelyInside};
+    ghost use Rattle.nfa_search_base.specs.Stored.{steps_iter_state, can_step_infallibly};
+    ghost use Rattle.nfa_search_base.specs.StoredRuns.{InfallibleCapturesAll, InfallibleCapturesDisjoint};
+    ghost use Rattle.nfa_search_base.specs.StoredRuns.{InfallibleCapturesFirst, InfallibleCapturesNext};
+    ghost use Rattle.nfa_search_base.specs.StoredRuns.{InfallibleCapturesRun};
+    ghost use Rattle.nfa_search_base.specs.IterStates.{Answer, IsInfalliblyInside};
 
     /// Returns the input of the next search.
     pub fn input(&self) -> &Input<'h>
-        ensures { search_of result.now ≡ (steps_walk self.now).at }
+        ensures { search_of result.now ≡ (steps_iter_state self.now).at }
     {
         self.steps.searcher.input()
     }
@@ -108,24 +117,25 @@ impl<'h, F> TryCapturesIter<'h, F> {
     pub fn infallible(self) -> CapturesIter<'h, F>
     where
         F: FnMut(&Input<'_>, &mut Captures) -> Result<(), SearchError>,
-        requires { CatchesAlong F.FnMut (IsSurelyInside row_span) self.asker (steps_walk self).at }
-        ensures can { can_step_surely (CanCatch F.FnMut) (Catches F.FnMut) row_span result }
+        requires { FillsAlong F.FnMut (IsInfalliblyInside row_span) self.backend (steps_iter_state self).at }
+        ensures can { can_step_infallibly (CanFill F.FnMut) (Fills F.FnMut) row_span result }
         ensures same { result ≡ self.entry }
         // The items of each run of calls are the first captures, and all of them if the run reaches `None`.
         ensures runs { self.entry.done ≡ false
-            → SureCaughtRun F.FnMut self.entry.asker (steps_walk self.entry) result }
+            → InfallibleCapturesRun F.FnMut self.entry.backend (steps_iter_state self.entry) result }
         ensures first { self.entry.done ≡ false
-            → SureCaughtFirst F.FnMut self.entry.asker (steps_walk self.entry) result }
+            → InfallibleCapturesFirst F.FnMut self.entry.backend (steps_iter_state self.entry) result }
         ensures next { self.entry.done ≡ false
-            → SureCaughtNext F.FnMut self.entry.asker (steps_walk self.entry) result }
+            → InfallibleCapturesNext F.FnMut self.entry.backend (steps_iter_state self.entry) result }
         ensures all { self.entry.done ≡ false
-            → SureCaughtAll F.FnMut self.entry.asker (steps_walk self.entry) result }
+            → InfallibleCapturesAll F.FnMut self.entry.backend (steps_iter_state self.entry) result }
         // Their matches are in the span, in order and without overlap.
-        ensures apart { self.entry.done ≡ false → SureCaughtApart F.FnMut (steps_walk self.entry) result }
+        ensures apart { self.entry.done ≡ false → InfallibleCapturesDisjoint F.FnMut
+            (steps_iter_state self.entry) result }
         // If the finder computes h, the items hold the rows of the greedy list of h, up to a failed allocation.
-        ensures list { (h : Search → Answer Row) → CatchesBy F.FnMut h self.entry.asker (steps_walk self.entry).at
-            → YieldsUpToRefusal (takes_sure_catches F.FnMut) (item_by row_of) result
-            (greedy_unless row_span self.entry.done h (steps_walk self.entry)) }
+        ensures list { (h : Search → Answer Row) → FillsBy F.FnMut h self.entry.backend (steps_iter_state self.entry).at
+            → YieldsUpToRefusal (takes_infallible_captures F.FnMut) (item_by row_of) result
+            (greedy_unless row_span self.entry.done h (steps_iter_state self.entry)) }
     {
         CapturesIter { tries: self }
     }
@@ -135,14 +145,14 @@ impl<'h, F> Iterator for TryCapturesIter<'h, F>
 where
     F: FnMut(&Input<'_>, &mut Captures) -> Result<(), SearchError>,
 {
-    ghost use Rattle.nfa_search_base.specs.Catching.{row_span, CanCatch, Catches, GivesCaptures};
+    ghost use Rattle.nfa_search_base.specs.WithCaptures.{row_span, CanFill, Fills, GivesCaptures};
     ghost use Rattle.nfa_search_base.specs.Stored.{can_step, takes_steps, steps_left};
 
     type Item = Result<Captures, SearchError>;
 
-    ghost can_next = { can_step (CanCatch F.FnMut) (Catches F.FnMut) row_span };
+    ghost can_next = { can_step (CanFill F.FnMut) (Fills F.FnMut) row_span };
 
-    ghost next_gives = { takes_steps row_span (Catches F.FnMut) GivesCaptures };
+    ghost next_gives = { takes_steps row_span (Fills F.FnMut) GivesCaptures };
 
     ghost remaining = { steps_left };
 
@@ -156,7 +166,7 @@ impl<'h, F> fmt::Debug for TryCapturesIter<'h, F> {
     fn fmt<W: fmt::Write>(&self, f: &mut fmt::Formatter<W>) -> fmt::Result {
         f.debug_struct("TryCapturesIter")
             .field("searcher", &self.steps.searcher)
-            .field("captures", &self.steps.asker.captures)
+            .field("captures", &self.steps.backend.captures)
             .field("done", &self.steps.done)
             .finish_non_exhaustive()
     }
@@ -172,10 +182,10 @@ pub struct CapturesIter<'h, F> {
 }
 
 impl<'h, F> Model for CapturesIter<'h, F> {
-    ghost use Rattle.nfa_search_base.specs.Catching.{Catching};
+    ghost use Rattle.nfa_search_base.specs.WithCaptures.{WithCaptures};
     ghost use Rattle.nfa_search_base.specs.declared.iter.steps.Steps.{Steps};
 
-    ghost Value = { Steps (Catching F) };
+    ghost Value = { Steps (WithCaptures F) };
 
     ghost view = { λ i. i.tries };
 }
@@ -183,11 +193,11 @@ impl<'h, F> Model for CapturesIter<'h, F> {
 impl<'h, F> CapturesIter<'h, F> {
     ghost use Rattle.std.specs.Prelude.{◌≡◌};
     ghost use Rattle.regex_search_core.specs.Search.{search_of};
-    ghost use Rattle.nfa_search_base.specs.Stored.{steps_walk};
+    ghost use Rattle.nfa_search_base.specs.Stored.{steps_iter_state};
 
     /// Returns the input of the next search.
     pub fn input(&self) -> &Input<'h>
-        ensures { search_of result.now ≡ (steps_walk self.now).at }
+        ensures { search_of result.now ≡ (steps_iter_state self.now).at }
     {
         self.tries.input()
     }
@@ -197,15 +207,15 @@ impl<'h, F> Iterator for CapturesIter<'h, F>
 where
     F: FnMut(&Input<'_>, &mut Captures) -> Result<(), SearchError>,
 {
-    ghost use Rattle.nfa_search_base.specs.Catching.{row_span, CanCatch, Catches};
-    ghost use Rattle.nfa_search_base.specs.CaughtSteps.{takes_sure_catches};
-    ghost use Rattle.nfa_search_base.specs.Stored.{can_step_surely, steps_left};
+    ghost use Rattle.nfa_search_base.specs.WithCaptures.{row_span, CanFill, Fills};
+    ghost use Rattle.nfa_search_base.specs.CapturesSteps.{takes_infallible_captures};
+    ghost use Rattle.nfa_search_base.specs.Stored.{can_step_infallibly, steps_left};
 
     type Item = Result<Captures, SearchError>;
 
-    ghost can_next = { can_step_surely (CanCatch F.FnMut) (Catches F.FnMut) row_span };
+    ghost can_next = { can_step_infallibly (CanFill F.FnMut) (Fills F.FnMut) row_span };
 
-    ghost next_gives = { takes_sure_catches F.FnMut };
+    ghost next_gives = { takes_infallible_captures F.FnMut };
 
     ghost remaining = { steps_left };
 

@@ -3,20 +3,20 @@ ghost use Rattle.std.specs.Prelude.{◌≡◌, ◌≤◌, Option, Result};
 ghost use Rattle.std.specs.Option.{ForSome};
 ghost use Rattle.regex_search_core.specs.Search.{Search, search_of};
 ghost use Rattle.regex_search_core.specs.declared.search.Span.{Span};
-ghost use Rattle.nfa_search_base.specs.Walks.{Answer, place_of};
+ghost use Rattle.nfa_search_base.specs.IterStates.{Answer, answer_span};
 ghost use Rattle.nfa_search_base.specs.Steps.{ComesOfMatch};
 ghost use Rattle.nfa_search_base.specs.declared.error.SearchError.{SearchError};
 
 use crate::asking::{ask, ask_with};
 use crate::error::SearchError;
-use crate::iter::catching::{caught_item, caught_span};
+use crate::iter::captures_items::{captures_item, captures_span};
 use crate::iter::place::{half_match_span, match_span};
 use regex_search_core::{Captures, HalfMatch, Input, Match, Span};
 use std::marker::Model;
 
 /// A finder that an iteration owns, which answers its searches. The iterators over a stored finder are built on it.
 /// Callers of these iterators do not need it.
-pub trait Answers: Drop {
+pub trait Find: Drop {
     // The result of a call.
     type Reply: Copy;
 
@@ -46,7 +46,7 @@ pub trait Answers: Drop {
 
     // The span of the answer's match.
     fn place(&self, reply: Self::Reply) -> Option<Span>
-        ensures place { result ≡ place_of span (shows self.now reply) }
+        ensures place { result ≡ answer_span span (shows self.now reply) }
         ensures ordered { ForSome result (λ p. p.start ≤ p.end) };
 
     // The item of the answer.
@@ -67,7 +67,7 @@ impl<F> Model for OnMatches<F> {
     ghost view = { λ a. a.finder };
 }
 
-impl<F> Answers for OnMatches<F>
+impl<F> Find for OnMatches<F>
 where
     F: FnMut(&Input<'_>) -> Result<Option<Match>, SearchError>,
 {
@@ -75,7 +75,7 @@ where
     ghost use Rattle.nfa_search_base.specs.Asking.{IsCallableOn};
     ghost use Rattle.nfa_search_base.specs.Finders.{Finds, answer_by};
     ghost use Rattle.nfa_search_base.specs.Steps.{GivesItem};
-    ghost use Rattle.nfa_search_base.specs.Walks.{span_of};
+    ghost use Rattle.nfa_search_base.specs.IterStates.{span_of};
 
     type Reply = Result<Option<Match>, SearchError>;
 
@@ -121,7 +121,7 @@ impl<F> Model for OnHalfMatches<F> {
     ghost view = { λ a. a.finder };
 }
 
-impl<F> Answers for OnHalfMatches<F>
+impl<F> Find for OnHalfMatches<F>
 where
     F: FnMut(&Input<'_>) -> Result<Option<HalfMatch>, SearchError>,
 {
@@ -129,7 +129,7 @@ where
     ghost use Rattle.nfa_search_base.specs.Asking.{IsCallableOn};
     ghost use Rattle.nfa_search_base.specs.Finders.{Finds, answer_by};
     ghost use Rattle.nfa_search_base.specs.Steps.{GivesItem};
-    ghost use Rattle.nfa_search_base.specs.Walks.{half_span_of};
+    ghost use Rattle.nfa_search_base.specs.IterStates.{half_span_of};
 
     type Reply = Result<Option<HalfMatch>, SearchError>;
 
@@ -171,30 +171,30 @@ pub(crate) struct OnCaptures<F> {
 }
 
 impl<F> Model for OnCaptures<F> {
-    ghost use Rattle.nfa_search_base.specs.Catching.{Catching};
+    ghost use Rattle.nfa_search_base.specs.WithCaptures.{WithCaptures};
 
-    ghost Value = { Catching F };
+    ghost Value = { WithCaptures F };
 
     ghost view = { λ a. record { finder = a.finder; captures = a.captures } };
 }
 
-impl<F> Answers for OnCaptures<F>
+impl<F> Find for OnCaptures<F>
 where
     F: FnMut(&Input<'_>, &mut Captures) -> Result<(), SearchError>,
 {
-    ghost use Rattle.nfa_search_base.specs.Catching.{Row, CanCatch, Catches, caught_by, row_span, GivesCaptures};
+    ghost use Rattle.nfa_search_base.specs.WithCaptures.{Row, CanFill, Fills, filled_answer, row_span, GivesCaptures};
 
     type Reply = Result<(), SearchError>;
 
     ghost Value = { Row };
 
-    ghost shows = { λ c reply. caught_by c.captures reply };
+    ghost shows = { λ c reply. filled_answer c.captures reply };
 
     ghost span = { row_span };
 
-    ghost accepts = { CanCatch F.FnMut };
+    ghost accepts = { CanFill F.FnMut };
 
-    ghost asks = { Catches F.FnMut };
+    ghost asks = { Fills F.FnMut };
 
     type Item = Captures;
 
@@ -205,10 +205,10 @@ where
     }
 
     fn place(&self, reply: Result<(), SearchError>) -> Option<Span> {
-        caught_span(&self.captures, reply)
+        captures_span(&self.captures, reply)
     }
 
     fn item(&self, reply: Result<(), SearchError>) -> Option<Result<Captures, SearchError>> {
-        caught_item(&self.captures, reply)
+        captures_item(&self.captures, reply)
     }
 }

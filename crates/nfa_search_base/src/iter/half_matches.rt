@@ -29,14 +29,15 @@ impl<'h> Searcher<'h> {
     ghost use Rattle.std.proofs.lemmas.Iterator.{YieldsList};
     ghost use Rattle.regex_search_core.specs.Found.{HalfFound, half_found_of};
     ghost use Rattle.regex_search_core.specs.Search.{Search};
-    ghost use Rattle.nfa_search_base.specs.Walks.{Answer, half_span_of, AnswerIsInside};
+    ghost use Rattle.nfa_search_base.specs.IterStates.{Answer, half_span_of, AnswerIsInside};
     ghost use Rattle.nfa_search_base.specs.Finders.{Finds, AnswersAlong, Computes};
     ghost use Rattle.nfa_search_base.specs.Items.{item_by, greedy};
-    ghost use Rattle.nfa_search_base.specs.Searchers.{walk_of};
+    ghost use Rattle.nfa_search_base.specs.Searchers.{iter_state_of};
     ghost use Rattle.nfa_search_base.specs.Asking.{IsCallableOn};
     ghost use Rattle.nfa_search_base.specs.Steps.{GivesItem};
-    ghost use Rattle.nfa_search_base.specs.Stored.{steps_walk, can_step, takes_steps};
-    ghost use Rattle.nfa_search_base.specs.StoredRuns.{FoundAll, FoundApart, FoundFirst, FoundNext, FoundRun};
+    ghost use Rattle.nfa_search_base.specs.Stored.{steps_iter_state, can_step, takes_steps};
+    ghost use Rattle.nfa_search_base.specs.StoredRuns.{StoredMatchesAll, StoredMatchesDisjoint, StoredMatchesFirst};
+    ghost use Rattle.nfa_search_base.specs.StoredRuns.{StoredMatchesNext, StoredMatchesRun};
 
     /// Returns an iterator over the half matches that the finder gives from here on.
     ///
@@ -56,27 +57,28 @@ impl<'h> Searcher<'h> {
     pub fn into_half_matches_iter<F>(self, finder: F) -> TryHalfMatchesIter<'h, F>
     where
         F: FnMut(&Input<'_>) -> Result<Option<HalfMatch>, SearchError>,
-        requires { AnswersAlong half_found_of F.FnMut (AnswerIsInside half_span_of) finder (walk_of self).at }
+        requires { AnswersAlong half_found_of F.FnMut (AnswerIsInside half_span_of) finder (iter_state_of self).at }
         ensures can { can_step (IsCallableOn F.FnMut) (Finds half_found_of F.FnMut) half_span_of result }
-        ensures walk { steps_walk result ≡ walk_of self.entry }
-        ensures finder { result.asker ≡ finder }
+        ensures walk { steps_iter_state result ≡ iter_state_of self.entry }
+        ensures finder { result.backend ≡ finder }
         ensures going { result.done ≡ false }
         // The items of each run of calls are the first items, and all of them if the run reaches `None`.
-        ensures runs { FoundRun half_found_of half_span_of F.FnMut finder (walk_of self.entry) result }
-        ensures first { FoundFirst half_found_of half_span_of F.FnMut finder (walk_of self.entry) result }
-        ensures next { FoundNext half_found_of half_span_of F.FnMut finder (walk_of self.entry) result }
-        ensures all { FoundAll half_found_of half_span_of F.FnMut finder (walk_of self.entry) result }
+        ensures runs { StoredMatchesRun half_found_of half_span_of F.FnMut finder (iter_state_of self.entry) result }
+        ensures first { StoredMatchesFirst half_found_of half_span_of F.FnMut finder (iter_state_of self.entry) result }
+        ensures next { StoredMatchesNext half_found_of half_span_of F.FnMut finder (iter_state_of self.entry) result }
+        ensures all { StoredMatchesAll half_found_of half_span_of F.FnMut finder (iter_state_of self.entry) result }
         // They are in the span, in order and without overlap.
-        ensures apart { FoundApart half_found_of half_span_of F.FnMut (walk_of self.entry) result }
+        ensures apart { StoredMatchesDisjoint half_found_of half_span_of F.FnMut (iter_state_of self.entry) result }
         // If the finder computes h, the items are the greedy list of h.
-        ensures list { (h : Search → Answer HalfFound) → Computes half_found_of F.FnMut h finder (walk_of self.entry).at
+        ensures list { (h : Search → Answer HalfFound)
+            → Computes half_found_of F.FnMut h finder (iter_state_of self.entry).at
             → YieldsList (takes_steps half_span_of (Finds half_found_of F.FnMut) (λ _. GivesItem half_found_of))
-            (item_by half_found_of) result (greedy half_span_of h (walk_of self.entry)) }
+            (item_by half_found_of) result (greedy half_span_of h (iter_state_of self.entry)) }
     {
         TryHalfMatchesIter {
             steps: Steps {
                 searcher: self,
-                asker: OnHalfMatches { finder },
+                backend: OnHalfMatches { finder },
                 done: false,
             },
         }
@@ -88,17 +90,19 @@ impl<'h, F> TryHalfMatchesIter<'h, F> {
     ghost use Rattle.std.proofs.lemmas.Iterator.{YieldsList};
     ghost use Rattle.regex_search_core.specs.Found.{HalfFound, half_found_of};
     ghost use Rattle.regex_search_core.specs.Search.{Search, search_of};
-    ghost use Rattle.nfa_search_base.specs.Walks.{Answer, half_span_of, IsSurelyInside};
+    ghost use Rattle.nfa_search_base.specs.IterStates.{Answer, half_span_of, IsInfalliblyInside};
     ghost use Rattle.nfa_search_base.specs.Finders.{Finds, AnswersAlong, Computes};
     ghost use Rattle.nfa_search_base.specs.Items.{matches_in, greedy_unless};
     ghost use Rattle.nfa_search_base.specs.Asking.{IsCallableOn};
     ghost use Rattle.nfa_search_base.specs.Steps.{GivesItem};
-    ghost use Rattle.nfa_search_base.specs.Stored.{steps_walk, can_step_surely, takes_sure_steps};
-    ghost use Rattle.nfa_search_base.specs.StoredRuns.{SureFoundAll, SureFoundApart, SureFoundFirst, SureFoundNext, SureFoundRun};
+    ghost use Rattle.nfa_search_base.specs.Stored.{steps_iter_state, can_step_infallibly, takes_infallible_steps};
+    ghost use Rattle.nfa_search_base.specs.StoredRuns.{InfallibleMatchesAll, InfallibleMatchesDisjoint};
+    ghost use Rattle.nfa_search_base.specs.StoredRuns.{InfallibleMatchesFirst, InfallibleMatchesNext};
+    ghost use Rattle.nfa_search_base.specs.StoredRuns.{InfallibleMatchesRun};
 
     /// Returns the input of the next search.
     pub fn input(&self) -> &Input<'h>
-        ensures { search_of result.now ≡ (steps_walk self.now).at }
+        ensures { search_of result.now ≡ (steps_iter_state self.now).at }
     {
         self.steps.searcher.input()
     }
@@ -108,26 +112,32 @@ impl<'h, F> TryHalfMatchesIter<'h, F> {
     pub fn infallible(self) -> HalfMatchesIter<'h, F>
     where
         F: FnMut(&Input<'_>) -> Result<Option<HalfMatch>, SearchError>,
-        requires { AnswersAlong half_found_of F.FnMut (IsSurelyInside half_span_of) self.asker (steps_walk self).at }
-        ensures can { can_step_surely (IsCallableOn F.FnMut) (Finds half_found_of F.FnMut) half_span_of result }
+        requires { AnswersAlong half_found_of F.FnMut (IsInfalliblyInside half_span_of) self.backend
+            (steps_iter_state self).at }
+        ensures can { can_step_infallibly (IsCallableOn F.FnMut) (Finds half_found_of F.FnMut) half_span_of result }
         ensures same { result ≡ self.entry }
         // The items of each run of calls are the first matches, and all of them if the run reaches `None`.
         ensures runs { self.entry.done ≡ false
-            → SureFoundRun half_found_of half_span_of F.FnMut self.entry.asker (steps_walk self.entry) result }
+            → InfallibleMatchesRun half_found_of half_span_of F.FnMut self.entry.backend
+            (steps_iter_state self.entry) result }
         ensures first { self.entry.done ≡ false
-            → SureFoundFirst half_found_of half_span_of F.FnMut self.entry.asker (steps_walk self.entry) result }
+            → InfallibleMatchesFirst half_found_of half_span_of F.FnMut self.entry.backend
+            (steps_iter_state self.entry) result }
         ensures next { self.entry.done ≡ false
-            → SureFoundNext half_found_of half_span_of F.FnMut self.entry.asker (steps_walk self.entry) result }
+            → InfallibleMatchesNext half_found_of half_span_of F.FnMut self.entry.backend
+            (steps_iter_state self.entry) result }
         ensures all { self.entry.done ≡ false
-            → SureFoundAll half_found_of half_span_of F.FnMut self.entry.asker (steps_walk self.entry) result }
+            → InfallibleMatchesAll half_found_of half_span_of F.FnMut self.entry.backend
+            (steps_iter_state self.entry) result }
         // They are in the span, in order and without overlap.
         ensures apart { self.entry.done ≡ false
-            → SureFoundApart half_found_of half_span_of F.FnMut (steps_walk self.entry) result }
+            → InfallibleMatchesDisjoint half_found_of half_span_of F.FnMut (steps_iter_state self.entry) result }
         // If the finder computes h, the matches are those of the greedy list of h.
-        ensures list { (h : Search → Answer HalfFound) → Computes half_found_of F.FnMut h self.entry.asker
-            (steps_walk self.entry).at → YieldsList
-            (takes_sure_steps half_span_of (Finds half_found_of F.FnMut) (λ _. GivesItem half_found_of))
-            half_found_of result (matches_in (greedy_unless half_span_of self.entry.done h (steps_walk self.entry))) }
+        ensures list { (h : Search → Answer HalfFound) → Computes half_found_of F.FnMut h self.entry.backend
+            (steps_iter_state self.entry).at → YieldsList
+            (takes_infallible_steps half_span_of (Finds half_found_of F.FnMut) (λ _. GivesItem half_found_of))
+            half_found_of result (matches_in (greedy_unless half_span_of self.entry.done h
+            (steps_iter_state self.entry))) }
     {
         HalfMatchesIter { tries: self }
     }
@@ -142,7 +152,7 @@ where
     ghost use Rattle.nfa_search_base.specs.Finders.{Finds};
     ghost use Rattle.nfa_search_base.specs.Steps.{GivesItem};
     ghost use Rattle.nfa_search_base.specs.Stored.{can_step, takes_steps, steps_left};
-    ghost use Rattle.nfa_search_base.specs.Walks.{half_span_of};
+    ghost use Rattle.nfa_search_base.specs.IterStates.{half_span_of};
 
     type Item = Result<HalfMatch, SearchError>;
 
@@ -186,11 +196,11 @@ impl<'h, F> Model for HalfMatchesIter<'h, F> {
 impl<'h, F> HalfMatchesIter<'h, F> {
     ghost use Rattle.std.specs.Prelude.{◌≡◌};
     ghost use Rattle.regex_search_core.specs.Search.{search_of};
-    ghost use Rattle.nfa_search_base.specs.Stored.{steps_walk};
+    ghost use Rattle.nfa_search_base.specs.Stored.{steps_iter_state};
 
     /// Returns the input of the next search.
     pub fn input(&self) -> &Input<'h>
-        ensures { search_of result.now ≡ (steps_walk self.now).at }
+        ensures { search_of result.now ≡ (steps_iter_state self.now).at }
     {
         self.tries.input()
     }
@@ -204,16 +214,17 @@ where
     ghost use Rattle.nfa_search_base.specs.Asking.{IsCallableOn};
     ghost use Rattle.nfa_search_base.specs.Finders.{Finds};
     ghost use Rattle.nfa_search_base.specs.Steps.{GivesItem};
-    ghost use Rattle.nfa_search_base.specs.Stored.{can_step_surely, takes_sure_steps, sure_left};
-    ghost use Rattle.nfa_search_base.specs.Walks.{half_span_of};
+    ghost use Rattle.nfa_search_base.specs.Stored.{can_step_infallibly, takes_infallible_steps, infallible_left};
+    ghost use Rattle.nfa_search_base.specs.IterStates.{half_span_of};
 
     type Item = HalfMatch;
 
-    ghost can_next = { can_step_surely (IsCallableOn F.FnMut) (Finds half_found_of F.FnMut) half_span_of };
+    ghost can_next = { can_step_infallibly (IsCallableOn F.FnMut) (Finds half_found_of F.FnMut) half_span_of };
 
-    ghost next_gives = { takes_sure_steps half_span_of (Finds half_found_of F.FnMut) (λ _. GivesItem half_found_of) };
+    ghost next_gives = { takes_infallible_steps half_span_of (Finds half_found_of F.FnMut)
+        (λ _. GivesItem half_found_of) };
 
-    ghost remaining = { sure_left };
+    ghost remaining = { infallible_left };
 
     fn next(&mut self) -> Option<HalfMatch> {
         match self.tries.next() {

@@ -1,14 +1,14 @@
 //! The span of a match.
 ghost use Rattle.std.specs.Prelude.{◌≡◌, ◌≤◌};
 ghost use Rattle.std.specs.Option.{ForSome};
-ghost use Rattle.nfa_search_base.specs.Finders.{match_place, half_place};
+ghost use Rattle.nfa_search_base.specs.Finders.{match_span, half_match_span};
 
 use crate::error::SearchError;
 use regex_search_core::{HalfMatch, Match, Span};
 
 // The span of the answer's match.
 pub(crate) fn match_span(answer: Result<Option<Match>, SearchError>) -> Option<Span>
-    ensures place { result ≡ match_place answer }
+    ensures place { result ≡ match_span answer }
     ensures ordered { ForSome result (λ p. p.start ≤ p.end) }
 {
     match answer {
@@ -20,7 +20,7 @@ pub(crate) fn match_span(answer: Result<Option<Match>, SearchError>) -> Option<S
 
 // The span of the answer's half match: its offset, without bytes.
 pub(crate) fn half_match_span(answer: Result<Option<HalfMatch>, SearchError>) -> Option<Span>
-    ensures place { result ≡ half_place answer }
+    ensures place { result ≡ half_match_span answer }
     ensures ordered { ForSome result (λ p. p.start ≤ p.end) }
 {
     match answer {

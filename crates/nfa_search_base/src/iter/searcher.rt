@@ -1,23 +1,23 @@
 //! Iteration over matches step by step, with any finder.
-ghost use Rattle.nfa_search_base.specs.Behind.{IsBehind};
+ghost use Rattle.nfa_search_base.specs.LastEnd.{EndsBy};
 
 use crate::error::SearchError;
-use crate::iter::finder::Answers;
-use crate::iter::lent::{LentHalfMatches, LentMatches};
+use crate::iter::by_ref::{ByRefHalfMatches, ByRefMatches};
+use crate::iter::finder::Find;
 use crate::iter::place::match_span;
-use crate::iter::searches::Searches;
+use crate::iter::searches::FindWith;
 use regex_search_core::{HalfMatch, Input, Match, Span};
 use std::alloc::AllocError;
 
 /// An iteration over the matches of an input, which do not overlap.
 ///
 /// It keeps the input of the next search and the end of the last match, but no finder: each step takes one. A contract
-/// sees it as `walk_of`. Copying it allocates nothing.
+/// sees it as `iter_state_of`. Copying it allocates nothing.
 #[derive(Debug, Drop)]
 pub struct Searcher<'h> {
     input: Input<'h>,
     last_match_end: Option<usize>,
-    pub ghost behind: { IsBehind last_match_end input.span.start },
+    pub ghost behind: { EndsBy last_match_end input.span.start },
 }
 
 /// The result of offering an answer to a [`Searcher`].
@@ -50,10 +50,12 @@ impl<'h> Searcher<'h> {
     ghost use Rattle.std.specs.Option.{ForSome};
     ghost use Rattle.regex_search_core.specs.Search.{search_of};
     ghost use Rattle.nfa_search_base.specs.Asking.{SameButStart};
-    ghost use Rattle.nfa_search_base.specs.Walks.{AnswerIsInside, fresh, shifted, after, repeats, LiesIn, IsPast, ComesAfter, LeavesFewer};
-    ghost use Rattle.nfa_search_base.specs.Finders.{match_place, half_place, FindsStep, FindsStepSurely, StepsBy, FindsHalfStep, FindsHalfStepSurely, HalfStepsBy};
-    ghost use Rattle.nfa_search_base.specs.Searchers.{walk_of, offered_place, OfferGives, IsDone};
-    ghost use Rattle.nfa_search_base.specs.Serving.{ServesTurn, StepDone};
+    ghost use Rattle.nfa_search_base.specs.IterStates.{AnswerIsInside, fresh, shifted, after, repeats, LiesIn, IsPast};
+    ghost use Rattle.nfa_search_base.specs.IterStates.{ComesAfter, LeavesFewer};
+    ghost use Rattle.nfa_search_base.specs.Finders.{match_span, half_match_span, FindsStep, FindsStepInfallibly};
+    ghost use Rattle.nfa_search_base.specs.Finders.{StepsBy, FindsHalfStep, FindsHalfStepInfallibly, HalfStepsBy};
+    ghost use Rattle.nfa_search_base.specs.Searchers.{iter_state_of, offered_span, OfferGives, IsDone};
+    ghost use Rattle.nfa_search_base.specs.Serving.{ServesAdvance, StepDone};
 
     /// Makes an iteration over the matches of this input, before its first match.
     ///
@@ -62,7 +64,7 @@ impl<'h> Searcher<'h> {
     /// assert_eq!(rt; searcher.input().get_range(), 0..10);
     /// ```
     pub fn new(input: Input<'h>) -> Searcher<'h>
-        ensures { walk_of result ≡ fresh (search_of input.entry) }
+        ensures { iter_state_of result ≡ fresh (search_of input.entry) }
     {
         Searcher {
             input,
@@ -80,7 +82,7 @@ impl<'h> Searcher<'h> {
     /// assert_eq!(rt; searcher.input().get_range(), 4..10);
     /// ```
     pub fn input(&self) -> &Input<'h>
-        ensures { search_of result.now ≡ (walk_of self.now).at }
+        ensures { search_of result.now ≡ (iter_state_of self.now).at }
     {
         &self.input
     }
@@ -100,13 +102,13 @@ impl<'h> Searcher<'h> {
     /// assert_eq!(rt; searcher.offer(empty), Offered::Again);
     /// ```
     pub fn offer(&mut self, answer: Option<Match>) -> Offered
-        requires { LiesIn (walk_of self.old).at (match_place (Ok answer)) }
-        ensures gives { OfferGives (walk_of self.old) answer result (walk_of self.new) }
+        requires { LiesIn (iter_state_of self.old).at (match_span (Ok answer)) }
+        ensures gives { OfferGives (iter_state_of self.old) answer result (iter_state_of self.new) }
         // The answer after an `Again` is done.
-        ensures once { IsPast (walk_of self.old) → IsDone result }
-        ensures rises { ComesAfter (walk_of self.old) (offered_place result) }
-        ensures fewer { LeavesFewer (walk_of self.old) (offered_place result) (walk_of self.new) }
-        ensures same { SameButStart (walk_of self.old).at (walk_of self.new).at }
+        ensures once { IsPast (iter_state_of self.old) → IsDone result }
+        ensures rises { ComesAfter (iter_state_of self.old) (offered_span result) }
+        ensures fewer { LeavesFewer (iter_state_of self.old) (offered_span result) (iter_state_of self.new) }
+        ensures same { SameButStart (iter_state_of self.old).at (iter_state_of self.new).at }
     {
         let place = match_span(Ok(answer));
         if self.moves_on(place) {
@@ -136,12 +138,13 @@ impl<'h> Searcher<'h> {
     pub fn try_advance<F>(&mut self, finder: F) -> Result<Option<Match>, SearchError>
     where
         F: FnMut(&Input<'_>) -> Result<Option<Match>, SearchError>,
-        requires { FindsStep F.FnMut finder (walk_of self.old) }
-        ensures step { (left : F) × StepsBy F.FnMut finder (walk_of self.old) result left (walk_of self.new) }
-        ensures inside { LiesIn (walk_of self.old).at (match_place result) }
-        ensures rises { ComesAfter (walk_of self.old) (match_place result) }
-        ensures fewer { LeavesFewer (walk_of self.old) (match_place result) (walk_of self.new) }
-        ensures same { SameButStart (walk_of self.old).at (walk_of self.new).at }
+        requires { FindsStep F.FnMut finder (iter_state_of self.old) }
+        ensures step { (left : F) × StepsBy F.FnMut finder (iter_state_of self.old) result left
+            (iter_state_of self.new) }
+        ensures inside { LiesIn (iter_state_of self.old).at (match_span result) }
+        ensures rises { ComesAfter (iter_state_of self.old) (match_span result) }
+        ensures fewer { LeavesFewer (iter_state_of self.old) (match_span result) (iter_state_of self.new) }
+        ensures same { SameButStart (iter_state_of self.old).at (iter_state_of self.new).at }
     {
         let mut finder = finder;
         self.try_advance_by_ref(&mut finder)
@@ -160,14 +163,14 @@ impl<'h> Searcher<'h> {
     pub fn try_advance_by_ref<F>(&mut self, finder: &mut F) -> Result<Option<Match>, SearchError>
     where
         F: FnMut(&Input<'_>) -> Result<Option<Match>, SearchError>,
-        requires { FindsStep F.FnMut finder.old (walk_of self.old) }
-        ensures step { StepsBy F.FnMut finder.old (walk_of self.old) result finder.new (walk_of self.new) }
-        ensures inside { LiesIn (walk_of self.old).at (match_place result) }
-        ensures rises { ComesAfter (walk_of self.old) (match_place result) }
-        ensures fewer { LeavesFewer (walk_of self.old) (match_place result) (walk_of self.new) }
-        ensures same { SameButStart (walk_of self.old).at (walk_of self.new).at }
+        requires { FindsStep F.FnMut finder.old (iter_state_of self.old) }
+        ensures step { StepsBy F.FnMut finder.old (iter_state_of self.old) result finder.new (iter_state_of self.new) }
+        ensures inside { LiesIn (iter_state_of self.old).at (match_span result) }
+        ensures rises { ComesAfter (iter_state_of self.old) (match_span result) }
+        ensures fewer { LeavesFewer (iter_state_of self.old) (match_span result) (iter_state_of self.new) }
+        ensures same { SameButStart (iter_state_of self.old).at (iter_state_of self.new).at }
     {
-        self.step_with(&mut LentMatches::new(), finder)
+        self.step_with(&mut ByRefMatches::new(), finder)
     }
 
     /// Returns the next match of a finder that never fails, by the step of [`Searcher::try_advance`]. Requires also
@@ -182,12 +185,13 @@ impl<'h> Searcher<'h> {
     pub fn advance<F>(&mut self, finder: F) -> Option<Match>
     where
         F: FnMut(&Input<'_>) -> Result<Option<Match>, SearchError>,
-        requires { FindsStepSurely F.FnMut finder (walk_of self.old) }
-        ensures step { (left : F) × StepsBy F.FnMut finder (walk_of self.old) (Ok result) left (walk_of self.new) }
-        ensures inside { LiesIn (walk_of self.old).at (match_place (Ok result)) }
-        ensures rises { ComesAfter (walk_of self.old) (match_place (Ok result)) }
-        ensures fewer { LeavesFewer (walk_of self.old) (match_place (Ok result)) (walk_of self.new) }
-        ensures same { SameButStart (walk_of self.old).at (walk_of self.new).at }
+        requires { FindsStepInfallibly F.FnMut finder (iter_state_of self.old) }
+        ensures step { (left : F) × StepsBy F.FnMut finder (iter_state_of self.old) (Ok result) left
+            (iter_state_of self.new) }
+        ensures inside { LiesIn (iter_state_of self.old).at (match_span (Ok result)) }
+        ensures rises { ComesAfter (iter_state_of self.old) (match_span (Ok result)) }
+        ensures fewer { LeavesFewer (iter_state_of self.old) (match_span (Ok result)) (iter_state_of self.new) }
+        ensures same { SameButStart (iter_state_of self.old).at (iter_state_of self.new).at }
     {
         let mut finder = finder;
         self.advance_by_ref(&mut finder)
@@ -206,12 +210,13 @@ impl<'h> Searcher<'h> {
     pub fn advance_by_ref<F>(&mut self, finder: &mut F) -> Option<Match>
     where
         F: FnMut(&Input<'_>) -> Result<Option<Match>, SearchError>,
-        requires { FindsStepSurely F.FnMut finder.old (walk_of self.old) }
-        ensures step { StepsBy F.FnMut finder.old (walk_of self.old) (Ok result) finder.new (walk_of self.new) }
-        ensures inside { LiesIn (walk_of self.old).at (match_place (Ok result)) }
-        ensures rises { ComesAfter (walk_of self.old) (match_place (Ok result)) }
-        ensures fewer { LeavesFewer (walk_of self.old) (match_place (Ok result)) (walk_of self.new) }
-        ensures same { SameButStart (walk_of self.old).at (walk_of self.new).at }
+        requires { FindsStepInfallibly F.FnMut finder.old (iter_state_of self.old) }
+        ensures step { StepsBy F.FnMut finder.old (iter_state_of self.old) (Ok result) finder.new
+            (iter_state_of self.new) }
+        ensures inside { LiesIn (iter_state_of self.old).at (match_span (Ok result)) }
+        ensures rises { ComesAfter (iter_state_of self.old) (match_span (Ok result)) }
+        ensures fewer { LeavesFewer (iter_state_of self.old) (match_span (Ok result)) (iter_state_of self.new) }
+        ensures same { SameButStart (iter_state_of self.old).at (iter_state_of self.new).at }
     {
         match self.try_advance_by_ref(finder) {
             Ok(found) => found,
@@ -235,12 +240,13 @@ impl<'h> Searcher<'h> {
     pub fn try_advance_half<F>(&mut self, finder: F) -> Result<Option<HalfMatch>, SearchError>
     where
         F: FnMut(&Input<'_>) -> Result<Option<HalfMatch>, SearchError>,
-        requires { FindsHalfStep F.FnMut finder (walk_of self.old) }
-        ensures step { (left : F) × HalfStepsBy F.FnMut finder (walk_of self.old) result left (walk_of self.new) }
-        ensures inside { LiesIn (walk_of self.old).at (half_place result) }
-        ensures rises { ComesAfter (walk_of self.old) (half_place result) }
-        ensures fewer { LeavesFewer (walk_of self.old) (half_place result) (walk_of self.new) }
-        ensures same { SameButStart (walk_of self.old).at (walk_of self.new).at }
+        requires { FindsHalfStep F.FnMut finder (iter_state_of self.old) }
+        ensures step { (left : F) × HalfStepsBy F.FnMut finder (iter_state_of self.old) result left
+            (iter_state_of self.new) }
+        ensures inside { LiesIn (iter_state_of self.old).at (half_match_span result) }
+        ensures rises { ComesAfter (iter_state_of self.old) (half_match_span result) }
+        ensures fewer { LeavesFewer (iter_state_of self.old) (half_match_span result) (iter_state_of self.new) }
+        ensures same { SameButStart (iter_state_of self.old).at (iter_state_of self.new).at }
     {
         let mut finder = finder;
         self.try_advance_half_by_ref(&mut finder)
@@ -263,14 +269,15 @@ impl<'h> Searcher<'h> {
     ) -> Result<Option<HalfMatch>, SearchError>
     where
         F: FnMut(&Input<'_>) -> Result<Option<HalfMatch>, SearchError>,
-        requires { FindsHalfStep F.FnMut finder.old (walk_of self.old) }
-        ensures step { HalfStepsBy F.FnMut finder.old (walk_of self.old) result finder.new (walk_of self.new) }
-        ensures inside { LiesIn (walk_of self.old).at (half_place result) }
-        ensures rises { ComesAfter (walk_of self.old) (half_place result) }
-        ensures fewer { LeavesFewer (walk_of self.old) (half_place result) (walk_of self.new) }
-        ensures same { SameButStart (walk_of self.old).at (walk_of self.new).at }
+        requires { FindsHalfStep F.FnMut finder.old (iter_state_of self.old) }
+        ensures step { HalfStepsBy F.FnMut finder.old (iter_state_of self.old) result finder.new
+            (iter_state_of self.new) }
+        ensures inside { LiesIn (iter_state_of self.old).at (half_match_span result) }
+        ensures rises { ComesAfter (iter_state_of self.old) (half_match_span result) }
+        ensures fewer { LeavesFewer (iter_state_of self.old) (half_match_span result) (iter_state_of self.new) }
+        ensures same { SameButStart (iter_state_of self.old).at (iter_state_of self.new).at }
     {
-        self.step_with(&mut LentHalfMatches::new(), finder)
+        self.step_with(&mut ByRefHalfMatches::new(), finder)
     }
 
     /// Returns the next half match of a finder that never fails, by the step of [`Searcher::try_advance_half`].
@@ -285,12 +292,13 @@ impl<'h> Searcher<'h> {
     pub fn advance_half<F>(&mut self, finder: F) -> Option<HalfMatch>
     where
         F: FnMut(&Input<'_>) -> Result<Option<HalfMatch>, SearchError>,
-        requires { FindsHalfStepSurely F.FnMut finder (walk_of self.old) }
-        ensures step { (left : F) × HalfStepsBy F.FnMut finder (walk_of self.old) (Ok result) left (walk_of self.new) }
-        ensures inside { LiesIn (walk_of self.old).at (half_place (Ok result)) }
-        ensures rises { ComesAfter (walk_of self.old) (half_place (Ok result)) }
-        ensures fewer { LeavesFewer (walk_of self.old) (half_place (Ok result)) (walk_of self.new) }
-        ensures same { SameButStart (walk_of self.old).at (walk_of self.new).at }
+        requires { FindsHalfStepInfallibly F.FnMut finder (iter_state_of self.old) }
+        ensures step { (left : F) × HalfStepsBy F.FnMut finder (iter_state_of self.old) (Ok result) left
+            (iter_state_of self.new) }
+        ensures inside { LiesIn (iter_state_of self.old).at (half_match_span (Ok result)) }
+        ensures rises { ComesAfter (iter_state_of self.old) (half_match_span (Ok result)) }
+        ensures fewer { LeavesFewer (iter_state_of self.old) (half_match_span (Ok result)) (iter_state_of self.new) }
+        ensures same { SameButStart (iter_state_of self.old).at (iter_state_of self.new).at }
     {
         let mut finder = finder;
         self.advance_half_by_ref(&mut finder)
@@ -309,12 +317,13 @@ impl<'h> Searcher<'h> {
     pub fn advance_half_by_ref<F>(&mut self, finder: &mut F) -> Option<HalfMatch>
     where
         F: FnMut(&Input<'_>) -> Result<Option<HalfMatch>, SearchError>,
-        requires { FindsHalfStepSurely F.FnMut finder.old (walk_of self.old) }
-        ensures step { HalfStepsBy F.FnMut finder.old (walk_of self.old) (Ok result) finder.new (walk_of self.new) }
-        ensures inside { LiesIn (walk_of self.old).at (half_place (Ok result)) }
-        ensures rises { ComesAfter (walk_of self.old) (half_place (Ok result)) }
-        ensures fewer { LeavesFewer (walk_of self.old) (half_place (Ok result)) (walk_of self.new) }
-        ensures same { SameButStart (walk_of self.old).at (walk_of self.new).at }
+        requires { FindsHalfStepInfallibly F.FnMut finder.old (iter_state_of self.old) }
+        ensures step { HalfStepsBy F.FnMut finder.old (iter_state_of self.old) (Ok result) finder.new
+            (iter_state_of self.new) }
+        ensures inside { LiesIn (iter_state_of self.old).at (half_match_span (Ok result)) }
+        ensures rises { ComesAfter (iter_state_of self.old) (half_match_span (Ok result)) }
+        ensures fewer { LeavesFewer (iter_state_of self.old) (half_match_span (Ok result)) (iter_state_of self.new) }
+        ensures same { SameButStart (iter_state_of self.old).at (iter_state_of self.new).at }
     {
         match self.try_advance_half_by_ref(finder) {
             Ok(found) => found,
@@ -323,40 +332,47 @@ impl<'h> Searcher<'h> {
     }
 
     // Takes a step with a finder of the iteration.
-    pub(crate) fn step_by<A: Answers>(&mut self, asker: &mut A) -> A::Reply
-        requires { ServesTurn A.accepts A.asks A.span (AnswerIsInside A.span) asker.old (walk_of self.old) }
-        ensures { StepDone A.accepts A.asks A.span asker.old (walk_of self.old) (A.shows asker.new result) asker.new
-            (walk_of self.new) }
+    pub(crate) fn step_by<A: Find>(&mut self, backend: &mut A) -> A::Reply
+        requires { ServesAdvance A.accepts A.asks A.span (AnswerIsInside A.span) backend.old (iter_state_of self.old) }
+        ensures { StepDone A.accepts A.asks A.span backend.old (iter_state_of self.old) (A.shows backend.new result)
+            backend.new
+            (iter_state_of self.new) }
     {
-        let first = asker.answer(&self.input);
-        let place = asker.place(first);
+        let first = backend.answer(&self.input);
+        let place = backend.place(first);
         if !self.moves_on(place) {
             self.take(place);
             return first;
         }
-        let second = asker.answer(&self.input);
-        let place = asker.place(second);
+        let second = backend.answer(&self.input);
+        let place = backend.place(second);
         self.take(place);
         second
     }
 
     // Takes the same step, with a cache that is borrowed for each search.
     #[inline]
-    pub(crate) fn step_with<A: Searches>(&mut self, asker: &mut A, cache: &mut A::Cache) -> A::Reply
-        requires { ServesTurn A.accepts A.asks A.span (AnswerIsInside A.span)
-            (record { asker = asker.old; cache = cache.old })
-            (walk_of self.old) }
-        ensures { StepDone A.accepts A.asks A.span (record { asker = asker.old; cache = cache.old }) (walk_of self.old)
-            (A.shows asker.new result) (record { asker = asker.new; cache = cache.new }) (walk_of self.new) }
+    pub(crate) fn step_with<A: FindWith>(
+        &mut self,
+        backend: &mut A,
+        cache: &mut A::Cache,
+    ) -> A::Reply
+        requires { ServesAdvance A.accepts A.asks A.span (AnswerIsInside A.span)
+            (record { backend = backend.old; cache = cache.old })
+            (iter_state_of self.old) }
+        ensures { StepDone A.accepts A.asks A.span (record { backend = backend.old; cache = cache.old })
+            (iter_state_of self.old)
+            (A.shows backend.new result) (record { backend = backend.new; cache = cache.new })
+            (iter_state_of self.new) }
     {
-        let once = asker.answer(cache, &self.input);
-        let place = asker.place(once);
+        let once = backend.answer(cache, &self.input);
+        let place = backend.place(once);
         if !self.moves_on(place) {
             self.take(place);
             return once;
         }
-        let twice = asker.answer(cache, &self.input);
-        let place = asker.place(twice);
+        let twice = backend.answer(cache, &self.input);
+        let place = backend.place(twice);
         self.take(place);
         twice
     }
@@ -364,10 +380,11 @@ impl<'h> Searcher<'h> {
     // Returns whether the match is an empty one at the last end, and if so moves the start one byte on.
     #[inline]
     fn moves_on(&mut self, place: Option<Span>) -> bool
-        requires { LiesIn (walk_of self.old).at place }
-        ensures test { result ≡ repeats (walk_of self.old) place }
-        ensures moved { IsTrue result → (walk_of self.new ≡ shifted (walk_of self.old)) × IsPast (walk_of self.new) }
-        ensures stays { result ≡ false → walk_of self.new ≡ walk_of self.old }
+        requires { LiesIn (iter_state_of self.old).at place }
+        ensures test { result ≡ repeats (iter_state_of self.old) place }
+        ensures moved { IsTrue result → (iter_state_of self.new ≡ shifted (iter_state_of self.old))
+            × IsPast (iter_state_of self.new) }
+        ensures stays { result ≡ false → iter_state_of self.new ≡ iter_state_of self.old }
     {
         let again = match place {
             Some(span) => span.start == span.end && self.last_match_end == Some(span.end),
@@ -383,9 +400,9 @@ impl<'h> Searcher<'h> {
     // Takes an answer as it is.
     #[inline]
     fn take(&mut self, place: Option<Span>)
-        requires inside { LiesIn (walk_of self.old).at place }
+        requires inside { LiesIn (iter_state_of self.old).at place }
         requires ordered { ForSome place (λ p. p.start ≤ p.end) }
-        ensures { walk_of self.new ≡ after (walk_of self.old) place }
+        ensures { iter_state_of self.new ≡ after (iter_state_of self.old) place }
     {
         if let Some(span) = place {
             self.input.set_start(span.end);

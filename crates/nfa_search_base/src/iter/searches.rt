@@ -3,9 +3,9 @@ ghost use Rattle.std.specs.Prelude.{◌≡◌, ◌≤◌, Option, Result};
 ghost use Rattle.std.specs.Option.{ForSome};
 ghost use Rattle.regex_search_core.specs.Search.{Search, search_of};
 ghost use Rattle.regex_search_core.specs.declared.search.Span.{Span};
-ghost use Rattle.nfa_search_base.specs.Lending.{With};
+ghost use Rattle.nfa_search_base.specs.WithCache.{WithCache};
 ghost use Rattle.nfa_search_base.specs.Steps.{ComesOfMatch};
-ghost use Rattle.nfa_search_base.specs.Walks.{Answer, place_of};
+ghost use Rattle.nfa_search_base.specs.IterStates.{Answer, answer_span};
 ghost use Rattle.nfa_search_base.specs.declared.error.SearchError.{SearchError};
 
 use crate::error::SearchError;
@@ -13,7 +13,7 @@ use regex_search_core::{Input, Span};
 
 /// An engine that answers the searches of an iteration, with a cache that is borrowed for each search. Engines build
 /// their iterators on it. Callers of an engine do not need it.
-pub trait Searches: Drop {
+pub trait FindWith: Drop {
     /// What is borrowed for each search.
     type Cache;
 
@@ -29,7 +29,7 @@ pub trait Searches: Drop {
     ghost span: { Value → Span };
 
     // This search may be made with this cache.
-    ghost accepts: { With Self Self.Cache → Search → Type 0 };
+    ghost accepts: { WithCache Self Self.Cache → Search → Type 0 };
 
     /// The item of an iterator.
     type Item;
@@ -38,17 +38,17 @@ pub trait Searches: Drop {
     ghost gives: { Self → Answer Value → Option (Result Self.Item SearchError) → Type 0 };
 
     // This search may give this answer and leave this state.
-    ghost asks: { With Self Self.Cache → Search → Answer Value → With Self Self.Cache → Type 0 };
+    ghost asks: { WithCache Self Self.Cache → Search → Answer Value → WithCache Self Self.Cache → Type 0 };
 
     /// Searches the input.
     fn answer(&mut self, cache: &mut Self::Cache, input: &Input<'_>) -> Self::Reply
-        requires { accepts (record { asker = self.old; cache = cache.old }) (search_of input.now) }
-        ensures { asks (record { asker = self.old; cache = cache.old }) (search_of input.now) (shows self.new result)
-            (record { asker = self.new; cache = cache.new }) };
+        requires { accepts (record { backend = self.old; cache = cache.old }) (search_of input.now) }
+        ensures { asks (record { backend = self.old; cache = cache.old }) (search_of input.now) (shows self.new result)
+            (record { backend = self.new; cache = cache.new }) };
 
     /// Returns the span of the answer's match.
     fn place(&self, reply: Self::Reply) -> Option<Span>
-        ensures place { result ≡ place_of span (shows self.now reply) }
+        ensures place { result ≡ answer_span span (shows self.now reply) }
         ensures ordered { ForSome result (λ p. p.start ≤ p.end) };
 
     /// Returns the item of the answer.

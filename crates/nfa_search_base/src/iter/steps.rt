@@ -3,9 +3,9 @@ ghost use Rattle.std.specs.Prelude.{◌≡◌};
 ghost use Rattle.nfa_search_base.specs.Steps.{ends_at};
 
 use crate::error::SearchError;
-use crate::iter::finder::Answers;
+use crate::iter::finder::Find;
 use crate::iter::searcher::Searcher;
-use crate::iter::searches::Searches;
+use crate::iter::searches::FindWith;
 use regex_search_core::Input;
 use std::alloc::Global;
 
@@ -17,29 +17,29 @@ pub struct Steps<'h, A> {
     /// The state of the iteration.
     pub searcher: Searcher<'h>,
     /// The finder or engine that answers its searches.
-    pub asker: A,
+    pub backend: A,
     /// Whether it has ended.
     pub done: bool,
 }
 
-impl<'h, A: Searches> Steps<'h, A> {
+impl<'h, A: FindWith> Steps<'h, A> {
     ghost use Rattle.std.specs.Prelude.{◌⊎◌, false, IfErr, IfOk};
     ghost use Rattle.regex_search_core.specs.Search.{search_of};
     ghost use Rattle.nfa_search_base.specs.Drained.{CallsLead, DrainsAll, DrainsToError};
-    ghost use Rattle.nfa_search_base.specs.Lending.{lend};
-    ghost use Rattle.nfa_search_base.specs.Stored.{can_step, steps_walk, takes_steps};
-    ghost use Rattle.nfa_search_base.specs.Walks.{fresh};
+    ghost use Rattle.nfa_search_base.specs.WithCache.{with_cache};
+    ghost use Rattle.nfa_search_base.specs.Stored.{can_step, steps_iter_state, takes_steps};
+    ghost use Rattle.nfa_search_base.specs.IterStates.{fresh};
 
     /// Makes an iteration over this input that has not begun.
     #[inline]
-    pub fn new(input: Input<'h>, asker: A) -> Steps<'h, A>
-        ensures walk { steps_walk result ≡ fresh (search_of input.entry) }
-        ensures asker { result.asker ≡ asker }
+    pub fn new(input: Input<'h>, backend: A) -> Steps<'h, A>
+        ensures walk { steps_iter_state result ≡ fresh (search_of input.entry) }
+        ensures backend { result.backend ≡ backend }
         ensures going { result.done ≡ false }
     {
         Steps {
             searcher: Searcher::new(input),
-            asker,
+            backend,
             done: false,
         }
     }
@@ -48,15 +48,15 @@ impl<'h, A: Searches> Steps<'h, A> {
     /// after any earlier searches, and answers a match in its span.
     #[inline]
     pub fn next_with(&mut self, cache: &mut A::Cache) -> Option<Result<A::Item, SearchError>>
-        requires { can_step A.accepts A.asks A.span (lend self.old cache.old) }
-        ensures { takes_steps A.span A.asks (λ q. A.gives q.asker) (lend self.old cache.old) result
-            (lend self.new cache.new) }
+        requires { can_step A.accepts A.asks A.span (with_cache self.old cache.old) }
+        ensures { takes_steps A.span A.asks (λ q. A.gives q.backend) (with_cache self.old cache.old) result
+            (with_cache self.new cache.new) }
     {
         if self.done {
             return None;
         }
-        let reply = self.searcher.step_with(&mut self.asker, cache);
-        let given = self.asker.item(reply);
+        let reply = self.searcher.step_with(&mut self.backend, cache);
+        let given = self.backend.item(reply);
         self.done = is_last(&given);
         given
     }
@@ -70,14 +70,14 @@ impl<'h, A: Searches> Steps<'h, A> {
     ) -> Result<Vec<A::Item>, SearchError>
     where
         A::Item: Drop,
-        requires { can_step A.accepts A.asks A.span (lend self.old cache.old) }
-        ensures all { IfOk result (λ all. DrainsAll (takes_steps A.span A.asks (λ q. A.gives q.asker))
-            (lend self.old cache.old) all.items (lend self.new cache.new)) }
+        requires { can_step A.accepts A.asks A.span (with_cache self.old cache.old) }
+        ensures all { IfOk result (λ all. DrainsAll (takes_steps A.span A.asks (λ q. A.gives q.backend))
+            (with_cache self.old cache.old) all.items (with_cache self.new cache.new)) }
         ensures errors { IfErr result (λ error. (error ≡ SearchError.Memory)
-            ⊎ DrainsToError (takes_steps A.span A.asks (λ q. A.gives q.asker)) (lend self.old cache.old) error
-            (lend self.new cache.new)) }
-        ensures calls { CallsLead (takes_steps A.span A.asks (λ q. A.gives q.asker)) (lend self.old cache.old)
-            (lend self.new cache.new) }
+            ⊎ DrainsToError (takes_steps A.span A.asks (λ q. A.gives q.backend)) (with_cache self.old cache.old) error
+            (with_cache self.new cache.new)) }
+        ensures calls { CallsLead (takes_steps A.span A.asks (λ q. A.gives q.backend)) (with_cache self.old cache.old)
+            (with_cache self.new cache.new) }
     {
         let mut all = Vec::new(alloc);
         while let Some(item) = self.next_with(cache) {
@@ -98,7 +98,7 @@ fn is_last<T>(item: &Option<Result<T, SearchError>>) -> bool
     }
 }
 
-impl<'h, A: Answers> Iterator for Steps<'h, A> {
+impl<'h, A: Find> Iterator for Steps<'h, A> {
     ghost use Rattle.nfa_search_base.specs.Stored.{steps_left, can_step, takes_steps};
 
     type Item = Result<A::Item, SearchError>;
@@ -113,8 +113,8 @@ impl<'h, A: Answers> Iterator for Steps<'h, A> {
         if self.done {
             return None;
         }
-        let reply = self.searcher.step_by(&mut self.asker);
-        let item = self.asker.item(reply);
+        let reply = self.searcher.step_by(&mut self.backend);
+        let item = self.backend.item(reply);
         self.done = is_last(&item);
         item
     }

@@ -1,7 +1,7 @@
 -- What was picked so far is what matches of the lines so far.
 use Rattle.std.proofs.Common.{◌≡◌, take}
 use Rattle.std.specs.List.{filter}
-use Rattle.nfa_choice.specs.Choosing.{KeepsEngines}
+use Rattle.nfa_choice.specs.ChoiceState.{KeepsEngines}
 use Rattle.callers.specs.Finding.{matches}
 use Rattle.callers.proofs.lines.matching.Given as goal
 

@@ -2,7 +2,7 @@
 use Rattle.std.proofs.Common.{◌≡◌, take}
 use Rattle.std.specs.List.{count_by}
 use Rattle.nfa_engines.specs.Search.{whole}
-use Rattle.nfa_choice.specs.Choosing.{KeepsEngines, finds_in}
+use Rattle.nfa_choice.specs.ChoiceState.{KeepsEngines, finds_in}
 use Rattle.callers.proofs.texts.count_matching.Given as goal
 
 abbrev pub invariant-loop-text : goal.invariant-loop-text

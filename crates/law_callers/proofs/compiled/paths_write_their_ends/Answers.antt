@@ -4,5 +4,5 @@ use Rattle.law_callers.proofs.compiled.paths_write_their_ends.Goals as goal
 
 pub returns : goal.returns
 returns c =
-    c.bounds_are_written.ensures c.args.vm.now.nfa (search_of c.args.input.now)
+    c.match_spans_are_written.ensures c.args.vm.now.nfa (search_of c.args.input.now)
     (c.compiled_nfas_record_bounds.ensures.texts _ _ c.args.vm.now.nfa c.requires)

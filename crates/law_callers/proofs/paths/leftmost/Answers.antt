@@ -3,7 +3,7 @@ use Rattle.std.proofs.Common.{Bool, refl, None, Some}
 use Rattle.nfa_engines.specs.Found.{found_of}
 use Rattle.nfa_engines.specs.Search.{search_of}
 use Rattle.nfa_engines.specs.MatchKind.{MatchKind}
-use Rattle.nfa_engines.specs.Paths.{IsMatchAnswer}
+use Rattle.nfa_engines.specs.Paths.{IsFindAnswer}
 use Rattle.law_callers.proofs.KindLemmas.{as_leftmost}
 use Rattle.law_callers.proofs.paths.leftmost.Goals as goal
 
@@ -13,7 +13,7 @@ returns-in-Some-clause-start c =
     let found = Some (found_of c.in-Some.found) in
     c.no_gap.ensures.start c.args.vm.now.nfa x found
     (rw (← c.get_nfa.ensures) c.pattern_len.ensures.valid) c.requires.anywhere c.requires.writes
-    (as_leftmost (λ (kind : MatchKind) (earliest : Bool). IsMatchAnswer c.args.vm.now.nfa kind earliest x found)
+    (as_leftmost (λ (kind : MatchKind) (earliest : Bool). IsFindAnswer c.args.vm.now.nfa kind earliest x found)
     _ x.earliest c.requires.kind c.requires.off c.in-Some.ensures.answer)
 
 pub returns-in-None-clause-none : goal.returns-in-None-clause-none
@@ -21,6 +21,6 @@ returns-in-None-clause-none c = λ none.
     let x = search_of c.args.input in record {
       no_path = (c.no_gap.ensures.none c.args.vm.now.nfa x None
           (rw (← c.get_nfa.ensures) c.pattern_len.ensures.valid) c.requires.anywhere c.requires.writes
-          (as_leftmost (λ (kind : MatchKind) (earliest : Bool). IsMatchAnswer c.args.vm.now.nfa kind earliest x None)
+          (as_leftmost (λ (kind : MatchKind) (earliest : Bool). IsFindAnswer c.args.vm.now.nfa kind earliest x None)
           _ x.earliest c.requires.kind c.requires.off c.in-None.ensures.answer)).0 refl;
     }

@@ -1,7 +1,7 @@
 -- A position with a byte that no match begins with is skipped.
 use Rattle.std.proofs.Common.{◌<◌, ◌≤◌, length, get_or, arith}
 use Rattle.nfa_engines.specs.Search.{search_of}
-use Rattle.law_callers.proofs.PlaceLemmas.{read-inside}
+use Rattle.law_callers.proofs.PathStateLemmas.{read-inside}
 use Rattle.law_callers.proofs.places.first_candidate.Goals as goal
 
 pub loop-at-preserved : goal.loop-at-preserved

@@ -7,7 +7,7 @@ use Rattle.nfa_engines.specs.Engines.{kind_of}
 use Rattle.nfa_engines.specs.Paths.{IsAnswer}
 use Rattle.nfa_engines.specs.StartLaws.{anchored_at}
 use Rattle.law_callers.proofs.KindLemmas.{as_leftmost}
-use Rattle.law_callers.proofs.PlaceLemmas.{answer_of}
+use Rattle.law_callers.proofs.PathStateLemmas.{answer_of}
 use Rattle.law_callers.proofs.places.found_at_candidate.Goals as goal
 
 pub returns-in-Some : goal.returns-in-Some

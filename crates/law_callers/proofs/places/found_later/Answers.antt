@@ -4,7 +4,7 @@ use Rattle.nfa_engines.specs.Found.{found_of}
 use Rattle.nfa_engines.specs.Search.{search_of}
 use Rattle.nfa_engines.specs.Engines.{kind_of}
 use Rattle.nfa_engines.specs.StartLaws.{from_start}
-use Rattle.law_callers.proofs.PlaceLemmas.{match_of_search}
+use Rattle.law_callers.proofs.PathStateLemmas.{match_of_search}
 use Rattle.law_callers.proofs.places.found_later.Goals as goal
 
 pub returns : goal.returns

@@ -25,7 +25,8 @@ same-none f (Some x) = refl
 pub returns-clause-printed : goal.returns-clause-printed
 returns-clause-printed g c = λ res meant.
     let lexed = c.in_ok-lexed.lexed in
-    let P : List ℕ → Type 0 = λ l. Appends (g.W.Write.contents c.args.out.now) (g.W.Write.contents c.write_lexed.new.out) l in
+    let P : List ℕ → Type 0 = λ l. Appends (g.W.Write.contents c.args.out.now)
+    (g.W.Write.contents c.write_lexed.new.out) l in
     subst P (lines-are c.args.rules.now res c.args.text.now lexed.tokens.items lexed.stuck
     (c.in_ok-lexed.ensures.meant _ res c.requires meant)) c.in_ok-write_lexed.ensures
 

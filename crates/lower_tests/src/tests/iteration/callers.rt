@@ -2,15 +2,15 @@
 ghost use Rattle.std.specs.Prelude.{◌≡◌, [], ◌∷◌, Some, Ok, IfOk, IsTrue, map};
 ghost use Rattle.regex_search_core.specs.Found.{found_of, half_found_of};
 ghost use Rattle.regex_search_core.specs.Search.{search_of, whole};
-ghost use Rattle.nfa_search_base.specs.Catching.{CatchesAlong, UpToRefusal, caught_by, row_of, row_span};
-ghost use Rattle.nfa_search_base.specs.CaughtLists.{AreAllCaught};
+ghost use Rattle.nfa_search_base.specs.WithCaptures.{FillsAlong, UpToRefusal, filled_answer, row_of, row_span};
+ghost use Rattle.nfa_search_base.specs.CapturesLists.{AreAllStoredCaptures};
 ghost use Rattle.lower_tests.specs.EmptyFinder.{EmptyTells, empty_answer, zero_row};
 ghost use Rattle.nfa_search_base.specs.Finders.{AnswersAlong, answer_by};
 ghost use Rattle.nfa_search_base.specs.Items.{item_by, greedy};
-ghost use Rattle.nfa_search_base.specs.Lists.{AreAllFound};
-ghost use Rattle.nfa_search_base.specs.Searchers.{walk_of};
+ghost use Rattle.nfa_search_base.specs.Lists.{AreAllStoredMatches};
+ghost use Rattle.nfa_search_base.specs.Searchers.{iter_state_of};
 ghost use Rattle.nfa_search_base.specs.StoredRuns.{MayAnswer, MayAnswerRow};
-ghost use Rattle.nfa_search_base.specs.Walks.{AnswerIsInside, IsSurelyInside, fresh, half_span_of, span_of};
+ghost use Rattle.nfa_search_base.specs.IterStates.{AnswerIsInside, IsInfalliblyInside, fresh, half_span_of, span_of};
 
 use crate::tests::fixtures::{plain_groups, set_slots};
 use crate::tests::shown::expect_shown;
@@ -40,7 +40,7 @@ fn empty_at_start(input: &Input<'_>) -> Result<Option<Match>, SearchError>
 
 // All items, by `collect`, as that finder tells them.
 fn collected(alloc: Global, haystack: &[u8]) -> Result<Vec<Result<Match, SearchError>>, AllocError>
-    ensures { IfOk result (λ v. AreAllFound span_of EmptyTells found_of (fresh (whole haystack.now)) v.items) }
+    ensures { IfOk result (λ v. AreAllStoredMatches span_of EmptyTells found_of (fresh (whole haystack.now)) v.items) }
 {
     let input = Input::new(haystack);
     let searcher = Searcher::new(input);
@@ -56,9 +56,10 @@ pub(super) fn collected_by<F>(
 ) -> Result<Vec<Result<Match, SearchError>>, AllocError>
 where
     F: FnMut(&Input<'_>) -> Result<Option<Match>, SearchError>,
-    requires { AnswersAlong found_of F.FnMut (AnswerIsInside span_of) finder (walk_of searcher).at }
-    ensures { IfOk result (λ v. AreAllFound span_of
-        (MayAnswer found_of span_of F.FnMut finder (walk_of searcher.entry).at) found_of (walk_of searcher.entry)
+    requires { AnswersAlong found_of F.FnMut (AnswerIsInside span_of) finder (iter_state_of searcher).at }
+    ensures { IfOk result (λ v. AreAllStoredMatches span_of
+        (MayAnswer found_of span_of F.FnMut finder (iter_state_of searcher.entry).at) found_of
+        (iter_state_of searcher.entry)
         v.items) }
 {
     searcher.into_matches_iter(finder).collect(alloc)
@@ -72,10 +73,11 @@ pub(super) fn surely_collected_by<F>(
 ) -> Result<Vec<Match>, AllocError>
 where
     F: FnMut(&Input<'_>) -> Result<Option<Match>, SearchError>,
-    requires inside { AnswersAlong found_of F.FnMut (AnswerIsInside span_of) finder (walk_of searcher).at }
-    requires surely { AnswersAlong found_of F.FnMut (IsSurelyInside span_of) finder (walk_of searcher).at }
-    ensures { IfOk result (λ v. AreAllFound span_of
-        (MayAnswer found_of span_of F.FnMut finder (walk_of searcher.entry).at) found_of (walk_of searcher.entry)
+    requires inside { AnswersAlong found_of F.FnMut (AnswerIsInside span_of) finder (iter_state_of searcher).at }
+    requires surely { AnswersAlong found_of F.FnMut (IsInfalliblyInside span_of) finder (iter_state_of searcher).at }
+    ensures { IfOk result (λ v. AreAllStoredMatches span_of
+        (MayAnswer found_of span_of F.FnMut finder (iter_state_of searcher.entry).at) found_of
+        (iter_state_of searcher.entry)
         (map (λ m. Ok m) v.items)) }
 {
     let items = searcher.into_matches_iter(finder);
@@ -90,10 +92,10 @@ pub(super) fn halves_collected_by<F>(
 ) -> Result<Vec<Result<HalfMatch, SearchError>>, AllocError>
 where
     F: FnMut(&Input<'_>) -> Result<Option<HalfMatch>, SearchError>,
-    requires { AnswersAlong half_found_of F.FnMut (AnswerIsInside half_span_of) finder (walk_of searcher).at }
-    ensures { IfOk result (λ v. AreAllFound half_span_of
-        (MayAnswer half_found_of half_span_of F.FnMut finder (walk_of searcher.entry).at) half_found_of
-        (walk_of searcher.entry) v.items) }
+    requires { AnswersAlong half_found_of F.FnMut (AnswerIsInside half_span_of) finder (iter_state_of searcher).at }
+    ensures { IfOk result (λ v. AreAllStoredMatches half_span_of
+        (MayAnswer half_found_of half_span_of F.FnMut finder (iter_state_of searcher.entry).at) half_found_of
+        (iter_state_of searcher.entry) v.items) }
 {
     searcher.into_half_matches_iter(finder).collect(alloc)
 }
@@ -107,11 +109,11 @@ fn captures_collected_by<F>(
 ) -> Result<Vec<Result<Captures, SearchError>>, AllocError>
 where
     F: FnMut(&Input<'_>, &mut Captures) -> Result<(), SearchError>,
-    requires { CatchesAlong F.FnMut (AnswerIsInside row_span) (record { finder = finder; captures = captures })
-        (walk_of searcher).at }
-    ensures { IfOk result (λ v. AreAllCaught
-        (MayAnswerRow F.FnMut (record { finder = finder; captures = captures }) (walk_of searcher.entry).at)
-        (walk_of searcher.entry) v.items) }
+    requires { FillsAlong F.FnMut (AnswerIsInside row_span) (record { finder = finder; captures = captures })
+        (iter_state_of searcher).at }
+    ensures { IfOk result (λ v. AreAllStoredCaptures
+        (MayAnswerRow F.FnMut (record { finder = finder; captures = captures }) (iter_state_of searcher.entry).at)
+        (iter_state_of searcher.entry) v.items) }
 {
     searcher.into_captures_iter(captures, finder).collect(alloc)
 }
@@ -125,13 +127,13 @@ fn captures_surely_collected_by<F>(
 ) -> Result<Vec<Result<Captures, SearchError>>, AllocError>
 where
     F: FnMut(&Input<'_>, &mut Captures) -> Result<(), SearchError>,
-    requires inside { CatchesAlong F.FnMut (AnswerIsInside row_span) (record { finder = finder; captures = captures })
-        (walk_of searcher).at }
-    requires surely { CatchesAlong F.FnMut (IsSurelyInside row_span) (record { finder = finder; captures = captures })
-        (walk_of searcher).at }
-    ensures { IfOk result (λ v. AreAllCaught
-        (MayAnswerRow F.FnMut (record { finder = finder; captures = captures }) (walk_of searcher.entry).at)
-        (walk_of searcher.entry) v.items) }
+    requires inside { FillsAlong F.FnMut (AnswerIsInside row_span) (record { finder = finder; captures = captures })
+        (iter_state_of searcher).at }
+    requires surely { FillsAlong F.FnMut (IsInfalliblyInside row_span) (record { finder = finder; captures = captures })
+        (iter_state_of searcher).at }
+    ensures { IfOk result (λ v. AreAllStoredCaptures
+        (MayAnswerRow F.FnMut (record { finder = finder; captures = captures }) (iter_state_of searcher.entry).at)
+        (iter_state_of searcher.entry) v.items) }
 {
     let items = searcher.into_captures_iter(captures, finder);
     items.infallible().collect(alloc)
@@ -156,7 +158,7 @@ fn looped(alloc: Global, haystack: &[u8]) -> Result<Vec<Result<Match, SearchErro
 // say so.
 fn captured_at_zero(input: &Input<'_>, captures: &mut Captures) -> Result<(), SearchError>
     requires { captures.old.slots ≡ Some 0 ∷ Some 0 ∷ [] }
-    ensures row { caught_by captures.new result ≡ zero_row (search_of input.now) }
+    ensures row { filled_answer captures.new result ≡ zero_row (search_of input.now) }
     ensures slots { captures.new.slots ≡ Some 0 ∷ Some 0 ∷ [] }
 {
     if input.start() == 0 {
@@ -169,7 +171,7 @@ fn captured_at_zero(input: &Input<'_>, captures: &mut Captures) -> Result<(), Se
 
 // Captures of an empty match of the first pattern at the start of the haystack, and an error anywhere else.
 fn captured_or_error(input: &Input<'_>, captures: &mut Captures) -> Result<(), SearchError>
-    ensures { AnswerIsInside row_span (search_of input.now) (caught_by captures.new result) }
+    ensures { AnswerIsInside row_span (search_of input.now) (filled_answer captures.new result) }
 {
     if input.start() > 0 {
         return Err(SearchError::Finder(MatchError::GaveUp { offset: 7 }));
@@ -181,7 +183,7 @@ fn captured_or_error(input: &Input<'_>, captures: &mut Captures) -> Result<(), S
 
 // The captures have a match, which lies in the span.
 fn match_is_inside(captures: &Captures, input: &Input<'_>) -> bool
-    ensures { IsTrue result → AnswerIsInside row_span (search_of input.now) (caught_by captures.now (Ok tt)) }
+    ensures { IsTrue result → AnswerIsInside row_span (search_of input.now) (filled_answer captures.now (Ok tt)) }
 {
     match captures.get_match() {
         Some(found) => found.start() >= input.start() && found.end() <= input.end(),
@@ -195,7 +197,7 @@ fn captured_or_fails(
     captures: &mut Captures,
     fails: usize,
 ) -> Result<(), SearchError>
-    ensures { AnswerIsInside row_span (search_of input.now) (caught_by captures.new result) }
+    ensures { AnswerIsInside row_span (search_of input.now) (filled_answer captures.new result) }
 {
     if input.start() == fails {
         return Err(SearchError::Finder(MatchError::GaveUp { offset: 7 }));

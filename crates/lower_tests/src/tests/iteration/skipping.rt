@@ -1,6 +1,6 @@
 //! Tests of the skipping of matches that split a character.
 ghost use Rattle.regex_search_core.specs.Search.{search_of};
-ghost use Rattle.nfa_search_base.specs.Skipping.{IsPlacedIn};
+ghost use Rattle.nfa_search_base.specs.Skipping.{HasOffsetIn};
 
 use nfa_search_base::empty::{skip_splits_fwd, skip_splits_rev};
 use nfa_search_base::error::SearchError;
@@ -18,7 +18,7 @@ fn nearest(
     place: usize,
     fails: bool,
 ) -> Result<Option<(usize, usize)>, SearchError>
-    ensures { IsPlacedIn (search_of input.now) result }
+    ensures { HasOffsetIn (search_of input.now) result }
 {
     if fails {
         return Err(ERROR);

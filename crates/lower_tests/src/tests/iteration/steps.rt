@@ -2,8 +2,8 @@
 ghost use Rattle.std.specs.Prelude.{Ok};
 ghost use Rattle.regex_search_core.specs.Found.{found_of, half_found_of};
 ghost use Rattle.regex_search_core.specs.Search.{search_of};
-ghost use Rattle.nfa_search_base.specs.Finders.{answer_by, match_place, half_place};
-ghost use Rattle.nfa_search_base.specs.Walks.{IsSurelyInside, LiesIn, half_span_of, span_of};
+ghost use Rattle.nfa_search_base.specs.Finders.{answer_by, match_span, half_match_span};
+ghost use Rattle.nfa_search_base.specs.IterStates.{IsInfalliblyInside, LiesIn, half_span_of, span_of};
 
 use super::callers::{collected_by, halves_collected_by, surely_collected_by};
 use crate::tests::shown::expect_shown;
@@ -18,7 +18,7 @@ const ERROR: SearchError = SearchError::Finder(MatchError::GaveUp { offset: 7 })
 
 // The empty match of the first pattern that is nearest to `place` in the input's span.
 fn nearest(input: &Input<'_>, place: usize) -> Option<Match>
-    ensures { LiesIn (search_of input.now) (match_place (Ok result)) }
+    ensures { LiesIn (search_of input.now) (match_span (Ok result)) }
 {
     if input.is_done() {
         return None;
@@ -32,7 +32,7 @@ fn nearest(input: &Input<'_>, place: usize) -> Option<Match>
 
 // The same, as a half match.
 fn nearest_half(input: &Input<'_>, place: usize) -> Option<HalfMatch>
-    ensures { LiesIn (search_of input.now) (half_place (Ok result)) }
+    ensures { LiesIn (search_of input.now) (half_match_span (Ok result)) }
 {
     if input.is_done() {
         return None;
@@ -46,14 +46,14 @@ fn nearest_half(input: &Input<'_>, place: usize) -> Option<HalfMatch>
 
 // The same as a finder that never errs, of the start of the span.
 fn at_start(input: &Input<'_>) -> Result<Option<Match>, SearchError>
-    ensures { IsSurelyInside span_of (search_of input.now) (answer_by found_of result) }
+    ensures { IsInfalliblyInside span_of (search_of input.now) (answer_by found_of result) }
 {
     Ok(nearest(input, 0))
 }
 
 // The same as a half match.
 fn half_at_start(input: &Input<'_>) -> Result<Option<HalfMatch>, SearchError>
-    ensures { IsSurelyInside half_span_of (search_of input.now) (answer_by half_found_of result) }
+    ensures { IsInfalliblyInside half_span_of (search_of input.now) (answer_by half_found_of result) }
 {
     Ok(nearest_half(input, 0))
 }
@@ -64,7 +64,7 @@ fn found_or_error(
     place: usize,
     fails: usize,
 ) -> Result<Option<Match>, SearchError>
-    ensures { LiesIn (search_of input.now) (match_place result) }
+    ensures { LiesIn (search_of input.now) (match_span result) }
 {
     if input.start() == fails {
         return Err(ERROR);
@@ -78,7 +78,7 @@ fn half_or_error(
     place: usize,
     fails: usize,
 ) -> Result<Option<HalfMatch>, SearchError>
-    ensures { LiesIn (search_of input.now) (half_place result) }
+    ensures { LiesIn (search_of input.now) (half_match_span result) }
 {
     if input.start() == fails {
         return Err(ERROR);

@@ -3,7 +3,7 @@ use Rattle.std.proofs.Common.{◌≡◌, ◌∙◌, ◌+◌, ◌-◌, ◌<◌, �
 use Rattle.std.specs.Prelude.{None}
 use Rattle.regex_search_core.specs.Search.{search_of}
 use Rattle.nfa_paths.specs.Paths.{pairs_from}
-use Rattle.nfa_paths.specs.Exploring.Item.{Explore}
+use Rattle.nfa_paths.specs.Exploring.Task.{Explore}
 use Rattle.nfa_paths.proofs.StartLemmas.{pairs_from-step, pairs_from-end}
 use Rattle.nfa_backtrack_scan.proofs.PassLemmas.{Carries-first, Carries-pass}
 use Rattle.nfa_backtrack_scan.proofs.WalkLemmas.{Carries-then, Carries-ends, Ends-none, EndsAt-along}
@@ -26,7 +26,7 @@ pub returns-in-Some-2-clause-answer : goal.returns-in-Some-2-clause-answer
 returns-in-Some-2-clause-answer c =
     let here : c.loop-at.at < c.start_limit-limit.result = c.loop-at-test.true in
     let follows = rw (pairs_from-step c.in-Some.sid here) at c.loop-at.invariant.follows in
-    let walks = rw (c.in-Some-2.is, c.place_of-place.ensures.pair) at c.in_ok-half.ensures.walks in
+    let walks = rw (c.in-Some-2.is, c.state_pos_at-place.ensures.pair) at c.in_ok-half.ensures.walks in
     let rest = map Explore (pairs_from c.in-Some.sid (c.loop-at.at + 1)
     (c.start_limit-limit.result - (c.loop-at.at + 1))) in
     let size : length c.walk.new.slots ≡ length c.args.slots.now = c.walk.auto.slots ∙ c.loop-at.auto.slots in
@@ -62,7 +62,7 @@ pub loop-at-preserved : goal.loop-at-preserved
 loop-at-preserved c =
     let here : c.loop-at.at < c.start_limit-limit.result = c.loop-at-test.true in
     let follows = rw (pairs_from-step c.in-Some.sid here) at c.loop-at.invariant.follows in
-    let fails = rw (c.in_default-2.is, c.place_of-place.ensures.pair) at c.in_ok-half.ensures.walks in
+    let fails = rw (c.in_default-2.is, c.state_pos_at-place.ensures.pair) at c.in_ok-half.ensures.walks in
     let rest = map Explore (pairs_from c.in-Some.sid (c.loop-at.at + 1)
     (c.start_limit-limit.result - (c.loop-at.at + 1))) in
     let walked = Carries-then c.args.nfa.now (search_of c.args.input.now) follows (fails.follows rest) in

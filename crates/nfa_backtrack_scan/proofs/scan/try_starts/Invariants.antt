@@ -2,9 +2,9 @@
 use Rattle.std.proofs.Common.{◌≡◌, ◌+◌, ◌-◌, ◌<◌, ◌≤◌, [], length, map}
 use Rattle.regex_search_core.specs.Search.{search_of}
 use Rattle.nfa_paths.specs.Paths.{starts, start_count, pairs_from}
-use Rattle.nfa_paths.specs.Exploring.Item.{Explore}
+use Rattle.nfa_paths.specs.Exploring.Task.{Explore}
 use Rattle.nfa_paths.specs.Turns.{marked_sum}
-use Rattle.nfa_scanning.specs.FirstBytes.{IsRefused}
+use Rattle.nfa_scan_core.specs.FirstBytes.{IsRefused}
 use Rattle.nfa_backtrack_scan.specs.Walk.{Carries, weights}
 use Rattle.nfa_backtrack_scan.proofs.scan.try_starts.Given as goal
 

@@ -15,15 +15,15 @@ returns-in-Matched-clause-advances c = λ work.
 
 pub returns-in-Some-clause-paid : goal.returns-in-Some-clause-paid
 returns-in-Some-clause-paid c =
-    let paid = rw c.in-Stuck.is at c.in_ok-next.ensures.paid in
+    let paid = rw c.in-DeadEnd.is at c.in_ok-next.ensures.paid in
     let within = rw c.step.auto.slots at (c.in-Some.ensures.within c.args.nfa.now (search_of c.args.input.now)) in
     record { within = (within paid.within).0; tried = omega (arith, paid.tried, c.in-Some.ensures.tried) }
 
 pub returns-in-Some-clause-advances : goal.returns-in-Some-clause-advances
 returns-in-Some-clause-advances c =
-    let paid = rw c.in-Stuck.is at c.in_ok-next.ensures.paid in
+    let paid = rw c.in-DeadEnd.is at c.in_ok-next.ensures.paid in
     let within = rw c.step.auto.slots at (c.in-Some.ensures.within c.args.nfa.now (search_of c.args.input.now)) in
-    let goes = rw c.in-Stuck.is at c.in_ok-next.ensures.goes in (
+    let goes = rw c.in-DeadEnd.is at c.in_ok-next.ensures.goes in (
       (within paid.within).1,
       λ work. Carries-then c.args.nfa.now (search_of c.args.input.now) (goes work)
           (c.in-Some.ensures.follows c.args.nfa.now (search_of c.args.input.now) c.step.new.scratch.visited work),
@@ -31,7 +31,7 @@ returns-in-Some-clause-advances c =
 
 pub returns-in-None-clause-advances : goal.returns-in-None-clause-advances
 returns-in-None-clause-advances c =
-    let goes = rw c.in-Stuck.is at c.in_ok-next.ensures.goes in
+    let goes = rw c.in-DeadEnd.is at c.in_ok-next.ensures.goes in
     let over = c.in-None.ensures.over refl in (
       over,
       λ work. Carries-then c.args.nfa.now (search_of c.args.input.now) (goes work)

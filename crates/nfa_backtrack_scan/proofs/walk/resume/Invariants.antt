@@ -4,15 +4,15 @@ use Rattle.std.specs.Prelude.{All, vec_len}
 use Rattle.std.specs.List.{sum_by}
 use Rattle.regex_search_core.specs.Search.{Search}
 use Rattle.thompson_nfa.specs.Automaton.{Automaton}
-use Rattle.nfa_paths.specs.Exploring.{Item}
-use Rattle.nfa_scanning.specs.Marks.{Marks}
+use Rattle.nfa_paths.specs.Exploring.{Task}
+use Rattle.nfa_scan_core.specs.Marks.{Marks}
 use Rattle.nfa_backtrack_scan.specs.Walk.{WritesSlot, IsFrame, Carries, stacked, frame_tries}
 use Rattle.nfa_backtrack_scan.proofs.walk.resume.Given as goal
 
 abbrev pub invariant-loop-frame : goal.invariant-loop-frame
 invariant-loop-frame l = record {
   slots : All (WritesSlot (length l.slots)) l.stack.items;
-  follows : (nfa : Automaton) (x : Search) (marks : Marks) (work : List Item)
+  follows : (nfa : Automaton) (x : Search) (marks : Marks) (work : List Task)
       → Carries nfa x marks (stacked l.fn.stack.items work) l.fn.slots marks (stacked l.stack.items work) l.slots;
   within : (nfa : Automaton) (x : Search) → All (IsFrame nfa x (length l.fn.slots)) l.fn.stack.items
       → All (IsFrame nfa x (length l.fn.slots)) l.stack.items;

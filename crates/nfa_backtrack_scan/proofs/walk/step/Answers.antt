@@ -10,7 +10,7 @@ use Rattle.nfa_backtrack_scan.proofs.StepLemmas.{same_size, Fits-row, target-tri
 use Rattle.nfa_backtrack_scan.proofs.StepLemmas.{PaidFor-put, Goes-range, Goes-sparse, Goes-dense, Goes-look, Goes-no_look}
 use Rattle.nfa_backtrack_scan.proofs.StepLemmas.{Goes-union, Goes-no_union, Goes-both, Goes-fail, Goes-write, Goes-unkept}
 use Rattle.nfa_backtrack_scan.proofs.StepLemmas.{Goes-match, IsFrame-restoring, tries-restoring}
-use Rattle.nfa_backtrack_scan.proofs.RoundLemmas.{OnErr-always, IsAfforded-turn, IsAfforded-then, TurnsLead-then, TurnsLead-union}
+use Rattle.nfa_backtrack_scan.proofs.ByteLoopLemmas.{OnErr-always, IsAfforded-turn, IsAfforded-then, TurnsLead-then, TurnsLead-union}
 use Rattle.nfa_backtrack_scan.proofs.walk.step.Goals as goal
 use Rattle.nfa_backtrack_scan.proofs.walk.step.Goals.{then-slot-slots+in_ok-save-in-Capture, else-slot-slots}
 
@@ -133,17 +133,17 @@ returns-in_default-clause-goes c =
     let none = sym (rw c.deref-in-Union.ensures.value at c.in_default.ensures.value) in
     λ work. Goes-no_union t c.in-Union.alternates.items is _ none _
 
-pub returns-in_ok-put_off-in-Union-clause-paid : goal.returns-in_ok-put_off-in-Union-clause-paid
-returns-in_ok-put_off-in-Union-clause-paid c =
+pub returns-in_ok-push_alternates-in-Union-clause-paid : goal.returns-in_ok-push_alternates-in-Union-clause-paid
+returns-in_ok-push_alternates-in-Union-clause-paid c =
     let t = c.mark.ensures.taken c.if-not-mark.false in
     let is = rw c.in-Union.is at c.state_at.ensures.node in
     let below = rw c.in-Union.is at c.state_at.ensures.leads in
     let first = sym (rw c.deref-in-Union.ensures.value at c.in-Some.ensures.value) in
-    rw (c.in_ok-put_off-in-Union.ensures, c.deref-in-Union-2.ensures.value)
+    rw (c.in_ok-push_alternates-in-Union.ensures, c.deref-in-Union-2.ensures.value)
     (PaidFor-put t c.in-Union.alternates.items is _ _ _ first _ c.requires.place.row c.requires.within below)
 
-pub returns-in_ok-put_off-in-Union-clause-goes : goal.returns-in_ok-put_off-in-Union-clause-goes
-returns-in_ok-put_off-in-Union-clause-goes c =
+pub returns-in_ok-push_alternates-in-Union-clause-goes : goal.returns-in_ok-push_alternates-in-Union-clause-goes
+returns-in_ok-push_alternates-in-Union-clause-goes c =
     let t = c.mark.ensures.taken c.if-not-mark.false in
     let is = rw c.in-Union.is at c.state_at.ensures.node in
     let below = rw c.in-Union.is at c.state_at.ensures.leads in
@@ -152,12 +152,12 @@ returns-in_ok-put_off-in-Union-clause-goes c =
     let state : c.in-Some.first.now < length c.args.nfa.now.states = (rw split at below) 0 0 (omega arith) in
     rw c.to-in-Union.ensures (
       record { state = state; from = c.requires.place.from; to = c.requires.place.to; row = c.requires.place.row },
-      λ work. rw (c.in_ok-put_off-in-Union.ensures, c.deref-in-Union-2.ensures.value)
+      λ work. rw (c.in_ok-push_alternates-in-Union.ensures, c.deref-in-Union-2.ensures.value)
           (Goes-union t c.in-Union.alternates.items is c.args.slots.now _ first c.args.scratch.now.stack.items work _),
     )
 
-pub returns-in_err-put_off-in-Union-clause-refused : goal.returns-in_err-put_off-in-Union-clause-refused
-returns-in_err-put_off-in-Union-clause-refused c =
+pub returns-in_err-push_alternates-in-Union-clause-refused : goal.returns-in_err-push_alternates-in-Union-clause-refused
+returns-in_err-push_alternates-in-Union-clause-refused c =
     OnErr-always c.from_residual.result
     (IsAfforded-turn c.args.nfa.now (search_of c.args.input.now) c.args.scratch.now.stack.items
     c.args.scratch.now.visited c.mark.new.visited c.mark.ensures.turns)
@@ -174,26 +174,27 @@ returns-in_err-save-in-Capture-clause-refused c =
     (IsAfforded-turn c.args.nfa.now (search_of c.args.input.now) c.args.scratch.now.stack.items
     c.args.scratch.now.visited c.mark.new.visited c.mark.ensures.turns)
 
-pub go_round-requires-clause-state : goal.go_round-requires-clause-state
-go_round-requires-clause-state c =
-    rw c.to-in-Some-way_back.ensures (c.in-Some-way_back.ensures c.in-Some-way_back.trans refl)
+pub run_byte_loop-requires-clause-state : goal.run_byte_loop-requires-clause-state
+run_byte_loop-requires-clause-state c =
+    rw c.to-in-Some-byte_loop_at.ensures (c.in-Some-byte_loop_at.ensures c.in-Some-byte_loop_at.trans refl)
 
-pub returns-in_err-go_round-in-BinaryUnion-clause-refused : goal.returns-in_err-go_round-in-BinaryUnion-clause-refused
-returns-in_err-go_round-in-BinaryUnion-clause-refused c =
+pub returns-in_err-run_byte_loop-in-BinaryUnion-clause-refused
+    : goal.returns-in_err-run_byte_loop-in-BinaryUnion-clause-refused
+returns-in_err-run_byte_loop-in-BinaryUnion-clause-refused c =
     let t = c.mark.ensures.taken c.if-not-mark.false in
     let is = rw c.in-BinaryUnion.is at c.state_at.ensures.node in
     let below = rw c.in-BinaryUnion.is at c.state_at.ensures.leads in
     let union = TurnsLead-union t c.args.place.row c.requires.place.row c.in-BinaryUnion.alt1 c.in-BinaryUnion.alt2 is
     below.0 below.1 c.args.scratch.now.stack.items in
     let round = rw (c.in_ok-push-in-BinaryUnion.ensures.items, c.later.ensures) at
-    c.in_err-go_round-in-BinaryUnion.ensures.refused in
-    OnErr-always c.from_residual-in_err-go_round-in-BinaryUnion.result
-    (IsAfforded-then c.args.nfa.now (search_of c.args.input.now) c.go_round.new.scratch.visited union round)
+    c.in_err-run_byte_loop-in-BinaryUnion.ensures.refused in
+    OnErr-always c.from_residual-in_err-run_byte_loop-in-BinaryUnion.result
+    (IsAfforded-then c.args.nfa.now (search_of c.args.input.now) c.run_byte_loop.new.scratch.visited union round)
 
 -- the turn at the union and those of the loop
-round : (c : goal.In_ok-go_round-in-BinaryUnion)
+round : (c : goal.In_ok-run_byte_loop-in-BinaryUnion)
     → TurnsLead c.args.nfa.now (search_of c.args.input.now) (pair_of c.args.place) None c.args.scratch.now.stack.items
-    c.args.scratch.now.visited c.go_round.new.scratch.stack.items c.go_round.new.scratch.visited
+    c.args.scratch.now.visited c.run_byte_loop.new.scratch.stack.items c.run_byte_loop.new.scratch.visited
 round c =
     let t = c.mark.ensures.taken c.if-not-mark.false in
     let is = rw c.in-BinaryUnion.is at c.state_at.ensures.node in
@@ -201,19 +202,19 @@ round c =
     TurnsLead-then c.args.nfa.now (search_of c.args.input.now)
     (TurnsLead-union t c.args.place.row c.requires.place.row c.in-BinaryUnion.alt1 c.in-BinaryUnion.alt2 is below.0
     below.1 c.args.scratch.now.stack.items)
-    (rw (c.in_ok-push-in-BinaryUnion.ensures.items, c.later.ensures, c.to-in-Some-way_back.ensures) at
-    c.in_ok-go_round-in-BinaryUnion.ensures.leads)
+    (rw (c.in_ok-push-in-BinaryUnion.ensures.items, c.later.ensures, c.to-in-Some-byte_loop_at.ensures) at
+    c.in_ok-run_byte_loop-in-BinaryUnion.ensures.leads)
 
-pub returns-in-Some-way_back-clause-paid : goal.returns-in-Some-way_back-clause-paid
-returns-in-Some-way_back-clause-paid c =
+pub returns-in-Some-byte_loop_at-clause-paid : goal.returns-in-Some-byte_loop_at-clause-paid
+returns-in-Some-byte_loop_at-clause-paid c =
     let leads = round c in
     record { within = leads.within (length c.args.slots.now) c.requires.within; tried = leads.tried }
 
-pub returns-in-Some-way_back-clause-goes : goal.returns-in-Some-way_back-clause-goes
-returns-in-Some-way_back-clause-goes c = λ work. (round c).follows work c.args.slots.now
+pub returns-in-Some-byte_loop_at-clause-goes : goal.returns-in-Some-byte_loop_at-clause-goes
+returns-in-Some-byte_loop_at-clause-goes c = λ work. (round c).follows work c.args.slots.now
 
-pub returns-in_default-way_back-clause-paid : goal.returns-in_default-way_back-clause-paid
-returns-in_default-way_back-clause-paid c =
+pub returns-in_default-byte_loop_at-clause-paid : goal.returns-in_default-byte_loop_at-clause-paid
+returns-in_default-byte_loop_at-clause-paid c =
     let t = c.mark.ensures.taken c.if-not-mark.false in
     let is = rw c.in-BinaryUnion.is at c.state_at.ensures.node in
     let below = rw c.in-BinaryUnion.is at c.state_at.ensures.leads in
@@ -223,8 +224,8 @@ returns-in_default-way_back-clause-paid c =
     (record { state = below.1; from = c.requires.place.from; to = c.requires.place.to; row = c.requires.place.row })
     (omega arith))
 
-pub returns-in_default-way_back-clause-goes : goal.returns-in_default-way_back-clause-goes
-returns-in_default-way_back-clause-goes c =
+pub returns-in_default-byte_loop_at-clause-goes : goal.returns-in_default-byte_loop_at-clause-goes
+returns-in_default-byte_loop_at-clause-goes c =
     let t = c.mark.ensures.taken c.if-not-mark.false in
     let is = rw c.in-BinaryUnion.is at c.state_at.ensures.node in
     let below = rw c.in-BinaryUnion.is at c.state_at.ensures.leads in

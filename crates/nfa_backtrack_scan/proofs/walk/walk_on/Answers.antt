@@ -33,9 +33,9 @@ loop-next-preserved c =
       tried = omega (arith, c.loop-next.invariant.tried, c.advance.ensures.turns, paid.tried);
     }
 
-pub returns-in-Ended-clause-bounded : goal.returns-in-Ended-clause-bounded
-returns-in-Ended-clause-bounded c =
-    let paid = rw c.in-Ended.is at c.in_ok-next.ensures.paid in
+pub returns-in-Matched-clause-bounded : goal.returns-in-Matched-clause-bounded
+returns-in-Matched-clause-bounded c =
+    let paid = rw c.in-Matched.is at c.in_ok-next.ensures.paid in
     omega (
       arith,
       c.loop-next.invariant.tried,
@@ -43,14 +43,14 @@ returns-in-Ended-clause-bounded c =
       marked_sum-le (weights c.args.nfa.now (search_of c.args.input.now)) c.advance.new.scratch.visited.bits,
     )
 
-pub returns-in-Ended-clause-walks : goal.returns-in-Ended-clause-walks
-returns-in-Ended-clause-walks c = λ work.
-    let advances = rw c.in-Ended.is at c.in_ok-next.ensures.advances in
+pub returns-in-Matched-clause-walks : goal.returns-in-Matched-clause-walks
+returns-in-Matched-clause-walks c = λ work.
+    let advances = rw c.in-Matched.is at c.in_ok-next.ensures.advances in
     EndsAt-along c.args.nfa.now (search_of c.args.input.now) (c.loop-next.invariant.follows work) (advances work)
 
-pub returns-in-Over-clause-bounded : goal.returns-in-Over-clause-bounded
-returns-in-Over-clause-bounded c =
-    let paid = rw c.in-Over.is at c.in_ok-next.ensures.paid in
+pub returns-in-Failed-clause-bounded : goal.returns-in-Failed-clause-bounded
+returns-in-Failed-clause-bounded c =
+    let paid = rw c.in-Failed.is at c.in_ok-next.ensures.paid in
     omega (
       arith,
       c.loop-next.invariant.tried,
@@ -58,10 +58,10 @@ returns-in-Over-clause-bounded c =
       marked_sum-le (weights c.args.nfa.now (search_of c.args.input.now)) c.advance.new.scratch.visited.bits,
     )
 
-pub returns-in-Over-clause-walks : goal.returns-in-Over-clause-walks
-returns-in-Over-clause-walks c =
-    let paid = rw c.in-Over.is at c.in_ok-next.ensures.paid in
-    let advances = rw c.in-Over.is at c.in_ok-next.ensures.advances in
+pub returns-in-Failed-clause-walks : goal.returns-in-Failed-clause-walks
+returns-in-Failed-clause-walks c =
+    let paid = rw c.in-Failed.is at c.in_ok-next.ensures.paid in
+    let advances = rw c.in-Failed.is at c.in_ok-next.ensures.advances in
     record {
       empty = advances.0;
       follows = λ work. Carries-then c.args.nfa.now (search_of c.args.input.now) (c.loop-next.invariant.follows work)

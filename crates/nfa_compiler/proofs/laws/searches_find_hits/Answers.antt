@@ -1,7 +1,7 @@
 -- The search's answer is the first path, which is that of the hit.
 use Rattle.std.proofs.Common.{subst}
 use Rattle.std.specs.Prelude.{false}
-use Rattle.nfa_paths.specs.Paths.{IsAnswer, IsMatchAnswer, IsFoundAnswer}
+use Rattle.nfa_paths.specs.Paths.{IsAnswer, IsFindAnswer, IsBoolAnswer}
 use Rattle.nfa_compiler.proofs.SearchLemmas.{answer-is, match-is, found-is}
 use Rattle.nfa_compiler.proofs.laws.searches_find_hits.Goals as goal
 
@@ -14,11 +14,11 @@ returns-clause-answers c = λ res nfa kind earliest x pattern slots made anywher
 pub returns-clause-matches : goal.returns-clause-matches
 returns-clause-matches c = λ res nfa kind earliest x found made anywhere how answer.
     match-is res nfa made x how.whole anywhere found
-    (subst (λ k. IsMatchAnswer nfa k false x found) how.leftmost
-    (subst (λ e. IsMatchAnswer nfa kind e x found) how.latest answer))
+    (subst (λ k. IsFindAnswer nfa k false x found) how.leftmost
+    (subst (λ e. IsFindAnswer nfa kind e x found) how.latest answer))
 
 pub returns-clause-found : goal.returns-clause-found
 returns-clause-found c = λ res nfa kind earliest x found made anywhere how answer.
     found-is res nfa made x how.whole anywhere found
-    (subst (λ k. IsFoundAnswer nfa k false x found) how.leftmost
-    (subst (λ e. IsFoundAnswer nfa kind e x found) how.latest answer))
+    (subst (λ k. IsBoolAnswer nfa k false x found) how.leftmost
+    (subst (λ e. IsBoolAnswer nfa kind e x found) how.latest answer))

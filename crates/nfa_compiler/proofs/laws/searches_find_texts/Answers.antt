@@ -1,7 +1,7 @@
 -- The trees and what the grammar reads have hits that a caller cannot tell apart.
 use Rattle.std.proofs.Common.{subst}
 use Rattle.std.specs.Prelude.{false}
-use Rattle.nfa_paths.specs.Paths.{IsAnswer, IsMatchAnswer}
+use Rattle.nfa_paths.specs.Paths.{IsAnswer, IsFindAnswer}
 use Rattle.nfa_compiler.proofs.TextLemmas.{text-answer, text-match}
 use Rattle.nfa_compiler.proofs.laws.searches_find_texts.Goals as goal
 
@@ -14,5 +14,5 @@ returns-clause-answers c = λ syntax texts res nfa kind earliest x pattern slots
 pub returns-clause-matches : goal.returns-clause-matches
 returns-clause-matches c = λ syntax texts res nfa kind earliest x found compiled meant anywhere how bytes answer.
     text-match syntax texts res nfa x compiled meant anywhere how.whole bytes found
-    (subst (λ k. IsMatchAnswer nfa k false x found) how.leftmost
-    (subst (λ e. IsMatchAnswer nfa kind e x found) how.latest answer))
+    (subst (λ k. IsFindAnswer nfa k false x found) how.leftmost
+    (subst (λ e. IsFindAnswer nfa kind e x found) how.latest answer))

@@ -1,7 +1,7 @@
 -- What is found ends on a boundary, so it starts on one.
 use Rattle.std.proofs.Common.{subst}
 use Rattle.std.specs.Prelude.{false}
-use Rattle.nfa_paths.specs.Paths.{IsAnswer, IsMatchAnswer}
+use Rattle.nfa_paths.specs.Paths.{IsAnswer, IsFindAnswer}
 use Rattle.nfa_compiler.proofs.StrSearchLemmas.{str-answer, str-match}
 use Rattle.nfa_compiler.proofs.laws.searches_of_strs_find_texts.Goals as goal
 
@@ -15,5 +15,5 @@ returns-clause-answers c =
 pub returns-clause-matches : goal.returns-clause-matches
 returns-clause-matches c = λ syntax texts res nfa kind earliest x found compiled meant mode how text starts answer.
     str-match syntax texts res nfa compiled meant mode x how.whole text starts found
-    (subst (λ k. IsMatchAnswer nfa k false x found) how.leftmost
-    (subst (λ e. IsMatchAnswer nfa kind e x found) how.latest answer))
+    (subst (λ k. IsFindAnswer nfa k false x found) how.leftmost
+    (subst (λ e. IsFindAnswer nfa kind e x found) how.latest answer))

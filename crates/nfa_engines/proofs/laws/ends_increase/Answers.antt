@@ -1,6 +1,6 @@
 -- Over the calls of a searcher the ends of matches go up, and there are at most n + 1 of them.
 use Rattle.std.proofs.Common.{arith}
-use Rattle.nfa_search_base.specs.Walks.{fresh}
+use Rattle.nfa_search_base.specs.IterStates.{fresh}
 use Rattle.nfa_engines.proofs.IterationLemmas.{ends-rise, few-matches, first-ends}
 use Rattle.nfa_engines.proofs.laws.ends_increase.Goals as goal
 

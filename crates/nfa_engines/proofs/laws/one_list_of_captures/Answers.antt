@@ -1,9 +1,9 @@
 -- An NFA and an input have one list of captures, whose matches are its list of matches.
 use Rattle.std.proofs.Common.{false, map}
 use Rattle.regex_search_core.specs.declared.search.MatchKind.TheVariants.{LeftmostFirst}
-use Rattle.nfa_search_base.specs.Catching.{row_of}
+use Rattle.nfa_search_base.specs.WithCaptures.{row_of}
 use Rattle.nfa_search_base.specs.Items.{item_by}
-use Rattle.nfa_search_base.proofs.CaughtLemmas.{rows-exist, rows-first_matches, rows-list, rows-unique, rows-up_to}
+use Rattle.nfa_search_base.proofs.CapturesLemmas.{rows-exist, rows-first_matches, rows-list, rows-unique, rows-up_to}
 use Rattle.nfa_engines.proofs.laws.one_list_of_captures.Goals as goal
 
 pub returns-clause-exists : goal.returns-clause-exists

@@ -4,7 +4,7 @@ use Rattle.std.specs.Prelude.{None}
 use Rattle.regex_search_core.specs.Search.{search_of}
 use Rattle.nfa_paths.specs.Paths.{degree}
 use Rattle.nfa_paths.proofs.TurnLemmas.{marked_sum-le}
-use Rattle.nfa_pikevm_scan.proofs.UnwindLemmas.{within-lower}
+use Rattle.nfa_pikevm_scan.proofs.ApplyFrameLemmas.{within-lower}
 use Rattle.nfa_pikevm_scan.proofs.ClosureLemmas.{Passed-begin, Passed-plain, Passed-resumed, Finds-none, Finds-match, Paid-begin, Paid-then, Paid-resumed, HasRoom-paid, KeepsRoom-none, KeepsRoom-then}
 use Rattle.nfa_pikevm_scan.proofs.closure.next_match.Goals as goal
 
@@ -21,8 +21,8 @@ loop-on-init c =
           c.args.reached.now.seen c.args.reached.now.next.items _ c.args.row.now;
     }
 
-pub enter-requires-clause-room : goal.enter-requires-clause-room
-enter-requires-clause-room c =
+pub visit_state-requires-clause-room : goal.visit_state-requires-clause-room
+visit_state-requires-clause-room c =
     let i = c.loop-on.invariant in
     let stack = c.requires.room.stack in
     let frames = c.loop-on.auto.frames in
@@ -40,7 +40,7 @@ loop-on-smaller-in-On c =
       c.in-On.ensures.paid.tried,
       c.in-On.ensures.turns,
       marked_sum-le (map degree c.args.here.now.nfa.now.states) c.loop-on.reached.seen.bits,
-      marked_sum-le (map degree c.args.here.now.nfa.now.states) c.enter.new.reached.seen.bits,
+      marked_sum-le (map degree c.args.here.now.nfa.now.states) c.visit_state.new.reached.seen.bits,
     )
 
 pub loop-on-preserved-in-On : goal.loop-on-preserved-in-On
@@ -50,7 +50,7 @@ loop-on-preserved-in-On c =
       inside = c.in-On.ensures.top;
       keeps = KeepsRoom-then c.loop-on.invariant.keeps c.in-On.ensures.keeps;
       grows = omega (arith, c.in-On.ensures.turns);
-      within = rw c.enter.auto.row c.in-On.ensures.within;
+      within = rw c.visit_state.auto.row c.in-On.ensures.within;
       paid = Paid-then c.loop-on.invariant.paid c.in-On.ensures.paid;
       passed = Passed-plain c.loop-on.invariant.passed c.in-On.ensures.enters c.in-On.ensures.enters.is_met;
     }
@@ -71,48 +71,50 @@ pub loop-on-smaller : goal.loop-on-smaller
 loop-on-smaller c =
     omega (
       arith,
-      c.in-Over.ensures.paid.tried,
-      c.enter.ensures.turns,
+      c.in-DeadEnd.ensures.paid.tried,
+      c.visit_state.ensures.turns,
       c.in-Some.ensures.tried,
       marked_sum-le (map degree c.args.here.now.nfa.now.states) c.loop-on.reached.seen.bits,
-      marked_sum-le (map degree c.args.here.now.nfa.now.states) c.enter.new.reached.seen.bits,
+      marked_sum-le (map degree c.args.here.now.nfa.now.states) c.visit_state.new.reached.seen.bits,
     )
 
 pub loop-on-preserved : goal.loop-on-preserved
 loop-on-preserved c =
     let stack = c.requires.room.stack in
-    let turned = Passed-plain c.loop-on.invariant.passed c.in-Over.ensures.enters c.in-Over.ensures.enters.is_met in
+    let turned = Passed-plain c.loop-on.invariant.passed c.in-DeadEnd.ensures.enters
+    c.in-DeadEnd.ensures.enters.is_met in
     record {
       state = c.in-Some.ensures.state (length c.args.here.now.nfa.now.states)
-          (rw c.enter.auto.row c.enter.ensures.within);
-      inside = omega (arith, c.in-Some.ensures.top, c.enter.ensures.top);
-      keeps = KeepsRoom-then c.loop-on.invariant.keeps c.enter.ensures.keeps;
-      grows = omega (arith, c.enter.ensures.turns);
-      within = rw (c.resume.auto.row, c.enter.auto.row)
-          (within-lower _ _ _ _ _ c.in-Some.ensures.top c.enter.ensures.within);
-      paid = Paid-resumed c.enter.new.top c.resume.new.top c.enter.new.frames 1 c.in-Some.ensures.top
-          (omega (arith, c.enter.ensures.top, stack)) c.in-Some.ensures.tried
-          (Paid-then c.loop-on.invariant.paid c.in-Over.ensures.paid);
+          (rw c.visit_state.auto.row c.visit_state.ensures.within);
+      inside = omega (arith, c.in-Some.ensures.top, c.visit_state.ensures.top);
+      keeps = KeepsRoom-then c.loop-on.invariant.keeps c.visit_state.ensures.keeps;
+      grows = omega (arith, c.visit_state.ensures.turns);
+      within = rw (c.resume.auto.row, c.visit_state.auto.row)
+          (within-lower _ _ _ _ _ c.in-Some.ensures.top c.visit_state.ensures.within);
+      paid = Paid-resumed c.visit_state.new.top c.resume.new.top c.visit_state.new.frames 1 c.in-Some.ensures.top
+          (omega (arith, c.visit_state.ensures.top, stack)) c.in-Some.ensures.tried
+          (Paid-then c.loop-on.invariant.paid c.in-DeadEnd.ensures.paid);
       passed = Passed-resumed _ _ _ (λ front work. c.in-Some.ensures.follows c.args.here.now.nfa.now
-          (search_of c.args.here.now.input.now) c.args.here.now.at c.enter.new.reached.seen front work) turned;
+          (search_of c.args.here.now.input.now) c.args.here.now.at c.visit_state.new.reached.seen front work) turned;
     }
 
 pub returns-in-None-clause-turns : goal.returns-in-None-clause-turns
-returns-in-None-clause-turns c = omega (arith, c.loop-on.invariant.grows, c.enter.ensures.turns)
+returns-in-None-clause-turns c = omega (arith, c.loop-on.invariant.grows, c.visit_state.ensures.turns)
 
 pub returns-in-None-clause-keeps : goal.returns-in-None-clause-keeps
-returns-in-None-clause-keeps c = KeepsRoom-then c.loop-on.invariant.keeps c.enter.ensures.keeps
+returns-in-None-clause-keeps c = KeepsRoom-then c.loop-on.invariant.keeps c.visit_state.ensures.keeps
 
 pub returns-in-None-clause-paid : goal.returns-in-None-clause-paid
 returns-in-None-clause-paid c =
     let stack = c.requires.room.stack in
-    Paid-resumed c.enter.new.top c.resume.new.top c.enter.new.frames 0 c.in-None.ensures.top
-    (omega (arith, c.enter.ensures.top, stack)) c.in-None.ensures.tried
-    (Paid-then c.loop-on.invariant.paid c.in-Over.ensures.paid)
+    Paid-resumed c.visit_state.new.top c.resume.new.top c.visit_state.new.frames 0 c.in-None.ensures.top
+    (omega (arith, c.visit_state.ensures.top, stack)) c.in-None.ensures.tried
+    (Paid-then c.loop-on.invariant.paid c.in-DeadEnd.ensures.paid)
 
 pub returns-in-None-clause-finds : goal.returns-in-None-clause-finds
 returns-in-None-clause-finds c =
-    let turned = Passed-plain c.loop-on.invariant.passed c.in-Over.ensures.enters c.in-Over.ensures.enters.is_met in
+    let turned = Passed-plain c.loop-on.invariant.passed c.in-DeadEnd.ensures.enters
+    c.in-DeadEnd.ensures.enters.is_met in
     Finds-none
     (Passed-resumed None _ _ (λ front work. c.in-None.ensures.follows c.args.here.now.nfa.now
-    (search_of c.args.here.now.input.now) c.args.here.now.at c.enter.new.reached.seen front work) turned)
+    (search_of c.args.here.now.input.now) c.args.here.now.at c.visit_state.new.reached.seen front work) turned)

@@ -5,7 +5,7 @@ use Rattle.std.specs.List.{sum_by}
 use Rattle.regex_search_core.specs.Search.{search_of}
 use Rattle.nfa_paths.specs.Paths.{degree}
 use Rattle.nfa_paths.specs.Turns.{marked_sum}
-use Rattle.nfa_pikevm_scan.specs.Needs.{stack_places}
+use Rattle.nfa_pikevm_scan.specs.Needs.{stack_frames}
 use Rattle.nfa_pikevm_scan.specs.States.{tries, IsWithin, KeepsRoom, Paid}
 use Rattle.nfa_pikevm_scan.proofs.ClosureLemmas.{Passed}
 use Rattle.nfa_pikevm_scan.proofs.closure.next_match.Given as goal
@@ -13,7 +13,7 @@ use Rattle.nfa_pikevm_scan.proofs.closure.next_match.Given as goal
 abbrev pub invariant-loop-on : goal.invariant-loop-on
 invariant-loop-on l = record {
   state : l.sid < length l.here.nfa.now.states;
-  inside : l.top ≤ stack_places l.here.nfa.now;
+  inside : l.top ≤ stack_frames l.here.nfa.now;
   keeps : KeepsRoom l.fn.reached l.reached;
   grows : l.fn.reached.seen.turns ≤ l.reached.seen.turns;
   within : All (IsWithin (length l.here.nfa.now.states) (length l.row)) (take l.top l.frames);

@@ -4,9 +4,9 @@ use Rattle.std.specs.Prelude.{All}
 use Rattle.std.specs.List.{sum_by}
 use Rattle.regex_search_core.specs.Search.{Search}
 use Rattle.thompson_nfa.specs.Automaton.{Automaton}
-use Rattle.nfa_paths.specs.Exploring.{Item}
-use Rattle.nfa_scanning.specs.Marks.{Marks}
-use Rattle.nfa_pikevm_scan.specs.States.{Front, work_onto, tries, HasSlot, Follows}
+use Rattle.nfa_paths.specs.Exploring.{Task}
+use Rattle.nfa_scan_core.specs.Marks.{Marks}
+use Rattle.nfa_pikevm_scan.specs.States.{Frontier, work_onto, tries, HasSlot, Follows}
 use Rattle.nfa_pikevm_scan.proofs.closure.resume.Given as goal
 
 abbrev pub invariant-loop-top : goal.invariant-loop-top
@@ -14,7 +14,7 @@ invariant-loop-top l = record {
   below : l.top ≤ l.fn.top;
   slots : All (HasSlot (length l.row)) (take l.top l.frames);
   tried : sum_by tries (take l.top l.frames) ≡ sum_by tries (take l.fn.top l.frames);
-  follows : (nfa : Automaton) (x : Search) (at : ℕ) (met : Marks) (front : Front) (work : List Item)
+  follows : (nfa : Automaton) (x : Search) (at : ℕ) (met : Marks) (front : Frontier) (work : List Task)
       → Follows nfa x at met front (work_onto at (take l.fn.top l.frames) work) l.fn.row met front
       (work_onto at (take l.top l.frames) work) l.row;
 }

@@ -24,29 +24,31 @@ returns-then-is_full-clause-gains c =
 
 pub returns-then-is_empty-clause-gains : goal.returns-then-is_empty-clause-gains
 returns-then-is_empty-clause-gains c =
-    let items = rw c.loop-at.invariant.width at c.join.ensures.curr in
+    let items = rw c.loop-at.invariant.width at c.add_start.ensures.curr in
     All-over c.args.nfa.now (search_of c.args.input.now) c.args.patterns.now c.loop-at.invariant.so_far
-    (sym items ∙ none_of c.join.new.threads.curr.items (c.is_empty.ensures.0 c.if-is_empty.true))
+    (sym items ∙ none_of c.add_start.new.threads.curr.items (c.is_empty.ensures.0 c.if-is_empty.true))
 
-pub cross_to_set-requires-clause-states : goal.cross_to_set-requires-clause-states
-cross_to_set-requires-clause-states c =
-    let items = rw c.loop-at.invariant.width at c.join.ensures.curr in
+pub nexts_overlapping-requires-clause-states : goal.nexts_overlapping-requires-clause-states
+nexts_overlapping-requires-clause-states c =
+    let items = rw c.loop-at.invariant.width at c.add_start.ensures.curr in
     rw items (below-joined c.args.starts.now 0 c.loop-at.at c.loop-at.threads.curr.items
     c.requires.ready.starts.state c.loop-at.invariant.so_far.stands.states.states)
 
 pub loop-at-preserved : goal.loop-at-preserved
 loop-at-preserved c =
-    let items = rw c.loop-at.invariant.width at c.join.ensures.curr in
+    let items = rw c.loop-at.invariant.width at c.add_start.ensures.curr in
     let crosses = crosses-joined (length c.args.patterns.now) c.loop-at.threads.reached.seen _
-    c.loop-at.invariant.so_far.gains.capacity c.join.ensures.seen items c.cross_to_set.ensures.crosses in
+    c.loop-at.invariant.so_far.gains.capacity c.add_start.ensures.seen items c.nexts_overlapping.ensures.crosses in
     record {
-      counted = c.move_on.ensures.scans ∙ c.cross_to_set.ensures.scans ∙ c.join.ensures.scans
+      counted = c.swap_state_sets.ensures.scans ∙ c.nexts_overlapping.ensures.scans ∙ c.add_start.ensures.scans
           ∙ c.loop-at.invariant.counted;
       low = omega arith;
-      sizes = c.move_on.ensures.sizes ∙ c.cross_to_set.ensures.sizes ∙ c.join.ensures.sizes ∙ c.loop-at.invariant.sizes;
-      width = c.move_on.ensures.width ∙ c.cross_to_set.ensures.width ∙ c.join.ensures.width ∙ c.loop-at.invariant.width;
-      next = c.move_on.ensures.next;
-      so_far = rw (c.move_on.ensures.seen, c.move_on.ensures.curr)
+      sizes = c.swap_state_sets.ensures.sizes ∙ c.nexts_overlapping.ensures.sizes ∙ c.add_start.ensures.sizes
+          ∙ c.loop-at.invariant.sizes;
+      width = c.swap_state_sets.ensures.width ∙ c.nexts_overlapping.ensures.width ∙ c.add_start.ensures.width
+          ∙ c.loop-at.invariant.width;
+      next = c.swap_state_sets.ensures.next;
+      so_far = rw (c.swap_state_sets.ensures.seen, c.swap_state_sets.ensures.curr)
           (All-next c.args.nfa.now (search_of c.args.input.now) c.args.patterns.now c.requires.valid
           c.loop-at.invariant.low c.loop-at.invariant.so_far crosses);
     }

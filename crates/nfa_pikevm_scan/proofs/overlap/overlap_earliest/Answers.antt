@@ -24,55 +24,55 @@ loop-at-init c = record {
 
 pub returns-then-is_empty-clause-gains : goal.returns-then-is_empty-clause-gains
 returns-then-is_empty-clause-gains c =
-    let items = rw c.loop-at.invariant.width at c.join.ensures.curr in
+    let items = rw c.loop-at.invariant.width at c.add_start.ensures.curr in
     Earliest-end c.args.nfa.now (search_of c.args.input.now) c.args.patterns.now c.args.past_match c.requires.empty
     c.loop-at.invariant.so_far
     (ScansAll-over c.args.nfa.now (search_of c.args.input.now) c.args.starts.now c.loop-at.at 0
     c.loop-at.invariant.so_far.stands.scans
-    (sym items ∙ none_of c.join.new.threads.curr.items (c.is_empty.ensures.0 c.if-is_empty.true))
+    (sym items ∙ none_of c.add_start.new.threads.curr.items (c.is_empty.ensures.0 c.if-is_empty.true))
     (wants-match c.args.nfa.now (search_of c.args.input.now) (length c.args.patterns.now)))
 
-pub cross_to_set-met-requires-clause-states : goal.cross_to_set-met-requires-clause-states
-cross_to_set-met-requires-clause-states c =
-    let items = rw c.loop-at.invariant.width at c.join.ensures.curr in
+pub nexts_overlapping-met-requires-clause-states : goal.nexts_overlapping-met-requires-clause-states
+nexts_overlapping-met-requires-clause-states c =
+    let items = rw c.loop-at.invariant.width at c.add_start.ensures.curr in
     rw items (below-joined c.args.starts.now 0 c.loop-at.at c.loop-at.threads.curr.items
     c.requires.ready.starts.state c.loop-at.invariant.so_far.stands.states.states)
 
 pub returns-then-met-clause-turns : goal.returns-then-met-clause-turns
 returns-then-met-clause-turns c =
-    let items = rw c.loop-at.invariant.width at c.join.ensures.curr in
+    let items = rw c.loop-at.invariant.width at c.add_start.ensures.curr in
     let crosses = crosses-joined (length c.args.patterns.now) c.loop-at.threads.reached.seen _
-    (ap (λ (l : List Bool). length l) c.loop-at.invariant.so_far.still) c.join.ensures.seen items
-    c.cross_to_set-met.ensures.crosses in
-    rw c.move_on.ensures.seen
+    (ap (λ (l : List Bool). length l) c.loop-at.invariant.so_far.still) c.add_start.ensures.seen items
+    c.nexts_overlapping-met.ensures.crosses in
+    rw c.swap_state_sets.ensures.seen
     (Stands-turns c.args.nfa.now (search_of c.args.input.now) c.args.patterns.now c.loop-at.invariant.low
     (omega (arith, c.end-at-end.ensures.value, c.loop-at-test.true)) c.loop-at.invariant.so_far.stands crosses)
 
 pub returns-then-met-clause-gains : goal.returns-then-met-clause-gains
 returns-then-met-clause-gains c =
-    let items = rw c.loop-at.invariant.width at c.join.ensures.curr in
+    let items = rw c.loop-at.invariant.width at c.add_start.ensures.curr in
     let crosses = crosses-joined (length c.args.patterns.now) c.loop-at.threads.reached.seen _
-    (ap (λ (l : List Bool). length l) c.loop-at.invariant.so_far.still) c.join.ensures.seen items
-    c.cross_to_set-met.ensures.crosses in
+    (ap (λ (l : List Bool). length l) c.loop-at.invariant.so_far.still) c.add_start.ensures.seen items
+    c.nexts_overlapping-met.ensures.crosses in
     Earliest-found c.args.nfa.now (search_of c.args.input.now) c.args.patterns.now c.args.past_match c.requires.valid
     c.requires.empty c.loop-at.invariant.so_far crosses c.if-met.true
 
 pub loop-at-preserved : goal.loop-at-preserved
 loop-at-preserved c =
-    let items = rw c.loop-at.invariant.width at c.join.ensures.curr in
+    let items = rw c.loop-at.invariant.width at c.add_start.ensures.curr in
     let crosses = crosses-joined (length c.args.patterns.now) c.loop-at.threads.reached.seen _
-    (ap (λ (l : List Bool). length l) c.loop-at.invariant.so_far.still) c.join.ensures.seen items
-    c.cross_to_set-met.ensures.crosses in
+    (ap (λ (l : List Bool). length l) c.loop-at.invariant.so_far.still) c.add_start.ensures.seen items
+    c.nexts_overlapping-met.ensures.crosses in
     record {
-      counted = c.move_on.ensures.scans ∙ c.cross_to_set-met.ensures.scans ∙ c.join.ensures.scans
+      counted = c.swap_state_sets.ensures.scans ∙ c.nexts_overlapping-met.ensures.scans ∙ c.add_start.ensures.scans
           ∙ c.loop-at.invariant.counted;
       low = omega arith;
-      sizes = c.move_on.ensures.sizes ∙ c.cross_to_set-met.ensures.sizes ∙ c.join.ensures.sizes
+      sizes = c.swap_state_sets.ensures.sizes ∙ c.nexts_overlapping-met.ensures.sizes ∙ c.add_start.ensures.sizes
           ∙ c.loop-at.invariant.sizes;
-      width = c.move_on.ensures.width ∙ c.cross_to_set-met.ensures.width ∙ c.join.ensures.width
+      width = c.swap_state_sets.ensures.width ∙ c.nexts_overlapping-met.ensures.width ∙ c.add_start.ensures.width
           ∙ c.loop-at.invariant.width;
-      next = c.move_on.ensures.next;
-      so_far = rw (c.move_on.ensures.seen, c.move_on.ensures.curr)
+      next = c.swap_state_sets.ensures.next;
+      so_far = rw (c.swap_state_sets.ensures.seen, c.swap_state_sets.ensures.curr)
           (Earliest-next c.args.nfa.now (search_of c.args.input.now) c.args.patterns.now c.args.past_match
           c.requires.valid c.loop-at.invariant.low c.loop-at.invariant.so_far crosses c.if-met.false);
     }

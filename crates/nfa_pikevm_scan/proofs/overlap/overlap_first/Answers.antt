@@ -28,25 +28,25 @@ loop-at-init c = record {
 
 pub returns-then-is_empty-clause-gains : goal.returns-then-is_empty-clause-gains
 returns-then-is_empty-clause-gains c =
-    let items = rw c.loop-at.invariant.width at c.join.ensures.curr in
+    let items = rw c.loop-at.invariant.width at c.add_start.ensures.curr in
     FirstWay-over c.args.nfa.now (search_of c.args.input.now) c.args.patterns.now c.requires.valid c.requires.empty
     c.loop-at.invariant.so_far
-    (sym items ∙ none_of c.join.new.threads.curr.items (c.is_empty.ensures.0 c.if-is_empty.true))
+    (sym items ∙ none_of c.add_start.new.threads.curr.items (c.is_empty.ensures.0 c.if-is_empty.true))
 
-pub cross_to_set-met-requires-clause-states : goal.cross_to_set-met-requires-clause-states
-cross_to_set-met-requires-clause-states c =
-    let items = rw c.loop-at.invariant.width at c.join.ensures.curr in
+pub nexts_overlapping-met-requires-clause-states : goal.nexts_overlapping-met-requires-clause-states
+nexts_overlapping-met-requires-clause-states c =
+    let items = rw c.loop-at.invariant.width at c.add_start.ensures.curr in
     rw items (below-joined c.loop-at.joining 0 c.loop-at.at c.loop-at.threads.curr.items
     c.loop-at.invariant.state c.loop-at.invariant.so_far.states.states)
 
 pub returns-then-is_over-clause-turns : goal.returns-then-is_over-clause-turns
 returns-then-is_over-clause-turns c =
     let over = c.is_over.ensures.over c.if-is_over.true in
-    let items = rw c.loop-at.invariant.width at c.join.ensures.curr in
+    let items = rw c.loop-at.invariant.width at c.add_start.ensures.curr in
     let crosses = crosses-joined (length c.args.patterns.now) c.loop-at.threads.reached.seen _
     (FirstWay-capacity c.args.nfa.now (search_of c.args.input.now) c.args.patterns.now c.loop-at.invariant.so_far)
-    c.join.ensures.seen items c.cross_to_set-met.ensures.crosses in
-    rw c.move_on.ensures.seen
+    c.add_start.ensures.seen items c.nexts_overlapping-met.ensures.crosses in
+    rw c.swap_state_sets.ensures.seen
     (FirstWay-turns c.args.nfa.now (search_of c.args.input.now) c.args.patterns.now (omega arith)
     (omega (arith, c.end-at-end.ensures.value, c.loop-at-test.true))
     (FirstWay-cut c.args.nfa.now (search_of c.args.input.now) c.args.patterns.now c.requires.valid
@@ -55,10 +55,10 @@ returns-then-is_over-clause-turns c =
 pub returns-then-is_over-clause-gains : goal.returns-then-is_over-clause-gains
 returns-then-is_over-clause-gains c =
     let over = c.is_over.ensures.over c.if-is_over.true in
-    let items = rw c.loop-at.invariant.width at c.join.ensures.curr in
+    let items = rw c.loop-at.invariant.width at c.add_start.ensures.curr in
     let crosses = crosses-joined (length c.args.patterns.now) c.loop-at.threads.reached.seen _
     (FirstWay-capacity c.args.nfa.now (search_of c.args.input.now) c.args.patterns.now c.loop-at.invariant.so_far)
-    c.join.ensures.seen items c.cross_to_set-met.ensures.crosses in
+    c.add_start.ensures.seen items c.nexts_overlapping-met.ensures.crosses in
     FirstWay-full c.args.nfa.now (search_of c.args.input.now) c.args.patterns.now c.requires.empty
     (FirstWay-cut c.args.nfa.now (search_of c.args.input.now) c.args.patterns.now c.requires.valid
     c.loop-at.invariant.low c.loop-at.invariant.so_far crosses c.requires.empty over.0)
@@ -66,10 +66,10 @@ returns-then-is_over-clause-gains c =
 
 pub loop-at-preserved : goal.loop-at-preserved
 loop-at-preserved c =
-    let items = rw c.loop-at.invariant.width at c.join.ensures.curr in
+    let items = rw c.loop-at.invariant.width at c.add_start.ensures.curr in
     let crosses = crosses-joined (length c.args.patterns.now) c.loop-at.threads.reached.seen _
     (FirstWay-capacity c.args.nfa.now (search_of c.args.input.now) c.args.patterns.now c.loop-at.invariant.so_far)
-    c.join.ensures.seen items c.cross_to_set-met.ensures.crosses in
+    c.add_start.ensures.seen items c.nexts_overlapping-met.ensures.crosses in
     record {
       not_full = elim c.if-met.branch [
         | then-met w ↦ c.is_over.ensures.goes_on c.if-is_over.false w.if-met.true
@@ -77,7 +77,7 @@ loop-at-preserved c =
             rw (set-stays c.args.nfa.now (search_of c.args.input.now) c.args.patterns.now c.requires.valid
             c.loop-at.invariant.low c.loop-at.invariant.so_far crosses w.if-met.false) c.loop-at.invariant.not_full
       ];
-      counted = c.move_on.ensures.scans ∙ c.cross_to_set-met.ensures.scans ∙ c.join.ensures.scans
+      counted = c.swap_state_sets.ensures.scans ∙ c.nexts_overlapping-met.ensures.scans ∙ c.add_start.ensures.scans
           ∙ c.loop-at.invariant.counted;
       low = omega arith;
       state = elim c.if-met.branch [
@@ -92,14 +92,14 @@ loop-at-preserved c =
         | then-met w ↦ rw w.joining-is (omega arith)
         | else-met w ↦ rw w.joining-is c.loop-at.invariant.limit
       ];
-      last = λ past. rw c.move_on.ensures.curr
+      last = λ past. rw c.swap_state_sets.ensures.curr
           (over-cross (set-crossed c.loop-at.joining.state c.loop-at.joining.limit crosses) (omega arith));
-      sizes = c.move_on.ensures.sizes ∙ c.cross_to_set-met.ensures.sizes ∙ c.join.ensures.sizes
+      sizes = c.swap_state_sets.ensures.sizes ∙ c.nexts_overlapping-met.ensures.sizes ∙ c.add_start.ensures.sizes
           ∙ c.loop-at.invariant.sizes;
-      width = c.move_on.ensures.width ∙ c.cross_to_set-met.ensures.width ∙ c.join.ensures.width
+      width = c.swap_state_sets.ensures.width ∙ c.nexts_overlapping-met.ensures.width ∙ c.add_start.ensures.width
           ∙ c.loop-at.invariant.width;
-      next = c.move_on.ensures.next;
-      so_far = rw (c.move_on.ensures.seen, c.move_on.ensures.curr)
+      next = c.swap_state_sets.ensures.next;
+      so_far = rw (c.swap_state_sets.ensures.seen, c.swap_state_sets.ensures.curr)
           (elim c.if-met.branch [
             | then-met w ↦
                 rw w.joining-is

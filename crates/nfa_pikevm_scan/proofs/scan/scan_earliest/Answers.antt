@@ -6,7 +6,7 @@ use Rattle.nfa_paths.proofs.ScanAnswerLemmas.{scan_answer-none}
 use Rattle.regex_search_core.specs.declared.search.MatchKind.TheVariants.{All, LeftmostFirst}
 use Rattle.nfa_pikevm_scan.proofs.AllLemmas.{ScansAll-cross, NoneBefore-cross, EndsAt-none}
 use Rattle.nfa_pikevm_scan.proofs.EndLemmas.{ScansAll-begin, NoneBefore-begin, ScansAll-join, ScansAll-over, earliest-over, ends-at}
-use Rattle.nfa_pikevm_scan.proofs.FrontLemmas.{IsPaidAt-end}
+use Rattle.nfa_pikevm_scan.proofs.FrontierLemmas.{IsPaidAt-end}
 use Rattle.nfa_pikevm_scan.proofs.RoomLemmas.{AreAt-none, none_of, below-joined, few-joined}
 use Rattle.nfa_pikevm_scan.proofs.ScanLemmas.{search-crossed, AreAt-cross, IsPaidAt-crossed}
 use Rattle.nfa_pikevm_scan.proofs.scan.scan_earliest.Goals as goal
@@ -30,8 +30,8 @@ loop-at-init c =
 
 pub returns-then-is_empty-clause-answer : goal.returns-then-is_empty-clause-answer
 returns-then-is_empty-clause-answer c =
-    let none = none_of c.join.new.threads.curr.items (c.is_empty.ensures.0 c.if-is_empty.true) in
-    let items = rw c.loop-at.invariant.width at c.join.ensures.curr in (
+    let none = none_of c.add_start.new.threads.curr.items (c.is_empty.ensures.0 c.if-is_empty.true) in
+    let items = rw c.loop-at.invariant.width at c.add_start.ensures.curr in (
       scan_answer-none c.args.nfa.now (search_of c.args.input.now) (cond c.args.past_match All LeftmostFirst) true
           c.loop-at.invariant.none
           (ScansAll-over c.args.nfa.now (search_of c.args.input.now) c.args.starts.now c.loop-at.at
@@ -39,9 +39,9 @@ returns-then-is_empty-clause-answer c =
       rw c.loop-at.invariant.same c.requires.unset,
     )
 
-pub cross-requires-clause-states : goal.cross-requires-clause-states
-cross-requires-clause-states c =
-    rw (rw c.loop-at.invariant.width at c.join.ensures.curr)
+pub nexts-requires-clause-states : goal.nexts-requires-clause-states
+nexts-requires-clause-states c =
+    rw (rw c.loop-at.invariant.width at c.add_start.ensures.curr)
     (below-joined c.args.starts.now (length c.args.slots.now) c.loop-at.at c.loop-at.threads.curr.items
     c.requires.ready.starts.state c.loop-at.invariant.items.states)
 
@@ -50,62 +50,65 @@ returns-then-is_some-clause-turns c =
     let x = search_of c.args.input.now in
     let width = length c.args.slots.now in
     let low : x.start ≤ c.loop-at.at = omega (arith, c.start-at.ensures, c.loop-at.auto.at) in
-    let items = rw c.loop-at.invariant.width at c.join.ensures.curr in
-    let crosses = c.cross.ensures.crosses in
-    let few : length c.join.new.threads.curr.items ≤ length c.loop-at.threads.curr.items + 1 =
+    let items = rw c.loop-at.invariant.width at c.add_start.ensures.curr in
+    let crosses = c.nexts.ensures.crosses in
+    let few : length c.add_start.new.threads.curr.items ≤ length c.loop-at.threads.curr.items + 1 =
     rw items (few-joined c.args.starts.now width c.loop-at.at c.loop-at.threads.curr.items) in
-    let kept = c.move_on.ensures.curr in
+    let kept = c.swap_state_sets.ensures.curr in
     let e : c.end-at-end.result ≡ x.end = c.end-at-end.ensures.value in
     let within : c.loop-at.at + 1 ≤ x.end + 1 = omega (arith, c.loop-at-test.true) in
     IsPaidAt-end c.args.nfa.now x (c.loop-at.at + 1) c.args.threads.now.reached.seen.turns
-    c.move_on.new.threads.reached.seen.turns
-    (length c.move_on.new.threads.curr.items) within c.requires.ready.span
-    (rw (c.move_on.ensures.seen, kept)
+    c.swap_state_sets.new.threads.reached.seen.turns
+    (length c.swap_state_sets.new.threads.curr.items) within c.requires.ready.span
+    (rw (c.swap_state_sets.ensures.seen, kept)
     (IsPaidAt-crossed (search-crossed width c.args.starts.now.state c.args.starts.now.limit crosses) low
-    (rw c.join.ensures.seen c.loop-at.invariant.paid) few))
+    (rw c.add_start.ensures.seen c.loop-at.invariant.paid) few))
 
 pub returns-then-is_some-clause-answer : goal.returns-then-is_some-clause-answer
 returns-then-is_some-clause-answer c =
     let x = search_of c.args.input.now in
     let width = length c.args.slots.now in
-    let items = rw c.loop-at.invariant.width at c.join.ensures.curr in
+    let items = rw c.loop-at.invariant.width at c.add_start.ensures.curr in
     let s = ScansAll-join c.args.nfa.now x c.args.starts.now c.loop-at.at width c.loop-at.threads.reached.seen
-    c.join.new.threads.reached.seen c.join.ensures.seen
-    c.loop-at.threads.curr.items c.join.new.threads.curr.items items c.loop-at.invariant.scans in
-    rw c.move_on.ensures.seen
+    c.add_start.new.threads.reached.seen c.add_start.ensures.seen
+    c.loop-at.threads.curr.items c.add_start.new.threads.curr.items items c.loop-at.invariant.scans in
+    rw c.swap_state_sets.ensures.seen
     (earliest-over c.args.nfa.now x c.loop-at.at width c.args.starts.now.state c.args.starts.now.limit c.args.past_match
-    c.cross.ensures.crosses s c.loop-at.invariant.none
+    c.nexts.ensures.crosses s c.loop-at.invariant.none
     c.half_at-hit.result c.half_at-hit.ensures (sym c.is_some.ensures ∙ c.if-is_some.true)
-    (sym (c.cross.auto.slots ∙ c.loop-at.auto.slots)))
+    (sym (c.nexts.auto.slots ∙ c.loop-at.auto.slots)))
 
 pub loop-at-preserved : goal.loop-at-preserved
 loop-at-preserved c =
     let x = search_of c.args.input.now in
     let width = length c.args.slots.now in
     let low : x.start ≤ c.loop-at.at = omega (arith, c.start-at.ensures, c.loop-at.auto.at) in
-    let items = rw c.loop-at.invariant.width at c.join.ensures.curr in
+    let items = rw c.loop-at.invariant.width at c.add_start.ensures.curr in
     let s = ScansAll-join c.args.nfa.now x c.args.starts.now c.loop-at.at width c.loop-at.threads.reached.seen
-    c.join.new.threads.reached.seen c.join.ensures.seen
-    c.loop-at.threads.curr.items c.join.new.threads.curr.items items c.loop-at.invariant.scans in
-    let crosses = c.cross.ensures.crosses in
-    let few : length c.join.new.threads.curr.items ≤ length c.loop-at.threads.curr.items + 1 =
+    c.add_start.new.threads.reached.seen c.add_start.ensures.seen
+    c.loop-at.threads.curr.items c.add_start.new.threads.curr.items items c.loop-at.invariant.scans in
+    let crosses = c.nexts.ensures.crosses in
+    let few : length c.add_start.new.threads.curr.items ≤ length c.loop-at.threads.curr.items + 1 =
     rw items (few-joined c.args.starts.now width c.loop-at.at c.loop-at.threads.curr.items) in
-    let kept = c.move_on.ensures.curr in
-    let no_hit = EndsAt-none c.loop-at.at c.cross.result c.half_at-hit.result c.half_at-hit.ensures
+    let kept = c.swap_state_sets.ensures.curr in
+    let no_hit = EndsAt-none c.loop-at.at c.nexts.result c.half_at-hit.result c.half_at-hit.ensures
     (sym c.is_some.ensures ∙ c.if-is_some.false) in
     let hit = rw no_hit at crosses.is_hit in
     let written = hit.1 in
     record {
-      counted = c.move_on.ensures.scans ∙ c.cross.ensures.scans ∙ c.join.ensures.scans ∙ c.loop-at.invariant.counted;
-      sizes = c.move_on.ensures.sizes ∙ c.cross.ensures.sizes ∙ c.join.ensures.sizes ∙ c.loop-at.invariant.sizes;
-      width = c.move_on.ensures.width ∙ c.cross.ensures.width ∙ c.join.ensures.width ∙ c.loop-at.invariant.width;
-      next = c.move_on.ensures.next;
+      counted = c.swap_state_sets.ensures.scans ∙ c.nexts.ensures.scans ∙ c.add_start.ensures.scans
+          ∙ c.loop-at.invariant.counted;
+      sizes = c.swap_state_sets.ensures.sizes ∙ c.nexts.ensures.sizes ∙ c.add_start.ensures.sizes
+          ∙ c.loop-at.invariant.sizes;
+      width = c.swap_state_sets.ensures.width ∙ c.nexts.ensures.width ∙ c.add_start.ensures.width
+          ∙ c.loop-at.invariant.width;
+      next = c.swap_state_sets.ensures.next;
       items = rw kept (AreAt-cross (search-crossed width c.args.starts.now.state c.args.starts.now.limit crosses)
           c.requires.ready.starts.leads);
-      paid = rw (c.move_on.ensures.seen, kept)
+      paid = rw (c.swap_state_sets.ensures.seen, kept)
           (IsPaidAt-crossed (search-crossed width c.args.starts.now.state c.args.starts.now.limit crosses) low
-          (rw c.join.ensures.seen c.loop-at.invariant.paid) few);
-      scans = rw (c.move_on.ensures.seen, kept)
+          (rw c.add_start.ensures.seen c.loop-at.invariant.paid) few);
+      scans = rw (c.swap_state_sets.ensures.seen, kept)
           (ScansAll-cross c.args.nfa.now x c.loop-at.at width c.args.starts.now.state c.args.starts.now.limit crosses
           s (inr no_hit));
       none = NoneBefore-cross c.args.nfa.now x c.loop-at.at width c.args.starts.now.state c.args.starts.now.limit

@@ -3,7 +3,7 @@ use Rattle.std.proofs.Common.{◌≡◌, ◌∙◌, ◌+◌, ◌<◌, ◌≤◌,
 use Rattle.regex_search_core.specs.Search.{search_of}
 use Rattle.nfa_pikevm_scan.proofs.AllLemmas.{EndsAt-none}
 use Rattle.nfa_pikevm_scan.proofs.EndLemmas.{SearchesFirst-begin, SearchesFirst-joins, SearchesFirst-some, first-over}
-use Rattle.nfa_pikevm_scan.proofs.FrontLemmas.{IsPaidAt-later}
+use Rattle.nfa_pikevm_scan.proofs.FrontierLemmas.{IsPaidAt-later}
 use Rattle.nfa_pikevm_scan.proofs.RoomLemmas.{AreAt-none, none_of, below-joins, few-joins, over-joins}
 use Rattle.nfa_pikevm_scan.proofs.ScanLemmas.{search-crossed, AreAt-cross, IsPaidAt-crossed, over-cross, SearchesFirst-miss}
 use Rattle.nfa_pikevm_scan.proofs.scan.scan_first.Goals as goal
@@ -33,51 +33,51 @@ pub returns-then-is_empty-clause-answer : goal.returns-then-is_empty-clause-answ
 returns-then-is_empty-clause-answer c =
     let x = search_of c.args.input.now in
     let width = length c.args.slots.now in
-    let to = c.join_or_skip-at.result in
-    let none = none_of c.join_or_skip-at.new.threads.curr.items (c.is_empty.ensures.0 c.if-is_empty.true) in
-    let joins = rw c.loop-at.invariant.width at c.join_or_skip-at.ensures.joins in
+    let to = c.add_start_or_skip-at.result in
+    let none = none_of c.add_start_or_skip-at.new.threads.curr.items (c.is_empty.ensures.0 c.if-is_empty.true) in
+    let joins = rw c.loop-at.invariant.width at c.add_start_or_skip-at.ensures.joins in
     let past : c.loop-at.limit ≤ to = over-joins joins none in
     let next : c.loop-at.limit ≤ to + 1 = omega arith in
     let s = SearchesFirst-joins c.args.nfa.now x c.args.first.now.may_begin c.requires.first c.args.starts.now
     c.requires.ready.starts c.loop-at.limit width c.loop-at.at to c.loop-at.invariant.low joins
     c.loop-at.invariant.searches in
-    rw c.join_or_skip-at.ensures.seen
+    rw c.add_start_or_skip-at.ensures.seen
     (first-over c.args.nfa.now x to (to + 1) width c.args.starts.now.state c.loop-at.limit c.loop-at.found
     c.loop-at.slots c.loop-at.threads.reached.seen c.loop-at.invariant.searches.so_far
-    c.join_or_skip-at.new.threads.curr.items c.loop-at.invariant.searches.is_so_far next none s
+    c.add_start_or_skip-at.new.threads.curr.items c.loop-at.invariant.searches.is_so_far next none s
     (sym c.loop-at.auto.slots))
 
-pub cross-requires-clause-states : goal.cross-requires-clause-states
-cross-requires-clause-states c =
-    below-joins c.join_or_skip-at.ensures.joins c.requires.ready.starts.state c.loop-at.invariant.items.states
+pub nexts-requires-clause-states : goal.nexts-requires-clause-states
+nexts-requires-clause-states c =
+    below-joins c.add_start_or_skip-at.ensures.joins c.requires.ready.starts.state c.loop-at.invariant.items.states
 
 pub loop-at-preserved : goal.loop-at-preserved
 loop-at-preserved c =
     let x = search_of c.args.input.now in
     let width = length c.args.slots.now in
-    let to = c.join_or_skip-at.result in
+    let to = c.add_start_or_skip-at.result in
     let state = c.args.starts.now.state in
     let e : c.end.result ≡ x.end = c.end.ensures.value in
     let before : c.loop-at.at ≤ x.end = omega (arith, c.loop-at-test.true) in
     let low : x.start ≤ c.loop-at.at = c.loop-at.invariant.low in
-    let joins = rw c.loop-at.invariant.width at c.join_or_skip-at.ensures.joins in
+    let joins = rw c.loop-at.invariant.width at c.add_start_or_skip-at.ensures.joins in
     let ahead : c.loop-at.at ≤ to = joins.ahead in
     let ends : to ≤ x.end = joins.within before in
     let from : x.start ≤ to = omega arith in
-    let s = rw (← c.join_or_skip-at.ensures.seen) at
+    let s = rw (← c.add_start_or_skip-at.ensures.seen) at
     (SearchesFirst-joins c.args.nfa.now x c.args.first.now.may_begin c.requires.first c.args.starts.now
     c.requires.ready.starts c.loop-at.limit width c.loop-at.at to low joins c.loop-at.invariant.searches) in
-    let crosses = c.cross.ensures.crosses in
+    let crosses = c.nexts.ensures.crosses in
     let few = few-joins joins in
-    let kept = c.move_on.ensures.curr in
+    let kept = c.swap_state_sets.ensures.curr in
     record {
-      counted = c.move_on.ensures.scans ∙ c.cross.ensures.scans ∙ c.join_or_skip-at.ensures.scans
+      counted = c.swap_state_sets.ensures.scans ∙ c.nexts.ensures.scans ∙ c.add_start_or_skip-at.ensures.scans
           ∙ c.loop-at.invariant.counted;
-      sizes = c.move_on.ensures.sizes ∙ c.cross.ensures.sizes ∙ c.join_or_skip-at.ensures.sizes
+      sizes = c.swap_state_sets.ensures.sizes ∙ c.nexts.ensures.sizes ∙ c.add_start_or_skip-at.ensures.sizes
           ∙ c.loop-at.invariant.sizes;
-      width = c.move_on.ensures.width ∙ c.cross.ensures.width ∙ c.join_or_skip-at.ensures.width
+      width = c.swap_state_sets.ensures.width ∙ c.nexts.ensures.width ∙ c.add_start_or_skip-at.ensures.width
           ∙ c.loop-at.invariant.width;
-      next = c.move_on.ensures.next;
+      next = c.swap_state_sets.ensures.next;
       items = rw kept (AreAt-cross (search-crossed width state c.loop-at.limit crosses)
           c.requires.ready.starts.leads);
       low = omega arith;
@@ -91,13 +91,13 @@ loop-at-preserved c =
       ];
       over = λ past. kept ∙ over-cross (search-crossed width state c.loop-at.limit crosses)
           (let h : x.end ≤ to = omega arith in h);
-      paid = rw (c.move_on.ensures.seen, kept)
+      paid = rw (c.swap_state_sets.ensures.seen, kept)
           (IsPaidAt-crossed (search-crossed width state c.loop-at.limit crosses) from
-          (rw c.join_or_skip-at.ensures.seen
+          (rw c.add_start_or_skip-at.ensures.seen
           (IsPaidAt-later c.args.nfa.now x c.loop-at.at to c.args.threads.now.reached.seen.turns
           c.loop-at.threads.reached.seen.turns
           (length c.loop-at.threads.curr.items) ahead c.loop-at.invariant.paid)) few);
-      searches = rw (c.move_on.ensures.seen, kept)
+      searches = rw (c.swap_state_sets.ensures.seen, kept)
           (elim c.if-is_some.branch [
             | then-is_some w ↦
                 rw (w.limit-is, w.found-is)
@@ -107,7 +107,7 @@ loop-at-preserved c =
                 rw (w.limit-is, w.found-is)
                 (SearchesFirst-miss c.args.nfa.now x to width state c.loop-at.limit crosses s
                 c.loop-at.invariant.searches.is_so_far
-                (EndsAt-none to c.cross.result c.half_at-hit.result c.half_at-hit.ensures
+                (EndsAt-none to c.nexts.result c.half_at-hit.result c.half_at-hit.ensures
                 (sym c.is_some.ensures ∙ w.if-is_some.false)))
           ]);
     }

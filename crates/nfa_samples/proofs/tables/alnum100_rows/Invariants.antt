@@ -1,7 +1,7 @@
 -- The rows so far are sound, and the next one leads to the state of this number.
 use Rattle.std.proofs.Common.{◌≡◌, ◌+◌, true, length}
 use Rattle.std.specs.List.{list_all}
-use Rattle.nfa_samples.specs.Drafts.{is_row}
+use Rattle.nfa_samples.specs.StateTables.{is_row}
 use Rattle.nfa_samples.proofs.tables.alnum100_rows.Given as goal
 
 abbrev pub invariant-loop-next : goal.invariant-loop-next

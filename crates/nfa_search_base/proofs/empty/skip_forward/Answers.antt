@@ -2,7 +2,7 @@
 use Rattle.std.proofs.Common.{rules, refl, ◌≡◌, Some, None, Ok, Err, ◌+◌}
 use Rattle.regex_search_core.specs.Search.{search_of}
 use Rattle.nfa_search_base.specs.Asking.{SameButStart, Asks}
-use Rattle.nfa_search_base.specs.Skipping.{Placed, start_raised}
+use Rattle.nfa_search_base.specs.Skipping.{WithOffset, start_raised}
 use Rattle.nfa_search_base.proofs.AskingLemmas.{same_start-self}
 use Rattle.nfa_search_base.proofs.SkipLemmas.{HasCome-start, HasCome-callable, HasCome-placed, HasCome-next}
 use Rattle.nfa_search_base.proofs.SkipLemmas.{HasCome-last, HasCome-end}
@@ -35,7 +35,7 @@ loop-input-preserved g c =
     search rules in
     let same : SameButStart (search_of c.args.input) (search_of c.set_start.new.self) =
     same_start-up _ (search_of c.loop-input.input) _ up c.loop-input.invariant.1.same in
-    let a : Placed g.row.T.Denot = Ok (Some (c.in-Ok-Some.next, c.in-Ok-Some.at)) in
+    let a : WithOffset g.row.T.Denot = Ok (Some (c.in-Ok-Some.next, c.in-Ok-Some.at)) in
     let asked : Asks g.F.FnMut c.loop-input.find (search_of c.set_start.new.self) a c.ask.new.finder =
     rw (c.in-Ok-Some.is, c.in-Ok-Some.field-0-is) at c.ask.ensures in (
       HasCome-placed g.F.FnMut _ (start_raised (search_of c.args.input)) SameButStart same_start-self
@@ -55,7 +55,7 @@ returns-in-Ok-None g c =
     let up : search_of c.set_start.new.self
     ≡ record (search_of c.loop-input.input) { start = c.loop-input.input.span.start + 1 } =
     search rules in
-    let a : Placed g.row.T.Denot = Ok None in
+    let a : WithOffset g.row.T.Denot = Ok None in
     let asked : Asks g.F.FnMut c.loop-input.find (search_of c.set_start.new.self) a c.ask.new.finder =
     rw (c.in-Ok-None.is, c.in-Ok-None.field-0-is) at c.ask.ensures in
     HasCome-last g.F.FnMut _ (start_raised (search_of c.args.input)) SameButStart same_start-self
@@ -69,7 +69,7 @@ returns-in-Err g c =
     let up : search_of c.set_start.new.self
     ≡ record (search_of c.loop-input.input) { start = c.loop-input.input.span.start + 1 } =
     search rules in
-    let a : Placed g.row.T.Denot = Err c.in-Err.error in
+    let a : WithOffset g.row.T.Denot = Err c.in-Err.error in
     let asked : Asks g.F.FnMut c.loop-input.find (search_of c.set_start.new.self) a c.ask.new.finder =
     rw (c.in-Err.is) at c.ask.ensures in
     HasCome-last g.F.FnMut _ (start_raised (search_of c.args.input)) SameButStart same_start-self

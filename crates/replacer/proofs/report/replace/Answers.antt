@@ -13,7 +13,8 @@ returns-clause-printed g c = λ pattern re of.
     let nfa = c.args.vm.now.nfa in
     let P : List ℕ → Type 0 =
     λ text. (hits : List Hit) → AreAllHits re (is_utf8_empty nfa) text hits
-    → IsReplacedBy (g.W.Write.contents c.args.out.now) (g.W.Write.contents c.write_replaced.new.out) nfa.groups text hits
+    → IsReplacedBy (g.W.Write.contents c.args.out.now) (g.W.Write.contents c.write_replaced.new.out)
+    nfa.groups text hits
     c.args.template.now in
     at-read (g.R.Read.remaining c.args.input) c.deref.result.now c.in_ok-text.text.items P c.deref.ensures.value
     c.in_ok-text.ensures

@@ -4,10 +4,10 @@ ghost use Rattle.std.specs.Prelude.{◌≡◌, false, All, IfOk, Ok, map};
 ghost use Rattle.regex_search_core.specs.Found.{found_of};
 ghost use Rattle.regex_search_core.specs.Search.{search_of, whole};
 ghost use Rattle.regex_search_core.specs.declared.search.MatchKind.TheVariants.{LeftmostFirst};
-ghost use Rattle.nfa_search_base.specs.Finders.{answer_by, match_place, half_place};
+ghost use Rattle.nfa_search_base.specs.Finders.{answer_by, match_span, half_match_span};
 ghost use Rattle.nfa_search_base.specs.Items.{item_by, greedy};
 ghost use Rattle.nfa_search_base.specs.Lists.{AreMatches, AreFirstMatches, IsInside};
-ghost use Rattle.nfa_search_base.specs.Walks.{fresh, span_of, LiesIn};
+ghost use Rattle.nfa_search_base.specs.IterStates.{fresh, span_of, LiesIn};
 ghost use Rattle.nfa_backtrack.specs.Runs.{AreAllItems, AreFirstItems};
 ghost use Rattle.search_tests.specs.Callers.{piece_answer};
 
@@ -124,7 +124,7 @@ fn texts<'t>(
 // The match that takes at most `len` bytes from the start of the span.
 pub fn next_piece(input: &Input<'_>, len: usize) -> Option<Match>
     ensures is { answer_by found_of (Ok result) ≡ piece_answer len (search_of input.now) }
-    ensures inside { LiesIn (search_of input.now) (match_place (Ok result)) }
+    ensures inside { LiesIn (search_of input.now) (match_span (Ok result)) }
 {
     let start = input.start();
     let end = input.end();
@@ -159,7 +159,7 @@ fn half_found(
     cache: &mut Cache,
     input: &Input<'_>,
 ) -> Result<Option<HalfMatch>, SearchError>
-    ensures { LiesIn (search_of input.now) (half_place result) }
+    ensures { LiesIn (search_of input.now) (half_match_span result) }
 {
     engine.try_find_half(cache, *input)
 }

@@ -2,8 +2,8 @@
 
 ghost use Rattle.std.specs.Prelude.{IsOk, Ok};
 ghost use Rattle.regex_search_core.specs.Search.{search_of};
-ghost use Rattle.nfa_search_base.specs.Finders.{half_place, match_place};
-ghost use Rattle.nfa_search_base.specs.Walks.{LiesIn};
+ghost use Rattle.nfa_search_base.specs.Finders.{half_match_span, match_span};
+ghost use Rattle.nfa_search_base.specs.IterStates.{LiesIn};
 
 use super::callers::next_piece;
 use crate::tests::expect_shown;
@@ -40,7 +40,7 @@ fn expect_matches_shown(
     let matches = engine.try_find_iter(cache, Input::new(b"ab"));
     let want = format!(in alloc;
         "TryFindMatches {{ cache: {UNUSED}, steps: Steps {{ searcher: {FRESH}, \
-        asker: Finder {{ engine: BoundedBacktracker {{ config: Config {{ visited_capacity: None }}, \
+        backend: Finder {{ engine: BoundedBacktracker {{ config: Config {{ visited_capacity: None }}, \
         first: FirstBytes {{ .. }}, nfa: {NEVER} }}, known: None }}, done: false }} }}"
     );
     let want = want.expect(rt, "memory for a text");
@@ -57,7 +57,7 @@ fn an_iterator_over_an_engine_is_shown(rt: HostRuntime) {
 
 // The end of the next byte, or of the span where no byte is left.
 fn next_end(input: &Input<'_>) -> Option<HalfMatch>
-    ensures { LiesIn (search_of input.now) (half_place (Ok result)) }
+    ensures { LiesIn (search_of input.now) (half_match_span (Ok result)) }
 {
     if input.is_done() {
         return None;
@@ -71,7 +71,7 @@ fn next_end(input: &Input<'_>) -> Option<HalfMatch>
 
 // The next byte, or the empty rest of the span.
 fn byte(input: &Input<'_>) -> Result<Option<Match>, SearchError>
-    ensures inside { LiesIn (search_of input.now) (match_place result) }
+    ensures inside { LiesIn (search_of input.now) (match_span result) }
     ensures surely { IsOk result }
 {
     Ok(next_piece(input, 1))
@@ -79,7 +79,7 @@ fn byte(input: &Input<'_>) -> Result<Option<Match>, SearchError>
 
 // Its end.
 fn byte_end(input: &Input<'_>) -> Result<Option<HalfMatch>, SearchError>
-    ensures inside { LiesIn (search_of input.now) (half_place result) }
+    ensures inside { LiesIn (search_of input.now) (half_match_span result) }
     ensures surely { IsOk result }
 {
     Ok(next_end(input))

@@ -4,12 +4,12 @@ ghost use Rattle.std.specs.Prelude.{◌≡◌, false, length, map};
 ghost use Rattle.regex_search_core.specs.Found.{found_of};
 ghost use Rattle.regex_search_core.specs.Search.{whole};
 ghost use Rattle.regex_search_core.specs.declared.search.MatchKind.TheVariants.{LeftmostFirst};
-ghost use Rattle.nfa_search_base.specs.Catching.{row_of};
-ghost use Rattle.nfa_search_base.specs.CaughtLists.{AreAllCaptures, AreFirstRows, AreRows, TellsRow};
-ghost use Rattle.nfa_search_base.specs.CaughtRuns.{match_in};
+ghost use Rattle.nfa_search_base.specs.WithCaptures.{row_of};
+ghost use Rattle.nfa_search_base.specs.CapturesLists.{AreAllCaptures, AreFirstRows, AreRows, AnswersRow};
+ghost use Rattle.nfa_search_base.specs.CapturesRuns.{match_in};
 ghost use Rattle.nfa_search_base.specs.Lists.{AreMatches};
 ghost use Rattle.nfa_pikevm.specs.Engines.{Fits, kind_of};
-ghost use Rattle.nfa_backtrack.specs.Finding.{IsCatchOf};
+ghost use Rattle.nfa_backtrack.specs.Finding.{IsTryCapturesAnswer};
 
 use nfa_engines::backtrack::{self, BoundedBacktracker};
 use nfa_engines::error::SearchError;
@@ -28,7 +28,7 @@ pub(crate) fn collected(
     text: &[u8],
 ) -> Vec<Result<Captures, SearchError>>
     requires { Fits cache.old vm.now.nfa }
-    ensures { AreAllCaptures (TellsRow vm.now.nfa (kind_of vm.now) false) (whole text.now) result.items }
+    ensures { AreAllCaptures (AnswersRow vm.now.nfa (kind_of vm.now) false) (whole text.now) result.items }
 {
     let Ok(items) = vm.captures_iter(alloc, cache, Input::new(text)) else {
         panic!(rt; "memory");
@@ -44,7 +44,7 @@ pub(crate) fn tries_collected(
     cache: &mut backtrack::Cache,
     text: &[u8],
 ) -> Vec<Result<Captures, SearchError>>
-    ensures { AreAllCaptures (IsCatchOf engine.now) (whole text.now) result.items }
+    ensures { AreAllCaptures (IsTryCapturesAnswer engine.now) (whole text.now) result.items }
 {
     let Ok(items) = engine.try_captures_iter(alloc, cache, Input::new(text)) else {
         panic!(rt; "memory");
@@ -61,7 +61,7 @@ pub(crate) fn collected_with(
     text: &[u8],
 ) -> Vec<Result<Captures, SearchError>>
     requires { Fits cache.old vm.now.nfa }
-    ensures { AreAllCaptures (TellsRow vm.now.nfa (kind_of vm.now) false) (whole text.now) result.items }
+    ensures { AreAllCaptures (AnswersRow vm.now.nfa (kind_of vm.now) false) (whole text.now) result.items }
 {
     let captures = vm.create_captures(alloc).expect(rt, "memory");
     vm.captures_iter_with(cache, Input::new(text), captures)
@@ -77,7 +77,7 @@ pub(crate) fn tries_collected_with(
     cache: &mut backtrack::Cache,
     text: &[u8],
 ) -> Vec<Result<Captures, SearchError>>
-    ensures { AreAllCaptures (IsCatchOf engine.now) (whole text.now) result.items }
+    ensures { AreAllCaptures (IsTryCapturesAnswer engine.now) (whole text.now) result.items }
 {
     let captures = engine.create_captures(alloc).expect(rt, "memory");
     engine

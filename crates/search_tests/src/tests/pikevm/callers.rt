@@ -3,8 +3,8 @@
 ghost use Rattle.std.specs.Prelude.{false, ◌≡◌, ◌≤◌, ◌<◌, List, All, IfOk, IfSome, None, length, map, [], ◌∷◌};
 ghost use Rattle.regex_search_core.specs.Found.{Found, found_of};
 ghost use Rattle.regex_search_core.specs.Search.{search_of, whole};
-ghost use Rattle.nfa_pikevm.specs.Engines.{Fits, SameNumbers, kind_of};
-ghost use Rattle.nfa_search_base.specs.Lists.{AreMatches, AreFirstMatches, AreApart, IsInside};
+ghost use Rattle.nfa_pikevm.specs.Engines.{Fits, SameCapacities, kind_of};
+ghost use Rattle.nfa_search_base.specs.Lists.{AreMatches, AreFirstMatches, AreDisjoint, IsInside};
 
 use nfa_engines::error::SearchError;
 use nfa_engines::pikevm::{Cache, PikeVM};
@@ -176,7 +176,7 @@ pub(super) fn collected_inside(
 ) -> Result<Vec<Match>, AllocError>
     requires { Fits cache.old vm.now.nfa }
     ensures inside { IfOk result (λ v. All (λ m. IsInside (whole text.now) (found_of m)) v.items) }
-    ensures apart { IfOk result (λ v. AreApart (whole text.now) None (map found_of v.items)) }
+    ensures apart { IfOk result (λ v. AreDisjoint (whole text.now) None (map found_of v.items)) }
     ensures all { IfOk result
         (λ v. AreMatches vm.now.nfa (kind_of vm.now) false (whole text.now) (map found_of v.items)) }
 {
@@ -203,7 +203,7 @@ pub(super) fn texts_of_collected<'t>(
 // How many of the first three matches there are. The cache fits afterwards what it fitted before.
 pub(super) fn numbers_kept(vm: &PikeVM, cache: &mut Cache, text: &[u8]) -> usize
     requires { Fits cache.old vm.now.nfa }
-    ensures numbers { SameNumbers cache.old cache.new }
+    ensures numbers { SameCapacities cache.old cache.new }
     ensures fits { Fits cache.new vm.now.nfa }
 {
     let mut count = 0;
@@ -248,7 +248,7 @@ pub(super) fn looped_inside(
 ) -> Result<Vec<Match>, AllocError>
     requires { Fits cache.old vm.now.nfa }
     ensures inside { IfOk result (λ v. All (λ m. IsInside (whole text.now) (found_of m)) v.items) }
-    ensures apart { IfOk result (λ v. AreApart (whole text.now) None (map found_of v.items)) }
+    ensures apart { IfOk result (λ v. AreDisjoint (whole text.now) None (map found_of v.items)) }
 {
     let mut found = Vec::new(alloc);
     for item in vm.find_iter(cache, Input::new(text)) {
@@ -284,7 +284,7 @@ pub(super) fn first_alone(vm: &PikeVM, cache: &mut Cache, text: &[u8]) -> Option
 // How many matches a text has. A loop keeps the numbers of the cache; after a `count` nothing would be known of it.
 fn counted(vm: &PikeVM, cache: &mut Cache, text: &[u8]) -> usize
     requires { Fits cache.old vm.now.nfa }
-    ensures { SameNumbers cache.old cache.new }
+    ensures { SameCapacities cache.old cache.new }
 {
     let mut count = 0;
     for _ in vm.find_iter(cache, Input::new(text)) {
@@ -296,7 +296,7 @@ fn counted(vm: &PikeVM, cache: &mut Cache, text: &[u8]) -> usize
 // How many matches all texts have together, with one cache.
 pub(super) fn count_in_all(vm: &PikeVM, cache: &mut Cache, haystacks: &[&[u8]]) -> usize
     requires { Fits cache.old vm.now.nfa }
-    ensures { SameNumbers cache.old cache.new }
+    ensures { SameCapacities cache.old cache.new }
 {
     let mut count = 0;
     for haystack in haystacks {

@@ -1,8 +1,8 @@
 //! Half matches, by a searcher that asks a PikeVM.
 
 ghost use Rattle.regex_search_core.specs.Search.{search_of};
-ghost use Rattle.nfa_search_base.specs.Finders.{half_place};
-ghost use Rattle.nfa_search_base.specs.Walks.{LiesIn};
+ghost use Rattle.nfa_search_base.specs.Finders.{half_match_span};
+ghost use Rattle.nfa_search_base.specs.IterStates.{LiesIn};
 
 use nfa_engines::error::SearchError;
 use nfa_engines::iter::Searcher;
@@ -17,7 +17,7 @@ fn half_found(
     cache: &mut Cache,
     input: &Input<'_>,
 ) -> Result<Option<HalfMatch>, SearchError>
-    ensures { LiesIn (search_of input.now) (half_place result) }
+    ensures { LiesIn (search_of input.now) (half_match_span result) }
 {
     if !cache.fits(vm) {
         return Ok(None);

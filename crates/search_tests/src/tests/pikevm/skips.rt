@@ -1,7 +1,7 @@
 //! Skips of empty matches that split a codepoint, of engines that find them.
 
 ghost use Rattle.regex_search_core.specs.Search.{search_of};
-ghost use Rattle.nfa_search_base.specs.Skipping.{IsPlacedIn};
+ghost use Rattle.nfa_search_base.specs.Skipping.{HasOffsetIn};
 
 use nfa_engines::backtrack::{self, BoundedBacktracker};
 use nfa_engines::empty::{skip_splits_fwd, skip_splits_rev};
@@ -16,7 +16,7 @@ type Placed = Result<Option<(usize, usize)>, SearchError>;
 
 // The end of the match that the engine finds. The cache fits: it is asked so that no `requires` is needed.
 fn placed(vm: &PikeVM, cache: &mut Cache, input: &Input<'_>) -> Placed
-    ensures { IsPlacedIn (search_of input.now) result }
+    ensures { HasOffsetIn (search_of input.now) result }
 {
     if !cache.fits(vm) {
         return Ok(None);
@@ -33,7 +33,7 @@ fn placed_back(
     cache: &mut backtrack::Cache,
     input: &Input<'_>,
 ) -> Placed
-    ensures { IsPlacedIn (search_of input.now) result }
+    ensures { HasOffsetIn (search_of input.now) result }
 {
     match engine.try_find_half(cache, *input) {
         Ok(Some(half)) => Ok(Some((half.offset(), half.offset()))),

@@ -28,7 +28,7 @@ fn expect_matches_shown(rt: &impl Abort, alloc: Global, vm: &PikeVM, cache: &mut
     expect_fits(rt, vm, cache);
     let matches = vm.find_iter(cache, Input::new(b"a"));
     let want = format!(in alloc;
-        "FindMatches {{ cache: {CACHE}, steps: Steps {{ searcher: {FRESH}, asker: Finder {{ engine: {NEVER}, \
+        "FindMatches {{ cache: {CACHE}, steps: Steps {{ searcher: {FRESH}, backend: Finder {{ engine: {NEVER}, \
         known: None }}, done: false }} }}"
     );
     let want = want.expect(rt, "memory for a text");

@@ -1,11 +1,11 @@
 -- The items are the list.
 use Rattle.std.proofs.Common.{rules, ◌∙◌, ap}
-use Rattle.nfa_search_base.specs.Walks.{IsSurelyInside, fresh}
-use Rattle.nfa_search_base.specs.Catching.{row_span}
-use Rattle.nfa_search_base.proofs.ToldCapturesLemmas.{told_caught}
+use Rattle.nfa_search_base.specs.IterStates.{IsInfalliblyInside, fresh}
+use Rattle.nfa_search_base.specs.WithCaptures.{row_span}
+use Rattle.nfa_search_base.proofs.MayAnswerRowLemmas.{captures_collected_as}
 use Rattle.lower_tests.proofs.tests.finders.captures_collected.Goals as goal
 
 pub returns : goal.returns
-returns c = told_caught (IsSurelyInside row_span) _ c.collect.result c.collect.ensures.ran
+returns c = captures_collected_as (IsInfalliblyInside row_span) _ c.collect.result c.collect.ensures.ran
     c.into_captures_iter-items.ensures.all
-    (c.new-searcher.ensures ∙ ap fresh c.new-input.ensures) (λ q t a q' caught. search rules)
+    (c.new-searcher.ensures ∙ ap fresh c.new-input.ensures) (λ q t a q' matched_row. search rules)

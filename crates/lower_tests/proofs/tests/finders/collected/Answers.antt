@@ -1,10 +1,10 @@
 -- The items are the list.
 use Rattle.std.proofs.Common.{rules, ◌∙◌, ap}
-use Rattle.nfa_search_base.specs.Walks.{IsSurelyInside, fresh, span_of}
-use Rattle.nfa_search_base.proofs.ToldLemmas.{told_collected}
+use Rattle.nfa_search_base.specs.IterStates.{IsInfalliblyInside, fresh, span_of}
+use Rattle.nfa_search_base.proofs.MayAnswerLemmas.{collected_as}
 use Rattle.lower_tests.proofs.tests.finders.collected.Goals as goal
 
 pub returns : goal.returns
-returns c = told_collected (IsSurelyInside span_of) _ c.collect.result c.collect.ensures.ran
+returns c = collected_as (IsInfalliblyInside span_of) _ c.collect.result c.collect.ensures.ran
     c.into_matches_iter-items.ensures.all
     (c.new-searcher.ensures ∙ ap fresh c.new-input.ensures) (λ t a f' found. search rules)

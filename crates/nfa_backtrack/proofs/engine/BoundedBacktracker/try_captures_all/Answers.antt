@@ -1,18 +1,18 @@
 -- The steps may be made, and give the captures of the input.
 use Rattle.std.proofs.Common.{◌≡◌, [], ap, false, refl, true}
 use Rattle.regex_search_core.specs.Search.{search_of}
-use Rattle.nfa_search_base.specs.Lending.{lend}
+use Rattle.nfa_search_base.specs.WithCache.{with_cache}
 use Rattle.nfa_search_base.proofs.DrainedLemmas.{made-holds}
 use Rattle.nfa_backtrack.specs.CapturesMatches.{MayCatchByBacktracker}
 use Rattle.nfa_backtrack.specs.Backtrack.{IsTooLong}
-use Rattle.nfa_backtrack.proofs.CaughtLemmas.{all-caught, caught-by_length, caught-on, caught-to_end, steps-serve}
+use Rattle.nfa_backtrack.proofs.CapturesLemmas.{all-captures, stored_captures-by_length, stored_captures-on, stored_captures-to_end, steps-serve}
 use Rattle.nfa_backtrack.proofs.engine.BoundedBacktracker.try_captures_all.Goals as goal
 
 pub all_with-requires : goal.all_with-requires
 all_with-requires c =
     let captures = c.in_ok-create_captures in
-    let begun = lend c.new.result c.args.cache.now in
-    let may : MayCatchByBacktracker begun.asker = rw c.new.ensures.asker (record {
+    let begun = with_cache c.new.result c.args.cache.now in
+    let may : MayCatchByBacktracker begun.backend = rw c.new.ensures.backend (record {
       fits = tt;
       holds = made-holds c.args.self.now.nfa captures.field-0 captures.ensures.made;
     }) in
@@ -29,16 +29,16 @@ returns c =
     let e = c.args.self.now in
     let x = search_of c.args.input in
     let captures = c.in_ok-create_captures in
-    let begun = lend c.new.result c.args.cache.now in
-    let left = lend c.all_with.new.self c.all_with.new.cache in
-    let may : MayCatchByBacktracker begun.asker = rw c.new.ensures.asker (record {
+    let begun = with_cache c.new.result c.args.cache.now in
+    let left = with_cache c.all_with.new.self c.all_with.new.cache in
+    let may : MayCatchByBacktracker begun.backend = rw c.new.ensures.backend (record {
       fits = tt;
       holds = made-holds e.nfa captures.field-0 captures.ensures.made;
     }) in
-    let engine = ap (λ q. q.finder) c.new.ensures.asker in
+    let engine = ap (λ q. q.finder) c.new.ensures.backend in
     let fits : ¬ (IsTooLong e x) =
     λ long. let k : false ≡ true = c.if-is_too_long.ensures.1 long in cc in
-    let all = all-caught e x begun may engine c.new.ensures.walk c.new.ensures.going c.all_with.result (λ v. v.items)
+    let all = all-captures e x begun may engine c.new.ensures.walk c.new.ensures.going c.all_with.result (λ v. v.items)
     left c.all_with.ensures.all in
     record {
       rows = all.0;
@@ -46,10 +46,12 @@ returns c =
       groups = all.2;
       inside = all.3;
       apart = all.4;
-      by_length = caught-by_length e x begun may engine c.new.ensures.walk c.new.ensures.going c.all_with.result left
+      by_length = stored_captures-by_length e x begun may engine c.new.ensures.walk c.new.ensures.going
+          c.all_with.result left
           fits c.all_with.ensures.errors;
-      searches = caught-on e x begun may engine c.new.ensures.walk c.new.ensures.going left c.all_with.ensures.calls;
-      to_end = caught-to_end e x begun may engine c.new.ensures.walk c.new.ensures.going c.all_with.result
+      searches = stored_captures-on e x begun may engine c.new.ensures.walk c.new.ensures.going left
+          c.all_with.ensures.calls;
+      to_end = stored_captures-to_end e x begun may engine c.new.ensures.walk c.new.ensures.going c.all_with.result
           (λ v. v.items) left c.all_with.ensures.all;
       early = λ long. absurd (fits long);
     }

@@ -1,5 +1,5 @@
 -- A step may be made, and leaves what the iterator keeps.
-use Rattle.nfa_search_base.specs.Lending.{lend}
+use Rattle.nfa_search_base.specs.WithCache.{with_cache}
 use Rattle.nfa_backtrack.proofs.FindLemmas.{find-serves, step-goes}
 use Rattle.nfa_backtrack.proofs.find_iter.TryFindMatchesIterator.next.Goals as goal
 
@@ -8,6 +8,6 @@ next_with-requires c = find-serves c.args.self.now
 
 pub invariant_of-self : goal.invariant_of-self
 invariant_of-self c =
-    let k = step-goes c.args.self.now c.next_with.result (lend c.next_with.new.self c.next_with.new.cache)
+    let k = step-goes c.args.self.now c.next_with.result (with_cache c.next_with.new.self c.next_with.new.cache)
     c.next_with.ensures in
     record { knows = k.knows }

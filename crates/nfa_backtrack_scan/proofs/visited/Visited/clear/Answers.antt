@@ -2,7 +2,7 @@
 use Rattle.std.proofs.Common.{refl, ap, ◌≡◌, ◌∙◌, false, length, replicate}
 use Rattle.std.specs.Vec.{with_items}
 use Rattle.std.proofs.lemmas.List.{with_items_is}
-use Rattle.nfa_scanning.specs.Marks.{Marks}
+use Rattle.nfa_scan_core.specs.Marks.{Marks}
 use Rattle.nfa_backtrack_scan.specs.Bits.{bits_of}
 use Rattle.nfa_backtrack_scan.proofs.BitLemmas.{bits_of-zeroed}
 use Rattle.nfa_backtrack_scan.proofs.visited.Visited.clear.Goals as goal

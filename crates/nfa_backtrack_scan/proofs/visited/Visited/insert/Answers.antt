@@ -1,6 +1,6 @@
 -- One mark is set, or it was set before.
 use Rattle.std.proofs.Common.{ap, ◌<◌, arith, length, length-set, true, false}
-use Rattle.nfa_scanning.specs.Marks.{Marks}
+use Rattle.nfa_scan_core.specs.Marks.{Marks}
 use Rattle.nfa_backtrack_scan.specs.Bits.{bits_of}
 use Rattle.nfa_backtrack_scan.proofs.BitLemmas.{block_within, bit-clear, bit-set, bits_of-mark, IsClearFrom-set}
 use Rattle.nfa_backtrack_scan.proofs.visited.Visited.insert.Goals as goal

@@ -1,6 +1,6 @@
 -- After a reset there is no block.
 use Rattle.std.proofs.Common.{ap, ◌≡◌, []}
-use Rattle.nfa_scanning.specs.Marks.{Marks}
+use Rattle.nfa_scan_core.specs.Marks.{Marks}
 use Rattle.nfa_backtrack_scan.specs.Bits.{bits_of}
 use Rattle.nfa_backtrack_scan.proofs.BitLemmas.{bits_of-nil}
 use Rattle.nfa_backtrack_scan.proofs.visited.Visited.reset.Goals as goal

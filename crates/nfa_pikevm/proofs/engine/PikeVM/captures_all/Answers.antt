@@ -2,17 +2,17 @@
 use Rattle.std.proofs.Common.{[], ap, refl}
 use Rattle.std.proofs.lemmas.Result.{IfErr-weaker}
 use Rattle.regex_search_core.specs.Search.{search_of}
-use Rattle.nfa_search_base.specs.Lending.{lend}
+use Rattle.nfa_search_base.specs.WithCache.{with_cache}
 use Rattle.nfa_search_base.proofs.DrainedLemmas.{made-holds}
 use Rattle.nfa_pikevm.specs.CapturesMatches.{MayCatchByPike}
-use Rattle.nfa_pikevm.proofs.CaughtLemmas.{all-caught, caught-memory, caught-numbers, caught-on, caught-to_end, steps-serve}
+use Rattle.nfa_pikevm.proofs.CapturesLemmas.{all-captures, stored_captures-memory, stored_captures-capacities, stored_captures-on, stored_captures-to_end, steps-serve}
 use Rattle.nfa_pikevm.proofs.engine.PikeVM.captures_all.Goals as goal
 
 pub all_with-requires : goal.all_with-requires
 all_with-requires c =
     let captures = c.in_ok-create_captures in
-    let begun = lend c.new.result c.args.cache.now in
-    let may : MayCatchByPike begun.asker = rw c.new.ensures.asker (record {
+    let begun = with_cache c.new.result c.args.cache.now in
+    let may : MayCatchByPike begun.backend = rw c.new.ensures.backend (record {
       fits = c.requires;
       holds = made-holds c.args.self.now.nfa captures.field-0 captures.ensures.made;
     }) in
@@ -26,27 +26,27 @@ returns c =
     let vm = c.args.self.now in
     let x = search_of c.args.input in
     let captures = c.in_ok-create_captures in
-    let begun = lend c.new.result c.args.cache.now in
-    let left = lend c.all_with.new.self c.all_with.new.cache in
-    let may : MayCatchByPike begun.asker = rw c.new.ensures.asker (record {
+    let begun = with_cache c.new.result c.args.cache.now in
+    let left = with_cache c.all_with.new.self c.all_with.new.cache in
+    let may : MayCatchByPike begun.backend = rw c.new.ensures.backend (record {
       fits = c.requires;
       holds = made-holds vm.nfa captures.field-0 captures.ensures.made;
     }) in
-    let engine = ap (λ q. q.finder) c.new.ensures.asker in
+    let engine = ap (λ q. q.finder) c.new.ensures.backend in
     let given = c.all_with.ensures in
-    let all = all-caught vm x begun may engine c.new.ensures.walk c.new.ensures.going c.all_with.result (λ v. v.items)
+    let all = all-captures vm x begun may engine c.new.ensures.walk c.new.ensures.going c.all_with.result (λ v. v.items)
     left given.all in
     record {
       memory = IfErr-weaker c.all_with.result _ _
-          (λ error h. caught-memory vm x begun may engine c.new.ensures.walk c.new.ensures.going error left h)
+          (λ error h. stored_captures-memory vm x begun may engine c.new.ensures.walk c.new.ensures.going error left h)
           given.errors;
       rows = all.0;
       matches = all.1;
       groups = all.2;
       inside = all.3;
       apart = all.4;
-      numbers = caught-numbers begun left given.calls;
-      searches = caught-on vm x begun may engine c.new.ensures.walk c.new.ensures.going left given.calls;
-      to_end = caught-to_end vm x begun may engine c.new.ensures.walk c.new.ensures.going c.all_with.result
+      capacities = stored_captures-capacities begun left given.calls;
+      searches = stored_captures-on vm x begun may engine c.new.ensures.walk c.new.ensures.going left given.calls;
+      to_end = stored_captures-to_end vm x begun may engine c.new.ensures.walk c.new.ensures.going c.all_with.result
           (λ v. v.items) left given.all;
     }

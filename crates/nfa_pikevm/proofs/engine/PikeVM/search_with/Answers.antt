@@ -31,7 +31,7 @@ returns-in_err-half-clause-answer c =
     let k = length c.args.slots.now - length row in
     let rest : Slots = blank k in
     let left : length rest + c.min-width.result ≡ length c.args.slots.now = omega (arith, length-blank k, size, cut) in
-    rw (← c.self.view_is, ← c.get_match_kind.ensures, c.from_residual.ensures, c.hand_out.ensures)
+    rw (← c.self.view_is, ← c.get_match_kind.ensures, c.from_residual.ensures, c.copy_out.ensures)
     (answer-of c.self.inside.nfa c.get_match_kind.result _ (search_of c.args.input.now) None None refl
     c.in_err-half.ensures.answer _
     (row-whole c.self.inside.nfa c.group_info.ensures.valid row rest _ _ cut size left
@@ -54,7 +54,7 @@ returns-clause-answer c =
     let k = length c.args.slots.now - length row in
     let rest : Slots = blank k in
     let left : length rest + c.min-width.result ≡ length c.args.slots.now = omega (arith, length-blank k, size, cut) in
-    rw (← c.self.view_is, ← c.get_match_kind.ensures, c.hand_out.ensures)
+    rw (← c.self.view_is, ← c.get_match_kind.ensures, c.copy_out.ensures)
     (answer-of c.self.inside.nfa c.get_match_kind.result _ (search_of c.args.input.now) (Some c.in_ok-half.field-0)
     (Some (number_of c.pattern.result)) (ap Some c.pattern.ensures)
     c.in_ok-half.ensures.answer _ (row-whole c.self.inside.nfa c.group_info.ensures.valid row rest _ _ cut size left

@@ -1,11 +1,11 @@
 -- The items are the list.
 use Rattle.std.proofs.Common.{rules, ◌∙◌, ap}
 use Rattle.lower_tests.specs.EmptyFinder.{EmptyTells}
-use Rattle.nfa_search_base.specs.Walks.{fresh}
-use Rattle.nfa_search_base.proofs.ToldLemmas.{told_collected}
+use Rattle.nfa_search_base.specs.IterStates.{fresh}
+use Rattle.nfa_search_base.proofs.MayAnswerLemmas.{collected_as}
 use Rattle.lower_tests.proofs.tests.iteration.callers.collected.Goals as goal
 
 pub returns : goal.returns
-returns c = told_collected EmptyTells _ c.collect.result c.collect.ensures.ran
+returns c = collected_as EmptyTells _ c.collect.result c.collect.ensures.ran
     c.into_matches_iter-items.ensures.all (c.new-searcher.ensures ∙ ap fresh c.new-input.ensures)
     (λ t a f' found. search rules)

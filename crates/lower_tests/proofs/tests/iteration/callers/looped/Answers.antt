@@ -6,13 +6,13 @@ use Rattle.nfa_search_base.specs.declared.error.SearchError.{SearchError}
 use Rattle.regex_search_core.specs.Found.{found_of}
 use Rattle.lower_tests.specs.EmptyFinder.{empty_answer}
 use Rattle.nfa_search_base.specs.Items.{item_by, greedy}
-use Rattle.nfa_search_base.specs.Walks.{Walk, fresh, span_of}
+use Rattle.nfa_search_base.specs.IterStates.{IterState, fresh, span_of}
 use Rattle.nfa_search_base.proofs.StepLemmas.{AnswersAlong-always}
 use Rattle.lower_tests.proofs.tests.iteration.callers.looped.Goals as goal
 
 pub returns : goal.returns
 returns c =
-    subst (λ (w : Walk). map (item_by found_of) c.loop-item.found.items ≡ greedy span_of empty_answer w)
+    subst (λ (w : IterState). map (item_by found_of) c.loop-item.found.items ≡ greedy span_of empty_answer w)
     (c.new-searcher.ensures ∙ ap fresh c.new-input.ensures)
     (ap (λ (xs : List (Result Match SearchError)). map (item_by found_of) xs) c.loop-item.invariant.2
     ∙ (YieldsList-end (YieldsList-at c.into_iter-item-iterator.ensures.into_iter_gives

@@ -1,12 +1,13 @@
 -- A step may be made, and never errs.
 use Rattle.regex_search_core.specs.Found.{found_of}
-use Rattle.nfa_search_base.specs.Lent.{lent_state}
-use Rattle.nfa_search_base.specs.Walks.{span_of}
+use Rattle.nfa_search_base.specs.StepsWith.{steps_with_state}
+use Rattle.nfa_search_base.specs.IterStates.{span_of}
 use Rattle.nfa_search_base.proofs.StoredLemmas.{surely-inside}
-use Rattle.nfa_choice.specs.Matches.{AsksByRule, choice_finds, may_ask}
+use Rattle.nfa_choice.specs.Matches.{AsksByRule, choice_matches, may_ask}
 use Rattle.nfa_choice.proofs.FindLemmas.{choice-serves}
 use Rattle.nfa_choice.proofs.choose.find_iter.ChoiceMatchesIterator.next.Goals as goal
 
 pub next_with-requires : goal.next_with-requires
-next_with-requires c = surely-inside may_ask AsksByRule span_of found_of (lent_state (choice_finds c.args.self.now))
-    (choice-serves (lent_state (choice_finds c.args.self.now)))
+next_with-requires c = surely-inside may_ask AsksByRule span_of found_of
+    (steps_with_state (choice_matches c.args.self.now))
+    (choice-serves (steps_with_state (choice_matches c.args.self.now)))

@@ -1,6 +1,6 @@
 -- The items are those of the iterator that it was.
-use Rattle.nfa_search_base.proofs.CatchingLemmas.{catches-list}
-use Rattle.nfa_search_base.proofs.ToldCapturesLemmas.{sure-caught_run, sure-caught_first, sure-caught_all, sure-caught_apart, sure-caught_next}
+use Rattle.nfa_search_base.proofs.WithCapturesLemmas.{catches-list}
+use Rattle.nfa_search_base.proofs.MayAnswerRowLemmas.{sure-caught_run, sure-caught_first, sure-caught_all, sure-caught_apart, sure-caught_next}
 use Rattle.nfa_search_base.proofs.iter.captures_matches.TryCapturesIter.infallible.Goals as goal
 
 pub returns-clause-list : goal.returns-clause-list

@@ -2,7 +2,7 @@
 use Rattle.regex_search_core.specs.Found.{half_found_of}
 use Rattle.nfa_search_base.specs.Asking.{IsCallableOn}
 use Rattle.nfa_search_base.specs.Finders.{Finds}
-use Rattle.nfa_search_base.specs.Walks.{half_span_of}
+use Rattle.nfa_search_base.specs.IterStates.{half_span_of}
 use Rattle.nfa_search_base.proofs.StoredLemmas.{surely-inside, never-err, sure-some, sure-none}
 use Rattle.nfa_search_base.proofs.iter.half_matches.HalfMatchesIterIterator.next.Goals as goal
 use Rattle.nfa_search_base.proofs.iter.half_matches.HalfMatchesIterIterator.next.Goals.{in-Some-Ok, in-None}

@@ -3,9 +3,9 @@ use Rattle.std.proofs.Common.{arith}
 use Rattle.regex_search_core.specs.Found.{half_found_of}
 use Rattle.nfa_search_base.specs.Asking.{IsCallableOn}
 use Rattle.nfa_search_base.specs.Finders.{Finds}
-use Rattle.nfa_search_base.specs.Walks.{half_span_of}
+use Rattle.nfa_search_base.specs.IterStates.{half_span_of}
 use Rattle.nfa_search_base.proofs.StoredLemmas.{sure-yields}
-use Rattle.nfa_search_base.proofs.ToldLemmas.{sure-run, sure-first, sure-all, sure-apart, sure-next}
+use Rattle.nfa_search_base.proofs.MayAnswerLemmas.{sure-run, sure-first, sure-all, sure-apart, sure-next}
 use Rattle.nfa_search_base.proofs.iter.half_matches.TryHalfMatchesIter.infallible.Goals as goal
 
 pub returns-clause-list : goal.returns-clause-list

@@ -2,7 +2,7 @@
 use Rattle.regex_search_core.specs.Found.{found_of}
 use Rattle.nfa_search_base.specs.Asking.{IsCallableOn}
 use Rattle.nfa_search_base.specs.Finders.{Finds}
-use Rattle.nfa_search_base.specs.Walks.{span_of}
+use Rattle.nfa_search_base.specs.IterStates.{span_of}
 use Rattle.nfa_search_base.proofs.StoredLemmas.{surely-inside, never-err, sure-some, sure-none}
 use Rattle.nfa_search_base.proofs.iter.matches.MatchesIterIterator.next.Goals as goal
 use Rattle.nfa_search_base.proofs.iter.matches.MatchesIterIterator.next.Goals.{in-Some-Ok, in-None}

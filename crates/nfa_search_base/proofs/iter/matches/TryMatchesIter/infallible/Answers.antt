@@ -2,9 +2,9 @@
 use Rattle.regex_search_core.specs.Found.{found_of}
 use Rattle.nfa_search_base.specs.Asking.{IsCallableOn}
 use Rattle.nfa_search_base.specs.Finders.{Finds}
-use Rattle.nfa_search_base.specs.Walks.{span_of}
+use Rattle.nfa_search_base.specs.IterStates.{span_of}
 use Rattle.nfa_search_base.proofs.StoredLemmas.{sure-yields}
-use Rattle.nfa_search_base.proofs.ToldLemmas.{sure-run, sure-first, sure-all, sure-apart, sure-next}
+use Rattle.nfa_search_base.proofs.MayAnswerLemmas.{sure-run, sure-first, sure-all, sure-apart, sure-next}
 use Rattle.nfa_search_base.proofs.iter.matches.TryMatchesIter.infallible.Goals as goal
 
 pub returns-clause-list : goal.returns-clause-list

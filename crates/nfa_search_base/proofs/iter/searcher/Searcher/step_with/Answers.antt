@@ -1,27 +1,27 @@
 -- A step searches once, and a second time if the first answer repeats the last match.
 use Rattle.std.proofs.Common.{rules, ◌≡◌, ◌∙◌, true, false, ap}
-use Rattle.nfa_search_base.specs.Searchers.{walk_of}
-use Rattle.nfa_search_base.specs.Walks.{Walk, after}
+use Rattle.nfa_search_base.specs.Searchers.{iter_state_of}
+use Rattle.nfa_search_base.specs.IterStates.{IterState, after}
 use Rattle.nfa_search_base.proofs.StepLemmas.{step-once, step-twice}
 use Rattle.nfa_search_base.proofs.iter.searcher.Searcher.step_with.Goals as goal
 
 pub returns-then-not-moves_on : goal.returns-then-not-moves_on
 returns-then-not-moves_on g c =
-    let a = g.A.Searches in
-    let w = walk_of c.args.self.now in
+    let a = g.A.FindWith in
+    let w = iter_state_of c.args.self.now in
     let once : c.moves_on.result ≡ false = search rules in
     step-once a.accepts a.asks a.span _ w c.requires c.args.self.now.behind _ _ c.place-place.result
-    (walk_of c.take.new.self)
+    (iter_state_of c.take.new.self)
     c.answer-once.ensures c.place-place.ensures.place c.place-place.ensures.ordered (search rules)
-    (c.take.ensures ∙ ap (λ (v : Walk). after v c.place-place.result) (c.moves_on.ensures.stays once))
+    (c.take.ensures ∙ ap (λ (v : IterState). after v c.place-place.result) (c.moves_on.ensures.stays once))
 
 pub returns : goal.returns
 returns g c =
-    let a = g.A.Searches in
-    let w = walk_of c.args.self.now in
+    let a = g.A.FindWith in
+    let w = iter_state_of c.args.self.now in
     let again : c.moves_on.result ≡ true = search rules in
     step-twice a.accepts a.asks a.span _ w c.requires c.args.self.now.behind _ _ c.place-place.result
-    (walk_of c.moves_on.new.self) _ _
-    c.place-place-2.result (walk_of c.take-2.new.self) c.answer-once.ensures c.place-place.ensures.place
+    (iter_state_of c.moves_on.new.self) _ _
+    c.place-place-2.result (iter_state_of c.take-2.new.self) c.answer-once.ensures c.place-place.ensures.place
     (search rules) (search rules)
     c.answer-twice.ensures c.place-place-2.ensures.place c.place-place-2.ensures.ordered c.take-2.ensures

@@ -1,9 +1,9 @@
 -- Each call gives one item more. The last one gave none, an error, or the item that could not be kept.
 use Rattle.std.proofs.Common.{◌≡◌, ap, inr, refl, List, [], ◌∷◌, ◌++◌, Ok, Result, Some, map}
 use Rattle.std.proofs.lemmas.Result.{err_from_is_err_and}
-use Rattle.nfa_search_base.specs.Lending.{lend}
+use Rattle.nfa_search_base.specs.WithCache.{with_cache}
 use Rattle.nfa_search_base.specs.Stored.{takes_steps}
-use Rattle.nfa_search_base.specs.Walks.{AnswerIsInside}
+use Rattle.nfa_search_base.specs.IterStates.{AnswerIsInside}
 use Rattle.nfa_search_base.proofs.RunLemmas.{yields-more}
 use Rattle.nfa_search_base.proofs.StoredLemmas.{takes-progress}
 use Rattle.nfa_search_base.proofs.iter.steps.Steps.all_with.Goals as goal
@@ -16,14 +16,14 @@ oked-more {Y} {E} (x ∷ xs) y =
 
 pub loop-item-preserved : goal.loop-item-preserved
 loop-item-preserved g c =
-    let a = g.A.Searches in
-    let calls = takes_steps a.span a.asks (λ q. a.gives q.asker) in
-    let from = lend c.loop-item.self c.loop-item.cache in
-    let to = lend c.next_with.new.self c.next_with.new.cache in
+    let a = g.A.FindWith in
+    let calls = takes_steps a.span a.asks (λ q. a.gives q.backend) in
+    let from = with_cache c.loop-item.self c.loop-item.cache in
+    let to = with_cache c.next_with.new.self c.next_with.new.cache in
     let item = c.in_ok-item.field-0 in
-    let more = yields-more calls (map Ok c.loop-item.all.items) (lend c.args.self.now c.args.cache.now) from to
+    let more = yields-more calls (map Ok c.loop-item.all.items) (with_cache c.args.self.now c.args.cache.now) from to
     (Ok item) c.loop-item.invariant.ran (rw c.in_ok-item.was at c.in-Some.ensures) in
-    let goes = takes-progress a.accepts a.asks a.span (λ q. a.gives q.asker) (AnswerIsInside a.span) from to
+    let goes = takes-progress a.accepts a.asks a.span (λ q. a.gives q.backend) (AnswerIsInside a.span) from to
     (Some c.in-Some.item) c.loop-item.invariant.can c.in-Some.ensures in
     record {
       ran = rw (c.in_ok-push.ensures.items, ← oked-more c.loop-item.all.items item) more;
@@ -36,7 +36,7 @@ returns-in_err-item-clause-errors g c =
     let p = err_from_is_err_and c.from_residual.result c.from_residual.ensures.1 in
     rw (p.1, p.2) (inr (record {
       items = c.loop-item.all.items;
-      last = lend c.loop-item.self c.loop-item.cache;
+      last = with_cache c.loop-item.self c.loop-item.cache;
       ran = c.loop-item.invariant.ran;
       over = error;
     }))
@@ -44,7 +44,7 @@ returns-in_err-item-clause-errors g c =
 pub returns-in_err-item-clause-calls : goal.returns-in_err-item-clause-calls
 returns-in_err-item-clause-calls g c = record {
   items = map Ok c.loop-item.all.items;
-  last = lend c.loop-item.self c.loop-item.cache;
+  last = with_cache c.loop-item.self c.loop-item.cache;
   item = c.next_with.result;
   ran = c.loop-item.invariant.ran;
   over = c.next_with.ensures;
@@ -53,7 +53,7 @@ returns-in_err-item-clause-calls g c = record {
 pub returns-in_err-push-clause-calls : goal.returns-in_err-push-clause-calls
 returns-in_err-push-clause-calls g c = record {
   items = map Ok c.loop-item.all.items;
-  last = lend c.loop-item.self c.loop-item.cache;
+  last = with_cache c.loop-item.self c.loop-item.cache;
   item = c.next_with.result;
   ran = c.loop-item.invariant.ran;
   over = c.next_with.ensures;
@@ -62,7 +62,7 @@ returns-in_err-push-clause-calls g c = record {
 pub returns-clause-calls : goal.returns-clause-calls
 returns-clause-calls g c = record {
   items = map Ok c.loop-item.all.items;
-  last = lend c.loop-item.self c.loop-item.cache;
+  last = with_cache c.loop-item.self c.loop-item.cache;
   item = c.next_with.result;
   ran = c.loop-item.invariant.ran;
   over = c.next_with.ensures;

@@ -3,14 +3,14 @@ use Rattle.std.proofs.Common.{rules, ◌≡◌, ◌∙◌, ap, subst, refl, map,
 use Rattle.std.proofs.lemmas.Iterator.Consumers.{map_from_collect}
 use Rattle.regex_search_core.specs.Found.{found_of}
 use Rattle.nfa_search_base.specs.Items.{item_by, greedy}
-use Rattle.nfa_search_base.specs.Walks.{Walk, fresh, span_of}
+use Rattle.nfa_search_base.specs.IterStates.{IterState, fresh, span_of}
 use Rattle.nfa_search_base.proofs.StepLemmas.{AnswersAlong-by}
 use Rattle.search_tests.specs.Callers.{piece_answer}
 use Rattle.search_tests.proofs.tests.backtrack.callers.pieces.Goals as goal
 
 pub returns : goal.returns
 returns c =
-    subst (λ (w : Walk). IfOk c.collect.result
+    subst (λ (w : IterState). IfOk c.collect.result
     (λ v. map (item_by found_of) v.items ≡ greedy span_of (piece_answer c.args.len) w))
     (c.new-searcher.ensures ∙ ap fresh c.new-input.ensures)
     (map_from_collect c.collect.result c.collect.ensures.ran

@@ -1,0 +1,25 @@
+-- An answer is that of each input that asks for the same search.
+use Rattle.std.proofs.Common.{◌≡◌, ℕ, ◌<◌, ◌≤◌, List, Option, Some, length, get_or, subst, arith}
+use Rattle.std.proofs.lemmas.Bool.{lt-ltb}
+use Rattle.std.proofs.lemmas.Option.{slice_get-get_or}
+use Rattle.nfa_engines.specs.Found.{Found}
+use Rattle.nfa_engines.specs.Search.{Search}
+use Rattle.nfa_engines.specs.MatchKind.{MatchKind}
+use Rattle.nfa_engines.specs.Automaton.{Automaton}
+use Rattle.nfa_engines.specs.Paths.{byte_at, IsAnswer, IsFindAnswer}
+
+pub answer_of : (nfa : Automaton) (kind : MatchKind) (x y : Search) (pattern : Option ℕ) (slots : List (Option ℕ))
+    → y ≡ x → IsAnswer nfa kind y.earliest y pattern slots → IsAnswer nfa kind x.earliest x pattern slots
+answer_of nfa kind x y pattern slots same h =
+    subst (λ (z : Search). IsAnswer nfa kind z.earliest z pattern slots) same h
+
+pub match_of_search : (nfa : Automaton) (kind : MatchKind) (x y : Search) (found : Option Found) → y ≡ x
+    → IsFindAnswer nfa kind y.earliest y found → IsFindAnswer nfa kind x.earliest x found
+match_of_search nfa kind x y found same h = subst (λ (z : Search). IsFindAnswer nfa kind z.earliest z found) same h
+
+-- the byte at a position before the end of the span
+pub read-inside : (x : Search) (at : ℕ) → at < x.end → x.end ≤ length x.haystack
+    → byte_at x at ≡ Some (get_or x.haystack at 0)
+read-inside x at less fits =
+    let inside : at < length x.haystack = omega arith in
+    rw (lt-ltb at x.end less) (slice_get-get_or x.haystack at 0 inside)

@@ -1,0 +1,14 @@
+-- The iterator gives the captures of its input.
+use Rattle.std.proofs.Common.{refl}
+use Rattle.regex_search_core.specs.Search.{search_of}
+use Rattle.nfa_backtrack.proofs.CapturesLemmas.{catches-given, catches-refused, catches-searches}
+use Rattle.nfa_backtrack.proofs.engine.BoundedBacktracker.fill_from.Goals as goal
+
+pub returns-clause-given : goal.returns-clause-given
+returns-clause-given c = catches-given c.args.self.now (search_of c.args.input) _ refl c.new.ensures refl
+
+pub returns-clause-refused : goal.returns-clause-refused
+returns-clause-refused c = catches-refused c.args.self.now (search_of c.args.input) _ refl c.new.ensures refl
+
+pub returns-clause-searches : goal.returns-clause-searches
+returns-clause-searches c = catches-searches c.args.self.now (search_of c.args.input) _ refl c.new.ensures refl

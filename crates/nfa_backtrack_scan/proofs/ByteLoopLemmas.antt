@@ -1,0 +1,125 @@
+-- Turns of a loop over one byte, one after another.
+use Rattle.std.proofs.Common.{◌≡◌, ℕ, ◌+◌, ◌-◌, ◌*◌, ◌<◌, ◌≤◌, List, [], ◌∷◌, ◌++◌, length, refl, arith}
+use Rattle.std.specs.Prelude.{Option, Some, None, Result, Ok, Err, OnErr, option_and_then}
+use Rattle.std.specs.List.{slice_get, sum_by}
+use Rattle.std.proofs.lemmas.List.Elements.{All-push}
+use Rattle.std.proofs.lemmas.List.Sums.{sum_by_push}
+use Rattle.regex_search_core.specs.Search.{Search}
+use Rattle.thompson_nfa.specs.Automaton.{Automaton}
+use Rattle.thompson_nfa.specs.Automaton.Node.{ByteRange, BinaryUnion}
+use Rattle.thompson_nfa.specs.declared.state.Transition.{Transition}
+use Rattle.nfa_paths.specs.Graphs.{Pair}
+use Rattle.nfa_paths.specs.Paths.{byte_at, target_on}
+use Rattle.nfa_paths.specs.Turns.{marked_sum}
+use Rattle.nfa_paths.proofs.TurnLemmas.{marked_sum-le}
+use Rattle.nfa_scan_core.specs.Marks.{Marks}
+use Rattle.nfa_backtrack_scan.specs.Walk.{pair_of, stacked, frame_tries, weights, IsStatePos, IsFrame, IsAfforded, TurnsLead, Taken}
+use Rattle.nfa_backtrack_scan.specs.Walk.{WasMarked}
+use Rattle.nfa_backtrack_scan.specs.declared.frame.StatePos.{StatePos}
+use Rattle.nfa_backtrack_scan.specs.declared.frame.Frame.{Frame}
+use Rattle.nfa_backtrack_scan.specs.declared.frame.Frame.TheVariants.{Step}
+use Rattle.nfa_backtrack_scan.proofs.WalkLemmas.{Carries-then, Carries-none, Carries-marked, marked_sum-weights}
+use Rattle.nfa_backtrack_scan.proofs.StepLemmas.{Goes-range, Goes-both}
+
+-- what holds in any case holds if allocation failed
+pub OnErr-always : {T E P : Type 0} (r : Result T E) → P → OnErr r P
+OnErr-always (Ok value) p = tt
+OnErr-always (Err error) p = p
+
+module _ (nfa : Automaton) (x : Search) where
+  -- turns after turns
+  pub TurnsLead-then : {v : Pair} {p : StatePos} {q : Option StatePos} {stack after last : List Frame} {m n o : Marks}
+      → TurnsLead nfa x v (Some p) stack m after n → TurnsLead nfa x (pair_of p) q after n last o
+      → TurnsLead nfa x v q stack m last o
+  TurnsLead-then f g = let ft = f.tried in let gt = g.tried in record {
+    goes = g.goes;
+    within = λ count fits. g.within count (f.within count fits);
+    tried = omega arith;
+    follows = λ work slots. Carries-then nfa x (f.follows work slots) (g.follows work slots);
+  }
+
+  -- no turn yet
+  pub TurnsLead-none : (p : StatePos) (stack : List Frame) (m : Marks) → IsStatePos nfa x p
+      → TurnsLead nfa x (pair_of p) (Some p) stack m stack m
+  TurnsLead-none p stack m is = record {
+    goes = is;
+    within = λ count fits. fits;
+    tried = omega arith;
+    follows = λ work slots. Carries-none nfa x m _ slots;
+  }
+
+  -- turns that end because allocation failed
+  pub IsAfforded-then : {v : Pair} {p : StatePos} {stack after : List Frame} {m n : Marks} (o : Marks)
+      → TurnsLead nfa x v (Some p) stack m after n → IsAfforded nfa x after n o → IsAfforded nfa x stack m o
+  IsAfforded-then o f e = let ft = f.tried in omega arith
+
+  -- the one turn before allocation failed
+  pub IsAfforded-turn : (stack : List Frame) (m n : Marks) → n.turns ≡ m.turns + 1 → IsAfforded nfa x stack m n
+  IsAfforded-turn stack m n counted = omega (arith, marked_sum-le (weights nfa x) m.bits)
+
+  -- a turn that finds its place marked
+  pub TurnsLead-marked : (s at : ℕ) (stack : List Frame) {m n : Marks} → WasMarked nfa x (s, at) m n
+      → TurnsLead nfa x (s, at) None stack m stack n
+  TurnsLead-marked s at stack {m} {n} w = record {
+    goes = tt;
+    within = λ count fits. fits;
+    tried = rw w.same (omega (arith, w.counted));
+    follows = λ work slots. Carries-marked nfa x m s at (stacked stack work) slots n w.counted w.marked_before.state
+        w.marked_before.from w.marked_before.set w.same;
+  }
+
+module _ {nfa : Automaton} {x : Search} {s at : ℕ} {m n : Marks} (t : Taken nfa x (s, at) m n) (row : ℕ)
+    (placed : row ≡ (at - x.start) * length nfa.states) where
+  -- a byte state
+  module _ (trans : Transition) (is : slice_get nfa.states s ≡ Some (ByteRange trans))
+      (onto : trans.next < length nfa.states) (byte : Option ℕ) (here : byte ≡ byte_at x at) (stack : List Frame) where
+    paid : n.turns + sum_by frame_tries stack + 1 + marked_sum (weights nfa x) m.bits
+        ≤ m.turns + 1 + sum_by frame_tries stack + marked_sum (weights nfa x) n.bits
+    paid =
+        rw t.set
+        (omega (
+          arith,
+          t.counted,
+          marked_sum-weights nfa x m.bits s at (ByteRange trans) t.state t.from t.to is t.clear,
+        ))
+
+    pub TurnsLead-stop : option_and_then (target_on (ByteRange trans)) byte ≡ None
+        → TurnsLead nfa x (s, at) None stack m stack n
+    TurnsLead-stop none = record {
+      goes = tt;
+      within = λ count fits. fits;
+      tried = omega (arith, paid);
+      follows = λ work slots.
+          (rw none at (Goes-range t row placed (length nfa.states) refl trans is onto byte here stack slots)) work;
+    }
+
+    pub TurnsLead-byte : (next : ℕ) → option_and_then (target_on (ByteRange trans)) byte ≡ Some next → (states : ℕ)
+        → states ≡ length nfa.states
+        → TurnsLead nfa x (s, at) (Some (record { sid = next; at = at + 1; row = row + states })) stack m stack n
+    TurnsLead-byte next some states wide = record {
+      goes = (rw some at (Goes-range t row placed states wide trans is onto byte here stack [])).0;
+      within = λ count fits. fits;
+      tried = paid;
+      follows = λ work slots.
+          (rw some at (Goes-range t row placed states wide trans is onto byte here stack slots)).1 work;
+    }
+
+  -- a union, whose exit is pushed
+  pub TurnsLead-union : (body exit : ℕ) → slice_get nfa.states s ≡ Some (BinaryUnion body exit)
+      → body < length nfa.states → exit < length nfa.states → (stack : List Frame)
+      → TurnsLead nfa x (s, at) (Some (record { sid = body; at = at; row = row })) stack m
+      (stack ++ Step exit at row ∷ []) n
+  TurnsLead-union body exit is into out stack = record {
+    goes = record { state = into; from = t.from; to = t.to; row = placed };
+    within = λ count fits. All-push (IsFrame nfa x count) stack (Step exit at row) fits
+        (record { state = out; from = t.from; to = t.to; row = placed });
+    tried =
+        rw t.set
+        (omega (
+          arith,
+          t.counted,
+          sum_by_push frame_tries stack (Step exit at row),
+          marked_sum-weights nfa x m.bits s at (BinaryUnion body exit) t.state t.from t.to is t.clear,
+        ));
+    follows = λ work slots. Goes-both t body exit is slots stack work row;
+  }

@@ -1,0 +1,21 @@
+-- After each iteration the answer from the place is the answer from the first one, and the marks pay for what is
+-- pushed.
+use Rattle.std.proofs.Common.{◌≡◌, ◌-◌, ◌≤◌, length}
+use Rattle.regex_search_core.specs.Search.{search_of}
+use Rattle.std.specs.Prelude.{Some}
+use Rattle.nfa_backtrack_scan.specs.Walk.{pair_of, TurnsLead}
+use Rattle.nfa_backtrack_scan.proofs.byte_loop.run_byte_loop.Given as goal
+
+abbrev pub invariant-loop-union : goal.invariant-loop-union
+invariant-loop-union l = record {
+  state : l.place.sid ≡ l.body.sid;
+  turns : l.fn.scratch.visited.turns ≤ l.scratch.visited.turns;
+  scans : l.scratch.scans ≡ l.fn.scratch.scans;
+  size : length l.scratch.visited.bits ≡ length l.fn.scratch.visited.bits;
+  leads : TurnsLead l.nfa (search_of l.input) (pair_of l.body) (Some l.place) l.fn.scratch.stack.items
+      l.fn.scratch.visited l.scratch.stack.items l.scratch.visited;
+}
+
+-- the positions before the end of the span
+abbrev pub decreases-loop-union : goal.decreases-loop-union
+decreases-loop-union l = (search_of l.input).end - l.place.at

@@ -1,0 +1,24 @@
+-- A turn at a byte state goes on where the byte leads, or stops there, or finds its place marked.
+use Rattle.std.proofs.Common.{length, sym}
+use Rattle.regex_search_core.specs.Search.{search_of}
+use Rattle.nfa_backtrack_scan.proofs.StepLemmas.{same_size}
+use Rattle.nfa_backtrack_scan.proofs.ByteLoopLemmas.{TurnsLead-marked, TurnsLead-stop, TurnsLead-byte}
+use Rattle.nfa_backtrack_scan.proofs.byte_loop.step_byte.Goals as goal
+
+pub returns-then-not-mark-clause-leads : goal.returns-then-not-mark-clause-leads
+returns-then-not-mark-clause-leads c = λ stack.
+    TurnsLead-marked c.args.nfa.now (search_of c.args.input.now) c.args.place.sid c.args.place.at stack
+    (c.mark.ensures.seen c.if-not-mark.true)
+
+pub returns-in-Some-clause-leads : goal.returns-in-Some-clause-leads
+returns-in-Some-clause-leads c = λ stack.
+    let t = c.mark.ensures.taken c.if-not-mark.false in
+    TurnsLead-byte t c.args.place.row c.requires.place.row c.args.trans.now c.requires.state c.requires.onto
+    c.byte_at-byte.result c.byte_at-byte.ensures stack c.in-Some.sid (sym c.in-Some.ensures)
+    (length c.states.result.now) (same_size c.args.nfa.now c.states.result.now c.states.ensures.nodes)
+
+pub returns-in-None-clause-leads : goal.returns-in-None-clause-leads
+returns-in-None-clause-leads c = λ stack.
+    let t = c.mark.ensures.taken c.if-not-mark.false in
+    TurnsLead-stop t c.args.place.row c.requires.place.row c.args.trans.now c.requires.state c.requires.onto
+    c.byte_at-byte.result c.byte_at-byte.ensures stack (sym c.in-None.ensures)

@@ -1,7 +1,0 @@
--- The lemmas on tables, places and ways.
-pub mod LawLemmas
-pub mod MatchLemmas
-pub mod PlaceLemmas
-pub mod SearchLemmas
-pub mod TableLemmas
-pub mod WayLemmas

@@ -1,6 +1,0 @@
--- Each accepting path is a way.
-use Rattle.nfa_bounds.proofs.LawLemmas.{paths-recorded}
-use Rattle.nfa_bounds.proofs.laws.bounds_are_written.Goals as goal
-
-pub returns : goal.returns
-returns c = λ nfa x records. paths-recorded nfa x records

@@ -1,6 +1,0 @@
--- The half match is the end of the path that the match is of.
-use Rattle.nfa_bounds.proofs.MatchLemmas.{half-is-end}
-use Rattle.nfa_bounds.proofs.laws.half_matches_are_ends.Goals as goal
-
-pub returns : goal.returns
-returns c = λ nfa kind earliest x half found valid records. half-is-end nfa kind earliest x valid records half found

@@ -1,7 +1,0 @@
--- A search has one answer, and its path writes its bounds.
-use Rattle.nfa_bounds.proofs.MatchLemmas.{match-of-path}
-use Rattle.nfa_bounds.proofs.laws.matches_are_of_paths.Goals as goal
-
-pub returns : goal.returns
-returns c = λ nfa kind earliest x restarts path found valid records.
-    match-of-path nfa kind earliest x valid records restarts path found

@@ -1,4 +1,0 @@
-pub mod BoundsLaws
-pub mod Matches
-pub mod Places
-pub mod Ways

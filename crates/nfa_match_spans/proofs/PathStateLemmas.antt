@@ -1,0 +1,140 @@
+-- What a place says about the two slots.
+use Rattle.std.proofs.Common.{◌≡◌, ℕ, ◌+◌, ◌*◌, ◌<◌, ◌≤◌, ◌==◌, List, [], ◌∷◌, ◌++◌, refl, ap, sym, arith}
+use Rattle.std.specs.Prelude.{Option, Some, None, true, false, Bool, ◌↔◌, not, if◌then◌else◌}
+use Rattle.std.specs.Option.{option_or, option_map_or}
+use Rattle.thompson_nfa.specs.Automaton.{Automaton, Node}
+use Rattle.thompson_nfa.specs.Automaton.Node.{ByteRange, Sparse, Dense, Look, Union, BinaryUnion, Capture, Fail, Match}
+use Rattle.nfa_paths.specs.Graphs.{Pair}
+use Rattle.nfa_paths.specs.Paths.{pattern_of, slot_of, slot_among}
+use Rattle.nfa_match_spans.specs.StatePaths.{reads, position_after}
+use Rattle.nfa_match_spans.specs.PathStates.{fresh_path_state, at_state, after_node, Describes}
+use Rattle.nfa_match_spans.specs.declared.path_state.PathState.{PathState}
+
+-- the value of the slot after the state, which is at this position
+abbrev pub written : Node → ℕ → ℕ → Option ℕ → Option ℕ
+written node slot position held =
+    option_or (if option_map_or (λ k. k == slot) (slot_of node) false then Some position else None) held
+
+pub option_or-none : (o : Option ℕ) → option_or o None ≡ o
+option_or-none None = refl
+option_or-none (Some k) = refl
+
+pub option_or_assoc : (a b c : Option ℕ) → option_or (option_or a b) c ≡ option_or a (option_or b c)
+option_or_assoc None b c = refl
+option_or_assoc (Some k) b c = refl
+
+-- the slots of two rows
+pub slot_among-append : (nfa : Automaton) (p q : List Pair) (slot : ℕ)
+    → slot_among nfa (p ++ q) slot ≡ option_or (slot_among nfa q slot) (slot_among nfa p slot)
+slot_among-append nfa [] q slot = sym (option_or-none (slot_among nfa q slot))
+slot_among-append nfa (v ∷ p) q slot =
+    rw (slot_among-append nfa p q slot) (option_or_assoc (slot_among nfa q slot) (slot_among nfa p slot) _)
+
+-- a Match writes no slot
+pub written-match : (node : Node) (pattern slot position : ℕ) (held : Option ℕ) → pattern_of node ≡ Some pattern
+    → written node slot position held ≡ held
+written-match (Match k) pattern slot position held e = refl
+written-match (ByteRange trans) pattern slot position held e = cc
+written-match (Sparse ts) pattern slot position held e = cc
+written-match (Dense targets) pattern slot position held e = cc
+written-match (Look look next) pattern slot position held e = cc
+written-match (Union alternates) pattern slot position held e = cc
+written-match (BinaryUnion alt1 alt2) pattern slot position held e = cc
+written-match (Capture next k) pattern slot position held e = cc
+written-match Fail pattern slot position held e = cc
+
+-- at the start of a way
+pub Describes-fresh : (s position : ℕ) → Describes position position None None (fresh_path_state s)
+Describes-fresh s position = record {
+  onward = omega arith;
+  unread = λ e. refl;
+  read = λ e. absurd (cc e);
+  started = (λ e. cc, λ e. cc);
+  ended = (λ e. cc, λ e. cc);
+  behind = λ k e. cc;
+}
+
+module _ {start position : ℕ} {start_slot end_slot : Option ℕ} {v : PathState} where
+  -- at another state
+  Describes-at : (s : ℕ) → Describes start position start_slot end_slot v
+      → Describes start position start_slot end_slot (at_state v s)
+  Describes-at s h = record {
+    onward = h.onward;
+    unread = h.unread;
+    read = h.read;
+    started = h.started;
+    ended = h.ended;
+    behind = h.behind;
+  }
+
+  -- after a byte
+  Describes-read : (s : ℕ) → Describes start position start_slot end_slot v
+      → Describes start (position + 1) start_slot end_slot
+      (record v { state = s; has_read = true; end_written = false })
+  Describes-read s h = record {
+    onward = let o = h.onward in omega arith;
+    unread = λ e. absurd (cc e);
+    read = λ e. let o = h.onward in omega arith;
+    started = h.started;
+    ended = (λ e. cc, λ e. absurd (let b : position + 1 ≤ position = h.behind (position + 1) e in omega arith));
+    behind = λ k e. let b : k ≤ position = h.behind k e in omega arith;
+  }
+
+  -- whether the start's slot holds the start, once a Capture of it, or of another, is done
+  start-captured : (here : Bool) → Describes start position start_slot end_slot v
+      → ((if here then not v.has_read else v.start_written) ≡ true)
+      ↔ (option_or (if here then Some position else None) start_slot ≡ Some start)
+  start-captured false h = h.started
+  start-captured true h = (λ e. ap Some (h.unread (unset v.has_read e)), λ e. set v.has_read refl (same e))
+    where
+      unset : (b : Bool) → not b ≡ true → b ≡ false
+      unset true e = cc
+      unset false e = refl
+
+      same : Some position ≡ Some start → position ≡ start
+      same e = cc
+
+      set : (b : Bool) → v.has_read ≡ b → position ≡ start → not b ≡ true
+      set true e s = absurd (let r : start < position = h.read e in omega arith)
+      set false e s = refl
+
+  -- whether the end's slot holds the position
+  end-captured : (here : Bool) → Describes start position start_slot end_slot v
+      → ((if here then true else v.end_written) ≡ true)
+      ↔ (option_or (if here then Some position else None) end_slot ≡ Some position)
+  end-captured false h = h.ended
+  end-captured true h = (λ e. refl, λ e. refl)
+
+  end-behind : (here : Bool) → Describes start position start_slot end_slot v → (k : ℕ)
+      → option_or (if here then Some position else None) end_slot ≡ Some k → k ≤ position
+  end-behind false h k e = h.behind k e
+  end-behind true h k e = let same : position ≡ k = cc in omega arith
+
+  Describes-captured : (pattern next slot s : ℕ) → Describes start position start_slot end_slot v
+      → Describes start position (written (Capture next slot) (2 * pattern) position start_slot)
+      (written (Capture next slot) (2 * pattern + 1) position end_slot)
+      (at_state (after_node pattern (Capture next slot) v) s)
+  unfolding after_node
+  Describes-captured pattern next slot s h = record {
+    onward = h.onward;
+    unread = h.unread;
+    read = h.read;
+    started = start-captured (slot == 2 * pattern) h;
+    ended = end-captured (slot == 2 * pattern + 1) h;
+    behind = end-behind (slot == 2 * pattern + 1) h;
+  }
+
+  -- after the turn of the place's state
+  pub Describes-after : (pattern : ℕ) (node : Node) (s : ℕ) → Describes start position start_slot end_slot v
+      → Describes start (position_after node position) (written node (2 * pattern) position start_slot)
+      (written node (2 * pattern + 1) position end_slot) (at_state (after_node pattern node v) s)
+  unfolding after_node reads
+  Describes-after pattern (ByteRange trans) s h = Describes-read s h
+  Describes-after pattern (Sparse ts) s h = Describes-read s h
+  Describes-after pattern (Dense targets) s h = Describes-read s h
+  Describes-after pattern (Look look next) s h = Describes-at s h
+  Describes-after pattern (Union alternates) s h = Describes-at s h
+  Describes-after pattern (BinaryUnion alt1 alt2) s h = Describes-at s h
+  Describes-after pattern (Capture next slot) s h = Describes-captured pattern next slot s h
+  Describes-after pattern Fail s h = Describes-at s h
+  Describes-after pattern (Match k) s h = Describes-at s h

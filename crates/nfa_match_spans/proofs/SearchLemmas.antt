@@ -1,0 +1,227 @@
+-- The steps of a search for a way that does not write its bounds.
+use Rattle.std.proofs.Common.{◌≡◌, ℕ, suc, zero, ◌+◌, ◌<◌, ◌≤◌, inl, inr, List, [], ◌∷◌, ◌++◌, length, get_or, take}
+use Rattle.std.proofs.Common.{refl, ap, sym, ◌∙◌, arith, subst, below_more}
+use Rattle.std.specs.Prelude.{Option, Some, None, true, false, Bool, All, IfSome, IsTrue, ◌↔◌, filter_map, slice_get}
+use Rattle.std.proofs.lemmas.List.{take_more, take_all, take-append-le, length-append}
+use Rattle.std.proofs.lemmas.Option.{get_or_from_slice_get}
+use Rattle.regex_search_core.specs.declared.search.Anchored.TheVariants.{No, Yes, Pattern}
+use Rattle.regex_search_core.specs.Patterns.{number_of}
+use Rattle.regex_search_core.specs.declared.primitives.PatternID.{PatternID}
+use Rattle.thompson_nfa.specs.declared.state.Transition.{Transition}
+use Rattle.thompson_nfa.specs.Automaton.{Automaton, Node, LeadsBelow}
+use Rattle.thompson_nfa.specs.Automaton.Node.{ByteRange, Sparse, Dense, Look, Union, BinaryUnion, Capture, Fail, Match}
+use Rattle.nfa_paths.specs.Graphs.{In}
+use Rattle.nfa_paths.specs.Paths.{node_at, pattern_of}
+use Rattle.nfa_paths.proofs.MemberLemmas.{In-append_left}
+use Rattle.nfa_match_spans.specs.StatePaths.{targets, IsStart}
+use Rattle.nfa_match_spans.specs.PathStates.{fresh_path_state, at_state, after_node, next_places, is_recorded}
+use Rattle.nfa_match_spans.specs.PathStates.{IsFresh, GainsPathStates, IsFine}
+use Rattle.nfa_match_spans.specs.PathStates.{IsClosed, IsUnderWay, IsLedTo}
+use Rattle.nfa_match_spans.proofs.TableLemmas.{In-append}
+use Rattle.nfa_match_spans.proofs.StatePathLemmas.{In-mapped, IsLedTo-fresh, IsLedTo-next}
+use Rattle.nfa_match_spans.specs.declared.path_state.PathState.{PathState}
+
+-- lists
+
+pub In-get_or : {A : Type 0} (xs : List A) (k : ℕ) (d : A) → k < length xs → In (get_or xs k d) xs
+In-get_or [] k d h = absurd (omega arith)
+In-get_or (x ∷ xs) zero d h = inl refl
+In-get_or (x ∷ xs) (suc k) d h = inr (In-get_or xs k d (omega arith))
+
+pub slice_get-below : {A : Type 0} (xs : List A) (k : ℕ) (x : A) → slice_get xs k ≡ Some x → k < length xs
+slice_get-below [] k x e = cc
+slice_get-below (y ∷ xs) zero x e = omega arith
+slice_get-below (y ∷ xs) (suc k) x e = let less = slice_get-below xs k x e in omega arith
+
+pub slice_get-in : {A : Type 0} (xs : List A) (k : ℕ) (x : A) → slice_get xs k ≡ Some x → In x xs
+slice_get-in [] k x e = cc
+slice_get-in (y ∷ xs) zero x e = let same : y ≡ x = cc in inl (sym same)
+slice_get-in (y ∷ xs) (suc k) x e = inr (slice_get-in xs k x e)
+
+-- what holds of each element by its place
+All-in : {A : Type 0} (P : A → Type 0) (xs : List A) (x : A) → All P xs → In x xs → P x
+All-in P [] x all i = absurd i
+All-in P (y ∷ xs) x all (inl e) = subst P (sym e) (all 0 y (omega arith))
+All-in P (y ∷ xs) x all (inr i) = All-in P xs x (λ k d h. all (suc k) d (omega arith)) i
+
+-- targets
+
+present-below : (n s : ℕ) (places : List (Option ℕ)) → All (λ o. IfSome o (λ t. t < n)) places
+    → In s (filter_map (λ target. target) places) → s < n
+present-below n s [] all i = absurd i
+present-below n s (None ∷ places) all i =
+    present-below n s places (λ k d h. all (suc k) d (omega arith)) i
+present-below n s (Some t ∷ places) all (inl e) = let less : t < n = all 0 None (omega arith) in rw e less
+present-below n s (Some t ∷ places) all (inr i) =
+    present-below n s places (λ k d h. all (suc k) d (omega arith)) i
+
+pub targets-below : (n s : ℕ) (node : Node) → LeadsBelow n node → In s (targets node) → s < n
+unfolding targets
+targets-below n s (ByteRange trans) leads i = elim i [ inl e ↦ rw e leads | inr never ↦ absurd never ]
+targets-below n s (Sparse ts) leads i =
+    let of = In-mapped (λ (t : Transition). t.next) s ts i in
+    rw of.2 (All-in (λ (t : Transition). t.next < n) ts of.0 leads of.1)
+targets-below n s (Dense places) leads i = present-below n s places leads i
+targets-below n s (Look look next) leads i = elim i [ inl e ↦ rw e leads | inr never ↦ absurd never ]
+targets-below n s (Union alternates) leads i = All-in (λ t. t < n) alternates s leads i
+targets-below n s (BinaryUnion alt1 alt2) leads i = elim i [
+  | inl e ↦ rw e leads.0
+  | inr j ↦ elim j [ inl e ↦ rw e leads.1 | inr never ↦ absurd never ]
+]
+targets-below n s (Capture next slot) leads i = elim i [ inl e ↦ rw e leads | inr never ↦ absurd never ]
+targets-below n s Fail leads i = absurd i
+targets-below n s (Match pattern) leads i = absurd i
+
+-- starts
+
+pub IsFresh-of : (nfa : Automaton) (s : ℕ) → IsStart nfa s → (v : PathState) → v ≡ fresh_path_state s → IsFresh nfa v
+IsFresh-of nfa s start v e = rw e (start, refl)
+
+-- the states that searches start with are the anchored start and those of the patterns that have a number
+pub starts-all : (nfa : Automaton) (P : ℕ → Type 0) → P nfa.anchored
+    → ((k s : ℕ) → k < length nfa.patterns → k ≤ 2147483646 → slice_get nfa.patterns k ≡ Some s → P s)
+    → (s : ℕ) → IsStart nfa s → P s
+starts-all nfa P anchored patterns s (No, e) = let same : nfa.anchored ≡ s = cc in subst P same anchored
+starts-all nfa P anchored patterns s (Yes, e) = let same : nfa.anchored ≡ s = cc in subst P same anchored
+starts-all nfa P anchored patterns s (Pattern pattern, e) =
+    patterns (number_of pattern) s (slice_get-below nfa.patterns (number_of pattern) s e) pattern.small e
+
+pub IsStart-pattern : (nfa : Automaton) (pattern : PatternID) (o : Option ℕ)
+    → o ≡ slice_get nfa.patterns (number_of pattern) → IfSome o (IsStart nfa)
+IsStart-pattern nfa pattern None e = tt
+IsStart-pattern nfa pattern (Some s) e = (Pattern pattern, sym e)
+
+-- places that were added
+
+pub GainsPathStates-kept : {old new wanted : List PathState} → GainsPathStates old new wanted → (v : PathState)
+    → In v old → In v new
+GainsPathStates-kept {old = old} g v i = rw g.kept (In-append_left v old g.more i)
+
+pub GainsPathStates-each : {old new wanted : List PathState} (P : PathState → Type 0) → GainsPathStates old new wanted
+    → ((v : PathState) → In v old → P v) → ((v : PathState) → In v wanted → P v) → (v : PathState) → In v new → P v
+GainsPathStates-each {old = old} {new = new} P g before here v i =
+    let j : In v (old ++ g.more) = subst (In v) g.kept i in
+    elim (In-append v old g.more j) [ inl k ↦ before v k | inr k ↦ here v (g.only v k) ]
+
+-- one start more
+pub starts-only : (nfa : Automaton) {old new : List PathState} (s : ℕ)
+    → GainsPathStates old new (fresh_path_state s ∷ [])
+    → IsStart nfa s
+    → ((v : PathState) → In v old → IsFresh nfa v) → (v : PathState) → In v new → IsFresh nfa v
+starts-only nfa s gains start only = GainsPathStates-each (IsFresh nfa) gains only
+    (λ v i. elim i [ inl e ↦ IsFresh-of nfa s start v e | inr never ↦ absurd never ])
+
+pub starts-below : (n : ℕ) {old new : List PathState} (s : ℕ)
+    → GainsPathStates old new (fresh_path_state s ∷ []) → s < n
+    → ((v : PathState) → In v old → v.state < n) → (v : PathState) → In v new → v.state < n
+starts-below n s gains less below = GainsPathStates-each (λ (v : PathState). v.state < n) gains below
+    (λ v i. elim i [ inl e ↦ rw e less | inr never ↦ absurd never ])
+
+-- the starts of the patterns so far, with one more
+pub patterns-more : (nfa : Automaton) (old new : List PathState) (index start : ℕ)
+    → GainsPathStates old new (fresh_path_state start ∷ [])
+    → ((k s : ℕ) → k < index → k ≤ 2147483646 → slice_get nfa.patterns k ≡ Some s → In (fresh_path_state s) old)
+    → (index ≤ 2147483646 → Some start ≡ slice_get nfa.patterns index)
+    → (k : ℕ) → k < index + 1 → (s : ℕ) → k ≤ 2147483646 → slice_get nfa.patterns k ≡ Some s
+    → In (fresh_path_state s) new
+patterns-more nfa old new index start gains before here =
+    below_more (λ k. (s : ℕ) → k ≤ 2147483646 → slice_get nfa.patterns k ≡ Some s → In (fresh_path_state s) new) index
+    (λ k h s small e. GainsPathStates-kept gains (fresh_path_state s) (before k s h small e))
+    (λ s small e.
+    let same : start ≡ s = cc (here small, e) in
+    gains.all (fresh_path_state s) (inl (ap fresh_path_state (sym same))))
+
+-- or if the pattern has none
+pub patterns-same : (nfa : Automaton) (places : List PathState) (index : ℕ) (found : Option ℕ)
+    → ((k s : ℕ) → k < index → k ≤ 2147483646 → slice_get nfa.patterns k ≡ Some s → In (fresh_path_state s) places)
+    → (index ≤ 2147483646 → found ≡ slice_get nfa.patterns index) → found ≡ None
+    → (k : ℕ) → k < index + 1 → (s : ℕ) → k ≤ 2147483646 → slice_get nfa.patterns k ≡ Some s
+    → In (fresh_path_state s) places
+patterns-same nfa places index found before here none =
+    below_more (λ k. (s : ℕ) → k ≤ 2147483646 → slice_get nfa.patterns k ≡ Some s
+    → In (fresh_path_state s) places) index
+    (λ k h s small e. before k s h small e)
+    (λ s small e. let never : None ≡ Some s = sym none ∙ here small ∙ e in absurd (cc never))
+
+-- a state's node
+pub node_at-is : (nfa : Automaton) (s : ℕ) (node : Node) → slice_get nfa.states s ≡ Some node → node_at nfa s ≡ node
+unfolding node_at
+node_at-is nfa s node is = get_or_from_slice_get nfa.states s node Fail is
+
+module _ (nfa : Automaton) (pattern : ℕ) where
+  pub IsUnderWay-begin : (places : List PathState) → ((s : ℕ) → IsStart nfa s → In (fresh_path_state s) places)
+      → ((v : PathState) → In v places → IsFresh nfa v) → ((v : PathState) → In v places → v.state < length nfa.states)
+      → IsUnderWay nfa pattern 0 places
+  IsUnderWay-begin places starts only below = record {
+    inside = omega arith;
+    starts = starts;
+    covers = λ v i. absurd i;
+    fine = λ v i. absurd i;
+    below = below;
+    led = λ v i. IsLedTo-fresh nfa pattern v (only v i);
+  }
+
+  -- one place more is done, and what follows was added
+  pub IsUnderWay-step : (done : ℕ) (old new : List PathState) (v : PathState) → IsUnderWay nfa pattern done old
+      → slice_get old done ≡ Some v → IsFine nfa pattern v → LeadsBelow (length nfa.states) (node_at nfa v.state)
+      → GainsPathStates old new (next_places nfa pattern v) → IsUnderWay nfa pattern (done + 1) new
+  IsUnderWay-step done old new v under is fine leads gains =
+      let inside : done < length old = slice_get-below old done v is in
+      let there : In v old = slice_get-in old done v is in
+      let node = node_at nfa v.state in
+      let more : (w : PathState) → In w (take (done + 1) new) → In w (take done old ++ v ∷ []) =
+      λ w i. subst (In w) (first inside) i in
+      record {
+        inside = omega (arith, ap length gains.kept, length-append old gains.more, inside);
+        starts = λ s start. GainsPathStates-kept gains (fresh_path_state s) (under.starts s start);
+        covers = λ w i u j.
+            elim (In-append w (take done old) (v ∷ []) (more w i)) [
+              | inl k ↦ GainsPathStates-kept gains u (under.covers w k u j)
+              | inr k ↦ elim k [
+                | inl e ↦ gains.all u (subst (λ (z : PathState). In u (next_places nfa pattern z)) e j)
+                | inr never ↦ absurd never
+              ]
+            ];
+        fine = λ w i.
+            elim (In-append w (take done old) (v ∷ []) (more w i)) [
+              | inl k ↦ under.fine w k
+              | inr k ↦ elim k [ inl e ↦ subst (IsFine nfa pattern) (sym e) fine | inr never ↦ absurd never ]
+            ];
+        below = GainsPathStates-each (λ w. w.state < length nfa.states) gains under.below (λ w i.
+            let of = In-mapped (at_state (after_node pattern node v)) w (targets node) i in
+            subst (λ (z : PathState). z.state < length nfa.states) (sym of.2)
+            (targets-below (length nfa.states) of.0 node leads of.1));
+        led = GainsPathStates-each (IsLedTo nfa pattern) gains under.led
+            (λ w i. IsLedTo-next nfa pattern v w (under.led v there) i);
+      }
+    where
+      first : done < length old → take (done + 1) new ≡ take done old ++ v ∷ []
+      first inside =
+          let enough : done + 1 ≤ length old = omega arith in
+          ap (take (done + 1)) gains.kept ∙ take-append-le (done + 1) old gains.more enough
+          ∙ take_more old done v inside
+          ∙ ap (λ (z : PathState). take done old ++ z ∷ []) (get_or_from_slice_get old done v v is)
+
+  -- all places are done
+  pub IsUnderWay-done : (done : ℕ) (places : List PathState) → length places ≤ done → IsUnderWay nfa pattern done places
+      → IsClosed nfa pattern places
+  IsUnderWay-done done places all under =
+      let same : take done places ≡ places = take_all done places all in
+      record {
+        starts = under.starts;
+        covers = λ v i. under.covers v (rw same i);
+        fine = λ v i. under.fine v (rw same i);
+      }
+
+  -- what was not found to lack a bound does not
+  pub IsFine-of : (v : PathState) (node : Node) (lacks : Bool) → node_at nfa v.state ≡ node
+      → (IsTrue lacks ↔ ((pattern_of node ≡ Some pattern) × (is_recorded v ≡ false))) → lacks ≡ false
+      → IsFine nfa pattern v
+  IsFine-of v node lacks is tells not-so matches = recorded (is_recorded v) refl
+    where
+      here : pattern_of node ≡ Some pattern
+      here = ap pattern_of (sym is) ∙ matches
+
+      recorded : (b : Bool) → is_recorded v ≡ b → b ≡ true
+      recorded true e = refl
+      recorded false e = absurd (let t : lacks ≡ true = tells.1 (here, e) in cc)

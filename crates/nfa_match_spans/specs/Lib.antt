@@ -1,0 +1,4 @@
+pub mod MatchSpanLaws
+pub mod Matches
+pub mod PathStates
+pub mod StatePaths

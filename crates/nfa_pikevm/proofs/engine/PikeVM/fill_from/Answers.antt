@@ -1,0 +1,17 @@
+-- The iterator gives the captures of its input, and keeps the cache.
+use Rattle.std.proofs.Common.{refl}
+use Rattle.regex_search_core.specs.Search.{search_of}
+use Rattle.nfa_pikevm.proofs.CapturesLemmas.{catches-cache, catches-given, catches-memory, catches-searches}
+use Rattle.nfa_pikevm.proofs.engine.PikeVM.fill_from.Goals as goal
+
+pub returns-clause-given : goal.returns-clause-given
+returns-clause-given c = catches-given c.args.self.now (search_of c.args.input) _ refl c.new.ensures refl
+
+pub returns-clause-errors : goal.returns-clause-errors
+returns-clause-errors c = catches-memory c.args.self.now (search_of c.args.input) _ refl c.new.ensures refl
+
+pub returns-clause-keeps : goal.returns-clause-keeps
+returns-clause-keeps c = catches-cache _
+
+pub returns-clause-searches : goal.returns-clause-searches
+returns-clause-searches c = catches-searches c.args.self.now (search_of c.args.input) _ refl c.new.ensures refl

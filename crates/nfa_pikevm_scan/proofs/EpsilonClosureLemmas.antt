@@ -1,0 +1,173 @@
+-- The steps of a closure, each for the searches of all sets of match pairs at once.
+use Rattle.std.proofs.Common.{◌≡◌, ℕ, ◌+◌, ◌<◌, ◌≤◌, ◌⊎◌, ◌↔◌, inl, inr, List, [], ◌∷◌, ◌++◌, length, get_or, set, map, refl, sym, ◌∙◌, arith, Bool, true, false, get_or-set_same, get_or-set_other}
+use Rattle.std.specs.Prelude.{Option, Some, None}
+use Rattle.std.proofs.Math.Decide.{ℕ_discrete}
+use Rattle.std.proofs.lemmas.List.{get_or_default}
+use Rattle.regex_search_core.specs.Search.{Search}
+use Rattle.thompson_nfa.specs.Automaton.{Automaton}
+use Rattle.nfa_paths.specs.Graphs.{Pair, In, Space}
+use Rattle.nfa_paths.specs.Paths.{edges, is_match, capture, space}
+use Rattle.nfa_paths.specs.Exploring.{Task, Slots, Hit, ExploresTo, Searching}
+use Rattle.nfa_paths.specs.Exploring.Task.{Explore, Restore, Load}
+use Rattle.nfa_paths.proofs.SearchLemmas.{Answer-load, AnswerBehind-along}
+use Rattle.nfa_paths.proofs.SearchingLemmas.{Searching-restore, Searching-load, Searching-marked, Searching-plain, Searching-write, Searching-unkept, Searching-keep}
+use Rattle.nfa_scan_core.specs.Marks.{Marks}
+use Rattle.nfa_pikevm_scan.specs.States.{Frontier, SeenAt, AreMatchPairs, Follows}
+
+-- a pair that is not a match is in no set of matches
+plain-target : (nfa : Automaton) (target : Pair → Bool) (v : Pair) → AreMatchPairs nfa target → is_match nfa v ≡ false
+    → target v ≡ false
+plain-target nfa target v ok plain = of (target v) (ok v)
+  where
+    of : (b : Bool) → (b ≡ true → is_match nfa v ≡ true) → b ≡ false
+    of true h = sym (h refl) ∙ plain
+    of false h = refl
+
+-- marking a state marks its pair and no other
+pub SeenAt-set : (at s : ℕ) (bits : List Bool) → s < length bits → (v : Pair)
+    → SeenAt at (set bits s true) v ↔ ((v ≡ (s, at)) ⊎ SeenAt at bits v)
+SeenAt-set at s bits inside v = (
+  λ m.
+      elim (ℕ_discrete v.0 s) [
+        | yes e ↦ inl (λ i. (e i, m.here i))
+        | no n ↦ inr (record { here = m.here; set = sym (get_or-set_other bits s v.0 true false n) ∙ m.set })
+      ],
+  λ m.
+      elim m [
+        | inl e ↦ rw e (record { here = refl; set = get_or-set_same bits s true false inside })
+        | inr old ↦
+            elim (ℕ_discrete v.0 s) [
+              | yes e ↦ record { here = old.here; set = rw e (get_or-set_same bits s true false inside) }
+              | no n ↦ record { here = old.here; set = get_or-set_other bits s v.0 true false n ∙ old.set }
+            ]
+      ],
+)
+
+-- what is not marked was not seen
+pub SeenAt-clear : (at s : ℕ) (bits : List Bool) → s < length bits → get_or bits s true ≡ false
+    → ¬ (SeenAt at bits (s, at))
+SeenAt-clear at s bits inside clear m =
+    let e : get_or bits s false ≡ false = get_or_default bits s false true inside ∙ clear in
+    absurd (cc (m.set, e))
+
+-- After a pair a slot need not be restored if slots are loaded next.
+Searching-unrestored : (space : Space) (target : Pair → Bool)
+    {goal : Hit → ℕ → Type 0} {Seen : Pair → Type 0} {spent : ℕ} {front : Frontier} {otherwise : Hit} {v : Pair}
+    {k : ℕ} {back : Option ℕ} {old : Slots} {rest : List Task} {slots : Slots}
+    → Searching space target goal Seen spent front otherwise (Explore v ∷ Restore k back ∷ Load old ∷ rest) slots
+    → Searching space target goal Seen spent front otherwise (Explore v ∷ Load old ∷ rest) slots
+unfolding ExploresTo
+Searching-unrestored space target {front = front} {otherwise} {v} {k} {back} {old} {rest} {slots} s = record {
+  marks = s.marks;
+  agrees = s.agrees;
+  leads = λ g left total e h.
+      s.leads g left total e
+      (AnswerBehind-along space target front left left (omega arith) otherwise otherwise s.marks s.marks
+      (Explore v ∷ Load old ∷ rest) (Explore v ∷ Restore k back ∷ Load old ∷ rest) slots slots g (λ a. a) h);
+}
+
+module _ (nfa : Automaton) (x : Search) (at : ℕ) where
+  -- one after the other
+  pub Follows-then : {m : Marks} {i : Frontier} {w : List Task} {s : Slots} {n : Marks} {j : Frontier}
+      {y : List Task} {t : Slots}
+      {o : Marks} {k : Frontier} {z : List Task} {u : Slots}
+      → Follows nfa x at m i w s n j y t → Follows nfa x at n j y t o k z u → Follows nfa x at m i w s o k z u
+  Follows-then f g = record {
+    leads = λ target ok starts entry otherwise h. g.leads target ok starts entry otherwise
+        (f.leads target ok starts entry otherwise h);
+  }
+
+  pub Follows-none : (m : Marks) (i : Frontier) (w : List Task) (s : Slots) → Follows nfa x at m i w s m i w s
+  Follows-none m i w s = record { leads = λ target ok starts entry otherwise h. h }
+
+  module _ (m : Marks) (i : Frontier) (rest : List Task) (slots : Slots) where
+    pub Follows-restore : (k : ℕ) (old : Option ℕ)
+        → Follows nfa x at m i (Restore k old ∷ rest) slots m i rest (set slots k old)
+    Follows-restore k old = record {
+      leads = λ target ok starts entry otherwise h.
+          Searching-restore (space nfa x) target h;
+    }
+
+    pub Follows-load : (old : Slots) → Follows nfa x at m i (Load old ∷ rest) slots m i rest old
+    Follows-load old = record {
+      leads = λ target ok starts entry otherwise h. Searching-load (space nfa x) target h;
+    }
+
+    -- what is loaded does not depend on the slots before
+    pub Follows-any : (old after : Slots) → Follows nfa x at m i (Load old ∷ rest) slots m i (Load old ∷ rest) after
+    Follows-any old after = record {
+      leads = λ target ok starts entry otherwise h. record {
+        marks = h.marks;
+        agrees = h.agrees;
+        leads = λ g left total e k.
+            h.leads g left total e
+            (AnswerBehind-along (space nfa x) target i left left (omega arith) otherwise otherwise h.marks
+            h.marks (Load old ∷ rest) (Load old ∷ rest) after slots g
+            (λ a. (Answer-load (space nfa x) target left otherwise h.marks old rest slots g).0
+            ((Answer-load (space nfa x) target left otherwise h.marks old rest after g).1 a)) k);
+      };
+    }
+
+    pub Follows-unrestored : (v : Pair) (k : ℕ) (back : Option ℕ) (old : Slots)
+        → Follows nfa x at m i (Explore v ∷ Restore k back ∷ Load old ∷ rest) slots m i
+        (Explore v ∷ Load old ∷ rest) slots
+    Follows-unrestored v k back old = record {
+      leads =
+          λ target ok starts entry otherwise h. Searching-unrestored (space nfa x) target h;
+    }
+
+    module _ (s : ℕ) (n : Marks) (counted : n.turns ≡ m.turns + 1) where
+      -- a turn that finds its state marked
+      pub Follows-marked : get_or m.bits s false ≡ true → n.bits ≡ m.bits
+          → Follows nfa x at m i (Explore (s, at) ∷ rest) slots n i rest slots
+      Follows-marked seen same = record {
+        leads = λ target ok starts entry otherwise h.
+            rw (counted, same) (Searching-marked (space nfa x) target h (record { here = refl; set = seen }));
+      }
+
+      -- a turn that marks its state
+      module _ (inside : s < length m.bits) (clear : get_or m.bits s true ≡ false)
+          (marked : n.bits ≡ set m.bits s true) where
+        pub Follows-plain : is_match nfa (s, at) ≡ false → (es : List Pair) → edges nfa x (s, at) ≡ es
+            → capture nfa (s, at) ≡ None
+            → Follows nfa x at m i (Explore (s, at) ∷ rest) slots n i (map Explore es ++ rest) slots
+        Follows-plain plain es leads writes = record {
+          leads = λ target ok starts entry otherwise h.
+              rw (counted, marked)
+              (Searching-plain (space nfa x) target h (SeenAt-clear at s m.bits inside clear)
+              (SeenAt-set at s m.bits inside) (plain-target nfa target (s, at) ok plain) es leads writes);
+        }
+
+        pub Follows-write : is_match nfa (s, at) ≡ false → (es : List Pair) → edges nfa x (s, at) ≡ es → (k : ℕ)
+            → capture nfa (s, at) ≡ Some k
+            → Follows nfa x at m i (Explore (s, at) ∷ rest) slots n i
+            (map Explore es ++ Restore k (get_or slots k None) ∷ rest) (set slots k (Some at))
+        Follows-write plain es leads k writes = record {
+          leads = λ target ok starts entry otherwise h.
+              rw (counted, marked)
+              (Searching-write (space nfa x) target h (SeenAt-clear at s m.bits inside clear)
+              (SeenAt-set at s m.bits inside) (plain-target nfa target (s, at) ok plain) es leads k writes);
+        }
+
+        pub Follows-unkept : is_match nfa (s, at) ≡ false → (es : List Pair) → edges nfa x (s, at) ≡ es → (k : ℕ)
+            → capture nfa (s, at) ≡ Some k → length slots ≤ k
+            → Follows nfa x at m i (Explore (s, at) ∷ rest) slots n i (map Explore es ++ rest) slots
+        Follows-unkept plain es leads k writes past = record {
+          leads = λ target ok starts entry otherwise h.
+              rw (counted, marked)
+              (Searching-unkept (space nfa x) target h (SeenAt-clear at s m.bits inside clear)
+              (SeenAt-set at s m.bits inside) (plain-target nfa target (s, at) ok plain) es leads k writes past);
+        }
+
+        -- a state whose edges lead to later positions is put into the front
+        pub Follows-keep : ((v y : Pair) → In y (edges nfa x v) → v.1 ≤ y.1)
+            → ((w : Pair) → In w (edges nfa x (s, at)) → at < w.1)
+            → Follows nfa x at m i (Explore (s, at) ∷ rest) slots n (i ++ ((s, at), slots) ∷ []) rest slots
+        Follows-keep onward leaves = record {
+          leads = λ target ok starts entry otherwise h.
+              rw (counted, marked)
+              (Searching-keep (space nfa x) target h (SeenAt-clear at s m.bits inside clear)
+              (SeenAt-set at s m.bits inside) (λ v. at < v.1)
+              (λ v y a j. let k : v.1 ≤ y.1 = onward v y j in let l : at < v.1 = a in omega arith) leaves
+              (λ v seen a. let k : v.1 ≡ at = seen.here in let l : at < v.1 = a in omega arith));
+        }

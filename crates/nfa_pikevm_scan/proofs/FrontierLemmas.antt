@@ -1,0 +1,220 @@
+-- What the front of a position leads on to, and what it costs.
+use Rattle.std.proofs.Common.{◌≡◌, ℕ, suc, zero, ◌+◌, ◌-◌, ◌*◌, ◌<◌, ◌≤◌, ◌⊎◌, inl, inr, List, [], ◌∷◌, length, get_or, map, replicate, refl, ap, sym, ◌∙◌, arith, subst, Bool, true, false}
+use Rattle.std.specs.Prelude.{Option, Some, None, All, cond, option_map, option_and_then, option_to_list}
+use Rattle.std.specs.List.{sum_by}
+use Rattle.std.specs.Option.{option_or}
+use Rattle.std.proofs.Math.Nat.{mul-le-mul_right}
+use Rattle.std.proofs.lemmas.List.Elements.{All-head, All-tail, All-cons, All-nil}
+use Rattle.std.proofs.lemmas.List.Sums.{sum-map, sum_by-cons}
+use Rattle.regex_search_core.specs.Search.{Search}
+use Rattle.thompson_nfa.specs.Automaton.{Automaton, Node, LeadsBelow}
+use Rattle.thompson_nfa.specs.Automaton.Node.{ByteRange, Sparse, Dense, Look, Union, BinaryUnion, Capture, Fail, Match}
+use Rattle.nfa_paths.specs.Graphs.{Pair, In}
+use Rattle.nfa_paths.specs.Exploring.{Slots, Hit}
+use Rattle.nfa_paths.specs.Kinds.{rests, is_resting, last_match}
+use Rattle.nfa_paths.specs.Paths.{degree, node_at, edges, edges_of, byte_at, target_on, capture, total_degree, span_len}
+use Rattle.nfa_paths.proofs.ScanAnswerLemmas.{edges-rise}
+use Rattle.nfa_paths.proofs.StartLemmas.{resting-capture}
+use Rattle.nfa_paths.proofs.TurnLemmas.{marked_sum-le}
+use Rattle.nfa_scan_core.proofs.TargetLemmas.{target-below, byte_at-within}
+use Rattle.nfa_scan_core.specs.Marks.{Marks}
+use Rattle.nfa_pikevm_scan.specs.States.{Frontier, moves, unmarked, one_of, SeenAt, Formed, Paid}
+use Rattle.nfa_pikevm_scan.specs.Scans.{IsPaidAt, max_scan_turns}
+
+-- what holds of all holds of each
+All-In : {A : Type 0} (P : A → Type 0) (xs : List A) → All P xs → (a : A) → In a xs → P a
+All-In P [] h a i = absurd i
+All-In P (x ∷ xs) h a i = elim i [
+  | inl e ↦ subst P (sym e) (All-head P x xs h)
+  | inr j ↦ All-In P xs (All-tail P x xs h) a j
+]
+
+-- the pairs that a byte state leads to
+abbrev byte_pairs : Node → ℕ → Option ℕ → List Pair
+byte_pairs node p byte = option_to_list (option_and_then
+    (λ b. option_map (λ next. (next, p + 1)) (target_on node b)) byte)
+
+-- none, or one of a state of the NFA at the next position
+abbrev LeadsToOne : Search → Node → ℕ → List Pair → Type 0
+LeadsToOne x node p es = (es ≡ []) ⊎ ((t : ℕ) × (es ≡ (t, p + 1) ∷ [])
+    × ((n : ℕ) → LeadsBelow n node → t < n) × (p < x.end))
+
+byte-leads : (x : Search) (node : Node) (p : ℕ) (byte : Option ℕ) → ((b : ℕ) → byte ≡ Some b → p < x.end)
+    → LeadsToOne x node p (byte_pairs node p byte)
+byte-leads x node p None within = inl refl
+byte-leads x node p (Some b) within = of (target_on node b) refl
+  where
+    of : (o : Option ℕ) → target_on node b ≡ o
+        → LeadsToOne x node p (option_to_list (option_map (λ next. (next, p + 1)) o))
+    of None e = inl refl
+    of (Some t) e = inr (t, refl, λ n leads. target-below n node b t leads e, within b refl)
+
+-- a state that rests
+rests-leads : (x : Search) (node : Node) (p : ℕ) → rests node ≡ true → LeadsToOne x node p (edges_of x node p)
+unfolding edges_of
+rests-leads x (ByteRange trans) p r = byte-leads x (ByteRange trans) p (byte_at x p) (byte_at-within x p)
+rests-leads x (Sparse ts) p r = byte-leads x (Sparse ts) p (byte_at x p) (byte_at-within x p)
+rests-leads x (Dense targets) p r = byte-leads x (Dense targets) p (byte_at x p) (byte_at-within x p)
+rests-leads x (Look look next) p r = cc
+rests-leads x (Union alternates) p r = cc
+rests-leads x (BinaryUnion alt1 alt2) p r = cc
+rests-leads x (Capture next slot) p r = cc
+rests-leads x Fail p r = inl refl
+rests-leads x (Match pattern) p r = inl refl
+
+-- a state of the NFA leads to its states
+node-leads : (nfa : Automaton) (s : ℕ) → s < length nfa.states → All (LeadsBelow (length nfa.states)) nfa.states
+    → LeadsBelow (length nfa.states) (node_at nfa s)
+unfolding node_at
+node-leads nfa s h leads = leads s Fail h
+
+module _ (nfa : Automaton) (x : Search) (at : ℕ) (bits : List Bool) where
+  pub Formed-resting : (front : Frontier) → Formed nfa at bits front → (a : Pair × Slots) → In a front
+      → (is_resting nfa a.0 ≡ true) × (a.0.1 ≡ at)
+  Formed-resting front f a i = (
+    All-In (λ (b : Pair × Slots). rests (node_at nfa b.0.0) ≡ true) front f.resting a i,
+    All-In (λ (b : Pair × Slots). b.0.1 ≡ at) front f.here a i,
+  )
+
+  -- it writes nothing, and leads to later positions
+  pub Formed-rests : (front : Frontier) → Formed nfa at bits front → (a : Pair × Slots) → In a front
+      → (capture nfa a.0 ≡ None) × (a.0.1 ≡ at) × ((w : Pair) → In w (edges nfa x a.0) → at < w.1)
+  Formed-rests front f a i =
+      let r = Formed-resting front f a i in (
+        resting-capture nfa a.0 r.0,
+        r.1,
+        λ w j. let k : a.0.1 < w.1 = edges-rise nfa x a.0 w r.0 j in let here : a.0.1 ≡ at = r.1 in omega arith,
+      )
+
+  -- each pair of it leads to one state or none
+  Formed-one : (front : Frontier) → Formed nfa at bits front → (a : Pair × Slots) → In a front
+      → LeadsToOne x (node_at nfa a.0.0) at (edges nfa x a.0)
+  Formed-one front f a i =
+      let r = Formed-resting front f a i in
+      subst (λ (p : ℕ). LeadsToOne x (node_at nfa a.0.0) p (edges nfa x a.0)) r.1
+      (rests-leads x (node_at nfa a.0.0) a.0.1 r.0)
+
+  pub Formed-next : (front : Frontier) → Formed nfa at bits front → (a : Pair × Slots) → In a front
+      → (edges nfa x a.0 ≡ []) ⊎ ((t : ℕ) × (edges nfa x a.0 ≡ (t, at + 1) ∷ []))
+  Formed-next front f a i = elim (Formed-one front f a i) [ inl none ↦ inl none | inr some ↦ inr (some.0, some.1) ]
+
+  -- the states that it leads on to are the NFA's
+  pub Formed-below : All (LeadsBelow (length nfa.states)) nfa.states → (front : Frontier) → Formed nfa at bits front
+      → All (λ i. i.0 < length nfa.states) (moves (edges nfa x) front)
+  Formed-below leads front f =
+      of front (Formed-one front f) (λ a i. node-leads nfa a.0.0
+      (All-In (λ (b : Pair × Slots). b.0.0 < length nfa.states) front f.states a i) leads)
+    where
+      of : (ys : Frontier) → ((a : Pair × Slots) → In a ys → LeadsToOne x (node_at nfa a.0.0) at (edges nfa x a.0))
+          → ((a : Pair × Slots) → In a ys → LeadsBelow (length nfa.states) (node_at nfa a.0.0))
+          → All (λ i. i.0 < length nfa.states) (moves (edges nfa x) ys)
+      of [] one below = All-nil (λ (i : ℕ × Slots). i.0 < length nfa.states)
+      of (a ∷ ys) one below =
+          let rest = of ys (λ b i. one b (inr i)) (λ b i. below b (inr i)) in
+          elim (one a (inl refl)) [
+            | inl none ↦ rw none rest
+            | inr some ↦ rw some.1 (All-cons (λ (i : ℕ × Slots). i.0 < length nfa.states) (some.0, a.1)
+                (moves (edges nfa x) ys) (some.2 (length nfa.states) (below a (inl refl))) rest)
+          ]
+
+  -- if no byte is left, it leads nowhere
+  pub Formed-over : x.end ≤ at → (front : Frontier) → Formed nfa at bits front → moves (edges nfa x) front ≡ []
+  Formed-over past front f = of front (Formed-one front f)
+    where
+      of : (ys : Frontier) → ((a : Pair × Slots) → In a ys → LeadsToOne x (node_at nfa a.0.0) at (edges nfa x a.0))
+          → moves (edges nfa x) ys ≡ []
+      of [] one = refl
+      of (a ∷ ys) one =
+          elim (one a (inl refl)) [
+            | inl none ↦ rw none (of ys (λ b i. one b (inr i)))
+            | inr some ↦ let h : at < x.end = some.3 in absurd (omega arith)
+          ]
+
+-- the matches of a front
+
+module _ (target : Pair → Bool) where
+  -- the last match pair, or what was found before
+  pub last_match-or : (g : Hit) (front : Frontier)
+      → last_match target g front ≡ option_or (last_match target None front) g
+  last_match-or g [] = refl
+  last_match-or g (a ∷ front) = of (target a.0) (last_match-or (Some a) front) (last_match-or g front)
+    where
+      some : (o : Hit) (h : Hit) → option_or (option_or o (Some a)) h ≡ option_or o (Some a)
+      some None h = refl
+      some (Some b) h = refl
+
+      of : (c : Bool) → last_match target (Some a) front ≡ option_or (last_match target None front) (Some a)
+          → last_match target g front ≡ option_or (last_match target None front) g
+          → last_match target (cond c (Some a) g) front ≡ option_or (last_match target (cond c (Some a) None) front) g
+      of true e f = e ∙ sym (ap (λ (o : Hit). option_or o g) e ∙ some (last_match target None front) g)
+      of false e f = f
+
+-- marks
+
+-- with no mark nothing was seen
+pub SeenAt-none : (at n : ℕ) (v : Pair) → SeenAt at (replicate n false) v → ⊥
+SeenAt-none at n v s = never n v.0 s.set
+  where
+    never : (n k : ℕ) → get_or (replicate n false) k false ≡ true → ⊥
+    never zero k e = cc
+    never (suc n) zero e = cc
+    never (suc n) (suc k) e = never n k e
+
+-- turns
+
+pub sum-ones : (states : List Node) → sum_by one_of states ≡ length states
+sum-ones [] = refl
+sum-ones (s ∷ states) = omega (arith, sum_by-cons one_of s states, sum-ones states)
+
+module _ (nfa : Automaton) (x : Search) where
+  -- no more states are kept than the NFA has
+  pub Paid-few : (met : Marks) (hand : ℕ) (after : Marks) (more : ℕ) → Paid nfa (unmarked met) 0 [] hand after more [] 0
+      → more ≤ length nfa.states
+  Paid-few met hand after more p =
+      omega (
+        arith,
+        p.entered,
+        marked_sum-le (map one_of nfa.states) after.bits,
+        sum-map one_of nfa.states,
+        sum-ones nfa.states,
+      )
+
+  -- what was left and what a position takes
+  pub Paid-next : (met : Marks) (hand : ℕ) (after : Marks) (more : ℕ)
+      → Paid nfa (unmarked met) 0 [] hand after more [] 0 → after.turns + more ≤ met.turns + hand + total_degree nfa
+  Paid-next met hand after more p =
+      omega (arith, p.tried, marked_sum-le (map degree nfa.states) after.bits, sum-map degree nfa.states)
+
+  -- from one position to the next
+  pub IsPaidAt-cross : (at before turns items hand after more : ℕ) → x.start ≤ at → IsPaidAt nfa x at before turns items
+      → hand ≤ items + 1
+      → after + more ≤ turns + hand + total_degree nfa → IsPaidAt nfa x (at + 1) before after more
+  IsPaidAt-cross at before turns items hand after more low p one h =
+      let n : at + 1 - x.start ≡ (at - x.start) + 1 = omega arith in
+      let b : turns + items ≤ before + (at - x.start) * (1 + total_degree nfa) = p.bound in
+      record { bound = rw n (step before turns items hand after more (at - x.start) (total_degree nfa) b one h) }
+    where
+      step : (before turns items hand after more n w : ℕ) → turns + items ≤ before + n * (1 + w) → hand ≤ items + 1
+          → after + more ≤ turns + hand + w
+          → after + more ≤ before + (n + 1) * (1 + w)
+      step before turns items hand after more n w b one h = omega arith
+
+  -- positions that are passed over cost nothing
+  pub IsPaidAt-later : (at to before turns items : ℕ) → at ≤ to → IsPaidAt nfa x at before turns items
+      → IsPaidAt nfa x to before turns items
+  IsPaidAt-later at to before turns items le p =
+      let few : at - x.start ≤ to - x.start = omega arith in
+      let b : turns + items ≤ before + (at - x.start) * (1 + total_degree nfa) = p.bound in
+      let k : (at - x.start) * (1 + total_degree nfa) ≤ (to - x.start) * (1 + total_degree nfa) =
+      mul-le-mul_right (1 + total_degree nfa) few in
+      record { bound = omega arith }
+
+  -- all positions
+  pub IsPaidAt-end : (at before turns items : ℕ) → at ≤ x.end + 1 → x.start ≤ x.end
+      → IsPaidAt nfa x at before turns items → turns ≤ before + max_scan_turns nfa x
+  IsPaidAt-end at before turns items within span p =
+      let few : at - x.start ≤ span_len x + 1 = omega arith in
+      let b : turns + items ≤ before + (at - x.start) * (1 + total_degree nfa) = p.bound in
+      let k : (at - x.start) * (1 + total_degree nfa) ≤ (span_len x + 1) * (1 + total_degree nfa) =
+      mul-le-mul_right (1 + total_degree nfa) few in
+      omega arith

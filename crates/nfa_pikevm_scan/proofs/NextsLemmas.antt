@@ -1,0 +1,265 @@
+-- The kept states of a position, followed one after the other.
+use Rattle.std.proofs.Common.{◌≡◌, ℕ, ◌+◌, ◌*◌, ◌<◌, ◌≤◌, List, [], ◌∷◌, ◌++◌, length, get_or, map, take, drop, replicate, refl, ap, sym, ◌∙◌, arith, true, false, Bool, subst}
+use Rattle.std.specs.Prelude.{All}
+use Rattle.std.proofs.lemmas.List.{drop_more, drop-drop, drop_all, length-take, length-take-le, length-drop}
+use Rattle.std.proofs.lemmas.List.Elements.{All-nil, All-cons, All-head, All-tail}
+use Rattle.std.proofs.lemmas.Slice.{drop-put_mid}
+use Rattle.std.proofs.Math.Nat.{mul-le-mul_right}
+use borrow.Rule.Slice.PartMut.{put_mid}
+use Rattle.regex_search_core.specs.Search.{Search}
+use Rattle.regex_search_core.specs.declared.primitives.PatternID.{PatternID}
+use Rattle.thompson_nfa.specs.Automaton.{Automaton}
+use Rattle.nfa_paths.specs.Graphs.{Pair}
+use Rattle.nfa_paths.specs.Paths.{degree, edges}
+use Rattle.nfa_paths.specs.Exploring.{Task, Slots}
+use Rattle.nfa_paths.specs.Exploring.Task.{Explore, Load}
+use Rattle.nfa_paths.specs.Turns.{marked_sum}
+use Rattle.nfa_paths.proofs.TurnLemmas.{marked_sum-clear}
+use Rattle.nfa_scan_core.specs.Marks.{Marks}
+use Rattle.nfa_pikevm_scan.specs.Rows.{items_of}
+use Rattle.nfa_pikevm_scan.specs.Needs.{room_of}
+use Rattle.nfa_pikevm_scan.specs.States.{Frontier, moves, tasks, unmarked, one_of, Formed, HasRoom, Paid, Follows, Leads}
+use Rattle.nfa_pikevm_scan.specs.Sinks.{Takes, ClosureGives, ClosuresGive}
+use Rattle.nfa_pikevm_scan.specs.Sinks.Takes.{none}
+use Rattle.nfa_pikevm_scan.proofs.RowLemmas.{drop-items_of, length-items_of}
+use Rattle.nfa_pikevm_scan.proofs.EpsilonClosureLemmas.{Follows-then, Follows-load, Follows-any}
+use Rattle.nfa_pikevm_scan.proofs.SinkLemmas.{Takes-then}
+use Rattle.nfa_pikevm_scan.proofs.ClosureLemmas.{moves-append}
+
+-- rows
+
+-- the i-th item, and those after it, if the rows from the i-th on did not change
+pub items-next : (width i n : ℕ) (kept : List ℕ) (cells rows : Slots) (k : ℕ) → i < length kept → k ≡ get_or kept i k
+    → n ≡ width → drop (i * width) rows ≡ drop (i * width) cells
+    → drop i (items_of width kept cells) ≡ (k, take n (drop (i * width) rows))
+    ∷ drop (i + 1) (items_of width kept cells)
+items-next width i n kept cells rows k h is wide same =
+    let more : (i + 1) * width ≡ i * width + width = omega arith in
+    drop-items_of width i kept cells ∙ ap (λ s. items_of width s (drop (i * width) cells)) (drop_more kept i k h)
+    ∙ ap (λ s. (s, take width (drop (i * width) cells)) ∷ items_of width (drop (i + 1) kept)
+    (drop width (drop (i * width) cells))) (sym is)
+    ∙ ap (λ t. (k, take width (drop (i * width) cells)) ∷ items_of width (drop (i + 1) kept) t)
+    (drop-drop width (i * width) cells ∙ ap (λ n. drop n cells) (sym more))
+    ∙ ap (λ t. (k, take width (drop (i * width) cells)) ∷ t) (sym (drop-items_of width (i + 1) kept cells))
+    ∙ ap (λ t. (k, t) ∷ drop (i + 1) (items_of width kept cells))
+    (ap (take width) (sym same) ∙ ap (λ m. take m (drop (i * width) rows)) (sym wide))
+
+-- no item is after the last
+pub items-over : (width i : ℕ) (kept : List ℕ) (cells : Slots) → length kept ≤ i
+    → drop i (items_of width kept cells) ≡ []
+items-over width i kept cells over = drop_all i (items_of width kept cells)
+    (omega (arith, length-items_of width kept cells))
+
+-- the i-th row is within all rows
+row-fits : (width i count cells : ℕ) → i < count → count * width ≤ cells → i * width + width ≤ cells
+row-fits width i count cells h fits =
+    let next : (i + 1) * width ≤ count * width = mul-le-mul_right width (let k : i + 1 ≤ count = omega arith in k) in
+    let more : (i + 1) * width ≡ i * width + width = omega arith in
+    omega arith
+
+-- and has its width
+pub row-long : (width i count n : ℕ) (rows cells : Slots) → i < count → count * width ≤ length cells
+    → length rows ≡ length cells → n ≡ width
+    → length (take n (drop (i * width) rows)) ≡ width
+row-long width i count n rows cells h fits long wide =
+    let inside = row-fits width i count (length cells) h fits in
+    length-take-le n (drop (i * width) rows) (omega (arith, length-drop (i * width) rows)) ∙ wide
+
+-- writing a row keeps those after it
+pub rows-behind : (width i count n : ℕ) (cells rows row : Slots) → i < count → count * width ≤ length cells
+    → length rows ≡ length cells → n ≡ width
+    → length row ≡ length (take n (drop (i * width) rows)) → drop (i * width) rows ≡ drop (i * width) cells
+    → drop ((i + 1) * width) (put_mid (i * width) n rows row) ≡ drop ((i + 1) * width) cells
+rows-behind width i count n cells rows row h fits long wide whole same =
+    let inside = row-fits width i count (length cells) h fits in
+    let more : (i + 1) * width ≡ i * width + width = omega arith in
+    drop-put_mid (i * width) n rows row ((i + 1) * width) (omega arith) (omega arith)
+    (whole ∙ row-long width i count n rows cells h fits long wide ∙ sym wide)
+    ∙ ap (λ k. drop k rows) more ∙ sym (drop-drop width (i * width) rows) ∙ ap (drop width) same
+    ∙ drop-drop width (i * width) cells ∙ ap (λ k. drop k cells) (sym more)
+
+-- each item's state is below `count`
+pub states-below : (count width : ℕ) (states : List ℕ) (cells : Slots)
+    → All (λ i. i.0 < count) (items_of width states cells) → All (λ s. s < count) states
+states-below count width [] cells all = All-nil (λ s. s < count)
+states-below count width (s ∷ states) cells all =
+    All-cons (λ s. s < count) s states
+    (All-head (λ (i : ℕ × Slots). i.0 < count) (s, take width cells) (items_of width states (drop width cells)) all)
+    (states-below count width states (drop width cells)
+    (All-tail (λ (i : ℕ × Slots). i.0 < count) (s, take width cells) (items_of width states (drop width cells)) all))
+
+-- each row has at most `width` slots
+pub rows-within : (width : ℕ) (states : List ℕ) (cells : Slots)
+    → All (λ i. length i.1 ≤ width) (items_of width states cells)
+rows-within width [] cells = All-nil (λ (i : ℕ × Slots). length i.1 ≤ width)
+rows-within width (s ∷ states) cells =
+    All-cons (λ (i : ℕ × Slots). length i.1 ≤ width) (s, take width cells) (items_of width states (drop width cells))
+    (omega (arith, length-take width cells)) (rows-within width states (drop width cells))
+
+-- what is left to do
+
+module _ (nfa : Automaton) (x : Search) (at : ℕ) where
+  -- the work of a position does not depend on the slots before
+  Follows-tasks : (m : Marks) (f : Frontier) (items : List (ℕ × Slots)) (old : Slots) (waiting : List Task)
+      (slots after : Slots)
+      → Follows nfa x at m f (tasks at items (Load old ∷ waiting)) slots m f (tasks at items (Load old ∷ waiting)) after
+  Follows-tasks m f [] old waiting slots after = Follows-any nfa x at m f waiting slots old after
+  Follows-tasks m f (i ∷ items) old waiting slots after =
+      Follows-any nfa x at m f (Explore (i.0, at) ∷ tasks at items (Load old ∷ waiting)) slots i.1 after
+
+  -- a state is followed, above those that wait
+  Leads-tasks : (m n : Marks) (f g : Frontier) (s : ℕ) (row : Slots) (goes_on : Type 0) (items : List (ℕ × Slots))
+      → ((old : Slots) (work : List Task) → Leads nfa x at m f (Explore (s, at) ∷ Load old ∷ work) row goes_on n g
+      (Load old ∷ work))
+      → (old : Slots) (waiting : List Task)
+      → Leads nfa x at m f (Explore (s, at) ∷ tasks at items (Load old ∷ waiting)) row goes_on n g
+      (tasks at items (Load old ∷ waiting))
+  Leads-tasks m n f g s row goes_on [] leads old waiting = leads old waiting
+  Leads-tasks m n f g s row goes_on (i ∷ items) leads old waiting =
+      leads i.1 (Explore (i.0, at) ∷ tasks at items (Load old ∷ waiting))
+
+module _ {V : Type 0} (nfa : Automaton) (x : Search) (takes : V → PatternID → Slots → Bool → V → Type 0) (at : ℕ)
+    (met : Marks) (items : List (ℕ × Slots)) (old : V) where
+  -- The result of a position's states so far, with some left to follow.
+  pub record NextsLeadTo (left : List (ℕ × Slots)) (after : Marks) (kept : List (ℕ × Slots)) (new : V) : Type 0 where
+    pub front : Frontier
+    pub added : kept ≡ moves (edges nfa x) front
+    pub takes_all : Takes nfa takes front old false new
+    pub formed : Formed nfa at after.bits front
+    pub paid : Paid nfa (unmarked met) 0 [] (length items) after (length kept) [] (length left)
+    pub follows : (current old : Slots) (waiting : List Task) (last : Slots)
+        → Follows nfa x at (unmarked met) [] (tasks at items (Load old ∷ waiting)) current after front
+        (tasks at left (Load old ∷ waiting)) last
+
+  -- all are left
+  pub NextsLeadTo-begin : (kept : List (ℕ × Slots)) → kept ≡ [] → met.bits ≡ replicate (length met.bits) false
+      → NextsLeadTo items met kept old
+  NextsLeadTo-begin kept empty clear = record {
+    front = [];
+    added = empty;
+    takes_all = none;
+    formed = record {
+      here = All-nil (λ (a : Pair × Slots). a.0.1 ≡ at);
+      states = All-nil _;
+      resting = All-nil _;
+      marked = All-nil _;
+      once = tt;
+    };
+    paid = record {
+      tried = omega (arith, marked_sum-clear (map degree nfa.states) (length met.bits), ap length empty);
+      framed = omega (arith, marked_sum-clear (map room_of nfa.states) (length met.bits));
+      entered = omega (arith, marked_sum-clear (map one_of nfa.states) (length met.bits), ap length empty);
+    };
+    follows = λ current old waiting last.
+        let same : met ≡ unmarked met = ap (λ b. record met { bits = b }) clear in
+        subst (λ (n : Marks). Follows nfa x at n [] (tasks at items (Load old ∷ waiting)) current met []
+        (tasks at items (Load old ∷ waiting)) last) same
+        (Follows-tasks nfa x at met [] items old waiting current last);
+  }
+
+  -- there is room for what the next state leads to
+  pub HasRoom-next : (left : List (ℕ × Slots)) (after : Marks) (kept : List (ℕ × Slots)) (new : V)
+      (frames capacity f p : ℕ)
+      → met.bits ≡ replicate (length met.bits) false → HasRoom nfa met.bits 0 frames 0 capacity
+      → length after.bits ≡ length met.bits → f ≡ frames → p ≡ capacity
+      → NextsLeadTo left after kept new → HasRoom nfa after.bits 0 f (length kept) p
+  HasRoom-next left after kept new frames capacity f p clear room size same_frames same_capacity c =
+      let rooms = ap (marked_sum (map room_of nfa.states)) clear in
+      let ones = ap (marked_sum (map one_of nfa.states)) clear in
+      record {
+        marks = omega (arith, room.marks);
+        frames_fit = omega (arith, room.frames_fit, c.paid.framed, rooms);
+        states_fit = omega (arith, room.states_fit, c.paid.entered, ones);
+      }
+
+  module _ (left rest : List (ℕ × Slots)) (after : Marks) (kept : List (ℕ × Slots)) (mid : V) (k : ℕ) (row : Slots)
+      (next : left ≡ (k, row) ∷ rest) (c : NextsLeadTo left after kept mid)
+      (ended : Bool) (then : Marks) (more : List (ℕ × Slots)) (new : V)
+      (a : ClosureGives nfa x takes at k after kept row mid ended then more new) where
+    added : more ≡ moves (edges nfa x) (c.front ++ a.front)
+    added =
+        a.added ∙ ap (λ l. l ++ moves (edges nfa x) a.front) c.added
+        ∙ sym (moves-append (edges nfa x) c.front a.front)
+
+    paid : Paid nfa (unmarked met) 0 [] (length items) then (length more) [] (length rest)
+    paid =
+        let one_less : length left ≡ 1 + length rest = ap length next ∙ omega arith in
+        record {
+          tried = omega (arith, c.paid.tried, a.paid.tried);
+          framed = omega (arith, c.paid.framed, a.paid.framed);
+          entered = omega (arith, c.paid.entered, a.paid.entered);
+        }
+
+    -- up to the state that is followed
+    reaches : (current old : Slots) (waiting : List Task)
+        → Follows nfa x at (unmarked met) [] (tasks at items (Load old ∷ waiting)) current after c.front
+        (Explore (k, at) ∷ tasks at rest (Load old ∷ waiting)) row
+    reaches current old waiting =
+        Follows-then nfa x at
+        (subst (λ l. Follows nfa x at (unmarked met) [] (tasks at items (Load old ∷ waiting)) current after c.front
+        (tasks at l (Load old ∷ waiting)) row) next
+        (c.follows current old waiting row))
+        (Follows-load nfa x at after c.front (Explore (k, at) ∷ tasks at rest (Load old ∷ waiting)) row row)
+
+    leads : (old : Slots) (waiting : List Task)
+        → Leads nfa x at after c.front (Explore (k, at) ∷ tasks at rest (Load old ∷ waiting)) row (ended ≡ false)
+        then (c.front ++ a.front) (tasks at rest (Load old ∷ waiting))
+    leads = Leads-tasks nfa x at after then c.front (c.front ++ a.front) k row (ended ≡ false) rest
+        (a.leads c.front)
+
+    -- the position goes on
+    pub NextsLeadTo-next : ended ≡ false → NextsLeadTo rest then more new
+    NextsLeadTo-next on = record {
+      front = c.front ++ a.front;
+      added = added;
+      takes_all = Takes-then c.takes_all (rw on at a.takes_all);
+      formed = a.formed c.front c.formed;
+      paid = paid;
+      follows = λ current old waiting last.
+          let l = leads old waiting in
+          Follows-then nfa x at (reaches current old waiting)
+          (Follows-then nfa x at
+          (subst (λ w. Follows nfa x at after c.front (Explore (k, at) ∷ tasks at rest (Load old ∷ waiting)) row then
+          (c.front ++ a.front) w l.written) (l.whole on) l.follows)
+          (Follows-tasks nfa x at then (c.front ++ a.front) rest old waiting l.written last));
+    }
+
+    -- it ends with the state
+    pub NextsLeadTo-ended : ended ≡ true → ClosuresGive nfa x takes at met items old then more new
+    NextsLeadTo-ended stops = record {
+      front = c.front ++ a.front;
+      ended = ended;
+      added = added;
+      takes_all = Takes-then c.takes_all a.takes_all;
+      formed = a.formed c.front c.formed;
+      paid = record { tried = omega (arith, paid.tried); framed = paid.framed; entered = paid.entered };
+      leads = λ current old waiting.
+          let l = leads old waiting in
+          record {
+            left = l.left;
+            written = l.written;
+            follows = Follows-then nfa x at (reaches current old waiting) l.follows;
+            whole = λ on. absurd (cc (on, stops));
+          };
+    }
+
+  -- all were followed
+  pub NextsLeadTo-over : (left : List (ℕ × Slots)) (after : Marks) (kept : List (ℕ × Slots)) (new : V) → left ≡ []
+      → NextsLeadTo left after kept new → ClosuresGive nfa x takes at met items old after kept new
+  NextsLeadTo-over left after kept new over c = record {
+    front = c.front;
+    ended = false;
+    added = c.added;
+    takes_all = c.takes_all;
+    formed = c.formed;
+    paid = record { tried = omega (arith, c.paid.tried); framed = c.paid.framed; entered = c.paid.entered };
+    leads = λ current old waiting. record {
+      left = Load old ∷ waiting;
+      written = current;
+      follows =
+          subst (λ l. Follows nfa x at (unmarked met) [] (tasks at items (Load old ∷ waiting)) current after c.front
+          (tasks at l (Load old ∷ waiting)) current) over
+          (c.follows current old waiting current);
+      whole = λ _. refl;
+    };
+  }

@@ -1,0 +1,47 @@
+-- The matches of a front, taken in order.
+use Rattle.std.proofs.Common.{◌≡◌, ℕ, inl, inr, Bool, true, false, [], ◌∷◌, ◌++◌, refl, sym, subst}
+use Rattle.std.specs.Prelude.{Some}
+use Rattle.regex_search_core.specs.Patterns.{number_of}
+use Rattle.regex_search_core.specs.declared.primitives.PatternID.{PatternID}
+use Rattle.thompson_nfa.specs.Automaton.{Automaton}
+use Rattle.nfa_paths.specs.Graphs.{Pair}
+use Rattle.nfa_paths.specs.Paths.{node_at, pattern_of, is_match}
+use Rattle.nfa_paths.specs.Exploring.{Slots}
+use Rattle.nfa_paths.specs.Kinds.{NoMatch}
+use Rattle.nfa_pikevm_scan.specs.States.{Frontier, EndsInMatch}
+use Rattle.nfa_pikevm_scan.specs.Sinks.{Takes}
+use Rattle.nfa_pikevm_scan.specs.Sinks.Takes.{none, plain, taken, ends}
+
+module _ {V : Type 0} {nfa : Automaton} {takes : V → PatternID → Slots → Bool → V → Type 0} where
+  -- one front after another
+  pub Takes-then : {front more : Frontier} {u v w : V} {ended : Bool} → Takes nfa takes front u false v
+      → Takes nfa takes more v ended w → Takes nfa takes (front ++ more) u ended w
+  Takes-then none t = t
+  Takes-then (plain off f) t = plain off (Takes-then f t)
+  Takes-then (taken p is k f) t = taken p is k (Takes-then f t)
+
+  -- a front with no match
+  pub Takes-none : (front : Frontier) (v : V) → NoMatch (is_match nfa) front → Takes nfa takes front v false v
+  Takes-none [] v off = none
+  Takes-none (a ∷ front) v off = plain (of (is_match nfa a.0) (λ t. off a (inl refl) t))
+      (Takes-none front v (λ b i. off b (inr i)))
+    where
+      of : (b : Bool) → (b ≡ true → ⊥) → b ≡ false
+      of true h = absurd (h refl)
+      of false h = refl
+
+  -- one match
+  takes-one : {a : Pair × Slots} {v w : V} (ended : Bool) (pattern : PatternID)
+      → pattern_of (node_at nfa a.0.0) ≡ Some (number_of pattern) → takes v pattern a.1 ended w
+      → Takes nfa takes (a ∷ []) v ended w
+  takes-one true pattern is t = ends pattern is t
+  takes-one false pattern is t = taken pattern is t none
+
+  -- a front that ends with a match
+  pub Takes-match : {at : ℕ} {slots : Slots} {front : Frontier} {v w : V} {result : Bool}
+      (pattern : PatternID) (ended : Bool) → result ≡ ended
+      → EndsInMatch nfa at slots (Some pattern) front → takes v pattern slots result w
+      → Takes nfa takes front v ended w
+  Takes-match {v = v} {w} pattern ended same e t =
+      subst (λ f. Takes nfa takes f v ended w) (sym e.3)
+      (Takes-then (Takes-none e.0 v e.2) (takes-one ended pattern e.4 (rw same at t)))

@@ -1,0 +1,9 @@
+-- The match that is meant is the last row.
+use Rattle.std.proofs.Common.{refl, rules}
+use Rattle.nfa_pikevm_scan.proofs.SlotsSinkLemmas.{NextsGive-taken}
+use Rattle.nfa_pikevm_scan.proofs.nexts.nexts.Goals as goal
+
+pub returns-clause-crosses : goal.returns-clause-crosses
+returns-clause-crosses c =
+    let h = NextsGive-taken refl c.nexts_with.ensures.arrive in
+    search (rules, h)

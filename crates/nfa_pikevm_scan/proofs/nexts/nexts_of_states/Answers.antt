@@ -1,0 +1,97 @@
+-- The states of a position are followed in order, up to the match that ends it.
+use Rattle.std.proofs.Common.{◌≡◌, ◌+◌, ◌-◌, ◌*◌, ◌∙◌, length, refl, ap, sym, arith}
+use Rattle.regex_search_core.specs.Search.{search_of}
+use Rattle.nfa_pikevm_scan.specs.Rows.{Active}
+use Rattle.nfa_pikevm_scan.proofs.ClosureLemmas.{KeepsRoom-none, KeepsRoom-then}
+use Rattle.nfa_pikevm_scan.proofs.NextsLemmas.{NextsLeadTo-begin, NextsLeadTo-next, NextsLeadTo-ended, NextsLeadTo-over, HasRoom-next, items-next, items-over, row-long, rows-behind}
+use Rattle.nfa_pikevm_scan.proofs.nexts.nexts_of_states.Goals as goal
+
+pub loop-sid-init : goal.loop-sid-init
+loop-sid-init g c = record {
+  start = omega arith;
+  keeps = KeepsRoom-none c.args.reached.now;
+  grows = omega arith;
+  behind = refl;
+  width = refl;
+  same_reference = refl;
+  crosses = NextsLeadTo-begin c.args.here.now.nfa.now (search_of c.args.here.now.input.now) g.T.MatchSink.takes
+      c.args.here.now.at c.args.reached.now.seen _ c.args.sink.now _ c.requires.empty c.requires.clear;
+}
+
+pub epsilon_closure-requires-clause-room : goal.epsilon_closure-requires-clause-room
+epsilon_closure-requires-clause-room g c = record {
+  room = HasRoom-next c.args.here.now.nfa.now (search_of c.args.here.now.input.now) g.T.MatchSink.takes
+      c.args.here.now.at
+      c.args.reached.now.seen _ c.args.sink.now _ _ _ _ _ _ _ _
+      c.requires.clear c.requires.room c.loop-sid.invariant.keeps.size refl
+      (ap (λ (z : Active). z.capacity) c.loop-sid.invariant.keeps.same) c.loop-sid.invariant.crosses;
+  stack = omega (arith, c.loop-sid.auto.frames, c.requires.stack);
+}
+
+pub epsilon_closure-requires-clause-width : goal.epsilon_closure-requires-clause-width
+epsilon_closure-requires-clause-width g c =
+    let width = c.width-width.result in
+    let wide = c.width-width.ensures in
+    rw c.loop-sid.invariant.start (row-long width c.loop-sid.sid-index (length c.args.kept.now) _ c.loop-sid.rows
+    c.args.rows.now c.loop-sid-test.true (rw wide c.requires.rows) c.loop-sid.auto.rows (omega arith))
+    ∙ wide ∙ c.requires.width ∙ sym (ap (λ (z : Active). z.width) c.loop-sid.invariant.keeps.same)
+
+pub epsilon_closure-requires-clause-takes : goal.epsilon_closure-requires-clause-takes
+epsilon_closure-requires-clause-takes g c =
+    let width = c.width-width.result in
+    let wide = c.width-width.ensures in
+    rw c.loop-sid.invariant.start (row-long width c.loop-sid.sid-index (length c.args.kept.now) _ c.loop-sid.rows
+    c.args.rows.now c.loop-sid-test.true (rw wide c.requires.rows) c.loop-sid.auto.rows (omega arith))
+    ∙ wide ∙ sym c.loop-sid.invariant.width
+
+pub loop-sid-preserved : goal.loop-sid-preserved
+loop-sid-preserved g c =
+    let width = c.width-width.result in
+    let i = c.loop-sid.sid-index in
+    let wide : i * width + width - i * width ≡ width = omega arith in
+    let items = items-next width i _ c.args.kept.now c.args.rows.now c.loop-sid.rows c.sid-item.result
+    c.loop-sid-test.true c.sid-item.is wide c.loop-sid.invariant.behind in
+    record {
+      start = omega (arith, c.loop-sid.invariant.start);
+      keeps = KeepsRoom-then c.loop-sid.invariant.keeps c.epsilon_closure.ensures.keeps;
+      grows = omega (arith, c.epsilon_closure.ensures.grows);
+      behind = rw c.loop-sid.invariant.start (rows-behind width i (length c.args.kept.now) _ c.args.rows.now
+          c.loop-sid.rows c.epsilon_closure.new.row
+          c.loop-sid-test.true (rw c.width-width.ensures c.requires.rows) c.loop-sid.auto.rows wide
+          (rw c.loop-sid.invariant.start at c.epsilon_closure.auto.row)
+          c.loop-sid.invariant.behind);
+      width = c.epsilon_closure.ensures.width ∙ c.loop-sid.invariant.width;
+      same_reference = c.epsilon_closure.ensures.same_reference ∙ c.loop-sid.invariant.same_reference;
+      crosses =
+          NextsLeadTo-next c.args.here.now.nfa.now (search_of c.args.here.now.input.now) g.T.MatchSink.takes
+          c.args.here.now.at c.args.reached.now.seen _ c.args.sink.now _ _ _ _ _ _ _ items
+          c.loop-sid.invariant.crosses _ _ _ _ (rw c.loop-sid.invariant.start at c.epsilon_closure.ensures.arrives)
+          c.if-epsilon_closure.false;
+    }
+
+pub returns-then-epsilon_closure-clause-keeps : goal.returns-then-epsilon_closure-clause-keeps
+returns-then-epsilon_closure-clause-keeps g c = KeepsRoom-then c.loop-sid.invariant.keeps
+    c.epsilon_closure.ensures.keeps
+
+pub returns-then-epsilon_closure-clause-arrive : goal.returns-then-epsilon_closure-clause-arrive
+returns-then-epsilon_closure-clause-arrive g c =
+    let width = c.width-width.result in
+    let i = c.loop-sid.sid-index in
+    let wide : i * width + width - i * width ≡ width = omega arith in
+    let items = items-next width i _ c.args.kept.now c.args.rows.now c.loop-sid.rows c.sid-item.result
+    c.loop-sid-test.true c.sid-item.is wide c.loop-sid.invariant.behind in
+    rw (← c.width-width.ensures)
+    (NextsLeadTo-ended c.args.here.now.nfa.now (search_of c.args.here.now.input.now) g.T.MatchSink.takes
+    c.args.here.now.at
+    c.args.reached.now.seen _ c.args.sink.now _ _ _ _ _ _ _ items
+    c.loop-sid.invariant.crosses _ _ _ _ (rw c.loop-sid.invariant.start at c.epsilon_closure.ensures.arrives)
+    c.if-epsilon_closure.true)
+
+pub returns-clause-arrive : goal.returns-clause-arrive
+returns-clause-arrive g c =
+    rw (← c.width-width.ensures)
+    (NextsLeadTo-over c.args.here.now.nfa.now (search_of c.args.here.now.input.now) g.T.MatchSink.takes
+    c.args.here.now.at
+    c.args.reached.now.seen _ c.args.sink.now _ _ _ _
+    (items-over c.width-width.result c.loop-sid.sid-index c.args.kept.now c.args.rows.now c.loop-sid-test.false)
+    c.loop-sid.invariant.crosses)

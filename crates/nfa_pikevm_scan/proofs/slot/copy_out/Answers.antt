@@ -1,0 +1,33 @@
+-- The slots are those of the row, and unset after it.
+use Rattle.std.proofs.Common.{◌≡◌, ◌∙◌, ◌++◌, ◌+◌, ◌-◌, suc, ap, take, length, replicate, slice_set, arith}
+use Rattle.std.specs.Prelude.{None}
+use Rattle.std.proofs.Math.Seq.{take-length}
+use Rattle.nfa_pikevm_scan.proofs.SlotLemmas.{handed-more}
+use Rattle.nfa_pikevm_scan.proofs.slot.copy_out.Goals as goal
+
+pub loop-i-init : goal.loop-i-init
+loop-i-init c =
+    let all : length c.args.slots.now - 0 ≡ length c.args.slots.now = omega arith in
+    record { handed = rw all c.clear.ensures }
+
+pub loop-i-preserved : goal.loop-i-preserved
+loop-i-preserved c =
+    let i = c.loop-i.i in
+    let n = length c.args.slots.now in
+    let left : n - i ≡ suc (n - (i + 1)) = omega (arith, c.requires, c.loop-i-test.true) in
+    let next : suc i ≡ i + 1 = omega arith in
+    record {
+      handed =
+          ap (λ l. slice_set l i c.get.result) (c.loop-i.invariant.handed
+          ∙ ap (λ k. take i c.args.row.now ++ replicate k None) left)
+          ∙ handed-more c.args.row.now i (n - (i + 1)) c.get.result c.loop-i-test.true
+          (rw (← c.get.ensures) at c.index-row-i.is)
+          ∙ ap (λ k. take k c.args.row.now ++ replicate (n - (i + 1)) None) next;
+    }
+
+pub returns : goal.returns
+returns c =
+    let all : c.loop-i.i ≡ length c.args.row.now = omega (arith, c.loop-i.auto.i-end, c.loop-i-test.false) in
+    c.loop-i.invariant.handed
+    ∙ ap (λ n. take n c.args.row.now ++ replicate (length c.args.slots.now - n) None) all
+    ∙ ap (λ l. l ++ replicate (length c.args.slots.now - length c.args.row.now) None) (take-length c.args.row.now)

@@ -1,0 +1,178 @@
+//! All states side by side, from one position to the next.
+ghost use Rattle.std.specs.Prelude.{◌≡◌, ◌*◌, ◌<◌, ◌≤◌, [], false, length, replicate, All};
+ghost use Rattle.regex_search_core.specs.Search.{search_of};
+ghost use Rattle.nfa_pikevm_scan.specs.Needs.{stack_frames};
+ghost use Rattle.nfa_pikevm_scan.specs.Rows.{items_of};
+ghost use Rattle.nfa_pikevm_scan.specs.States.{HasRoom, IsClosureContext, KeepsRoom, NextsGive};
+ghost use Rattle.nfa_pikevm_scan.specs.Sinks.{ClosuresGive};
+ghost use Rattle.nfa_pikevm_scan.specs.Scans.{HaveRows, SameSizes};
+
+use crate::active::Parts;
+use crate::closure::{ClosureContext, ClosureOutput, epsilon_closure};
+use crate::frame::FollowEpsilon;
+use crate::sink::{MatchSink, SlotsSink};
+use crate::slot::Slot;
+use crate::threads::Threads;
+use nfa_scan_core::transitions::byte_at;
+use regex_search_core::{Input, PatternID, StateID};
+use std::mem;
+use thompson_nfa::NFA;
+
+/// Removes all states, and sets the width of rows to `width` slots.
+pub fn set_up(threads: &mut Threads, width: usize)
+    requires { threads.old.curr.capacity * width ≤ threads.old.curr.cells }
+    ensures curr { threads.new.curr.items ≡ [] }
+    ensures next { threads.new.reached.next.items ≡ [] }
+    ensures width { threads.new.curr.width ≡ width }
+    ensures sizes { SameSizes threads.old threads.new }
+    ensures seen { threads.new.reached.seen ≡ threads.old.reached.seen }
+    ensures scans { threads.new.scans ≡ threads.old.scans }
+{
+    threads.curr.set_up(width);
+    threads.reached.next.set_up(width);
+}
+
+/// Makes the states at the next position those at this one.
+#[inline(always)]
+pub fn swap_state_sets(threads: &mut Threads)
+    ensures curr { threads.new.curr.items ≡ threads.old.reached.next.items }
+    ensures next { threads.new.reached.next.items ≡ [] }
+    ensures width { threads.new.curr.width ≡ threads.old.curr.width }
+    ensures sizes { SameSizes threads.old threads.new }
+    ensures seen { threads.new.reached.seen ≡ threads.old.reached.seen }
+    ensures scans { threads.new.scans ≡ threads.old.scans }
+{
+    let Threads { curr, reached, .. } = threads;
+    mem::swap(curr, &mut reached.next);
+    reached.next.clear();
+}
+
+/// Follows the states at the position ([`epsilon_closure`]), in order, each with its row, up to the match that the
+/// position ends with, and keeps the states that the byte leads to.
+#[inline(always)]
+fn nexts_of_states<T: MatchSink>(
+    here: &ClosureContext<'_, '_>,
+    kept: &[StateID],
+    rows: &mut [Slot],
+    frames: &mut [FollowEpsilon],
+    reached: &mut ClosureOutput,
+    sink: &mut T,
+)
+    requires here { IsClosureContext here.now }
+    requires states { All (λ s. s < length here.now.nfa.now.states) kept.now }
+    requires room { HasRoom here.now.nfa.now reached.old.seen.bits 0 (stack_frames here.now.nfa.now) 0
+        reached.old.next.capacity }
+    requires stack { stack_frames here.now.nfa.now ≤ length frames.old }
+    requires clear { reached.old.seen.bits ≡ replicate (length reached.old.seen.bits) false }
+    requires empty { reached.old.next.items ≡ [] }
+    requires width { T.row_width sink.old ≡ reached.old.next.width }
+    requires rows { length kept.now * T.row_width sink.old ≤ length rows.old }
+    ensures keeps { KeepsRoom reached.old reached.new }
+    ensures grows { reached.old.seen.turns ≤ reached.new.seen.turns }
+    ensures width { T.row_width sink.new ≡ T.row_width sink.old }
+    ensures same_reference { T.reference sink.new ≡ T.reference sink.old }
+    ensures arrive { ClosuresGive here.now.nfa.now (search_of here.now.input.now) T.takes here.now.at reached.old.seen
+        (items_of (T.row_width sink.old) kept.now rows.old) sink.old reached.new.seen reached.new.next.items
+        sink.new }
+{
+    let width = sink.width();
+    let mut start = 0;
+    for sid in kept {
+        let row = &mut rows[start..start + width];
+        if epsilon_closure(here, *sid, frames, reached, row, sink) {
+            return;
+        }
+        start += width;
+    }
+}
+
+/// Follows the states at the position, gives their matches to the taker, and keeps the states that the position's byte
+/// leads to for the next one.
+#[inline(always)]
+pub fn nexts_with<T: MatchSink>(
+    nfa: &NFA,
+    input: &Input<'_>,
+    at: usize,
+    threads: &mut Threads,
+    sink: &mut T,
+)
+    requires place { at ≤ (search_of input.now).end }
+    requires states { All (λ i. i.0 < length nfa.now.states) threads.old.curr.items }
+    requires room { HaveRows nfa.now (T.row_width sink.old) threads.old }
+    requires some { 0 < length threads.old.curr.items }
+    requires empty { threads.old.reached.next.items ≡ [] }
+    ensures width { threads.new.curr.width ≡ threads.old.curr.width }
+    ensures sizes { SameSizes threads.old threads.new }
+    ensures grows { threads.old.reached.seen.turns ≤ threads.new.reached.seen.turns }
+    ensures scans { threads.new.scans ≡ threads.old.scans }
+    ensures same_reference { T.reference sink.new ≡ T.reference sink.old }
+    ensures rows { All (λ i. length i.1 ≤ T.row_width sink.old) threads.old.curr.items }
+    ensures arrive { ClosuresGive nfa.now (search_of input.now) T.takes at threads.old.reached.seen
+        threads.old.curr.items sink.old threads.new.reached.seen threads.new.reached.next.items sink.new }
+{
+    let Threads {
+        frames,
+        curr,
+        reached,
+        ..
+    } = threads;
+    reached.seen.clear();
+    let Parts {
+        kept,
+        rows,
+        len,
+        ..
+    } = &mut *curr.parts;
+    let kept = &kept.as_slice()[..*len];
+    let rows = rows.as_mut_slice();
+    let frames = frames.as_mut_slice();
+    let end = ClosureContext {
+        nfa,
+        input,
+        at,
+        byte: None,
+    };
+    // One call for each case, so that the loop over the states does not test at each one whether there is a byte.
+    match byte_at(input, at) {
+        Some(byte) => {
+            let here = ClosureContext {
+                byte: Some(byte),
+                ..end
+            };
+            nexts_of_states(&here, kept, rows, frames, reached, sink);
+        }
+        None => nexts_of_states(&end, kept, rows, frames, reached, sink),
+    }
+}
+
+/// Follows the states at the position, and keeps the states that its byte leads to for the next one. Returns the last
+/// match, and writes its slots. Without `past_match` it stops at the first match.
+#[inline(always)]
+pub fn nexts(
+    nfa: &NFA,
+    input: &Input<'_>,
+    at: usize,
+    past_match: bool,
+    threads: &mut Threads,
+    slots: &mut [Slot],
+) -> Option<PatternID>
+    requires place { at ≤ (search_of input.now).end }
+    requires states { All (λ i. i.0 < length nfa.now.states) threads.old.curr.items }
+    requires room { HaveRows nfa.now (length slots.old) threads.old }
+    requires some { 0 < length threads.old.curr.items }
+    requires empty { threads.old.reached.next.items ≡ [] }
+    ensures width { threads.new.curr.width ≡ threads.old.curr.width }
+    ensures sizes { SameSizes threads.old threads.new }
+    ensures grows { threads.old.reached.seen.turns ≤ threads.new.reached.seen.turns }
+    ensures scans { threads.new.scans ≡ threads.old.scans }
+    ensures crosses { NextsGive nfa.now (search_of input.now) at past_match threads.old.reached.seen
+        threads.old.curr.items slots.old result threads.new.reached.seen threads.new.reached.next.items slots.new }
+{
+    let mut last = SlotsSink {
+        slots,
+        hit: None,
+        past_match,
+    };
+    nexts_with(nfa, input, at, threads, &mut last);
+    last.hit
+}

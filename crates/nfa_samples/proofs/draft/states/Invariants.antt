@@ -1,8 +1,0 @@
--- The states so far are those of the rows.
-use Rattle.std.proofs.Common.{◌≡◌, map, take}
-use Rattle.thompson_nfa.specs.Automaton.{node_of}
-use Rattle.nfa_samples.specs.Drafts.{node_in}
-use Rattle.nfa_samples.proofs.draft.states.Given as goal
-
-abbrev pub invariant-loop-row : goal.invariant-loop-row
-invariant-loop-row l = map node_of l.states.items ≡ map node_in (take l.row-index l.rows)

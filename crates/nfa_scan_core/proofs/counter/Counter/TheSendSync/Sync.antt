@@ -1,0 +1,13 @@
+-- A counter owns nothing, so any thread may share it.
+use denote.Memory.{part_of, raw_all}
+use denote.Param.Send.{IsSync, cell_keyless}
+use Rattle.nfa_scan_core.specs.contracts.counter.Counter.{the_row}
+
+pub sync : IsSync the_row
+unfolding part_of
+sync = record {
+  shared = λ d b o κ a. (
+    (λ q vs. (cell_keyless q (raw_all the_row.mir) vs b o, ((λ _. (tt, tt)), tt))),
+    tt,
+  );
+}

@@ -1,0 +1,12 @@
+-- The bytes so far are admitted.
+use Rattle.std.proofs.Common.{ℕ, ◌<◌, ◌≤◌}
+use Rattle.thompson_nfa.specs.Automaton.Node.{ByteRange}
+use Rattle.nfa_scan_core.specs.FirstBytes.{Admits, Grows, GrowsBy}
+use Rattle.nfa_scan_core.proofs.first_bytes.admit.Given as goal
+
+abbrev pub invariant-loop-byte : goal.invariant-loop-byte
+invariant-loop-byte l = record {
+  grows : Grows l.fn.table l.table;
+  done : (b : ℕ) → l.trans.start ≤ b → b < l.byte → Admits l.table b;
+  only : GrowsBy l.fn.table l.table (ByteRange l.trans);
+}

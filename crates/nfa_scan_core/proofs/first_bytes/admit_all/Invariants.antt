@@ -1,0 +1,15 @@
+-- The bytes of the transitions so far are admitted.
+use Rattle.std.proofs.Common.{◌≡◌, ℕ, ◌<◌, get_or, true}
+use Rattle.thompson_nfa.specs.Automaton.Node.{Sparse}
+use Rattle.thompson_nfa.specs.declared.state.Transition.{Transition}
+use Rattle.nfa_paths.specs.Paths.{holds_byte}
+use Rattle.nfa_scan_core.specs.FirstBytes.{Admits, Grows, GrowsBy}
+use Rattle.nfa_scan_core.proofs.first_bytes.admit_all.Given as goal
+
+abbrev pub invariant-loop-i : goal.invariant-loop-i
+invariant-loop-i l = record {
+  grows : Grows l.fn.table l.table;
+  done : (k : ℕ) → k < l.i → (d : Transition) (b : ℕ) → holds_byte (get_or l.transitions k d) b ≡ true
+      → Admits l.table b;
+  only : GrowsBy l.fn.table l.table (Sparse l.transitions);
+}

@@ -1,6 +1,0 @@
--- The state is none of those so far.
-use Rattle.std.proofs.Common.{◌≡◌, ℕ, ◌<◌, get_or}
-use Rattle.nfa_scanning.proofs.first_bytes.Reached.has.Given as goal
-
-abbrev pub invariant-loop-place : goal.invariant-loop-place
-invariant-loop-place l = (k : ℕ) → k < l.place → get_or l.self.states k 0 ≡ l.sid → ⊥

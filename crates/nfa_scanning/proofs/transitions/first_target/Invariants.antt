@@ -1,7 +1,0 @@
--- No transition so far holds the byte.
-use Rattle.std.proofs.Common.{◌≡◌, drop}
-use Rattle.nfa_paths.specs.Paths.{first_target}
-use Rattle.nfa_scanning.proofs.transitions.first_target.Given as goal
-
-abbrev pub invariant-loop-trans : goal.invariant-loop-trans
-invariant-loop-trans l = first_target l.transitions l.byte ≡ first_target (drop l.trans-index l.transitions) l.byte

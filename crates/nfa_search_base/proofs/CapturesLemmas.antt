@@ -1,0 +1,259 @@
+-- The captures of a search of an NFA: there is one list of them, and their matches are those of the search.
+use Rattle.std.proofs.Common.{◌≡◌, ◌∙◌, ℕ, inl, inr, Bool, true, false, MatchBool}
+use Rattle.std.proofs.Common.{List, [], ◌∷◌, map, length}
+use Rattle.std.proofs.Common.{Option, None, Some, Ok, Err, refl, sym, ap, subst}
+use Rattle.std.specs.Option.{option_and_then, option_map}
+use Rattle.std.proofs.lemmas.List.{length-replicate}
+use Rattle.std.proofs.lemmas.List.FromFn.{length-map-range_with_len}
+use Rattle.regex_search_core.specs.Found.{Found}
+use Rattle.regex_search_core.specs.Groups.{slot_count}
+use Rattle.regex_search_core.specs.Search.{Search}
+use Rattle.regex_search_core.specs.Slots.{Captured, match_of}
+use Rattle.regex_search_core.specs.declared.search.MatchKind.{MatchKind}
+use Rattle.thompson_nfa.specs.Automaton.{Automaton}
+use Rattle.nfa_paths.specs.Graphs.{Pair}
+use Rattle.nfa_paths.specs.Paths.{path_pattern, slot_among, slot_row, IsAnswer, IsFindAnswer}
+use Rattle.nfa_paths.proofs.AnswerLemmas.{search_answer-unique}
+use Rattle.nfa_paths.proofs.ExistenceLemmas.{search_answer-exists}
+use Rattle.nfa_paths.proofs.KnownLemmas.{match-unique}
+use Rattle.nfa_search_base.specs.WithCaptures.{Row, filled_answer, row_found, row_of, row_span, UpToRefusal}
+use Rattle.nfa_search_base.specs.CapturesLists.{IsRow, AnswersRow, AreFirstRows, AreRows}
+use Rattle.nfa_search_base.specs.Items.{Item, matches_in, greedy}
+use Rattle.nfa_search_base.specs.Lists.{IsStep, Fails, FailsOrIsRefused, ItemsNext, ItemsLast}
+use Rattle.nfa_search_base.specs.Lists.{AnswersMatch, ComeNext, ComeLast, AreFirstMatches, AreMatches}
+use Rattle.nfa_search_base.specs.IterStates.{IterState, Answer, AnswerIsInside}
+use Rattle.nfa_search_base.specs.IterStates.{fresh, repeats, shifted, after, answer_span, span_of}
+use Rattle.nfa_search_base.specs.declared.error.SearchError.{SearchError}
+use Rattle.nfa_search_base.proofs.ListLemmas.{as_items, last-unique, match-lies, match-same, matches_in-as_items}
+use Rattle.nfa_search_base.proofs.ListLemmas.{matches-unique, step-unique, items-greedy}
+use Rattle.nfa_search_base.proofs.StepLemmas.{chosen}
+use Rattle.nfa_search_base.proofs.IterStateLemmas.{IsOrdered}
+
+length-slot_row : (nfa : Automaton) (count : ℕ) (path : Option (List Pair)) → length (slot_row nfa count path) ≡ count
+unfolding slot_row
+length-slot_row nfa count None = length-replicate count None
+length-slot_row nfa count (Some p) = length-map-range_with_len (slot_among nfa p) 0 count
+
+module _ (nfa : Automaton) (kind : MatchKind) (earliest : Bool) where
+  abbrev tells : Search → Answer Row → Type 0
+  tells = AnswersRow nfa kind earliest
+
+  -- the match of a row is that of the search
+  row-match : (t : Search) (row : Row) → IsRow nfa kind earliest t row
+      → IsFindAnswer nfa kind earliest t (Some (row_found row))
+  row-match t row h = record {
+    restarts = h.answer.restarts;
+    path = h.answer.path;
+    answers = h.answer.answers;
+    found_is =
+        sym h.is_match
+        ∙ ap (λ (p : Option ℕ). match_of p row.slots) h.answer.pattern_is
+        ∙ ap (λ (s : List (Option ℕ)). match_of (option_and_then (path_pattern nfa) h.answer.path) s) h.answer.slots_are
+        ∙ ap (λ (n : ℕ). match_of (option_and_then (path_pattern nfa) h.answer.path) (slot_row nfa n h.answer.path))
+        h.count;
+  }
+
+  -- a row as a match
+  abbrev pub as_match : Answer Row → Answer Found
+  as_match (Ok (Some row)) = Ok (Some (row_found row))
+  as_match (Ok None) = Ok None
+  as_match (Err e) = Err e
+
+  -- a search that gives a row gives its match
+  pub row-tells : (t : Search) (a : Answer Row) → tells t a → AnswersMatch nfa kind earliest t (as_match a)
+  row-tells t (Ok (Some row)) h = row-match t row h
+  row-tells t (Ok None) h = h
+  row-tells t (Err e) h = h
+
+  place-as_match : (a : Answer Row) → answer_span row_span a ≡ answer_span span_of (as_match a)
+  place-as_match (Ok (Some row)) = refl
+  place-as_match (Ok None) = refl
+  place-as_match (Err e) = refl
+
+  -- each of these is in the span
+  pub row-lies : (t : Search) (a : Answer Row) → tells t a
+      → AnswerIsInside row_span t a × IsOrdered (answer_span row_span a)
+  row-lies t (Ok (Some row)) h = match-lies nfa kind earliest t (Ok (Some (row_found row))) (row-match t row h)
+  row-lies t (Ok None) h = (tt, λ p is. let never : None ≡ Some p = is in cc)
+  row-lies t (Err e) h = absurd h
+
+  -- a search has one row
+  rows-same : (t : Search) (p q : Row) → IsRow nfa kind earliest t p → IsRow nfa kind earliest t q → p ≡ q
+  rows-same t p q h k =
+      let one = search_answer-unique nfa kind earliest t h.answer.restarts k.answer.restarts h.answer.path k.answer.path
+      h.answer.answers k.answer.answers in
+      let pattern : p.pattern ≡ q.pattern =
+      h.answer.pattern_is ∙ ap (λ (r : Option (List Pair)). option_and_then (path_pattern nfa) r) one.1
+      ∙ sym k.answer.pattern_is in
+      let slots : p.slots ≡ q.slots =
+      h.answer.slots_are ∙ ap (λ (n : ℕ). slot_row nfa n h.answer.path) (h.count ∙ sym k.count)
+      ∙ ap (slot_row nfa (length q.slots)) one.1 ∙ sym k.answer.slots_are in
+      ap (λ (o : Option ℕ). record { pattern = o; slots = p.slots }) pattern
+      ∙ ap (λ (s : List (Option ℕ)). record { pattern = q.pattern; slots = s }) slots
+
+  -- a search gives only one row
+  pub one-row : (t : Search) (a b : Answer Row) → tells t a → tells t b → a ≡ b
+  one-row t (Ok (Some p)) (Ok (Some q)) h k =
+      ap (λ (r : Row). let a : Answer Row = Ok (Some r) in a) (rows-same t p q h k)
+  one-row t (Ok (Some p)) (Ok None) h k =
+      let e : Some (row_found p) ≡ None =
+      match-unique nfa kind earliest t (Some (row_found p)) None (row-match t p h) k in
+      cc
+  one-row t (Ok None) (Ok (Some q)) h k =
+      let e : None ≡ Some (row_found q) =
+      match-unique nfa kind earliest t None (Some (row_found q)) h (row-match t q k) in
+      cc
+  one-row t (Ok None) (Ok None) h k = refl
+  one-row t (Ok o) (Err e) h k = absurd k
+  one-row t (Err e) b h k = absurd h
+
+  -- after a search, captures with all slots hold the row that the search gives
+  pub stored_captures-tells : (t : Search) (c : Captured) → IsAnswer nfa kind earliest t c.pattern c.slots
+      → length c.slots ≡ slot_count nfa.groups → tells t (filled_answer c (Ok tt))
+  stored_captures-tells t c answer count = of (match_of c.pattern c.slots) refl
+    where
+      of : (m : Option Found) → match_of c.pattern c.slots ≡ m → tells t (Ok (option_map (λ f. row_of c) m))
+      of (Some f) is = record { answer = answer; count = count; is_match = rw is refl }
+      of None is = record {
+        restarts = answer.restarts;
+        path = answer.path;
+        answers = answer.answers;
+        found_is =
+            sym is
+            ∙ ap (λ (p : Option ℕ). match_of p c.slots) answer.pattern_is
+            ∙ ap (λ (s : List (Option ℕ)). match_of (option_and_then (path_pattern nfa) answer.path) s) answer.slots_are
+            ∙ ap (λ (n : ℕ). match_of (option_and_then (path_pattern nfa) answer.path) (slot_row nfa n answer.path))
+            count;
+      }
+
+  -- a step that has no error is one of the matches of the NFA
+  ok-match : (w : IterState) (o : Option Row) → IsStep row_span tells w (Ok o)
+      → IsStep span_of (AnswersMatch nfa kind earliest) w (as_match (Ok o))
+  ok-match w o h = record {
+    first = as_match h.first;
+    is_first = row-tells w.at h.first h.is_first;
+    rest = of (repeats w (answer_span row_span h.first)) (repeats w (answer_span span_of (as_match h.first)))
+        (ap (repeats w) (place-as_match h.first)) h.rest;
+  }
+    where
+      of : (b c : Bool) → b ≡ c → MatchBool b (tells (shifted w).at (Ok o)) (Ok o ≡ h.first)
+          → MatchBool c (AnswersMatch nfa kind earliest (shifted w).at (as_match (Ok o)))
+          (as_match (Ok o) ≡ as_match h.first)
+      of true true e k = row-tells (shifted w).at (Ok o) k
+      of true false e k = cc
+      of false true e k = cc
+      of false false e k = ap as_match k
+
+  -- so rows are matches
+  come-next : (rows : List Row) (w : IterState) → ItemsNext row_span tells (Fails row_span tells) w (as_items rows)
+      → ComeNext nfa kind earliest w (map row_found rows)
+  come-next [] w h = tt
+  come-next (r ∷ rows) w h = (ok-match w (Some r) h.0, come-next rows (after w (Some (row_span r))) h.1)
+
+  come-last : (rows : List Row) (w : IterState) → ItemsLast row_span tells (Fails row_span tells) w (as_items rows)
+      → ComeLast nfa kind earliest w (map row_found rows)
+  come-last [] w h = ok-match w None h
+  come-last (r ∷ rows) w h = (ok-match w (Some r) h.0, come-last rows (after w (Some (row_span r))) h.1)
+
+  -- the matches of the first rows are the first matches
+  pub rows-first_matches : (x : Search) (rows : List Row) → AreFirstRows nfa kind earliest x rows
+      → AreFirstMatches nfa kind earliest x (map row_found rows)
+  rows-first_matches x rows h = record { come = come-next rows (fresh x) h.come }
+
+  -- and those of all rows are all
+  pub rows-matches : (x : Search) (rows : List Row) → AreRows nfa kind earliest x rows
+      → AreMatches nfa kind earliest x (map row_found rows)
+  rows-matches x rows h = record { come = come-last rows (fresh x) h.come }
+
+  -- a search has one list of rows at most
+  pub rows-unique : (x : Search) (xs ys : List Row) → AreRows nfa kind earliest x xs → AreRows nfa kind earliest x ys
+      → xs ≡ ys
+  rows-unique x xs ys h k =
+      sym (matches_in-as_items xs)
+      ∙ ap matches_in (last-unique row_span tells one-row (fresh x) (as_items xs) (as_items ys) h.come k.come)
+      ∙ matches_in-as_items ys
+
+  -- and its matches are the list of the matches
+  pub rows-list : (x : Search) (rows : List Row) (ms : List Found) → AreRows nfa kind earliest x rows
+      → AreMatches nfa kind earliest x ms → map row_found rows ≡ ms
+  rows-list x rows ms h k =
+      matches-unique nfa kind earliest x (map row_found rows) ms (rows-matches x rows h) k
+
+  -- no step errs
+  never-fails : (w : IterState) (e : SearchError) → IsStep row_span tells w (Err e) → ⊥
+  never-fails w e h = elim (chosen (repeats w (answer_span row_span h.first)) h.rest) [
+    | inl p ↦ p.1
+    | inr p ↦ subst (λ (a : Answer Row). tells w.at a) (sym p.1) h.is_first
+  ]
+
+  -- if copies could not be allocated, the items are those of the list up to that point
+  up-to : (w : IterState) (rows : List Row) (items : List (Item Row))
+      → ItemsLast row_span tells (Fails row_span tells) w (as_items rows)
+      → ItemsLast row_span tells (FailsOrIsRefused row_span tells) w items → UpToRefusal (as_items rows) items
+  up-to w [] [] h k = tt
+  up-to w [] (Ok y ∷ items) h k =
+      let e : Ok None ≡ Ok (Some y) = step-unique row_span tells one-row w (Ok None) (Ok (Some y)) h k.0 in cc
+  up-to w [] (Err q ∷ items) h k = elim k.0 [
+    | inl fails ↦ absurd (never-fails w q fails)
+    | inr refused ↦
+        let e : Ok None ≡ Ok (Some refused.1) =
+        step-unique row_span tells one-row w (Ok None) (Ok (Some refused.1)) h refused.2 in cc
+  ]
+  up-to w (r ∷ rows) [] h k =
+      let e : Ok (Some r) ≡ Ok None = step-unique row_span tells one-row w (Ok (Some r)) (Ok None) h.0 k in cc
+  up-to w (r ∷ rows) (Ok y ∷ items) h k =
+      let same : y ≡ r = match-same y r
+      (step-unique row_span tells one-row w (Ok (Some y)) (Ok (Some r)) k.0 h.0) in
+      let there = subst
+      (λ (z : Row). ItemsLast row_span tells (FailsOrIsRefused row_span tells) (after w (Some (row_span z))) items)
+      same k.1 in
+      inl (
+        ap (λ (z : Row). let a : Item Row = Ok z in a) same,
+        up-to (after w (Some (row_span r))) rows items h.1 there,
+      )
+  up-to w (r ∷ rows) (Err q ∷ items) h k = elim k.0 [
+    | inl fails ↦ absurd (never-fails w q fails)
+    | inr refused ↦ inr (ap (λ (z : SearchError). let a : Item Row = Err z in a) refused.0, k.1)
+  ]
+
+  pub rows-up_to : (x : Search) (rows : List Row) (items : List (Item Row)) → AreRows nfa kind earliest x rows
+      → ItemsLast row_span tells (FailsOrIsRefused row_span tells) (fresh x) items
+      → UpToRefusal (as_items rows) items
+  rows-up_to x rows items h k = up-to (fresh x) rows items h.come k
+
+  -- captures that hold the answer of a search
+  abbrev answer_of : Search → Captured
+  answer_of t =
+      let path = (search_answer-exists nfa kind earliest t).1 in
+      record {
+        groups = nfa.groups;
+        pattern = option_and_then (path_pattern nfa) path;
+        slots = slot_row nfa (slot_count nfa.groups) path;
+      }
+
+  answer_of-told : (t : Search) → tells t (filled_answer (answer_of t) (Ok tt))
+  answer_of-told t =
+      let answer = search_answer-exists nfa kind earliest t in
+      let count = length-slot_row nfa (slot_count nfa.groups) answer.1 in
+      stored_captures-tells t (answer_of t) (record {
+        restarts = answer.0;
+        path = answer.1;
+        answers = answer.2;
+        pattern_is = refl;
+        slots_are = ap (λ (n : ℕ). slot_row nfa n answer.1) (sym count);
+      }) count
+
+  -- so each search has a list of rows
+  pub rows-exist : (x : Search) → (rows : List Row) × AreRows nfa kind earliest x rows
+  rows-exist x =
+      let h : Search → Answer Row = λ t. filled_answer (answer_of t) (Ok tt) in
+      let all = items-greedy row_span tells row-lies h x (λ t alike. answer_of-told t) in
+      let rows = rows_of (greedy row_span h (fresh x)) (fresh x) all in
+      (rows.0, record { come = rows.1 })
+    where
+      rows_of : (items : List (Item Row)) (w : IterState) → ItemsLast row_span tells (Fails row_span tells) w items
+          → (rows : List Row) × ItemsLast row_span tells (Fails row_span tells) w (as_items rows)
+      rows_of [] w come = ([], come)
+      rows_of (Ok r ∷ items) w come =
+          let rest = rows_of items (after w (Some (row_span r))) come.1 in (r ∷ rest.0, (come.0, rest.1))
+      rows_of (Err e ∷ items) w come = absurd (never-fails w e come.0)

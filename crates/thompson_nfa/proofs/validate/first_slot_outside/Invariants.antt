@@ -1,0 +1,8 @@
+-- none so far is outside
+use Rattle.std.proofs.Common.{take}
+use Rattle.std.specs.Prelude.{All}
+use Rattle.thompson_nfa.specs.Automaton.{SlotBelow, node_of}
+use Rattle.thompson_nfa.proofs.validate.first_slot_outside.Given as goal
+
+abbrev pub invariant-loop-index : goal.invariant-loop-index
+invariant-loop-index l = All (λ s. SlotBelow l.len (node_of s)) (take l.index l.states)
