@@ -1,25 +1,25 @@
 -- Turns of a loop over one byte, one after another.
-use Rattle.std.proofs.Common.{◌≡◌, ℕ, ◌+◌, ◌-◌, ◌*◌, ◌<◌, ◌≤◌, List, [], ◌∷◌, ◌++◌, length, refl, arith}
-use Rattle.std.specs.Prelude.{Option, Some, None, Result, Ok, Err, OnErr, option_and_then}
-use Rattle.std.specs.List.{slice_get, sum_by}
+use Rattle.std.proofs.Common.{◌≡◌, ℕ, ◌+◌, ◌-◌, ◌*◌, ◌<◌, List, [], ◌∷◌, ◌++◌, length, arith}
+use Rattle.std.specs.Prelude.{Option, Some, None, Result, Ok, Err, OnErr}
+use Rattle.std.specs.List.{slice_get}
 use Rattle.std.proofs.lemmas.List.Elements.{All-push}
 use Rattle.std.proofs.lemmas.List.Sums.{sum_by_push}
 use Rattle.regex_search_core.specs.Search.{Search}
 use Rattle.thompson_nfa.specs.Automaton.{Automaton}
-use Rattle.thompson_nfa.specs.Automaton.Node.{ByteRange, BinaryUnion}
-use Rattle.thompson_nfa.specs.declared.state.Transition.{Transition}
+use Rattle.thompson_nfa.specs.Automaton.Node.{BinaryUnion}
 use Rattle.nfa_paths.specs.Graphs.{Pair}
 use Rattle.nfa_paths.specs.Paths.{byte_at, target_on}
-use Rattle.nfa_paths.specs.Turns.{marked_sum}
 use Rattle.nfa_paths.proofs.TurnLemmas.{marked_sum-le}
 use Rattle.nfa_scan_core.specs.Marks.{Marks}
-use Rattle.nfa_backtrack_scan.specs.Walk.{pair_of, stacked, frame_tries, weights, IsStatePos, IsFrame, IsAfforded, TurnsLead, Taken}
-use Rattle.nfa_backtrack_scan.specs.Walk.{WasMarked}
+use Rattle.nfa_backtrack_scan.specs.Walk.{pair_of, stacked, frame_tries, weights, IsStatePos, IsFrame, IsAfforded, IsByteStep, TurnsLead}
+use Rattle.nfa_backtrack_scan.specs.Walk.{Taken, WasMarked}
 use Rattle.nfa_backtrack_scan.specs.declared.frame.StatePos.{StatePos}
 use Rattle.nfa_backtrack_scan.specs.declared.frame.Frame.{Frame}
 use Rattle.nfa_backtrack_scan.specs.declared.frame.Frame.TheVariants.{Step}
-use Rattle.nfa_backtrack_scan.proofs.WalkLemmas.{Carries-then, Carries-none, Carries-marked, marked_sum-weights}
-use Rattle.nfa_backtrack_scan.proofs.StepLemmas.{Goes-range, Goes-both}
+use Rattle.nfa_backtrack_scan.proofs.WalkLemmas.{Carries-then, Carries-none, Carries-marked, Carries-dead, marked_sum-weights}
+use Rattle.nfa_scan_core.proofs.TargetLemmas.{target-degree}
+use Rattle.nfa_backtrack_scan.proofs.StepLemmas.{Goes-both, Goes-byte, Goes-stuck, IsStatePos-byte, reads-plain, read-byte}
+use Rattle.nfa_backtrack_scan.proofs.StepLemmas.{step-edges}
 
 -- what holds in any case holds if allocation failed
 pub OnErr-always : {T E P : Type 0} (r : Result T E) → P → OnErr r P
@@ -68,41 +68,49 @@ module _ (nfa : Automaton) (x : Search) where
         w.marked_before.from w.marked_before.set w.same;
   }
 
+  -- a turn at a byte state that leads nowhere, and is not marked
+  pub TurnsLead-dead : (s at : ℕ) (stack : List Frame) {m n : Marks} → IsByteStep nfa x (s, at) None
+      → n.turns ≡ m.turns + 1 → n.bits ≡ m.bits → TurnsLead nfa x (s, at) None stack m stack n
+  TurnsLead-dead s at stack {m} {n} b counted same = record {
+    goes = tt;
+    within = λ count fits. fits;
+    tried = rw same (omega (arith, counted));
+    follows = λ work slots. Carries-dead nfa x m s at (stacked stack work) slots n counted b.node b.is
+        (reads-plain b.node b.reads) (step-edges nfa x s at None b) same;
+  }
+
 module _ {nfa : Automaton} {x : Search} {s at : ℕ} {m n : Marks} (t : Taken nfa x (s, at) m n) (row : ℕ)
     (placed : row ≡ (at - x.start) * length nfa.states) where
-  -- a byte state
-  module _ (trans : Transition) (is : slice_get nfa.states s ≡ Some (ByteRange trans))
-      (onto : trans.next < length nfa.states) (byte : Option ℕ) (here : byte ≡ byte_at x at) (stack : List Frame) where
-    paid : n.turns + sum_by frame_tries stack + 1 + marked_sum (weights nfa x) m.bits
-        ≤ m.turns + 1 + sum_by frame_tries stack + marked_sum (weights nfa x) n.bits
-    paid =
+  -- a byte state that is marked
+  pub TurnsLead-stop : IsByteStep nfa x (s, at) None → (stack : List Frame)
+      → TurnsLead nfa x (s, at) None stack m stack n
+  TurnsLead-stop b stack = record {
+    goes = tt;
+    within = λ count fits. fits;
+    tried =
         rw t.set
-        (omega (
-          arith,
-          t.counted,
-          marked_sum-weights nfa x m.bits s at (ByteRange trans) t.state t.from t.to is t.clear,
-        ))
+        (omega (arith, t.counted, marked_sum-weights nfa x m.bits s at b.node t.state t.from t.to b.is t.clear));
+    follows = λ work slots. Goes-stuck t b (stacked stack work) slots;
+  }
 
-    pub TurnsLead-stop : option_and_then (target_on (ByteRange trans)) byte ≡ None
-        → TurnsLead nfa x (s, at) None stack m stack n
-    TurnsLead-stop none = record {
-      goes = tt;
-      within = λ count fits. fits;
-      tried = omega (arith, paid);
-      follows = λ work slots.
-          (rw none at (Goes-range t row placed (length nfa.states) refl trans is onto byte here stack slots)) work;
-    }
-
-    pub TurnsLead-byte : (next : ℕ) → option_and_then (target_on (ByteRange trans)) byte ≡ Some next → (states : ℕ)
-        → states ≡ length nfa.states
-        → TurnsLead nfa x (s, at) (Some (record { sid = next; at = at + 1; row = row + states })) stack m stack n
-    TurnsLead-byte next some states wide = record {
-      goes = (rw some at (Goes-range t row placed states wide trans is onto byte here stack [])).0;
-      within = λ count fits. fits;
-      tried = paid;
-      follows = λ work slots.
-          (rw some at (Goes-range t row placed states wide trans is onto byte here stack slots)).1 work;
-    }
+  pub TurnsLead-byte : (next : ℕ) → IsByteStep nfa x (s, at) (Some next) → (stack : List Frame) (states : ℕ)
+      → states ≡ length nfa.states
+      → TurnsLead nfa x (s, at) (Some (record { sid = next; at = at + 1; row = row + states })) stack m stack n
+  TurnsLead-byte next b stack states wide =
+      let read = read-byte (target_on b.node) (byte_at x at) next b.leads in
+      record {
+        goes = IsStatePos-byte t next b row placed states wide;
+        within = λ count fits. fits;
+        tried =
+            rw t.set
+            (omega (
+              arith,
+              t.counted,
+              target-degree b.node read.0 next read.2,
+              marked_sum-weights nfa x m.bits s at b.node t.state t.from t.to b.is t.clear,
+            ));
+        follows = λ work slots. Goes-byte t next b (stacked stack work) slots;
+      }
 
   -- a union, whose exit is pushed
   pub TurnsLead-union : (body exit : ℕ) → slice_get nfa.states s ≡ Some (BinaryUnion body exit)

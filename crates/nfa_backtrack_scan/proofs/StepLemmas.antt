@@ -9,20 +9,20 @@ use Rattle.std.proofs.lemmas.Grind.{reverse_onto}
 use Rattle.std.proofs.lemmas.List.Elements.{All-push}
 use Rattle.std.proofs.lemmas.List.Sums.{sum_by_push}
 use Rattle.regex_search_core.specs.Search.{Search}
-use Rattle.thompson_nfa.specs.Automaton.{Automaton, Node, LeadsBelow, node_of}
+use Rattle.thompson_nfa.specs.Automaton.{Automaton, Node, node_of}
 use Rattle.thompson_nfa.specs.Automaton.Node.{ByteRange, Sparse, Dense, Look, Union, BinaryUnion, Capture, Fail, Match}
 use Rattle.thompson_nfa.specs.Looks.{look_holds}
 use Rattle.thompson_nfa.specs.declared.look.Look as looks
 use Rattle.thompson_nfa.specs.declared.state.State.{State}
-use Rattle.thompson_nfa.specs.declared.state.Transition.{Transition}
 use Rattle.nfa_paths.specs.Graphs.{Pair}
 use Rattle.nfa_paths.specs.Paths.{span_len, degree, node_at, pattern_of, slot_of, edges_of, byte_at, target_on}
 use Rattle.nfa_paths.specs.Exploring.{Task, Slots}
 use Rattle.nfa_paths.specs.Exploring.Task.{Explore, Restore}
-use Rattle.nfa_scan_core.proofs.TargetLemmas.{byte_at-within, target-below, target-degree}
+use Rattle.nfa_scan_core.proofs.TargetLemmas.{byte_at-within, target-below}
 use Rattle.nfa_scan_core.specs.Marks.{Marks}
-use Rattle.nfa_backtrack_scan.specs.Walk.{pair_of, work_item, stacked, restoring, move_of, frame_tries, tries_of_move, bit_of}
-use Rattle.nfa_backtrack_scan.specs.Walk.{HasBits, IsStatePos, IsFrame, PaidFor, Carries, Ends, Goes, Taken, WasMarked}
+use Rattle.nfa_backtrack_scan.specs.Walk.{pair_of, work_item, stacked, restoring, move_to, frame_tries, tries_of_move, bit_of}
+use Rattle.nfa_backtrack_scan.specs.Walk.{HasBits, IsStatePos, IsFrame, IsByteStep, PaidFor, ReadsByte, Carries, Ends, Goes, Taken, TurnsLead}
+use Rattle.nfa_backtrack_scan.specs.Walk.{WasMarked}
 use Rattle.nfa_backtrack_scan.specs.declared.frame.StatePos.{StatePos}
 use Rattle.nfa_backtrack_scan.specs.declared.frame.Frame.{Frame}
 use Rattle.nfa_backtrack_scan.specs.declared.frame.Frame.TheVariants.{Step}
@@ -169,16 +169,77 @@ pub tries-restoring : (slot : ℕ) (old : Option ℕ) → frame_tries (restoring
 tries-restoring slot None = refl
 tries-restoring slot (Some offset) = refl
 
--- the turns that a byte state leaves to take
-pub target-tries : (node : Node) (place : StatePos) (states : ℕ) (byte : Option ℕ)
-    → tries_of_move (move_of (option_and_then (target_on node) byte) place states) ≤ degree node
-target-tries node place states None = omega arith
-target-tries node place states (Some b) =
-    (elim (target_on node b) as (λ o. ((t : ℕ) → o ≡ Some t → 1 ≤ degree node) → tries_of_move (move_of o place states)
-    ≤ degree node) [
-      | None ↦ λ some. omega arith
-      | Some t ↦ λ some. some t refl
-    ]) (target-degree node b)
+-- a state that reads a byte is no match, and writes no slot
+pub reads-plain : (node : Node) → ReadsByte node → pattern_of node ≡ None
+reads-plain (ByteRange trans) r = refl
+reads-plain (Sparse transitions) r = refl
+reads-plain (Dense targets) r = refl
+reads-plain (Look look next) r = absurd r
+reads-plain (Union alternates) r = absurd r
+reads-plain (BinaryUnion alt1 alt2) r = absurd r
+reads-plain (Capture next slot) r = absurd r
+reads-plain (Match pattern) r = absurd r
+reads-plain Fail r = absurd r
+
+pub reads-unwritten : (node : Node) → ReadsByte node → slot_of node ≡ None
+reads-unwritten (ByteRange trans) r = refl
+reads-unwritten (Sparse transitions) r = refl
+reads-unwritten (Dense targets) r = refl
+reads-unwritten (Look look next) r = absurd r
+reads-unwritten (Union alternates) r = absurd r
+reads-unwritten (BinaryUnion alt1 alt2) r = absurd r
+reads-unwritten (Capture next slot) r = absurd r
+reads-unwritten (Match pattern) r = absurd r
+reads-unwritten Fail r = absurd r
+
+-- a state at the next position
+abbrev next_pair : ℕ → ℕ → Pair
+next_pair at next = (next, at + 1)
+
+-- its edges
+reads-edges : (x : Search) (node : Node) (at : ℕ) → ReadsByte node → edges_of x node at ≡ option_to_list
+    (option_and_then (λ b. option_map (next_pair at) (target_on node b)) (byte_at x at))
+unfolding edges_of
+reads-edges x (ByteRange trans) at r = refl
+reads-edges x (Sparse transitions) at r = refl
+reads-edges x (Dense targets) at r = refl
+reads-edges x (Look look next) at r = absurd r
+reads-edges x (Union alternates) at r = absurd r
+reads-edges x (BinaryUnion alt1 alt2) at r = absurd r
+reads-edges x (Capture next slot) at r = absurd r
+reads-edges x (Match pattern) at r = absurd r
+reads-edges x Fail at r = absurd r
+
+pub step-edges : (nfa : Automaton) (x : Search) (s at : ℕ) (target : Option ℕ)
+    → (b : IsByteStep nfa x (s, at) target)
+    → edges_of x b.node at ≡ option_to_list (option_map (next_pair at) target)
+step-edges nfa x s at target b =
+    reads-edges x b.node at b.reads
+    ∙ ap option_to_list (outside (byte_at x at))
+    ∙ ap (λ o. option_to_list (option_map (next_pair at) o)) (sym b.leads)
+  where
+    outside : (o : Option ℕ) → option_and_then (λ k. option_map (next_pair at) (target_on b.node k)) o
+        ≡ option_map (next_pair at) (option_and_then (target_on b.node) o)
+    outside None = refl
+    outside (Some k) = refl
+
+-- the byte that leads to a target
+pub read-byte : (f : ℕ → Option ℕ) (byte : Option ℕ) (q : ℕ) → Some q ≡ option_and_then f byte
+    → (k : ℕ) × (byte ≡ Some k) × (f k ≡ Some q)
+read-byte f None q e = cc
+read-byte f (Some k) q e = (k, refl, sym e)
+
+-- turns that lead to a place, or nowhere, as the result of a turn
+module _ (nfa : Automaton) (x : Search) {v : Pair} {stack after : List Frame} {m n : Marks} where
+  pub PaidFor-leads : (next : Option StatePos) → TurnsLead nfa x v next stack m after n → (count : ℕ)
+      → All (IsFrame nfa x count) stack → PaidFor nfa x count stack m after n (tries_of_move (move_to next))
+  PaidFor-leads None l count fits = record { within = l.within count fits; tried = l.tried }
+  PaidFor-leads (Some place) l count fits = record { within = l.within count fits; tried = l.tried }
+
+  pub Goes-leads : (next : Option StatePos) → TurnsLead nfa x v next stack m after n → (slots : Slots)
+      → Goes nfa x v (move_to next) stack m slots after n slots
+  Goes-leads None l slots = λ work. l.follows work slots
+  Goes-leads (Some place) l slots = (l.goes, λ work. l.follows work slots)
 
 module _ {nfa : Automaton} {x : Search} {s at : ℕ} {m n : Marks} (t : Taken nfa x (s, at) m n) where
   -- what is pushed is paid for by the state's degree
@@ -226,59 +287,28 @@ module _ {nfa : Automaton} {x : Search} {s at : ℕ} {m n : Marks} (t : Taken nf
       Carries-plain nfa x m s at rest slots n t.counted t.state t.from t.inside t.clear t.set node is plain writes es
       leads
 
-  -- a byte state, at a place with its row
-  module _ (row : ℕ) (placed : row ≡ (at - x.start) * length nfa.states) (states : ℕ)
-      (wide : states ≡ length nfa.states) where
-    Goes-target : (node : Node) → slice_get nfa.states s ≡ Some node → pattern_of node ≡ None → slot_of node ≡ None
-        → LeadsBelow (length nfa.states) node
-        → edges_of x node at ≡ option_to_list
-        (option_and_then (λ b. option_map (λ next. (next, at + 1)) (target_on node b)) (byte_at x at))
-        → (byte : Option ℕ) → byte ≡ byte_at x at → (stack : List Frame) (slots : Slots)
-        → Goes nfa x (s, at) (move_of (option_and_then (target_on node) byte) (record { sid = s; at = at; row = row })
-        states) stack m slots stack n slots
-    Goes-target node is plain writes below leads None e stack slots = λ work.
-        Goes-edges node is plain writes [] (leads ∙ rw (← e) refl) (stacked stack work) slots
-    Goes-target node is plain writes below leads (Some b) e stack slots =
-        (elim (target_on node b) as (λ o. target_on node b ≡ o
-        → Goes nfa x (s, at) (move_of o (record { sid = s; at = at; row = row }) states) stack m slots stack n
-        slots) [
-          | None ↦ λ none. λ work. Goes-edges node is plain writes [] (leads ∙ rw (← e, none) refl)
-              (stacked stack work) slots
-          | Some q ↦ λ some.
-              let f = t.from in let inside = byte_at-within x at b (sym e) in
-              let state : q < length nfa.states = target-below (length nfa.states) node b q below some in
-              let from : x.start ≤ at + 1 = omega arith in
-              let to : at + 1 ≤ x.end = omega arith in (
-                record { state = state; from = from; to = to; row = row-next nfa x at row states t.from placed wide },
-                λ work. Goes-edges node is plain writes ((q, at + 1) ∷ []) (leads ∙ rw (← e, some) refl)
-                    (stacked stack work) slots,
-              )
-        ]) refl
+  -- a state that reads a byte
+  pub Goes-stuck : IsByteStep nfa x (s, at) None → (rest : List Task) (slots : Slots)
+      → Carries nfa x m (Explore (s, at) ∷ rest) slots n rest slots
+  Goes-stuck b = Goes-edges b.node b.is (reads-plain b.node b.reads) (reads-unwritten b.node b.reads) []
+      (step-edges nfa x s at None b)
 
-    -- the three kinds of byte states
-    pub Goes-range : (trans : Transition) → slice_get nfa.states s ≡ Some (ByteRange trans)
-        → LeadsBelow (length nfa.states) (ByteRange trans)
-        → (byte : Option ℕ) → byte ≡ byte_at x at → (stack : List Frame) (slots : Slots)
-        → Goes nfa x (s, at) (move_of (option_and_then (target_on (ByteRange trans)) byte)
-        (record { sid = s; at = at; row = row }) states) stack m slots stack n slots
-    unfolding edges_of
-    Goes-range trans is below = Goes-target (ByteRange trans) is refl refl below refl
+  pub Goes-byte : (q : ℕ) → IsByteStep nfa x (s, at) (Some q) → (rest : List Task) (slots : Slots)
+      → Carries nfa x m (Explore (s, at) ∷ rest) slots n (Explore (q, at + 1) ∷ rest) slots
+  Goes-byte q b = Goes-edges b.node b.is (reads-plain b.node b.reads) (reads-unwritten b.node b.reads)
+      ((q, at + 1) ∷ []) (step-edges nfa x s at (Some q) b)
 
-    pub Goes-sparse : (ts : List Transition) → slice_get nfa.states s ≡ Some (Sparse ts)
-        → LeadsBelow (length nfa.states) (Sparse ts)
-        → (byte : Option ℕ) → byte ≡ byte_at x at → (stack : List Frame) (slots : Slots)
-        → Goes nfa x (s, at) (move_of (option_and_then (target_on (Sparse ts)) byte)
-        (record { sid = s; at = at; row = row }) states) stack m slots stack n slots
-    unfolding edges_of
-    Goes-sparse ts is below = Goes-target (Sparse ts) is refl refl below refl
-
-    pub Goes-dense : (targets : List (Option ℕ)) → slice_get nfa.states s ≡ Some (Dense targets)
-        → LeadsBelow (length nfa.states) (Dense targets)
-        → (byte : Option ℕ) → byte ≡ byte_at x at → (stack : List Frame) (slots : Slots)
-        → Goes nfa x (s, at) (move_of (option_and_then (target_on (Dense targets)) byte)
-        (record { sid = s; at = at; row = row }) states) stack m slots stack n slots
-    unfolding edges_of
-    Goes-dense targets is below = Goes-target (Dense targets) is refl refl below refl
+  pub IsStatePos-byte : (q : ℕ) → IsByteStep nfa x (s, at) (Some q) → (row : ℕ)
+      → row ≡ (at - x.start) * length nfa.states → (states : ℕ) → states ≡ length nfa.states
+      → IsStatePos nfa x (record { sid = q; at = at + 1; row = row + states })
+  IsStatePos-byte q b row placed states wide =
+      let f = t.from in
+      let read = read-byte (target_on b.node) (byte_at x at) q b.leads in
+      let inside = byte_at-within x at read.0 read.1 in
+      let state = target-below (length nfa.states) b.node read.0 q b.below read.2 in
+      let from : x.start ≤ at + 1 = omega arith in
+      let to : at + 1 ≤ x.end = omega arith in
+      record { state = state; from = from; to = to; row = row-next nfa x at row states t.from placed wide }
 
   -- an assertion
   module _ (look : looks.Look) (next : ℕ) (is : slice_get nfa.states s ≡ Some (Look look next)) (rest : List Task)
@@ -319,11 +349,6 @@ module _ {nfa : Automaton} {x : Search} {s at : ℕ} {m n : Marks} (t : Taken nf
   Goes-both alt1 alt2 is slots stack work row =
       rw (stacked-push stack (Step alt2 at row) work)
       (Goes-edges (BinaryUnion alt1 alt2) is refl refl ((alt1, at) ∷ (alt2, at) ∷ []) refl (stacked stack work) slots)
-
-  pub Goes-fail : slice_get nfa.states s ≡ Some Fail → (rest : List Task) (slots : Slots)
-      → Carries nfa x m (Explore (s, at) ∷ rest) slots n rest slots
-  unfolding edges_of
-  Goes-fail is rest slots = Goes-edges Fail is refl refl [] refl rest slots
 
   -- a Capture, whose slot is tracked or is not
   module _ (next slot : ℕ) (is : slice_get nfa.states s ≡ Some (Capture next slot)) (slots : Slots) (stack : List Frame)

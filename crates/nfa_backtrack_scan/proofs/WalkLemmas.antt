@@ -12,18 +12,37 @@ use Rattle.std.proofs.lemmas.List.Sums.{sum-map}
 use Rattle.regex_search_core.specs.Search.{Search}
 use Rattle.thompson_nfa.specs.Automaton.{Automaton, Node}
 use Rattle.thompson_nfa.specs.Automaton.Node.{Capture, Fail, Match}
-use Rattle.nfa_paths.specs.Graphs.{Pair, In}
+use Rattle.nfa_paths.specs.FirstPaths.{Path}
+use Rattle.nfa_paths.specs.FirstPaths.Path.{stop, go}
+use Rattle.nfa_paths.specs.Graphs.{Pair, In, Space}
 use Rattle.nfa_paths.specs.Paths.{span_len, degree, node_at, pattern_of, slot_of, edges_of, is_match, space}
 use Rattle.nfa_paths.specs.Paths.{total_degree}
 use Rattle.nfa_paths.specs.Exploring.{Task, Slots, Hit, ExploresTo}
 use Rattle.nfa_paths.specs.Exploring.Task.{Explore, Restore}
 use Rattle.nfa_paths.specs.Turns.{marked_sum, repeated}
-use Rattle.nfa_paths.proofs.SearchLemmas.{Answer-none, Answer-restore, Answer-marked, Answer-target, Answer-plain}
+use Rattle.nfa_paths.proofs.SearchLemmas.{Answer-more, Answer-none, Answer-restore, Answer-marked, Answer-target, Answer-plain}
 use Rattle.nfa_paths.proofs.SearchLemmas.{Answer-write, Answer-unkept}
 use Rattle.nfa_paths.proofs.TurnLemmas.{marked_sum-set, sum-repeated, get_or-repeated}
 use Rattle.nfa_scan_core.specs.Marks.{Marks}
 use Rattle.regex_search_core.specs.declared.search.HalfMatch.{HalfMatch}
 use Rattle.nfa_backtrack_scan.specs.Walk.{bit_of, HasBits, IsMarked, Agrees, weights, WalkAnswer, Carries, Ends, EndsAt}
+
+-- no path leads on from a pair without edges
+no_path : (edges : Pair → List Pair) (target : Pair → Bool) {v : Pair} {p : List Pair} → target v ≡ false
+    → edges v ≡ [] → Path edges target v p → ⊥
+no_path edges target plain none (stop t) = cc (t, plain)
+no_path edges target plain none (go f i n q) = rw none at i
+
+-- a pair that leads nowhere is dropped
+Answer-dead : (space : Space) (target : Pair → Bool) (left : ℕ) (otherwise : Hit) (marks : List Pair) (v : Pair)
+    (rest : List Task) (slots : Slots) (g : Hit) → target v ≡ false → space.edges v ≡ []
+    → ExploresTo space target left otherwise marks rest slots g
+    → ExploresTo space target (suc left) otherwise marks (Explore v ∷ rest) slots g
+unfolding ExploresTo
+Answer-dead space target left otherwise marks v rest slots g plain none h = inr (
+  λ p way. no_path space.edges target plain none way.path,
+  Answer-more space target left (suc left) (omega arith) otherwise marks rest slots g h,
+)
 
 module _ (nfa : Automaton) (x : Search) where
   -- what a state's number names
@@ -131,6 +150,26 @@ module _ (nfa : Automaton) (x : Search) where
           (Answer-marked (space nfa x) (is_match nfa) left None pairs (s, at) rest slots g
           ((agrees (s, at)).1 (record { state = state; from = from; set = seen })) (rw same at a pairs agrees));
     }
+
+    -- a turn at a pair that leads nowhere, which is not marked
+    pub Carries-dead : (node : Node) → slice_get nfa.states s ≡ Some node → pattern_of node ≡ None
+        → edges_of x node at ≡ [] → after.bits ≡ marks.bits
+        → Carries nfa x marks (Explore (s, at) ∷ rest) slots after rest slots
+    unfolding WalkAnswer
+    Carries-dead node is plain leads same = record {
+      grows = omega arith;
+      back = λ left more g e a pairs agrees.
+          let one : more ≡ suc left = omega arith in
+          let n = node_at-get s node is in
+          rw one
+          (Answer-dead (space nfa x) (is_match nfa) left None pairs (s, at) rest slots g (rw (n, plain) refl)
+          (rw n leads) (rw same at a pairs agrees));
+    }
+
+    pub Fails-at : slice_get nfa.states s ≡ Some Fail → after.bits ≡ marks.bits
+        → Carries nfa x marks (Explore (s, at) ∷ rest) slots after rest slots
+    unfolding edges_of
+    Fails-at is same = Carries-dead Fail is refl refl same
 
     module _ (state : s < length nfa.states) (from : x.start ≤ at) (inside : bit_of nfa x (s, at) < length marks.bits)
         (clear : get_or marks.bits (bit_of nfa x (s, at)) true ≡ false)

@@ -1,18 +1,18 @@
 -- The walk of a backtracker in the words of its proof: its stack as work that is left, its marks as pairs that were
 -- seen.
 use Rattle.std.specs.Prelude.{◌≡◌, ◌↔◌, ℕ, ◌+◌, ◌-◌, ◌*◌, ◌^◌, ◌<◌, ◌≤◌, Bool, true, false, List, [], ◌∷◌, Option, None}
-use Rattle.std.specs.Prelude.{Some, length, map, sum, All, slice_get, slice_index_or, slice_set}
+use Rattle.std.specs.Prelude.{Some, length, map, sum, All, option_and_then, slice_get, slice_index_or, slice_set}
 use Rattle.std.specs.List.{sum_by}
 use Rattle.regex_search_core.specs.Search.{Search}
 use Rattle.regex_search_core.specs.Patterns.{number_of}
 use Rattle.regex_search_core.specs.Found.{half_found_of}
 use Rattle.regex_search_core.specs.declared.search.HalfMatch.{HalfMatch}
 use Rattle.regex_search_core.specs.declared.search.MatchKind.TheVariants.{LeftmostFirst}
-use Rattle.thompson_nfa.specs.Automaton.{Automaton}
-use Rattle.thompson_nfa.specs.Automaton.Node.{ByteRange, BinaryUnion}
+use Rattle.thompson_nfa.specs.Automaton.{Automaton, LeadsBelow, Node}
+use Rattle.thompson_nfa.specs.Automaton.Node.{ByteRange, Sparse, Dense, BinaryUnion}
 use Rattle.thompson_nfa.specs.declared.state.Transition.{Transition}
 use Rattle.nfa_paths.specs.Graphs.{Pair, In}
-use Rattle.nfa_paths.specs.Paths.{span_len, degree, node_at, pattern_of, is_match, IsScanAnswer, space}
+use Rattle.nfa_paths.specs.Paths.{span_len, degree, node_at, pattern_of, is_match, byte_at, target_on, IsScanAnswer, space}
 use Rattle.nfa_paths.specs.Restarts.{GivesPath}
 use Rattle.nfa_paths.specs.Exploring.{Slots, Hit, Task, ExploresTo}
 use Rattle.nfa_paths.specs.Exploring.Task.{Explore as ToExplore, Restore as ToRestore}
@@ -41,10 +41,17 @@ abbrev pub restoring : ℕ → Option ℕ → Frame
 restoring slot None = Clear slot
 restoring slot (Some offset) = Restore slot offset
 
--- the move to the target at the next position, if there is one; a row has `states` marks
-abbrev pub move_of : Option ℕ → StatePos → ℕ → Move
-move_of None place states = DeadEnd
-move_of (Some sid) place states = On (record { sid = sid; at = place.at + 1; row = place.row + states })
+-- the move to the place, if there is one
+abbrev pub move_to : Option StatePos → Move
+move_to None = DeadEnd
+move_to (Some place) = On place
+
+-- a state that reads a byte
+abbrev pub ReadsByte : Node → Type 0
+ReadsByte (ByteRange trans) = Unit {0}
+ReadsByte (Sparse transitions) = Unit {0}
+ReadsByte (Dense targets) = Unit {0}
+ReadsByte _ = ⊥
 
 -- the turns that a frame still has to take
 abbrev pub frame_tries : Frame → ℕ
@@ -89,6 +96,14 @@ abbrev pub tries_of_outcome : Outcome → ℕ
 tries_of_outcome (On place) = 1
 tries_of_outcome (Matched half) = 0
 tries_of_outcome Failed = 0
+
+-- The pair's state reads a byte, and the target is where the byte at the position leads, if it leads anywhere.
+pub record IsByteStep (nfa : Automaton) (x : Search) (v : Pair) (target : Option ℕ) : Type 0 where
+  pub node : Node
+  pub is : slice_get nfa.states v.0 ≡ Some node
+  pub reads : ReadsByte node
+  pub below : LeadsBelow (length nfa.states) node
+  pub leads : target ≡ option_and_then (target_on node) (byte_at x v.1)
 
 -- A loop over one byte: the transition leads from the state `body` to a union that prefers `body` to `exit`.
 pub record IsByteLoop (nfa : Automaton) (body exit : ℕ) (trans : Transition) : Type 0 where

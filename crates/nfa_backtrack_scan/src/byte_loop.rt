@@ -139,7 +139,7 @@ fn push_exit(
 /// It is a function of its own, so that its values stay in registers and take none from the walk.
 #[cold]
 #[inline(never)]
-pub fn run_byte_loop(
+fn run_byte_loop(
     nfa: &NFA,
     input: &Input<'_>,
     body: StatePos,
@@ -170,4 +170,31 @@ pub fn run_byte_loop(
         };
         place = next;
     }
+}
+
+/// Runs a loop over one byte, from its byte state on, with a copy of the input.
+#[inline(always)]
+pub fn run_loop(
+    nfa: &NFA,
+    input: &Input<'_>,
+    body: StatePos,
+    trans: &Transition,
+    exit: StateID,
+    scratch: &mut Scratch,
+) -> Result<(), Refused>
+    requires state { IsByteLoop nfa.now body.sid exit trans.now }
+    requires place { IsStatePos nfa.now (search_of input.now) body }
+    requires room { HasBits nfa.now (search_of input.now) scratch.old.visited.bits }
+    ensures turns { scratch.old.visited.turns ≤ scratch.new.visited.turns }
+    ensures scans { scratch.new.scans ≡ scratch.old.scans }
+    ensures size { length scratch.new.visited.bits ≡ length scratch.old.visited.bits }
+    ensures leads { OnOk result (TurnsLead nfa.now (search_of input.now) (pair_of body) None
+        scratch.old.stack.items scratch.old.visited scratch.new.stack.items scratch.new.visited) }
+    ensures refused { OnErr result (IsAfforded nfa.now (search_of input.now) scratch.old.stack.items scratch.old.visited
+        scratch.new.visited) }
+{
+    // A value that is borrowed by a call is in memory, and the walk keeps its values in registers. The copy is made
+    // here, so that a turn without a loop does not write its memory.
+    let own_input = *input;
+    run_byte_loop(nfa, &own_input, body, trans, exit, scratch)
 }

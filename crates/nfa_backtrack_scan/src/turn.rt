@@ -1,8 +1,9 @@
-//! The parts of a turn: the state at a place, and the try to mark the place.
-ghost use Rattle.std.specs.Prelude.{◌≡◌, ◌+◌, ◌<◌, Some, true, false, length, map, slice_get};
+//! The parts of a turn: the state at a place, the try to mark the place, and the turn at a byte state.
+ghost use Rattle.std.specs.Prelude.{◌≡◌, ◌+◌, ◌<◌, Some, true, false, List, length, map, slice_get};
 ghost use Rattle.regex_search_core.specs.Search.{search_of};
 ghost use Rattle.thompson_nfa.specs.Automaton.{IsAutomaton, LeadsBelow, node_of};
-ghost use Rattle.nfa_backtrack_scan.specs.Walk.{pair_of, IsStatePos, HasBits, Taken, WasMarked};
+ghost use Rattle.nfa_backtrack_scan.specs.Walk.{pair_of, IsStatePos, HasBits, IsByteStep, Taken, TurnsLead, WasMarked};
+ghost use Rattle.nfa_backtrack_scan.specs.declared.frame.Frame.{Frame};
 
 use crate::frame::StatePos;
 use crate::visited::Visited;
@@ -32,4 +33,40 @@ pub fn mark(nfa: &NFA, input: &Input<'_>, place: StatePos, visited: &mut Visited
     ensures seen { result ≡ false → WasMarked nfa.now (search_of input.now) (pair_of place) visited.old visited.new }
 {
     visited.insert(place.row + place.sid.as_usize())
+}
+
+/// Takes one turn at a byte state, and returns the place that the byte leads to. A row has `states` marks.
+///
+/// A dead end is not marked: if the byte leads nowhere, testing it again costs less than a mark.
+#[inline(always)]
+pub fn cross(
+    nfa: &NFA,
+    input: &Input<'_>,
+    place: StatePos,
+    target: Option<StateID>,
+    states: usize,
+    visited: &mut Visited,
+) -> Option<StatePos>
+    requires step { IsByteStep nfa.now (search_of input.now) (pair_of place) target }
+    requires states { states ≡ length nfa.now.states }
+    requires place { IsStatePos nfa.now (search_of input.now) place }
+    requires room { HasBits nfa.now (search_of input.now) visited.old.bits }
+    ensures turns { visited.new.turns ≡ visited.old.turns + 1 }
+    ensures size { length visited.new.bits ≡ length visited.old.bits }
+    ensures leads { (stack : List Frame) → TurnsLead nfa.now (search_of input.now) (pair_of place) result stack
+        visited.old stack visited.new }
+{
+    let StatePos { at, row, .. } = place;
+    let Some(sid) = target else {
+        visited.pass();
+        return None;
+    };
+    if !mark(nfa, input, place, visited) {
+        return None;
+    }
+    Some(StatePos {
+        sid,
+        at: at + 1,
+        row: row + states,
+    })
 }

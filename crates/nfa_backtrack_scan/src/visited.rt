@@ -10,7 +10,7 @@ use std::marker::Model;
 /// The number of bits in a block.
 const BLOCK_BITS: usize = 64;
 
-/// A table of marks, one bit each, and the count of the tries to set one. Contracts see the bits and the count.
+/// A table of marks, one bit each, and the count of turns. Contracts see the bits and the count.
 ///
 /// `clear` only clears the blocks that were used since the last `clear`.
 #[derive(Debug, Drop)]
@@ -100,6 +100,15 @@ impl Visited {
     {
         zero_below(self.blocks.as_mut_slice(), self.used);
         self.used = 0;
+    }
+
+    /// Counts a turn that sets no mark.
+    #[inline(always)]
+    pub fn pass(&mut self)
+        ensures { self.new ≡ record self.old { turns = self.old.turns + 1 } }
+    {
+        let turns = &mut self.turns;
+        turns.tick();
     }
 
     /// Sets the mark, and returns whether it was unset. This is one turn.

@@ -14,7 +14,7 @@ ghost use Rattle.nfa_paths.specs.Exploring.{Task};
 ghost use Rattle.nfa_paths.specs.Turns.{marked_sum};
 ghost use Rattle.nfa_backtrack_scan.specs.Begin.{Begins, IsPutBack};
 ghost use Rattle.nfa_scan_core.specs.Marks.{Marks};
-ghost use Rattle.nfa_backtrack_scan.specs.Walk.{pair_of, stacked, restoring, move_of, frame_tries, tries_of_move};
+ghost use Rattle.nfa_backtrack_scan.specs.Walk.{pair_of, stacked, restoring, move_to, frame_tries, tries_of_move};
 ghost use Rattle.nfa_backtrack_scan.specs.Walk.{tries_of_state_pos, tries_of_outcome, with_state_pos, WritesSlot};
 ghost use Rattle.nfa_backtrack_scan.specs.Walk.{AppliesFrame, IsStatePos};
 ghost use Rattle.nfa_backtrack_scan.specs.Walk.{IsStatePosOr, IsFrame, HasBits, PaidFor, Carries, Goes, ComesTo, Walks};
@@ -22,10 +22,10 @@ ghost use Rattle.nfa_backtrack_scan.specs.Walk.{weights};
 ghost use Rattle.nfa_backtrack_scan.specs.Walk.{IsAfforded};
 ghost use Rattle.nfa_backtrack_scan.specs.declared.frame.Frame.TheVariants.{Step};
 
-use crate::byte_loop::{byte_loop_at, run_byte_loop};
+use crate::byte_loop::{byte_loop_at, run_loop};
 use crate::frame::{Frame, StatePos};
 use crate::scratch::Scratch;
-use crate::turn::{mark, state_at};
+use crate::turn::{cross, mark, state_at};
 use crate::visited::Visited;
 use nfa_scan_core::transitions::{byte_at, dense_target, range_target, sparse_target};
 use regex_search_core::{HalfMatch, Input, NonMaxUsize, PatternID, Refused, StateID};
@@ -52,19 +52,13 @@ pub enum Outcome {
     Failed,
 }
 
-/// Returns the move to the target at the next position, if there is a target. A row has `states` marks.
+/// Returns the move to the place, if there is one.
 #[inline(always)]
-fn past_byte(target: Option<StateID>, place: StatePos, states: usize) -> Move
-    requires at { place.at < usize.MAX }
-    requires row { place.row + states ≤ usize.MAX }
-    ensures { result ≡ move_of target place states }
+fn move_to(next: Option<StatePos>) -> Move
+    ensures { result ≡ move_to next }
 {
-    match target {
-        Some(sid) => Move::On(StatePos {
-            sid,
-            at: place.at + 1,
-            row: place.row + states,
-        }),
+    match next {
+        Some(place) => Move::On(place),
         None => Move::DeadEnd,
     }
 }
@@ -169,23 +163,27 @@ fn step(
         scratch.old.visited slots.old scratch.new.stack.items scratch.new.visited slots.new) }
 {
     let StatePos { sid, at, .. } = place;
-    if !mark(nfa, input, place, &mut scratch.visited) {
-        return Ok(Move::DeadEnd);
-    }
+    let count = states.len();
     match state_at(nfa, states, sid) {
         State::ByteRange { trans } => {
             let target = range_target(trans, byte_at(input, at));
-            Ok(past_byte(target, place, states.len()))
+            let next = cross(nfa, input, place, target, count, &mut scratch.visited);
+            Ok(move_to(next))
         }
         State::Sparse(transitions) => {
             let target = sparse_target(transitions, byte_at(input, at));
-            Ok(past_byte(target, place, states.len()))
+            let next = cross(nfa, input, place, target, count, &mut scratch.visited);
+            Ok(move_to(next))
         }
         State::Dense(targets) => {
             let target = dense_target(targets, byte_at(input, at));
-            Ok(past_byte(target, place, states.len()))
+            let next = cross(nfa, input, place, target, count, &mut scratch.visited);
+            Ok(move_to(next))
         }
         State::Look { look, next } => {
+            if !mark(nfa, input, place, &mut scratch.visited) {
+                return Ok(Move::DeadEnd);
+            }
             if assertion_holds(*look, input.haystack(), at) {
                 Ok(Move::On(place.to(*next)))
             } else {
@@ -193,6 +191,9 @@ fn step(
             }
         }
         State::Union { alternates } => {
+            if !mark(nfa, input, place, &mut scratch.visited) {
+                return Ok(Move::DeadEnd);
+            }
             let Some(first) = alternates.first() else {
                 return Ok(Move::DeadEnd);
             };
@@ -200,25 +201,37 @@ fn step(
             Ok(Move::On(place.to(*first)))
         }
         State::BinaryUnion { alt1, alt2 } => {
+            if !mark(nfa, input, place, &mut scratch.visited) {
+                return Ok(Move::DeadEnd);
+            }
             // Read before the stack is written: the compiler then reads each arm's target in its arm.
             let preferred = place.to(*alt1);
             scratch.stack.push(place.later(*alt2))?;
             if let Some(trans) = byte_loop_at(nfa, states, input, at, *alt1, *alt2) {
-                // A copy: a value that is borrowed by a call is in memory, and the walk keeps its values in registers.
-                let lent = *input;
-                run_byte_loop(nfa, &lent, place.to(*alt1), trans, *alt2, scratch)?;
+                run_loop(nfa, input, preferred, trans, *alt2, scratch)?;
                 return Ok(Move::DeadEnd);
             }
             Ok(Move::On(preferred))
         }
         State::Capture { next, slot } => {
+            if !mark(nfa, input, place, &mut scratch.visited) {
+                return Ok(Move::DeadEnd);
+            }
             if *slot < slots.len() {
                 save(&mut scratch.stack, slots, *slot, at)?;
             }
             Ok(Move::On(place.to(*next)))
         }
-        State::Fail => Ok(Move::DeadEnd),
-        State::Match { pattern_id } => Ok(Move::Matched(*pattern_id)),
+        State::Fail => {
+            scratch.visited.pass();
+            Ok(Move::DeadEnd)
+        }
+        State::Match { pattern_id } => {
+            if !mark(nfa, input, place, &mut scratch.visited) {
+                return Ok(Move::DeadEnd);
+            }
+            Ok(Move::Matched(*pattern_id))
+        }
     }
 }
 

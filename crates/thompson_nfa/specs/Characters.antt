@@ -19,22 +19,30 @@ char_of bytes = if is_utf8 bytes then only (chars bytes) else None
 abbrev pub char_of_len_before : List ℕ → ℕ → ℕ → Option ℕ
 char_of_len_before haystack at n = if nat_le n at then char_of (slice_range haystack (at - n) at) else None
 
+-- the character whose UTF-8, of two to four bytes, ends at the position
+abbrev pub long_char_before : List ℕ → ℕ → Option ℕ
+long_char_before haystack at =
+    option_or (char_of_len_before haystack at 2)
+    (option_or (char_of_len_before haystack at 3) (char_of_len_before haystack at 4))
+
 -- the character whose UTF-8, of one to four bytes, ends at the position
 unfoldable pub char_before : List ℕ → ℕ → Option ℕ
-char_before haystack at =
-    option_or (char_of_len_before haystack at 1) (option_or (char_of_len_before haystack at 2)
-    (option_or (char_of_len_before haystack at 3) (char_of_len_before haystack at 4)))
+char_before haystack at = option_or (char_of_len_before haystack at 1) (long_char_before haystack at)
 
 -- the character whose UTF-8 is the n bytes from the position on
 abbrev pub char_of_len_after : List ℕ → ℕ → ℕ → Option ℕ
 char_of_len_after haystack at n =
     if nat_le (at + n) (length haystack) then char_of (slice_range haystack at (at + n)) else None
 
+-- the character whose UTF-8, of two to four bytes, begins at the position
+abbrev pub long_char_after : List ℕ → ℕ → Option ℕ
+long_char_after haystack at =
+    option_or (char_of_len_after haystack at 2)
+    (option_or (char_of_len_after haystack at 3) (char_of_len_after haystack at 4))
+
 -- the character whose UTF-8, of one to four bytes, begins at the position
 unfoldable pub char_after : List ℕ → ℕ → Option ℕ
-char_after haystack at =
-    option_or (char_of_len_after haystack at 1) (option_or (char_of_len_after haystack at 2)
-    (option_or (char_of_len_after haystack at 3) (char_of_len_after haystack at 4)))
+char_after haystack at = option_or (char_of_len_after haystack at 1) (long_char_after haystack at)
 
 -- Alphabetic; a Mark, a Decimal_Number or Connector_Punctuation; U+200C or U+200D
 unfoldable pub is_word_char : ℕ → Bool

@@ -1,7 +1,8 @@
 //! Characters of UTF-8 next to an offset.
 ghost use Rattle.std.specs.Prelude.{◌≡◌, ◌≤◌, length, chars};
 ghost use Rattle.thompson_nfa.specs.Characters.{char_of, char_of_len_before, char_of_len_after, char_before};
-ghost use Rattle.thompson_nfa.specs.Characters.{char_after, is_word_char, is_some_word, only};
+ghost use Rattle.thompson_nfa.specs.Characters.{char_after, long_char_before, long_char_after, is_word_char};
+ghost use Rattle.thompson_nfa.specs.Characters.{is_some_word, only};
 ghost use Rattle.thompson_nfa.specs.Looks.{is_whole_before, is_whole_after};
 
 use unicode::perl::is_word_code;
@@ -52,7 +53,8 @@ fn is_word_char(c: char) -> bool
     is_word_code(c as u32)
 }
 
-/// The character whose UTF-8 ends at the position.
+/// The character whose UTF-8 ends at the position. That of one byte takes no call.
+#[inline(always)]
 #[tactic(auto, unfolding(crate::specs::Characters::char_before))]
 fn char_before(haystack: &[u8], at: usize) -> Option<char>
     requires { at ≤ length haystack.now }
@@ -61,6 +63,16 @@ fn char_before(haystack: &[u8], at: usize) -> Option<char>
     if let Some(one) = char_of_len_before(haystack, at, 1) {
         return Some(one);
     }
+    long_char_before(haystack, at)
+}
+
+/// The character of two to four bytes whose UTF-8 ends at the position.
+#[cold]
+#[inline(never)]
+fn long_char_before(haystack: &[u8], at: usize) -> Option<char>
+    requires { at ≤ length haystack.now }
+    ensures { result ≡ long_char_before haystack.now at }
+{
     if let Some(two) = char_of_len_before(haystack, at, 2) {
         return Some(two);
     }
@@ -70,7 +82,8 @@ fn char_before(haystack: &[u8], at: usize) -> Option<char>
     char_of_len_before(haystack, at, 4)
 }
 
-/// The character whose UTF-8 begins at the position.
+/// The character whose UTF-8 begins at the position. That of one byte takes no call.
+#[inline(always)]
 #[tactic(auto, unfolding(crate::specs::Characters::char_after))]
 fn char_after(haystack: &[u8], at: usize) -> Option<char>
     requires { at ≤ length haystack.now }
@@ -79,6 +92,16 @@ fn char_after(haystack: &[u8], at: usize) -> Option<char>
     if let Some(one) = char_of_len_after(haystack, at, 1) {
         return Some(one);
     }
+    long_char_after(haystack, at)
+}
+
+/// The character of two to four bytes whose UTF-8 begins at the position.
+#[cold]
+#[inline(never)]
+fn long_char_after(haystack: &[u8], at: usize) -> Option<char>
+    requires { at ≤ length haystack.now }
+    ensures { result ≡ long_char_after haystack.now at }
+{
     if let Some(two) = char_of_len_after(haystack, at, 2) {
         return Some(two);
     }
@@ -89,6 +112,7 @@ fn char_after(haystack: &[u8], at: usize) -> Option<char>
 }
 
 /// The character whose UTF-8 is the `len` bytes just before the position.
+#[inline(always)]
 fn char_of_len_before(haystack: &[u8], at: usize, len: usize) -> Option<char>
     requires { at ≤ length haystack.now }
     ensures { result ≡ char_of_len_before haystack.now at len }
@@ -100,6 +124,7 @@ fn char_of_len_before(haystack: &[u8], at: usize, len: usize) -> Option<char>
 }
 
 /// The character whose UTF-8 is the `len` bytes from the position on.
+#[inline(always)]
 fn char_of_len_after(haystack: &[u8], at: usize, len: usize) -> Option<char>
     requires { at ≤ length haystack.now }
     ensures { result ≡ char_of_len_after haystack.now at len }
@@ -111,6 +136,7 @@ fn char_of_len_after(haystack: &[u8], at: usize, len: usize) -> Option<char>
 }
 
 /// The character whose UTF-8 these bytes are.
+#[inline(always)]
 #[tactic(auto, using(crate::proofs::CharacterLemmas::chars_of))]
 fn char_of(bytes: &[u8]) -> Option<char>
     ensures { result ≡ char_of bytes.now }
@@ -119,6 +145,16 @@ fn char_of(bytes: &[u8]) -> Option<char>
     if bytes.len() == 1 && bytes[0] < 0x80 {
         return Some(bytes[0] as char);
     }
+    char_of_utf8(bytes)
+}
+
+/// The same for a character of any length.
+#[cold]
+#[inline(never)]
+#[tactic(auto, using(crate::proofs::CharacterLemmas::chars_of))]
+fn char_of_utf8(bytes: &[u8]) -> Option<char>
+    ensures { result ≡ char_of bytes.now }
+{
     match str::from_utf8(bytes) {
         Ok(text) => only_char(text),
         Err(_) => None,

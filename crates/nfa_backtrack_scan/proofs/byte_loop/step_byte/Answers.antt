@@ -1,6 +1,7 @@
 -- A turn at a byte state goes on where the byte leads, or stops there, or finds its place marked.
-use Rattle.std.proofs.Common.{length, sym}
+use Rattle.std.proofs.Common.{length}
 use Rattle.regex_search_core.specs.Search.{search_of}
+use Rattle.thompson_nfa.specs.Automaton.Node.{ByteRange}
 use Rattle.nfa_backtrack_scan.proofs.StepLemmas.{same_size}
 use Rattle.nfa_backtrack_scan.proofs.ByteLoopLemmas.{TurnsLead-marked, TurnsLead-stop, TurnsLead-byte}
 use Rattle.nfa_backtrack_scan.proofs.byte_loop.step_byte.Goals as goal
@@ -13,12 +14,25 @@ returns-then-not-mark-clause-leads c = λ stack.
 pub returns-in-Some-clause-leads : goal.returns-in-Some-clause-leads
 returns-in-Some-clause-leads c = λ stack.
     let t = c.mark.ensures.taken c.if-not-mark.false in
-    TurnsLead-byte t c.args.place.row c.requires.place.row c.args.trans.now c.requires.state c.requires.onto
-    c.byte_at-byte.result c.byte_at-byte.ensures stack c.in-Some.sid (sym c.in-Some.ensures)
-    (length c.states.result.now) (same_size c.args.nfa.now c.states.result.now c.states.ensures.nodes)
+    TurnsLead-byte t c.args.place.row c.requires.place.row c.in-Some.sid
+    (record {
+      node = ByteRange c.args.trans.now;
+      is = c.requires.state;
+      reads = tt;
+      below = c.requires.onto;
+      leads = rw (← c.byte_at-byte.ensures) c.in-Some.ensures;
+    })
+    stack (length c.states.result.now) (same_size c.args.nfa.now c.states.result.now c.states.ensures.nodes)
 
 pub returns-in-None-clause-leads : goal.returns-in-None-clause-leads
 returns-in-None-clause-leads c = λ stack.
     let t = c.mark.ensures.taken c.if-not-mark.false in
-    TurnsLead-stop t c.args.place.row c.requires.place.row c.args.trans.now c.requires.state c.requires.onto
-    c.byte_at-byte.result c.byte_at-byte.ensures stack (sym c.in-None.ensures)
+    TurnsLead-stop t c.args.place.row c.requires.place.row
+    (record {
+      node = ByteRange c.args.trans.now;
+      is = c.requires.state;
+      reads = tt;
+      below = c.requires.onto;
+      leads = rw (← c.byte_at-byte.ensures) c.in-None.ensures;
+    })
+    stack

@@ -4,86 +4,119 @@ use Rattle.std.specs.Prelude.{None}
 use Rattle.regex_search_core.specs.Search.{search_of}
 use Rattle.nfa_backtrack_scan.specs.Walk.{pair_of, TurnsLead}
 use Rattle.nfa_backtrack_scan.specs.declared.frame.Frame.TheVariants.{Step}
-use Rattle.thompson_nfa.specs.Automaton.Node.{ByteRange, Sparse, Dense, Look, Union, BinaryUnion, Capture, Fail}
-use Rattle.nfa_backtrack_scan.proofs.WalkLemmas.{Carries-marked}
-use Rattle.nfa_backtrack_scan.proofs.StepLemmas.{same_size, Fits-row, target-tries, first-drop, PaidFor-same, PaidFor-push}
-use Rattle.nfa_backtrack_scan.proofs.StepLemmas.{PaidFor-put, Goes-range, Goes-sparse, Goes-dense, Goes-look, Goes-no_look}
-use Rattle.nfa_backtrack_scan.proofs.StepLemmas.{Goes-union, Goes-no_union, Goes-both, Goes-fail, Goes-write, Goes-unkept}
+use Rattle.thompson_nfa.specs.Automaton.Node.{ByteRange, Sparse, Dense, Look, Union, BinaryUnion, Capture}
+use Rattle.nfa_backtrack_scan.proofs.WalkLemmas.{Fails-at}
+use Rattle.nfa_backtrack_scan.proofs.StepLemmas.{same_size, first-drop, PaidFor-leads, PaidFor-same, PaidFor-push}
+use Rattle.nfa_backtrack_scan.proofs.StepLemmas.{PaidFor-put, Goes-leads, Goes-look, Goes-no_look}
+use Rattle.nfa_backtrack_scan.proofs.StepLemmas.{Goes-union, Goes-no_union, Goes-both, Goes-write, Goes-unkept}
 use Rattle.nfa_backtrack_scan.proofs.StepLemmas.{Goes-match, IsFrame-restoring, tries-restoring}
-use Rattle.nfa_backtrack_scan.proofs.ByteLoopLemmas.{OnErr-always, IsAfforded-turn, IsAfforded-then, TurnsLead-then, TurnsLead-union}
+use Rattle.nfa_backtrack_scan.proofs.ByteLoopLemmas.{OnErr-always, IsAfforded-turn, IsAfforded-then, TurnsLead-marked, TurnsLead-then}
+use Rattle.nfa_backtrack_scan.proofs.ByteLoopLemmas.{TurnsLead-union}
 use Rattle.nfa_backtrack_scan.proofs.walk.step.Goals as goal
 use Rattle.nfa_backtrack_scan.proofs.walk.step.Goals.{then-slot-slots+in_ok-save-in-Capture, else-slot-slots}
 
-pub past_byte-requires-clause-row : goal.past_byte-requires-clause-row
-past_byte-requires-clause-row c =
-    Fits-row c.args.nfa.now (search_of c.args.input.now) c.args.place c.args.scratch.now.visited.bits c.requires.place
-    c.requires.room _
-    (same_size c.args.nfa.now c.args.states.now c.requires.states)
+pub cross-next-requires-clause-step : goal.cross-next-requires-clause-step
+cross-next-requires-clause-step c =
+    record {
+      node = ByteRange c.in-ByteRange.trans;
+      is = rw c.in-ByteRange.is at c.state_at.ensures.node;
+      reads = tt;
+      below = rw c.in-ByteRange.is at c.state_at.ensures.leads;
+      leads = rw (← c.byte_at.ensures) c.range_target-target.ensures;
+    }
 
-pub returns-then-not-mark-clause-goes : goal.returns-then-not-mark-clause-goes
-returns-then-not-mark-clause-goes c = λ work.
-    let met = c.mark.ensures.seen c.if-not-mark.true in
-    Carries-marked c.args.nfa.now (search_of c.args.input.now) c.args.scratch.now.visited c.args.place.sid
-    c.args.place.at _ _ c.mark.new.visited met.counted
-    met.marked_before.state met.marked_before.from met.marked_before.set met.same
+pub cross-next-requires-clause-states : goal.cross-next-requires-clause-states
+cross-next-requires-clause-states c = same_size c.args.nfa.now c.args.states.now c.requires.states
 
 pub returns-in-ByteRange-clause-paid : goal.returns-in-ByteRange-clause-paid
 returns-in-ByteRange-clause-paid c =
-    let t = c.mark.ensures.taken c.if-not-mark.false in
-    let is = rw c.in-ByteRange.is at c.state_at.ensures.node in
-    PaidFor-same t (ByteRange c.in-ByteRange.trans) is _ _ _ c.requires.within
-    (rw (c.past_byte.ensures, c.range_target-target.ensures)
-    (target-tries (ByteRange c.in-ByteRange.trans) c.args.place _ c.byte_at.result))
+    rw c.move_to.ensures
+    (PaidFor-leads c.args.nfa.now (search_of c.args.input.now) c.cross-next.result
+    (c.cross-next.ensures.leads c.args.scratch.now.stack.items) _ c.requires.within)
 
 pub returns-in-ByteRange-clause-goes : goal.returns-in-ByteRange-clause-goes
 returns-in-ByteRange-clause-goes c =
-    let t = c.mark.ensures.taken c.if-not-mark.false in
-    let is = rw c.in-ByteRange.is at c.state_at.ensures.node in
-    let below = rw c.in-ByteRange.is at c.state_at.ensures.leads in
-    rw (c.past_byte.ensures, c.range_target-target.ensures)
-    (Goes-range t c.args.place.row c.requires.place.row _
-    (same_size c.args.nfa.now c.args.states.now c.requires.states) c.in-ByteRange.trans is below c.byte_at.result
-    c.byte_at.ensures _ _)
+    rw c.move_to.ensures
+    (Goes-leads c.args.nfa.now (search_of c.args.input.now) c.cross-next.result
+    (c.cross-next.ensures.leads c.args.scratch.now.stack.items) c.args.slots.now)
+
+pub cross-next-requires-in-Sparse-clause-step : goal.cross-next-requires-in-Sparse-clause-step
+cross-next-requires-in-Sparse-clause-step c =
+    let list = c.deref.ensures.value in
+    record {
+      node = Sparse c.in-Sparse.transitions.items;
+      is = rw c.in-Sparse.is at c.state_at.ensures.node;
+      reads = tt;
+      below = rw c.in-Sparse.is at c.state_at.ensures.leads;
+      leads = rw (← c.byte_at-in-Sparse.ensures) (rw list at c.sparse_target-target.ensures);
+    }
+
+pub cross-next-requires-in-Sparse-clause-states : goal.cross-next-requires-in-Sparse-clause-states
+cross-next-requires-in-Sparse-clause-states c = same_size c.args.nfa.now c.args.states.now c.requires.states
 
 pub returns-in-Sparse-clause-paid : goal.returns-in-Sparse-clause-paid
 returns-in-Sparse-clause-paid c =
-    let t = c.mark.ensures.taken c.if-not-mark.false in
-    let is = rw c.in-Sparse.is at c.state_at.ensures.node in
-    let list = c.deref.ensures.value in
-    PaidFor-same t (Sparse c.in-Sparse.transitions.items) is _ _ _ c.requires.within
-    (rw (c.past_byte-in-Sparse.ensures, (rw list at c.sparse_target-target.ensures))
-    (target-tries (Sparse c.in-Sparse.transitions.items) c.args.place _ c.byte_at-in-Sparse.result))
+    rw c.move_to-in-Sparse.ensures
+    (PaidFor-leads c.args.nfa.now (search_of c.args.input.now) c.cross-next-in-Sparse.result
+    (c.cross-next-in-Sparse.ensures.leads c.args.scratch.now.stack.items) _ c.requires.within)
 
 pub returns-in-Sparse-clause-goes : goal.returns-in-Sparse-clause-goes
 returns-in-Sparse-clause-goes c =
-    let t = c.mark.ensures.taken c.if-not-mark.false in
-    let is = rw c.in-Sparse.is at c.state_at.ensures.node in
-    let below = rw c.in-Sparse.is at c.state_at.ensures.leads in
-    let list = c.deref.ensures.value in
-    rw (c.past_byte-in-Sparse.ensures, (rw list at c.sparse_target-target.ensures))
-    (Goes-sparse t c.args.place.row c.requires.place.row _
-    (same_size c.args.nfa.now c.args.states.now c.requires.states) c.in-Sparse.transitions.items is below
-    c.byte_at-in-Sparse.result c.byte_at-in-Sparse.ensures _ _)
+    rw c.move_to-in-Sparse.ensures
+    (Goes-leads c.args.nfa.now (search_of c.args.input.now) c.cross-next-in-Sparse.result
+    (c.cross-next-in-Sparse.ensures.leads c.args.scratch.now.stack.items) c.args.slots.now)
+
+pub cross-next-requires-in-Dense-clause-step : goal.cross-next-requires-in-Dense-clause-step
+cross-next-requires-in-Dense-clause-step c =
+    let list = c.deref-in-Dense.ensures.value in
+    record {
+      node = Dense c.in-Dense.targets.items;
+      is = rw c.in-Dense.is at c.state_at.ensures.node;
+      reads = tt;
+      below = rw c.in-Dense.is at c.state_at.ensures.leads;
+      leads = rw (← c.byte_at-in-Dense.ensures) (rw list at c.dense_target-target.ensures);
+    }
+
+pub cross-next-requires-in-Dense-clause-states : goal.cross-next-requires-in-Dense-clause-states
+cross-next-requires-in-Dense-clause-states c = same_size c.args.nfa.now c.args.states.now c.requires.states
 
 pub returns-in-Dense-clause-paid : goal.returns-in-Dense-clause-paid
 returns-in-Dense-clause-paid c =
-    let t = c.mark.ensures.taken c.if-not-mark.false in
-    let is = rw c.in-Dense.is at c.state_at.ensures.node in
-    let list = c.deref-in-Dense.ensures.value in
-    PaidFor-same t (Dense c.in-Dense.targets.items) is _ _ _ c.requires.within
-    (rw (c.past_byte-in-Dense.ensures, (rw list at c.dense_target-target.ensures))
-    (target-tries (Dense c.in-Dense.targets.items) c.args.place _ c.byte_at-in-Dense.result))
+    rw c.move_to-in-Dense.ensures
+    (PaidFor-leads c.args.nfa.now (search_of c.args.input.now) c.cross-next-in-Dense.result
+    (c.cross-next-in-Dense.ensures.leads c.args.scratch.now.stack.items) _ c.requires.within)
 
 pub returns-in-Dense-clause-goes : goal.returns-in-Dense-clause-goes
 returns-in-Dense-clause-goes c =
-    let t = c.mark.ensures.taken c.if-not-mark.false in
-    let is = rw c.in-Dense.is at c.state_at.ensures.node in
-    let below = rw c.in-Dense.is at c.state_at.ensures.leads in
-    let list = c.deref-in-Dense.ensures.value in
-    rw (c.past_byte-in-Dense.ensures, (rw list at c.dense_target-target.ensures))
-    (Goes-dense t c.args.place.row c.requires.place.row _
-    (same_size c.args.nfa.now c.args.states.now c.requires.states) c.in-Dense.targets.items is below
-    c.byte_at-in-Dense.result c.byte_at-in-Dense.ensures _ _)
+    rw c.move_to-in-Dense.ensures
+    (Goes-leads c.args.nfa.now (search_of c.args.input.now) c.cross-next-in-Dense.result
+    (c.cross-next-in-Dense.ensures.leads c.args.scratch.now.stack.items) c.args.slots.now)
+
+pub returns-then-not-mark-clause-goes : goal.returns-then-not-mark-clause-goes
+returns-then-not-mark-clause-goes c = λ work.
+    (TurnsLead-marked c.args.nfa.now (search_of c.args.input.now) c.args.place.sid c.args.place.at
+    c.args.scratch.now.stack.items (c.mark.ensures.seen c.if-not-mark.true)).follows work c.args.slots.now
+
+pub returns-then-not-mark-2-clause-goes : goal.returns-then-not-mark-2-clause-goes
+returns-then-not-mark-2-clause-goes c = λ work.
+    (TurnsLead-marked c.args.nfa.now (search_of c.args.input.now) c.args.place.sid c.args.place.at
+    c.args.scratch.now.stack.items (c.mark-in-Union.ensures.seen c.if-not-mark-2.true)).follows work c.args.slots.now
+
+pub returns-then-not-mark-3-clause-goes : goal.returns-then-not-mark-3-clause-goes
+returns-then-not-mark-3-clause-goes c = λ work.
+    (TurnsLead-marked c.args.nfa.now (search_of c.args.input.now) c.args.place.sid c.args.place.at
+    c.args.scratch.now.stack.items (c.mark-in-BinaryUnion.ensures.seen c.if-not-mark-3.true)).follows work
+    c.args.slots.now
+
+pub returns-then-not-mark-4-clause-goes : goal.returns-then-not-mark-4-clause-goes
+returns-then-not-mark-4-clause-goes c = λ work.
+    (TurnsLead-marked c.args.nfa.now (search_of c.args.input.now) c.args.place.sid c.args.place.at
+    c.args.scratch.now.stack.items (c.mark-in-Capture.ensures.seen c.if-not-mark-4.true)).follows work c.args.slots.now
+
+pub returns-then-not-mark-5-clause-goes : goal.returns-then-not-mark-5-clause-goes
+returns-then-not-mark-5-clause-goes c = λ work.
+    (TurnsLead-marked c.args.nfa.now (search_of c.args.input.now) c.args.place.sid c.args.place.at
+    c.args.scratch.now.stack.items (c.mark-in-Match.ensures.seen c.if-not-mark-5.true)).follows work c.args.slots.now
 
 pub returns-then-assertion_holds-clause-paid : goal.returns-then-assertion_holds-clause-paid
 returns-then-assertion_holds-clause-paid c =
@@ -122,20 +155,20 @@ returns-else-assertion_holds-clause-goes c =
 
 pub returns-in_default-clause-paid : goal.returns-in_default-clause-paid
 returns-in_default-clause-paid c =
-    let t = c.mark.ensures.taken c.if-not-mark.false in
+    let t = c.mark-in-Union.ensures.taken c.if-not-mark-2.false in
     let is = rw c.in-Union.is at c.state_at.ensures.node in
     PaidFor-same t (Union c.in-Union.alternates.items) is _ _ _ c.requires.within (omega arith)
 
 pub returns-in_default-clause-goes : goal.returns-in_default-clause-goes
 returns-in_default-clause-goes c =
-    let t = c.mark.ensures.taken c.if-not-mark.false in
+    let t = c.mark-in-Union.ensures.taken c.if-not-mark-2.false in
     let is = rw c.in-Union.is at c.state_at.ensures.node in
     let none = sym (rw c.deref-in-Union.ensures.value at c.in_default.ensures.value) in
     λ work. Goes-no_union t c.in-Union.alternates.items is _ none _
 
 pub returns-in_ok-push_alternates-in-Union-clause-paid : goal.returns-in_ok-push_alternates-in-Union-clause-paid
 returns-in_ok-push_alternates-in-Union-clause-paid c =
-    let t = c.mark.ensures.taken c.if-not-mark.false in
+    let t = c.mark-in-Union.ensures.taken c.if-not-mark-2.false in
     let is = rw c.in-Union.is at c.state_at.ensures.node in
     let below = rw c.in-Union.is at c.state_at.ensures.leads in
     let first = sym (rw c.deref-in-Union.ensures.value at c.in-Some.ensures.value) in
@@ -144,7 +177,7 @@ returns-in_ok-push_alternates-in-Union-clause-paid c =
 
 pub returns-in_ok-push_alternates-in-Union-clause-goes : goal.returns-in_ok-push_alternates-in-Union-clause-goes
 returns-in_ok-push_alternates-in-Union-clause-goes c =
-    let t = c.mark.ensures.taken c.if-not-mark.false in
+    let t = c.mark-in-Union.ensures.taken c.if-not-mark-2.false in
     let is = rw c.in-Union.is at c.state_at.ensures.node in
     let below = rw c.in-Union.is at c.state_at.ensures.leads in
     let first = sym (rw c.deref-in-Union.ensures.value at c.in-Some.ensures.value) in
@@ -160,50 +193,49 @@ pub returns-in_err-push_alternates-in-Union-clause-refused : goal.returns-in_err
 returns-in_err-push_alternates-in-Union-clause-refused c =
     OnErr-always c.from_residual.result
     (IsAfforded-turn c.args.nfa.now (search_of c.args.input.now) c.args.scratch.now.stack.items
-    c.args.scratch.now.visited c.mark.new.visited c.mark.ensures.turns)
+    c.args.scratch.now.visited c.mark-in-Union.new.visited c.mark-in-Union.ensures.turns)
 
 pub returns-in_err-push-in-BinaryUnion-clause-refused : goal.returns-in_err-push-in-BinaryUnion-clause-refused
 returns-in_err-push-in-BinaryUnion-clause-refused c =
     OnErr-always c.from_residual-in_err-push-in-BinaryUnion.result
     (IsAfforded-turn c.args.nfa.now (search_of c.args.input.now) c.args.scratch.now.stack.items
-    c.args.scratch.now.visited c.mark.new.visited c.mark.ensures.turns)
+    c.args.scratch.now.visited c.mark-in-BinaryUnion.new.visited c.mark-in-BinaryUnion.ensures.turns)
 
 pub returns-in_err-save-in-Capture-clause-refused : goal.returns-in_err-save-in-Capture-clause-refused
 returns-in_err-save-in-Capture-clause-refused c =
     OnErr-always c.from_residual-in_err-save-in-Capture.result
     (IsAfforded-turn c.args.nfa.now (search_of c.args.input.now) c.args.scratch.now.stack.items
-    c.args.scratch.now.visited c.mark.new.visited c.mark.ensures.turns)
+    c.args.scratch.now.visited c.mark-in-Capture.new.visited c.mark-in-Capture.ensures.turns)
 
-pub run_byte_loop-requires-clause-state : goal.run_byte_loop-requires-clause-state
-run_byte_loop-requires-clause-state c =
-    rw c.to-in-Some-byte_loop_at.ensures (c.in-Some-byte_loop_at.ensures c.in-Some-byte_loop_at.trans refl)
+pub run_loop-requires-clause-state : goal.run_loop-requires-clause-state
+run_loop-requires-clause-state c =
+    rw c.to-preferred.ensures (c.in-Some-byte_loop_at.ensures c.in-Some-byte_loop_at.trans refl)
 
-pub returns-in_err-run_byte_loop-in-BinaryUnion-clause-refused
-    : goal.returns-in_err-run_byte_loop-in-BinaryUnion-clause-refused
-returns-in_err-run_byte_loop-in-BinaryUnion-clause-refused c =
-    let t = c.mark.ensures.taken c.if-not-mark.false in
+pub returns-in_err-run_loop-in-BinaryUnion-clause-refused : goal.returns-in_err-run_loop-in-BinaryUnion-clause-refused
+returns-in_err-run_loop-in-BinaryUnion-clause-refused c =
+    let t = c.mark-in-BinaryUnion.ensures.taken c.if-not-mark-3.false in
     let is = rw c.in-BinaryUnion.is at c.state_at.ensures.node in
     let below = rw c.in-BinaryUnion.is at c.state_at.ensures.leads in
     let union = TurnsLead-union t c.args.place.row c.requires.place.row c.in-BinaryUnion.alt1 c.in-BinaryUnion.alt2 is
     below.0 below.1 c.args.scratch.now.stack.items in
     let round = rw (c.in_ok-push-in-BinaryUnion.ensures.items, c.later.ensures) at
-    c.in_err-run_byte_loop-in-BinaryUnion.ensures.refused in
-    OnErr-always c.from_residual-in_err-run_byte_loop-in-BinaryUnion.result
-    (IsAfforded-then c.args.nfa.now (search_of c.args.input.now) c.run_byte_loop.new.scratch.visited union round)
+    c.in_err-run_loop-in-BinaryUnion.ensures.refused in
+    OnErr-always c.from_residual-in_err-run_loop-in-BinaryUnion.result
+    (IsAfforded-then c.args.nfa.now (search_of c.args.input.now) c.run_loop.new.scratch.visited union round)
 
 -- the turn at the union and those of the loop
-round : (c : goal.In_ok-run_byte_loop-in-BinaryUnion)
+round : (c : goal.In_ok-run_loop-in-BinaryUnion)
     → TurnsLead c.args.nfa.now (search_of c.args.input.now) (pair_of c.args.place) None c.args.scratch.now.stack.items
-    c.args.scratch.now.visited c.run_byte_loop.new.scratch.stack.items c.run_byte_loop.new.scratch.visited
+    c.args.scratch.now.visited c.run_loop.new.scratch.stack.items c.run_loop.new.scratch.visited
 round c =
-    let t = c.mark.ensures.taken c.if-not-mark.false in
+    let t = c.mark-in-BinaryUnion.ensures.taken c.if-not-mark-3.false in
     let is = rw c.in-BinaryUnion.is at c.state_at.ensures.node in
     let below = rw c.in-BinaryUnion.is at c.state_at.ensures.leads in
     TurnsLead-then c.args.nfa.now (search_of c.args.input.now)
     (TurnsLead-union t c.args.place.row c.requires.place.row c.in-BinaryUnion.alt1 c.in-BinaryUnion.alt2 is below.0
     below.1 c.args.scratch.now.stack.items)
-    (rw (c.in_ok-push-in-BinaryUnion.ensures.items, c.later.ensures, c.to-in-Some-byte_loop_at.ensures) at
-    c.in_ok-run_byte_loop-in-BinaryUnion.ensures.leads)
+    (rw (c.in_ok-push-in-BinaryUnion.ensures.items, c.later.ensures, c.to-preferred.ensures) at
+    c.in_ok-run_loop-in-BinaryUnion.ensures.leads)
 
 pub returns-in-Some-byte_loop_at-clause-paid : goal.returns-in-Some-byte_loop_at-clause-paid
 returns-in-Some-byte_loop_at-clause-paid c =
@@ -215,7 +247,7 @@ returns-in-Some-byte_loop_at-clause-goes c = λ work. (round c).follows work c.a
 
 pub returns-in_default-byte_loop_at-clause-paid : goal.returns-in_default-byte_loop_at-clause-paid
 returns-in_default-byte_loop_at-clause-paid c =
-    let t = c.mark.ensures.taken c.if-not-mark.false in
+    let t = c.mark-in-BinaryUnion.ensures.taken c.if-not-mark-3.false in
     let is = rw c.in-BinaryUnion.is at c.state_at.ensures.node in
     let below = rw c.in-BinaryUnion.is at c.state_at.ensures.leads in
     rw (c.in_ok-push-in-BinaryUnion.ensures.items, c.later.ensures)
@@ -226,7 +258,7 @@ returns-in_default-byte_loop_at-clause-paid c =
 
 pub returns-in_default-byte_loop_at-clause-goes : goal.returns-in_default-byte_loop_at-clause-goes
 returns-in_default-byte_loop_at-clause-goes c =
-    let t = c.mark.ensures.taken c.if-not-mark.false in
+    let t = c.mark-in-BinaryUnion.ensures.taken c.if-not-mark-3.false in
     let is = rw c.in-BinaryUnion.is at c.state_at.ensures.node in
     let below = rw c.in-BinaryUnion.is at c.state_at.ensures.leads in
     rw c.to-preferred.ensures (
@@ -238,7 +270,7 @@ returns-in_default-byte_loop_at-clause-goes c =
 
 pub returns-after-slot-slots-clause-paid : goal.returns-after-slot-slots-clause-paid
 returns-after-slot-slots-clause-paid c =
-    let t = c.mark.ensures.taken c.if-not-mark.false in
+    let t = c.mark-in-Capture.ensures.taken c.if-not-mark-4.false in
     let is = rw c.in-Capture.is at c.state_at.ensures.node in
     elim c.if-slot-slots.branch [
       | then-slot-slots+in_ok-save-in-Capture w ↦
@@ -253,7 +285,7 @@ returns-after-slot-slots-clause-paid c =
 
 pub returns-after-slot-slots-clause-goes : goal.returns-after-slot-slots-clause-goes
 returns-after-slot-slots-clause-goes c =
-    let t = c.mark.ensures.taken c.if-not-mark.false in
+    let t = c.mark-in-Capture.ensures.taken c.if-not-mark-4.false in
     let is = rw c.in-Capture.is at c.state_at.ensures.node in
     let below = rw c.in-Capture.is at c.state_at.ensures.leads in
     rw c.to-in-Capture.ensures (
@@ -277,24 +309,22 @@ returns-after-slot-slots-clause-goes c =
 
 pub returns-in-Fail-clause-paid : goal.returns-in-Fail-clause-paid
 returns-in-Fail-clause-paid c =
-    let t = c.mark.ensures.taken c.if-not-mark.false in
-    let is = rw c.in-Fail.is at c.state_at.ensures.node in
-    PaidFor-same t Fail is _ _ _ c.requires.within (omega arith)
+    rw c.pass.ensures (record { within = c.requires.within; tried = omega arith })
 
 pub returns-in-Fail-clause-goes : goal.returns-in-Fail-clause-goes
 returns-in-Fail-clause-goes c = λ work.
-    let t = c.mark.ensures.taken c.if-not-mark.false in
     let is = rw c.in-Fail.is at c.state_at.ensures.node in
-    Goes-fail t is _ _
+    Fails-at c.args.nfa.now (search_of c.args.input.now) c.args.scratch.now.visited c.args.place.sid c.args.place.at
+    _ _ c.pass.new.self (rw c.pass.ensures refl) is (rw c.pass.ensures refl)
 
-pub returns-in-Match-clause-paid : goal.returns-in-Match-clause-paid
-returns-in-Match-clause-paid c =
-    let t = c.mark.ensures.taken c.if-not-mark.false in
+pub returns-else-not-mark-5-clause-paid : goal.returns-else-not-mark-5-clause-paid
+returns-else-not-mark-5-clause-paid c =
+    let t = c.mark-in-Match.ensures.taken c.if-not-mark-5.false in
     let is = rw c.in-Match.is at c.state_at.ensures.node in
     PaidFor-same t _ is _ _ _ c.requires.within (omega arith)
 
-pub returns-in-Match-clause-goes : goal.returns-in-Match-clause-goes
-returns-in-Match-clause-goes c =
-    let t = c.mark.ensures.taken c.if-not-mark.false in
+pub returns-else-not-mark-5-clause-goes : goal.returns-else-not-mark-5-clause-goes
+returns-else-not-mark-5-clause-goes c =
+    let t = c.mark-in-Match.ensures.taken c.if-not-mark-5.false in
     let is = rw c.in-Match.is at c.state_at.ensures.node in
     ((Goes-match t _ is [] []).0, λ work. (Goes-match t _ is _ _).1)
