@@ -185,7 +185,7 @@ fn report(rt: &HostRuntime, wrong: &[String], rows: usize, what: &str) -> Result
     }
     println!(rt; "{} of {rows} {what} differ", wrong.len())?;
     if !wrong.is_empty() {
-        bail!("rows differ");
+        bail!("some {what} differ from what is expected, which the lines above show");
     }
     Ok(())
 }
@@ -220,7 +220,7 @@ fn compare(rt: &HostRuntime) -> Result<()> {
     }
     println!(rt; "{same} the same, {different} different")?;
     if different > 0 {
-        bail!("answers differ");
+        bail!("some answers differ from those of regex, which the lines above show");
     }
     Ok(())
 }

@@ -215,9 +215,12 @@ impl fmt::Display for Stop {
             }
             Stop::Pattern(error) => write!(f, "{error}"),
             Stop::OtherPattern(error) => write!(f, "{error}"),
-            Stop::TooLong { len } => write!(f, "haystack too long: {len}"),
+            Stop::TooLong { len } => write!(
+                f,
+                "the haystack of {len} bytes is too long for the backtracker"
+            ),
             Stop::Memory => f.write_str("out of memory"),
-            Stop::Read(error) => write!(f, "{error}"),
+            Stop::Read(error) => write!(f, "cannot read the haystack: {error}"),
         }
     }
 }

@@ -32,7 +32,7 @@ fn either(first: usize, second: usize) -> Result<State> {
     Ok(State::BinaryUnion { alt1, alt2 })
 }
 
-// `ab+` as an NFA. The last two states go over what stands before a match.
+// `ab+` as an NFA. The last two states skip the bytes before a match.
 fn ab_plus(alloc: Global) -> Result<NFA> {
     let mut states = Vec::new(alloc);
     states.push(capture(0, 1)?)?;

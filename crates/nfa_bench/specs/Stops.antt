@@ -1,4 +1,4 @@
--- What the program says where it stops before it is done, and the status that it then ends with.
+-- What the program prints if it stops before it is done, and the status that it then ends with.
 use Rattle.std.specs.Prelude.{ℕ, List, ◌++◌, Option, Some, None, codes}
 use Rattle.std.specs.Fmt.{decimal}
 use Rattle.nfa_search_base.specs.declared.error.SearchError.{SearchError}
@@ -7,15 +7,16 @@ use Rattle.nfa_search_base.specs.declared.error.SearchError.TheVariants.{Memory 
 use Rattle.nfa_bench.specs.declared.run.Stop.{Stop}
 use Rattle.nfa_bench.specs.declared.run.Stop.TheVariants.{Usage, UnknownName, TooLong, Memory, Write}
 
--- its line, where the words are the program's own, and its status
+-- its line, if the text is the program's own, and its status
 abbrev pub ending : Stop → Option (List ℕ) × ℕ
 ending Usage = (Some (codes "usage: nfa-bench back|pike NAME HAYSTACK"), 2)
-ending UnknownName = (Some (codes "unknown name"), 2)
-ending (TooLong len) = (Some (codes "haystack too long: " ++ decimal len), 1)
+ending UnknownName = (Some (codes "no sample NFA has this name: docs/NFAS.md lists the names"), 2)
+ending (TooLong len) =
+    (Some (codes "the haystack of " ++ decimal len ++ codes " bytes is too long for the backtracker"), 1)
 ending Memory = (Some (codes "out of memory"), 1)
 ending (Write error) = (None, 1)
 
--- why it stops where a search fails
+-- why it stops if a search fails
 abbrev pub stop_of : SearchError → Stop
 stop_of (HaystackTooLong len) = TooLong len
 stop_of NoMemory = Memory

@@ -9,7 +9,7 @@ use std::io::BufWriter;
 use std::process::ExitCode;
 use std::{env, io};
 
-// Where memory is refused for the words or for the buffer, the program says so as its searches do.
+// If allocation fails for the arguments or for the buffer, the program says so as its searches do.
 fn main(rt: HostRuntime) -> io::Result<ExitCode> {
     let status = match answer(&rt) {
         Err(error) if error.kind() == io::ErrorKind::OutOfMemory => {

@@ -1,4 +1,4 @@
-//! Reads the words of the command line, searches, and prints the matches.
+//! Reads the arguments of the command line, searches, and prints the matches.
 ghost use Rattle.std.specs.Prelude.{◌≡◌, ◌≤◌, ◌↔◌, IfErr, IfOk};
 ghost use Rattle.nfa_bench.specs.Stops.{ending};
 ghost use Rattle.nfa_bench.specs.declared.run.Stop.TheVariants.{UnknownName};
@@ -14,24 +14,24 @@ use std::io::Write;
 use std::{fmt, io};
 use thompson_nfa::{BuildError, NFA};
 
-/// The search failed, was refused, or its answer was not written.
+/// The search returned an error, or its answer was not written.
 const FAILED: u8 = 1;
 
-/// The words ask for nothing that the program has.
+/// The arguments are wrong.
 const MISUSED: u8 = 2;
 
-/// Searches as the words after the program's name ask, prints each match in a line, and then `end`.
-/// Where that is not done, prints one line that says why.
+/// Searches as the arguments after the program's name say, and prints each match in a line, and then `end`. If that
+/// fails, prints one line that says why.
 ///
-/// Answers the status to end with: 0; 1 for a search that was refused or a write that failed, after
-/// which nothing more is written; 2 for words that ask for nothing that the program has.
+/// Returns the status to end with: 0, 1 if the search returned an error or a write failed, after which nothing more is
+/// written, or 2 if the arguments are wrong.
 pub fn run<W: Write>(alloc: Global, words: &[&str], out: &mut W) -> u8
     ensures { result ≤ 2 }
 {
     print(alloc, words, out).unwrap_or(FAILED)
 }
 
-/// Says that memory was refused before there were words, as [`run`] says it of a search, and answers the status.
+/// Prints that allocation failed before there were arguments, as [`run`] does for a search, and returns the status.
 pub fn refuse<W: Write>(out: &mut W) -> u8
     ensures { result ≤ 2 }
 {
@@ -45,8 +45,8 @@ fn print<W: Write>(alloc: Global, words: &[&str], out: &mut W) -> io::Result<u8>
     print_end(searched, out)
 }
 
-/// Prints what comes behind the matches: `end`, or one line that says why there are no more. Answers the status to end
-/// with, or that a write failed, the one that stopped the search among them.
+/// Prints what comes after the matches: `end`, or one line that says why there are no more. Returns the status to end
+/// with, or the error of a write, also of one that stopped the search.
 pub fn print_end<W: Write>(searched: Result<(), Stop>, out: &mut W) -> io::Result<u8>
     ensures { IfOk result (λ status. status ≤ 2) }
 {
@@ -78,7 +78,7 @@ fn print_matches<W: Write>(alloc: Global, words: &[&str], out: &mut W) -> Result
     }
 }
 
-/// The sample of that name. No name is unknown for want of memory.
+/// Returns the sample of this name. The error is `UnknownName` exactly if no sample has the name.
 fn nfa_named(alloc: Global, name: &str) -> Result<NFA, Stop>
     ensures { IfErr result (λ stop. (stop ≡ UnknownName) ↔ IsNoneOf name.now sample_names) }
 {
@@ -119,13 +119,13 @@ fn print_piked<W: Write>(
 
 fn print_match<W: Write>(out: &mut W, found: Match) -> io::Result<()> {
     let mut digits = itoa::Buffer::new();
-    for (number, behind) in [
+    for (number, after) in [
         (found.pattern().as_usize(), " "),
         (found.start(), ".."),
         (found.end(), "\n"),
     ] {
         out.write_all(digits.format(number).as_bytes())?;
-        out.write_all(behind.as_bytes())?;
+        out.write_all(after.as_bytes())?;
     }
     Ok(())
 }
@@ -150,13 +150,13 @@ impl Engine {
 /// Why the program stops before it is done.
 #[derive(Debug, Drop)]
 pub enum Stop {
-    /// The words are not those that the program wants.
+    /// The arguments are not those of the usage.
     Usage,
     /// No sample has that name.
     UnknownName,
     /// The haystack is too long for the engine.
     TooLong { len: usize },
-    /// A growth was refused.
+    /// An allocation failed.
     Memory,
     /// What was found could not be written.
     Write(io::Error),
@@ -183,8 +183,13 @@ impl fmt::Display for Stop {
     fn fmt<W: fmt::Write>(&self, f: &mut fmt::Formatter<W>) -> fmt::Result {
         match self {
             Stop::Usage => f.write_str("usage: nfa-bench back|pike NAME HAYSTACK"),
-            Stop::UnknownName => f.write_str("unknown name"),
-            Stop::TooLong { len } => write!(f, "haystack too long: {len}"),
+            Stop::UnknownName => {
+                f.write_str("no sample NFA has this name: docs/NFAS.md lists the names")
+            }
+            Stop::TooLong { len } => write!(
+                f,
+                "the haystack of {len} bytes is too long for the backtracker"
+            ),
             Stop::Memory => f.write_str("out of memory"),
             Stop::Write(error) => write!(f, "{error}"),
         }
@@ -197,7 +202,7 @@ impl From<BuildError> for Stop {
 
     ghost from_gives = { λ _ gives. gives ≡ stop.Memory };
 
-    // The samples are well formed, so only memory can be wanting.
+    // The samples are well formed, so only an allocation can have failed.
     fn from(_: BuildError) -> Stop {
         Stop::Memory
     }

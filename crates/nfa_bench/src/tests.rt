@@ -7,6 +7,8 @@ use std::process::Abort;
 
 const USAGE: &str = "usage: nfa-bench back|pike NAME HAYSTACK\n";
 
+const NO_NAME: &str = "no sample NFA has this name: docs/NFAS.md lists the names\n";
+
 fn expect_status(rt: &impl Abort, words: &[&str], ended: u8, status: u8) {
     assert_eq!(rt; ended, status, "{words:?}");
 }
@@ -15,7 +17,7 @@ fn expect_lines(rt: &impl Abort, words: &[&str], lines: &[u8], want: &str) {
     assert_eq!(rt; lines, want.as_bytes(), "{words:?}");
 }
 
-// These words make the program print this, and end with this status.
+// With these arguments the program prints this, and ends with this status.
 fn expect_run(rt: &impl Abort, alloc: Global, words: &[&str], want: &str, status: u8) {
     let mut out = Vec::new(alloc);
     let ended = run(alloc, words, &mut out);
@@ -49,7 +51,7 @@ fn both_engines_print_the_matches_and_the_end(rt: HostRuntime) {
     }
 }
 
-// Words that ask for nothing that the program has, and what it says.
+// Wrong arguments, and what is printed.
 const MISUSED: &[(&[&str], &str)] = &[
     (&[], USAGE),
     (&["back"], USAGE),
@@ -57,9 +59,9 @@ const MISUSED: &[(&[&str], &str)] = &[
     (&["back", "abc_a", "abc", "abc"], USAGE),
     (&["both", "abc_a", "x"], USAGE),
     (&["both", "nothing", "x"], USAGE),
-    (&["back", "nothing", "x"], "unknown name\n"),
-    (&["pike", "nothing", "x"], "unknown name\n"),
-    (&["back", "", "x"], "unknown name\n"),
+    (&["back", "nothing", "x"], NO_NAME),
+    (&["pike", "nothing", "x"], NO_NAME),
+    (&["back", "", "x"], NO_NAME),
 ];
 
 #[test]
@@ -69,17 +71,19 @@ fn says_why_it_does_not_search(rt: HostRuntime) {
     }
 }
 
+const TOO_LONG: &str = "the haystack of 19972 bytes is too long for the backtracker\n";
+
 // An engine, an NFA, how many full stops it searches, what is printed, and the status. The length of 19972 is the first
 // that is too long for the backtracker, and the PikeVM takes any.
 const LENGTHS: &[(&str, &str, usize, &str, u8)] = &[
     ("back", "alnum100", 19971, "end\n", 0),
-    ("back", "alnum100", 19972, "haystack too long: 19972\n", 1),
+    ("back", "alnum100", 19972, TOO_LONG, 1),
     ("pike", "alnum100", 19972, "end\n", 0),
     ("back", "abc", 100000, "end\n", 0),
     ("pike", "abc", 100000, "end\n", 0),
 ];
 
-// The haystack is lent, so that who owns it has no list of words that borrow from it.
+// The haystack is borrowed, so that its owner has no list of arguments that borrow from it.
 fn expect_answer(
     rt: &impl Abort,
     alloc: Global,
@@ -100,7 +104,7 @@ fn says_which_length_is_too_long(rt: HostRuntime) {
     }
 }
 
-// No test here can refuse memory, so the end of such a run is printed alone.
+// No test here can make an allocation fail, so only the end of such a run is printed.
 #[test]
 fn says_that_memory_was_refused(rt: HostRuntime) {
     let mut out = Vec::new(rt.alloc());
@@ -109,7 +113,7 @@ fn says_that_memory_was_refused(rt: HostRuntime) {
     expect_status(&rt, &[], ended, 1);
 }
 
-// Takes so many writes, and refuses each one after them. It may refuse to flush, too.
+// Takes `left` writes, and refuses each one after them. It may refuse to flush, too.
 #[derive(Drop)]
 struct Refusing {
     written: Vec<u8>,
@@ -149,11 +153,11 @@ impl Write for Refusing {
     }
 }
 
-// Words, what they print in whole, and the status with that.
+// Arguments, all that is printed, and the status.
 const WRITTEN: &[(&[&str], &str, u8)] = &[
     (&["back", "abc_a", "abc"], "0 0..3\nend\n", 0),
     (&["pike", "abc_a", "abc"], "0 0..3\nend\n", 0),
-    (&["back", "nothing", "abc"], "unknown name\n", 2),
+    (&["back", "nothing", "abc"], NO_NAME, 2),
 ];
 
 // One write was refused, and it was the last.

@@ -77,7 +77,8 @@ fn read_matches<'w>(alloc: Global, matches: &ArgMatches<'w>) -> Result<Command<'
         (Some(pattern), [haystack]) => (Source::Pattern(pattern), Some(*haystack)),
         (None, [name]) => (Source::Sample(*name), None),
         (None, [name, haystack]) => (Source::Sample(*name), Some(*haystack)),
-        _ => bail!("too many arguments after the haystack"),
+        (_, [.., last]) => bail!("expected no argument after the haystack, found {last:?}"),
+        (None, []) => bail!("expected the name of a sample NFA, found no argument"),
     };
     Ok(Command::Draw { source, haystack })
 }

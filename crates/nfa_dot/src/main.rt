@@ -71,7 +71,9 @@ fn draw(rt: &HostRuntime, source: Source<'_>, haystack: Option<&str>) -> Result<
 fn nfa_of(alloc: Global, source: Source<'_>) -> Result<NFA> {
     match source {
         Source::Sample(name) => {
-            sample(alloc, name)?.context(format_args!("there is no sample NFA {name:?}"))
+            sample(alloc, name)?.context(format_args!(
+                "no sample NFA has the name {name:?}: docs/NFAS.md lists the names"
+            ))
         }
         Source::Pattern(text) => Ok(Compiler::new().build(alloc, text)?),
     }

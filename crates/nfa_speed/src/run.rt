@@ -1,4 +1,4 @@
-//! The program: its words, the rounds over the haystack, and the line that it prints.
+//! The program: its arguments, the rounds over the haystack, and the line that it prints.
 ghost use Rattle.std.specs.Prelude.{◌≤◌, IfOk};
 ghost use Rattle.nfa_pikevm.specs.Engines.{Fits};
 
@@ -12,19 +12,19 @@ use std::io::{Read, Write};
 use std::{fmt, io};
 use thompson_nfa::{BuildError, NFA};
 
-/// The search failed, was refused, or its answer was not written.
+/// The search returned an error, or its answer was not written.
 const FAILED: u8 = 1;
 
-/// The words ask for nothing that the program has.
+/// The arguments are wrong.
 const MISUSED: u8 = 2;
 
-/// Searches the bytes of `haystack` as the words after the program's name ask, and prints the number
-/// of matches of the last round in a line. Where that is not done, prints one line that says why.
+/// Searches the bytes of `haystack` as the arguments after the program's name say, and prints the number of matches of
+/// the last round in a line. If that fails, prints one line that says why.
 ///
-/// Nothing is read before the words are understood.
+/// If the arguments are wrong, nothing is read.
 ///
-/// Answers the status to end with: 0; 1 for a search that was refused or a read or write that
-/// failed; 2 for words that ask for nothing that the program has.
+/// Returns the status to end with: 0, 1 if the search returned an error or a read or write failed, or 2 if the
+/// arguments are wrong.
 pub fn run<R: Read, W: Write>(alloc: Global, words: &[&str], haystack: &mut R, out: &mut W) -> u8
     ensures { result ≤ 2 }
 {
@@ -53,7 +53,7 @@ fn print<R: Read, W: Write>(
     Ok(status)
 }
 
-/// How many matches the last of the rounds has that the words ask for.
+/// Returns the number of matches of the last round.
 fn matches_of_words<R: Read>(alloc: Global, words: &[&str], haystack: &mut R) -> Result<u64, Stop> {
     let [engine, name, rounds] = words else {
         return Err(Stop::Usage);
@@ -169,16 +169,21 @@ impl fmt::Display for Stop {
     fn fmt<W: fmt::Write>(&self, f: &mut fmt::Formatter<W>) -> fmt::Result {
         match self {
             Stop::Usage => f.write_str("usage: nfa-speed back|pike NAME ROUNDS"),
-            Stop::UnknownName => f.write_str("unknown name"),
-            Stop::TooLong { len } => write!(f, "haystack too long: {len}"),
+            Stop::UnknownName => {
+                f.write_str("no sample NFA has this name: docs/NFAS.md lists the names")
+            }
+            Stop::TooLong { len } => write!(
+                f,
+                "the haystack of {len} bytes is too long for the backtracker"
+            ),
             Stop::Memory => f.write_str("out of memory"),
-            Stop::Read(error) => write!(f, "{error}"),
+            Stop::Read(error) => write!(f, "cannot read the haystack: {error}"),
         }
     }
 }
 
 impl From<BuildError> for Stop {
-    // The samples are well formed, so only memory can be wanting.
+    // The samples are well formed, so only an allocation can have failed.
     fn from(_: BuildError) -> Stop {
         Stop::Memory
     }
