@@ -5,10 +5,12 @@ ghost use Rattle.nfa_engines.specs.Patterns.{number_of};
 ghost use Rattle.nfa_engines.specs.Search.{search_of};
 ghost use Rattle.nfa_engines.specs.Anchored.TheVariants.{Yes};
 ghost use Rattle.nfa_engines.specs.MatchKind.TheVariants.{LeftmostFirst};
+ghost use Rattle.nfa_engines.specs.AlikeLaws.{byte_before, AreSidesSame, EachLook, IsLineEdge, IsOfLines};
+ghost use Rattle.nfa_engines.specs.AlikeLaws.{ReadsBytes};
 ghost use Rattle.nfa_engines.specs.Engines.{Fits, kind_of};
 ghost use Rattle.nfa_engines.specs.Paths.{is_utf8_empty, IsAnswer, IsFindAnswer};
 ghost use Rattle.nfa_engines.specs.PatternLaws.{IsOfPattern, TriesPatternsInOrder};
-ghost use Rattle.nfa_engines.specs.SpanLaws.{moved_match, HasNoLook};
+ghost use Rattle.nfa_engines.specs.SpanLaws.{moved_match, HasNoLook, IsSameSpan};
 ghost use Rattle.nfa_engines.specs.StartLaws.{IsFirstStart, IsUnbound};
 
 use nfa_engines::pikevm::{Cache, PikeVM};
@@ -150,4 +152,57 @@ pub fn line_in_text(
     let cut = Input::new(&text[start..end]);
     let alone = vm.find(cache, cut);
     (inside, alone)
+}
+
+/// Returns the match in a line of a text, and the match in the line cut out. They differ by the start of the line: all
+/// assertions are `StartLF` and `EndLF`, and hold alike in both.
+pub fn whole_line_in_text(
+    vm: &PikeVM,
+    cache: &mut Cache,
+    text: &[u8],
+    start: usize,
+    end: usize,
+) -> (Option<Match>, Option<Match>)
+    requires fits { Fits cache.old vm.now.nfa }
+    requires lines { EachLook IsOfLines vm.now.nfa }
+    requires anywhere { is_utf8_empty vm.now.nfa ≡ false }
+    requires ordered { start ≤ end }
+    requires within { end ≤ length text.now }
+    requires before { IsLineEdge (byte_before text.now start) }
+    requires after { IsLineEdge (slice_get text.now end) }
+    ensures { option_map found_of result.0 ≡ option_map (moved_match start) (option_map found_of result.1) }
+{
+    laws::answers_read_span_and_assertions();
+    laws::assertions_hold_alike();
+    laws::one_match();
+    let all = Input::new(text);
+    let line = all.range(start..end);
+    let inside = vm.find(cache, line);
+    let cut = Input::new(&text[start..end]);
+    let alone = vm.find(cache, cut);
+    (inside, alone)
+}
+
+/// Returns the matches of two searches with the same span in two texts, which have the same bytes there and next to it.
+/// They are one match, since no assertion is of a Unicode word.
+pub fn found_in_both_texts(
+    vm: &PikeVM,
+    cache: &mut Cache,
+    input: Input<'_>,
+    other: Input<'_>,
+) -> (Option<Match>, Option<Match>)
+    requires fits { Fits cache.old vm.now.nfa }
+    requires bytes { EachLook ReadsBytes vm.now.nfa }
+    requires anywhere { is_utf8_empty vm.now.nfa ≡ false }
+    requires span { IsSameSpan (search_of input) (search_of other) }
+    requires sides { AreSidesSame (search_of input) (search_of other) }
+    requires flag { (search_of other).earliest ≡ (search_of input).earliest }
+    ensures { option_map found_of result.0 ≡ option_map found_of result.1 }
+{
+    laws::answers_read_span_and_assertions();
+    laws::assertions_hold_alike();
+    laws::one_match();
+    let found = vm.find(cache, input);
+    let same = vm.find(cache, other);
+    (found, same)
 }

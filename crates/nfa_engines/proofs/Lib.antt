@@ -15,6 +15,7 @@ pub mod MovedGraphLemmas
 pub mod FirstStartLemmas
 pub mod StartAnswerLemmas
 pub mod SpanLemmas
+pub mod AlikeLemmas
 pub mod AloneLemmas
 pub mod FirstPatternLemmas
 pub mod PatternAnswerLemmas

@@ -1,5 +1,6 @@
--- A graph whose edges and starts are those of another, moved by a distance, has the same paths, moved.
-use Rattle.std.proofs.Common.{◌≡◌, ℕ, ◌≤◌, ◌↔◌, inl, inr, List, [], ◌∷◌, refl, sym, ap, subst, arith}
+-- A graph whose edges and starts are those of another, moved by a distance, has the same paths, moved. Only the pairs
+-- that are inside count: those that a path may lead through.
+use Rattle.std.proofs.Common.{◌≡◌, ℕ, ◌↔◌, inl, inr, List, [], ◌∷◌, refl, sym, ap, subst, arith}
 use Rattle.nfa_paths.specs.Graphs.{Pair, In, Earlier, HeadIs, NoRepeats, Linked, EndsWith, BeforeAfter, ComesBefore}
 use Rattle.nfa_engines.proofs.MovedLemmas.{moved, moved_path, moved-injective, ArePathsMoved}
 
@@ -56,24 +57,24 @@ module _ (k : ℕ) where
     elim h.1 [ inl is ↦ inl (moved-injective k e a is) | inr later ↦ inr (Earlier-back es a b later) ],
   )
 
--- The edges do not lead back, the starts are at `low` or after it, and from there on each edge moves.
-pub record AreEdgesMoved (edges edges_to : Pair → List Pair) (starts starts_to : List Pair) (k low : ℕ) : Type 0 where
-  pub onward : (v w : Pair) → In w (edges v) → v.1 ≤ w.1
-  pub from : (v : Pair) → In v starts → low ≤ v.1
-  pub edges_are : (v : Pair) → low ≤ v.1 → edges_to (moved k v) ≡ moved_path k (edges v)
+-- The starts are inside, edges lead from pairs inside to pairs inside, and each edge from a pair inside moves.
+pub record AreEdgesMoved (edges edges_to : Pair → List Pair) (starts starts_to : List Pair) (k : ℕ)
+    (Inside : Pair → Type 0) : Type 0 where
+  pub onward : (v w : Pair) → Inside v → In w (edges v) → Inside w
+  pub from : (v : Pair) → In v starts → Inside v
+  pub edges_are : (v : Pair) → Inside v → edges_to (moved k v) ≡ moved_path k (edges v)
   pub starts_are : starts_to ≡ moved_path k starts
 
-module _ (edges edges_to : Pair → List Pair) (starts starts_to : List Pair) (k low : ℕ)
-    (same : AreEdgesMoved edges edges_to starts starts_to k low) where
-  Linked-moved : (v : Pair) (p : List Pair) → low ≤ v.1 → HeadIs v p → Linked edges p
+module _ (edges edges_to : Pair → List Pair) (starts starts_to : List Pair) (k : ℕ) (Inside : Pair → Type 0)
+    (same : AreEdgesMoved edges edges_to starts starts_to k Inside) where
+  Linked-moved : (v : Pair) (p : List Pair) → Inside v → HeadIs v p → Linked edges p
       → Linked edges_to (moved_path k p)
-  Linked-moved v [] past head linked = linked
-  Linked-moved v (a ∷ []) past head linked = linked
-  Linked-moved v (a ∷ (b ∷ p)) past head linked =
-      let at : a.1 ≡ v.1 = ap (λ (z : Pair). z.1) head in
-      let on : a.1 ≤ b.1 = same.onward a b linked.0 in (
-        subst (In (moved k b)) (sym (same.edges_are a (omega arith))) (In-moved k b (edges a) linked.0),
-        Linked-moved b (b ∷ p) (omega arith) refl linked.1,
+  Linked-moved v [] inside head linked = linked
+  Linked-moved v (a ∷ []) inside head linked = linked
+  Linked-moved v (a ∷ (b ∷ p)) inside head linked =
+      let here : Inside a = subst Inside (sym head) inside in (
+        subst (In (moved k b)) (sym (same.edges_are a here)) (In-moved k b (edges a) linked.0),
+        Linked-moved b (b ∷ p) (same.onward a b here linked.0) refl linked.1,
       )
 
   -- a list that moves to the linked one
@@ -87,16 +88,15 @@ module _ (edges edges_to : Pair → List Pair) (starts starts_to : List Pair) (k
   put v w [] edge head linked = tt
   put v w (a ∷ p) edge head linked = (subst (λ z. In z (edges v)) (sym head) edge, linked)
 
-  Linked-back : (v : Pair) (q : List Pair) → low ≤ v.1 → HeadIs (moved k v) q → Linked edges_to q → ComesOf v q
-  Linked-back v [] past head linked = absurd head
-  Linked-back v (a ∷ []) past head linked =
+  Linked-back : (v : Pair) (q : List Pair) → Inside v → HeadIs (moved k v) q → Linked edges_to q → ComesOf v q
+  Linked-back v [] inside head linked = absurd head
+  Linked-back v (a ∷ []) inside head linked =
       record { along = v ∷ []; head = refl; linked = tt; is = ap (λ (z : Pair). z ∷ []) head }
-  Linked-back v (a ∷ (b ∷ q)) past head linked =
-      let edge : In b (moved_path k (edges v)) = subst (In b) (same.edges_are v past)
+  Linked-back v (a ∷ (b ∷ q)) inside head linked =
+      let edge : In b (moved_path k (edges v)) = subst (In b) (same.edges_are v inside)
       (subst (λ z. In b (edges_to z)) head linked.0) in
       let from = In-back k b (edges v) edge in
-      let on : v.1 ≤ from.0.1 = same.onward v from.0 from.1 in
-      let rest = Linked-back from.0 (b ∷ q) (omega arith) from.2 linked.1 in
+      let rest = Linked-back from.0 (b ∷ q) (same.onward v from.0 inside from.1) from.2 linked.1 in
       record {
         along = v ∷ rest.along;
         head = refl;
@@ -104,45 +104,45 @@ module _ (edges edges_to : Pair → List Pair) (starts starts_to : List Pair) (k
         is = λ i. head i ∷ rest.is i;
       }
 
-  BeforeAfter-moved : (v : Pair) (p q : List Pair) → low ≤ v.1 → Linked edges (v ∷ p) → BeforeAfter edges v p q
+  BeforeAfter-moved : (v : Pair) (p q : List Pair) → Inside v → Linked edges (v ∷ p) → BeforeAfter edges v p q
       → BeforeAfter edges_to (moved k v) (moved_path k p) (moved_path k q)
-  BeforeAfter-moved v [] q past linked h = h
-  BeforeAfter-moved v (a ∷ p) [] past linked h = h
-  BeforeAfter-moved v (a ∷ p) (b ∷ q) past linked (inl first) =
-      inl (subst (λ es. Earlier es (moved k a) (moved k b)) (sym (same.edges_are v past))
+  BeforeAfter-moved v [] q inside linked h = h
+  BeforeAfter-moved v (a ∷ p) [] inside linked h = h
+  BeforeAfter-moved v (a ∷ p) (b ∷ q) inside linked (inl first) =
+      inl (subst (λ es. Earlier es (moved k a) (moved k b)) (sym (same.edges_are v inside))
       (Earlier-moved k (edges v) a b first))
-  BeforeAfter-moved v (a ∷ p) (b ∷ q) past linked (inr later) =
-      let on : v.1 ≤ a.1 = same.onward v a linked.0 in
-      inr (ap (moved k) later.0, BeforeAfter-moved a p q (omega arith) linked.1 later.1)
+  BeforeAfter-moved v (a ∷ p) (b ∷ q) inside linked (inr later) =
+      inr (ap (moved k) later.0, BeforeAfter-moved a p q (same.onward v a inside linked.0) linked.1 later.1)
 
-  BeforeAfter-back : (v : Pair) (p q : List Pair) → low ≤ v.1 → Linked edges (v ∷ p)
+  BeforeAfter-back : (v : Pair) (p q : List Pair) → Inside v → Linked edges (v ∷ p)
       → BeforeAfter edges_to (moved k v) (moved_path k p) (moved_path k q)
       → BeforeAfter edges v p q
-  BeforeAfter-back v [] q past linked h = h
-  BeforeAfter-back v (a ∷ p) [] past linked h = h
-  BeforeAfter-back v (a ∷ p) (b ∷ q) past linked (inl first) =
+  BeforeAfter-back v [] q inside linked h = h
+  BeforeAfter-back v (a ∷ p) [] inside linked h = h
+  BeforeAfter-back v (a ∷ p) (b ∷ q) inside linked (inl first) =
       inl (Earlier-back k (edges v) a b
-      (subst (λ es. Earlier es (moved k a) (moved k b)) (same.edges_are v past) first))
-  BeforeAfter-back v (a ∷ p) (b ∷ q) past linked (inr later) =
-      let on : v.1 ≤ a.1 = same.onward v a linked.0 in
-      inr (moved-injective k a b later.0, BeforeAfter-back a p q (omega arith) linked.1 later.1)
+      (subst (λ es. Earlier es (moved k a) (moved k b)) (same.edges_are v inside) first))
+  BeforeAfter-back v (a ∷ p) (b ∷ q) inside linked (inr later) =
+      inr (
+        moved-injective k a b later.0,
+        BeforeAfter-back a p q (same.onward v a inside linked.0) linked.1 later.1,
+      )
 
-  order-moved : (v : Pair) (p q : List Pair) → low ≤ v.1 → HeadIs v p → Linked edges p
+  order-moved : (v : Pair) (p q : List Pair) → Inside v → HeadIs v p → Linked edges p
       → ComesBefore edges p q ↔ ComesBefore edges_to (moved_path k p) (moved_path k q)
-  order-moved v [] q past head linked = (λ h. h, λ h. h)
-  order-moved v (a ∷ p) [] past head linked = (λ h. h, λ h. h)
-  order-moved v (a ∷ p) (b ∷ q) past head linked =
-      let at : a.1 ≡ v.1 = ap (λ (z : Pair). z.1) head in
-      let low_at : low ≤ a.1 = omega arith in (
+  order-moved v [] q inside head linked = (λ h. h, λ h. h)
+  order-moved v (a ∷ p) [] inside head linked = (λ h. h, λ h. h)
+  order-moved v (a ∷ p) (b ∷ q) inside head linked =
+      let here : Inside a = subst Inside (sym head) inside in (
         λ h.
             elim h [
               | inl less ↦ inl (omega arith)
-              | inr before ↦ inr (ap (moved k) before.0, BeforeAfter-moved a p q low_at linked before.1)
+              | inr before ↦ inr (ap (moved k) before.0, BeforeAfter-moved a p q here linked before.1)
             ],
         λ h.
             elim h [
               | inl less ↦ inl (omega arith)
-              | inr before ↦ inr (moved-injective k a b before.0, BeforeAfter-back a p q low_at linked before.1)
+              | inr before ↦ inr (moved-injective k a b before.0, BeforeAfter-back a p q here linked before.1)
             ],
       )
 

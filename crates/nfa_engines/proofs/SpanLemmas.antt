@@ -1,8 +1,8 @@
--- An NFA without assertions reads only the bytes of the span, and not the place of the span.
-use Rattle.std.proofs.Common.{◌≡◌, ◌∙◌, ℕ, zero, suc, ◌+◌, ◌-◌, ◌==◌, ◌||◌, ◌≤◌, ◌<◌, inl, inr, Bool, false, List, []}
-use Rattle.std.proofs.Common.{◌∷◌, length}
+-- An NFA reads only the bytes of the span and whether its assertions hold there, and not the place of the span.
+use Rattle.std.proofs.Common.{◌≡◌, ◌∙◌, ℕ, zero, suc, ◌+◌, ◌-◌, ◌==◌, ◌||◌, ◌≤◌, ◌<◌, inl, inr, Bool, true, false, List}
+use Rattle.std.proofs.Common.{[], ◌∷◌, length}
 use Rattle.std.proofs.Common.{map, take, drop, get_or, refl, sym, ap, subst, arith, le-ltb, lt-ltb, if◌then◌else◌}
-use Rattle.std.specs.Prelude.{Option, None, Some, option_map, option_and_then, option_to_list, slice_get}
+use Rattle.std.specs.Prelude.{All, Option, None, Some, option_map, option_and_then, option_to_list, slice_get}
 use Rattle.std.specs.Option.{option_map_or}
 use Rattle.std.proofs.lemmas.Bool.{cases_lt}
 use Rattle.std.proofs.lemmas.List.{get_or_past}
@@ -11,27 +11,40 @@ use Rattle.regex_search_core.specs.Search.{Search, is_anchored}
 use Rattle.regex_search_core.specs.declared.search.MatchKind.{MatchKind}
 use Rattle.thompson_nfa.specs.Automaton.{Automaton, Node}
 use Rattle.thompson_nfa.specs.Automaton.Node.{ByteRange, Sparse, Dense, Look, Union, BinaryUnion, Capture, Fail, Match}
+use Rattle.thompson_nfa.specs.Looks.{look_holds}
 use Rattle.nfa_paths.specs.Graphs.{Pair, In}
 use Rattle.nfa_paths.specs.Paths.{byte_at, edges, edges_of, is_utf8_empty, node_at, pairs_from, start_count}
 use Rattle.nfa_paths.specs.Paths.{start_state, starts, target_on, IsAnswer, IsMatch, IsFindAnswer}
-use Rattle.nfa_paths.proofs.ScanAnswerLemmas.{edges-onward}
-use Rattle.nfa_paths.proofs.StartLemmas.{pairs_from-ahead}
+use Rattle.nfa_paths.proofs.ScanAnswerLemmas.{edges-onward, edges-within, starts-from, starts-within}
 use Rattle.nfa_engines.specs.SpanLaws.{cut_out, moved_match, moved_slots, AreBytesMoved, AssertsNothing, HasNoLook}
-use Rattle.nfa_engines.specs.SpanLaws.{IsSameSpan, IsSpanMoved}
+use Rattle.nfa_engines.specs.SpanLaws.{HoldAlike, HoldsAlike, IsSameSpan, IsSpanMoved}
 use Rattle.nfa_engines.proofs.MovedLemmas.{moved_path, ArePathsMoved}
 use Rattle.nfa_engines.proofs.MovedAnswerLemmas.{answer-moved, match_answer-moved, moved_match-none, moved_slots-none}
 use Rattle.nfa_engines.proofs.MovedGraphLemmas.{paths-moved}
 
--- no state asserts anything
-plain-at : (nfa : Automaton) → HasNoLook nfa → (state : ℕ) → AssertsNothing (node_at nfa state)
+-- what holds of each state of the NFA holds at each number
+all-at : (nfa : Automaton) (P : Node → Type 0) → P Fail → All P nfa.states → (state : ℕ) → P (node_at nfa state)
 unfolding node_at
-plain-at nfa plain state =
+all-at nfa P none all state =
     elim (cases_lt state (length nfa.states)) [
-      | inl inside ↦ plain state Fail inside
-      | inr past ↦
-          let fail : get_or nfa.states state Fail ≡ Fail = get_or_past nfa.states state Fail past in
-          subst AssertsNothing (sym fail) tt
+      | inl inside ↦ all state Fail inside
+      | inr past ↦ subst P (sym (get_or_past nfa.states state Fail past)) none
     ]
+
+-- the assertions of an NFA without assertions hold alike
+pub no-look-alike : (nfa : Automaton) (k : ℕ) (x y : Search) → HasNoLook nfa → HoldAlike nfa k x y
+no-look-alike nfa k x y plain = λ i d inside. of (get_or nfa.states i d) (plain i d inside)
+  where
+    of : (node : Node) → AssertsNothing node → HoldsAlike k x y node
+    of (ByteRange t) h = tt
+    of (Sparse ts) h = tt
+    of (Dense targets) h = tt
+    of (Look look next) h = absurd h
+    of (Union alternates) h = tt
+    of (BinaryUnion a b) h = tt
+    of (Capture next slot) h = tt
+    of Fail h = tt
+    of (Match pattern) h = tt
 
 pairs-moved : (k state at count : ℕ) → pairs_from state (at + k) count ≡ moved_path k (pairs_from state at count)
 pairs-moved k state at zero = refl
@@ -60,7 +73,13 @@ union-moved : (k p : ℕ) (alternates : List ℕ)
 union-moved k p [] = refl
 union-moved k p (a ∷ alternates) = ap (λ (ps : List Pair). (a, p + k) ∷ ps) (union-moved k p alternates)
 
-module _ (nfa : Automaton) (k : ℕ) (x y : Search) (plain : HasNoLook nfa) (span : IsSpanMoved k x y)
+-- the pair after an assertion, moved
+look-moved : (k p next : ℕ) (b : Bool)
+    → (if b then (next, p + k) ∷ [] else []) ≡ moved_path k (if b then (next, p) ∷ [] else [])
+look-moved k p next true = refl
+look-moved k p next false = refl
+
+module _ (nfa : Automaton) (k : ℕ) (x y : Search) (alike : HoldAlike nfa k x y) (span : IsSpanMoved k x y)
     (bytes : AreBytesMoved k x y) where
   -- the second search
   abbrev there : Search
@@ -91,18 +110,20 @@ module _ (nfa : Automaton) (k : ℕ) (x y : Search) (plain : HasNoLook nfa) (spa
       (option_and_then (λ b. option_map (λ (next : ℕ). (next, p + k + 1)) (target_on node b)) o)) (byte-moved p past)
       ∙ leads-moved k p node (byte_at x p)
 
-  edges-at : (node : Node) → AssertsNothing node → (p : ℕ) → x.start ≤ p
+  edges-at : (node : Node) → HoldsAlike k x y node → (p : ℕ) → x.start ≤ p → p ≤ x.end
       → edges_of there node (p + k) ≡ moved_path k (edges_of x node p)
   unfolding edges_of
-  edges-at (ByteRange t) h p past = byte_edges-moved (ByteRange t) p past
-  edges-at (Sparse ts) h p past = byte_edges-moved (Sparse ts) p past
-  edges-at (Dense targets) h p past = byte_edges-moved (Dense targets) p past
-  edges-at (Look look next) h p past = absurd h
-  edges-at (Union alternates) h p past = union-moved k p alternates
-  edges-at (BinaryUnion a b) h p past = refl
-  edges-at (Capture next slot) h p past = refl
-  edges-at Fail h p past = refl
-  edges-at (Match pattern) h p past = refl
+  edges-at (ByteRange t) h p past within = byte_edges-moved (ByteRange t) p past
+  edges-at (Sparse ts) h p past within = byte_edges-moved (Sparse ts) p past
+  edges-at (Dense targets) h p past within = byte_edges-moved (Dense targets) p past
+  edges-at (Look look next) h p past within =
+      ap (λ (b : Bool). if b then (next, p + k) ∷ [] else []) (h p past within)
+      ∙ look-moved k p next (look_holds look x.haystack p)
+  edges-at (Union alternates) h p past within = union-moved k p alternates
+  edges-at (BinaryUnion a b) h p past within = refl
+  edges-at (Capture next slot) h p past within = refl
+  edges-at Fail h p past within = refl
+  edges-at (Match pattern) h p past within = refl
 
   count-moved : start_count nfa there ≡ start_count nfa x
   count-moved =
@@ -125,21 +146,24 @@ module _ (nfa : Automaton) (k : ℕ) (x y : Search) (plain : HasNoLook nfa) (spa
       of None = refl
       of (Some state) = pairs-moved k state x.start (start_count nfa x)
 
-  start-past : (v : Pair) → In v (starts nfa x) → x.start ≤ v.1
-  start-past v i = of (start_state nfa x.anchored) i
-    where
-      of : (o : Option ℕ) → In v (option_map_or (λ state. pairs_from state x.start (start_count nfa x)) o [])
-          → x.start ≤ v.1
-      of None i = absurd i
-      of (Some state) i = pairs_from-ahead state x.start (start_count nfa x) v i
+  -- the position is one of the span or its end
+  abbrev Inside : Pair → Type 0
+  Inside v = (x.start ≤ v.1) × (v.1 ≤ x.end)
+
+  inside-onward : (v w : Pair) → Inside v → In w (edges nfa x v) → Inside w
+  inside-onward v w inside edge =
+      let past : x.start ≤ v.1 = inside.0 in
+      let on : v.1 ≤ w.1 = edges-onward nfa x v w edge in
+      (omega arith, edges-within nfa x v w edge inside.1)
 
   span-paths : ArePathsMoved (edges nfa x) (edges nfa there) (starts nfa x) (starts nfa there) (IsMatch nfa) k
   span-paths =
-      paths-moved (edges nfa x) (edges nfa there) (starts nfa x) (starts nfa there) k x.start
+      paths-moved (edges nfa x) (edges nfa there) (starts nfa x) (starts nfa there) k Inside
       (record {
-        onward = edges-onward nfa x;
-        from = start-past;
-        edges_are = λ v past. edges-at (node_at nfa v.0) (plain-at nfa plain v.0) v.1 past;
+        onward = inside-onward;
+        from = λ v i. (starts-from nfa x v i, starts-within nfa x v i);
+        edges_are = λ v inside.
+            edges-at (node_at nfa v.0) (all-at nfa (HoldsAlike k x y) tt alike v.0) v.1 inside.0 inside.1;
         starts_are = starts-moved;
       })
       (IsMatch nfa) (λ m. (λ h. h, λ h. h))
@@ -171,18 +195,18 @@ same-bytes x y h = λ i past below.
     ap (slice_get y.haystack) at ∙ h.bytes i past below
 
 pub same-answer : (nfa : Automaton) (x y : Search) (kind : MatchKind) (earliest : Bool)
-    (pattern : Option ℕ) (slots : List (Option ℕ)) → HasNoLook nfa → is_utf8_empty nfa ≡ false → IsSameSpan x y
+    (pattern : Option ℕ) (slots : List (Option ℕ)) → HoldAlike nfa 0 x y → is_utf8_empty nfa ≡ false → IsSameSpan x y
     → IsAnswer nfa kind earliest x pattern slots → IsAnswer nfa kind earliest y pattern slots
-same-answer nfa x y kind earliest pattern slots plain anywhere same h =
+same-answer nfa x y kind earliest pattern slots alike anywhere same h =
     subst (IsAnswer nfa kind earliest y pattern) (moved_slots-none slots)
-    (span-answer nfa 0 x y plain (same-moved x y same) (same-bytes x y same) anywhere kind earliest pattern slots h)
+    (span-answer nfa 0 x y alike (same-moved x y same) (same-bytes x y same) anywhere kind earliest pattern slots h)
 
 pub same-match : (nfa : Automaton) (x y : Search) (kind : MatchKind) (earliest : Bool) (found : Option Found)
-    → HasNoLook nfa → is_utf8_empty nfa ≡ false → IsSameSpan x y
+    → HoldAlike nfa 0 x y → is_utf8_empty nfa ≡ false → IsSameSpan x y
     → IsFindAnswer nfa kind earliest x found → IsFindAnswer nfa kind earliest y found
-same-match nfa x y kind earliest found plain anywhere same h =
+same-match nfa x y kind earliest found alike anywhere same h =
     subst (IsFindAnswer nfa kind earliest y) (moved_match-none found)
-    (span-match nfa 0 x y plain (same-moved x y same) (same-bytes x y same) anywhere kind earliest found h)
+    (span-match nfa 0 x y alike (same-moved x y same) (same-bytes x y same) anywhere kind earliest found h)
 
 -- the span cut out
 
@@ -199,25 +223,25 @@ get-drop [] (suc n) i = refl
 get-drop (x ∷ xs) (suc n) i =
     let at : suc (i + n) ≡ i + suc n = omega arith in get-drop xs n i ∙ ap (slice_get (x ∷ xs)) at
 
-cut-moved : (x : Search) → x.start ≤ x.end → IsSpanMoved x.start (cut_out x) x
+pub cut-moved : (x : Search) → x.start ≤ x.end → IsSpanMoved x.start (cut_out x) x
 cut-moved x ordered = record { start = omega arith; end = omega arith; anchored = refl }
 
-cut-bytes : (x : Search) → AreBytesMoved x.start (cut_out x) x
+pub cut-bytes : (x : Search) → AreBytesMoved x.start (cut_out x) x
 cut-bytes x = λ i past below.
     sym (get-take (drop x.start x.haystack) (x.end - x.start) i below ∙ get-drop x.haystack x.start i)
 
 pub cut-answer : (nfa : Automaton) (x : Search) (kind : MatchKind) (earliest : Bool)
     (pattern : Option ℕ) (slots : List (Option ℕ))
-    → HasNoLook nfa → is_utf8_empty nfa ≡ false → x.start ≤ x.end
+    → HoldAlike nfa x.start (cut_out x) x → is_utf8_empty nfa ≡ false → x.start ≤ x.end
     → IsAnswer nfa kind earliest (cut_out x) pattern slots
     → IsAnswer nfa kind earliest x pattern (moved_slots x.start slots)
-cut-answer nfa x kind earliest pattern slots plain anywhere ordered h =
-    span-answer nfa x.start (cut_out x) x plain (cut-moved x ordered) (cut-bytes x) anywhere kind earliest pattern slots
+cut-answer nfa x kind earliest pattern slots alike anywhere ordered h =
+    span-answer nfa x.start (cut_out x) x alike (cut-moved x ordered) (cut-bytes x) anywhere kind earliest pattern slots
     h
 
 pub cut-match : (nfa : Automaton) (x : Search) (kind : MatchKind) (earliest : Bool) (found : Option Found)
-    → HasNoLook nfa → is_utf8_empty nfa ≡ false → x.start ≤ x.end
+    → HoldAlike nfa x.start (cut_out x) x → is_utf8_empty nfa ≡ false → x.start ≤ x.end
     → IsFindAnswer nfa kind earliest (cut_out x) found
     → IsFindAnswer nfa kind earliest x (option_map (moved_match x.start) found)
-cut-match nfa x kind earliest found plain anywhere ordered h =
-    span-match nfa x.start (cut_out x) x plain (cut-moved x ordered) (cut-bytes x) anywhere kind earliest found h
+cut-match nfa x kind earliest found alike anywhere ordered h =
+    span-match nfa x.start (cut_out x) x alike (cut-moved x ordered) (cut-bytes x) anywhere kind earliest found h

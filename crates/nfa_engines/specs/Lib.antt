@@ -1,4 +1,5 @@
 pub mod Accepting
+pub mod AlikeLaws
 pub mod AnswerLaws
 pub mod CapacityLaws
 pub mod CapturesLaws

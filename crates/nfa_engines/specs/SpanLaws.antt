@@ -1,4 +1,5 @@
--- Laws of what an answer depends on: the bytes of the span, and not the place of the span.
+-- Laws of what an answer depends on: the bytes of the span and the assertions that hold there, and not the place of the
+-- span.
 use Rattle.std.specs.Prelude.{◌≡◌, ℕ, ◌+◌, ◌-◌, ◌<◌, ◌≤◌, Bool, false, List, map, All, take, drop}
 use Rattle.std.specs.Prelude.{Option, option_map, slice_get, ⊤}
 use Rattle.regex_search_core.specs.Found.{Found}
@@ -6,6 +7,7 @@ use Rattle.regex_search_core.specs.Search.{Search}
 use Rattle.regex_search_core.specs.declared.search.MatchKind.{MatchKind}
 use Rattle.thompson_nfa.specs.Automaton.{Automaton, Node}
 use Rattle.thompson_nfa.specs.Automaton.Node.{Look}
+use Rattle.thompson_nfa.specs.Looks.{look_holds}
 use Rattle.nfa_paths.specs.Paths.{is_utf8_empty, IsAnswer, IsFindAnswer}
 
 -- each slot that is set, this many positions to the right
@@ -97,5 +99,66 @@ abbrev pub CutOutMatches : Type 0
 CutOutMatches =
     (nfa : Automaton) (x : Search) (kind : MatchKind) (earliest : Bool) (found : Option Found)
     → HasNoLook nfa → is_utf8_empty nfa ≡ false → x.start ≤ x.end
+    → IsFindAnswer nfa kind earliest (cut_out x) found
+    → IsFindAnswer nfa kind earliest x (option_map (moved_match x.start) found)
+
+-- If the state is an assertion, it holds at a position of the first span, its end included, exactly if it holds this
+-- many positions to the right in the second haystack.
+abbrev pub HoldsAlike : ℕ → Search → Search → Node → Type 0
+HoldsAlike k x y (Look look next) =
+    (at : ℕ) → x.start ≤ at → at ≤ x.end → look_holds look y.haystack (at + k) ≡ look_holds look x.haystack at
+HoldsAlike k x y _ = ⊤
+
+-- Each assertion of the NFA holds alike in both spans. If the NFA has no assertion, this is true.
+abbrev pub HoldAlike : Automaton → ℕ → Search → Search → Type 0
+HoldAlike nfa k x y = All (HoldsAlike k x y) nfa.states
+
+-- An NFA reads only the bytes of the span and whether its assertions hold there. If the span and its bytes are those of
+-- another search, moved, and assertions hold alike, then the answer is moved, too, for each kind.
+abbrev pub AnswersMoveAlike : Type 0
+AnswersMoveAlike =
+    (nfa : Automaton) (k : ℕ) (x y : Search) (kind : MatchKind) (earliest : Bool)
+    (pattern : Option ℕ) (slots : List (Option ℕ))
+    → HoldAlike nfa k x y → is_utf8_empty nfa ≡ false → IsSpanMoved k x y → AreBytesMoved k x y
+    → IsAnswer nfa kind earliest x pattern slots → IsAnswer nfa kind earliest y pattern (moved_slots k slots)
+
+-- and so is the match
+abbrev pub MatchesMoveAlike : Type 0
+MatchesMoveAlike =
+    (nfa : Automaton) (k : ℕ) (x y : Search) (kind : MatchKind) (earliest : Bool) (found : Option Found)
+    → HoldAlike nfa k x y → is_utf8_empty nfa ≡ false → IsSpanMoved k x y → AreBytesMoved k x y
+    → IsFindAnswer nfa kind earliest x found
+    → IsFindAnswer nfa kind earliest y (option_map (moved_match k) found)
+
+-- Two searches with the same span and the same bytes in it, in which assertions hold alike, have the same answer.
+abbrev pub AnswersReadAssertions : Type 0
+AnswersReadAssertions =
+    (nfa : Automaton) (x y : Search) (kind : MatchKind) (earliest : Bool)
+    (pattern : Option ℕ) (slots : List (Option ℕ))
+    → HoldAlike nfa 0 x y → is_utf8_empty nfa ≡ false → IsSameSpan x y
+    → IsAnswer nfa kind earliest x pattern slots → IsAnswer nfa kind earliest y pattern slots
+
+-- and the same match
+abbrev pub MatchesReadAssertions : Type 0
+MatchesReadAssertions =
+    (nfa : Automaton) (x y : Search) (kind : MatchKind) (earliest : Bool) (found : Option Found)
+    → HoldAlike nfa 0 x y → is_utf8_empty nfa ≡ false → IsSameSpan x y
+    → IsFindAnswer nfa kind earliest x found → IsFindAnswer nfa kind earliest y found
+
+-- If assertions hold alike in a span and in the text that is cut out of it, the answer is the same, moved by the start
+-- of the span.
+abbrev pub CutOutAnswersAlike : Type 0
+CutOutAnswersAlike =
+    (nfa : Automaton) (x : Search) (kind : MatchKind) (earliest : Bool)
+    (pattern : Option ℕ) (slots : List (Option ℕ))
+    → HoldAlike nfa x.start (cut_out x) x → is_utf8_empty nfa ≡ false → x.start ≤ x.end
+    → IsAnswer nfa kind earliest (cut_out x) pattern slots
+    → IsAnswer nfa kind earliest x pattern (moved_slots x.start slots)
+
+-- and the same match
+abbrev pub CutOutMatchesAlike : Type 0
+CutOutMatchesAlike =
+    (nfa : Automaton) (x : Search) (kind : MatchKind) (earliest : Bool) (found : Option Found)
+    → HoldAlike nfa x.start (cut_out x) x → is_utf8_empty nfa ≡ false → x.start ≤ x.end
     → IsFindAnswer nfa kind earliest (cut_out x) found
     → IsFindAnswer nfa kind earliest x (option_map (moved_match x.start) found)

@@ -10,6 +10,7 @@
 //! ```
 ghost use Rattle.regex_search_core.specs.declared.search.MatchKind.TheVariants.{All, LeftmostFirst};
 ghost use Rattle.std.specs.Prelude.{false};
+ghost use Rattle.nfa_engines.specs.AlikeLaws.{CutOutLinesHoldAlike, LinesHoldAlike, SameSidesHoldAlike};
 ghost use Rattle.nfa_engines.specs.AnswerLaws.{AllSlotsGiveTheMatch, FoundIsSomething, NoPatternIsNothing, NotBoth};
 ghost use Rattle.nfa_engines.specs.AnswerLaws.{NotFoundIsNothing, PatternIsMatched, PatternIsSomething};
 ghost use Rattle.nfa_engines.specs.AnswerLaws.{TwoSlotsGiveTheMatch};
@@ -32,8 +33,10 @@ ghost use Rattle.nfa_engines.specs.PatternLaws.{AnswersAreOfPatterns, FirstPatte
 ghost use Rattle.nfa_engines.specs.PatternLaws.{PatternIsAlone, PatternMatchesAlone};
 ghost use Rattle.nfa_engines.specs.SetLaws.{EarliestOfAllPaths, FirstOfAllPaths, FullSetStays, OneSet};
 ghost use Rattle.nfa_engines.specs.SetLaws.{SetHoldsEachPattern, SetIsComplete, SetIsOfEarliest, SetIsOfFirsts};
-ghost use Rattle.nfa_engines.specs.SpanLaws.{AnswersMove, AnswersReadTheSpan, CutOutAnswers, CutOutMatches};
-ghost use Rattle.nfa_engines.specs.SpanLaws.{MatchesMove, MatchesReadTheSpan};
+ghost use Rattle.nfa_engines.specs.SpanLaws.{AnswersMove, AnswersMoveAlike, AnswersReadAssertions};
+ghost use Rattle.nfa_engines.specs.SpanLaws.{AnswersReadTheSpan, CutOutAnswers, CutOutAnswersAlike, CutOutMatches};
+ghost use Rattle.nfa_engines.specs.SpanLaws.{CutOutMatchesAlike, MatchesMove, MatchesMoveAlike, MatchesReadAssertions};
+ghost use Rattle.nfa_engines.specs.SpanLaws.{MatchesReadTheSpan};
 ghost use Rattle.nfa_engines.specs.StartLaws.{AnswersHaveAStart, FirstStartAnswers, FirstStartMatches};
 ghost use Rattle.nfa_engines.specs.StartLaws.{FirstStartMoves, NothingAtByte, StartIsFirst};
 ghost use Rattle.nfa_engines.specs.StartLaws.{MatchStartsArePassed, NothingAtEachStart, StartsArePassed};
@@ -294,6 +297,32 @@ pub fn answers_read_the_span()
     ensures moved_match { MatchesMove }
     ensures cut_out { CutOutAnswers }
     ensures cut_out_match { CutOutMatches }
+{}
+
+/// The answer of an NFA depends only on the bytes of the span and on which of its assertions hold at each position of
+/// the span, its end included. Two searches for which both are the same in the same span have the same answer and the
+/// same match. If the bytes, the span and the positions of the assertions move by a distance, the slots and the match
+/// move by the same distance. [`answers_read_the_span`] is the case of an NFA without assertions.
+///
+/// Premise: no match has to end on a boundary.
+pub fn answers_read_span_and_assertions()
+    ensures same { AnswersReadAssertions }
+    ensures same_match { MatchesReadAssertions }
+    ensures moved { AnswersMoveAlike }
+    ensures moved_match { MatchesMoveAlike }
+    ensures cut_out { CutOutAnswersAlike }
+    ensures cut_out_match { CutOutMatchesAlike }
+{}
+
+/// Which assertions hold alike, as [`answers_read_span_and_assertions`] requires. An assertion that reads no more than
+/// the byte on each side of a position holds alike in two spans with the same bytes, if both have the same byte, or
+/// none, next to them on each side. All assertions except those of Unicode words are of this sort. `StartLF` and
+/// `EndLF` hold alike in two spans of whole lines with the same bytes, so in a text and in whole lines that are cut out
+/// of it.
+pub fn assertions_hold_alike()
+    ensures sides { SameSidesHoldAlike }
+    ensures lines { LinesHoldAlike }
+    ensures cut_out { CutOutLinesHoldAlike }
 {}
 
 /// A whole list takes little more than one search. Over the calls that find all k matches in a span of n bytes, or

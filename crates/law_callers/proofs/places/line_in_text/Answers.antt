@@ -1,32 +1,11 @@
 -- The law, of the two matches.
-use Rattle.std.proofs.Common.{◌∙◌, ℕ, ◌-◌, ◌≤◌, false, List, Option, option_map, take, drop, length, ap, subst, arith}
-use Rattle.std.proofs.Common.{length-drop}
-use Rattle.std.proofs.lemmas.List.{length-take-le}
-use Rattle.nfa_engines.specs.Found.{Found, found_of}
+use Rattle.std.proofs.Common.{◌∙◌, ◌-◌, false, option_map, take, drop, ap}
+use Rattle.nfa_engines.specs.Found.{found_of}
 use Rattle.nfa_engines.specs.Search.{Search, whole}
-use Rattle.nfa_engines.specs.Anchored.TheVariants.{No}
-use Rattle.nfa_engines.specs.MatchKind.{MatchKind}
-use Rattle.nfa_engines.specs.Automaton.{Automaton}
 use Rattle.nfa_engines.specs.Engines.{kind_of}
-use Rattle.nfa_engines.specs.Paths.{IsFindAnswer}
-use Rattle.nfa_engines.specs.SpanLaws.{cut_out, moved_match}
-use Rattle.law_callers.proofs.PathStateLemmas.{match_of_search}
+use Rattle.nfa_engines.specs.SpanLaws.{moved_match}
+use Rattle.law_callers.proofs.PathStateLemmas.{line_of, match_of_search, of_cut}
 use Rattle.law_callers.proofs.places.line_in_text.Goals as goal
-
--- the search of a line within its text
-abbrev line_of : List ℕ → ℕ → ℕ → Search
-line_of text start end = record { haystack = text; start = start; end = end; anchored = No; earliest = false }
-
--- what is found in the line alone is found in what is cut out
-of_cut : (nfa : Automaton) (kind : MatchKind) (text : List ℕ) (start end : ℕ) (found : Option Found) → start ≤ end
-    → end ≤ length text → IsFindAnswer nfa kind false (whole (take (end - start) (drop start text))) found
-    → IsFindAnswer nfa kind false (cut_out (line_of text start end)) found
-of_cut nfa kind text start end found ordered within h =
-    let rest = length-drop start text in
-    let long = length-take-le (end - start) (drop start text) (omega arith) in
-    subst (λ (n : ℕ). IsFindAnswer nfa kind false
-    (record { haystack = take (end - start) (drop start text); start = 0; end = n; anchored = No; earliest = false })
-    found) long h
 
 pub returns : goal.returns
 returns c =
