@@ -1,4 +1,5 @@
 pub mod Classes
 pub mod Finding
 pub mod Lines
+pub mod Loops
 pub mod Redacted

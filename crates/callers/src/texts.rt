@@ -1,8 +1,6 @@
 //! What a choice finds, cut out.
 ghost use Rattle.std.specs.Prelude.{◌≡◌};
-ghost use Rattle.std.specs.List.{count_by};
-ghost use Rattle.nfa_engines.specs.Search.{whole};
-ghost use Rattle.nfa_choice.specs.ChoiceState.{finds_in, KeepsEngines};
+ghost use Rattle.nfa_choice.specs.ChoiceState.{KeepsEngines};
 
 use nfa_choice::choose::Choice;
 use nfa_engines::{Captures, Input};
@@ -16,20 +14,6 @@ pub fn choice_text<'t>(
     choice.search(&Input::new(text), captures);
     let span = captures.get_group_by_name("name")?;
     Some(&text[span.start..span.end])
-}
-
-/// How many of these texts match.
-pub fn count_matching(choice: &mut Choice, texts: &[&[u8]]) -> usize
-    ensures count { result ≡ count_by (λ text. finds_in choice.old (whole text.now)) texts.now }
-    ensures keeps { KeepsEngines choice.old choice.new }
-{
-    let mut count = 0;
-    for text in texts {
-        if choice.is_match(Input::new(text)) {
-            count += 1;
-        }
-    }
-    count
 }
 
 /// Two searches keep what one keeps, and answer alike.

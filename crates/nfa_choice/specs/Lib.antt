@@ -1,4 +1,5 @@
 pub mod CapturesMatches
 pub mod ChoiceState
+pub mod LoopLaws
 pub mod Matches
 pub mod WorkLaws

@@ -2,7 +2,10 @@
 //!
 //! Take one where a proof about the work of an iteration does, as those of `nfa_engines::laws`: the call costs nothing
 //! when it runs.
+ghost use Rattle.nfa_engines.specs.LoopLaws.{IsKeptByLoop, IsKeptByNone, IsKeptByTwo};
 ghost use Rattle.nfa_engines.specs.WorkLaws.{list_scan_limit};
+ghost use Rattle.nfa_choice.specs.ChoiceState.{KeepsEngines, backtracker_of, pike_of};
+ghost use Rattle.nfa_choice.specs.LoopLaws.{ChoiceFitsAsBefore, IsAsBefore, RuleIsAsBefore};
 ghost use Rattle.nfa_choice.specs.WorkLaws.{ChoiceCatchesWithin, ChoiceFindsWithin, ChoiceMatchesAreWithin};
 ghost use Rattle.nfa_choice.specs.WorkLaws.{ChoiceRowsAreWithin};
 
@@ -24,4 +27,20 @@ pub fn lists_are_bounded()
 pub fn iterations_are_bounded()
     ensures matches { ChoiceFindsWithin 3 }
     ensures rows { ChoiceCatchesWithin 3 }
+{}
+
+/// A loop of searches keeps the engines of a choice, and they answer after the loop as before it: the PikeVM, which
+/// defines the answers, and the backtracker are the same, the rule names the same engine for each search, and the cache
+/// of the PikeVM fits the same NFAs.
+///
+/// The premise is what each search ensures (`keeps`). In a loop with an invariant the check finds these steps itself.
+/// Take the law if a proof relates the searches otherwise, for instance by an iterator.
+pub fn loops_keep_engines()
+    ensures none { IsKeptByNone KeepsEngines }
+    ensures two { IsKeptByTwo KeepsEngines }
+    ensures loops { IsKeptByLoop KeepsEngines }
+    ensures pikevm { IsAsBefore pike_of }
+    ensures backtracker { IsAsBefore backtracker_of }
+    ensures rule { RuleIsAsBefore }
+    ensures fits { ChoiceFitsAsBefore }
 {}

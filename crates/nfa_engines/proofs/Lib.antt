@@ -8,6 +8,7 @@ pub mod IterationLemmas
 pub mod LawLemmas
 pub mod OneLemmas
 pub mod ListOfMatchesLemmas
+pub mod LoopLemmas
 pub mod MatchLemmas
 pub mod MovedLemmas
 pub mod MovedAnswerLemmas

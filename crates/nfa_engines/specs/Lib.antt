@@ -9,6 +9,7 @@ pub mod HalfLaws
 pub mod IterationLaws
 pub mod Laws
 pub mod ListLaws
+pub mod LoopLaws
 pub mod PatternLaws
 pub mod SetLaws
 pub mod SpanLaws

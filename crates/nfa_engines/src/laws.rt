@@ -29,6 +29,7 @@ ghost use Rattle.nfa_engines.specs.Laws.{OneSearchAnswer, PathsAreOrdered, Paths
 ghost use Rattle.nfa_engines.specs.Laws.{SearchesAgree, SlotsPastAreNone};
 ghost use Rattle.nfa_engines.specs.ListLaws.{AtMostInList, EverySearchHasAList, ListAsLeftmost, MatchesAreDisjoint};
 ghost use Rattle.nfa_engines.specs.ListLaws.{OneList};
+ghost use Rattle.nfa_engines.specs.LoopLaws.{FitsAsBefore, IsKeptByLoop, IsKeptByNone, IsKeptByTwo, LoopHoldsNoMore};
 ghost use Rattle.nfa_engines.specs.PatternLaws.{AnswersAreOfPatterns, FirstPatternAnswers, NothingOfEachPattern};
 ghost use Rattle.nfa_engines.specs.PatternLaws.{PatternIsAlone, PatternMatchesAlone};
 ghost use Rattle.nfa_engines.specs.SetLaws.{EarliestOfAllPaths, FirstOfAllPaths, FullSetStays, OneSet};
@@ -43,6 +44,7 @@ ghost use Rattle.nfa_engines.specs.StartLaws.{MatchStartsArePassed, NothingAtEac
 ghost use Rattle.nfa_engines.specs.WorkLaws.{list_scan_limit, BacktrackerCatchesWithin, BacktrackerFindsWithin};
 ghost use Rattle.nfa_engines.specs.WorkLaws.{BacktrackerMatchesAreWithin, BacktrackerRowsAreWithin, PikeCatchesWithin};
 ghost use Rattle.nfa_engines.specs.WorkLaws.{PikeFindsWithin, PikeMatchesAreWithin, PikeRowsAreWithin};
+ghost use Rattle.nfa_pikevm.specs.Engines.{SameCapacities};
 
 /// A scan has at most one answer, for each match kind and `earliest`.
 pub fn one_scan_answer()
@@ -347,4 +349,17 @@ pub fn iterations_are_bounded()
     ensures pike_rows { PikeCatchesWithin 3 }
     ensures backtracker { BacktrackerFindsWithin 3 }
     ensures backtracker_rows { BacktrackerCatchesWithin 3 }
+{}
+
+/// A loop keeps what each of its searches keeps: the sizes of a PikeVM's cache, so the cache fits the same NFAs after
+/// the loop as before it. In a backtracker's cache a loop holds no more frames and slots than one search may.
+///
+/// The premises are what each search ensures of its cache (`numbers`, `holds`). In a loop with an invariant the check
+/// finds these steps itself. Take the law if a proof relates the searches otherwise, for instance by an iterator.
+pub fn loops_keep_caches()
+    ensures none { IsKeptByNone SameCapacities }
+    ensures two { IsKeptByTwo SameCapacities }
+    ensures loops { IsKeptByLoop SameCapacities }
+    ensures fits { FitsAsBefore }
+    ensures holds { LoopHoldsNoMore }
 {}
