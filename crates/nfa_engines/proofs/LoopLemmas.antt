@@ -1,6 +1,6 @@
 -- A loop keeps what each of its searches keeps.
 use Rattle.std.proofs.Common.{ℕ, ◌≡◌, ◌+◌, ◌<◌, ◌∙◌, zero, suc, arith, refl, subst}
-use Rattle.nfa_backtrack.specs.Backtrack.{HoldsNoMore, Work}
+use Rattle.nfa_backtrack.specs.Backtrack.{HoldsNoMore, BacktrackCache}
 use Rattle.nfa_pikevm.specs.Engines.{PikeCache, SameCapacities}
 use Rattle.nfa_engines.specs.LoopLaws.{IsKeptByLoop, IsKeptByNone, IsKeptByTwo}
 
