@@ -176,7 +176,7 @@ returns-in_err-save-in-Capture-clause-refused c =
 
 pub run_byte_loop-requires-clause-state : goal.run_byte_loop-requires-clause-state
 run_byte_loop-requires-clause-state c =
-    rw c.to-in-Some-byte_loop_at.ensures (c.in-Some-byte_loop_at.ensures c.in-Some-byte_loop_at.trans refl)
+    rw c.to-in-Some-byte_loop_at.ensures (c.in-Some-byte_loop_at.ensures.found c.in-Some-byte_loop_at.trans refl).loops
 
 pub returns-in_err-run_byte_loop-in-BinaryUnion-clause-refused
     : goal.returns-in_err-run_byte_loop-in-BinaryUnion-clause-refused
