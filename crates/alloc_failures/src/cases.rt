@@ -2,6 +2,7 @@
 
 mod captures;
 mod choice;
+mod copies;
 mod engines;
 mod iteration;
 mod makers;
@@ -125,6 +126,7 @@ pub fn run(alloc: Global, seen: &mut Seen) -> Result<(), Wrong> {
     pikevms::resets(alloc, seen)?;
     pikevms::searches(alloc, seen)?;
     quiet::stretches(alloc, seen)?;
+    copies::backtracked(alloc, seen)?;
     iteration::lists(alloc, seen)?;
     captures::lists(alloc, seen)?;
     makers::samples(alloc, seen)?;

@@ -1,7 +1,7 @@
 -- The walk of a backtracker in the words of its proof: its stack as work that is left, its marks as pairs that were
 -- seen.
 use Rattle.std.specs.Prelude.{◌≡◌, ◌↔◌, ℕ, ◌+◌, ◌-◌, ◌*◌, ◌^◌, ◌<◌, ◌≤◌, Bool, true, false, List, [], ◌∷◌, Option, None}
-use Rattle.std.specs.Prelude.{Some, length, map, sum, All, option_and_then, slice_get, slice_index_or, slice_set}
+use Rattle.std.specs.Prelude.{is_some, option_and_then, Some, length, map, sum, All, slice_get, slice_index_or, slice_set}
 use Rattle.std.specs.List.{sum_by}
 use Rattle.regex_search_core.specs.Search.{Search}
 use Rattle.regex_search_core.specs.Patterns.{number_of}
@@ -112,6 +112,16 @@ pub record IsByteLoop (nfa : Automaton) (body exit : ℕ) (trans : Transition) :
   pub onto : trans.next < length nfa.states
   pub into : body < length nfa.states
   pub out : exit < length nfa.states
+
+-- the byte at the position leads over the transition
+abbrev pub loops_on_byte : Transition → Search → ℕ → Bool
+loops_on_byte trans x at = is_some (option_and_then (target_on (ByteRange trans)) (byte_at x at))
+
+-- The byte at the position and the one after it both lead over the transition of a loop.
+pub record LoopsTwice (nfa : Automaton) (x : Search) (at : ℕ) (body exit : ℕ) (trans : Transition) : Type 0 where
+  pub loops : IsByteLoop nfa body exit trans
+  pub once : loops_on_byte trans x at ≡ true
+  pub twice : loops_on_byte trans x (at + 1) ≡ true
 
 module _ (nfa : Automaton) (x : Search) where
   -- the place has a state of the NFA and a position of the span, and its row is the distance from the start times the

@@ -1,12 +1,13 @@
 //! A loop over one byte: a byte state and a union that prefers it, run turn by turn.
 ghost use Rattle.std.specs.Prelude.{◌≡◌, ◌+◌, ◌<◌, ◌≤◌, None, Some, List, length, map, slice_get, IfOk, OnErr, OnOk};
-ghost use Rattle.std.specs.Prelude.{option_and_then, is_some};
+ghost use Rattle.std.specs.Prelude.{IfNone};
 ghost use Rattle.std.specs.Option.{ForSome};
 ghost use Rattle.regex_search_core.specs.Search.{search_of};
 ghost use Rattle.thompson_nfa.specs.Automaton.{IsAutomaton, node_of};
 ghost use Rattle.thompson_nfa.specs.Automaton.Node.{ByteRange, BinaryUnion};
-ghost use Rattle.nfa_paths.specs.Paths.{byte_at, target_on};
-ghost use Rattle.nfa_backtrack_scan.specs.Walk.{pair_of, IsStatePos, HasBits, IsAfforded, IsByteLoop, TurnsLead};
+ghost use Rattle.thompson_nfa.specs.declared.state.Transition.{Transition};
+ghost use Rattle.nfa_backtrack_scan.specs.Walk.{pair_of, loops_on_byte, IsStatePos, HasBits, IsAfforded, IsByteLoop};
+ghost use Rattle.nfa_backtrack_scan.specs.Walk.{LoopsTwice, TurnsLead};
 ghost use Rattle.nfa_backtrack_scan.specs.declared.frame.Frame.{Frame};
 
 use crate::frame::StatePos;
@@ -18,8 +19,8 @@ use regex_search_core::{Input, Refused, StateID};
 use thompson_nfa::{NFA, State, Transition};
 
 /// Returns the transition of a loop over one byte: it leads from the first of two alternatives, which is a byte state,
-/// back to a union of the same two. Returns `None` if there is no such loop, or if fewer than two bytes at the position
-/// lead round it: a call then costs more than it saves.
+/// back to a union of the same two. Returns `None` exactly if there is no such loop, or if the byte at the position or
+/// the one after it does not lead round it: a call then costs more than it saves.
 #[inline(always)]
 pub fn byte_loop_at<'a>(
     nfa: &NFA,
@@ -34,7 +35,9 @@ pub fn byte_loop_at<'a>(
     requires at { at < usize.MAX }
     requires alt1 { alt1 < length nfa.now.states }
     requires alt2 { alt2 < length nfa.now.states }
-    ensures { ForSome result (λ trans. IsByteLoop nfa.now alt1 alt2 trans.now) }
+    ensures found { ForSome result (λ trans. LoopsTwice nfa.now (search_of input.now) at alt1 alt2 trans.now) }
+    ensures missing { IfNone result
+        ((trans : Transition) → LoopsTwice nfa.now (search_of input.now) at alt1 alt2 trans → ⊥) }
 {
     let State::ByteRange { trans } = state_at(nfa, states, alt1) else {
         return None;
@@ -60,7 +63,7 @@ pub fn byte_loop_at<'a>(
 /// Returns whether the byte at the position is one of the transition's.
 #[inline(always)]
 fn loops_on_byte(trans: &Transition, input: &Input<'_>, at: usize) -> bool
-    ensures { result ≡ is_some (option_and_then (target_on (ByteRange trans.now)) (byte_at (search_of input.now) at)) }
+    ensures { result ≡ loops_on_byte trans.now (search_of input.now) at }
 {
     range_target(trans, byte_at(input, at)).is_some()
 }

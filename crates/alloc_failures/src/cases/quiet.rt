@@ -82,6 +82,8 @@ fn expect_tries(
     expect(are_groups(pattern, &slots), "the slots of a warm search")?;
     let found = granted(engine.try_find(cache, input))?;
     expect(found.map(parts) == Some((0, 0, 2)), "the warm match")?;
+    // A reset keeps the memory of the marks.
+    engine.reset_cache(cache);
     let is_match = granted(engine.try_is_match(cache, input))?;
     expect(is_match, "whether there is a warm match")?;
     granted(engine.try_search(cache, &input, captures))?;

@@ -209,7 +209,7 @@ returns-in_err-save-in-Capture-clause-refused c =
 
 pub run_loop-requires-clause-state : goal.run_loop-requires-clause-state
 run_loop-requires-clause-state c =
-    rw c.to-preferred.ensures (c.in-Some-byte_loop_at.ensures c.in-Some-byte_loop_at.trans refl)
+    rw c.to-preferred.ensures (c.in-Some-byte_loop_at.ensures.found c.in-Some-byte_loop_at.trans refl).loops
 
 pub returns-in_err-run_loop-in-BinaryUnion-clause-refused : goal.returns-in_err-run_loop-in-BinaryUnion-clause-refused
 returns-in_err-run_loop-in-BinaryUnion-clause-refused c =
