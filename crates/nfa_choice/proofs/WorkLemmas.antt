@@ -87,7 +87,7 @@ from-first c s t y old new is (inl w) =
     (subst (λ (k : MatchKind). Worked c.nfa k y.earliest y old new) is.kind
     (subst (λ (n : Automaton). Worked n (kind_in s) y.earliest y old new) is.nfa w))
 
--- Each search tells a match or a row, and runs by the rule, which is some work for one of the caches.
+-- Each search answers a match or a row, and runs by the rule, which is work for one or both of the caches.
 module _ (totals : ChoiceState → Totals)
     (runs : (y : Search) (s t : ChoiceState) → RunsByRule s y y.earliest t
     → Worked s.nfa (kind_in s) y.earliest y (totals s) (totals t) ⊎ (totals t ≡ totals s))

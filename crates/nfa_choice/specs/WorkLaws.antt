@@ -10,7 +10,7 @@ use Rattle.nfa_choice.specs.CapturesMatches.{ChoiceCatchesOn, ChoiceCatchesToEnd
 use Rattle.nfa_choice.specs.ChoiceState.{ChoiceState}
 use Rattle.nfa_choice.specs.Matches.{ChoiceFindsOn, ChoiceFindsToEnd}
 
--- the totals of each cache rose by at most so many scans of the span of x, and by no more turns than these may make
+-- the totals of each cache rose by at most `limit` scans of the span of x, and by no more turns than these may make
 pub record ChoiceAddsAtMost (limit : ℕ) (x : Search) (old new : ChoiceState) : Type 0 where
   pub back : AddsAtMost limit old.nfa x (backtracker_totals old.back) (backtracker_totals new.back)
   pub pike : AddsAtMost limit old.nfa x (pike_totals old.pike) (pike_totals new.pike)
@@ -27,7 +27,7 @@ module _ (limit : Automaton → Search → ℕ → ℕ) where
       (x : Search) (rows : List Row) (old new : ChoiceState) → ChoiceCatchesToEnd x rows old new
       → ChoiceAddsAtMost (limit old.nfa x (length rows)) x old new
 
--- However far an iteration goes, it makes at most two scans for each byte of the span, and so many more.
+-- However far an iteration goes, it makes at most two scans for each byte of the span, and `more` besides.
 module _ (more : ℕ) where
   abbrev pub ChoiceFindsWithin : Type 0
   ChoiceFindsWithin =

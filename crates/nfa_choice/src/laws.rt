@@ -1,7 +1,7 @@
-//! Laws of a choice over the definitions alone. Each function is empty: its contract is the theorem.
+//! Laws of a choice, about the definitions only. Each function is empty: its contract is the theorem.
 //!
-//! Take one where a proof about the work of an iteration does, as those of `nfa_engines::laws`: the call costs nothing
-//! when it runs.
+//! Call one if a proof about the work of an iteration needs it, as those of `nfa_engines::laws`. The call costs nothing
+//! at run time.
 ghost use Rattle.nfa_engines.specs.LoopLaws.{IsKeptByLoop, IsKeptByNone, IsKeptByTwo};
 ghost use Rattle.nfa_engines.specs.WorkLaws.{list_scan_limit};
 ghost use Rattle.nfa_choice.specs.ChoiceState.{KeepsEngines, backtracker_of, pike_of};
@@ -10,18 +10,18 @@ ghost use Rattle.nfa_choice.specs.WorkLaws.{ChoiceCatchesWithin, ChoiceFindsWith
 ghost use Rattle.nfa_choice.specs.WorkLaws.{ChoiceRowsAreWithin};
 
 /// A whole list takes little more than one search. Over the calls that find all k matches in a span of n bytes, or
-/// their captures, the totals of each of both caches rise by at most n + k + 2 scans; if no search may restart, by at
-/// most 2k + 1. The turns are at most those of so many scans, (1 + D)(n + 1) each.
+/// their captures, the totals of each cache rise by at most n + k + 2 scans. If no search may restart, they rise by at
+/// most 2k + 1 scans. The turns rise by at most (1 + D)(n + 1) for each of these scans.
 ///
-/// The premises are what `find_all` and `captures_all` ensure where they are `Ok` (`to_end`), and what `find_iter`
-/// ensures where it goes on to `None` (`searches`).
+/// The premises are what `find_all` and `captures_all` ensure if they are `Ok` (`to_end`), and what `find_iter` ensures
+/// if it goes on to `None` (`searches`).
 pub fn lists_are_bounded()
     ensures matches { ChoiceMatchesAreWithin list_scan_limit }
     ensures rows { ChoiceRowsAreWithin list_scan_limit }
 {}
 
-/// Wherever an iteration stops, the totals of each cache rise by at most 2n + 3 scans, and by the turns of so many
-/// scans.
+/// Wherever an iteration over a span of n bytes stops, the totals of each cache rise by at most 2n + 3 scans. The turns
+/// rise by at most (1 + D)(n + 1) for each of these scans.
 ///
 /// The premises are what all lists and iterators ensure (`searches`).
 pub fn iterations_are_bounded()

@@ -20,7 +20,7 @@ pub struct ChoiceMatches<'c, 'h> {
 struct ByRule;
 
 impl Choice {
-    ghost use Rattle.std.specs.Prelude.{◌≡◌, false, All, IfOk, IsOkUnless, None, map};
+    ghost use Rattle.std.specs.Prelude.{◌≡◌, false, All, IfOk, IsOk, IsOkUnless, None, [], map};
     ghost use Rattle.regex_search_core.specs.Found.{found_of};
     ghost use Rattle.regex_search_core.specs.Search.{search_of};
     ghost use Rattle.nfa_search_base.specs.Lists.{AreDisjoint, AreMatches, IsInside};
@@ -77,7 +77,8 @@ impl Choice {
 
     /// Returns all matches that do not overlap, from left to right, as [`Choice::find_iter`] gives them.
     ///
-    /// The only error is [`SearchError::Memory`]: the list could not be allocated. No search fails.
+    /// Allocates for the list only if there is a match. The only error is [`SearchError::Memory`]: the list could not
+    /// be allocated. No search fails.
     ///
     /// ```
     /// // choice of "foo(?<n>[0-9]+)"
@@ -87,6 +88,8 @@ impl Choice {
     /// ```
     pub fn find_all(&mut self, alloc: Global, input: Input<'_>) -> Result<Vec<Match>, SearchError>
         ensures memory { IsOkUnless result SearchError.Memory }
+        ensures granted { AreMatches self.old.nfa (kind_in self.old) (search_of input.entry).earliest
+            (search_of input.entry) [] → IsOk result }
         ensures all { IfOk result (λ found. AreMatches self.old.nfa (kind_in self.old) (search_of input.entry).earliest
             (search_of input.entry) (map found_of found.items)) }
         ensures apart { IfOk result (λ found. AreDisjoint (search_of input.entry) None (map found_of found.items)) }
