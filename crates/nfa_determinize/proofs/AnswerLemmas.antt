@@ -13,8 +13,8 @@ use Rattle.nfa_paths.specs.Paths.{byte_at, edges, starts, is_match, IsMatch, IsS
 use Rattle.nfa_paths.proofs.AnswerLemmas.{scan_answer-unique}
 use Rattle.nfa_paths.proofs.SearchingLemmas.{Searching-done}
 use Rattle.nfa_paths.proofs.ScanLemmas.{NoneBefore-end, LastBefore-end, IsFirstPath-found}
-use Rattle.nfa_determinize.specs.Closures.{explore, step, match_in, kept}
-use Rattle.nfa_determinize.specs.Configurations.{Configuration, IsDead, half_at, starts_after, found_after, position_count, closure_at, after, advance, scanned, scan_half}
+use Rattle.nfa_determinize.specs.Closures.{explore, step, pattern_by_kind, kept}
+use Rattle.nfa_determinize.specs.Configurations.{Configuration, IsDead, half_at, starts_after, found_after, position_count, closure_at, next_configuration, advance, scanned, scan_half}
 use Rattle.nfa_determinize.proofs.FollowLemmas.{pairs, bare, Finding}
 use Rattle.nfa_determinize.proofs.PositionLemmas.{waiting, waiting-none, Fresh, shape, states-end, starts-end, past-end, ends-there}
 use Rattle.nfa_determinize.proofs.FirstScanLemmas.{FirstScan, FirstScan-scanned}
@@ -88,23 +88,23 @@ module _ (nfa : Automaton) (x : Search) where
   pub dead-stays : (kind : MatchKind) (earliest : Bool) (at : ℕ) (c : Configuration) → IsDead c
       → advance nfa x kind earliest at c ≡ c
   dead-stays kind earliest at c d =
-      ap (λ (here : List ℕ). after nfa x kind earliest at here c) (closure-none at c d) ∙ of kind earliest
+      ap (λ (here : List ℕ). next_configuration nfa x kind earliest at here c) (closure-none at c d) ∙ of kind earliest
     where
       keeps : (o : Option HalfFound) → option_or o None ≡ o
       keeps None = refl
       keeps (Some h) = refl
 
       same : (k : MatchKind) (e : Bool) → step nfa (byte_at x at) (kept nfa k []) ≡ []
-          → starts_after k (match_in nfa k []) c.starts ≡ c.starts
-          → found_after e c.found (option_map (half_at at) (match_in nfa k [])) ≡ c.found
-          → after nfa x k e at [] c ≡ c
+          → starts_after k (pattern_by_kind nfa k []) c.starts ≡ c.starts
+          → found_after e c.found (option_map (half_at at) (pattern_by_kind nfa k [])) ≡ c.found
+          → next_configuration nfa x k e at [] c ≡ c
       same k e states starts found =
           λ i. record { states = (states ∙ sym d.states) i; starts = starts i; found = found i }
 
       less : 0 - 1 ≡ 0
       less = omega arith
 
-      of : (k : MatchKind) (e : Bool) → after nfa x k e at [] c ≡ c
+      of : (k : MatchKind) (e : Bool) → next_configuration nfa x k e at [] c ≡ c
       of LeftmostFirst true = same LeftmostFirst true refl (rw d.starts less) (keeps c.found)
       of LeftmostFirst false = same LeftmostFirst false refl (rw d.starts less) refl
       of All true = same All true refl (rw d.starts less) (keeps c.found)

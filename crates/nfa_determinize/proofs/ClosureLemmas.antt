@@ -76,7 +76,7 @@ takes_left nfa seen waiting =
     length waiting + (sum (map degree nfa.states) - marked_sum (map degree nfa.states) seen)
 
 module _ (nfa : Automaton) (holding : Holding) where
-  -- An exploration under way: what was kept, and what the states on the stack come to, are the goal.
+  -- An exploration under way: the goal is what was kept, and then what the states on the stack lead to.
   pub record IsUnderWay (goal : List ℕ) (seen : List Bool) (waiting kept : List ℕ) : Type 0 where
     pub size : length seen ≡ length nfa.states
     pub states : AreBelow (length nfa.states) waiting

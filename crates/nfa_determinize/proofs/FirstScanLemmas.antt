@@ -13,7 +13,7 @@ use Rattle.nfa_paths.proofs.MemberLemmas.{In-append_left}
 use Rattle.nfa_paths.proofs.PathToLemmas.{is_false}
 use Rattle.nfa_paths.proofs.ScanningLemmas.{Searching-cut}
 use Rattle.nfa_determinize.specs.Closures.{before_first_match, step}
-use Rattle.nfa_determinize.specs.Configurations.{Configuration, begin, closure_at, after, advance, scanned}
+use Rattle.nfa_determinize.specs.Configurations.{Configuration, begin, closure_at, next_configuration, advance, scanned}
 use Rattle.nfa_determinize.proofs.FollowLemmas.{pairs, place, SeenAt, bare, Finding}
 use Rattle.nfa_determinize.proofs.NextLemmas.{Finding-next}
 use Rattle.nfa_determinize.proofs.MatchLemmas.{half_of, FirstIn, NoneIn, first-is}
@@ -36,7 +36,7 @@ module _ (nfa : Automaton) (x : Search) where
     past v h = let k : v.1 ≡ at = h.here in omega arith
 
     -- no match at the position
-    first-miss : NoneIn nfa here → FirstScan (at + 1) (after nfa x LeftmostFirst false at here c)
+    first-miss : NoneIn nfa here → FirstScan (at + 1) (next_configuration nfa x LeftmostFirst false at here c)
     first-miss none = record {
       spent = spent;
       so_far = so_far;
@@ -48,7 +48,7 @@ module _ (nfa : Automaton) (x : Search) where
     }
 
     -- a match at the position: what is after it is dropped
-    first-hit : FirstIn nfa here → FirstScan (at + 1) (after nfa x LeftmostFirst false at here c)
+    first-hit : FirstIn nfa here → FirstScan (at + 1) (next_configuration nfa x LeftmostFirst false at here c)
     first-hit some =
         let before = before_first_match nfa here in
         let split : map (place at) here ≡ map (place at) before ++ place at some.state ∷ map (place at) some.after =
@@ -71,7 +71,7 @@ module _ (nfa : Automaton) (x : Search) where
               (length nfa.states)));
         }
 
-    first-next : FirstScan (at + 1) (after nfa x LeftmostFirst false at here c)
+    first-next : FirstScan (at + 1) (next_configuration nfa x LeftmostFirst false at here c)
     first-next = elim (first-is nfa here) [ inl none ↦ first-miss none | inr some ↦ first-hit some ]
 
   -- the next position
@@ -82,7 +82,7 @@ module _ (nfa : Automaton) (x : Search) where
       (s.spent + (closed nfa x at c).turns) s.so_far s.found_is
       (follow-here nfa x at c (is_match nfa) (λ v t. t) s.spent s.so_far s.finding)
 
-  -- after so many positions
+  -- after the first n positions
   pub FirstScan-scanned : (n : ℕ) → FirstScan (x.start + n) (scanned nfa x LeftmostFirst false n)
   FirstScan-scanned zero =
       let same : x.start ≡ x.start + 0 = omega arith in

@@ -9,3 +9,6 @@ pub mod AnswerLemmas
 pub mod SearchLemmas
 pub mod ClosureLemmas
 pub mod StepLemmas
+pub mod RepeatLemmas
+pub mod SettledLemmas
+pub mod ScanHalfLemmas

@@ -18,14 +18,14 @@ use Rattle.nfa_paths.proofs.ScanAnswerLemmas.{Scanned-matches, EndsBefore-span}
 use Rattle.nfa_paths.proofs.ScanningLemmas.{Scanning-front}
 use Rattle.nfa_paths.proofs.SearchingLemmas.{Searching-start}
 use Rattle.nfa_paths.proofs.StartLemmas.{pairs_from-ahead, starts-none}
-use Rattle.nfa_determinize.specs.Closures.{EachOnce, holding_at, step, match_in, kept}
+use Rattle.nfa_determinize.specs.Closures.{EachOnce, holding_at, step, pattern_by_kind, kept}
 use Rattle.nfa_determinize.specs.Configurations.{Configuration, start_here, closure_at, starts_after, position_count, scanned}
 use Rattle.nfa_determinize.proofs.ExploreLemmas.{unseen, unseen-all, explore-keeps, explore-once}
 use Rattle.nfa_determinize.proofs.FollowLemmas.{pairs, place, SeenAt, SeenAt-none, bare, Finding, pairs-append, Followed, follow}
 use Rattle.nfa_determinize.proofs.NextLemmas.{place-among, Explore-among, Finding-next}
 
 -- the list has as many pairs
-length-pairs_from : (state at count : ℕ) → length (pairs_from state at count) ≡ count
+pub length-pairs_from : (state at count : ℕ) → length (pairs_from state at count) ≡ count
 length-pairs_from state at zero = refl
 length-pairs_from state at (suc count) = ap suc (length-pairs_from state (at + 1) count)
 
@@ -87,7 +87,7 @@ module _ (nfa : Automaton) (x : Search) where
   -- one position
 
   module _ (at : ℕ) (c : Configuration) where
-    -- the closure is what the states and the start come to
+    -- the closure is what the states and the start lead to
     pub closed : Followed nfa x at (replicate (length nfa.states) false) (c.states ++ start_here nfa x c.starts)
         (closure_at nfa x at c)
     closed =
@@ -209,8 +209,8 @@ module _ (nfa : Automaton) (x : Search) where
     starts-left (suc n) =
         let c = scanned nfa x kind earliest n in
         let few : c.starts ≤ length (starts nfa x) - n = starts-left n in
-        let less : starts_after kind (match_in nfa kind (closure_at nfa x (x.start + n) c)) c.starts ≤ c.starts - 1 =
-        starts-fewer kind (match_in nfa kind (closure_at nfa x (x.start + n) c)) c.starts in
+        let hit = pattern_by_kind nfa kind (closure_at nfa x (x.start + n) c) in
+        let less : starts_after kind hit c.starts ≤ c.starts - 1 = starts-fewer kind hit c.starts in
         omega arith
 
     -- no state is left past the end

@@ -1,5 +1,5 @@
 -- The NFA states that a search is in at a position, in order of priority: what one state of a DFA stands for.
-use Rattle.std.specs.Prelude.{ℕ, zero, suc, Bool, true, false, List, [], ◌∷◌, ◌++◌, length, replicate, is_some, if◌then◌else◌, ⊤}
+use Rattle.std.specs.Prelude.{ℕ, zero, suc, Bool, true, false, List, [], ◌∷◌, ◌++◌, ◌==◌, length, replicate, is_some, if◌then◌else◌, ⊤}
 use Rattle.std.specs.Prelude.{Option, None, option_and_then, option_to_list, slice_index_or, slice_set}
 use Rattle.std.specs.Option.{option_or}
 use Rattle.regex_search_core.specs.declared.search.MatchKind.{MatchKind}
@@ -25,6 +25,16 @@ abbrev pub EachOnce : List ℕ → Type 0
 EachOnce [] = ⊤
 EachOnce (s ∷ states) = (In s states → ⊥) × EachOnce states
 
+-- the list without a state
+abbrev pub without : ℕ → List ℕ → List ℕ
+without s [] = []
+without s (t ∷ states) = if t == s then without s states else t ∷ without s states
+
+-- each state of the list once, where it is first
+abbrev pub first_of_each : List ℕ → List ℕ
+first_of_each [] = []
+first_of_each (s ∷ states) = s ∷ without s (first_of_each states)
+
 -- the states that a state leads to without a byte, in order of preference
 abbrev pub epsilon_states : Holding → Node → List ℕ
 epsilon_states holding (Look look next) = if holding look then next ∷ [] else []
@@ -49,8 +59,8 @@ module _ (nfa : Automaton) where
     abbrev pub closure : List ℕ → List ℕ
     closure states = explore (length nfa.states) (replicate (length nfa.states) false) states
 
-  -- The states that the byte leads to, in order; a state may stand there twice. None without a byte, so at the end of
-  -- the span.
+  -- The states that the byte leads to, in order. A state is in the list twice if two states lead to it. Without a byte,
+  -- so at the end of the span, there are none.
   abbrev pub step : Option ℕ → List ℕ → List ℕ
   step byte [] = []
   step byte (s ∷ states) = option_to_list (option_and_then (target_on (node_at nfa s)) byte) ++ step byte states
@@ -75,9 +85,9 @@ module _ (nfa : Automaton) where
   before_first_match (s ∷ states) = if is_some (state_pattern s) then [] else s ∷ before_first_match states
 
   -- the pattern that matches at the position
-  abbrev pub match_in : MatchKind → List ℕ → Option ℕ
-  match_in LeftmostFirst states = first_pattern states
-  match_in All states = last_pattern states
+  abbrev pub pattern_by_kind : MatchKind → List ℕ → Option ℕ
+  pattern_by_kind LeftmostFirst states = first_pattern states
+  pattern_by_kind All states = last_pattern states
 
   -- the states that the search goes on with: leftmost first drops those after a Match
   abbrev pub kept : MatchKind → List ℕ → List ℕ

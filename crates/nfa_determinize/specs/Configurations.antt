@@ -1,6 +1,6 @@
 -- A scan as steps over lists of states, position by position.
-use Rattle.std.specs.Prelude.{◌≡◌, ℕ, zero, suc, ◌+◌, ◌-◌, Bool, List, [], ◌++◌, length}
-use Rattle.std.specs.Prelude.{Option, None, Some, option_map, option_to_list, if◌then◌else◌}
+use Rattle.std.specs.Prelude.{◌≡◌, ℕ, zero, suc, ◌+◌, ◌-◌, ◌⊎◌, Bool, true, List, [], ◌++◌, length}
+use Rattle.std.specs.Prelude.{Option, None, Some, is_some, option_map, option_to_list, if◌then◌else◌}
 use Rattle.std.specs.Option.{option_or}
 use Rattle.regex_search_core.specs.Found.{HalfFound}
 use Rattle.regex_search_core.specs.Search.{Search}
@@ -8,7 +8,7 @@ use Rattle.regex_search_core.specs.declared.search.MatchKind.{MatchKind}
 use Rattle.regex_search_core.specs.declared.search.MatchKind.TheVariants.{All, LeftmostFirst}
 use Rattle.thompson_nfa.specs.Automaton.{Automaton}
 use Rattle.nfa_paths.specs.Paths.{byte_at, start_state, starts}
-use Rattle.nfa_determinize.specs.Closures.{holding_at, closure, step, match_in, kept}
+use Rattle.nfa_determinize.specs.Closures.{holding_at, first_of_each, closure, step, pattern_by_kind, kept}
 
 -- What a scan knows at a position: the states that the bytes so far led to, before their closure; at how many positions
 -- from here on a match may start; and the match that was found so far.
@@ -21,6 +21,14 @@ pub record Configuration : Type 0 where
 pub record IsDead (c : Configuration) : Type 0 where
   pub states : c.states ≡ []
   pub starts : c.starts ≡ 0
+
+-- no later position changes what was found: the configuration is dead, or the scan is `earliest` and found a match
+abbrev pub IsSettled : Bool → Configuration → Type 0
+IsSettled earliest c = IsDead c ⊎ ((earliest ≡ true) × (is_some c.found ≡ true))
+
+-- the same configuration, with each of its states once
+abbrev pub with_each_once : Configuration → Configuration
+with_each_once c = record c { states = first_of_each c.states }
 
 -- a match of the pattern that ends at the position
 abbrev pub half_at : ℕ → ℕ → HalfFound
@@ -56,18 +64,18 @@ module _ (nfa : Automaton) (x : Search) where
 
   module _ (kind : MatchKind) (earliest : Bool) where
     -- what follows a closure: the match in it counts, and the byte leads on from the states that are kept
-    abbrev pub after : ℕ → List ℕ → Configuration → Configuration
-    after at here c = record {
+    abbrev pub next_configuration : ℕ → List ℕ → Configuration → Configuration
+    next_configuration at here c = record {
       states = step nfa (byte_at x at) (kept nfa kind here);
-      starts = starts_after kind (match_in nfa kind here) c.starts;
-      found = found_after earliest c.found (option_map (half_at at) (match_in nfa kind here));
+      starts = starts_after kind (pattern_by_kind nfa kind here) c.starts;
+      found = found_after earliest c.found (option_map (half_at at) (pattern_by_kind nfa kind here));
     }
 
     -- the configuration at the next position
     abbrev pub advance : ℕ → Configuration → Configuration
-    advance at c = after at (closure_at at c) c
+    advance at c = next_configuration at (closure_at at c) c
 
-    -- the configuration after so many positions
+    -- the configuration after the first n positions of the span
     abbrev pub scanned : ℕ → Configuration
     scanned zero = begin
     scanned (suc n) = advance (x.start + n) (scanned n)

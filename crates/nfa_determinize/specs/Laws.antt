@@ -1,5 +1,5 @@
 -- What steps over lists of states say of the answers of scans and searches, and what their lists hold.
-use Rattle.std.specs.Prelude.{◌≡◌, ℕ, ◌<◌, ◌≤◌, ◌↔◌, Bool, true, List, length, Option, option_and_then}
+use Rattle.std.specs.Prelude.{◌≡◌, ℕ, ◌<◌, ◌≤◌, ◌↔◌, Bool, true, List, ◌∷◌, ◌++◌, length, Option, option_and_then}
 use Rattle.regex_search_core.specs.Found.{HalfFound}
 use Rattle.regex_search_core.specs.Search.{Search}
 use Rattle.regex_search_core.specs.declared.search.MatchKind.{MatchKind}
@@ -8,8 +8,8 @@ use Rattle.thompson_nfa.specs.declared.look.Look as looks
 use Rattle.nfa_paths.specs.Graphs.{Pair, In}
 use Rattle.nfa_paths.specs.Kinds.{rests}
 use Rattle.nfa_paths.specs.Paths.{IsScanAnswer, IsHalfAnswer, node_at, path_half}
-use Rattle.nfa_determinize.specs.Closures.{EachOnce, Holding, closure}
-use Rattle.nfa_determinize.specs.Configurations.{Configuration, IsDead, advance, scan_half}
+use Rattle.nfa_determinize.specs.Closures.{EachOnce, Holding, closure, first_of_each}
+use Rattle.nfa_determinize.specs.Configurations.{Configuration, IsDead, IsSettled, advance, scan_half, with_each_once}
 use Rattle.nfa_determinize.specs.Searches.{IsStepsHalf}
 
 -- the pattern and the end of a scan's answer are what the steps find
@@ -30,6 +30,29 @@ abbrev pub DeadStays : Type 0
 DeadStays =
     (nfa : Automaton) (x : Search) (kind : MatchKind) (earliest : Bool) (at : ℕ) (c : Configuration) → IsDead c
     → advance nfa x kind earliest at c ≡ c
+
+-- what was found in a settled configuration stays, and so does that it is settled
+abbrev pub FoundStays : Type 0
+FoundStays =
+    (nfa : Automaton) (x : Search) (kind : MatchKind) (earliest : Bool) (at : ℕ) (c : Configuration)
+    → IsSettled earliest c
+    → ((advance nfa x kind earliest at c).found ≡ c.found) × IsSettled earliest (advance nfa x kind earliest at c)
+
+-- a state that is already in a list adds nothing to the closure, if the list has it again further right
+abbrev pub RepeatAddsNothing : Type 0
+RepeatAddsNothing =
+    (nfa : Automaton) (holding : Holding) (before later : List ℕ) (s : ℕ) → In s before
+    → closure nfa holding (before ++ s ∷ later) ≡ closure nfa holding (before ++ later)
+
+-- `first_of_each` has each state once
+abbrev pub FirstOfEachHasEachOnce : Type 0
+FirstOfEachHasEachOnce = (states : List ℕ) → EachOnce (first_of_each states)
+
+-- a configuration with each of its states once, where it is first, leads to the same configuration
+abbrev pub AdvancesWithEachOnce : Type 0
+AdvancesWithEachOnce =
+    (nfa : Automaton) (x : Search) (kind : MatchKind) (earliest : Bool) (at : ℕ) (c : Configuration)
+    → advance nfa x kind earliest at (with_each_once c) ≡ advance nfa x kind earliest at c
 
 -- a closure has each state once
 abbrev pub ClosureHasEachOnce : Type 0

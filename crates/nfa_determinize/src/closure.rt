@@ -8,7 +8,7 @@ ghost use Rattle.nfa_paths.specs.Kinds.{rests};
 ghost use Rattle.nfa_paths.specs.Paths.{pattern_of, target_on};
 ghost use Rattle.nfa_determinize.specs.Closures.{before_first_match, closure, epsilon_states, first_pattern};
 ghost use Rattle.nfa_determinize.specs.Closures.{holding_at, kept};
-ghost use Rattle.nfa_determinize.specs.Closures.{last_pattern, match_in, step};
+ghost use Rattle.nfa_determinize.specs.Closures.{last_pattern, pattern_by_kind, step};
 
 use nfa_scan_core::transitions::{dense_target, range_target, sparse_target};
 use regex_search_core::{MatchKind, PatternID, StateID};
@@ -126,7 +126,8 @@ fn push_epsilon_states(
     }
 }
 
-/// Returns the states that the byte leads to, in order; a state may be there twice. Without a byte there are none.
+/// Returns the states that the byte leads to, in order. A state is in the list twice if two states lead to it. Without
+/// a byte there are none.
 ///
 /// The caller must ensure that each state is one of the NFA's. The error is that an allocation failed.
 pub fn step(
@@ -163,9 +164,9 @@ fn target(state: &State, byte: Option<u8>) -> Option<StateID>
 /// Returns the pattern that matches at a position with this closure: of the first `Match`, or for `All` of the last.
 ///
 /// The caller must ensure that each state is one of the NFA's.
-pub fn match_in(nfa: &NFA, kind: MatchKind, states: &[StateID]) -> Option<PatternID>
+pub fn pattern_by_kind(nfa: &NFA, kind: MatchKind, states: &[StateID]) -> Option<PatternID>
     requires { All (λ s. s < length nfa.now.states) states.now }
-    ensures { option_map number_of result ≡ match_in nfa.now kind states.now }
+    ensures { option_map number_of result ≡ pattern_by_kind nfa.now kind states.now }
 {
     if kind.continue_past_first_match() {
         last_pattern(nfa, states)

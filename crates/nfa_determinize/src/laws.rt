@@ -1,6 +1,7 @@
 //! Laws of the steps. Each function is empty: its contract is the theorem.
-ghost use Rattle.nfa_determinize.specs.Laws.{ClosureHasEachOnce, ClosureIsShort, ClosureReadsAssertions, ClosureRests};
-ghost use Rattle.nfa_determinize.specs.Laws.{DeadStays, StepsFindTheAnswer, StepsFindTheHalf};
+ghost use Rattle.nfa_determinize.specs.Laws.{AdvancesWithEachOnce, ClosureHasEachOnce, ClosureIsShort};
+ghost use Rattle.nfa_determinize.specs.Laws.{ClosureReadsAssertions, ClosureRests, DeadStays, FirstOfEachHasEachOnce};
+ghost use Rattle.nfa_determinize.specs.Laws.{FoundStays, RepeatAddsNothing, StepsFindTheAnswer, StepsFindTheHalf};
 
 /// The steps over all positions of the span find the pattern and the end of the scan's answer, of each match kind and
 /// `earliest`.
@@ -18,8 +19,21 @@ pub fn dead_stays()
     ensures { DeadStays }
 {}
 
-/// A closure has each state once, no more of them than the NFA, and only byte states, Fails and Matches. So there are
-/// only so many closures of an NFA.
+/// A scan may end if its configuration is dead, or if it is `earliest` and found a match: what was found stays.
+pub fn found_stays()
+    ensures { FoundStays }
+{}
+
+/// The closure of a list does not change if a state that the list has already is dropped further right. So a scan may
+/// keep each state once, where it is first: the next configuration is the same.
+pub fn repeats_add_nothing()
+    ensures repeat { RepeatAddsNothing }
+    ensures once { FirstOfEachHasEachOnce }
+    ensures advances { AdvancesWithEachOnce }
+{}
+
+/// A closure has each state once, no more of them than the NFA, and only byte states, Fails and Matches. So an NFA has
+/// finitely many closures.
 pub fn closures_are_finite()
     ensures once { ClosureHasEachOnce }
     ensures short { ClosureIsShort }

@@ -4,3 +4,4 @@
 
 pub mod closure;
 pub mod laws;
+pub mod scan;

@@ -1,51 +1,20 @@
-//! Scans by steps over lists of states, against the half matches of the samples.
-ghost use Rattle.std.specs.Prelude.{◌<◌, All, IfOk, length};
-
+//! Half matches by steps over lists of states, against those of the samples.
 use super::fixtures::named;
 use super::shown::expect_text;
-use nfa_determinize::closure::{closure, kept, match_in, step};
+use nfa_determinize::scan::find_half;
 use nfa_samples::answers::HALVES;
-use regex_search_core::{HalfMatch, MatchKind, StateID};
+use regex_search_core::{Anchored, HalfMatch, Input, MatchKind};
 use std::alloc::{AllocError, Global};
-use thompson_nfa::NFA;
+use std::process::Abort;
 
-// The half match of a leftmost first scan of the whole haystack.
-fn stepped(alloc: Global, nfa: &NFA, haystack: &[u8]) -> Result<Option<HalfMatch>, AllocError> {
-    let mut states = Vec::new(alloc);
-    let mut starts = true;
-    let mut found = None;
-    for at in 0..haystack.len() + 1 {
-        if starts {
-            states.push(nfa.start_anchored())?;
-        }
-        let here = closure(alloc, nfa, haystack, at, &states)?;
-        let hit = half_at(nfa, &here, at);
-        starts = starts && hit.is_none() && !nfa.is_always_start_anchored();
-        found = hit.or(found);
-        states = next_states(alloc, nfa, haystack.get(at).copied(), &here)?;
-    }
-    Ok(found)
-}
-
-// The match at a position with this closure.
-fn half_at(nfa: &NFA, here: &[StateID], at: usize) -> Option<HalfMatch>
-    requires { All (λ s. s < length nfa.now.states) here.now }
-{
-    Some(HalfMatch::new(match_in(nfa, MatchKind::LeftmostFirst, here)?, at))
-}
-
-// The states that the byte leads to from those before the match.
-fn next_states(
-    alloc: Global,
-    nfa: &NFA,
-    byte: Option<u8>,
-    here: &[StateID],
-) -> Result<Vec<StateID>, AllocError>
-    requires { All (λ s. s < length nfa.now.states) here.now }
-    ensures { IfOk result (λ made. All (λ s. s < length nfa.now.states) made.items) }
-{
-    step(alloc, nfa, byte, kept(nfa, MatchKind::LeftmostFirst, here))
-}
+// A haystack, the start of the span, which reaches to the end of the haystack, and the pattern and the end of the first
+// match, which does not split a codepoint.
+const SPLIT_HALVES: &[(&str, &str, usize, &str)] = &[
+    ("empty", "☃", 1, "0 3"),
+    ("empty_anchored", "☃", 1, "0 3"),
+    ("empty_bytes", "☃", 1, "0 1"),
+    ("a_star", "☃", 0, "0 0"),
+];
 
 // The pattern and the end, as `0 4`, or `none`.
 fn half_text(alloc: Global, half: Option<HalfMatch>) -> Result<String, AllocError> {
@@ -55,13 +24,85 @@ fn half_text(alloc: Global, half: Option<HalfMatch>) -> Result<String, AllocErro
     }
 }
 
+// The steps find this half match.
+fn expect_half(
+    rt: &impl Abort,
+    alloc: Global,
+    name: &str,
+    kind: MatchKind,
+    input: Input<'_>,
+    want: &str,
+) {
+    let nfa = named(rt, alloc, name);
+    let half = find_half(alloc, &nfa, kind, input).expect(rt, "memory");
+    let text = half_text(alloc, half).expect(rt, "memory");
+    expect_text(rt, name, text.as_str(), want);
+}
+
+// A search of the haystack from this offset on.
+fn input_from(haystack: &str, start: usize) -> Input<'_> {
+    let bytes = haystack.as_bytes();
+    Input::new(bytes).range(start.min(bytes.len())..bytes.len())
+}
+
 #[test]
 fn steps_find_the_halves_of_samples(rt: HostRuntime) {
     let alloc = rt.alloc();
     for &(name, haystack, want) in HALVES {
-        let nfa = named(&rt, alloc, name);
-        let half = stepped(alloc, &nfa, haystack.as_bytes()).expect(&rt, "memory");
-        let text = half_text(alloc, half).expect(&rt, "memory");
-        expect_text(&rt, name, text.as_str(), want);
+        expect_half(
+            &rt,
+            alloc,
+            name,
+            MatchKind::LeftmostFirst,
+            input_from(haystack, 0),
+            want,
+        );
     }
+}
+
+#[test]
+fn halves_by_steps_split_no_codepoint(rt: HostRuntime) {
+    let alloc = rt.alloc();
+    for &(name, haystack, start, want) in SPLIT_HALVES {
+        expect_half(
+            &rt,
+            alloc,
+            name,
+            MatchKind::LeftmostFirst,
+            input_from(haystack, start),
+            want,
+        );
+    }
+    let anchored = input_from("☃", 1).anchored(Anchored::Yes);
+    expect_half(
+        &rt,
+        alloc,
+        "empty",
+        MatchKind::LeftmostFirst,
+        anchored,
+        "none",
+    );
+}
+
+#[test]
+fn halves_by_steps_are_of_the_match_kind(rt: HostRuntime) {
+    let alloc = rt.alloc();
+    expect_half(
+        &rt,
+        alloc,
+        "empty_or_a",
+        MatchKind::LeftmostFirst,
+        input_from("a", 0),
+        "0 0",
+    );
+    expect_half(
+        &rt,
+        alloc,
+        "empty_or_a",
+        MatchKind::All,
+        input_from("a", 0),
+        "0 1",
+    );
+    let earliest = input_from("a", 0).earliest(true);
+    expect_half(&rt, alloc, "empty_or_a", MatchKind::All, earliest, "0 0");
 }

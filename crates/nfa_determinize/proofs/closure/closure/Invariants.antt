@@ -1,4 +1,4 @@
--- What was kept, and what the states on the stack come to, are the closure.
+-- The closure is what was kept, and then what the states on the stack lead to.
 use Rattle.nfa_determinize.specs.Closures.{closure, holding_at}
 use Rattle.nfa_determinize.proofs.ClosureLemmas.{IsUnderWay, takes_left}
 use Rattle.nfa_determinize.proofs.closure.closure.Given as goal

@@ -1,0 +1,56 @@
+-- What was found in a settled configuration stays up to the end of the scan.
+use Rattle.std.proofs.Common.{◌≡◌, ℕ, zero, suc, ◌+◌, ◌-◌, ◌≤◌, inl, inr, Bool, true, false, refl, ap, sym, ◌∙◌, arith}
+use Rattle.std.specs.Prelude.{Option, None, Some, is_some}
+use Rattle.std.specs.Option.{option_or}
+use Rattle.regex_search_core.specs.Found.{HalfFound}
+use Rattle.regex_search_core.specs.Search.{Search}
+use Rattle.regex_search_core.specs.declared.search.MatchKind.{MatchKind}
+use Rattle.thompson_nfa.specs.Automaton.{Automaton}
+use Rattle.nfa_determinize.specs.Configurations.{Configuration, IsDead, IsSettled, advance, found_after, position_count}
+use Rattle.nfa_determinize.specs.Configurations.{scanned, scan_half}
+use Rattle.nfa_determinize.proofs.AnswerLemmas.{dead-stays}
+
+-- the earlier match stays
+first-stays : (found hit : Option HalfFound) → is_some found ≡ true → found_after true found hit ≡ found
+first-stays None hit some = cc
+first-stays (Some half) hit some = refl
+
+module _ (nfa : Automaton) (x : Search) (kind : MatchKind) where
+  pub found-stays : (earliest : Bool) (at : ℕ) (c : Configuration) → IsSettled earliest c
+      → ((advance nfa x kind earliest at c).found ≡ c.found) × IsSettled earliest (advance nfa x kind earliest at c)
+  found-stays earliest at c (inl dead) =
+      let same = dead-stays nfa x kind earliest at c dead in
+      (ap (λ (d : Configuration). d.found) same, inl (rw same dead))
+  found-stays true at c (inr some) =
+      let stays : (advance nfa x kind true at c).found ≡ c.found = first-stays c.found _ some.1 in
+      (stays, inr (refl, ap is_some stays ∙ some.1))
+  found-stays false at c (inr some) = absurd (cc some.0)
+
+  module _ (earliest : Bool) where
+    stays-from : (n k : ℕ) → IsSettled earliest (scanned nfa x kind earliest n)
+        → ((scanned nfa x kind earliest (k + n)).found ≡ (scanned nfa x kind earliest n).found)
+        × IsSettled earliest (scanned nfa x kind earliest (k + n))
+    stays-from n zero settled = let same : 0 + n ≡ n = omega arith in rw same (refl, settled)
+    stays-from n (suc k) settled =
+        let before = stays-from n k settled in
+        let now = found-stays earliest (x.start + (k + n)) (scanned nfa x kind earliest (k + n)) before.1 in
+        let next : suc k + n ≡ suc (k + n) = omega arith in
+        rw next (now.0 ∙ before.0, now.1)
+
+    -- a settled configuration has found what the scan finds
+    pub settled-found : (n : ℕ) → n ≤ position_count x → IsSettled earliest (scanned nfa x kind earliest n)
+        → (scanned nfa x kind earliest n).found ≡ scan_half nfa x kind earliest
+    settled-found n within settled =
+        let rest : (position_count x - n) + n ≡ position_count x = omega arith in
+        sym (stays-from n (position_count x - n) settled).0
+        ∙ ap (λ (m : ℕ). (scanned nfa x kind earliest m).found) rest
+
+    -- one position more
+    pub scanned-next : (at : ℕ) → x.start ≤ at
+        → scanned nfa x kind earliest (at + 1 - x.start)
+        ≡ advance nfa x kind earliest at (scanned nfa x kind earliest (at - x.start))
+    scanned-next at low =
+        let more : at + 1 - x.start ≡ suc (at - x.start) = omega arith in
+        let here : x.start + (at - x.start) ≡ at = omega arith in
+        ap (scanned nfa x kind earliest) more
+        ∙ ap (λ (p : ℕ). advance nfa x kind earliest p (scanned nfa x kind earliest (at - x.start))) here

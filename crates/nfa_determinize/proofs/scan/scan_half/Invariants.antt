@@ -1,0 +1,20 @@
+-- The configuration of the positions so far.
+use Rattle.std.proofs.Common.{◌≡◌, ◌<◌, ◌-◌, All, length}
+use Rattle.std.specs.Prelude.{option_map}
+use Rattle.regex_search_core.specs.Found.{half_found_of}
+use Rattle.regex_search_core.specs.Search.{search_of}
+use Rattle.nfa_determinize.specs.Configurations.{Configuration, scanned}
+use Rattle.nfa_determinize.proofs.scan.scan_half.Given as goal
+
+abbrev pub invariant-loop-at : goal.invariant-loop-at
+invariant-loop-at l =
+    let x = search_of l.input in
+    let c : Configuration = record {
+      states = l.states.items;
+      starts = l.starts;
+      found = option_map half_found_of l.found;
+    } in
+    record {
+      is : c ≡ scanned l.nfa x l.kind x.earliest (l.at - x.start);
+      below : All (λ s. s < length l.nfa.states) l.states.items;
+    }
