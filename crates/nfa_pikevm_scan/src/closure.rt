@@ -273,7 +273,7 @@ pub fn next_match(
 }
 
 /// Follows all that the root leads to at the position, from match to match ([`next_match`]). It gives each match to the
-/// taker, up to the one that the position ends with. Returns whether it ended.
+/// sink, up to the one that the position ends with. Returns whether it ended.
 #[inline(always)]
 pub fn epsilon_closure<T: MatchSink>(
     here: &ClosureContext<'_, '_>,

@@ -86,7 +86,7 @@ fn nexts_of_states<T: MatchSink>(
     }
 }
 
-/// Follows the states at the position, gives their matches to the taker, and keeps the states that the position's byte
+/// Follows the states at the position, gives their matches to the sink, and keeps the states that the position's byte
 /// leads to for the next one.
 #[inline(always)]
 pub fn nexts_with<T: MatchSink>(

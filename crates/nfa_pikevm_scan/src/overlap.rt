@@ -19,7 +19,7 @@ use nfa_scan_core::starts::{may_end_at, start_limit, start_state};
 use regex_search_core::{Input, MatchKind, PatternID, PatternSet};
 use thompson_nfa::NFA;
 
-/// A taker that adds patterns to a set. A match counts if it may end at its position and the set has room for its
+/// A sink that adds patterns to a set. A match counts if it may end at its position and the set has room for its
 /// pattern. Without `past_match` the position ends with the first match that counts.
 #[derive(Drop)]
 pub struct PatternSink<'p> {

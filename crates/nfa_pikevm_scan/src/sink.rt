@@ -13,7 +13,7 @@ pub trait MatchSink {
     ghost row_width: { Self → ℕ };
 
     // The result of taking a match of the pattern with this row: whether the position ends with it, and the new state
-    // of the taker.
+    // of the sink.
     ghost takes: { Self → PatternID → Slots → Bool → Self → Type 0 };
 
     // The reference that it holds.
