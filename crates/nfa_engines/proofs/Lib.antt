@@ -18,6 +18,7 @@ pub mod SpanLemmas
 pub mod AloneLemmas
 pub mod FirstPatternLemmas
 pub mod PatternAnswerLemmas
+pub mod PatternMatchLemmas
 pub mod ReachLemmas
 pub mod WorkLemmas
 pub mod EngineWorkLemmas
