@@ -6,6 +6,7 @@ pub mod compiled;
 pub mod halves;
 pub mod hits;
 pub mod modes;
+pub mod order;
 pub mod paths;
 pub mod patterns;
 pub mod places;

@@ -9,7 +9,7 @@ ghost use Rattle.nfa_engines.specs.AlikeLaws.{byte_before, AreSidesSame, EachLoo
 ghost use Rattle.nfa_engines.specs.AlikeLaws.{ReadsBytes};
 ghost use Rattle.nfa_engines.specs.Engines.{Fits, kind_of};
 ghost use Rattle.nfa_engines.specs.Paths.{is_utf8_empty, IsAnswer, IsFindAnswer};
-ghost use Rattle.nfa_engines.specs.PatternLaws.{IsOfPattern, TriesPatternsInOrder};
+ghost use Rattle.nfa_engines.specs.PatternLaws.{IsMatchOfPattern, IsOfPattern, TriesPatternsInOrder};
 ghost use Rattle.nfa_engines.specs.SpanLaws.{moved_match, HasNoLook, IsSameSpan};
 ghost use Rattle.nfa_engines.specs.StartLaws.{IsFirstStart, IsUnbound};
 
@@ -125,6 +125,24 @@ pub fn first_of_patterns(
     let anchored = input.anchored(Anchored::Yes);
     match vm.search_slots(cache, &anchored, slots) {
         Some(pattern) => Some(pattern),
+        None => None,
+    }
+}
+
+/// Returns the match of an anchored search. It is that of the first pattern, in their order, that has one by itself.
+pub fn first_match_of_patterns(vm: &PikeVM, cache: &mut Cache, input: Input<'_>) -> Option<Match>
+    requires fits { Fits cache.old vm.now.nfa }
+    requires kind { kind_of vm.now ≡ LeftmostFirst }
+    requires off { (search_of input).earliest ≡ false }
+    requires anywhere { is_utf8_empty vm.now.nfa ≡ false }
+    requires tries { TriesPatternsInOrder vm.now.nfa (record (search_of input) { anchored = Yes }) }
+    ensures { IfSome result (λ m. IsMatchOfPattern vm.now.nfa LeftmostFirst false
+        (record (search_of input.entry) { anchored = Yes }) (found_of m)) }
+{
+    laws::first_pattern_answers();
+    let anchored = input.anchored(Anchored::Yes);
+    match vm.find(cache, anchored) {
+        Some(found) => Some(found),
         None => None,
     }
 }

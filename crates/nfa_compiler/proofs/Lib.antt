@@ -11,6 +11,7 @@ pub mod MeantLemmas
 pub mod TextLemmas
 pub mod BoundLemmas
 pub mod WayLemmas
+pub mod OrderLemmas
 pub mod StartPairLemmas
 pub mod ExistsLemmas
 pub mod NameLemmas

@@ -24,7 +24,7 @@ use Rattle.nfa_compiler.specs.Blocks.{look_of, match_at, slot_in, moved, Stands,
 use Rattle.nfa_compiler.specs.Compiled.{IsNfaOf, first_slot}
 
 -- the pairs that may follow a state at position i
-abbrev after : Node → ℕ → List Pair
+abbrev pub after : Node → ℕ → List Pair
 after n i = map (λ t. (t, position_after n i)) (targets n)
 
 -- whether the state writes the slot
@@ -54,14 +54,14 @@ pub record WritesBoth (a : Automaton) (k : ℕ) (p : List Pair) (i : ℕ) (m : P
 
 module _ (s : Site) (k : ℕ) (is : number_of s.pattern ≡ k) (behind : 2 * k + 1 < s.slots) where
   -- one of the pattern's own states follows, and none of the two slots is written
-  record StaysInside (n : Node) (y : Pair) : Type 0 where
+  pub record StaysInside (n : Node) (y : Pair) : Type 0 where
     pub state : ℕ
     pub below : state < s.size
     pub at : y.0 ≡ s.base + state
     pub spares : (slot : ℕ) → slot ≤ 2 * k + 1 → writes n slot ≡ false
 
   -- the Match follows, and the end is written
-  record ReachesMatch (n : Node) (i : ℕ) (y : Pair) : Type 0 where
+  pub record ReachesMatch (n : Node) (i : ℕ) (y : Pair) : Type 0 where
     pub at : y.0 ≡ match_at s
     pub same : y.1 ≡ i
     pub slot : slot_of n ≡ Some (2 * k + 1)
@@ -90,7 +90,7 @@ module _ (s : Site) (k : ℕ) (is : number_of s.pattern ≡ k) (behind : 2 * k +
   }
 
   -- what follows a state of the pattern
-  follows : (ts : List their_transition.Transition) (state : their_state.State) (n : Node) (i : ℕ) (y : Pair)
+  pub follows : (ts : List their_transition.Transition) (state : their_state.State) (n : Node) (i : ℕ) (y : Pair)
       → Stands ts s state n → In y (after n i) → StaysInside n y ⊎ ReachesMatch n i y
   unfolding targets reads
   follows ts (their.ByteRange t) n i y stands edge =
@@ -163,16 +163,16 @@ module _ (s : Site) (k : ℕ) (is : number_of s.pattern ≡ k) (behind : 2 * k +
       pub start : slot_among a p (2 * k) ≡ None
       pub end : slot_among a p (2 * k + 1) ≡ Some m.1
 
-    match_here : node_at a (match_at s) ≡ Match k
+    pub match_here : node_at a (match_at s) ≡ Match k
     unfolding node_at
     match_here = block.match ∙ ap Match is
 
-    start_here : node_at a (match_at s + 1) ≡ Capture (s.base + nfa.start) (2 * k)
+    pub start_here : node_at a (match_at s + 1) ≡ Capture (s.base + nfa.start) (2 * k)
     unfolding node_at
     start_here = block.start ∙ ap (λ j. Capture (s.base + nfa.start) j)
         (let first : 2 * number_of s.pattern + 0 ≡ 2 * k = omega arith in first)
 
-    stands_here : (q : ℕ) → q < s.size
+    pub stands_here : (q : ℕ) → q < s.size
         → Stands nfa.transitions.items s (state_at nfa.states.items q) (node_at a (s.base + q))
     unfolding node_at
     stands_here q below = block.states q below

@@ -7,6 +7,7 @@ pub mod Compiled
 pub mod Written
 pub mod Laws
 pub mod WayLaws
+pub mod OrderLaws
 pub mod KindLaws
 pub mod SetLaws
 pub mod NameLaws

@@ -7,6 +7,7 @@ ghost use Rattle.nfa_compiler.specs.BoundaryHits.{boundary_hit};
 ghost use Rattle.nfa_compiler.specs.Laws.{AnswersAreHits, FindsHits, LooksAgree, MatchesAreHits, OneHitIsFind, hit};
 ghost use Rattle.nfa_compiler.specs.Laws.{TextsAreAnswered, TextsAreMatched};
 ghost use Rattle.nfa_compiler.specs.NameLaws.{GroupsAreCounted, GroupsAreNamed, GroupsAreWritten, NamesAreWritten};
+ghost use Rattle.nfa_compiler.specs.OrderLaws.{PatternsAreTried, PatternsMatchAlone, TextsAreTried, TextsMatchAlone};
 ghost use Rattle.nfa_compiler.specs.SetLaws.{SetsHoldAsciiMatches, SetsHoldMatches, SetsHoldMatchesOfStrs};
 ghost use Rattle.nfa_compiler.specs.SetLaws.{SetsHoldOnlyMatches};
 ghost use Rattle.nfa_compiler.specs.WayLaws.{PatternsRecordBounds, TextsRecordBounds};
@@ -29,6 +30,17 @@ pub fn assertions_agree()
 pub fn compiled_nfas_record_bounds()
     ensures patterns { PatternsRecordBounds }
     ensures texts { TextsRecordBounds }
+{}
+
+/// A compiled NFA tries its patterns in their order: its anchored start is that of the only pattern, or a union of the
+/// starts of the patterns, and no path leads from one of these back to it. The start of a pattern leads to no Match of
+/// another pattern. These are the premises of `nfa_engines::laws::first_pattern_answers` and
+/// `first_pattern_is_found`.
+pub fn compiled_nfas_try_patterns_in_order()
+    ensures patterns { PatternsAreTried }
+    ensures texts { TextsAreTried }
+    ensures patterns_alone { PatternsMatchAlone }
+    ensures texts_alone { TextsMatchAlone }
 {}
 
 /// A leftmost first search finds the hit at the least start at which one of the patterns matches, and there that of the

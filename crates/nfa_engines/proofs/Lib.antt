@@ -20,6 +20,7 @@ pub mod AlikeLemmas
 pub mod AloneLemmas
 pub mod FirstPatternLemmas
 pub mod PatternAnswerLemmas
+pub mod PatternMatchLemmas
 pub mod ReachLemmas
 pub mod WorkLemmas
 pub mod EngineWorkLemmas

@@ -1,16 +1,18 @@
 -- Laws of an NFA whose anchored start tries the starts of its patterns in their order, about the definitions only.
-use Rattle.std.specs.Prelude.{◌≡◌, ◌↔◌, ◌⊎◌, ℕ, ◌<◌, Bool, false, List, [], ◌∷◌, Option, None, Some, slice_get}
+use Rattle.std.specs.Prelude.{◌≡◌, ◌↔◌, ◌⊎◌, ℕ, ◌<◌, Bool, false, List, [], ◌∷◌, Option, None, Some, option_map}
+use Rattle.std.specs.Prelude.{slice_get}
 use Rattle.regex_search_core.specs.Found.{Found}
 use Rattle.regex_search_core.specs.Patterns.{number_of}
 use Rattle.regex_search_core.specs.Search.{Search}
 use Rattle.regex_search_core.specs.declared.primitives.PatternID.{PatternID}
 use Rattle.regex_search_core.specs.declared.search.Anchored.TheVariants.{Yes, Pattern}
 use Rattle.regex_search_core.specs.declared.search.MatchKind.{MatchKind}
-use Rattle.thompson_nfa.specs.Automaton.{Automaton, Node}
+use Rattle.thompson_nfa.specs.Automaton.{Automaton, IsAutomaton, Node}
 use Rattle.thompson_nfa.specs.Automaton.Node.{Union, BinaryUnion}
 use Rattle.nfa_paths.specs.Graphs.{Pair, PathTo}
 use Rattle.nfa_paths.specs.Paths.{edges, is_utf8_empty, node_at, starts, IsAnswer, IsFindAnswer}
-use Rattle.nfa_engines.specs.Accepting.{MatchesNothing}
+use Rattle.nfa_engines.specs.Accepting.{MatchesNothing, MatchesPattern, MatchesSomething}
+use Rattle.nfa_engines.specs.GapLaws.{PathsWriteTheirEnds}
 
 -- the NFA of one pattern: its anchored start is that of the pattern
 abbrev pub started_at : Automaton → ℕ → Automaton
@@ -77,9 +79,61 @@ AnswersAreOfPatterns kind earliest =
     → IsAnswer nfa kind earliest x (Some pattern) slots
     → IsOfPattern nfa kind earliest x pattern slots
 
+-- the same for its match
+abbrev pub FirstPatternMatches : MatchKind → Bool → Type 0
+FirstPatternMatches kind earliest =
+    (nfa : Automaton) (x : Search) (k state : ℕ) (m : Found)
+    → is_utf8_empty nfa ≡ false → x.anchored ≡ Yes → TriesPatternsInOrder nfa x → IsFirstPattern nfa x k state
+    → IsFindAnswer (started_at nfa state) kind earliest x (Some m)
+    → IsFindAnswer nfa kind earliest x (Some m)
+
+-- a match is that of such a pattern
+pub record IsMatchOfPattern (nfa : Automaton) (kind : MatchKind) (earliest : Bool) (x : Search)
+    (m : Found) : Type 0 where
+  pub k : ℕ
+  pub state : ℕ
+  pub first : IsFirstPattern nfa x k state
+  pub answers : IsFindAnswer (started_at nfa state) kind earliest x (Some m)
+
+abbrev pub MatchesAreOfPatterns : MatchKind → Bool → Type 0
+MatchesAreOfPatterns kind earliest =
+    (nfa : Automaton) (x : Search) (m : Found)
+    → is_utf8_empty nfa ≡ false → x.anchored ≡ Yes → TriesPatternsInOrder nfa x
+    → IsFindAnswer nfa kind earliest x (Some m)
+    → IsMatchOfPattern nfa kind earliest x m
+
 -- a search matches nothing exactly if no pattern matches when it is searched alone
 abbrev pub NothingOfEachPattern : Type 0
 NothingOfEachPattern =
     (nfa : Automaton) (x : Search) → x.anchored ≡ Yes → TriesPatternsInOrder nfa x
     → MatchesNothing nfa x
     ↔ ((k state : ℕ) → slice_get nfa.patterns k ≡ Some state → MatchesNothing (started_at nfa state) x)
+
+-- A pattern that is searched alone matches as no other: its start leads only to Matches of this pattern.
+abbrev pub StartsMatchTheirPatterns : Automaton → Search → Type 0
+StartsMatchTheirPatterns nfa x =
+    (k state pattern : ℕ) → slice_get nfa.patterns k ≡ Some state → MatchesPattern (started_at nfa state) x pattern
+    → pattern ≡ k
+
+-- pattern k matches when it is searched alone, and no earlier pattern does
+pub record IsFirstThatMatches (nfa : Automaton) (x : Search) (k : ℕ) : Type 0 where
+  pub state : ℕ
+  pub first : IsFirstPattern nfa x k state
+  pub matches : MatchesSomething (started_at nfa state) x
+
+-- then the answer has pattern k exactly if k is the first that matches
+abbrev pub AnswerIsOfFirst : MatchKind → Bool → Type 0
+AnswerIsOfFirst kind earliest =
+    (nfa : Automaton) (x : Search) (k : ℕ) (pattern : Option ℕ) (slots : List (Option ℕ))
+    → is_utf8_empty nfa ≡ false → x.anchored ≡ Yes → TriesPatternsInOrder nfa x → StartsMatchTheirPatterns nfa x
+    → IsAnswer nfa kind earliest x pattern slots
+    → (pattern ≡ Some k) ↔ IsFirstThatMatches nfa x k
+
+-- and so has the match, if each accepting path writes its start and its end
+abbrev pub MatchIsOfFirst : MatchKind → Bool → Type 0
+MatchIsOfFirst kind earliest =
+    (nfa : Automaton) (x : Search) (k : ℕ) (found : Option Found) → IsAutomaton nfa
+    → is_utf8_empty nfa ≡ false → x.anchored ≡ Yes → TriesPatternsInOrder nfa x → StartsMatchTheirPatterns nfa x
+    → PathsWriteTheirEnds nfa x
+    → IsFindAnswer nfa kind earliest x found
+    → (option_map (λ (m : Found). m.pattern) found ≡ Some k) ↔ IsFirstThatMatches nfa x k

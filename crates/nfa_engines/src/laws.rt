@@ -30,8 +30,9 @@ ghost use Rattle.nfa_engines.specs.Laws.{SearchesAgree, SlotsPastAreNone};
 ghost use Rattle.nfa_engines.specs.ListLaws.{AtMostInList, EverySearchHasAList, ListAsLeftmost, MatchesAreDisjoint};
 ghost use Rattle.nfa_engines.specs.ListLaws.{OneList};
 ghost use Rattle.nfa_engines.specs.LoopLaws.{FitsAsBefore, IsKeptByLoop, IsKeptByNone, IsKeptByTwo, LoopHoldsNoMore};
-ghost use Rattle.nfa_engines.specs.PatternLaws.{AnswersAreOfPatterns, FirstPatternAnswers, NothingOfEachPattern};
-ghost use Rattle.nfa_engines.specs.PatternLaws.{PatternIsAlone, PatternMatchesAlone};
+ghost use Rattle.nfa_engines.specs.PatternLaws.{AnswerIsOfFirst, AnswersAreOfPatterns, FirstPatternAnswers};
+ghost use Rattle.nfa_engines.specs.PatternLaws.{FirstPatternMatches, MatchIsOfFirst, MatchesAreOfPatterns};
+ghost use Rattle.nfa_engines.specs.PatternLaws.{NothingOfEachPattern, PatternIsAlone, PatternMatchesAlone};
 ghost use Rattle.nfa_engines.specs.SetLaws.{EarliestOfAllPaths, FirstOfAllPaths, FullSetStays, OneSet};
 ghost use Rattle.nfa_engines.specs.SetLaws.{SetHoldsEachPattern, SetIsComplete, SetIsOfEarliest, SetIsOfFirsts};
 ghost use Rattle.nfa_engines.specs.SpanLaws.{AnswersMove, AnswersMoveAlike, AnswersReadAssertions};
@@ -276,14 +277,28 @@ pub fn pattern_is_alone()
 {}
 
 /// The leftmost first answer of an anchored search is that of the first pattern, in their order, that has one when it
-/// is searched alone. A search matches nothing exactly if no pattern alone matches.
+/// is searched alone, and so is its match. A search matches nothing exactly if no pattern alone matches.
 ///
 /// Premises: the anchored start is a union of the starts of the patterns, in their order, and no path from one of these
-/// leads back to it; or the NFA has one pattern, which starts there. No match has to end on a boundary.
+/// leads back to it; or the NFA has one pattern, which starts there. No match has to end on a boundary. A law of
+/// `nfa_compiler` says that each compiled NFA has such a start.
 pub fn first_pattern_answers()
     ensures answers { FirstPatternAnswers LeftmostFirst false }
     ensures pattern { AnswersAreOfPatterns LeftmostFirst false }
+    ensures matches { FirstPatternMatches LeftmostFirst false }
+    ensures match_pattern { MatchesAreOfPatterns LeftmostFirst false }
     ensures nothing { NothingOfEachPattern }
+{}
+
+/// The leftmost first answer of an anchored search has a pattern exactly if this is the first, in their order, that
+/// matches when it is searched alone. The same holds for the match, which `find` gives.
+///
+/// Premises: those of [`first_pattern_answers`], and the start of each pattern leads to no Match of another pattern.
+/// For the match, the NFA is valid, and each accepting path writes its start and its end into the two slots of its
+/// pattern.
+pub fn first_pattern_is_found()
+    ensures answers { AnswerIsOfFirst LeftmostFirst false }
+    ensures matches { MatchIsOfFirst LeftmostFirst false }
 {}
 
 /// The answer of an NFA without assertions depends only on the bytes of the span. Two searches with the same bytes in
