@@ -1,6 +1,6 @@
 //! Sample NFAs by name, for tests and for trying out the engines.
 //!
-//! Use this crate to try a search before you write an NFA of your own. `nfa_draft` makes an NFA from an expression, and
+//! Use this crate to try a search before you write an NFA of your own. `nfa_compiler` makes an NFA from a pattern, and
 //! `thompson_nfa` from its states. [`answers`] has the answers of searches of the samples.
 //!
 //! ```

@@ -2,7 +2,7 @@
 //! position ([`Look`]), and whole automata ([`NFA`]). An `NFA` is made from its states, and keeps the invariants that a
 //! search relies on.
 //!
-//! Use this crate if you choose each state yourself. `nfa_draft` makes the states from an expression, `nfa_samples` has
+//! Use this crate if you choose each state yourself. `nfa_compiler` makes the states from a pattern, `nfa_samples` has
 //! some automata by name, and `nfa_engines` searches with them.
 //!
 //! ```
