@@ -41,7 +41,7 @@ pub fn ask_after_lines(choice: &mut Choice, lines: &[&[u8]], text: &[u8]) -> boo
 pub fn count_by_pikevm(vm: &PikeVM, cache: &mut pikevm::Cache, lines: &[&[u8]]) -> usize
     requires { Fits cache.old vm.now.nfa }
     ensures count { result ≡ count_by (λ line. pike_matches vm.now line.now) lines.now }
-    ensures numbers { SameCapacities cache.old cache.new }
+    ensures capacities { SameCapacities cache.old cache.new }
 {
     let mut count = 0;
     for line in lines {
@@ -103,7 +103,7 @@ pub fn first_common_start(
     ensures first { IfOk result (λ first. IsFirstCommonStart vm.now engine.now text.now first) }
     ensures errors { IfErr result (λ e. (e ≡ SearchError.Memory)
         ⊎ SomeIndex text.now (λ at. IsTooLong engine.now (starting_at text.now at))) }
-    ensures numbers { SameCapacities cache.old cache.new }
+    ensures capacities { SameCapacities cache.old cache.new }
     ensures holds { HoldsNoMore 0 marks.old marks.new }
 {
     for at in 0..text.len() {

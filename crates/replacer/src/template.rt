@@ -18,7 +18,7 @@ pub enum TemplateError {
     #[error("out of memory")]
     Memory,
     /// The pattern has no group of the number or name that stands between these two offsets.
-    #[error("bytes {start} to {end} of the template name no group of the pattern")]
+    #[error("bytes {start} to {end} of the template name no group of the pattern; a dollar is written $$")]
     UnknownGroup { start: usize, end: usize },
     /// The brace after the dollar at this offset is not closed.
     #[error("the brace after the dollar at byte {dollar} of the template is not closed")]

@@ -8,5 +8,5 @@ use Rattle.callers.proofs.loops.count_by_pikevm.Given as goal
 abbrev pub invariant-loop-line : goal.invariant-loop-line
 invariant-loop-line l = record {
   count : l.count ≡ count_by (λ line. pike_matches l.vm line.now) (take l.line-index l.lines);
-  numbers : SameCapacities l.fn.cache l.cache;
+  capacities : SameCapacities l.fn.cache l.cache;
 }

@@ -7,6 +7,6 @@ use Rattle.callers.proofs.loops.first_common_start.Given as goal
 abbrev pub invariant-loop-at : goal.invariant-loop-at
 invariant-loop-at l = record {
   none : NoneBefore l.vm l.engine l.text l.at;
-  numbers : SameCapacities l.fn.cache l.cache;
+  capacities : SameCapacities l.fn.cache l.cache;
   holds : HoldsNoMore 0 l.fn.marks l.marks;
 }
