@@ -13,14 +13,14 @@ module _ {C : Type 0} (Keeps : C → C → Type 0) (none : IsKeptByNone Keeps) (
       (two (at 0) (at n) (at (n + 1)) (kept-by-loop n at (λ k less. each k (omega arith))) (each n (omega arith)))
 
 pub sizes-none : IsKeptByNone SameCapacities
-sizes-none c = record { states = refl; slots = refl; patterns = refl; places = refl }
+sizes-none c = record { states = refl; slots = refl; patterns = refl; frames = refl }
 
 pub sizes-two : IsKeptByTwo SameCapacities
 sizes-two a b c p q = record {
   states = q.states ∙ p.states;
   slots = q.slots ∙ p.slots;
   patterns = q.patterns ∙ p.patterns;
-  places = q.places ∙ p.places;
+  frames = q.frames ∙ p.frames;
 }
 
 pub holds-none : (needed : ℕ) → IsKeptByNone (HoldsNoMore needed)
