@@ -330,7 +330,7 @@ visited: Visited { blocks: [], used: 0, turns: Counter }, scans: Counter }, slot
 answered: Counter, refused: Counter, past_scans: Counter, past_turns: Counter }, \
 pike_cache: Cache { threads: Threads { frames: [Explore { sid: StateID(0) }], \
 curr: ActiveStates { parts: Parts { kept: [StateID(0), StateID(0)], rows: [], len: 0, width: 0 } }, \
-reached: Reached { seen: Seen { stamps: [0], newest: 1, turns: Counter }, \
+reached: ClosureOutput { seen: Seen { stamps: [0], newest: 1, turns: Counter }, \
 next: ActiveStates { parts: Parts { kept: [StateID(0), StateID(0)], rows: [], len: 0, width: 0 } } }, \
 scans: Counter }, found: [], slots: 0, patterns: 0, past_scans: Counter, past_turns: Counter }, \
 ran: None }";

@@ -37,7 +37,7 @@ fn wanted_tries(
 ) -> String {
     format!(in alloc;
         "TryCapturesMatches {{ cache: {shown}, steps: Steps {{ searcher: {FRESH}, \
-        backend: Catcher {{ engine: {engine:?}, captures: {NEVER} }}, done: false }} }}"
+        backend: CapturesFinder {{ engine: {engine:?}, captures: {NEVER} }}, done: false }} }}"
     )
     .expect(rt, "memory")
 }
@@ -66,7 +66,7 @@ fn sure_text(rt: &impl Abort, alloc: Global, vm: &PikeVM, cache: &mut pikevm::Ca
 fn wanted_sure(rt: &impl Abort, alloc: Global, vm: &PikeVM, shown: &str) -> String {
     format!(in alloc;
         "CapturesMatches {{ cache: {shown}, steps: Steps {{ searcher: {FRESH}, \
-        backend: Catcher {{ engine: {vm:?}, captures: {NEVER} }}, done: false }} }}"
+        backend: CapturesFinder {{ engine: {vm:?}, captures: {NEVER} }}, done: false }} }}"
     )
     .expect(rt, "memory")
 }
